@@ -1,5 +1,6 @@
 //! What no contract says: that calls succeed, and how events follow on one another.
 mod acts;
+mod cores;
 mod dropping;
 mod exit;
 mod failing;
@@ -10,7 +11,6 @@ mod holding;
 mod holdings;
 mod lending;
 mod limits;
-mod log;
 mod placing;
 mod player;
 mod plays;

@@ -43,7 +43,7 @@ pub enum Act {
 
 /// A reply: one that names no node, a new token of a collection, an end out of a parcel, or why and
 /// where the node failed.
-#[derive(Clone, Copy, PartialEq, Eq)]
+#[derive(Clone, Copy)]
 pub enum Said {
     Just(Reply),
     Token(CollectionId),
@@ -53,9 +53,6 @@ pub enum Said {
 
 /// Who calls, what, and what is answered.
 pub type Row = (ClientId, Act, Said);
-
-/// Nothing is to be told.
-pub const DONE: Said = Said::Just(Reply::Done);
 
 /// The call by which this is asked of the node.
 pub fn call_on(deed: Deed, key: NodeKey) -> Option<Call> {
@@ -69,7 +66,8 @@ pub fn call_on(deed: Deed, key: NodeKey) -> Option<Call> {
         Deed::Weak => Call::SetWeak(key),
         Deed::WeakOk(children) => Call::SetWeakOk(key, children),
         Deed::Constrain(camping, at_least, size) => {
-            Call::SetConstraints(key, Constraints::new(camping, at_least, size)?)
+            let wanted = Constraints::new(camping, at_least, size)?;
+            Call::SetConstraints(key, wanted)
         }
         Deed::Check => Call::Check(key),
         Deed::Take => Call::Take(key),
@@ -81,10 +79,6 @@ pub fn call_on(deed: Deed, key: NodeKey) -> Option<Call> {
     Some(call)
 }
 
-fn buffer(collection: CollectionId, index: u8) -> BufferName {
-    BufferName { collection, index }
-}
-
 impl Act {
     /// The call, where the node that it names has this key.
     pub fn call(self, key: NodeKey) -> Option<Call> {
@@ -94,12 +88,16 @@ impl Act {
             Act::Open => Call::OpenRoot,
             Act::Collect => Call::Collect,
             Act::On(_, deed) => return call_on(deed, key),
-            Act::DupHandle(of, index, strength) => Call::DupHandle(buffer(of, index), strength),
-            Act::DropHandle(of, index, strength) => Call::DropHandle(buffer(of, index), strength),
-            Act::GiveHandle(of, index, strength, to) => {
-                Call::GiveHandle(buffer(of, index), strength, to)
+            Act::DupHandle(collection, index, strength) => {
+                Call::DupHandle(BufferName { collection, index }, strength)
             }
-            Act::TrackWeak(of, index) => Call::TrackWeak(buffer(of, index)),
+            Act::DropHandle(collection, index, strength) => {
+                Call::DropHandle(BufferName { collection, index }, strength)
+            }
+            Act::GiveHandle(collection, index, strength, to) => {
+                Call::GiveHandle(BufferName { collection, index }, strength, to)
+            }
+            Act::TrackWeak(collection, index) => Call::TrackWeak(BufferName { collection, index }),
         };
         Some(call)
     }

@@ -1,6 +1,6 @@
 //! Nodes that fail.
 use super::acts::{Act, Deed, Said};
-use super::scripts::{DONE, FULL, ONE_PAGE, Script};
+use super::scripts::{DONE, FULL, ONE_PAGE, Script, held};
 use sm_names::{Cause, Failure, Misuse, Refusal, Reply};
 
 /// A child of a dispensable node is lost once all is allocated: the failure goes no further than
@@ -31,8 +31,8 @@ pub const NESTED_LOSS: Script = Script {
         ),
     ],
     looks: &[
-        (10, 16, &[]),
-        (14, 13, &[(2, 0, 0, 1), (2, 1, 1, 1), (2, 2, 2, 1)]),
+        (10, 16, held![]),
+        (14, 13, held![(2, 0, 0, 1), (2, 1, 1, 1), (2, 2, 2, 1)]),
     ],
     live: &[2],
     failed: &[(3, Cause::Lost, 5)],
@@ -81,7 +81,10 @@ pub const FAILING_SUBTREES: Script = Script {
             }),
         ),
     ],
-    looks: &[(7, 16, &[]), (18, 14, &[(2, 0, 0, 1), (2, 1, 1, 1)])],
+    looks: &[
+        (7, 16, held![]),
+        (18, 14, held![(2, 0, 0, 1), (2, 1, 1, 1)]),
+    ],
     live: &[2, 10],
     failed: &[(14, Cause::Failed(Failure::TooFew), 14)],
     fired: &[],
@@ -109,7 +112,7 @@ pub const ORPHAN_SHARE: Script = Script {
             Said::Closed(Cause::Failed(Failure::TooFew), 10),
         ),
     ],
-    looks: &[(13, 14, &[(2, 0, 0, 1), (2, 1, 1, 1)])],
+    looks: &[(13, 14, held![(2, 0, 0, 1), (2, 1, 1, 1)])],
     live: &[2],
     failed: &[(10, Cause::Failed(Failure::TooFew), 10)],
     fired: &[],
@@ -197,9 +200,9 @@ pub const SECOND_CONSTRAINTS: Script = Script {
         ),
     ],
     looks: &[
-        (4, 12, &[(2, 0, 0, 2), (2, 1, 2, 2)]),
-        (5, 16, &[]),
-        (6, 16, &[]),
+        (4, 12, held![(2, 0, 0, 2), (2, 1, 2, 2)]),
+        (5, 16, held![]),
+        (6, 16, held![]),
     ],
     live: &[],
     failed: &[(2, Cause::Misused(Misuse::SecondConstraints), 2)],

@@ -1,51 +1,36 @@
 //! Nodes that go together leave no room taken, however many they are and however many stay.
-use super::dropping::is_done;
-use super::lending::on_core;
-use super::limits::{first_root, token};
+use super::cores::{Play, first_root, goes_well, is_done, makes, token};
 use lifetime_core::Core;
-use sm_names::{Call, Limits, NodeKey};
+use sm_names::{Call, NodeKey};
 use std::alloc::Global;
 
 // How many children of the root stay.
 const STAY: u32 = 200;
 
-// How the ends of a unit are spent, one after another.
+/// How the ends of a unit are spent, one after another.
 #[derive(Clone, Copy)]
-enum Leaving {
-    // All are released, so that they go with the last.
+pub enum Leaving {
+    /// All are released, so that they go with the last.
     Released,
-    // All but the last are released, and that fails with them.
+    /// All but the last are released, and that fails with them.
     Failed,
-    // The first fails, and then each is closed.
+    /// The first fails, and then each is closed.
     Closed,
 }
 
 // The root of the first collection, with so many children, bound.
 fn family(core: &mut Core) -> Option<NodeKey> {
     let root = first_root(core)?;
-    for _ in 0..STAY {
-        token(core, Call::Duplicate(root))?;
-    }
-    if is_done(core, Call::Bind(root)) {
-        Some(root)
-    } else {
-        None
-    }
-}
-
-// Whether the node gets a child, whose key is noted.
-fn has_child(core: &mut Core, head: NodeKey, keys: &mut Vec<NodeKey>) -> bool {
-    match token(core, Call::Duplicate(head)) {
-        Some(key) => keys.push(key).is_ok(),
-        None => false,
-    }
+    let is_there = makes(core, &Call::Duplicate(root), STAY) && is_done(core, Call::Bind(root));
+    is_there.then_some(root)
 }
 
 // Whether the node becomes the head of a unit of so many, whose keys are noted, its own last.
 fn has_unit(core: &mut Core, head: NodeKey, nodes: u8, keys: &mut Vec<NodeKey>) -> bool {
     for _ in 1..nodes {
-        if !has_child(core, head, keys) {
-            return false;
+        match token(core, Call::Duplicate(head)) {
+            Some(key) if keys.push(key).is_ok() => {}
+            _ => return false,
         }
     }
     keys.push(head).is_ok()
@@ -60,15 +45,7 @@ fn are_bound(core: &mut Core, keys: &[NodeKey]) -> bool {
     true
 }
 
-// Whether there is a new attached unit of so many bound nodes, whose keys are noted.
-fn comes(core: &mut Core, root: NodeKey, nodes: u8, keys: &mut Vec<NodeKey>) -> bool {
-    match token(core, Call::AttachToken(root)) {
-        Some(head) => has_unit(core, head, nodes, keys) && are_bound(core, keys),
-        None => false,
-    }
-}
-
-// The call that spends the end at this place of so many.
+// The call that spends an end so, which may be the last of its unit.
 fn spending(leaving: Leaving, key: NodeKey, is_last: bool) -> Call {
     match leaving {
         Leaving::Released => Call::Release(key),
@@ -105,12 +82,18 @@ fn comes_and_goes(
     nodes: u8,
     leaving: Leaving,
 ) -> bool {
+    let Some(head) = token(core, Call::AttachToken(root)) else {
+        return false;
+    };
     let mut keys = Vec::new(alloc);
-    comes(core, root, nodes, &mut keys) && leave(core, &keys, leaving)
+    has_unit(core, head, nodes, &mut keys) && are_bound(core, &keys) && leave(core, &keys, leaving)
 }
 
-// Whether units of so many nodes below the root come and go so, one after another.
-fn each_leaves(alloc: Global, core: &mut Core, root: NodeKey, nodes: u8, leaving: Leaving) -> bool {
+/// Whether units of so many nodes come and go so, one after another, beside nodes that stay.
+pub fn leave_beside(alloc: Global, core: &mut Core, nodes: u8, leaving: Leaving) -> bool {
+    let Some(root) = family(core) else {
+        return false;
+    };
     for _ in 0..20 {
         if !comes_and_goes(alloc, core, root, nodes, leaving) {
             return false;
@@ -119,39 +102,15 @@ fn each_leaves(alloc: Global, core: &mut Core, root: NodeKey, nodes: u8, leaving
     core.is_live(root)
 }
 
-// Whether they do so in this core, beside those that stay.
-fn leave_beside(alloc: Global, core: &mut Core, nodes: u8, leaving: Leaving) -> bool {
-    match family(core) {
-        Some(root) => each_leaves(alloc, core, root, nodes, leaving),
-        None => false,
-    }
-}
-
-// Whether they do so where no more nodes have room.
-fn come_and_go(alloc: Global, nodes: u8, leaving: Leaving) -> bool {
-    let Some(limits) = Limits::new(100_000, 1 + STAY + u32::from(nodes), 1, 1, 1) else {
-        return false;
-    };
-    on_core(
-        alloc,
-        limits,
-        |core| leave_beside(alloc, core, nodes, leaving),
-    )
-}
-
-// Whether they do, be they few or many.
-fn all_come_and_go(alloc: Global, leaving: Leaving) -> bool {
+// Whether they do where no more nodes have room, be they few or many.
+fn leave_nothing(alloc: Global, leaving: Leaving) -> bool {
     for nodes in [1, 2, 3, 64, 65, 200] {
-        if !come_and_go(alloc, nodes, leaving) {
+        let limits = [100_000, 1 + STAY + u32::from(nodes), 1, 1, 1];
+        if !goes_well(alloc, limits, Play::Units(nodes, leaving)) {
             return false;
         }
     }
     true
-}
-
-// Once more where memory was refused.
-fn leave_nothing(alloc: Global, leaving: Leaving) -> bool {
-    all_come_and_go(alloc, leaving) || all_come_and_go(alloc, leaving)
 }
 
 #[test]

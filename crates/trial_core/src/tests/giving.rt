@@ -1,6 +1,6 @@
 //! Ends and handles that are given, and calls that are refused.
 use super::acts::{Act, Deed, Said};
-use super::scripts::{DONE, FULL, ONE_PAGE, PENDING, STRONG, Script};
+use super::scripts::{DONE, FULL, ONE_PAGE, PENDING, STRONG, Script, held};
 use sm_names::{BufferName, Cause, Kind, Refusal, Reply};
 
 /// Nothing is given to a client that is shut. A client may give an end to itself.
@@ -123,9 +123,9 @@ pub const HANDLE_PARCEL: Script = Script {
         (2, Act::DropHandle(3, 0, STRONG), DONE),
     ],
     looks: &[
-        (9, 15, &[(3, 0, 0, 1)]),
-        (10, 15, &[(3, 0, 0, 1)]),
-        (11, 16, &[]),
+        (9, 15, held![(3, 0, 0, 1)]),
+        (10, 15, held![(3, 0, 0, 1)]),
+        (11, 16, held![]),
     ],
     live: &[],
     failed: &[],
@@ -158,7 +158,7 @@ pub const HANDLE_TO_A_SHUT_CLIENT: Script = Script {
         ),
         (1, Act::DropHandle(3, 0, STRONG), DONE),
     ],
-    looks: &[(9, 15, &[(3, 0, 0, 1)])],
+    looks: &[(9, 15, held![(3, 0, 0, 1)])],
     live: &[3],
     failed: &[],
     fired: &[],
@@ -197,7 +197,7 @@ pub const HANDLE_OF_ONE_THAT_VANISHES: Script = Script {
         ),
         (2, Act::DropHandle(3, 0, STRONG), DONE),
     ],
-    looks: &[(10, 15, &[(3, 0, 0, 1)])],
+    looks: &[(10, 15, held![(3, 0, 0, 1)])],
     live: &[3],
     failed: &[],
     fired: &[],
@@ -263,7 +263,7 @@ pub const REFUSALS: Script = Script {
             Said::Just(Reply::Refused(Refusal::WrongKind)),
         ),
     ],
-    looks: &[(15, 16, &[])],
+    looks: &[(15, 16, held![])],
     live: &[3, 5],
     failed: &[],
     fired: &[],

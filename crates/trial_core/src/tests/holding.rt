@@ -1,7 +1,7 @@
 //! Handles and trackers, and limits.
 use super::acts::{Act, Deed, Said};
-use super::scripts::{DONE, FULL, NOTHING, ONE_PAGE, STRONG, Script, WEAK};
-use sm_names::{Cause, Refusal, Reply};
+use super::scripts::{DONE, FULL, NOTHING, ONE_PAGE, STRONG, Script, WEAK, held};
+use sm_names::{Cause, Fired, Refusal, Reply};
 
 /// A buffer is doomed once nothing strong keeps it, and its pages come back once nobody holds it.
 /// Once all are doomed, the collection fails.
@@ -58,15 +58,24 @@ pub const WEAK_HOLDERS: Script = Script {
         (1, Act::DropHandle(2, 1, WEAK), DONE),
     ],
     looks: &[
-        (14, 14, &[(2, 0, 0, 1), (2, 1, 1, 1)]),
-        (17, 14, &[(2, 0, 0, 1), (2, 1, 1, 1)]),
-        (18, 15, &[(2, 1, 1, 1)]),
-        (19, 15, &[(2, 1, 1, 1)]),
-        (20, 16, &[]),
+        (14, 14, held![(2, 0, 0, 1), (2, 1, 1, 1)]),
+        (17, 14, held![(2, 0, 0, 1), (2, 1, 1, 1)]),
+        (18, 15, held![(2, 1, 1, 1)]),
+        (19, 15, held![(2, 1, 1, 1)]),
+        (20, 16, held![]),
     ],
     live: &[],
     failed: &[(3, Cause::NoStrong, 2)],
-    fired: &[(12, 16), (11, 20)],
+    fired: &[
+        Fired {
+            tracker: 12,
+            event: 16,
+        },
+        Fired {
+            tracker: 11,
+            event: 20,
+        },
+    ],
 };
 
 /// The last weak handle of a buffer sends it nowhere while a strong one is open. The last strong
@@ -110,10 +119,10 @@ pub const LAST_WEAK: Script = Script {
         (1, Act::DropHandle(2, 1, WEAK), DONE),
     ],
     looks: &[
-        (12, 14, &[(2, 0, 0, 1), (2, 1, 1, 1)]),
-        (13, 15, &[(2, 1, 1, 1)]),
-        (15, 15, &[(2, 1, 1, 1)]),
-        (17, 16, &[]),
+        (12, 14, held![(2, 0, 0, 1), (2, 1, 1, 1)]),
+        (13, 15, held![(2, 1, 1, 1)]),
+        (15, 15, held![(2, 1, 1, 1)]),
+        (17, 16, held![]),
     ],
     live: &[],
     failed: &[(3, Cause::NoStrong, 2)],
@@ -146,10 +155,10 @@ pub const LAST_OF_ALL: Script = Script {
         (1, Act::DropHandle(2, 0, STRONG), DONE),
     ],
     looks: &[
-        (8, 13, &[(2, 0, 0, 1), (2, 1, 1, 1), (2, 2, 2, 1)]),
-        (9, 14, &[(2, 0, 0, 1), (2, 1, 1, 1)]),
-        (10, 15, &[(2, 0, 0, 1)]),
-        (11, 16, &[]),
+        (8, 13, held![(2, 0, 0, 1), (2, 1, 1, 1), (2, 2, 2, 1)]),
+        (9, 14, held![(2, 0, 0, 1), (2, 1, 1, 1)]),
+        (10, 15, held![(2, 0, 0, 1)]),
+        (11, 16, held![]),
     ],
     live: &[],
     failed: &[],
@@ -183,7 +192,10 @@ pub const ONE_TRACKER: Script = Script {
     looks: &[],
     live: &[6],
     failed: &[],
-    fired: &[(3, 5)],
+    fired: &[Fired {
+        tracker: 3,
+        event: 5,
+    }],
 };
 
 /// As many handles of one buffer and strength are open as may.
@@ -224,7 +236,7 @@ pub const ONE_HANDLE: Script = Script {
             }),
         ),
     ],
-    looks: &[(9, 15, &[(2, 0, 0, 1)])],
+    looks: &[(9, 15, held![(2, 0, 0, 1)])],
     live: &[2],
     failed: &[],
     fired: &[],

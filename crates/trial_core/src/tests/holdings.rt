@@ -1,25 +1,22 @@
 //! What each client holds: ends and handles.
 use sm_names::{BufferName, Call, ClientId, CollectionId, Parcel, Reply, Strength};
-use std::alloc::Global;
 
-/// The ends and handles of all clients, in the order in which they were got.
-#[derive(Drop)]
-pub struct Holdings {
-    things: Vec<(ClientId, Parcel)>,
-}
-
-// So many things have room from the first.
+// So many things may be got.
 const ROOM: usize = 64;
 
-// Where the first such thing stands; where none does, how many there are.
-fn place_of(things: &[(ClientId, Parcel)], client: ClientId, thing: Parcel) -> usize {
-    for (place, held) in things.iter().enumerate() {
-        if *held == (client, thing) {
-            return place;
-        }
-    }
-    things.len()
+/// The ends and handles of all clients, in the order in which they were got. Takes no memory.
+#[derive(Clone, Copy)]
+pub struct Holdings {
+    // A thing that is given up leaves its place.
+    things: [Option<(ClientId, Parcel)>; ROOM],
+    got: usize,
 }
+
+/// Nothing is held.
+pub const NO_HOLDINGS: Holdings = Holdings {
+    things: [None; ROOM],
+    got: 0,
+};
 
 // What the caller got by the call, if it got one thing.
 fn gained(call: &Call, reply: &Reply) -> Option<Parcel> {
@@ -55,28 +52,13 @@ fn given_up(call: &Call, reply: &Reply) -> Option<Parcel> {
 }
 
 impl Holdings {
-    /// Nothing is held.
-    pub fn new(alloc: Global) -> Holdings {
-        Holdings {
-            things: Vec::new(alloc),
-        }
-    }
-
-    /// Takes room for all that the scripts want, and answers whether there was memory.
-    pub fn make_room(&mut self) -> bool {
-        self.things.reserve(ROOM).is_ok()
-    }
-
-    /// How many things are held.
-    pub fn len(&self) -> usize {
-        self.things.len()
-    }
-
     /// The first thing that the client holds.
     pub fn first_of(&self, client: ClientId) -> Option<Parcel> {
-        for (holder, thing) in self.things.as_slice() {
-            if *holder == client {
-                return Some(*thing);
+        for place in &self.things {
+            if let Some((holder, thing)) = *place {
+                if holder == client {
+                    return Some(thing);
+                }
             }
         }
         None
@@ -103,16 +85,25 @@ impl Holdings {
     }
 
     fn gain(&mut self, client: ClientId, thing: Parcel) -> bool {
-        self.things.push((client, thing)).is_ok()
+        match self.things.get_mut(self.got) {
+            Some(place) => {
+                *place = Some((client, thing));
+                self.got += 1;
+                true
+            }
+            None => false,
+        }
     }
 
     fn lose(&mut self, client: ClientId, thing: Parcel) -> bool {
-        let place = place_of(self.things.as_slice(), client, thing);
-        let is_held = place < self.things.len();
-        if is_held {
-            self.things.remove(place);
+        let held = Some((client, thing));
+        for place in &mut self.things {
+            if *place == held {
+                *place = None;
+                return true;
+            }
         }
-        is_held
+        false
     }
 
     // A handle on each buffer of the set.

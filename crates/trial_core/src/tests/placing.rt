@@ -1,6 +1,6 @@
 //! Buffers that are placed, and pages that come back.
 use super::acts::{Act, Deed, Said};
-use super::scripts::{DONE, FULL, PENDING, Script};
+use super::scripts::{DONE, FULL, PENDING, Script, held};
 use sm_names::{Cause, Failure, Refusal, Reply};
 
 /// A client gets two buffers.
@@ -20,7 +20,7 @@ pub const TWO_BUFFERS: Script = Script {
             }),
         ),
     ],
-    looks: &[(3, 16, &[]), (5, 12, &[(2, 0, 0, 2), (2, 1, 2, 2)])],
+    looks: &[(3, 16, held![]), (5, 12, held![(2, 0, 0, 2), (2, 1, 2, 2)])],
     live: &[2],
     failed: &[],
     fired: &[],
@@ -41,9 +41,9 @@ pub const RELEASED_TREE: Script = Script {
         (1, Act::On(2, Deed::Release), DONE),
     ],
     looks: &[
-        (6, 16, &[]),
-        (7, 12, &[(2, 0, 0, 2), (2, 1, 2, 2)]),
-        (8, 16, &[]),
+        (6, 16, held![]),
+        (7, 12, held![(2, 0, 0, 2), (2, 1, 2, 2)]),
+        (8, 16, held![]),
     ],
     live: &[],
     failed: &[],
@@ -107,10 +107,10 @@ pub const HOLES: Script = Script {
         (1, Act::On(21, Deed::Constrain(1, 0, 32768)), DONE),
     ],
     looks: &[
-        (10, 0, &[(2, 0, 0, 4), (5, 0, 4, 4), (8, 0, 8, 8)]),
-        (14, 4, &[(2, 0, 0, 4), (8, 0, 8, 8)]),
-        (18, 0, &[(2, 0, 0, 4), (16, 0, 4, 4), (8, 0, 8, 8)]),
-        (23, 0, &[(21, 0, 0, 8), (8, 0, 8, 8)]),
+        (10, 0, held![(2, 0, 0, 4), (5, 0, 4, 4), (8, 0, 8, 8)]),
+        (14, 4, held![(2, 0, 0, 4), (8, 0, 8, 8)]),
+        (18, 0, held![(2, 0, 0, 4), (16, 0, 4, 4), (8, 0, 8, 8)]),
+        (23, 0, held![(21, 0, 0, 8), (8, 0, 8, 8)]),
     ],
     live: &[8, 21],
     failed: &[(12, Cause::Failed(Failure::PoolFull), 12)],

@@ -1,36 +1,50 @@
 //! A core that is asked row by row.
 use super::acts::{Act, Row, Said};
-use super::holdings::Holdings;
-use super::log::Log;
+use super::holdings::{Holdings, NO_HOLDINGS};
 use lifetime_core::Core;
-use sm_names::{
-    Call, Cause, ClientId, Fired, HeldBuffer, Limits, NodeKey, Parcel, Reply, StepFault,
-};
+use sm_names::{Call, ClientId, Limits, NodeKey, Parcel, Reply, StepFault};
 use std::alloc::Global;
 
-/// A core of 16 pages, the node of each call that made one, and what its clients hold.
+/// So many calls are kept, and so many nodes are noted by the numbers of their calls.
+pub const ROOM: usize = 64;
+
+// A key that no node has.
+const NO_NODE: NodeKey = NodeKey {
+    slot: u32::MAX,
+    generation: u32::MAX,
+};
+
+/// The first calls, each with its reply.
+#[derive(Clone, Copy)]
+pub struct Log {
+    pub calls: [(ClientId, Call); ROOM],
+    pub replies: [Reply; ROOM],
+    pub count: usize,
+}
+
+/// A core of 16 pages, and what it was asked. But for the core it takes no memory.
 #[derive(Drop)]
 pub struct Player {
     core: Core,
-    nodes: Vec<(u64, NodeKey)>,
+    // The node of each call that made one.
+    nodes: [NodeKey; ROOM],
     holdings: Holdings,
     log: Log,
     // How many clients joined, all before any other call.
     clients: ClientId,
-    // Whether memory was refused.
-    refused: bool,
-    // The fault of the newest call that was not taken.
-    fault: Option<StepFault>,
 }
 
-// So many nodes have room from the first.
-const ROOM: usize = 16;
+/// Limits of these numbers.
+pub fn limits_of(numbers: [u32; 5]) -> Option<Limits> {
+    let [events, nodes, collections, trackers, handles] = numbers;
+    Limits::new(events, nodes, collections, trackers, handles)
+}
 
-// A player of a core that has seen nothing, which says that memory was refused or that it was not.
-fn fresh(alloc: Global, limits: Limits, refused: bool) -> Option<Player> {
+// A core that has seen nothing. Where memory is refused, it is asked for again.
+fn new_core(alloc: Global, limits: Limits) -> Option<Core> {
     match Core::with_seed(alloc, 16, limits, [3; 16]) {
-        Ok(core) => Player::of(alloc, core, refused),
-        Err(_) => None,
+        Ok(core) => Some(core),
+        Err(_) => Core::with_seed(alloc, 16, limits, [3; 16]).ok(),
     }
 }
 
@@ -42,66 +56,43 @@ fn giving_up(thing: Parcel) -> Call {
     }
 }
 
+impl Log {
+    // Keeps the call, where there is room.
+    fn add_entry(&mut self, client: ClientId, call: Call, reply: Reply) {
+        if self.count < ROOM {
+            self.calls[self.count] = (client, call);
+            self.replies[self.count] = reply;
+            self.count += 1;
+        }
+    }
+}
+
 impl Player {
-    // A player of this core, if there is memory for what it notes.
-    fn of(alloc: Global, core: Core, refused: bool) -> Option<Player> {
-        let mut player = Player {
+    /// A player of a core that has seen nothing, with these limits.
+    pub fn new(alloc: Global, limits: [u32; 5]) -> Option<Player> {
+        let limits = limits_of(limits)?;
+        let core = new_core(alloc, limits)?;
+        Some(Player {
             core,
-            nodes: Vec::new(alloc),
-            holdings: Holdings::new(alloc),
-            log: Log::new(alloc),
+            nodes: [NO_NODE; ROOM],
+            holdings: NO_HOLDINGS,
+            log: Log {
+                calls: [(0, Call::Join); ROOM],
+                replies: [Reply::Done; ROOM],
+                count: 0,
+            },
             clients: 0,
-            refused,
-            fault: None,
-        };
-        if player.makes_room() {
-            Some(player)
-        } else {
-            None
-        }
+        })
     }
 
-    // Takes room for what it notes, and answers whether there was memory.
-    fn makes_room(&mut self) -> bool {
-        self.nodes.reserve(ROOM).is_ok() && self.holdings.make_room() && self.log.make_room()
-    }
-
-    /// A player of a core that has seen nothing. Where memory is refused, it is asked for again.
-    pub fn new(alloc: Global, limits: Limits) -> Option<Player> {
-        match fresh(alloc, limits, false) {
-            Some(player) => Some(player),
-            None => fresh(alloc, limits, true),
-        }
+    /// The core, to be looked at.
+    pub fn core(&self) -> &Core {
+        &self.core
     }
 
     /// The core, to be asked by itself.
-    pub fn core(&mut self) -> &mut Core {
+    pub fn core_mut(&mut self) -> &mut Core {
         &mut self.core
-    }
-
-    /// The number of the newest event.
-    pub fn events(&self) -> u64 {
-        self.core.events()
-    }
-
-    /// How many pages are free.
-    pub fn free_pages(&self) -> u32 {
-        self.core.free_pages()
-    }
-
-    /// The trackers that fired.
-    pub fn fired(&self) -> &[Fired] {
-        self.core.fired()
-    }
-
-    /// Whether the node is live.
-    pub fn is_live(&self, key: NodeKey) -> bool {
-        self.core.is_live(key)
-    }
-
-    /// Why and where the node failed, if it did and is kept.
-    pub fn cause(&self, key: NodeKey) -> Option<(Cause, NodeKey)> {
-        self.core.cause(key)
     }
 
     /// The first calls, each with its reply.
@@ -109,59 +100,11 @@ impl Player {
         &self.log
     }
 
-    /// Whether memory was refused.
-    pub fn was_refused(&self) -> bool {
-        self.refused
-    }
-
-    /// Notes that the newest call was not taken, and whether that was for want of memory.
-    pub fn note_refusal(&mut self) -> bool {
-        self.refused = true;
-        self.fault == Some(StepFault::NoMemory)
-    }
-
-    /// The nodes that were made, each with the number of its call.
-    pub fn nodes(&self) -> &[(u64, NodeKey)] {
-        self.nodes.as_slice()
-    }
-
     /// The key of the node that this call made; where it made none, a key that no node has.
     pub fn key_of(&self, number: u64) -> NodeKey {
-        for (made, key) in self.nodes.as_slice() {
-            if *made == number {
-                return *key;
-            }
-        }
-        NodeKey {
-            slot: u32::MAX,
-            generation: u32::MAX,
-        }
-    }
-
-    /// The number of the call that made the node, or 0.
-    pub fn number_of(&self, key: NodeKey) -> u64 {
-        for (number, made) in self.nodes.as_slice() {
-            if *made == key {
-                return *number;
-            }
-        }
-        0
-    }
-
-    /// Makes the call, and answers the reply. `None` where the call is not taken, and then `fault` says
-    /// why; where a new node has the key of another, and where a client lost what it did not hold.
-    pub fn ask(&mut self, client: ClientId, call: Call) -> Option<Reply> {
-        let reply = match self.core.step(client, call) {
-            Ok(reply) => reply,
-            Err(fault) => {
-                self.fault = Some(fault);
-                return None;
-            }
-        };
-        if self.note(client, &call, &reply) {
-            Some(reply)
-        } else {
-            None
+        match self.nodes.get(number as usize) {
+            Some(key) => *key,
+            None => NO_NODE,
         }
     }
 
@@ -182,44 +125,69 @@ impl Player {
 
     // Notes the new node. `false` where it has the key of another.
     fn name(&mut self, key: NodeKey) -> bool {
-        let event = self.core.events();
-        self.number_of(key) == 0 && self.nodes.push((event, key)).is_ok()
-    }
-
-    // The reply, with the numbers of the nodes that it names.
-    fn said(&self, reply: Reply) -> Said {
-        match reply {
-            Reply::Token { collection, .. } => Said::Token(collection),
-            Reply::Collected {
-                key,
-                kind,
-                collection,
-            } => Said::End(self.number_of(key), kind, collection),
-            Reply::PeerClosed { cause, origin } => Said::Closed(cause, self.number_of(origin)),
-            _ => Said::Just(reply),
+        let is_new = !self.nodes.contains(&key);
+        match self.nodes.get_mut(self.core.events() as usize) {
+            Some(node) => {
+                *node = key;
+                is_new
+            }
+            None => false,
         }
     }
 
-    /// Makes the call, and answers what was said.
-    pub fn answer(&mut self, client: ClientId, act: Act) -> Option<Said> {
-        let call = act.call(self.key_of(act.node()))?;
-        let reply = self.ask(client, call)?;
-        Some(self.said(reply))
+    // The reply that names the nodes of these numbers. A token is that of the newest node.
+    fn reply_of(&self, said: Said) -> Reply {
+        match said {
+            Said::Just(reply) => reply,
+            Said::Token(collection) => Reply::Token {
+                key: self.key_of(self.core.events()),
+                collection,
+            },
+            Said::End(number, kind, collection) => Reply::Collected {
+                key: self.key_of(number),
+                kind,
+                collection,
+            },
+            Said::Closed(cause, origin) => Reply::PeerClosed {
+                cause,
+                origin: self.key_of(origin),
+            },
+        }
+    }
+
+    /// Makes the call of the row, and whether it is answered as the row says. The fault, where it is not taken.
+    pub fn takes(&mut self, row: &Row) -> Result<bool, StepFault> {
+        let (client, act, said) = *row;
+        let Some(call) = act.call(self.key_of(act.node())) else {
+            return Ok(false);
+        };
+        match self.core.step(client, call) {
+            Ok(reply) => Ok(self.note(client, &call, &reply) && reply == self.reply_of(said)),
+            Err(fault) => Err(fault),
+        }
     }
 
     /// Makes the calls of so many rows, and whether they are answered as the rows say.
     pub fn keeps_to(&mut self, rows: &[Row], count: usize) -> bool {
-        for (client, act, said) in rows.iter().take(count) {
-            if self.answer(*client, *act) != Some(*said) {
+        for row in rows.iter().take(count) {
+            if self.takes(row) != Ok(true) {
                 return false;
             }
         }
         true
     }
 
-    /// Makes the calls of a client that vanishes: it is shut, collects what waits for it, closes
-    /// each end that it holds and drops each handle. Answers whether each took effect.
-    pub fn vanishes(&mut self, client: ClientId) -> bool {
+    // Makes the call, and answers the reply, if it is taken and can be noted.
+    fn ask(&mut self, client: ClientId, call: Call) -> Option<Reply> {
+        match self.core.step(client, call) {
+            Ok(reply) if self.note(client, &call, &reply) => Some(reply),
+            _ => None,
+        }
+    }
+
+    // Makes the calls of a client that vanishes: it is shut, collects what waits for it, closes
+    // each end that it holds and drops each handle. Answers whether each took effect.
+    fn vanishes(&mut self, client: ClientId) -> bool {
         match self.ask(client, Call::Shut) {
             Some(Reply::Shut(waiting)) => {
                 self.collects_all(client, waiting) && self.gives_all_up(client)
@@ -241,7 +209,7 @@ impl Player {
 
     // Whether the client gives up all that it holds.
     fn gives_all_up(&mut self, client: ClientId) -> bool {
-        for _ in 0..self.holdings.len() {
+        for _ in 0..ROOM {
             let Some(thing) = self.holdings.first_of(client) else {
                 return true;
             };
@@ -249,38 +217,11 @@ impl Player {
                 return false;
             }
         }
-        self.holdings.first_of(client).is_none()
+        false
     }
 
     /// Makes the calls by which the first two clients vanish, of those that joined.
     pub fn all_vanish(&mut self) -> bool {
-        for client in [1, 2] {
-            if client <= self.clients && !self.vanishes(client) {
-                return false;
-            }
-        }
-        true
-    }
-
-    /// The live nodes. Where memory is refused, it is asked for again.
-    pub fn live(&mut self) -> Option<Vec<NodeKey>> {
-        match self.core.live() {
-            Ok(live) => Some(live),
-            Err(_) => {
-                self.refused = true;
-                self.core.live().ok()
-            }
-        }
-    }
-
-    /// The buffers that hold pages. Where memory is refused, it is asked for again.
-    pub fn held(&mut self) -> Option<Vec<HeldBuffer>> {
-        match self.core.held() {
-            Ok(held) => Some(held),
-            Err(_) => {
-                self.refused = true;
-                self.core.held().ok()
-            }
-        }
+        (self.clients < 1 || self.vanishes(1)) && (self.clients < 2 || self.vanishes(2))
     }
 }

@@ -12,16 +12,16 @@ use super::giving::{
 use super::holding::{
     LAST_OF_ALL, LAST_WEAK, ONE_COLLECTION, ONE_HANDLE, ONE_NODE, ONE_TRACKER, WEAK_HOLDERS,
 };
-use super::lending::on_player;
+use super::lending::{Question, holds, on_player};
 use super::placing::{HOLES, RELEASED_PARENT, RELEASED_TREE, TWO_BUFFERS};
 use super::player::Player;
+use super::running::first_uncut;
 use super::scripts::Script;
-use super::views::{ends_so, is_over, looks_so, see_the_same};
-use sm_names::Limits;
+use super::views::{ends_so, looks_so, see_the_same};
+use sm_names::StepFault;
 use std::alloc::Global;
 
-// Scripts that no test has alone.
-const TOLD: &[&Script] = &[
+const SCRIPTS: &[&Script] = &[
     &TREE_LOSS,
     &CLOSED_AFTER_A_LOSS,
     &LOSS_PAST_A_RELEASED_PARENT,
@@ -37,10 +37,6 @@ const TOLD: &[&Script] = &[
     &HANDLE_TO_A_SHUT_CLIENT,
     &HANDLE_OF_ONE_THAT_VANISHES,
     &REFUSALS,
-];
-
-// Scripts that are cut.
-const CUT: &[&Script] = &[
     &NESTED_LOSS,
     &FAILING_SUBTREES,
     &ORPHAN_SHARE,
@@ -51,145 +47,103 @@ const CUT: &[&Script] = &[
     &SHUT_RECEIVER,
     &PARCEL,
     &HANDLE_PARCEL,
-    &HANDLE_OF_ONE_THAT_VANISHES,
 ];
 
-/// The limits that the script wants.
-pub fn limits_of(script: &Script) -> Option<Limits> {
-    let [events, nodes, collections, trackers, handles] = script.limits;
-    Limits::new(events, nodes, collections, trackers, handles)
+/// All scripts. They are data that each function that names them carries, so all others call this one.
+pub fn scripts() -> &'static [&'static Script] {
+    SCRIPTS
 }
 
 // Whether the player sees what one sees that made so many of the calls.
-fn has_made(alloc: Global, limits: Limits, player: &mut Player, rows: &[Row], made: usize) -> bool {
-    on_player(alloc, limits, |other| {
-        other.keeps_to(rows, made)
-            && player.events() == other.events()
-            && see_the_same(player, other)
+fn has_made(alloc: Global, player: &Player, script: &Script, made: usize) -> bool {
+    on_player(alloc, script.limits, |other| {
+        other.keeps_to(script.rows, made)
+            && player.core().events() == other.core().events()
+            && see_the_same(player.core(), other.core())
     })
 }
 
-// Whether the next call is answered as the row says. Where memory is refused, which is the fault, nothing
-// is changed and the call is made again.
-fn takes(alloc: Global, limits: Limits, player: &mut Player, rows: &[Row], place: usize) -> bool {
-    let Some((client, act, wanted)) = rows.get(place) else {
-        return false;
-    };
-    match player.answer(*client, *act) {
-        Some(said) => said == *wanted,
-        None => {
-            player.note_refusal()
-                && has_made(alloc, limits, player, rows, place)
-                && player.answer(*client, *act) == Some(*wanted)
+// Whether the call of the row at this place is answered as it says. Where memory is refused, nothing is changed and the
+// call is made again.
+fn takes(alloc: Global, player: &mut Player, script: &Script, place: usize, row: &Row) -> bool {
+    match player.takes(row) {
+        Ok(is_so) => is_so,
+        Err(StepFault::NoMemory) => {
+            has_made(alloc, player, script, place) && player.takes(row) == Ok(true)
         }
+        Err(StepFault::HistoryFull) => false,
     }
 }
 
-// Whether the player goes through the script, and all is as the script says.
-fn plays(alloc: Global, limits: Limits, player: &mut Player, script: &Script) -> bool {
-    for place in 0..script.rows.len() {
-        if !takes(alloc, limits, player, script.rows, place) || !looks_so(player, script.looks) {
+/// Whether the player goes through the script, and all is as the script says.
+pub fn plays(alloc: Global, player: &mut Player, script: &Script) -> bool {
+    for (place, row) in script.rows.iter().enumerate() {
+        if !takes(alloc, player, script, place, row) || !looks_so(player.core(), script.looks) {
             return false;
         }
     }
     ends_so(player, script)
 }
 
-// What came of the script: whether memory was refused, where all is as the script says.
-fn outcome(alloc: Global, script: &Script) -> Option<bool> {
-    let limits = limits_of(script)?;
-    let mut refused = false;
-    let is_so = on_player(alloc, limits, |player| {
-        let is_so = plays(alloc, limits, player, script);
-        refused = player.was_refused();
-        is_so
-    });
-    is_so.then_some(refused)
-}
-
-// Whether all clients vanish cleanly after so many calls.
-fn is_cut(alloc: Global, limits: Limits, script: &Script, count: usize) -> bool {
-    on_player(alloc, limits, |player| {
-        player.keeps_to(script.rows, count) && player.all_vanish() && is_over(player)
-    })
-}
-
-// Whether all clients vanish cleanly wherever the script is cut.
-fn is_cut_anywhere(alloc: Global, script: &Script) -> bool {
-    let Some(limits) = limits_of(script) else {
-        return false;
-    };
-    for count in 0..script.rows.len() {
-        if !is_cut(alloc, limits, script, count) {
-            return false;
-        }
-    }
-    is_cut(alloc, limits, script, script.rows.len())
-}
-
-// Whether all is as the script says. Where memory was refused, that is printed.
-fn told(rt: &HostRuntime, script: &Script) -> bool {
-    let outcome = outcome(rt.alloc(), script);
-    if outcome == Some(true) {
-        let _ = println!(rt; "memory was refused");
-    }
-    outcome.is_some()
+// Whether all is as the script says.
+fn told(alloc: Global, script: &Script) -> bool {
+    holds(alloc, script.limits, Question::Plays(script))
 }
 
 #[test]
 fn a_nested_loss_goes_no_further(rt: HostRuntime) {
-    assert!(rt; told(&rt, &NESTED_LOSS));
+    assert!(rt; told(rt.alloc(), &NESTED_LOSS));
 }
 
 #[test]
 fn an_attached_subtree_fails_alone(rt: HostRuntime) {
-    assert!(rt; told(&rt, &FAILING_SUBTREES));
+    assert!(rt; told(rt.alloc(), &FAILING_SUBTREES));
 }
 
 #[test]
 fn a_share_of_an_orphan_is_kept(rt: HostRuntime) {
-    assert!(rt; told(&rt, &ORPHAN_SHARE));
+    assert!(rt; told(rt.alloc(), &ORPHAN_SHARE));
 }
 
 #[test]
 fn weak_holders_are_told(rt: HostRuntime) {
-    assert!(rt; told(&rt, &WEAK_HOLDERS));
+    assert!(rt; told(rt.alloc(), &WEAK_HOLDERS));
 }
 
 #[test]
 fn the_last_weak_handle_sends_no_buffer_home(rt: HostRuntime) {
-    assert!(rt; told(&rt, &LAST_WEAK));
+    assert!(rt; told(rt.alloc(), &LAST_WEAK));
 }
 
 #[test]
 fn each_buffer_goes_home_with_its_own_last_handle(rt: HostRuntime) {
-    assert!(rt; told(&rt, &LAST_OF_ALL));
+    assert!(rt; told(rt.alloc(), &LAST_OF_ALL));
 }
 
 #[test]
 fn pages_come_back_as_one_hole(rt: HostRuntime) {
-    assert!(rt; told(&rt, &HOLES));
+    assert!(rt; told(rt.alloc(), &HOLES));
 }
 
 #[test]
 fn a_client_gives_to_itself(rt: HostRuntime) {
-    assert!(rt; told(&rt, &SHUT_RECEIVER));
+    assert!(rt; told(rt.alloc(), &SHUT_RECEIVER));
 }
 
 #[test]
 fn an_end_in_a_parcel_is_nobodys(rt: HostRuntime) {
-    assert!(rt; told(&rt, &PARCEL));
+    assert!(rt; told(rt.alloc(), &PARCEL));
 }
 
 #[test]
 fn a_handle_in_a_parcel_is_nobodys(rt: HostRuntime) {
-    assert!(rt; told(&rt, &HANDLE_PARCEL));
+    assert!(rt; told(rt.alloc(), &HANDLE_PARCEL));
 }
 
 // The place of the first script that is not answered as it says, if there is one.
 fn first_untold(alloc: Global) -> Option<usize> {
-    for (place, script) in TOLD.iter().enumerate() {
-        if outcome(alloc, script).is_none() {
+    for (place, script) in scripts().iter().enumerate() {
+        if !told(alloc, script) {
             return Some(place);
         }
     }
@@ -201,18 +155,7 @@ fn scripts_are_answered_as_they_say(rt: HostRuntime) {
     assert_eq!(rt; first_untold(rt.alloc()), None);
 }
 
-// The place of the first script that can't be cut anywhere, if there is one. Each is played once more where memory was
-// refused.
-fn first_uncut(alloc: Global) -> Option<usize> {
-    for (place, script) in CUT.iter().enumerate() {
-        if !is_cut_anywhere(alloc, script) && !is_cut_anywhere(alloc, script) {
-            return Some(place);
-        }
-    }
-    None
-}
-
 #[test]
 fn clients_vanish_cleanly_after_any_call(rt: HostRuntime) {
-    assert_eq!(rt; first_uncut(rt.alloc()), None);
+    assert_eq!(rt; first_uncut(rt.alloc(), false), None);
 }

@@ -1,28 +1,13 @@
 //! Scripts as runs: `Core::run` answers as the steps did, wherever a script is cut, and once all its
 //! clients have vanished nothing is left.
-use super::failing::{FAILING_SUBTREES, NESTED_LOSS, ORPHAN_SHARE};
-use super::giving::{HANDLE_PARCEL, PARCEL, SHUT_RECEIVER};
-use super::holding::WEAK_HOLDERS;
-use super::lending::{on_core, on_player};
-use super::log::Log;
-use super::player::Player;
-use super::plays::limits_of;
+use super::lending::{Question, holds, on_core};
+use super::player::{Log, Player, ROOM};
+use super::plays::scripts;
 use super::scripts::Script;
 use super::views::is_empty;
 use lifetime_core::Core;
-use sm_names::{Call, ClientId, Limits, Reply};
+use sm_names::{Call, ClientId, Reply};
 use std::alloc::Global;
-
-// Scripts that are run.
-const RUN: &[&Script] = &[
-    &NESTED_LOSS,
-    &FAILING_SUBTREES,
-    &ORPHAN_SHARE,
-    &WEAK_HOLDERS,
-    &SHUT_RECEIVER,
-    &PARCEL,
-    &HANDLE_PARCEL,
-];
 
 // Whether the readers of the trackers that the replies tell of are taken once, and no others.
 fn are_taken_once(core: &mut Core, replies: &[Reply]) -> bool {
@@ -43,47 +28,58 @@ fn answers(alloc: Global, core: &mut Core, calls: &[(ClientId, Call)], replies: 
     }
 }
 
-// Whether a new core that runs the first calls, and then the others, answers as they were answered.
-fn runs_so(alloc: Global, limits: Limits, log: &Log, count: usize) -> bool {
-    let (calls, replies) = (log.calls.as_slice(), log.replies.as_slice());
-    let cut = count.min(calls.len()).min(replies.len());
+// Whether a core that runs the first calls, and then the others, answers as they were answered.
+fn repeats(alloc: Global, core: &mut Core, log: &Log, count: usize) -> bool {
+    let made = log.count.min(ROOM);
+    let (calls, replies) = (&log.calls[..made], &log.replies[..made]);
+    let cut = count.min(made);
     let (first, first_replies) = (&calls[..cut], &replies[..cut]);
     let (others, other_replies) = (&calls[cut..], &replies[cut..]);
-    on_core(alloc, limits, |core| {
-        answers(alloc, core, first, first_replies)
-            && answers(alloc, core, others, other_replies)
-            && is_empty(core)
-            && are_taken_once(core, replies)
-    })
+    answers(alloc, core, first, first_replies)
+        && answers(alloc, core, others, other_replies)
+        && is_empty(core)
+        && are_taken_once(core, replies)
 }
 
-// Whether so many calls of the script, one by one, and those of its clients that then vanish, are
-// answered alike by runs.
-fn runs_when_cut(alloc: Global, limits: Limits, script: &Script, count: usize) -> bool {
-    on_player(alloc, limits, |player| {
-        player.keeps_to(script.rows, count)
-            && player.all_vanish()
-            && runs_so(alloc, limits, player.log(), count)
-    })
+/// Whether all clients vanish cleanly after so many calls, and if that is asked, a core that runs the calls answers as
+/// they were answered.
+pub fn ends_well(
+    alloc: Global,
+    player: &mut Player,
+    script: &Script,
+    count: usize,
+    is_run: bool,
+) -> bool {
+    player.keeps_to(script.rows, count)
+        && player.all_vanish()
+        && is_empty(player.core())
+        && (!is_run
+            || on_core(
+                alloc,
+                script.limits,
+                |core| repeats(alloc, core, player.log(), count),
+            ))
 }
 
-// Whether all is so wherever the script is cut.
-fn runs_to_its_end(alloc: Global, script: &Script) -> bool {
-    let Some(limits) = limits_of(script) else {
-        return false;
-    };
-    for count in 0..script.rows.len() {
-        if !runs_when_cut(alloc, limits, script, count + 1) {
+// Whether that is so wherever the script is cut.
+fn is_cut_anywhere(alloc: Global, script: &Script, is_run: bool) -> bool {
+    for count in 0..=script.rows.len() {
+        if !holds(
+            alloc,
+            script.limits,
+            Question::EndsWell(script, count, is_run),
+        ) {
             return false;
         }
     }
     true
 }
 
-// The place of the first script that is not run to its end, if there is one. Each is run once more where memory was refused.
-fn first_unrun(alloc: Global) -> Option<usize> {
-    for (place, script) in RUN.iter().enumerate() {
-        if !runs_to_its_end(alloc, script) && !runs_to_its_end(alloc, script) {
+/// The place of the first script that can't be cut anywhere, if there is one. Each is played once more where memory was
+/// refused.
+pub fn first_uncut(alloc: Global, is_run: bool) -> Option<usize> {
+    for (place, script) in scripts().iter().enumerate() {
+        if !is_cut_anywhere(alloc, script, is_run) && !is_cut_anywhere(alloc, script, is_run) {
             return Some(place);
         }
     }
@@ -92,5 +88,5 @@ fn first_unrun(alloc: Global) -> Option<usize> {
 
 #[test]
 fn a_run_answers_as_its_steps(rt: HostRuntime) {
-    assert_eq!(rt; first_unrun(rt.alloc()), None);
+    assert_eq!(rt; first_uncut(rt.alloc(), true), None);
 }

@@ -1,10 +1,9 @@
 //! A script: calls with their replies, and what is seen of the core.
 use super::acts::{Deed, Row, Said};
-use sm_names::{Cause, Reply, Strength};
+use sm_names::{Cause, Fired, HeldBuffer, Reply, Strength};
 
-/// What is seen after so many calls: how many pages are free, and the buffers that hold the others,
-/// each with its collection, its index, its first page and how many pages it has.
-pub type Look = (u64, u32, &'static [(u64, u8, u32, u32)]);
+/// What is seen after so many calls: how many pages are free, and the buffers that hold the others.
+pub type Look = (u64, u32, &'static [HeldBuffer]);
 
 /// Calls with their replies, and what is seen between them and at the end.
 #[derive(Clone, Copy)]
@@ -17,9 +16,29 @@ pub struct Script {
     pub live: &'static [u64],
     // The nodes that failed and are kept at the end, with why and where.
     pub failed: &'static [(u64, Cause, u64)],
-    // The trackers that fired, each with the event.
-    pub fired: &'static [(u64, u64)],
+    // The trackers that fired.
+    pub fired: &'static [Fired],
 }
+
+/// Buffers that hold pages: each with its collection, its index, its first page and how many pages it has.
+macro_rules! held {
+    ($(($collection:literal, $index:literal, $start:literal, $pages:literal)),*) => {
+        &[$(
+            sm_names::HeldBuffer {
+                buffer: sm_names::BufferName {
+                    collection: $collection,
+                    index: $index,
+                },
+                pages: sm_names::Interval {
+                    start: $start,
+                    pages: $pages,
+                },
+            }
+        ),*]
+    };
+}
+
+pub(crate) use held;
 
 pub const FULL: [u32; 5] = [u32::MAX, 1024, 256, 4096, u32::MAX];
 

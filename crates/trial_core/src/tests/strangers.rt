@@ -1,11 +1,12 @@
 //! Forged keys, names of no handle, and callers who never joined: all is refused, and nothing changes.
 use super::acts::{Act, Deed, Row, Said};
-use super::lending::{on_core, on_player};
+use super::cores::{Play, goes_well};
+use super::lending::on_player;
 use super::player::Player;
-use super::scripts::{DONE, ONE_PAGE, STRONG, WEAK};
+use super::scripts::{DONE, FULL, ONE_PAGE, STRONG, WEAK};
 use super::views::see_the_same;
 use lifetime_core::Core;
-use sm_names::{Call, ClientId, Limits, Refusal, Reply};
+use sm_names::{Call, ClientId, Refusal, Reply};
 use std::alloc::Global;
 
 // Client 1 has a released node below which one is live, and a lost one. Client 2 has a token, and a
@@ -29,26 +30,30 @@ const BEFORE: &[Row] = &[
     (2, Act::On(10, ONE_PAGE), DONE),
 ];
 
-// Each call that takes a key.
-const DEEDS: &[Deed] = &[
-    Deed::Duplicate,
-    Deed::Attach,
-    Deed::Sync,
-    Deed::Give(1),
-    Deed::Give(2),
-    Deed::Bind,
-    Deed::Dispensable,
-    Deed::Weak,
-    Deed::WeakOk(false),
-    Deed::WeakOk(true),
-    ONE_PAGE,
-    Deed::Check,
-    Deed::Take,
-    Deed::Release,
-    Deed::Close,
-    Deed::TrackNode,
-    Deed::TrackLifetime(0),
-];
+// Each call that takes a key, made on the node of this number.
+macro_rules! deeds {
+    ($node:literal) => {
+        &[
+            Act::On($node, Deed::Duplicate),
+            Act::On($node, Deed::Attach),
+            Act::On($node, Deed::Sync),
+            Act::On($node, Deed::Give(1)),
+            Act::On($node, Deed::Give(2)),
+            Act::On($node, Deed::Bind),
+            Act::On($node, Deed::Dispensable),
+            Act::On($node, Deed::Weak),
+            Act::On($node, Deed::WeakOk(false)),
+            Act::On($node, Deed::WeakOk(true)),
+            Act::On($node, ONE_PAGE),
+            Act::On($node, Deed::Check),
+            Act::On($node, Deed::Take),
+            Act::On($node, Deed::Release),
+            Act::On($node, Deed::Close),
+            Act::On($node, Deed::TrackNode),
+            Act::On($node, Deed::TrackLifetime(0)),
+        ]
+    };
+}
 
 // Each call that names a handle.
 const HANDLES: &[Act] = &[
@@ -72,114 +77,68 @@ const TO_NOBODY: &[Act] = &[
     Act::GiveHandle(0, 63, STRONG, 99),
 ];
 
-fn has_begun(player: &mut Player) -> bool {
-    player.keeps_to(BEFORE, BEFORE.len())
+// Clients with calls that are refused, and how.
+type Asked = (ClientId, &'static [Act], Refusal);
+
+// Keys of no node, of spent ends, and of ends of another.
+const OF_NO_END: &[Asked] = &[
+    (1, deeds!(0), Refusal::NoSuchEnd),
+    (1, deeds!(3), Refusal::NoSuchEnd),
+    (1, deeds!(6), Refusal::NoSuchEnd),
+    (1, deeds!(9), Refusal::NoSuchEnd),
+    (1, deeds!(10), Refusal::NoSuchEnd),
+];
+
+const OF_NO_HANDLE: &[Asked] = &[(1, HANDLES, Refusal::NoSuchHandle)];
+
+// Those who never joined are nobody, whatever they ask. Nobody joins but by client 0, and nothing is given to nobody.
+const NOBODY: &[Asked] = &[
+    (0, OTHERS, Refusal::NoSuchClient),
+    (0, HANDLES, Refusal::NoSuchClient),
+    (0, deeds!(4), Refusal::NoSuchClient),
+    (99, OTHERS, Refusal::NoSuchClient),
+    (99, HANDLES, Refusal::NoSuchClient),
+    (99, deeds!(4), Refusal::NoSuchClient),
+    (99, &[Act::Join], Refusal::NoSuchClient),
+    (1, &[Act::Join], Refusal::NoSuchClient),
+    (1, TO_NOBODY, Refusal::NoSuchClient),
+];
+
+// Whether each of the calls is so refused, and nothing changes: both players see the same. The idle one makes no
+// further call.
+fn are_refused(player: &mut Player, idle: &Player, asked: &Asked) -> bool {
+    let (client, acts, refusal) = *asked;
+    for act in acts {
+        let row = (client, *act, Said::Just(Reply::Refused(refusal)));
+        if player.takes(&row) != Ok(true) || !see_the_same(player.core(), idle.core()) {
+            return false;
+        }
+    }
+    true
 }
 
-// Whether all goes well for two players with those calls behind them.
-fn on_two<F: FnOnce(&mut Player, &mut Player) -> bool>(alloc: Global, play: F) -> bool
-    requires { F.IsAlwaysCallable play }
-{
-    on_player(alloc, Limits::full(), |player| {
-        has_begun(player)
-            && on_player(
-                alloc,
-                Limits::full(),
-                |idle| has_begun(idle) && play(player, idle),
-            )
+// Whether that is so of all that is asked, where both have those calls behind them.
+fn change_nothing(player: &mut Player, idle: &mut Player, asked: &[Asked]) -> bool {
+    if !player.keeps_to(BEFORE, BEFORE.len()) || !idle.keeps_to(BEFORE, BEFORE.len()) {
+        return false;
+    }
+    for one in asked {
+        if !are_refused(player, idle, one) {
+            return false;
+        }
+    }
+    true
+}
+
+// The same for two new players.
+fn is_all_refused(alloc: Global, asked: &[Asked]) -> bool {
+    on_player(alloc, FULL, |player| {
+        on_player(alloc, FULL, |idle| change_nothing(player, idle, asked))
     })
 }
 
-// Whether the client is so refused, and nothing changes: both players see the same. The idle one makes
-// no further call.
-fn is_refused(
-    player: &mut Player,
-    idle: &mut Player,
-    client: ClientId,
-    act: Act,
-    refusal: Refusal,
-) -> bool {
-    player.answer(client, act) == Some(Said::Just(Reply::Refused(refusal)))
-        && see_the_same(player, idle)
-}
-
-// Whether each of the calls is so refused.
-fn are_refused(
-    player: &mut Player,
-    idle: &mut Player,
-    client: ClientId,
-    acts: &[Act],
-    refusal: Refusal,
-) -> bool {
-    for act in acts {
-        if !is_refused(player, idle, client, *act, refusal) {
-            return false;
-        }
-    }
-    true
-}
-
-// Whether all that may be asked of the node is so refused.
-fn is_out_of_reach(
-    player: &mut Player,
-    idle: &mut Player,
-    client: ClientId,
-    number: u64,
-    refusal: Refusal,
-) -> bool {
-    for deed in DEEDS {
-        if !is_refused(player, idle, client, Act::On(number, *deed), refusal) {
-            return false;
-        }
-    }
-    true
-}
-
-// Keys of no node, of spent ends, and of ends of another.
-fn has_no_end_of_1(player: &mut Player, idle: &mut Player) -> bool {
-    for number in [0, 3, 6, 9, 10] {
-        if !is_out_of_reach(player, idle, 1, number, Refusal::NoSuchEnd) {
-            return false;
-        }
-    }
-    true
-}
-
-// Whether client 1 has none of the handles.
-fn has_no_handle(player: &mut Player, idle: &mut Player) -> bool {
-    are_refused(player, idle, 1, HANDLES, Refusal::NoSuchHandle)
-}
-
-// Whether the caller is nobody, whatever is asked.
-fn is_nobody(player: &mut Player, idle: &mut Player, client: ClientId) -> bool {
-    are_refused(player, idle, client, OTHERS, Refusal::NoSuchClient)
-        && are_refused(player, idle, client, HANDLES, Refusal::NoSuchClient)
-        && is_out_of_reach(player, idle, client, 4, Refusal::NoSuchClient)
-}
-
-// Whether those who never joined are nobody, and nothing is given to them.
-fn are_nobody(player: &mut Player, idle: &mut Player) -> bool {
-    is_nobody(player, idle, 0)
-        && is_nobody(player, idle, 99)
-        && is_refused(player, idle, 99, Act::Join, Refusal::NoSuchClient)
-        && is_refused(player, idle, 1, Act::Join, Refusal::NoSuchClient)
-        && are_refused(player, idle, 1, TO_NOBODY, Refusal::NoSuchClient)
-}
-
-fn keys_are_refused(alloc: Global) -> bool {
-    on_two(alloc, has_no_end_of_1)
-}
-
-fn handles_are_refused(alloc: Global) -> bool {
-    on_two(alloc, has_no_handle)
-}
-
-fn clients_are_refused(alloc: Global) -> bool {
-    on_two(alloc, are_nobody)
-}
-
-// On a core that has seen nothing there is no client, and each refusal is an event.
-fn knows_nobody(core: &mut Core) -> bool {
+/// On a core that has seen nothing there is no client, and each refusal is an event.
+pub fn knows_nobody(core: &mut Core) -> bool {
     for (client, call) in [(0, Call::OpenRoot), (1, Call::Join), (9, Call::OpenRoot)] {
         if core.step(client, call) != Ok(Reply::Refused(Refusal::NoSuchClient)) {
             return false;
@@ -188,28 +147,27 @@ fn knows_nobody(core: &mut Core) -> bool {
     core.events() == 3
 }
 
-fn nobody_has_joined(alloc: Global) -> bool {
-    on_core(alloc, Limits::full(), knows_nobody)
+// Once more where memory was refused.
+fn all_refused(alloc: Global, asked: &[Asked]) -> bool {
+    is_all_refused(alloc, asked) || is_all_refused(alloc, asked)
 }
-
-// Each once more where memory was refused.
 
 #[test]
 fn forged_keys_name_no_end(rt: HostRuntime) {
-    assert!(rt; keys_are_refused(rt.alloc()) || keys_are_refused(rt.alloc()));
+    assert!(rt; all_refused(rt.alloc(), OF_NO_END));
 }
 
 #[test]
 fn forged_names_are_of_no_handle(rt: HostRuntime) {
-    assert!(rt; handles_are_refused(rt.alloc()) || handles_are_refused(rt.alloc()));
+    assert!(rt; all_refused(rt.alloc(), OF_NO_HANDLE));
 }
 
 #[test]
 fn strangers_are_nobody(rt: HostRuntime) {
-    assert!(rt; clients_are_refused(rt.alloc()) || clients_are_refused(rt.alloc()));
+    assert!(rt; all_refused(rt.alloc(), NOBODY));
 }
 
 #[test]
 fn a_new_core_knows_nobody(rt: HostRuntime) {
-    assert!(rt; nobody_has_joined(rt.alloc()) || nobody_has_joined(rt.alloc()));
+    assert!(rt; goes_well(rt.alloc(), FULL, Play::Strangers));
 }

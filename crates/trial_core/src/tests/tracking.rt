@@ -1,10 +1,10 @@
 //! Trackers that are taken before and after they fire.
 use super::acts::{Act, Deed, Row, Said};
-use super::lending::on_player;
+use super::lending::{Question, holds};
 use super::player::Player;
-use super::scripts::DONE;
+use super::scripts::{DONE, FULL};
 use lifetime_core::Core;
-use sm_names::{Fired, Limits, Reply, TrackerId};
+use sm_names::{Fired, Reply, TrackerId};
 use std::alloc::Global;
 use trackers::Tracker;
 
@@ -69,34 +69,28 @@ fn is_taken_fired(core: &mut Core, fired: Fired) -> bool {
 
 // Whether a tracker that was taken before it fires fires with the next calls.
 fn fires(player: &mut Player, early: &mut Tracker) -> bool {
-    let was_quiet = early.poll().is_none();
-    was_quiet
+    early.poll().is_none()
         && player.keeps_to(CLOSED, CLOSED.len())
-        && early.poll() == Some(FIRED[0])
-        && early.poll() == Some(FIRED[0])
-        && is_taken_fired(player.core(), FIRED[1])
-        && is_taken_fired(player.core(), FIRED[2])
-        && are_taken(player.core(), &[4, 5, 6])
-        && player.fired() == FIRED.as_slice()
+        && [early.poll(), early.poll()] == [Some(FIRED[0]), Some(FIRED[0])]
+        && is_taken_fired(player.core_mut(), FIRED[1])
+        && is_taken_fired(player.core_mut(), FIRED[2])
+        && are_taken(player.core_mut(), &[4, 5, 6])
+        && player.core().fired() == FIRED.as_slice()
 }
 
-// Whether the one that is taken before it fires is there.
-fn fires_later(player: &mut Player) -> bool {
-    match player.core().take_tracker(5) {
+/// Whether trackers are taken once, and tell of their firings, before and after they fire.
+pub fn tells(player: &mut Player) -> bool {
+    if !player.keeps_to(TRACKED, TRACKED.len()) || !are_taken(player.core_mut(), &[0, 2, 7, 99]) {
+        return false;
+    }
+    match player.core_mut().take_tracker(5) {
         Some(mut early) => fires(player, &mut early),
         None => false,
     }
 }
 
-// Whether trackers are taken once, and tell of their firings.
-fn tells(player: &mut Player) -> bool {
-    player.keeps_to(TRACKED, TRACKED.len())
-        && are_taken(player.core(), &[0, 2, 7, 99])
-        && fires_later(player)
-}
-
 fn trackers_fire(alloc: Global) -> bool {
-    on_player(alloc, Limits::full(), tells)
+    holds(alloc, FULL, Question::Tells)
 }
 
 #[test]

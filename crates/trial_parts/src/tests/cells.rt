@@ -1,5 +1,4 @@
 //! That a cell that was set is seen from another thread, and that a refusal leaves trackers as they were.
-use super::tell_refusal;
 use fixture::{Gone, Line};
 use sm_names::{NodeKey, TrackerId};
 use std::alloc::Global;
@@ -53,11 +52,10 @@ fn has_none(line: &mut Line, id: TrackerId) -> bool {
 
 // Whether the next tracker of the node gets this number. If memory is refused, no tracker has this number and none
 // fired, and the next try succeeds.
-fn is_attached(rt: &impl Print, line: &mut Line, wanted: TrackerId) -> bool {
+fn is_attached(line: &mut Line, wanted: TrackerId) -> bool {
     match line.track(Condition::Node(NODE)) {
         Ok(id) => id == wanted,
         Err(TrackFault::NoMemory) => {
-            tell_refusal(rt);
             has_none(line, wanted) && line.track(Condition::Node(NODE)).ok() == Some(wanted)
         }
         Err(TrackFault::Full) => false,
@@ -65,9 +63,9 @@ fn is_attached(rt: &impl Print, line: &mut Line, wanted: TrackerId) -> bool {
 }
 
 // Whether six trackers are attached and fire.
-fn six_fire(rt: &impl Print, line: &mut Line) -> bool {
+fn six_fire(line: &mut Line) -> bool {
     for wanted in 1..=6 {
-        if !is_attached(rt, line, wanted) {
+        if !is_attached(line, wanted) {
             return false;
         }
     }
@@ -79,5 +77,5 @@ fn six_fire(rt: &impl Print, line: &mut Line) -> bool {
 #[test]
 fn refused_memory_changes_no_tracker(rt: HostRuntime) {
     let mut line = Line::new(rt.alloc(), 8);
-    assert!(rt; six_fire(&rt, &mut line));
+    assert!(rt; six_fire(&mut line));
 }

@@ -1,5 +1,4 @@
 //! That what is undone takes no memory.
-use super::tell_refusal;
 use buffer_holds::{HoldFault, Holds};
 use sm_names::{BufferName, ClientId, NoMemory, Strength};
 use std::alloc::Global;
@@ -10,9 +9,8 @@ const BUFFER: BufferName = BufferName {
 };
 
 // Whether a handle of the client goes into a parcel, lands with another client and is closed there.
-fn lands(rt: &impl Print, holds: &mut Holds, client: ClientId) -> bool {
+fn lands(holds: &mut Holds, client: ClientId) -> bool {
     if let Err(NoMemory) = holds.lift(client, BUFFER, Strength::Weak) {
-        tell_refusal(rt);
         return true;
     }
     let other = client.wrapping_add(40);
@@ -23,20 +21,19 @@ fn lands(rt: &impl Print, holds: &mut Holds, client: ClientId) -> bool {
 }
 
 // Whether a handle of the client is opened, closed and opened again, and then lands.
-fn is_undone(rt: &impl Print, holds: &mut Holds, client: ClientId) -> bool {
+fn is_undone(holds: &mut Holds, client: ClientId) -> bool {
     if let Err(fault) = holds.add(client, BUFFER, Strength::Weak) {
-        tell_refusal(rt);
         return fault == HoldFault::NoMemory;
     }
     holds.sub(client, BUFFER, Strength::Weak)
         && holds.add(client, BUFFER, Strength::Weak).is_ok()
-        && lands(rt, holds, client)
+        && lands(holds, client)
 }
 
 // Whether that is so of each of forty clients.
-fn all_are_undone(rt: &impl Print, holds: &mut Holds) -> bool {
+fn all_are_undone(holds: &mut Holds) -> bool {
     for client in 1..=40 {
-        if !is_undone(rt, holds, client) {
+        if !is_undone(holds, client) {
             return false;
         }
     }
@@ -44,14 +41,14 @@ fn all_are_undone(rt: &impl Print, holds: &mut Holds) -> bool {
 }
 
 // Whether that is so from the start on.
-fn is_all_undone(rt: &impl Print, alloc: Global) -> bool {
+fn is_all_undone(alloc: Global) -> bool {
     let mut holds = Holds::new(alloc, 9);
-    all_are_undone(rt, &mut holds)
+    all_are_undone(&mut holds)
 }
 
 // Run with the Nth allocation refused, this shows that undoing asks for no memory, nor does landing
 // what was lifted, whoever lands it.
 #[test]
 fn undoing_a_count_takes_no_memory(rt: HostRuntime) {
-    assert!(rt; is_all_undone(&rt, rt.alloc()));
+    assert!(rt; is_all_undone(rt.alloc()));
 }

@@ -1,5 +1,4 @@
 //! That a failure is found once memory was refused, and the table is as it was.
-use super::tell_refusal;
 use failure_domains::{Fall, Link, fall};
 use node_table::NodeTable;
 use sm_names::{NoMemory, NodeKey};
@@ -60,13 +59,10 @@ fn born(table: &mut NodeTable<Node>, slot: u32) -> Option<NodeKey> {
 }
 
 // Whether the next node gets this slot. One refused growth is tried again.
-fn is_born(rt: &impl Print, table: &mut NodeTable<Node>, slot: u32) -> bool {
+fn is_born(table: &mut NodeTable<Node>, slot: u32) -> bool {
     let wanted = Some(key_of(slot));
     match born(table, slot) {
-        None => {
-            tell_refusal(rt);
-            born(table, slot) == wanted
-        }
+        None => born(table, slot) == wanted,
         key => key == wanted,
     }
 }
@@ -80,9 +76,9 @@ fn above(slot: u32) -> Option<NodeKey> {
     }
 }
 
-fn bears_family(rt: &impl Print, table: &mut NodeTable<Node>) -> bool {
+fn bears_family(table: &mut NodeTable<Node>) -> bool {
     for slot in 0..30 {
-        if !is_born(rt, table, slot) {
+        if !is_born(table, slot) {
             return false;
         }
     }
@@ -114,13 +110,10 @@ fn takes(alloc: Global, table: &NodeTable<Node>) -> Option<bool> {
 }
 
 // The same. One refused growth is tried again.
-fn takes_all_but_the_root(rt: &impl Print, alloc: Global, table: &NodeTable<Node>) -> bool {
+fn takes_all_but_the_root(alloc: Global, table: &NodeTable<Node>) -> bool {
     match takes(alloc, table) {
         Some(is_taken) => is_taken,
-        None => {
-            tell_refusal(rt);
-            takes(alloc, table) == Some(true)
-        }
+        None => takes(alloc, table) == Some(true),
     }
 }
 
@@ -135,13 +128,13 @@ fn is_as_it_was(table: &NodeTable<Node>) -> bool {
     }
 }
 
-fn falls_in_part(rt: &impl Print, alloc: Global, table: &mut NodeTable<Node>) -> bool {
-    bears_family(rt, table) && takes_all_but_the_root(rt, alloc, table) && is_as_it_was(table)
+fn falls_in_part(alloc: Global, table: &mut NodeTable<Node>) -> bool {
+    bears_family(table) && takes_all_but_the_root(alloc, table) && is_as_it_was(table)
 }
 
 // Run with each allocation refused in turn, this meets each growth of `fall`.
 #[test]
 fn a_fall_succeeds_after_refused_memory(rt: HostRuntime) {
     let mut table = NodeTable::new(rt.alloc(), 30);
-    assert!(rt; falls_in_part(&rt, rt.alloc(), &mut table));
+    assert!(rt; falls_in_part(rt.alloc(), &mut table));
 }

@@ -1,18 +1,14 @@
 //! That a refusal leaves a pool as it was.
 ghost use Rattle.std.specs.Prelude.{◌≤◌};
 
-use super::tell_refusal;
 use buffer_pool::{Placed, Pool, PoolFault};
 use std::alloc::Global;
 
 // A pool of 64 pages. Where memory is refused, it is asked for again.
-fn new_pool(rt: &impl Print, alloc: Global) -> Option<Pool> {
+fn new_pool(alloc: Global) -> Option<Pool> {
     match Pool::new(alloc, 64) {
         Ok(pool) => Some(pool),
-        Err(_) => {
-            tell_refusal(rt);
-            Pool::new(alloc, 64).ok()
-        }
+        Err(_) => Pool::new(alloc, 64).ok(),
     }
 }
 
@@ -24,15 +20,14 @@ fn is_at(placed: Result<Placed, PoolFault>, first: u32) -> bool {
     }
 }
 
-// The same at last: a refusal leaves as many pages free.
-fn places_at_last(rt: &impl Print, pool: &mut Pool, count: u32, pages_each: u32, first: u32) -> bool
+// The same at last: a refusal leaves as many pages free, and they are asked for again.
+fn places_at_last(pool: &mut Pool, count: u32, pages_each: u32, first: u32) -> bool
     requires count { 1 ≤ count }
     requires pages { 1 ≤ pages_each }
 {
     let free = pool.free_pages();
     match pool.place(count, pages_each) {
         Err(PoolFault::NoMemory) => {
-            tell_refusal(rt);
             pool.free_pages() == free && is_at(pool.place(count, pages_each), first)
         }
         placed => is_at(placed, first),
@@ -40,17 +35,17 @@ fn places_at_last(rt: &impl Print, pool: &mut Pool, count: u32, pages_each: u32,
 }
 
 // Whether all pages are placed in three calls.
-fn fills(rt: &impl Print, pool: &mut Pool) -> bool {
-    places_at_last(rt, pool, 2, 4, 0)
-        && places_at_last(rt, pool, 3, 8, 8)
-        && places_at_last(rt, pool, 2, 16, 32)
+fn fills(pool: &mut Pool) -> bool {
+    places_at_last(pool, 2, 4, 0)
+        && places_at_last(pool, 3, 8, 8)
+        && places_at_last(pool, 2, 16, 32)
         && pool.free_pages() == 0
 }
 
 // Whether that is so of a new pool.
-fn is_filled(rt: &impl Print, alloc: Global) -> bool {
-    match new_pool(rt, alloc) {
-        Some(mut pool) => fills(rt, &mut pool),
+fn is_filled(alloc: Global) -> bool {
+    match new_pool(alloc) {
+        Some(mut pool) => fills(&mut pool),
         None => false,
     }
 }
@@ -58,5 +53,5 @@ fn is_filled(rt: &impl Print, alloc: Global) -> bool {
 // Run with each allocation refused in turn, this meets each growth of `place`.
 #[test]
 fn refused_memory_changes_no_page(rt: HostRuntime) {
-    assert!(rt; is_filled(&rt, rt.alloc()));
+    assert!(rt; is_filled(rt.alloc()));
 }
