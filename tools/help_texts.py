@@ -54,16 +54,8 @@ class Source:
 
     def one(self, pattern, body):
         """The text that the pattern finds, if it finds one."""
-        found = re.search(pattern, body, re.S)
+        found = re.search(pattern, body, re.S | re.M)
         return self.text(found[1]) if found else None
-
-    def called(self, name):
-        """The functions that this one calls, and those that they call."""
-        found = [name]
-        for caller in found:
-            words = re.findall(r"(\w+)\(", self.functions[caller])
-            found += [word for word in words if word in self.functions and word not in found]
-        return found
 
     def option(self, body):
         """The option that a function makes: its name and itself."""
@@ -76,28 +68,26 @@ class Source:
             return "--" + self.text(made[1]), Option(self.text(made[2]), values, default)
         return "--" + self.one(rf"\.long\({word}\)", body), Option()
 
-    def command(self, name):
-        """The command that a function makes."""
-        body, options, argument = self.functions[name], {}, None
-        for made in (self.functions[other] for other in self.called(name) if other.endswith("_word")):
+    def command(self, row):
+        """The command of a row of the table."""
+        options, argument = {}, None
+        makers = dict(re.findall(r"Word::(\w+) => (\w+)\(alloc\)", self.functions["argument"]))
+        for word in re.findall(r"Word::(\w+)", row):
+            made = self.functions[makers[word]]
             if "option(" in made or ".long(" in made:
                 title, option = self.option(made)
                 options[title] = option
             else:
                 argument = self.one(r'\.value_name\(("[^"]*")\)', made)
-        help_text = "\n\n".join(self.text(word) for word in re.findall(r"_(?:about|help)\((\w+)\)", body))
+        help_text = "\n\n".join(self.text(word) for word in re.findall(r"_(?:about|help): (?:Some\()?([A-Z_]{2,})", row))
         told = re.search(r"Status: (.*?)(?:\n\n|\Z)", help_text, re.S)
         statuses = set(re.findall(r"(?:^|;)\s*(\d)\s", told[1])) if told else set()
-        return Command(self.one(r"\.about\((\w+)\)", body), options, argument, statuses)
+        return Command(self.one(r"^ *about: (\w+)", row), options, argument, statuses)
 
     def commands(self):
         """The commands, by name."""
-        found = {}
-        for name, body in self.functions.items():
-            made = re.search(r'Command::new\(alloc, (\w+|"[^"]*")\)', body)
-            if made and ".about(" in body and ".bin_name(" not in body:
-                found[self.text(made[1])] = self.command(name)
-        return found
+        rows = re.findall(r"^    Row \{\n(.*?)^    \},$", self.code, re.M | re.S)
+        return {self.one(r'\bname: (\w+|"[^"]*")', row): self.command(row) for row in rows}
 
 
 class Faults:
