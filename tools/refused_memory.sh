@@ -9,7 +9,7 @@
 set -euo pipefail
 cd "$(dirname "$0")/.."
 crates=("$@")
-[ ${#crates[@]} = 0 ] && crates=(trial_parts trial_core trial_clients trial_scripts explain)
+[ ${#crates[@]} = 0 ] && crates=(trial_parts trial_core trial_ends trial_parting trial_scripts explain)
 most=300
 room=$(mktemp -d)
 trap 'rm -r "$room"' EXIT

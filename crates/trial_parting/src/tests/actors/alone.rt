@@ -1,0 +1,57 @@
+//! One client that runs a script.
+use super::asking::{Silent, ask, open};
+use crate::tests::asking::{made, put};
+use actor_scripts::ActorScript;
+use client_actors::{ActorEnd, run_actor};
+use client_ends::join;
+use client_parting::{Holding, Wreck, end_service};
+use service_lock::{Service, Setup};
+use sm_names::{Argument, Call, CallKind};
+use std::alloc::Global;
+use std::process::Abort;
+use std::sync::Wait;
+use std::sync::ledger::Ledger;
+
+// A token that is bound, between steps that are left out.
+fn script<R: Abort>(rt: &R, alloc: Global) -> ActorScript {
+    let mut steps = Vec::new(alloc);
+    put(rt, &mut steps, ask(CallKind::Sync, Argument::Nothing, 1));
+    put(rt, &mut steps, open(1));
+    put(rt, &mut steps, open(1));
+    for _ in 0..2 {
+        put(rt, &mut steps, ask(CallKind::Bind, Argument::Nothing, 1));
+    }
+    ActorScript { steps }
+}
+
+// Whether the client opened a root, bound its token, and parted with the collection.
+fn is_played<E: Setup, S: Ledger, W: Ledger>(wreck: &Wreck<E, S, W>) -> bool {
+    match wreck.own() {
+        [open, bind, shut, close] => {
+            matches!(open.call, Call::OpenRoot)
+                && matches!(bind.call, Call::Bind(_))
+                && matches!(shut.call, Call::Shut)
+                && matches!(close.call, Call::Close(_))
+        }
+        _ => false,
+    }
+}
+
+/// Plays the script, and ends the service.
+pub fn alone<E: Setup, S: Ledger, W: Ledger, R: Wait + Abort>(
+    rt: &R,
+    alloc: Global,
+    service: Service<E, S, W>,
+) {
+    let client = made(rt, join(rt, alloc, &service));
+    let ids = [client.id()];
+    let script = script(rt, alloc);
+    let wreck = match run_actor(rt, alloc, &service, &Silent, &ids, client, &script) {
+        ActorEnd::Wrecked(wreck) => wreck,
+        _ => panic!(rt; "not played"),
+    };
+    assert!(rt; is_played(&wreck));
+    let mut parts = Vec::new(alloc);
+    put(rt, &mut parts, Holding::Wrecked(wreck));
+    end_service(service, parts);
+}
