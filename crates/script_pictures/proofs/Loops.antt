@@ -1,7 +1,6 @@
 -- Texts and lists of the elements of a list, one more at a time.
 use Rattle.std.proofs.Common.{◌≡◌, ◌∙◌, ap, sym, ℕ, ◌+◌, ◌<◌, List, [], ◌∷◌, ◌++◌, get_or, length, map, take}
 use Rattle.std.proofs.lemmas.List.{map-append, take_more}
-
 pub use Rattle.script_tales.proofs.Loops.{one-more}
 
 -- what is made of one more comes last
