@@ -31,7 +31,7 @@ module _ (collection : ℕ) (strength : Strength) (set index : ℕ) where
   abbrev pub handle_here : Object
   handle_here = Object.Handle (record { collection = collection; index = index }) strength
 
-  -- so many from this one on, which the set has
+  -- this many from this one on, which the set has
   pub from_with : (count : ℕ) → (bit_at set index == 1) ≡ true → handles_from collection strength set index (suc count) ≡
       handle_here ∷ handles_from collection strength set (index + 1) count
   unfolding handles_from

@@ -113,7 +113,7 @@ seen builder = record {
   lines = builder.lines;
 }
 
--- each client has a script, and no more labels stand in the tables than so many lines can have
+-- each client has a script, and no more labels stand in the tables than this many lines can have
 pub record BuilderInvariant (builder : ActorListBuilder) (lines : ℕ) : Type 0 where
   pub scripts : length builder.scripts.items ≡ length builder.clients.keys
   pub clients : length builder.clients.keys ≤ lines

@@ -242,7 +242,7 @@ without_handle state (Some name) = record state {
   handles = with_queues state.handles name.1 (with_first_gone (state.handles name.1) name.0);
 }
 
--- handles of so many buffers of a set, from this index on: bit i stands for buffer i
+-- handles of this many buffers of a set, from this index on: bit i stands for buffer i
 unfoldable pub handles_from : ℕ → Strength → ℕ → ℕ → ℕ → List Object
 handles_from collection strength set index zero = []
 handles_from collection strength set index (suc count) =

@@ -24,7 +24,7 @@ same_name a b = a.0 == b.0 && same_label a.1 b.1
 abbrev pub label_number : List Name → Name → ℕ
 label_number named name = position_or_len (same_name name) named
 
--- the label is named: it goes behind the others, unless it is among them
+-- the labels with this one appended, unless it is among them
 abbrev pub naming : List Name → Name → List Name
 naming named name = if list_any (same_name name) named then named else named ++ name ∷ []
 

@@ -35,7 +35,7 @@ pub struct ActorState {
 }
 
 impl ActorState {
-    /// Nothing is known. Takes no memory, and a constant time.
+    /// Nothing is known. Takes no memory, and O(1) time.
     pub fn new(alloc: Global) -> ActorState
         ensures { known result ≡ nothing_known }
     {

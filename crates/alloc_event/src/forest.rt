@@ -36,7 +36,7 @@ use std::marker::Model;
 #[derive(Drop)]
 pub struct Forest {
     store: Store,
-    // For what falls.
+    // The lists that an event works with, reserved before it.
     room: Scratch,
 }
 
@@ -185,7 +185,7 @@ impl Forest {
         settle_dropped(&mut self.store, pool, holds, buffer, &mut self.room)
     }
 
-    /// The node with this key, unless it was never born or was forgotten. It costs a constant.
+    /// The node with this key, unless it was never born or was forgotten. It costs O(1).
     pub fn node(&self, key: NodeKey) -> Option<&Node>
         ensures { option_copied result ≡ node_at self.now key }
     {
@@ -207,14 +207,14 @@ impl Forest {
         }
     }
 
-    /// How many nodes are kept. It costs a constant.
+    /// How many nodes are kept. It costs O(1).
     pub fn len(&self) -> usize
         ensures { result ≡ node_count self.now }
     {
         self.store.nodes.table.len()
     }
 
-    /// How many collections there are. It costs a constant.
+    /// How many collections there are. It costs O(1).
     pub fn collections(&self) -> usize
         ensures { result ≡ length self.now.collections }
     {
@@ -318,7 +318,7 @@ impl Forest {
         }
     }
 
-    /// Puts the end of a node that is kept elsewhere. It takes no memory, and costs a constant, and
+    /// Puts the end of a node that is kept elsewhere. It takes no memory, and costs O(1), and
     /// a binary search where the end of a gone node is spent, which is noted then.
     pub fn set_end(&mut self, key: NodeKey, end: End)
         requires { is_some (node_at self.old key) ≡ true }

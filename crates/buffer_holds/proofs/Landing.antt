@@ -13,7 +13,7 @@ use Rattle.buffer_holds.proofs.Places.{moving-le-sent_in}
 use Rattle.buffer_holds.proofs.SoundLemmas.{counts_of, count_at-le-total, moving_is}
 use Rattle.buffer_holds.proofs.Steps.{Step, Step-raised}
 
--- the tally, where a handle leaves its parcel and so many clients more have a row
+-- the tally, where a handle leaves its parcel and this many clients more have a row
 abbrev pub landed : Tally → ℕ → Tally
 landed tally more = record { total = tally.total; moving = tally.moving - 1; clients = tally.clients + more }
 

@@ -73,7 +73,7 @@ module _ (limit : ℕ) (rows rows' : List (Hold × ℕ)) (tallies tallies' : Lis
     );
   }
 
--- a row of 0 goes, and with it a tally that says nothing
+-- a row of 0 is removed, and with it a tally without rows
 module _ (limit : ℕ) (rows rows' : List (Hold × ℕ)) (tallies tallies' : List (HandleKind × Tally)) (sound : CountsInvariant limit rows tallies)
     (hold : Hold)
     (idle : row_at rows hold ≡ Some 0) (resets : Resets same_hold rows rows' hold (row_at rows hold) None)
@@ -380,7 +380,7 @@ module _ {limit : ℕ} {rows rows' : List (Hold × ℕ)} {tallies tallies' : Lis
     room_left other true e = ap is_some gone ∙ ap (nat_lt 0) (sym (none_here other e))
     room_left other false e = refl
 
-    -- a row of 0 that goes
+    -- a row of 0 that is removed
     pub tidies_after : Tidies old (counts_of limit rows' tallies') client buffer strength
     tidies_after = subst (λ counts. Tidies counts (counts_of limit rows' tallies') client buffer strength) view (record {
       limit = refl;

@@ -7,7 +7,7 @@ use Rattle.buffer_holds.specs.Kinds.{same_handle_kind}
 use Rattle.buffer_holds.specs.Rows.{Resets}
 use Rattle.buffer_holds.specs.Sound.{tally_at, tally_row}
 
--- the tally of one handle more, where so many clients more have a row
+-- the tally of one handle more, where this many clients more have a row
 abbrev pub one_more : Tally → ℕ → Tally
 one_more tally rows = record { total = tally.total + 1; moving = tally.moving; clients = tally.clients + rows }
 

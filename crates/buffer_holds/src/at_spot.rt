@@ -19,7 +19,7 @@ fn tally_there(tallies: &Tallies, kind: HandleKind, place: usize) -> Tally
     *tallies.get_index(place).unwrap().1
 }
 
-// Whether the row of the hold and the tally of its kind stand at the spot, and fewer than so many handles of
+// Whether the row of the hold and the tally of its kind stand at the spot, and fewer than this many handles of
 // this kind are open.
 #[inline(always)]
 pub(crate) fn is_at_spot(rows: &Rows, tallies: &Tallies, hold: Hold, most: u32, spot: Spot) -> bool

@@ -41,7 +41,7 @@ use std::marker::Model;
 #[derive(Drop)]
 pub struct Holds {
     limit: u32,
-    // No more than so many of one kind were ever open: the limit at most.
+    // No more than this many of one kind were ever open: the limit at most.
     most: u32,
     // No handle was ever opened on a buffer of a collection with a greater id.
     newest: CollectionId,
@@ -77,7 +77,7 @@ impl Model for Holds {
 impl Holds {
     /// No handle is open. At most `limit` handles of one strength may be open on a buffer at a
     /// time, those in parcels among them; with a limit of 0 none can be opened. The tables hash from
-    /// a seed that everybody knows. Takes constant time and no memory from the allocator.
+    /// a seed that everybody knows. Takes O(1) time and no memory from the allocator.
     pub fn new(alloc: Global, limit: u32) -> Self
         ensures { result ≡ record { limit = limit; rows = []; parcels = [] } }
     {
@@ -157,7 +157,7 @@ impl Holds {
     }
 
     /// Whether it is known of each kind of handle that fewer are open than may be. It is, until as many
-    /// of one kind were open at once. It costs a constant.
+    /// of one kind were open at once. It costs O(1).
     pub fn have_room(&self) -> bool
         ensures { result ≡ true →
             (buffer : BufferName) (strength : Strength) →

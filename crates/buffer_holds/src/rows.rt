@@ -81,7 +81,7 @@ pub(crate) fn count_of(rows: &Rows, hold: Hold, last: &Cell<usize>) -> u32
     }
 }
 
-// A row of one handle, where there is none. So many places stay free behind it.
+// A row of one handle, where there is none. This many places stay free behind it.
 #[inline(never)]
 pub(crate) fn add_row(
     rows: &mut Rows,

@@ -237,7 +237,7 @@ fn open_first(
     Ok(())
 }
 
-// One handle more. The most that were ever open of one kind grows with it. So many places stay free
+// One handle more. The most that were ever open of one kind grows with it. This many places stay free
 // among the rows.
 pub(crate) fn open(
     rows: &mut Rows,

@@ -1,4 +1,4 @@
--- What an interval that goes back makes of the holes.
+-- How the holes change as an interval is given back.
 use Rattle.std.proofs.Common.{ℕ, zero, suc, ◌≡◌, ◌+◌, ◌-◌, ◌*◌, ◌<◌, ◌≤◌, refl, ap, sym, subst, ◌∙◌, Bool, true, false, not, ◌&&◌, List, [], ◌∷◌, ◌++◌, length, get_or, inl, inr, arith, nat_lt, ◌==◌, add-one}
 use Rattle.std.specs.Prelude.{All, Contains}
 use Rattle.std.proofs.Math.Nat.{suc-mul}
@@ -60,14 +60,14 @@ joined-holes low pages end size (i ∷ is) some same h =
     (begins-later end (end_of i) (holes_from (end_of i) size is) (omega (arith, f.from, f.has_pages)) (spaced-holes (end_of i) size is
     f.rest))
 
--- what is so once the interval went back
+-- the facts once the interval is given back
 pub record GoesBack (low size : ℕ) (back : Interval) (is : List Interval) : Type 0 where
   pub holes : holes_from low size (without back.start is) ≡ with_released back (holes_from low size is)
   pub in_order : in_order low size (without back.start is) ≡ true
   pub pages : back.pages + total_pages (without back.start is) ≡ total_pages is
   pub fewer : length (without back.start is) + 1 ≡ length is
 
--- the first interval goes back
+-- the first interval is given back
 first_back : (low size : ℕ) (i : Interval) (is : List Interval) → in_order low size (i ∷ is) ≡ true → GoesBack low size i (i ∷ is)
 first_back low size i is h =
     let f = first_in_order low size i is h in
@@ -99,7 +99,7 @@ first_back low size i is h =
       fewer = ap (λ xs. length xs + 1) gone ∙ add-one (length is);
     }
 
--- a later interval goes back
+-- a later interval is given back
 later_back : (low size : ℕ) (back i : Interval) (is : List Interval) → in_order low size (i ∷ is) ≡ true → end_of i ≤ back.start →
     GoesBack (end_of i) size back is → GoesBack low size back (i ∷ is)
 later_back low size back i is h from r =
@@ -127,7 +127,7 @@ later_back low size back i is h from r =
       fewer = ap (λ xs. length xs + 1) stays ∙ fewer;
     }
 
--- any interval of an order goes back
+-- any interval of an order is given back
 goes_back : (low size : ℕ) (back : Interval) (is : List Interval) → in_order low size is ≡ true → (k : ℕ) → k < length is →
     get_or is k back ≡ back → GoesBack low size back is
 goes_back low size back [] h k lt at = absurd (omega arith)
@@ -229,7 +229,7 @@ released-twice first next (h ∷ hs) same none =
       ]
     ]
 
--- what is so once they went back
+-- the facts once they are given back
 pub record RunGoesBack (size start each count : ℕ) (is : List Interval) : Type 0 where
   pub holes : holes_of size (without_run start each count is)
       ≡ with_released (record { start = start; pages = count * each }) (holes_of size is)

@@ -18,7 +18,7 @@ use Rattle.buffer_pool.proofs.Orders.{in_order-rises, length-with_interval}
 use Rattle.buffer_pool.proofs.Placing.{rooms-some, rooms-taken}
 use Rattle.buffer_pool.proofs.TakenRuns.{first_run}
 
--- so many buffers of the count are left, and what is so far makes with them what the whole makes
+-- this many buffers of the count are left, and what is so far makes with them what the whole makes
 pub record IsFilling (size pages_each count left : ℕ) (holes0 held0 : List Interval) (looks : ℕ) (starts : List ℕ)
     (holes held : List Interval) (capacity0 starts_capacity holes_capacity held_capacity : ℕ) : Type 0 where
   pub has_rooms : left ≤ rooms pages_each holes
@@ -33,7 +33,7 @@ pub record IsFilling (size pages_each count left : ℕ) (holes0 held0 : List Int
   pub held_room : length held + left ≤ held_capacity
   pub same_capacity : holes_capacity ≡ capacity0
 
--- what is so of the lists of a pool's gaps
+-- the facts on the lists of a pool's gaps
 pub record Lists (holes held : List Interval) : Type 0 where
   pub fits : All (λ (h : Interval). end_of h < 4294967296) holes
   pub few : length holes ≤ MAX_PAGES
@@ -84,7 +84,7 @@ filling_more size pages count next holes0 held0 looks starts holes held c0 cs ch
       same_capacity = f.same_capacity;
     }
 
--- so many buffers are placed
+-- this many buffers are placed
 filling_run : (size pages count n next left : ℕ) (holes0 held0 : List Interval) (looks : ℕ) (starts : List ℕ) (holes held : List Interval)
     (c0 cs ch cd : ℕ) → 1 ≤ pages → left ≡ n + next →
     IsFilling size pages count left holes0 held0 looks starts holes held c0 cs ch cd →
@@ -114,7 +114,7 @@ filling_run size pages count (suc n) next left holes0 held0 looks starts holes h
     (subst (λ l. IsFilling size pages count next holes0 held0 l ((starts ++ start ∷ []) ++ starts_in pages n (taken pages holes))
     (holes_after pages n (taken pages holes)) (with_buffers pages (starts_in pages n (taken pages holes)) held') c0 cs ch cd) sum r)
 
--- so many buffers that lie side by side in the first hole
+-- this many buffers that lie side by side in the first hole
 pub record IsNextRun (pages n start at : ℕ) (holes held : List Interval) : Type 0 where
   pub starts : starts_in pages n holes ≡ run_starts start pages n
   pub looks : looks_in pages n holes ≡ n * (at + 1)
@@ -145,7 +145,7 @@ next_run size pages (suc n) start at holes held one some is found lt fits g =
       clear = clear-closer hole.start (end_of hole) start (start + suc n * pages) held (omega arith) (omega arith) free;
     }
 
--- a hole's run is placed, while so many are left
+-- a hole's run is placed, while this many are left
 pub filling_next : (size pages count left n start at : ℕ) (holes0 held0 : List Interval) (looks : ℕ) (starts : List ℕ)
     (holes held : List Interval) (c0 cs ch cd cs' ch' cd' : ℕ) → 1 ≤ pages → n ≤ left → IsNextRun pages n start at holes held →
     cs' ≡ cs → ch' ≡ ch → cd' ≡ cd → IsFilling size pages count left holes0 held0 looks starts holes held c0 cs ch cd →

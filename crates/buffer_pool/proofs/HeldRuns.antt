@@ -16,7 +16,7 @@ use Rattle.buffer_pool.proofs.Greatest.{room_in_gap}
 use Rattle.buffer_pool.proofs.Orders.{first_in_order, with_interval-rises}
 use Rattle.buffer_pool.proofs.Spaces.{spaced-at}
 
--- the intervals with so many more of as many pages, side by side, before the first that begins no earlier
+-- the intervals with this many more of as many pages, side by side, before the first that begins no earlier
 abbrev pub with_run : ℕ → ℕ → ℕ → List Interval → List Interval
 with_run start pages n [] = run_of start pages n ++ []
 with_run start pages n (i ∷ is) = if nat_lt i.start start then i ∷ with_run start pages n is else run_of start pages n ++ (i ∷ is)
@@ -44,7 +44,7 @@ pub starts_pushed : (xs : List ℕ) (next pages left rest : ℕ) → left ≡ su
 starts_pushed xs next pages left rest is =
     append_assoc xs (next ∷ []) (run_starts (next + pages) pages rest) ∙ ap (λ n. xs ++ run_starts next pages n) (sym is)
 
--- so many pages, one time and the others
+-- this many pages, one time and the others
 pub one_more : (n pages : ℕ) → 0 < n → n * pages ≡ (n - 1) * pages + pages
 one_more zero pages some = absurd (omega arith)
 one_more (suc n) pages some = let less : suc n - 1 ≡ n = omega arith in suc-mul n pages ∙ ap (λ k. k * pages + pages) (sym less)
@@ -231,7 +231,7 @@ run_is_buffers start pages (suc n) is one c =
 
 -- ---- what stays true while they are put in
 
--- so many of the count are left, and those before them are in their places
+-- this many of the count are left, and those before them are in their places
 pub record IsHeldSoFar (first : Interval) (count left : ℕ) (next : Interval) (held0 held : List Interval)
     (capacity0 capacity : ℕ) : Type 0 where
   pub few : left ≤ count

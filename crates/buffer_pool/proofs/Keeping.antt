@@ -15,7 +15,7 @@ pub gaps_of : (size free : ℕ) (holes held : List Interval) (capacity : ℕ) �
     AreGaps size holes held
 gaps_of size free holes held capacity k = record { sized = k.sized.1; in_order = k.in_order; holes_are = k.holes_are }
 
--- what is so where all buffers have room
+-- the facts where all buffers have room
 pub record KeepsRun (size free count pages : ℕ) (holes held : List Interval) : Type 0 where
   pub run : Run size pages count held holes
   pub enough : count ≤ looks_in pages count holes

@@ -60,7 +60,7 @@ pub record Fit (low size pages : ℕ) (is : List Interval) : Type 0 where
   pub in_order : in_order low size (with_interval (at_pages pages (first_fit pages (holes_from low size is))) is) ≡ true
   pub some : prefix_len (too_small pages) (holes_from low size is) < length (holes_from low size is)
 
--- what is so where no hole is
+-- the facts where no hole is
 pub record NoFit (low size pages : ℕ) (is : List Interval) : Type 0 where
   pub none : (t : ℕ) → low ≤ t → has_room size is (at_pages pages t) ≡ false
   pub rooms : rooms pages (holes_from low size is) ≡ 0

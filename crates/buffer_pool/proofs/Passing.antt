@@ -1,4 +1,4 @@
--- A search that goes from block to block.
+-- A search that looks at block after block.
 use Rattle.std.proofs.Common.{ℕ, ◌≡◌, ◌+◌, ◌/◌, ◌<◌, ◌≤◌, refl, ap, sym, subst, ◌∙◌, List, [], ◌++◌, length, get_or, take, drop, inl, inr, arith}
 use Rattle.std.specs.List.{prefix_len}
 use Rattle.std.proofs.lemmas.Bool.{cases_lt}
@@ -13,7 +13,7 @@ use Rattle.buffer_pool.proofs.Fits.{search_front, search_back, search_from_front
 use Rattle.buffer_pool.proofs.Joins.{parts, before-next}
 use Rattle.buffer_pool.proofs.TakenRuns.{prefix_len-after}
 
--- the reach at this block and offset, with so many intervals in the blocks before
+-- the reach at this block and offset, with this many intervals in the blocks before
 abbrev reach : ℕ → ℕ → ℕ → Reach
 reach block offset before = record { spot = record { block = block; offset = offset }; before = before }
 

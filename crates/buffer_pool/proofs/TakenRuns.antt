@@ -141,12 +141,12 @@ prefix_len-after pages (suc n) hs = omega (arith, prefix_len-taken pages hs, pre
 pub room_for_one : (pages whole : ℕ) → 1 ≤ pages → pages ≤ whole → 1 ≤ whole / pages
 room_for_one pages whole one le = let less : whole / pages ≡ (whole - pages) / pages + 1 = div-eq-sub-div one le in omega arith
 
--- the pages of so many buffers are at most the quotient times the divisor, so at most the whole
+-- the pages of this many buffers are at most the quotient times the divisor, so at most the whole
 pub pages-fit : (n pages whole : ℕ) → n ≤ whole / pages → n * pages ≤ whole
 pages-fit n pages whole le =
     let few : n * pages ≤ whole / pages * pages = mul-le-mul_right pages le in omega (arith, div-mul-le_self whole pages)
 
--- ---- the two ways of taking: the hole goes, or is shortened
+-- ---- the two ways of taking: the hole is removed, or shortened
 
 -- a hole of which all pages are taken is removed
 pub shortened_whole : (pages : ℕ) (hs : List Interval) (at : ℕ) (hole : Interval) → hole.pages ≡ pages →

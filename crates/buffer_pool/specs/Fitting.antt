@@ -11,7 +11,7 @@ too_small pages hole = nat_lt hole.pages pages
 abbrev pub AreSmall : ℕ → ℕ → ℕ → List Interval → Type 0
 AreSmall pages from to holes = (k : ℕ) (d : Interval) → from ≤ k → k < to → (get_or holes k d).pages < pages
 
--- how many buffers of so many pages the holes have room for
+-- how many buffers of this many pages the holes have room for
 abbrev pub rooms : ℕ → List Interval → ℕ
 rooms pages holes = sum_by (λ hole. hole.pages / pages) holes
 
@@ -24,27 +24,27 @@ first_fit pages (h ∷ hs) = if too_small pages h then first_fit pages hs else h
 abbrev pub shortened : ℕ → Interval → List Interval → List Interval
 shortened pages h hs = if h.pages == pages then hs else record { start = h.start + pages; pages = h.pages - pages } ∷ hs
 
--- the holes once so many pages are taken from the front of the first that is not too small
+-- the holes once this many pages are taken from the front of the first that is not too small
 abbrev pub taken : ℕ → List Interval → List Interval
 taken pages [] = []
 taken pages (h ∷ hs) = if too_small pages h then h ∷ taken pages hs else shortened pages h hs
 
--- the starts of so many buffers, one after another
+-- the starts of this many buffers, one after another
 abbrev pub starts_in : ℕ → ℕ → List Interval → List ℕ
 starts_in pages zero holes = []
 starts_in pages (suc n) holes = first_fit pages holes ∷ starts_in pages n (taken pages holes)
 
--- the starts of so many buffers of as many pages that lie side by side from this page on
+-- the starts of this many buffers of as many pages that lie side by side from this page on
 abbrev pub run_starts : ℕ → ℕ → ℕ → List ℕ
 run_starts start pages zero = []
 run_starts start pages (suc n) = start ∷ run_starts (start + pages) pages n
 
--- the holes after so many buffers
+-- the holes after this many buffers
 abbrev pub holes_after : ℕ → ℕ → List Interval → List Interval
 holes_after pages zero holes = holes
 holes_after pages (suc n) holes = holes_after pages n (taken pages holes)
 
--- so many buffers have room side by side in the first hole that is not too small for one
+-- this many buffers have room side by side in the first hole that is not too small for one
 abbrev pub FitsInFirst : ℕ → ℕ → List Interval → Type 0
 FitsInFirst pages n holes = (d : Interval) → n * pages ≤ (get_or holes (prefix_len (too_small pages) holes) d).pages
 

@@ -32,7 +32,7 @@ abbrev pub with_interval : Interval → List Interval → List Interval
 with_interval new [] = new ∷ []
 with_interval new (i ∷ is) = if nat_lt i.start new.start then i ∷ with_interval new is else new ∷ i ∷ is
 
--- the intervals with buffers of so many pages at these starts
+-- the intervals with buffers of this many pages at these starts
 abbrev pub with_buffers : ℕ → List ℕ → List Interval → List Interval
 with_buffers pages [] held = held
 with_buffers pages (s ∷ ss) held = with_buffers pages ss (with_interval (record { start = s; pages = pages }) held)
@@ -41,11 +41,11 @@ with_buffers pages (s ∷ ss) held = with_buffers pages ss (with_interval (recor
 abbrev pub without : ℕ → List Interval → List Interval
 without start held = filter (λ i. not (i.start == start)) held
 
--- the interval of so many pages that lies behind so many others of as many pages, the first of which begins at this page
+-- the interval of this many pages that lies behind this many others of as many pages, the first of which begins at this page
 abbrev pub in_run : ℕ → ℕ → ℕ → Interval
 in_run start pages n = record { start = start + n * pages; pages = pages }
 
--- so many intervals of as many pages that lie side by side from this page on
+-- this many intervals of as many pages that lie side by side from this page on
 abbrev pub run_of : ℕ → ℕ → ℕ → List Interval
 run_of start pages zero = []
 run_of start pages (suc n) = record { start = start; pages = pages } ∷ run_of (start + pages) pages n
@@ -55,11 +55,11 @@ abbrev pub IsClear : ℕ → ℕ → List Interval → Type 0
 IsClear from to [] = ⊤
 IsClear from to (i ∷ is) = ((i.start < from) ⊎ (to ≤ i.start)) × IsClear from to is
 
--- so many intervals of as many pages are held that lie side by side from this page on
+-- this many intervals of as many pages are held that lie side by side from this page on
 abbrev pub HasRun : ℕ → ℕ → ℕ → List Interval → Type 0
 HasRun start pages count held = (n : ℕ) → n < count → Contains held (in_run start pages n)
 
--- the intervals but for so many of as many pages that lie side by side from this page on
+-- the intervals but for this many of as many pages that lie side by side from this page on
 abbrev pub without_run : ℕ → ℕ → ℕ → List Interval → List Interval
 without_run start pages zero held = held
 without_run start pages (suc n) held = without (start + n * pages) (without_run start pages n held)
@@ -72,7 +72,7 @@ pub record IsPoolSound (size free : ℕ) (holes held : List Interval) (capacity 
   pub free_are : free + total_pages held ≡ size
   pub has_capacity : length held ≤ capacity
 
--- these are the holes of a pool of so many pages in which these are held
+-- these are the holes of a pool of this many pages in which these are held
 pub record AreGaps (size : ℕ) (holes held : List Interval) : Type 0 where
   pub sized : size ≤ MAX_PAGES
   pub in_order : IsTrue (in_order 0 size held)

@@ -16,7 +16,7 @@ abbrev pub holes_from : ℕ → ℕ → List Interval → List Interval
 holes_from low size [] = gap low size
 holes_from low size (i ∷ is) = gap low i.start ++ holes_from (end_of i) size is
 
--- the holes of a pool of so many pages, in order of page
+-- the holes of a pool of this many pages, in order of page
 abbrev pub holes_of : ℕ → List Interval → List Interval
 holes_of size held = holes_from 0 size held
 

@@ -8,7 +8,7 @@ use Rattle.buffer_pool.specs.Holdings.{with_interval}
 abbrev pub looks_at : ℕ → List Interval → ℕ
 looks_at start holes = count_by (λ hole. nat_le hole.start start) holes
 
--- the looks at the starts of buffers of so many pages, each counted just before its buffer is placed
+-- the looks at the starts of buffers of this many pages, each counted just before its buffer is placed
 abbrev pub looks_for : ℕ → ℕ → List ℕ → List Interval → ℕ
 looks_for size pages [] held = 0
 looks_for size pages (s ∷ ss) held =

@@ -67,7 +67,7 @@ pub record AreBlocks (used spare : List (List Interval)) (used_room spare_room :
   pub has_used_room : length used + length spare ≤ used_room
   pub has_spare_room : length used + length spare ≤ spare_room
 
--- where a search can start: it is known how many intervals lie in the blocks before, and none up to there has so many pages
+-- where a search can start: it is known how many intervals lie in the blocks before, and none up to there has this many pages
 pub record IsPassed (pages : ℕ) (reach : Reach) (lists : List (List Interval)) : Type 0 where
   pub within : IsInsertSpot lists reach.spot
   pub before : reach.before ≡ length (all_in (take reach.spot.block lists))

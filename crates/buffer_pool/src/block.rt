@@ -17,7 +17,7 @@ pub(crate) const FULL: usize = 128;
 /// How many stay where a full block is divided in two.
 pub(crate) const HALF: usize = 64;
 
-/// So many intervals one after another. A change moves those behind it.
+/// This many intervals one after another. A change moves those behind it.
 #[derive(Drop)]
 pub(crate) struct Block {
     cells: Vec<Interval>,
@@ -90,7 +90,7 @@ impl Block {
         self.cells.insert(at, new).unwrap();
     }
 
-    /// Puts so many intervals of as many pages in before the one at this place, side by side, of which
+    /// Puts this many intervals of as many pages in before the one at this place, side by side, of which
     /// this is the first. Those behind the place move into another block, which has none, and back.
     pub(crate) fn insert_run(&mut self, at: usize, first: Interval, count: usize, other: &mut Block)
         requires within { at ≤ length self.old }
@@ -121,7 +121,7 @@ impl Block {
         self.take_in(other);
     }
 
-    // Puts so many intervals of as many pages behind all, side by side, of which this is the first.
+    // Puts this many intervals of as many pages behind all, side by side, of which this is the first.
     fn append_run(&mut self, first: Interval, count: usize)
         requires room { length self.old + count ≤ FULL }
         requires fits { first.start + count * first.pages < 2 ^ 32 }
@@ -131,7 +131,7 @@ impl Block {
         push_run(&mut self.cells, first, count);
     }
 
-    /// Takes so many intervals from this place on out.
+    /// Takes this many intervals from this place on out.
     pub(crate) fn remove_run(&mut self, at: usize, count: usize)
         requires { at + count ≤ length self.old }
         ensures { self.new ≡ remove_range self.old at (at + count) }
@@ -190,7 +190,7 @@ impl Block {
         low
     }
 
-    /// The first that has so many pages from a place on before which none has, or their number. Where
+    /// The first that has this many pages from a place on before which none has, or their number. Where
     /// none is left this is kept, so that the next search for as many passes the block at once.
     pub(crate) fn fit(&mut self, from: usize, pages_each: u32) -> usize
         requires pages { 1 ≤ pages_each }
@@ -208,7 +208,7 @@ impl Block {
         at
     }
 
-    /// How many buffers of so many are left once those from a place on have taken what has room
+    /// How many buffers of this many are left once those from a place on have taken what has room
     /// there.
     pub(crate) fn left_over(&self, from: usize, pages_each: u32, count: u32) -> u32
         requires pages { 1 ≤ pages_each }
@@ -226,7 +226,7 @@ impl Block {
     }
 }
 
-// Pushes so many intervals of as many pages, side by side, of which this is the first.
+// Pushes this many intervals of as many pages, side by side, of which this is the first.
 fn push_run(cells: &mut Vec<Interval>, first: Interval, count: usize)
     requires room { length cells.old.items + count ≤ vec_capacity cells.old }
     requires fits { first.start + count * first.pages < 2 ^ 32 }
@@ -275,7 +275,7 @@ pub(crate) fn next_guess(guess: usize, near: usize) -> usize {
     }
 }
 
-// The first that has so many pages, or their number. It looks at eight at a time.
+// The first that has this many pages, or their number. It looks at eight at a time.
 fn fit_in(holes: &[Interval], from: usize, pages_each: u32) -> usize
     requires { from ≤ prefix_len (too_small pages_each) holes.now }
     ensures { result ≡ prefix_len (too_small pages_each) holes.now }

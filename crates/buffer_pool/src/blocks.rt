@@ -199,7 +199,7 @@ impl Blocks {
     }
 
     /// Puts intervals of as many pages in before a spot, side by side, of which this is the first: at
-    /// most so many, and no more than there is room for in one block. Answers how many.
+    /// most this many, and no more than there is room for in one block. Answers how many.
     pub(crate) fn insert_run(&mut self, spot: Spot, first: Interval, most: usize) -> usize
         requires within { IsInsertSpot self.old.lists spot }
         requires spare { 0 < self.old.spares }
@@ -231,7 +231,7 @@ impl Blocks {
         self.remove_run(spot, 1);
     }
 
-    /// Takes intervals from a spot on out, at most so many, and none of the next block. Answers how many.
+    /// Takes intervals from a spot on out, at most this many, and none of the next block. Answers how many.
     pub(crate) fn remove_run(&mut self, spot: Spot, most: usize) -> usize
         requires there { HasIntervalAt self.old.lists spot }
         requires some { 1 ≤ most }
@@ -268,7 +268,7 @@ impl Blocks {
         };
     }
 
-    // How many of so many intervals come into the block at this place at once: one where it is full or
+    // How many of this many intervals come into the block at this place at once: one where it is full or
     // there is none.
     fn at_once(&self, at: usize, most: usize) -> usize
         requires { 1 ≤ most }
@@ -287,7 +287,7 @@ impl Blocks {
         }
     }
 
-    // Puts so many intervals side by side into a block that has room for them. Those behind them move into
+    // Puts this many intervals side by side into a block that has room for them. Those behind them move into
     // a spare block, and back.
     fn put_run(&mut self, spot: Spot, first: Interval, count: usize)
         requires there { spot.block < length self.old.lists }
@@ -368,7 +368,7 @@ impl Blocks {
         Ok(())
     }
 
-    /// Makes room for so many intervals in all.
+    /// Makes room for this many intervals in all.
     pub(crate) fn reserve(&mut self, most: usize) -> Result<(), AllocError>
         ensures lists { self.new.lists ≡ self.old.lists }
         ensures capacity { capacity_of self.old ≤ capacity_of self.new }
@@ -390,7 +390,7 @@ impl Blocks {
         Ok(copy)
     }
 
-    /// The spot of the first that has so many pages, from one on before which none has, or behind all.
+    /// The spot of the first that has this many pages, from one on before which none has, or behind all.
     pub(crate) fn fit(&mut self, from: Reach, pages_each: u32) -> Reach
         requires pages { 1 ≤ pages_each }
         requires few { length (all_in self.old.lists) ≤ MAX_PAGES }
@@ -421,7 +421,7 @@ impl Blocks {
         }
     }
 
-    /// Whether there is room for so many buffers, where before this spot there is none.
+    /// Whether there is room for this many buffers, where before this spot there is none.
     pub(crate) fn has_rooms(&self, from: Spot, count: u32, pages_each: u32) -> bool
         requires pages { 1 ≤ pages_each }
         requires within { IsInsertSpot self.now.lists from }

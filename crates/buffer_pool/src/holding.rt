@@ -33,7 +33,7 @@ pub(crate) fn hold_run(held: &mut Blocks, first: Interval, count: u32)
     }
 }
 
-/// Takes so many intervals of as many pages away that lie side by side, of which this is the first.
+/// Takes this many intervals of as many pages away that lie side by side, of which this is the first.
 pub(crate) fn let_go(held: &mut Blocks, first: Interval, count: u32)
     requires up { IsTrue (in_order 0 MAX_PAGES (all_in held.old.lists)) }
     requires some { 1 ≤ count }

@@ -28,7 +28,7 @@ const START: Reach = Reach {
 #[derive(Drop)]
 pub(crate) struct Holes {
     blocks: Blocks,
-    // No hole before the reach has so many pages.
+    // No hole before the reach has this many pages.
     pages: u32,
     reach: Reach,
 }
@@ -74,7 +74,7 @@ impl Holes {
         })
     }
 
-    /// Makes room for so many in all.
+    /// Makes room for this many in all.
     pub(crate) fn reserve(&mut self, most: usize) -> Result<(), AllocError>
         ensures items { self.new.items ≡ self.old.items }
         ensures capacity { self.old.capacity ≤ self.new.capacity }
@@ -97,7 +97,7 @@ impl Holes {
     }
 
     /// Takes pages from the front of the first hole that is not too small for one buffer: for as many
-    /// buffers as have room there, and at most so many.
+    /// buffers as have room there, and at most this many.
     pub(crate) fn take_front(&mut self, pages_each: u32, most: u32) -> Taken
         requires pages { 1 ≤ pages_each }
         requires most { 1 ≤ most }
@@ -142,7 +142,7 @@ impl Holes {
     }
 }
 
-// The first hole that is not too small. The search starts where one for so many pages ended, if they
+// The first hole that is not too small. The search starts where one for this many pages ended, if they
 // are no more.
 fn seek(blocks: &mut Blocks, known: u32, reach: Reach, pages_each: u32) -> Reach
     requires pages { 1 ≤ pages_each }
@@ -198,7 +198,7 @@ fn lowered(reach: Reach, spot: Spot) -> Reach
 }
 
 // Takes pages from the front of the first hole that is not too small for one buffer, for as many as have
-// room there and at most so many.
+// room there and at most this many.
 fn shorten(blocks: &mut Blocks, spot: Spot, pages_each: u32, most: u32) -> Front
     requires pages { 1 ≤ pages_each }
     requires most { 1 ≤ most }

@@ -43,7 +43,7 @@ impl Model for Pool {
 }
 
 impl Pool {
-    /// A pool of so many pages, from 1 to `MAX_PAGES`, of which none is held.
+    /// A pool of this many pages, from 1 to `MAX_PAGES`, of which none is held.
     ///
     /// `NoMemory` where the list for its one hole is refused. It costs the same for any size.
     pub fn new(alloc: Global, pages: u32) -> Result<Pool, NoMemory>
@@ -76,7 +76,7 @@ impl Pool {
     /// costs two looks at the held intervals where they lie next to those before, and else two binary
     /// searches, one among the blocks and one in a block, and a move of at most a block, out and back; where
     /// a block becomes full or empty, the same once more, and a move of the part of the list of blocks
-    /// behind it. Each buffer costs a constant besides.
+    /// behind it. Each buffer costs O(1) besides.
     pub fn place(&mut self, count: u32, pages_each: u32) -> Result<Placed, PoolFault>
         requires { (1 ≤ count) × (1 ≤ pages_each) }
 
@@ -232,7 +232,7 @@ fn fill(
     Placed { starts, looks }
 }
 
-// Pushes the starts of so many buffers of as many pages, side by side, of which this is the first.
+// Pushes the starts of this many buffers of as many pages, side by side, of which this is the first.
 fn push_starts(starts: &mut Vec<u32>, first: Interval, count: u32)
     requires room { length starts.old.items + count ≤ vec_capacity starts.old }
     requires fits { first.start + count * first.pages < 2 ^ 32 }

@@ -9,17 +9,17 @@ use Rattle.service_lock.specs.Units.{Amounts, CountsEvent, HasUnitFor, with_one}
 use Rattle.client_accounts.specs.Accounts.{SameHandles, gained, is_done, lets_go, may_gain, no_amounts, handle_unit, with_gain}
 use Rattle.client_accounts.specs.Takes.{told_taken, units_by}
 
--- a handle that goes over is no event, for whom it leaves
+-- a handle that moves between clients is no event for the giver
 pub same_events : (strength : Strength) (old new : Amounts) → old ≡ with_one strength new → new.events ≡ old.events
 same_events Strong old new is = omega (arith, ap (λ (u : Amounts). u.events) is)
 same_events Weak old new is = omega (arith, ap (λ (u : Amounts). u.events) is)
 
--- and for whom it comes to
+-- nor for the receiver
 pub more_events : (strength : Strength) (old new : Amounts) → new ≡ with_one strength old → new.events ≡ old.events
 more_events Strong old new is = ap (λ (u : Amounts). u.events) is
 more_events Weak old new is = ap (λ (u : Amounts). u.events) is
 
--- who has the unit of a handle may let it go
+-- the holder of a handle's unit may drop the handle
 pub has_unit : (strength : Strength) (call : Call) (units : Amounts) → lets_go call ≡ Some strength →
     HasUnitFor call (with_one strength units)
 has_unit Strong (Call.DropHandle buffer Strong) units is = record { strong = omega arith; weak = omega arith }
@@ -45,7 +45,7 @@ none_left_of Weak units is =
 abbrev pub left_with : Bool → Strength → Amounts → Amounts
 left_with done strength units = cond done units (with_one strength units)
 
--- a handle goes where the answer is Done, and stays where it is not
+-- a handle is dropped if the answer is Done, and stays if it is not
 pub after_letting_go : (strength : Strength) (call : Call) (reply : Reply) (units new : Amounts) → lets_go call ≡ Some strength →
     CountsEvent (with_one strength units) new call reply → SameHandles new (left_with (is_done reply) strength units)
 after_letting_go Strong (Call.DropHandle buffer Strong) Reply.Done units new is counts =
@@ -63,7 +63,7 @@ after_letting_go Strong (Call.GiveHandle buffer Strong to) _ units new is counts
 after_letting_go Weak (Call.GiveHandle buffer Weak to) _ units new is counts = (omega (arith, counts.strong), omega (arith, counts.weak))
 after_letting_go _ _ reply units new is counts = cc
 
--- who may gain a handle needs none
+-- a client that may gain a handle needs none
 pub needs_none : (call : Call) (units : Amounts) → may_gain call ≡ true → HasUnitFor call units
 needs_none (Call.DupHandle buffer strength) units is = record { strong = omega arith; weak = omega arith }
 needs_none Call.Collect units is = record { strong = omega arith; weak = omega arith }
@@ -83,7 +83,7 @@ after_gaining (Call.DupHandle buffer Weak) reply units new is counts = (omega (a
 after_gaining Call.Collect reply units new is counts = (omega (arith, counts.strong), omega (arith, counts.weak))
 after_gaining call reply units new is counts = cc
 
--- who had none has the one that was brought, and no other
+-- a client that had none has the new one, and no other
 pub has_gained : (call : Call) (reply : Reply) (units new : Amounts) → may_gain call ≡ true → SameHandles units no_amounts →
     CountsEvent units new call reply → SameHandles new (with_gain (gained call reply) no_amounts)
 has_gained call reply units new is none counts = alone (gained call reply) (after_gaining call reply units new is counts)
@@ -93,7 +93,7 @@ has_gained call reply units new is none counts = alone (gained call reply) (afte
     alone (Some Strong) same = (same.0 ∙ ap (λ n. n + 1) none.0, same.1 ∙ none.1)
     alone (Some Weak) same = (same.0 ∙ none.0, same.1 ∙ ap (λ n. n + 1) none.1)
 
--- the one that was brought goes, and none is left
+-- the new one is dropped, and none is left
 pub gives_gain : (strength : Strength) (old new : Amounts) → SameHandles old (handle_unit strength) → old ≡ with_one strength new →
     SameHandles new no_amounts
 gives_gain Strong old new has passed =
@@ -101,7 +101,7 @@ gives_gain Strong old new has passed =
 gives_gain Weak old new has passed =
     (omega (arith, has.0, ap (λ (u : Amounts). u.strong) passed), omega (arith, has.1, ap (λ (u : Amounts). u.weak) passed))
 
--- who had no handle has those that were taken
+-- a client that had no handle has those that it took
 pub after_taking : (key : NodeKey) (reply : Reply) (units new : Amounts) → SameHandles units no_amounts →
     CountsEvent units new (Call.Take key) reply →
     SameHandles new (units_by (told_taken reply))

@@ -14,7 +14,7 @@ told_taken (Reply.Taken collection strength set) =
     Some (record { collection = collection; strength = strength; set = set })
 told_taken _ = None
 
--- so many units of handles of this strength
+-- this many units of handles of this strength
 abbrev pub handful : Strength → ℕ → Amounts
 handful Strong n = record { events = 0; strong = n; weak = 0 }
 handful Weak n = record { events = 0; strong = 0; weak = n }

@@ -82,7 +82,7 @@ impl<E: Setup, S: Ledger, W: Ledger> Account<E, S, W> {
         }
     }
 
-    /// The list, in the order of the events. It costs a constant.
+    /// The list, in the order of the events. It costs O(1).
     pub fn own(&self) -> &[Own]
         ensures value { result.now ≡ self.now.own }
         ensures share { self.now.units.events ≡ length self.now.own + 1 }

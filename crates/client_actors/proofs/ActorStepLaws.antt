@@ -224,7 +224,7 @@ module _ (client : ℕ) where
       ap (λ l. l ++ flat_map (part_of client) (lies xs)) (one_part x (All-head (SlotHeldBy client) x xs of))
       ∙ ap (λ l. kept_objects x ++ l) (parts_left xs (All-tail (SlotHeldBy client) x xs of))
 
-  -- who holds them
+  -- their holder
   one_owner : {E S W : Type 0} (slot : Option (End E S W)) → SlotHeldBy client slot → All (λ p. owner_of p ≡ client) (kept_objects slot)
   one_owner None of = All-nil (λ p. owner_of p ≡ client)
   one_owner (Some (End.Token t)) of = All-cons (λ p. owner_of p ≡ client) (Token t) [] of (All-nil (λ p. owner_of p ≡ client))

@@ -38,8 +38,8 @@ part_of client (Some (Object.Handle buffer strength)) =
 abbrev pub holds_by_state : ℕ → Known → Holds
 holds_by_state client state = sorted (flat_map (part_of client) state.objects)
 
--- what is left of an actor that made all its steps and vanished: its own list is a run of its script, followed by the
--- events of its parting with all that it then held
+-- the remains of an actor that made all its steps and vanished: its own list is a run of its script, followed by the
+-- events that closed all that it held then
 pub record HasFinished (clients : List ℕ) (steps : List Step) (left : Remains) : Type 0 where
   pub before : Seen
   pub state : Known
@@ -55,8 +55,8 @@ pub record HasRunSome (clients : List ℕ) (steps : List Step) (client : Seen) (
   pub runs : RunsScript clients done (pairs_of client.own) state
   pub has : objects ≡ state.objects
 
--- what an actor is that a fault stopped: its own list is a run of the first of its steps, and then, if it made them all,
--- the first events of its parting. It holds what is left
+-- an actor that a fault stopped: its own list is a run of the first of its steps, and then, if it made them all, the first
+-- events of its parting. It holds what these did not close
 pub record HasStopped (clients : List ℕ) (steps : List Step) (client : Seen) (held : Holds) : Type 0 where
   pub before : Seen
   pub state : Known
@@ -68,7 +68,7 @@ pub record HasStopped (clients : List ℕ) (steps : List Step) (client : Seen) (
   pub turn : (client ≡ before) ⊎ (left ≡ [])
   pub owned : AllHeldBy client.id held
 
--- one event was made of this call on what lies in the slot, if one is told: `after` is what is left, and this was brought
+-- one event was made, of this call on the object in the slot, if the call has a slot: the slots became `after`, and these objects are new
 pub record Asks {E S W : Type 0} (old new : Seen) (call : Call) (slot : Option ℕ) (before after : List (Option Object))
     (brought : NewObjects E S W) : Type 0 where
   pub reply : Reply
@@ -88,7 +88,7 @@ abbrev pub Falters : Seen → Seen → StepCall → List (Option Object) → Lis
 Falters old new asked before after =
     ((new ≡ old) × (after ≡ before)) ⊎ MakesCall old new asked before after
 
--- each list has room for so many objects more
+-- each list has room for this many objects more
 pub record ListsHaveRoom {E S W : Type 0} (held : Held E S W) (more : ℕ) : Type 0 where
   pub tokens : vec_len held.tokens + more ≤ vec_capacity held.tokens
   pub collections : vec_len held.collections + more ≤ vec_capacity held.collections

@@ -52,7 +52,7 @@ NewHeldBy client (NewObjects.One end) = end_client end ≡ client
 NewHeldBy client (NewObjects.Handles handles) = All (λ (h : Grip). h.client ≡ client) handles.items
 NewHeldBy client (NewObjects.Tracker tracker) = ⊤
 
--- one event was made, of this call on this object: `after` is what is left of it, and this was brought
+-- one event was made, of this call on this object: the object became `after`, and these objects are new
 pub record Did {E S W : Type 0} (old new : Seen) (call : Call) (before after : Option Object) (brought : NewObjects E S W) : Type 0 where
   pub reply : Reply
   pub made : Made old new call reply

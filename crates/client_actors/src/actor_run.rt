@@ -70,7 +70,7 @@ fn leave<E: Setup, S: Ledger, W: Ledger>(actor: Actor<E, S, W>) -> (Client<E, S,
     (client, held)
 }
 
-/// Plays the script: makes its steps in order, with the calls that what it knows by then makes of them, and
+/// Plays the script: makes its steps in order, each as the call that its labels name at that moment, and
 /// then vanishes, as by `vanish`, with all that it holds, in the list of each kind in the order in which it
 /// came: tokens as replies gave them, collections as they were bound or collected, handles as they were
 /// opened. The client is one that joined and has made no event since; `clients` are the ids of all actors,

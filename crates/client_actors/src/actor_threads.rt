@@ -23,7 +23,7 @@ use std::thread::Threads;
 use std::time::Clock;
 use std::{mem, thread};
 
-// Plays the script of that number with the client that lies there, if its thread comes to the start
+// Plays the script of that number with the client at that place, if its thread reaches the start
 // in time.
 fn run_there<E: Setup, S: Ledger, W: Ledger, G: Gate, R: Wait + Clock>(
     rt: &R,
@@ -90,7 +90,7 @@ fn run_all<
     );
 }
 
-// Makes room in empty lists for so many actors.
+// Makes room in empty lists for this many actors.
 fn make_room<E: Setup, S: Ledger, W: Ledger>(
     state: &State<E, S, W>,
     count: usize,
@@ -143,7 +143,7 @@ fn room_for<E: Setup, S: Ledger, W: Ledger, R: Wait>(
     make_room(guard.state(), count, clients, actors, ends, parts)
 }
 
-// Joins so many clients, in order.
+// Joins this many clients, in order.
 fn join_all<E: Setup, S: Ledger, W: Ledger, R: Wait>(
     rt: &R,
     alloc: Global,
@@ -234,11 +234,11 @@ fn clients_of<E: Setup, S: Ledger, W: Ledger>(
 ///
 /// One end for each script, in order; labels of clients stand for the clients of these ends. An
 /// actor that is stopped by a fault leaves the others as they are. Where the system gives no more
-/// threads, those who have one begin after ten to twenty seconds in which none was added, and the
-/// others end `NotStarted`.
+/// threads, the actors that have one begin after ten to twenty seconds in which none was added, and
+/// the others end `NotStarted`.
 ///
-/// Where a client can't join, or memory for the lists is refused before the first does, nobody
-/// starts: the fault, `HistoryFull` or `NoMemory`, and the clients that joined, who hold nothing.
+/// Where a client can't join, or memory for the lists is refused before the first does, no actor
+/// starts: the fault, `HistoryFull` or `NoMemory`, and the clients that joined, which hold nothing.
 ///
 /// Costs an event for each client, a thread for each but one, a constant number of words for each
 /// script, and what `run_actor` does.

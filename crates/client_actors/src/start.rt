@@ -2,20 +2,20 @@
 use std::sync::{Condvar, Mutex, Wait};
 use std::time::{Clock, Duration};
 
-// For how many seconds those who are there wait for the next one.
+// For how many seconds the threads that have started wait for the next one.
 const PATIENCE: u64 = 10;
 
-// A thread that the system refuses never comes. So those who are there begin without the others
-// once nobody came for a while.
+// A thread that the system refuses never starts. So the threads that have started begin without
+// the others once no thread was added for a while.
 #[derive(Drop)]
 pub(crate) struct Start {
-    // How many are still to come, or `None` once those who were there have begun.
+    // How many threads have not started yet, or `None` once the others have begun.
     awaited: Mutex<Option<usize>>,
     begun: Condvar,
 }
 
 impl Start {
-    // Where so many are to come.
+    // Where this many are to come.
     pub(crate) fn new(count: usize) -> Start {
         Start {
             awaited: Mutex::new(Some(count)),

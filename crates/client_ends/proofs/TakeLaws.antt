@@ -31,7 +31,7 @@ took old mid new key reply collection strength set handles is made tells brought
           ∙ ap (λ (o : Seen). grips_at o.id taken (indices_in set)) (sym is));
     }
 
--- the buffers of a set among so many from this one on
+-- the buffers of a set among this many from this one on
 unfoldable pub indices_from : ℕ → ℕ → ℕ → List ℕ
 indices_from start count set = filter (λ i. bit_at set i == 1) (range_with_len start count)
 

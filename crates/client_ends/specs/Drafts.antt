@@ -1,4 +1,4 @@
--- Drafted calls, and what comes of them.
+-- Drafted calls, the entries that they make, and the ends that these give.
 use Rattle.std.specs.Prelude.{◌≡◌, List, [], ◌∷◌, ◌++◌, ℕ, map, flat_map}
 use Rattle.sm_names.specs.declared.keys.NodeKey.{NodeKey}
 use Rattle.sm_names.specs.declared.messages.Call.{Call}

@@ -88,7 +88,7 @@ impl CollectionEnd {
         client.taken(rt, alloc, service, self.key())
     }
 
-    /// Makes a tracker that fires once the node's unit is allocated and at most so many buffers of
+    /// Makes a tracker that fires once the node's unit is allocated and at most this many buffers of
     /// the collection are not home, or once the node is gone before that allocation
     /// (`fuchsia.sysmem2.BufferCollection.AttachLifetimeTracking`). Its reader takes no lock. Costs one
     /// event, and a binary search among all trackers.

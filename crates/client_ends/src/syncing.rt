@@ -15,7 +15,7 @@ use std::alloc::AllocError;
 use std::collections::VecDeque;
 use std::sync::ledger::Ledger;
 
-/// Makes room for the ends and replies of so many events.
+/// Makes room for the ends and replies of this many events.
 pub(crate) fn make_room(part: &mut Part, events: usize) -> Result<(), AllocError>
     ensures replies { part.new.replies.items ≡ part.old.replies.items }
     ensures made { part.new.made.items ≡ part.old.made.items }

@@ -37,14 +37,14 @@ use Rattle.client_exit.specs.Exits.{ExitedIn, HasExited, holds_end}
 use Rattle.client_exit.proofs.ExitEvents.{exited_on, kept_on}
 use Rattle.client_exit.proofs.HeldEnds.{free_holds}
 
--- ---- who holds an end has joined
+-- ---- a client that holds an end has joined
 
--- who is known has joined
+-- a known client has joined
 known : (b : Bool) → (not b || false) ≡ false → b ≡ true
 known true h = refl
 known false h = cc
 
--- who collects an end has joined
+-- a client that collects an end has joined
 collector_joined : (limits : Bound) (marks : Timeline) (caller : ℕ) (reply : Reply) (call : Call) →
     IsAnswer limits (readings marks) caller call reply → (key : NodeKey) (c : ℕ) → collector_at key (Called caller reply call) ≡ Some c →
     has_joined marks c ≡ true
@@ -54,7 +54,7 @@ collector_joined limits marks caller (Reply.Collected k kind collection) Call.Co
     ap (has_joined marks) (sym is) ∙ known (has_joined marks caller) (passed _ Refusal.NoSuchClient t.known)
 collector_joined limits marks caller _ _ answer key c h = absurd (false≢true (ap is_some h))
 
--- so has who gets a node
+-- so has a client that gets a node
 born_joined : (limits : Bound) (marks : Timeline) (caller event : ℕ) (reply : Reply) (call : Call) (b : Birth) →
     IsAnswer limits (readings marks) caller call reply → birth_at event (Called caller reply call) ≡ Some b → has_joined marks caller ≡ true
 born_joined limits marks caller event (Reply.Token key collection) Call.OpenRoot b answer h =
@@ -87,7 +87,7 @@ module _ (pool : ℕ) (limits : Bound) (history : List Entry) (entry : Entry) (l
   next : NextEvent pool limits history entry
   next = next_event pool limits history entry legal
 
-  -- who has joined stays so
+  -- a client that has joined stays joined
   joined_still : (c : ℕ) → has_joined (timeline pool history) c ≡ true → has_joined (timeline pool (history ++ entry ∷ [])) c ≡ true
   joined_still c h = ap (λ (cs : List ℕ). list_any (λ k. k == c) cs) next.same.joined ∙ still_joined old (entry_mark entry) c h
 

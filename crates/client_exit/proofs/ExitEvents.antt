@@ -37,9 +37,9 @@ use Rattle.event_laws.proofs.ParcelEventLaws.{collected_event, idle_event, shut_
 use Rattle.client_exit.specs.Exits.{HasExited, holds_end}
 use Rattle.client_exit.proofs.HeldEnds.{free_holds, holds_free}
 
--- ---- who gets something is not shut, or has an end, a handle or a parcel
+-- ---- a client that gets something is not shut, or has an end, a handle or a parcel
 
--- who is given a parcel is not shut
+-- a client that is given a parcel is not shut
 pub given_open : (limits : Bound) (marks : Timeline) (caller : ℕ) (reply : Reply) (call : Call) →
     IsAnswer limits (readings marks) caller call reply → (client : ℕ) (p : Parcel) → given_at client (Called caller reply call) ≡ Some p →
     is_shut marks client ≡ false
@@ -67,7 +67,7 @@ born_open limits marks caller event (Reply.Token key collection) (Call.AttachTok
     or_none_left (is_shut marks caller) false (passed _ Refusal.ClientShut t.not_shut)
 born_open limits marks caller event _ _ b answer h = absurd (false≢true (ap is_some h))
 
--- who collects an end gets a parcel
+-- a client that collects an end gets a parcel
 collector_gets : (key : NodeKey) (mark : Mark) (client : ℕ) → collector_at key mark ≡ Some client → collected_at client mark ≡ None → ⊥
 collector_gets key (Called caller (Reply.Collected k kind collection) Call.Collect) client h none =
     let w = when-Some (same_key k key) caller client h in
@@ -160,7 +160,7 @@ module _ (pool : ℕ) (limits : Bound) (history : List Entry) (entry : Entry) (l
           let whose : holder new b.node ≡ entry.0 = (born_event pool limits history entry legal b e).2 in
           strange b e (sym whose ∙ (ap (holder new) is ∙ f.held))
 
-  -- who has exited has exited still
+  -- a client that has exited stays so
   pub exited_event : HasExited (readings (timeline pool history)) client →
       HasExited (readings (timeline pool (history ++ entry ∷ []))) client
   exited_event x = record {
@@ -212,7 +212,7 @@ module _ (pool : ℕ) (limits : Bound) (history : List Entry) (entry : Entry) (l
           let had : open_of old client buffer strength ≡ 0 = x.handles buffer strength in
           omega (arith, goes.adds_up, gained, had)
 
--- ---- a history that goes on
+-- ---- an extended history
 
 -- the first part of a legal history is legal
 pub legal_front : (pool : ℕ) (limits : Bound) (history more : List Entry) → IsLegal pool limits (history ++ more) →
@@ -222,7 +222,7 @@ legal_front pool limits history more legal = record {
   within = (let most : length (history ++ more) ≤ limits.events = legal.within in omega (arith, most, length-append history more));
 }
 
--- what each event of a legal history keeps, the events that it goes on by keep
+-- a fact that each event of a legal history keeps is kept by the events that extend it
 pub kept_on : (pool : ℕ) (limits : Bound) (P : List Entry → Type 0) →
     ((history : List Entry) (entry : Entry) → IsLegal pool limits (history ++ entry ∷ []) → P history → P (history ++ entry ∷ [])) →
     (history more : List Entry) → IsLegal pool limits (history ++ more) → P history → P (history ++ more)

@@ -103,7 +103,7 @@ leaves client waiting old one two new p q r =
       },
     ))
 
--- so many Collects of a client
+-- this many Collects of a client
 collects_of : ℕ → ℕ → List Entry
 collects_of client zero = []
 collects_of client (suc n) =
@@ -147,7 +147,7 @@ collects_some client waiting count old new few p =
       },
     ))
 
--- all were, and it goes on
+-- all were, and the exit continues
 pub gathered_leaving : (client waiting : ℕ) (old new : State) → Phase old new (Gathered client waiting) →
     Phase old new (Leaving client waiting)
 gathered_leaving client waiting old new p =
@@ -319,7 +319,7 @@ unshut client fault old new p =
 
 -- ---- as it is told
 
--- the client exited by so many events
+-- the client exited by this many events
 pub exits_by : (client count : ℕ) (old new : State) → old.events + count ≡ new.events →
     Phase old new (λ marks events later. HasLeft client events later) → Exits old new client count
 exits_by client count old new many p = record {
@@ -331,7 +331,7 @@ exits_by client count old new many p = record {
       subst (λ (n : ℕ). HasExited (readings (timeline n (history ++ p.events))) client) (sym p.advances.pool) (p.so history shows).has_exited;
 }
 
--- or so many events were made before the fault
+-- or this many events were made before the fault
 pub stops_by : (client count : ℕ) (fault : PartFault) (old new : State) → old.events + count ≡ new.events →
     Phase old new (λ marks events later. IsBegun client fault events) →
     (fault ≡ PartFault.HistoryFull → new.limits.events ≤ new.events) → ExitStops old new client count fault

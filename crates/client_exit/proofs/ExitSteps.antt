@@ -38,7 +38,7 @@ use Rattle.client_exit.proofs.HeldEnds.{free_holds, holds_free}
 
 -- ---- answers
 
--- how a Shut is answered to who has joined, and to who has not
+-- how a Shut of a client that has joined is answered, and of one that has not
 shut_known : (limits : Bound) (marks : Timeline) (client : ℕ) (reply : Reply) → IsAnswer limits (readings marks) client Call.Shut reply →
     has_joined marks client ≡ true → reply ≡ Reply.Shut (length (parcels marks client))
 shut_known limits marks client reply answer joined = rw joined at answer.told
@@ -87,13 +87,13 @@ drop_done limits marks client buffer strength reply answer joined some = rw (joi
 
 -- ---- one event of a legal history
 
--- who has joined stays so
+-- a client that has joined stays joined
 joined_on : (pool : ℕ) (limits : Bound) (history : List Entry) (entry : Entry) → NextEvent pool limits history entry → (client : ℕ) →
     has_joined (timeline pool history) client ≡ true → has_joined (timeline pool (history ++ entry ∷ [])) client ≡ true
 joined_on pool limits history entry next client h =
     ap (λ (cs : List ℕ). list_any (λ k. k == client) cs) next.same.joined ∙ still_joined (timeline pool history) (entry_mark entry) client h
 
--- who is shut stays so
+-- a client that is shut stays shut
 pub shut_on : (pool : ℕ) (limits : Bound) (history : List Entry) (entry : Entry) → IsLegal pool limits (history ++ entry ∷ []) →
     (client : ℕ) → is_shut (timeline pool history) client ≡ true → is_shut (timeline pool (history ++ entry ∷ [])) client ≡ true
 shut_on pool limits history entry legal client h =
@@ -235,7 +235,7 @@ close_told pool limits history client key reply legal held joined =
           rw over refl,
         )
 
--- one DropHandle of a handle of which the client has so many and one open
+-- one DropHandle of a handle of which the client has this many and one open
 pub drop_told : (pool : ℕ) (limits : Bound) (history : List Entry) (client left : ℕ) (buffer : BufferName) (strength : Strength)
     (reply : Reply) → IsLegal pool limits (history ++ (client, Call.DropHandle buffer strength, reply) ∷ []) →
     open_of (timeline pool history) client buffer strength ≡ left + 1 →

@@ -19,7 +19,7 @@ use Rattle.client_exit.specs.declared.exit.PartFault.{PartFault}
 
 -- ---- events
 
--- a core goes on by no event
+-- a core advances by no event
 pub advances_none : (s : State) → AdvancesBy s s []
 advances_none s = record {
   pool = refl;
@@ -87,7 +87,7 @@ phase_none s P each = record {
       (each history shows);
 }
 
--- a phase of one event, which the history that goes on shows to be legal
+-- a phase of one event, which is legal since the extended history is
 pub phase_one : (old new : State) (entry : Entry) (P : Timeline → List Entry → Timeline → Type 0) → AdvancesBy old new (entry ∷ []) →
     ((history : List Entry) → Shows old history → IsLegal old.pool old.limits (history ++ entry ∷ []) →
     P (timeline old.pool history) (entry ∷ []) (timeline old.pool (history ++ entry ∷ []))) → Phase old new P
@@ -131,7 +131,7 @@ phase_less old new P Q p each = record {
       each (timeline old.pool history) (timeline old.pool (history ++ p.events)) p.events (p.so history shows);
 }
 
--- a phase, and then a state that goes on by no event
+-- a phase, and then a state that advances by no event
 pub phase_same : (old mid new : State) (P : Timeline → List Entry → Timeline → Type 0) → Phase old mid P → AdvancesBy mid new [] →
     Phase old new P
 phase_same old mid new P p a = record {

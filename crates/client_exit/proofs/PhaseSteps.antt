@@ -180,7 +180,7 @@ close_next old mid new client node nodes others is p q =
       | inr there ↦ there
     ]
 
--- so many handles of one kind are open
+-- this many handles of one kind are open
 pub drop_first : (s : State) (client : ℕ) (buffer : BufferName) (strength : Strength) (count : ℕ) →
     ((history : List Entry) → Shows s history → count ≡ open_of (timeline s.pool history) client buffer strength) →
     Phase s s (Lets (IsDrop client) client (λ later. open_of later client buffer strength ≡ count))

@@ -58,7 +58,7 @@ module _ (s : State) (history : List Entry) (shows : Shows s history) (client : 
       there None k = cc
       there (Some n) k = refl
 
-  -- who has a handle open has joined
+  -- a client with an open handle has joined
   has_joined_if : (buffer : BufferName) (strength : Strength) → 0 < open_of (timeline s.pool history) client buffer strength →
       has_joined (timeline s.pool history) client ≡ true
   has_joined_if buffer strength some = elim (either_way (has_joined marks client)) [

@@ -22,7 +22,7 @@ no_tracker : (call : Call) (reply : Reply) → makes_tracker call ≡ false → 
 no_tracker call (Reply.Tracker id) none fits = both_ways (makes_tracker call) (sym (tracker-made call) ∙ fits) none
 no_tracker call _ none fits = refl
 
--- the core goes on by an event
+-- the core advances by an event
 pub step_made : (old new : State) (client : ℕ) (call : Call) (r : Result Reply StepFault) → makes_tracker call ≡ false →
     IfOk r (λ reply. fits_call call reply ≡ true) → IfOk r (λ reply. Follows old new client call reply) →
     IfOk r (λ reply. GoesOn old new ((client, call, reply) ∷ [])) →

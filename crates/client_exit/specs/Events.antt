@@ -12,14 +12,14 @@ use Rattle.sm_names.specs.Marks.{Entry, Timeline}
 use Rattle.sm_names.specs.Reading.{readings}
 use Rattle.client_exit.specs.Exits.{HasExited, IsClose, IsCollect, IsDrop, holds_end}
 
--- the client was shut, and so many parcels wait for it
+-- the client was shut, and this many parcels wait for it
 pub record IsShut (client waiting : ℕ) (events : List Entry) (later : Timeline) : Type 0 where
   pub are : events ≡ (client, Call.Shut, Reply.Shut waiting) ∷ []
   pub joined : has_joined later client ≡ true
   pub shut : is_shut later client ≡ true
   pub waits : length (parcels later client) ≡ waiting
 
--- so many Collects were made, of the parcels that waited
+-- this many Collects were made, of the parcels that waited
 pub record Collects (client waiting count : ℕ) (marks : Timeline) (events : List Entry) (later : Timeline) : Type 0 where
   pub many : length events ≡ count
   pub are : All (IsCollect client) events
@@ -27,7 +27,7 @@ pub record Collects (client waiting count : ℕ) (marks : Timeline) (events : Li
   pub shut : is_shut marks client ≡ true → is_shut later client ≡ true
   pub waits : length (parcels later client) + count ≡ waiting
 
--- so it is, if the client has joined and so many waited
+-- so it is, if the client has joined and this many waited
 abbrev pub Collecting : ℕ → ℕ → ℕ → Timeline → List Entry → Timeline → Type 0
 Collecting client waiting count marks events later =
     has_joined marks client ≡ true → length (parcels marks client) ≡ waiting → Collects client waiting count marks events later
@@ -53,7 +53,7 @@ Lets Is client Q marks events later = has_joined marks client ≡ true → LetsG
 abbrev pub Whatever : Timeline → Type 0
 Whatever marks = Unit {0}
 
--- the events of an exit behind its Shut, where so many parcels waited
+-- the events of an exit behind its Shut, where this many parcels waited
 pub record IsRest (client waiting : ℕ) (events : List Entry) : Type 0 where
   pub collects : List Entry
   pub closes : List Entry
@@ -64,7 +64,7 @@ pub record IsRest (client waiting : ℕ) (events : List Entry) : Type 0 where
   pub closed : All (IsClose client) closes
   pub dropped : All (IsDrop client) drops
 
--- a client that was shut, and for which so many parcels waited, parted with all that it had
+-- a client that was shut, and for which this many parcels waited, parted with all that it had
 abbrev pub PartsWithAll : ℕ → ℕ → Timeline → List Entry → Timeline → Type 0
 PartsWithAll client waiting marks events later =
     has_joined marks client ≡ true → is_shut marks client ≡ true → length (parcels marks client) ≡ waiting →

@@ -20,8 +20,8 @@ IsBegun client PartFault.HistoryFull events = (rest : List Entry) × IsExit clie
 IsBegun client PartFault.NoMemory events =
     (rest : List Entry) × (exit : IsExit client (events ++ rest)) × (exit.waiting < length events)
 
--- the core went on by these events: each legal history that the old state shows goes on by them to a legal one that the new state
--- shows, and no tracker was made
+-- the core made these events: each legal history that the old state shows, extended by them, is legal, and the new state shows it;
+-- no tracker was made
 pub record AdvancesBy (old new : State) (events : List Entry) : Type 0 where
   pub pool : new.pool ≡ old.pool
   pub limits : new.limits ≡ old.limits
@@ -29,7 +29,7 @@ pub record AdvancesBy (old new : State) (events : List Entry) : Type 0 where
   pub untaken : new.trackers.untaken ≡ old.trackers.untaken
   pub goes_on : GoesOn old new events
 
--- the client exited by so many events
+-- the client exited by this many events
 pub record Exits (old new : State) (client count : ℕ) : Type 0 where
   pub events : List Entry
   pub many : count ≡ length events
@@ -38,7 +38,7 @@ pub record Exits (old new : State) (client count : ℕ) : Type 0 where
   pub has_exited : (history : List Entry) → Shows old history →
       HasExited (readings (timeline new.pool (history ++ events))) client
 
--- so many events were made, and then no more for this reason
+-- this many events were made, and then no more for this reason
 pub record ExitStops (old new : State) (client count : ℕ) (fault : PartFault) : Type 0 where
   pub events : List Entry
   pub many : count ≡ length events

@@ -68,7 +68,7 @@ fn waiting_in(reply: &Reply) -> Result<u64, PartFault>
     }
 }
 
-// Shuts the client. So many parcels wait for it. That takes no memory.
+// Shuts the client. This many parcels wait for it. That takes no memory.
 fn shut(core: &mut Core, client: ClientId) -> Result<u64, PartFault>
     ensures ok { IfOk result (λ waiting.
         Phase core.old core.new (λ marks events later. IsShut client waiting events later)) }
@@ -81,7 +81,7 @@ fn shut(core: &mut Core, client: ClientId) -> Result<u64, PartFault>
     }
 }
 
-// Collects so many parcels. That takes no memory.
+// Collects this many parcels. That takes no memory.
 fn collect_all(core: &mut Core, client: ClientId, waiting: u64) -> Result<(), StepFault>
     ensures ok { OnOk result
         (Phase core.old core.new (Collecting client waiting waiting)) }
@@ -192,7 +192,7 @@ fn drop_all(core: &mut Core, client: ClientId) -> Result<(), StepFault>
     Ok(())
 }
 
-// Parts with all that the client has, once it was shut and so many parcels waited for it.
+// Parts with all that the client has, once it was shut and this many parcels waited for it.
 fn let_go(core: &mut Core, client: ClientId, waiting: u64) -> Result<(), StepFault>
     ensures ok { OnOk result (Phase core.old core.new (PartsWithAll client waiting)) }
     ensures err { OnErr result (Phase core.old core.new (Leaving client waiting)) }

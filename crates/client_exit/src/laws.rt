@@ -1,4 +1,4 @@
-//! That an exit is for good, and what is left once every client has exited.
+//! An exit is for good; once every client has exited, no node is live and no page is held.
 ghost use Rattle.std.specs.Prelude.{◌≡◌, ◌++◌, ℕ, List, [], true};
 ghost use Rattle.sm_names.specs.Bounds.{Bound};
 ghost use Rattle.sm_names.specs.Ends.{has_joined};
@@ -20,7 +20,7 @@ pub fn an_exit_is_for_good()
 
 /// Once each client that joined has exited, no node is live, no page is held, and the whole pool is
 /// free. It does not matter when each of them exited, nor which calls were made since.
-pub fn all_goes_with_its_clients()
+pub fn exits_free_all()
     ensures live { (pool : ℕ) (limits : Bound) (history : List Entry) →
         IsLegal pool limits history →
         ((client : ℕ) → has_joined (timeline pool history) client ≡ true →

@@ -61,7 +61,7 @@ module _ (client : ℕ) where
     handles = flat_own (λ (x : Grip). x.client ≡ client) handles_among handle_own objects all;
   }
 
--- a client that goes keeps nothing but its own
+-- a client that parts keeps only its own objects
 goes_own : (old new : Seen) (held back : Holds) → AllHeldBy old.id held → Goes old new held back → AllHeldBy new.id back
 goes_own old new held back of g =
     let P : HeldObject → Type 0 = λ t. owner_of t ≡ old.id in

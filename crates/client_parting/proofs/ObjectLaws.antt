@@ -89,7 +89,7 @@ pub top_pop : {E S W : Type 0} (items rest : List (End E S W)) (e : End E S W) �
     top_first items ≡ object_of e ∷ top_first rest
 top_pop items rest e is = ap top_first is ∙ top_push rest e
 
--- who has room for all has room for those after the first
+-- a list with room for all has room for those after the first
 pub room_less : {E S W : Type 0} (held : Held E S W) (x : HeldObject) (all later : List HeldObject) → all ≡ x ∷ later → HasRoomFor held all →
     HasRoomFor held later
 room_less held x all later is room = record {

@@ -150,7 +150,7 @@ sorted_held held = λ i. record {
 abbrev pub stacked : List HeldObject → List HeldObject → Holds → List HeldObject
 stacked ends handles held = ends ++ (map Token held.tokens ++ (map Collection held.collections ++ (handles ++ map Handle held.handles)))
 
--- the stack lists all that there is to part with: what the replies brought and what was held
+-- the stack lists all objects that a parting closes: those of the replies and those that were held
 pub told_all : (old mid : Seen) → mid.id ≡ old.id → (told : List Reply) (ends handles : List HeldObject) (held : Holds) →
     ends ≡ flat_map (end_told mid.id) told → handles ≡ flat_map (handle_told mid.id) told →
     all_objects old.id told held ≡ stacked ends handles held
@@ -163,7 +163,7 @@ pub in_turn : (may : Bool) (P Q : Type 0) → P ⊎ (may ≡ true) → (may ≡ 
 in_turn may P Q (inl p) whole = inl p
 in_turn may P Q (inr so) whole = inr (whole so)
 
--- a client that made its Shut, so many Collects, and parted with some
+-- a client that made its Shut, this many Collects, and parted with some
 abbrev pub goes : (old mid far new : Seen) (shut : Reply) (may : Bool) (ends handles all left : List HeldObject) (held kept back : Holds) →
     Made old mid Call.Shut shut →
     CollectsFor may (parcels_told shut) mid far ends handles → PartsIf may far new all left kept → all ≡ stacked ends handles held →
@@ -213,7 +213,7 @@ shut_only old new shut held back made same = record {
   back_is = same ∙ sym (sorted_held held);
 }
 
--- ---- what was collected, and who has it
+-- ---- what was collected, and its holder
 
 -- an end that a reply tells of is the client's
 end_owner : (client : ℕ) (reply : Reply) → All (λ t. owner_of t ≡ client) (end_told client reply)

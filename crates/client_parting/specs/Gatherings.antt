@@ -67,8 +67,8 @@ AllHere s parts =
     (all_present_handles Strong parts ≡ all_open (timeline s.pool s.history) Strong)
     × (all_present_handles Weak parts ≡ all_open (timeline s.pool s.history) Weak)
 
--- the record is a legal history, all who joined are here, all open handles are, each own list is its client's part, and
--- the report says what is on record
+-- the record is a legal history, all clients that joined are here, and so are all open handles, each own list is its
+-- client's part, and the report says what is on record
 pub record IsGatherReport {E S W : Type 0} (s : View) (all : List (Holding E S W)) (report : Report) : Type 0 where
   pub legal : IsLegal s.pool s.limits s.history
   pub events : report.events ≡ length s.history
@@ -79,24 +79,24 @@ pub record IsGatherReport {E S W : Type 0} (s : View) (all : List (Holding E S W
   pub weak : report.weak ≡ all_open (timeline s.pool s.history) Weak
   pub handles : AllHere s all
 
--- so many are open and not here, 0 if more are here than are open
+-- this many are open and not here, 0 if more are here than are open
 abbrev pub not_here : {E S W : Type 0} → View → Strength → List (Holding E S W) → ℕ
 not_here s strength parts = all_open (timeline s.pool s.history) strength - all_present_handles strength parts
 
--- all who joined are here, but not all open handles, or more: these are missing
+-- all clients that joined are here, but their handles are not just the open ones: these are missing
 pub record AreOpen {E S W : Type 0} (s : View) (all : List (Holding E S W)) (strong weak : ℕ) : Type 0 where
   pub members : AreAmong (ids_of all) (joined s.history)
   pub strong_is : strong ≡ not_here s Strong all
   pub weak_is : weak ≡ not_here s Weak all
   pub some : AllHere s all → ⊥
 
--- all who joined and all open handles are here, but some own list is not its client's part
+-- all clients that joined and all open handles are here, but some own list is not its client's part
 pub record IsMismatch {E S W : Type 0} (s : View) (all : List (Holding E S W)) (event : ℕ) : Type 0 where
   pub members : AreAmong (ids_of all) (joined s.history)
   pub handles : AllHere s all
   pub first : IsFirstMismatch s.history all event
 
--- what each fault says is so
+-- what each fault asserts holds
 abbrev pub IsSo : {E S W : Type 0} → View → List (Holding E S W) → GatherFault → Type 0
 IsSo s parts GatherFault.NoMemory = ⊤
 IsSo s parts (GatherFault.MissingClient client) = IsFirstAbsent (ids_of parts) s.history client

@@ -39,7 +39,7 @@ object_of (End.Token t) = Token t
 object_of (End.Collection c) = Collection c
 object_of (End.Handle h) = Handle h
 
--- who holds it
+-- the client that holds it
 abbrev pub owner_of : HeldObject → ℕ
 owner_of (Token t) = t.client
 owner_of (Collection c) = c.client
@@ -91,8 +91,8 @@ handle_told client (Reply.CollectedHandle buffer strength) =
     Handle (record { client = client; buffer = buffer; strength = strength }) ∷ []
 handle_told client _ = []
 
--- all that there is to part with, in order: the ends that were collected, the tokens, the collections, the handles that
--- were collected, the handles
+-- all objects that a parting closes, in order: the collected ends, the tokens, the collections, the collected handles, the
+-- handles
 abbrev pub all_objects : ℕ → List Reply → Holds → List HeldObject
 all_objects client told held =
     flat_map (end_told client) told ++ (map Token held.tokens ++ (map Collection held.collections
@@ -110,9 +110,9 @@ kept_of (object ∷ objects) [] = []
 kept_of (object ∷ objects) (answer ∷ answers) =
     let more = kept_of objects answers in if is_done answer then more else object ∷ more
 
--- a client that goes: it made a Shut, and Collects, no more than the Shut counted, and then parted with the first of all
--- that there was to part with, each by its call, and with none before the last Collect. `back` has what it did not
--- part with: what was refused, and what was left
+-- a client that parts: it made a Shut, then Collects, at most as many as the Shut counted, and after the last Collect closed
+-- a first part of all its objects, each by its call. `back` has the objects that it did not close: those that were refused,
+-- and those that it did not reach
 pub record Goes (old new : Seen) (held back : Holds) : Type 0 where
   pub shut : Reply
   pub told : List Reply
@@ -136,7 +136,7 @@ pub record IsGone (old new : Seen) (held refused : Holds) : Type 0 where
 abbrev pub IsBroken : Seen → Seen → Holds → Holds → Type 0
 IsBroken old new held back = ((new ≡ old) × (back ≡ held)) ⊎ Goes old new held back
 
--- what is left of a client that is gone: the client as it was last, and what was refused
+-- the remains of a client that has vanished: the client as it was last, and the objects whose closing was refused
 pub record Remains : Type 0 where
   pub client : Seen
   pub refused : Holds

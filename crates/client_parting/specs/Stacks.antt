@@ -42,7 +42,7 @@ pub record CollectsOne (old new : Seen) (ends ends' handles handles' : List Held
   pub end : ends' ≡ ends ++ end_told old.id reply
   pub handle : handles' ≡ handles ++ handle_told old.id reply
 
--- so many Collects were made, and this is what they brought
+-- this many Collects were made, and this is what they brought
 pub record CollectsMany (old new : Seen) (told : List Reply) (ends handles : List HeldObject) : Type 0 where
   pub made : MadeAll old new (replicate (length told) Call.Collect) told
   pub ends_are : ends ≡ flat_map (end_told old.id) told
@@ -67,14 +67,14 @@ pub record PartsWithSome (old new : Seen) (all left : List HeldObject) (kept : H
   pub all_is : all ≡ parted ++ left
   pub kept_is : kept ≡ sorted (kept_of parted answers)
 
--- at most so many Collects were made, and all of them unless there was a fault
+-- at most this many Collects were made, and all of them unless there was a fault
 pub record CollectsFor (all : Bool) (most : ℕ) (old new : Seen) (ends handles : List HeldObject) : Type 0 where
   pub told : List Reply
   pub collects : CollectsMany old new told ends handles
   pub within : length told ≤ most
   pub whole : all ≡ true → length told ≡ most
 
--- empty lists with room for so many, and room for them in the lists of what is held
+-- empty lists with room for this many, and room for them in the lists of what is held
 pub record IsRoom {E S W : Type 0} (room : Room E S W) (held : Held E S W) (waiting : ℕ) : Type 0 where
   pub ends : (room.ends.items ≡ []) × (waiting ≤ vec_capacity room.ends)
   pub handles : (room.handles.items ≡ []) × (waiting ≤ vec_capacity room.handles)
@@ -84,7 +84,7 @@ pub record IsRoom {E S W : Type 0} (room : Room E S W) (held : Held E S W) (wait
   pub collections : vec_len held.collections + waiting ≤ vec_capacity held.collections
   pub for_handles : vec_len held.handles + waiting ≤ vec_capacity held.handles
 
--- the same, and it parted with none unless this is so
+-- the same, and it parted with none if `may` is false
 pub record PartsIf (may : Bool) (old new : Seen) (all left : List HeldObject) (kept : Holds) : Type 0 where
   pub parts : PartsWithSome old new all left kept
   pub turn : (parts.parted ≡ []) ⊎ (may ≡ true)

@@ -10,7 +10,7 @@ pub enum GatherFault {
     NoMemory,
     /// This client joined, and has no part here. It is the first such client.
     MissingClient(ClientId),
-    /// So many more handles of each strength are open than the parts have, those in parcels included.
+    /// This many more handles of each strength are open than the parts have, those in parcels included.
     OpenValues { strong: u64, weak: u64 },
     /// A client's own list is not its part of the record; this is the first event where they differ.
     RecordMismatch(u64),

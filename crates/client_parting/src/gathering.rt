@@ -154,7 +154,7 @@ fn first_mismatch<E: Setup, S: Ledger, W: Ledger>(
 /// Compares the parts with the record under the lock, client by client. Makes no event, merges no shares
 /// and changes nothing.
 ///
-/// At Ok the record is a legal history of so many events, `parts` has each client that joined and all open
+/// At Ok the record is a legal history of this many events, `parts` has each client that joined and all open
 /// handles, and each own list is that client's part of the record. Otherwise the first of these faults:
 /// - `NoMemory`: memory was refused.
 /// - `MissingClient`: this client, the first of such, joined and is not in `parts`.

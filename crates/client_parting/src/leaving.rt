@@ -134,7 +134,7 @@ fn collect_one<E: Setup, S: Ledger, W: Ledger, R: Wait>(
     }
 }
 
-// Makes so many Collects.
+// Makes this many Collects.
 fn collect_all<E: Setup, S: Ledger, W: Ledger, R: Wait>(
     rt: &R,
     service: &Service<E, S, W>,

@@ -20,7 +20,7 @@ pub record IsCount (text : List ℕ) : Type 0 where
   pub numeral : IsNumeral 10 (without_leading_plus text)
   pub in_range : (1 ≤ written_number text) × (written_number text ≤ MAX_PAGES)
 
--- so many pages are asked for, or none where there is no such text or it is no such number
+-- this many pages are asked for, or none where there is no such text or it is no such number
 abbrev pub AreAsked : Option (List ℕ) → Option ℕ → Type 0
 AreAsked None count = count ≡ None
 AreAsked (Some text) count = SomeIff count (IsCount text) (written_number text)

@@ -217,7 +217,7 @@ fn commands() -> &'static [Row] {
     COMMANDS
 }
 
-/// The commands with their options and help. Takes a constant time.
+/// The commands with their options and help. Takes O(1) time.
 pub fn command<'a>(alloc: Global) -> Result<Command<'a>, AllocError> {
     let mut program = program(alloc)?;
     for row in commands() {

@@ -26,7 +26,7 @@ MayMove holds client (Call.GiveHandle buffer strength to) Reply.Done = 0 < of ho
 MayMove holds client Call.Collect (Reply.CollectedHandle buffer strength) = 0 < moving_count holds buffer strength
 MayMove holds client _ _ = ⊤
 
--- each count goes by what the mark does to such handles
+-- each count changes as the mark opens and closes such handles
 pub record MovesHandles (old new : Counts) (mark : Mark) : Type 0 where
   pub each : (client : ℕ) (buffer : BufferName) (strength : Strength) → GoesBy (of old client buffer strength)
       (of new client buffer strength) (gains (only client) buffer strength mark) (loses (only client) buffer strength mark)

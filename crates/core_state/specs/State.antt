@@ -14,7 +14,7 @@ pub record Client : Type 0 where
   pub shut : Bool
   pub waiting : List Parcel
 
--- a pool of so many pages, the limits, how many events there were, the clients, the earliest first, the collections with their
+-- a pool of this many pages, the limits, how many events there were, the clients, the earliest first, the collections with their
 -- nodes and buffers, the open handles, and the trackers
 pub record State : Type 0 where
   pub pool : ℕ

@@ -186,8 +186,8 @@ swept world event t = record t { unfired = still_waiting world t.unfired; fired 
 
 -- ---- the event
 
--- the state after one more event: handles are opened, dropped or moved, the work is done with all that it forces, an end is
--- put elsewhere, trackers fire that are due then, and what is over is forgotten
+-- the state after one more event: handles are opened, dropped or moved, the work and all its forced steps are made, an end
+-- gets a new holder, the trackers that are due then fire, and the nodes that are over are forgotten
 pub record Follows (old new : State) (client : ℕ) (call : Call) (reply : Reply) : Type 0 where
   pub pool : new.pool ≡ old.pool
   pub limits : new.limits ≡ old.limits

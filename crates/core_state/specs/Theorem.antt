@@ -12,7 +12,7 @@ use Rattle.core_state.specs.Shown.{Shows}
 use Rattle.core_state.specs.State.{IsSame, State}
 use Rattle.core_state.specs.Steps.{Follows}
 
--- each legal history that the old state shows goes on by these entries to a legal one that the new state shows
+-- each legal history that the old state shows, extended by these entries, is legal, and the new state shows it
 abbrev pub GoesOn : State → State → List Entry → Type 0
 GoesOn old new entries = (history : List Entry) → Shows old history → Shows new (history ++ entries)
 

@@ -64,8 +64,8 @@ pub record IsSound (f : Forest) : Type 0 where
   pub once : (c : Collection) → In c f.collections → AreOnce c.nodes
   pub tidy : (c : Collection) → In c f.collections → IsTidy c
 
--- the forest in the midst of an event: what is over is in this collection alone, and so is the end that is about to be
--- spent
+-- the forest in mid-event: the nodes that may be forgotten are in this collection alone, and so is the end that is about to
+-- be spent
 pub record IsAmid (f : Forest) (id : ℕ) (leaving : Option NodeKey) : Type 0 where
   pub rising : Rise (map (λ (c : Collection). c.id) f.collections)
   pub fit : (c : Collection) → In c f.collections → AreFit (λ key. given f key ≡ true) c.id leaving c.nodes
@@ -76,7 +76,7 @@ pub record IsAmid (f : Forest) (id : ℕ) (leaving : Option NodeKey) : Type 0 wh
   pub there : (key : NodeKey) → leaving ≡ Some key → (c : Collection) × (n : Node) × In c f.collections × In n c.nodes × (n.key ≡ key) ×
       (c.id ≡ id)
 
--- the event can be finished: the forest is sound, but for what is over in the task's collection and the end that the task spends
+-- the event can be finished: the forest is sound, except for nodes of the task's collection that may be forgotten, and the end that the task spends
 abbrev pub CanFinish : Forest → Option Task → Type 0
 CanFinish f None = IsSound f
 CanFinish f (Some t) = IsAmid f t.collection t.spends

@@ -16,7 +16,7 @@ use Rattle.event_facts.specs.declared.ways.Stop.{Stop}
 
 -- ---- failures and ends
 
--- why a failure goes no further than the node with this key
+-- why a failure does not propagate above the node with this key
 abbrev pub stop_of : List Node → NodeKey → Stop
 stop_of nodes key = option_map_or
     (λ (n : Node). option_map_or (λ parent. if n.attached then Stop.AtAttached parent else Stop.AtDispensable parent) n.parent Stop.AtRoot)
@@ -38,13 +38,13 @@ is_handed way above n = option_map_or (λ parent. same_key above parent && not (
 abbrev pub is_handed_past : (NodeKey → Bool) → NodeKey → Node → Bool
 is_handed_past passed above n = option_map_or (λ parent. same_key above parent && not (passed n.key)) n.parent false
 
--- ---- who keeps what
+-- ---- the holders of buffers
 
 -- the node is live and strong
 abbrev pub is_keeper : Node → Bool
 is_keeper n = is_live_node n && not n.weak
 
--- so many handles of the client, or in parcels, if there are some
+-- this many handles of the client, or in parcels, if there are some
 abbrev pub holders_with : Option ℕ → Strength → ℕ → List Holder
 holders_with client strength count = if nat_lt 0 count then record { client = client; strength = strength; count = count } ∷ [] else []
 

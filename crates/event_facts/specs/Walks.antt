@@ -29,7 +29,7 @@ pub record IsCopied (s : State) (w : Work) (b : Start) : Type 0 where
   pub room : leaves_tracker_room b.change b.scene.nodes.items ≡ true
   pub fresh : (key : NodeKey) → given s.forest key ≡ false → list_any (is_of key) b.scene.nodes.items ≡ false
 
--- that is so of the work that there is, if there is some
+-- the work, if there is some, has such a start
 abbrev pub IsStart : State → Option Work → Option Start → Type 0
 IsStart s None None = ⊤
 IsStart s None (Some b) = ⊥

@@ -10,7 +10,7 @@ use lifetime_core::Core;
 use sm_names::{BufferName, ClientId, NodeKey, Strength};
 use std::alloc::AllocError;
 
-/// So many open handles of a strength, of a client, or in parcels where there is no client.
+/// This many open handles of a strength, of a client, or in parcels where there is no client.
 #[derive(Clone, Copy, PartialEq, Eq)]
 pub struct Holder {
     pub client: Option<ClientId>,

@@ -30,7 +30,7 @@ pub struct KeyMap<V> {
 }
 
 impl<V: Drop> KeyMap<V> {
-    /// No values. Takes a constant time.
+    /// No values. Takes O(1) time.
     pub fn new(alloc: Global) -> KeyMap<V>
         ensures { (key : Key) → value_at result key ≡ None }
     {
@@ -68,7 +68,7 @@ pub struct KeyRows<V> {
 }
 
 impl<V: Copy + Drop> KeyRows<V> {
-    /// Each row is empty. Takes a constant time.
+    /// Each row is empty. Takes O(1) time.
     pub fn new(alloc: Global) -> KeyRows<V>
         ensures { (key : Key) → values_at result key ≡ [] }
     {

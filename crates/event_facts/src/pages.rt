@@ -46,7 +46,7 @@ fn is_among(held: &[HeldBuffer], buffer: BufferName) -> bool
 }
 
 /// The buffers of the collection that nothing strong keeps, as a set, where these are its kept nodes and
-/// it was given so many: bit i stands for the buffer with index i. Costs O(n) for n nodes, and a look at
+/// it was given this many: bit i stands for the buffer with index i. Costs O(n) for n nodes, and a look at
 /// the handles of each buffer.
 pub fn doomed_of(
     core: &Core,

@@ -1,4 +1,4 @@
--- What one event does to ends: whether they are spent or in a parcel, and who holds them.
+-- What one event does to ends: whether they are spent or in a parcel, and their holders.
 use Rattle.std.proofs.Common.{ℕ, ◌≡◌, ◌+◌, refl, ap, sym, ◌∙◌, Bool, true, false, cond, not, ◌||◌, ◌&&◌, ◌==◌, inl, inr, List, [], ◌∷◌, ◌++◌, Option, Some, None}
 use Rattle.std.specs.List.{list_any, sum_by, find, cons_option}
 use Rattle.std.specs.Option.{option_map_or}
@@ -28,7 +28,7 @@ use Rattle.sm_names.proofs.SamenessLaws.{either_way, and_right, both_ways, or_bo
 use Rattle.history_laws.proofs.SumLaws.{any_one, sum_by-same, sum_once}
 use Rattle.event_laws.proofs.TransitLaws.{EndAt, end_at, transit_mark, delivers_waited, unborn_idle}
 
--- ---- who holds an end
+-- ---- the holder of an end
 
 -- a birth does not change that of an older node
 birth_stays : (limits : Bound) (marks : Timeline) (caller : ℕ) (reply : Reply) (call : Call) (node : NodeKey) →
@@ -155,7 +155,7 @@ module _ (pool : ℕ) (limits : Bound) (history : List Entry) (entry : Entry) (l
   transit_event node = (λ i. next.same.under_way i node)
       ∙ transit_mark limits old entry.0 entry.2 entry.1 next.answer drawn node (was_at node)
 
-  -- a Collect changes who holds
+  -- a Collect changes the holder
   pub holder_event : (node : NodeKey) → was_born (births (timeline pool history)) node ≡ true →
       holder (timeline pool (history ++ entry ∷ [])) node ≡ option_map_or (λ c. c) (collector_at node (entry_mark entry))
       (holder (timeline pool history) node)

@@ -26,9 +26,9 @@ use Rattle.history_laws.proofs.HeldLaws.{Lays, Nothing_new, New, allocation_lays
 use Rattle.history_laws.proofs.SettledLaws.{forced_why}
 use Rattle.history_laws.proofs.TakeLaws.{take_opens}
 
--- ---- who has not joined has no handle
+-- ---- a client that has not joined has no handle
 
--- who has joined stays so
+-- a client that has joined stays joined
 pub still_joined : (marks : Timeline) (mark : Mark) (client : ℕ) → has_joined marks client ≡ true → has_joined (mark ∷ marks) client ≡ true
 still_joined marks mark client h = from (joined_at mark)
   where
@@ -41,7 +41,7 @@ first_of : (a b : Bool) → ((a && b) || false) ≡ true → a ≡ true
 first_of true b h = refl
 first_of false b h = cc
 
--- who gets a handle has joined
+-- a client that gets a handle has joined
 gains_joined : (limits : Bound) (marks : Timeline) (caller : ℕ) (reply : Reply) (call : Call) →
     IsAnswer limits (readings marks) caller call reply → (client : ℕ) (buffer : BufferName) (strength : Strength) →
     gains (only client) buffer strength (Called caller reply call) ≡ true → has_joined marks client ≡ true

@@ -17,7 +17,7 @@ use Rattle.sm_names.specs.Timelines.{timeline}
 use Rattle.event_laws.proofs.HandleEventLaws.{open_of_event, open_total_event, moving_event, idle_gains, idle_loses, idle_opens, idle_drops, idle_lifts, idle_lands}
 use Rattle.sm_names.proofs.SamenessLaws.{same_buffer-true, same_strength-true, either_way, and_left, and_right, or_false, and_both, same_strength-refl}
 
--- ---- how a count goes
+-- ---- how a count changes
 
 -- up under a test
 up : (old new : ℕ) (t gained lost : Bool) → GoesBy old new gained lost → gained ≡ t → lost ≡ false → new ≡ cond t (old + 1) old

@@ -233,7 +233,7 @@ module _ (pool : ℕ) (limits : Bound) where
             stranger_has_none pool limits marks g client buffer strength n in absurd (omega (arith, h, none))
       ]
 
-  -- who gives a handle loses it
+  -- a client that gives a handle loses it
   gives_own : (client : ℕ) (reply : Reply) (call : Call) (buffer : BufferName) (strength : Strength) →
       lifts anyone buffer strength (Called client reply call) ≡ true → loses (only client) buffer strength (Called client reply call) ≡ true
   gives_own client Reply.Done (Call.GiveHandle name given to) buffer strength h =
@@ -260,7 +260,7 @@ module _ (pool : ℕ) (limits : Bound) where
         | inr n ↦ omega (arith, more, lifted_opened before g buffer strength (rw n at h))
       ]
 
-  -- ---- who moved it
+  -- ---- the client that moved it
 
   -- the buffer is of an allocated collection, and its index is in range
   abbrev pub IsThere : Timeline → BufferName → Type 0

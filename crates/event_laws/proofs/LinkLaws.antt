@@ -9,7 +9,7 @@ use Rattle.event_laws.specs.Parts.{is_own, own_entry, part, part_from}
 
 -- ---- whose an event is
 
--- who joined no sooner than the event did not make it
+-- a client that joined no sooner than the event did not make it
 pub own_not_yet : (client event : ℕ) (e : Entry) → event ≤ client → is_own client event e ≡ false
 own_not_yet client event e before = either (e.0 == client)
   where

@@ -1,4 +1,4 @@
--- Who joined, and who is there.
+-- The clients that joined, and those that are there.
 use Rattle.std.proofs.Common.{ℕ, ◌+◌, ◌<◌, ◌≡◌, ◌||◌, ◌∙◌, refl, sym, ap, Bool, true, false, List, [], ◌∷◌, ◌++◌, append_assoc, length, get_or}
 use Rattle.std.proofs.lemmas.List.{get_or_read}
 use Rattle.std.proofs.lemmas.List.Elements.{All-append, All-cons, All-nil}
@@ -29,7 +29,7 @@ read_other ids event entry rest later history on other so = record {
   present = so.present;
 }
 
--- an event that made a client who is there
+-- an event that made a client which is there
 pub read_join : (ids : List ℕ) (event : ℕ) (entry : Entry) (rest later history : List Entry) → rest ≡ entry ∷ later → makes_client entry ≡ true →
     is_among ids event ≡ true → IsRead ids event rest history →
     IsRead ids (event + 1) later history

@@ -156,7 +156,7 @@ over_none cs is f none =
     ∙ sum_by-zero is)
     ∙ sum_by-zero cs
 
--- who has not joined has none open
+-- a client that has not joined has none open
 stranger_all : (pool : ℕ) (limits : Bound) (history : List Entry) → IsLegal pool limits history → (client : ℕ) →
     has_joined (timeline pool history) client ≡ false → (strength : Strength) →
     all_open_of (timeline pool history) client strength ≡ 0
@@ -188,7 +188,7 @@ module _ (pool : ℕ) (limits : Bound) (history : List Entry) (legal : IsLegal p
     as_long : length (before ++ e ∷ []) ≡ length before + 1
     as_long = length-append before (e ∷ [])
 
-    -- who is made has the number of the event, and never joined before
+    -- a new client has the number of the event, and never joined before
     made_now : (made : ℕ) → joined_at (entry_mark e) ≡ Some made → (made ≡ length before + 1) ×
         (has_joined (timeline pool before) made ≡ false)
     made_now made is =
@@ -243,7 +243,7 @@ module _ (pool : ℕ) (limits : Bound) (history : List Entry) (legal : IsLegal p
           all_client_adds pool limits history legal strength client,
         )
 
-  -- so of each who joined from here on
+  -- so does each client that joined from here on
   balances_from : (before rest : List Entry) → history ≡ before ++ rest → All Balances (joined_from (length before + 1) rest)
   balances_from before [] on = All-nil Balances
   balances_from before (e ∷ es) on =
@@ -274,7 +274,7 @@ module _ (pool : ℕ) (limits : Bound) (history : List Entry) (legal : IsLegal p
       told : (client : ℕ) → Balances client → IsTold (client_line history client)
       told client b = (omega (arith, b Strong), omega (arith, b Weak))
 
-  -- who joined so far, and who joins from here on
+  -- the clients that joined so far, and those that join from here on
   members_from : (before rest : List Entry) → history ≡ before ++ rest →
       reverse (clients (timeline pool before)) ++ joined_from (length before + 1) rest ≡ reverse (clients (timeline pool history))
   members_from before [] on =

@@ -29,7 +29,7 @@ use Rattle.history_laws.proofs.TakeLaws.{none_key}
 
 -- ---- what is collected
 
--- who gets a parcel collects, and is given none
+-- a client that gets a parcel collects, and is given none
 collected_collects : (client : ℕ) (mark : Mark) (p : Parcel) → collected_at client mark ≡ Some p → (collects client mark ≡ true) ×
     (given_at client mark ≡ None)
 collected_collects client (Called caller (Reply.Collected key kind collection) Call.Collect) p h =
@@ -38,14 +38,14 @@ collected_collects client (Called caller (Reply.CollectedHandle buffer strength)
     ((when-Some (caller == client) (Parcel.Handle buffer strength) p h).0, refl)
 collected_collects client _ p h = absurd (false≢true (ap is_some h))
 
--- who gets none does not
+-- a client that gets none does not
 idle_collects : (client : ℕ) (mark : Mark) → collected_at client mark ≡ None → collects client mark ≡ false
 idle_collects client (Called caller (Reply.Collected key kind collection) Call.Collect) h = when-None (caller == client) (Parcel.End key) h
 idle_collects client (Called caller (Reply.CollectedHandle buffer strength) Call.Collect) h =
     when-None (caller == client) (Parcel.Handle buffer strength) h
 idle_collects client _ h = refl
 
--- nor does who is given one
+-- nor does a client that is given one
 given_collects_none : (client : ℕ) (mark : Mark) (p : Parcel) → given_at client mark ≡ Some p → collected_at client mark ≡ None
 given_collects_none client (Called giver Reply.Done (Call.Give key to)) p h = refl
 given_collects_none client (Called giver Reply.Done (Call.GiveHandle buffer strength to)) p h = refl
@@ -158,7 +158,7 @@ known_receiver true true h = refl
 known_receiver true false h = cc
 known_receiver false c h = cc
 
--- who is given a parcel has joined
+-- a client that is given a parcel has joined
 pub given_joined : (limits : Bound) (marks : Timeline) (caller : ℕ) (reply : Reply) (call : Call) →
     IsAnswer limits (readings marks) caller call reply → (client : ℕ) (p : Parcel) →
     given_at client (Called caller reply call) ≡ Some p → has_joined marks client ≡ true
@@ -174,7 +174,7 @@ given_joined limits marks caller Reply.Done (Call.GiveHandle buffer strength to)
     ap (has_joined marks) (sym is) ∙ known_receiver (has_joined marks caller) (has_joined marks to) t.known
 given_joined limits marks caller _ _ answer client p h = absurd (false≢true (ap is_some h))
 
--- so no parcel waits for who has not
+-- so no parcel waits for one that has not
 pub stranger_waits_for_none : (pool : ℕ) (limits : Bound) (marks : Timeline) → Grows pool limits [] marks → (client : ℕ) →
     has_joined marks client ≡ false → parcels marks client ≡ []
 stranger_waits_for_none pool limits _ Stays client h = refl

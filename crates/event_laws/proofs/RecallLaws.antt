@@ -63,7 +63,7 @@ named_here : (pool : ℕ) (limits : Bound) (marks : Timeline) (key : NodeKey) �
 named_here pool limits marks key g n =
     false_if (gone marks key) (λ h. both_ways (spent marks key) ((ordered pool limits marks g).ended_spent key h n.unfailed) n.unspent)
 
--- who is not refused as unknown has joined
+-- a client that is not refused as unknown has joined
 joined_if : (b : Bool) → refused_if (not b || false) Refusal.NoSuchClient ≡ None → b ≡ true
 joined_if true h = refl
 joined_if false h = cc

@@ -9,7 +9,7 @@ use Rattle.std.specs.List.{filter, range_with_len}
 use Rattle.sm_names.specs.declared.rules.TheConstants.{MAX_BUFFERS}
 use Rattle.event_laws.specs.HandleSums.{indices_below, indices_in}
 
--- so many numbers have no more buffers
+-- this many numbers have no more buffers
 pub below_most : (most set : ℕ) → length (indices_below most set) ≤ most
 below_most most set =
     let p : ℕ → Bool = λ i. bit_at set i == 1 in
@@ -59,7 +59,7 @@ below_rest (suc more) most set none =
     let whole = ap (λ n. length (indices_below n set)) next in
     omega (arith, one, bit, on, whole)
 
--- none, or so many: no more than as many as that
+-- none, or this many: no more than as many as that
 pub cond-le : (t : Bool) (n m : ℕ) → n ≤ m → cond t n 0 ≤ m
 cond-le true n m le = le
 cond-le false n m le = omega arith

@@ -68,7 +68,7 @@ module _ (node : NodeKey) where
   sends_alone (Called giver Reply.Done (Call.Give key to)) h = (refl, refl)
   sends_alone _ h = absurd (false≢true h)
 
-  -- and gives it to who has joined
+  -- and gives it to a client that has joined
   taker_joined : (limits : Bound) (marks : Timeline) (caller : ℕ) (reply : Reply) (call : Call) →
       IsAnswer limits (readings marks) caller call reply → sends node (Called caller reply call) ≡ true →
       has_joined marks (taker call) ≡ true
@@ -158,7 +158,7 @@ module _ (limits : Bound) (marks : Timeline) (caller : ℕ) (reply : Reply) (cal
       let t = both_hold (old.place == caller) (in_transit marks node) some in
       (eqb-true old.place caller t.0, t.1)
 
-  -- so it goes
+  -- so the end is in a parcel after the event if it was sent, or was in one before and is not delivered
   goes : Goes (Called caller reply call ∷ marks) node (sends node (Called caller reply call) || (in_transit marks node && not
       (delivers node (Called caller reply call))))
   goes = elim (either_way (sends node mark)) [
@@ -241,7 +241,7 @@ module _ (limits : Bound) (marks : Timeline) (caller : ℕ) (reply : Reply) (cal
   none_there None h = refl
   none_there (Some x) h = cc
 
-  -- who was born stays so
+  -- a node that was born stays so
   still_born : was_born (births marks) node ≡ true → was_born (births (Called caller reply call ∷ marks)) node ≡ true
   still_born h = from (birth_at (events marks + 1) mark)
     where

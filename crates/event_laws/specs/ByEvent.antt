@@ -47,7 +47,7 @@ is_about_handles (Called client Reply.Done (Call.GiveHandle name strength to)) =
 is_about_handles (Called client (Reply.CollectedHandle name strength) Call.Collect) = true
 is_about_handles _ = false
 
--- a count goes up by one where something is gained, and down by one where something is lost, which was there
+-- a count grows by one if something is gained, and shrinks by one if something is lost, which it counted before
 pub record GoesBy (old new : ℕ) (gained lost : Bool) : Type 0 where
   pub adds_up : new + one_if lost ≡ old + one_if gained
   pub was_there : lost ≡ true → 0 < old

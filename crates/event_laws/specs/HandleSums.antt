@@ -25,11 +25,11 @@ indices_below most set = filter (λ i. bit_at set i == 1) (range_with_len 0 most
 unfoldable pub indices_in : ℕ → List ℕ
 indices_in set = indices_below MAX_BUFFERS set
 
--- so many, where the strengths are one
+-- this many, where the strengths are one
 abbrev pub count_if : Strength → Strength → ℕ → ℕ
 count_if strength other count = if same_strength other strength then count else 0
 
--- so many, where such a client calls and the strengths are one
+-- this many, where such a client calls and the strengths are one
 abbrev pub count_for : (ℕ → Bool) → ℕ → Strength → Strength → ℕ → ℕ
 count_for who client strength other count = if who client && same_strength other strength then count else 0
 

@@ -4,13 +4,13 @@ use Rattle.sm_names.specs.Marks.{Entry}
 use Rattle.event_laws.specs.declared.own.Own.{Own}
 use Rattle.event_laws.specs.Parts.{is_own, part_from}
 
--- the first event that the client made in a record that goes on with this event, or 0
+-- the first event of the client in a record whose first event has this number, or 0
 abbrev pub first_from : ℕ → ℕ → List Entry → ℕ
 first_from client event [] = 0
 first_from client event (e ∷ es) =
     let later = first_from client (event + 1) es in if is_own client event e then event else later
 
--- of the events after the first so many: each client's first one, and from each the next of its client
+-- of the events after the first this many: each client's first one, and from each the next of its client
 pub record Links (passed : ℕ) (first next : List ℕ) (history : List Entry) : Type 0 where
   pub all_first : length first ≡ length history
   pub all_next : length next ≡ length history

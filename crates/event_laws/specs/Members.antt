@@ -9,7 +9,7 @@ use Rattle.event_laws.specs.ByEvent.{entry_mark}
 abbrev pub makes_client : Entry → Bool
 makes_client entry = is_some (joined_at (entry_mark entry))
 
--- the clients that a record made which goes on with this event: each has the number of its Join
+-- the clients that join in a record whose first event has this number: each has the number of its Join
 abbrev pub joined_from : ℕ → List Entry → List ℕ
 joined_from event [] = []
 joined_from event (e ∷ es) =
@@ -27,7 +27,7 @@ is_among ids client = list_any (λ id. id == client) ids
 abbrev pub AreAmong : List ℕ → List ℕ → Type 0
 AreAmong ids clients = All (λ client. is_among ids client ≡ true) clients
 
--- the client joined and is not among these, but all who joined before it are
+-- the client joined and is not among these, but all that joined before it are
 pub record IsFirstAbsent (ids : List ℕ) (history : List Entry) (client : ℕ) : Type 0 where
   pub before : List ℕ
   pub after : List ℕ

@@ -11,7 +11,7 @@ own_entry event entry = record { event = event; call = entry.1; reply = entry.2 
 abbrev pub is_own : ℕ → ℕ → Entry → Bool
 is_own client event entry = entry.0 == client && nat_lt client event
 
--- what the client made in a record that goes on with this event
+-- the events of the client in a record whose first event has this number
 abbrev pub part_from : ℕ → ℕ → List Entry → List Own
 part_from client event [] = []
 part_from client event (e ∷ es) =
@@ -22,8 +22,8 @@ part_from client event (e ∷ es) =
 abbrev pub part : ℕ → List Entry → List Own
 part client history = part_from client 1 history
 
--- both lists go on, but not alike, or one of them is over: with this event the part goes on, or the list, if the part
--- is over
+-- the lists differ in their first element, or just one of them is empty: this is the event of the part's first element, or
+-- of the list's, if the part is empty
 abbrev pub BeginApart : ℕ → List Own → List Own → Type 0
 BeginApart event [] [] = ⊥
 BeginApart event (mine ∷ more) [] = mine.event ≡ event

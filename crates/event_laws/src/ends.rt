@@ -15,8 +15,8 @@ ghost use Rattle.sm_names.specs.Timelines.{timeline};
 ghost use Rattle.sm_names.specs.Words.{times};
 
 /// A Join adds the client that it made, which is the event's number and joined never before, and a
-/// Shut shuts its caller: every other event leaves the clients, and who of them is shut.
-pub fn clients_go_by_event()
+/// Shut shuts its caller: every other event leaves the clients, and which of them are shut.
+pub fn events_make_and_shut_clients()
     ensures joined { (pool : ℕ) (limits : Bound) (history : List Entry) (entry : Entry) →
         IsLegal pool limits (history ++ entry ∷ []) →
         clients (timeline pool (history ++ entry ∷ []))
@@ -33,8 +33,8 @@ pub fn clients_go_by_event()
 {}
 
 /// A parcel that an event gives to a client waits last, and one that the client gets waited first:
-/// every other event leaves what waits for it. Nothing waits for who has not joined.
-pub fn parcels_go_by_event()
+/// every other event leaves what waits for it. Nothing waits for a client that has not joined.
+pub fn events_move_parcels()
     ensures given { (pool : ℕ) (limits : Bound) (history : List Entry) (entry : Entry) →
         IsLegal pool limits (history ++ entry ∷ []) → (client : ℕ) (parcel : Parcel) →
         given_at client (entry_mark entry) ≡ Some parcel →
@@ -83,7 +83,7 @@ pub fn ends_are_in_one_parcel()
 /// A Close or a Release spends an end, a Give puts one into a parcel and leaves its holder, and a
 /// Collect takes one out and makes its caller the holder, and a Bind makes a collection of a token:
 /// every other event leaves the ends that there are. A new node's end is its caller's token.
-pub fn ends_go_by_event()
+pub fn events_move_ends()
     ensures spent { (pool : ℕ) (limits : Bound) (history : List Entry) (entry : Entry) →
         IsLegal pool limits (history ++ entry ∷ []) → (node : NodeKey) →
         spent (timeline pool (history ++ entry ∷ [])) node
@@ -115,7 +115,7 @@ pub fn ends_go_by_event()
 
 /// An end that is given or spent was not spent, in no parcel and its caller's, and one that is
 /// collected was in a parcel, and not spent.
-pub fn ends_are_there_to_go()
+pub fn moved_and_spent_ends_are_held()
     ensures given { (pool : ℕ) (limits : Bound) (history : List Entry) (entry : Entry) →
         IsLegal pool limits (history ++ entry ∷ []) → (node : NodeKey) →
         sends node (entry_mark entry) ≡ true →

@@ -20,7 +20,7 @@ ghost use Rattle.sm_names.specs.Timelines.{timeline};
 
 /// Marks that are no event leave everyone's handles, parcels and ends as they are, and make no
 /// client and no node: so after an event these read as after its own mark.
-pub fn only_calls_move_things()
+pub fn forced_marks_move_nothing()
     ensures mark { (marks : Timeline) (mark : Mark) → is_event mark ≡ false →
         SameHands marks (mark ∷ marks) }
     ensures event { (pool : ℕ) (history : List Entry) (entry : Entry) →
@@ -31,7 +31,7 @@ pub fn only_calls_move_things()
 /// Each event changes what a client has open, what is open in all and what is in parcels by what
 /// its mark opens, drops, gives and collects, one handle at most of each buffer and strength. What
 /// is dropped or given was open, and what is collected was in a parcel.
-pub fn handles_go_by_event()
+pub fn events_move_handles()
     ensures each { (pool : ℕ) (limits : Bound) (history : List Entry) (entry : Entry) →
         IsLegal pool limits (history ++ entry ∷ []) →
         (client : ℕ) (buffer : BufferName) (strength : Strength) →
@@ -156,7 +156,7 @@ pub fn other_events_leave_handles()
 {}
 
 /// In a legal history each handle that is open, or in a parcel, is on a buffer of an allocated
-/// collection, and who has not joined has none open.
+/// collection, and a client that has not joined has none open.
 pub fn handles_are_on_buffers()
     ensures each { (pool : ℕ) (limits : Bound) (history : List Entry) →
         IsLegal pool limits history →

@@ -90,7 +90,7 @@ pub fn events_fire_their_collection()
 
 /// What a tracker that waits is waiting for does not hold. So a node that is tracked is not gone,
 /// a node whose lifetime is tracked was allocated if it is gone, and a buffer is not doomed.
-pub fn waiting_is_not_over()
+pub fn waiting_trackers_are_not_due()
     ensures undue { (marks : Timeline) →
         All (λ (t : Tracked). is_tracked_met (world marks) t ≡ false) (unfired_trackers marks) }
     ensures kept { (marks : Timeline) →
@@ -109,7 +109,7 @@ pub fn allocated_is_for_good()
 
 /// Nodes that were gone and buffers that were home before an event may be forgotten: a program that
 /// takes such a node for allocated, and does not know such a buffer, finds the same trackers due.
-pub fn what_is_over_may_be_forgotten()
+pub fn gone_nodes_and_home_buffers_may_be_forgotten()
     ensures { (pool : ℕ) (limits : Bound) (history : List Entry) (entry : Entry) →
         IsLegal pool limits (history ++ entry ∷ []) → (w : World) →
         IsRecalled (timeline pool history) (timeline pool (history ++ entry ∷ [])) w →

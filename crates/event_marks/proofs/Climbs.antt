@@ -15,7 +15,7 @@ use Rattle.forest_store.proofs.lists.Lookups.{same_key-swap}
 use Rattle.event_marks.specs.KeySets.{climbed_past, climbs_into}
 use mathlib.Core.List.{reverse_aux}
 
--- a climb from the one key, through these, the newest first, comes to the other
+-- a climb from the one key, through these, the newest first, reaches the other
 abbrev passes : List Node → NodeKey → NodeKey → Bool
 passes xs at key = list_any (same_key key) (at ∷ above_among xs at)
 
@@ -28,7 +28,7 @@ passes_from older n key =
 passes_own : (key : NodeKey) → passes [] key key ≡ true
 passes_own key = or_left (same_key key key) false (same_key-refl key)
 
--- a climb from the newest node's own key goes to its parent
+-- a climb from the newest node's own key reaches its parent
 passes_here : (older : List Node) (n : Node) (key : NodeKey) → passes (n ∷ older) n.key key ≡ passes_from older n key
 passes_here older n key = rw (same_key-refl n.key) refl
 

@@ -161,7 +161,7 @@ module _ (marks : Timeline) (buffer : BufferName) where
       ∙ ap not (some_sum (sum_by (λ client. open_of marks client buffer strength) (clients marks)) (moving marks buffer strength)
       ∙ ap (λ (b : Bool). b || parcels_have strength) (some_sum_by (λ client. open_of marks client buffer strength) (clients marks))))
 
-  -- who keeps it
+  -- its holder
   kept_by : (live strong strong_moving weak weak_moving : Bool) →
       not ((not (strong || strong_moving) && not live) && not (weak || weak_moving))
       ≡ (live || ((strong || weak) || (strong_moving || (weak_moving || false))))

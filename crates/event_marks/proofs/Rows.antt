@@ -1,4 +1,4 @@
--- The rows of who hands on what takes a node: each node that is taken stands in one, below its parent.
+-- The rows of nodes that propagate a mark to their children: each taken node stands in one, below its parent.
 use Rattle.std.proofs.Common.{◌≡◌, refl, ap, sym, ◌∙◌, subst, true, false, not, ◌&&◌, nat_lt, ◌⊎◌, inl, inr, List, [], ◌∷◌, reverse, length, Option, Some, None, arith}
 use Rattle.std.proofs.lemmas.Bool.{lt-ltb, not-true}
 use Rattle.std.specs.List.{list_any}

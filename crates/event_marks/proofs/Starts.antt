@@ -9,7 +9,7 @@ use Rattle.sm_names.proofs.SamenessLaws.{and_both, and_left, and_right, either_w
 use Rattle.buffer_pool.specs.Holes.{end_of}
 use Rattle.event_marks.proofs.Ranges.{find_from, find_nothing, find_to}
 
--- so many pages from a start on
+-- this many pages from a start on
 abbrev at_pages : ℕ → ℕ → Interval
 at_pages pages start = record { start = start; pages = pages }
 

@@ -29,7 +29,7 @@ abbrev pub open_one : Bool → ℕ
 open_one true = 0
 open_one false = 1
 
--- how many steps there may be: each node goes once, and gets its buffers once
+-- how many steps there may be: each node fails or ends at most once, and gets buffers at most once
 abbrev pub steps_left : List Node → ℕ
 steps_left [] = 0
 steps_left (n ∷ ns) = (open_one n.gone + open_one n.allocated) + steps_left ns

@@ -15,7 +15,7 @@ pub struct KeySet {
 }
 
 impl KeySet {
-    /// No keys. Takes a constant time.
+    /// No keys. Takes O(1) time.
     pub fn new(alloc: Global) -> KeySet
         ensures { (key : Key) → is_in result key ≡ false }
     {

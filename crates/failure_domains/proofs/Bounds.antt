@@ -1,4 +1,4 @@
--- A walk down within a bound: it goes to children alone, and lists what lies within the bound.
+-- A walk down within a bound: it visits children alone, and lists the nodes within the bound.
 use Rattle.std.proofs.Common.{◌≡◌, ◌≢◌, ◌↔◌, ℕ, zero, suc, ◌+◌, ◌<◌, Bool, true, false, ◌&&◌, not, if◌then◌else◌, inl, inr, List, [], ◌∷◌, length, take, get_or, AllPairs, Contains, Option, Some, None, arith, refl, ap, sym, ◌∙◌, subst}
 use Rattle.std.specs.Option.{option_map_or}
 use Rattle.std.specs.List.{flat_map}
@@ -30,7 +30,7 @@ none_stops true None = refl
 none_stops true (Some n) = refl
 none_stops false o = refl
 
--- without a bound the walk goes to each child
+-- without a bound the walk visits each child
 pub all_within : {N : Type 0} (t : Table N) (top : NodeKey) → children_within (λ _. false) t top ≡ children_at t
 all_within t top = λ i key. if none_stops (not (same_key key top)) (node_at t key) i then [] else children_at t key
 
@@ -43,11 +43,11 @@ module _ {N : Type 0} (stops : N → Bool) (t : Table N) (top : NodeKey) where
   abbrev stopped : NodeKey → Bool
   stopped = stopped_at stops t top
 
-  -- what the walk goes to is a child
+  -- each node that the walk visits is a child
   pub within_fewer : (parent child : NodeKey) → Contains (down parent) child → Contains (children_at t parent) child
   within_fewer parent child there = (given_if (stopped parent) (children_at t parent) child there).1
 
-  -- the first key is the top, which the walk goes on from; so what is known after any key is known from then on
+  -- the first key is the top, where the walk starts; so what is known after any key is known from then on
   pub first_goes_on : (K : Type 0) (taken : ℕ) (keys : List NodeKey) → keys ≡ top ∷ flat_map down (take taken keys) → (key : NodeKey) →
       key ≡ get_or keys taken key → (0 < taken → K) → (stopped key ≡ false → K) → K
   first_goes_on K zero keys layers key is before after =

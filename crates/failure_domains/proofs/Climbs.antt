@@ -1,4 +1,4 @@
--- A climb: it reaches what it comes to, and counts the links.
+-- A climb: the failure reaches each node on it, and it counts the links.
 use Rattle.std.proofs.Common.{◌≡◌, ℕ, zero, suc, ◌+◌, ◌<◌, ◌≤◌, ◌==◌, Bool, true, false, cond, List, [], ◌∷◌, slice_index_or, count_by, Option, Some, None, is_some, IsSome, arith, refl, ap, ◌∙◌}
 use Rattle.std.proofs.lemmas.List.Sums.{sum_by-cons}
 use Rattle.sm_names.specs.declared.keys.NodeKey.{NodeKey}
@@ -71,11 +71,11 @@ module _ {N : Type 0} (blocks : N → Bool) (t : Table N) (forest : IsForest t) 
       ap (λ most. links_within blocks t most below) deep ∙ (rw goes refl)
 
   module _ (origin : NodeKey) where
-    -- a climb of so many steps from the origin to the top, over links that nothing blocks
+    -- a climb of this many steps from the origin to the top, over links that nothing blocks
     abbrev IsClimb : NodeKey → ℕ → Type 0
     IsClimb top steps = Climb (parent_at t) (blocked_at blocks t) origin top steps
 
-    -- each step goes one up
+    -- each step climbs one link
     pub climb_depth : (top : NodeKey) (steps : ℕ) → IsClimb top steps → depth_at t origin ≡ steps + depth_at t top
     climb_depth _ _ Start = omega arith
     climb_depth _ _ (Step below above steps path open_link parent) =
@@ -94,14 +94,14 @@ module _ {N : Type 0} (blocks : N → Bool) (t : Table N) (forest : IsForest t) 
         links_climbed-step below above (way_up-open below above open_link parent) in
         omega arith
 
-    -- a failure of the origin takes what a climb comes to
+    -- a failure of the origin takes each node that a climb reaches
     pub climb_reaches : (top : NodeKey) (steps : ℕ) → IsClimb top steps →
         Reach (parent_at t) (blocked_at blocks t) origin top
     climb_reaches _ _ Start = Origin
     climb_reaches _ _ (Step below above steps path open_link parent) =
         Up below above (climb_reaches below steps path) open_link parent
 
-    -- the origin has what goes down from the top to every child
+    -- the failure propagates from the top down to every child
     pub climb_descends : (P : NodeKey → Type 0) →
         ((above child : NodeKey) → P above → parent_at t child ≡ Some above → P child) →
         (top : NodeKey) (steps : ℕ) → IsClimb top steps → P top → P origin

@@ -11,9 +11,9 @@ use Rattle.failure_domains.specs.Falls.{IsByLayers}
 use Rattle.failure_domains.specs.Walks.{IsWalk}
 use Rattle.failure_domains.proofs.Lists.{AllPairs-append, Contains-cases, flat_map_source}
 
--- A walk may leave out the children of some keys: those that it goes to are children, and each is one.
+-- A walk may leave out the children of some keys: each key that it visits is a child.
 module _ {N : Type 0} (t : Table N) (top : NodeKey) (down : NodeKey → List NodeKey) where
-  -- the keys are the list of a walk down from the top, of which so many were taken
+  -- the keys are the list of a walk down from the top, of which this many were taken
   abbrev Walk : ℕ → List NodeKey → Type 0
   Walk taken keys = IsWalk (down) (depth_at t) top taken keys
 

@@ -61,7 +61,7 @@ module _ {N : Type 0} (blocks : N → Bool) (t : Table N) (forest : IsForest t)
       omega arith
 
   module _ (ends : way_up blocks t top ≡ None) where
-    -- what is taken is a key: nothing goes up from the top, and all else keeps below it
+    -- what is taken is a key: nothing propagates up from the top, and all else stays below it
     taken_is_key : (key : NodeKey) → Reach (parent_at t) (blocked_at blocks t) origin key → Contains keys key
     taken_is_key _ Origin = has_origin
     taken_is_key _ (Up child above reach open_link parent) =

@@ -8,7 +8,7 @@ use Rattle.node_table.specs.Table.{Table, row_at, children_at, next_at, table_le
 use Rattle.node_table.specs.Forest.{IsForest}
 use Rattle.node_table.proofs.Depths.{row-then, there-above}
 
--- so many slots from this one on have something
+-- this many slots from this one on have something
 abbrev full : {X : Type 0} → List (Option X) → ℕ
 full slots = count_by is_some slots
 

@@ -1,5 +1,5 @@
--- How a failure goes through the nodes of a table: up over the links that do not block, and down to every child.
--- What it takes is the least set `Reach` of sm_names, over the table's links and `blocked_at`.
+-- How a failure propagates through the nodes of a table: up over the links that do not block, and down to every child.
+-- The nodes that it takes are the least set `Reach` of sm_names, over the table's links and `blocked_at`.
 use Rattle.std.specs.Prelude.{◌≡◌, ℕ, zero, suc, Bool, false, ◌&&◌, not, List, [], ◌∷◌, Option, Some, None, if◌then◌else◌}
 use Rattle.std.specs.List.{flat_map}
 use Rattle.std.specs.Option.{option_map_or}
@@ -13,16 +13,16 @@ module _ {N : Type 0} (blocks : N → Bool) (t : Table N) where
   abbrev pub blocked_at : NodeKey → Bool
   blocked_at key = option_map_or blocks (node_at t key) false
 
-  -- the parent that a failure of the node goes to, if it goes to one
+  -- the parent that a failure of the node propagates to, if any
   abbrev pub way_up : NodeKey → Option NodeKey
   way_up key = if blocked_at key then None else parent_at t key
 
-  -- how many links a failure of the node goes up, counted up to this many
+  -- how many links a failure of the node climbs, at most this many
   abbrev pub links_within : ℕ → NodeKey → ℕ
   links_within zero key = 0
   links_within (suc most) key = option_map_or (λ above. suc (links_within most above)) (way_up key) 0
 
-  -- how many links a failure of the origin goes up, one after the other: no more than lie above it
+  -- how many links a failure of the origin climbs: at most its depth
   abbrev pub links_climbed : NodeKey → ℕ
   links_climbed origin = links_within (depth_at t origin) origin
 
@@ -31,7 +31,7 @@ module _ {N : Type 0} (stops : N → Bool) (t : Table N) (top : NodeKey) where
   abbrev pub stopped_at : NodeKey → Bool
   stopped_at key = not (same_key key top) && option_map_or stops (node_at t key) false
 
-  -- the children that such a walk goes to from the key
+  -- the children that such a walk visits from the key
   abbrev pub children_within : NodeKey → List NodeKey
   children_within key = if stopped_at key then [] else children_at t key
 

@@ -3,14 +3,14 @@ use Rattle.std.specs.Prelude.{◌≡◌, ◌≢◌, ℕ, suc, ◌+◌, ◌<◌, 
 use Rattle.std.specs.List.{flat_map}
 use Rattle.sm_names.specs.declared.keys.NodeKey.{NodeKey}
 
--- so many links that don't block, one after the other, lead from the origin up to the node
+-- this many links that don't block, one after the other, lead from the origin up to the node
 pub data Climb (parent : NodeKey → Option NodeKey) (blocked : NodeKey → Bool) (origin : NodeKey)
     : NodeKey → ℕ → Type 0 where
   Start : Climb parent blocked origin origin 0
   Step : (below above : NodeKey) (steps : ℕ) → Climb parent blocked origin below steps → blocked below ≡ false →
       parent below ≡ Some above → Climb parent blocked origin above (suc steps)
 
--- the list of a walk down from the top, after so many of its keys were taken
+-- the list of a walk down from the top, after this many of its keys were taken
 pub record IsWalk (children : NodeKey → List NodeKey) (depth : NodeKey → ℕ)
     (top : NodeKey) (taken : ℕ) (keys : List NodeKey) : Type 0 where
   -- the children of each key that was taken were appended

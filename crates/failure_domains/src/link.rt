@@ -8,7 +8,7 @@ pub trait Link {
     /// Whether a failure of the node does not reach its parent, as of a node that is attached
     /// (`fuchsia.sysmem2.BufferCollection.AttachToken`) or dispensable
     /// (`fuchsia.sysmem2.BufferCollectionToken.SetDispensable`). It takes all below the node in any
-    /// case. `fall` asks once for each node of its climb, and counts on a constant time.
+    /// case. `fall` asks once for each node of its climb, and counts on O(1) time.
     fn blocks(&self) -> bool
         ensures { result ≡ blocks self.now };
 }
@@ -17,8 +17,8 @@ pub trait Link {
 pub trait Bound<N> {
     ghost stops: { Self → N → Bool };
 
-    /// Whether a walk that comes to the node leaves out all below it. `walk_within` asks once for
-    /// each node that it lists below its top, and counts on a constant time.
+    /// Whether a walk that reaches the node leaves out all below it. `walk_within` asks once for
+    /// each node that it lists below its top, and counts on O(1) time.
     fn stops(&self, node: &N) -> bool
         ensures { result ≡ stops self.now node.now };
 }

@@ -18,7 +18,7 @@ unit_over t us head = option_and_then
     (λ p. option_and_then (λ (n : Node). when (is_held_once t us n) n.head) (node_at t p))
     (parent_at t head)
 
--- the head that so many steps up from unit to unit come to at most
+-- the head that this many steps up from unit to unit come to at most
 abbrev pub climbed : ℕ → Table Node → List Unit → NodeKey → NodeKey
 climbed zero t us head = head
 climbed (suc n) t us head = option_map_or (climbed n t us) (unit_over t us head) head

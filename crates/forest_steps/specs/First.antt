@@ -1,4 +1,4 @@
--- The first allocation of a collection, made in its place with those of the units that follow. No public clause of `alloc_event` cites this module.
+-- The initial allocation of a collection, and the logical allocations that follow it. No public clause of `alloc_event` cites this module.
 use Rattle.std.specs.Prelude.{◌≡◌, ℕ, ◌++◌, max, List, length, Some}
 use Rattle.std.specs.List.{sum_by}
 use Rattle.sm_names.specs.declared.keys.HeldBuffer.{HeldBuffer}
@@ -16,7 +16,7 @@ wanted_of asked = record {
   size = greatest (λ d. d.size) asked;
 }
 
--- so many buffers were placed, and stand before the others
+-- this many buffers were placed, and stand before the others
 pub record IsLaid (old new : Holdings) (id : ℕ) (wants : Buffers) (others held : List HeldBuffer) : Type 0 where
   pub starts : List ℕ
   pub many : length starts ≡ wants.count

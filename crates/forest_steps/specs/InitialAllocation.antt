@@ -1,4 +1,4 @@
--- The first allocation of a collection, whatever it comes to, made in its place. No public clause of `alloc_event` cites this module.
+-- The initial allocation of a collection, and its outcome. No public clause of `alloc_event` cites this module.
 use Rattle.std.specs.Prelude.{◌≡◌, ℕ, ◌≤◌, ◌⊎◌, Bool, true, false, ◌||◌, ◌&&◌, ◌==◌, not, nat_lt, if◌then◌else◌, List, [], ◌∷◌, Option, Some, None, Result, Ok, Err, IfOk}
 use Rattle.std.specs.List.{filter_map, sum_by}
 use Rattle.std.specs.Option.{option_and_then, option_map_or}
@@ -44,13 +44,13 @@ is_held_ready unit = unit.unready == 0 && is_held_by unit
 abbrev pub is_bare_root : Table Node → NodeKey → Bool
 is_bare_root t key = option_map_or (λ (n : Node). is_root_left n && not n.allocated) (node_at t key) false
 
--- by the effect on the node with this key the root's unit comes to its allocation, by the counts
+-- the effect on the node with this key makes the root's unit ready, by the counts
 abbrev pub comes_first : Table Node → List Unit → NodeKey → Effect → Bool
 comes_first t us key effect = option_map_or
     (λ (n : Node). is_bare_root t n.head && is_held_ready (unit_then us n (affected key effect n)))
     (node_at t key) false
 
--- ---- what it comes to
+-- ---- its outcome
 
 -- what the unit is to be given, which wants this, or why it can't be given any, whatever pages are held
 abbrev pub wants_of : Bool → Buffers → Result Buffers Failure
@@ -68,7 +68,7 @@ AreSome wants = (1 ≤ wants.count) × (wants.count ≤ MAX_BUFFERS) × (1 ≤ w
 abbrev pub has_buffers_then : NodeKey → Node → Bool
 has_buffers_then head n = not n.gone && (same_key head n.head || n.allocated)
 
--- what the node with this key asks for, if it is so, where this node is in the place of the one with its key
+-- what the node with this key asks for, if it has buffers then, where `after` replaces the node with its key
 abbrev pub allocated_at : Table Node → NodeKey → Node → NodeKey → Option Demand
 allocated_at t head after key = option_and_then
     (λ (n : Node). if has_buffers_then head (written after n) then (written after n).constraints else None) (node_at t key)
@@ -77,14 +77,14 @@ allocated_at t head after key = option_and_then
 abbrev pub allocated_with : Table Node → List NodeKey → NodeKey → Node → List Demand
 allocated_with t keys head after = filter_map (allocated_at t head after) keys
 
--- so many buffers are reserved once the unit with this head is allocated, which camps on so many, where this node is in the place of the
+-- this many buffers are reserved once the unit with this head is allocated, which camps on this many, where this node is in the place of the
 -- one with its key
 abbrev pub IsReservedThen : Table Node → Entry → NodeKey → Node → ℕ → ℕ → Type 0
 IsReservedThen t e head after camping result =
     ((e.reserved ≡ 0) × (result ≡ camping)) ⊎ (result ≡ sum_by (λ (d : Demand). d.camping) (allocated_with t e.keys.items head after))
 
--- by the effect the root's unit comes to its allocation: this is its head, this is what it wants, or why it can't be given any, and
--- so much is reserved once it is allocated
+-- the effect makes the root's unit ready: the plan has its head, what it wants or why it can't get buffers, and how much is
+-- reserved once it is allocated
 pub record IsPlanned (t : Table Node) (us : List Unit) (e : Entry) (key : NodeKey) (effect : Effect) (plan : Plan) : Type 0 where
   pub node : Node
   pub was : node_at t key ≡ Some node

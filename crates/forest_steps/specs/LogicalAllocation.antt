@@ -1,4 +1,4 @@
--- An attached unit that comes to its turn. No public clause of `alloc_event` cites this module.
+-- The logical allocation of a pending attached unit. No public clause of `alloc_event` cites this module.
 use Rattle.std.specs.Prelude.{◌≢◌, ◌↔◌, Bool, ◌&&◌, ◌==◌, List, AllPairs, Contains, Option}
 use Rattle.std.specs.Option.{option_and_then}
 use Rattle.sm_names.specs.declared.keys.NodeKey.{NodeKey}

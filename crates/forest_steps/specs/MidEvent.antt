@@ -70,7 +70,7 @@ turn_heads ws = map (λ (w : PendingUnit). w.head) ws
 abbrev pub ArePlaced : List NodeKey → List PendingUnit → Type 0
 ArePlaced keys ws = (w : PendingUnit) → In w ws → IsPlace keys w.head w.place
 
--- each does so, if its head is among the keys
+-- each of them has the place of its head, if that is among the keys
 abbrev pub ArePlacedIfThere : List NodeKey → List PendingUnit → Type 0
 ArePlacedIfThere keys ws = (w : PendingUnit) → In w ws → list_any (same_key w.head) keys ≡ true → IsPlace keys w.head w.place
 
@@ -138,7 +138,7 @@ pub record AfterEffect (t now : Table Node) (us : List Unit) (ss : List Shelf) (
   pub left : is_head_left (nodes_with now old.keys.items) head ≡ true
   pub beside : IsBeside t now ss old.id
 
--- ---- what goes
+-- ---- nodes that are removed
 
 -- the nodes once this one is lost by the fault, or without one once it ended
 abbrev pub gone_down : Option Fault → NodeKey → List Node → List Node

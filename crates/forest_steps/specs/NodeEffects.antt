@@ -72,7 +72,7 @@ IsWorkedOutAt s at made = (e : Entry) → e ≡ get_or s.entries.items at e → 
 abbrev pub may_force : Option EffectCounts → Bool
 may_force counts = option_map_or (λ (c : EffectCounts). c.due || not (is_held_by c.unit)) counts false
 
--- so many strong nodes of the collection are live then
+-- this many strong nodes of the collection are live then
 abbrev pub strong_then : Entry → Option EffectCounts → ℕ
 strong_then e counts = option_map_or (λ (c : EffectCounts). c.strong) counts e.strong
 

@@ -4,7 +4,7 @@ use Rattle.sm_names.specs.declared.outcomes.Buffers.{Buffers}
 use Rattle.sm_names.specs.declared.outcomes.Failure.{Failure}
 use Rattle.sm_names.specs.Words.{first_some, when}
 
--- why so many buffers of this size are not enough, where so many are reserved, so many camped on besides, and they are to be so
+-- why this many buffers of this size are not enough, where this many are reserved, this many camped on besides, and they are to be so
 -- many at least, and of this size
 abbrev pub refusal : Buffers → ℕ → ℕ → ℕ → ℕ → Option Failure
 refusal buffers reserved camping at_least size = first_some (

@@ -1,4 +1,4 @@
--- What a failure takes goes, by it or without a fault. No public clause of `alloc_event` cites this module.
+-- The removal of the nodes that a loss or an end takes: by a loss they fail, by an end they have no fault. No public clause of `alloc_event` cites this module.
 use Rattle.std.specs.Prelude.{◌≡◌, ℕ, ◌+◌, ◌-◌, true, false, List, [], ◌∷◌, map, Option, None}
 use Rattle.std.specs.List.{list_any}
 use Rattle.std.specs.Option.{option_map_or}

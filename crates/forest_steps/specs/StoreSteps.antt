@@ -56,12 +56,12 @@ ReadyAt s at change = IsReadyAt s.nodes.table s.entries.items s.nodes.units.item
 abbrev pub ReadyFor : Store → ℕ → Change → Type 0
 ReadyFor s id change = IsReady s.nodes.table s.entries.items s.nodes.units.items id change
 
--- what comes of it at that place
+-- the outcome of the change to the collection at that place
 abbrev pub OutcomeAt : Bool → Handles → Holdings → Holdings → Store → Store → ℕ → Change → Type 0
 OutcomeAt made handles pool after old new at change =
     IsOutcomeAt made handles pool after old.nodes.table new.nodes.table old.entries.items new.entries.items new.nodes.units.items at change
 
--- what comes of it of the collection with this id
+-- the outcome of the change to the collection with this id
 abbrev pub OutcomeOf : Bool → Handles → Holdings → Holdings → Store → Store → ℕ → Change → Type 0
 OutcomeOf made handles pool after old new id change =
     IsOutcomeOf made handles pool after old.nodes.table new.nodes.table old.entries.items new.entries.items new.nodes.units.items id change
@@ -96,7 +96,7 @@ UnbornIn pool after old new =
 
 -- ---- room, and rows
 
--- what goes, and the units that have their turns, have room in their lists for as many as there are nodes
+-- the lists of removed nodes and of pending units have room for as many as there are nodes
 pub record HasRoom (s : NodeStore) (room : Scratch) : Type 0 where
   pub going : table_len s.table ≤ vec_capacity room.removed
   pub turns : table_len s.table ≤ vec_capacity room.pending

@@ -50,7 +50,7 @@ fn is_at_rest(table: &NodeTable<Node>, entry: &Entry, holds: &Holds) -> bool
     !is_abandoned(table, entry, holds) && no_buffer_home(&entry.held, holds, false)
 }
 
-/// Whether so many strong live nodes keep the collection, or it rests without one. It looks at the
+/// Whether this many strong live nodes keep the collection, or it rests without one. It looks at the
 /// handles only where there is none.
 #[inline(always)]
 pub(crate) fn is_kept_by(

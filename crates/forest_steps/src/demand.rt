@@ -26,7 +26,7 @@ pub(crate) fn unit_demand(node: &Node, head: NodeKey) -> Option<Constraints>
     }
 }
 
-/// Why the buffers are not enough, of which so many are reserved, where this is asked for besides:
+/// Why the buffers are not enough, of which this many are reserved, where this is asked for besides:
 /// they are too few, or else too small.
 pub(crate) fn refusal(buffers: Buffers, reserved: u128, asks: &TotalDemand) -> Option<Failure>
     ensures { result ≡ why buffers reserved asks.now.camping asks.now.at_least asks.now.size }

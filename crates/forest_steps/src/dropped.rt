@@ -156,7 +156,7 @@ pub(crate) fn is_strong_open(id: CollectionId, buffers: Option<Buffers>, holds: 
     }
 }
 
-/// The same of so many buffers.
+/// The same of this many buffers.
 fn is_any_open(id: CollectionId, count: u8, holds: &Holds) -> bool
     ensures { result ≡ list_any (λ b. nat_lt 0 (total holds.now b Grade.Strong)) (names id count) }
 {

@@ -46,7 +46,7 @@ use sm_names::{
     NoMemory, NodeKey,
 };
 
-/// The root's unit that comes to its allocation by an effect.
+/// The root's unit, which an effect makes ready for its allocation.
 #[derive(Drop)]
 struct Plan {
     /// Its head.
@@ -57,7 +57,7 @@ struct Plan {
     reserved: u128,
 }
 
-/// What the allocation comes to.
+/// The outcome of the allocation.
 #[derive(Drop)]
 enum AllocationOutcome {
     /// The root fails by this.
@@ -94,7 +94,7 @@ fn root_total(table: &NodeTable<Node>, keys: &[NodeKey], head: NodeKey, after: &
         ≡ greatest (λ d. d.size) (asked_with table.now keys.now (head ∷ []) after.now) }
     ensures in_range { result.size ≤ MAX_SIZE }
 
-    // Only who asks for no size asks for no buffer.
+    // A node that asks for no size asks for no buffer.
     ensures some { result.size ≡ 0 → result.camping + result.at_least ≡ 0 }
 {
     let those = [head];
@@ -124,8 +124,8 @@ fn allocated_demand(node: &Node, head: NodeKey) -> Option<Constraints>
     }
 }
 
-/// What the node with this key asks for, if it is so, where this node is in the place of the one with
-/// its key.
+/// What the node with this key asks for, if it has buffers once this head's unit is allocated. The node
+/// `after` replaces the one with its key.
 fn allocated_at(
     table: &NodeTable<Node>,
     head: NodeKey,
@@ -157,7 +157,7 @@ fn reserved_then(table: &NodeTable<Node>, keys: &[NodeKey], head: NodeKey, after
     camping
 }
 
-/// What the unit is to be given that asks for this, where so many strong nodes are live, or why it
+/// What the unit is to be given that asks for this, where this many strong nodes are live, or why it
 /// can't be given any buffers. The pool is not asked.
 fn wanted(asks: &TotalDemand, strong: usize) -> Result<Buffers, Failure>
     requires in_range { asks.now.size ≤ MAX_SIZE }
@@ -184,7 +184,7 @@ fn wanted(asks: &TotalDemand, strong: usize) -> Result<Buffers, Failure>
     })
 }
 
-/// How many buffers are reserved once the unit with this head is allocated, which camps on so many, and
+/// How many buffers are reserved once the unit with this head is allocated, which camps on this many, and
 /// this node is in the place of the one with its key. Before the first allocation none are; where some
 /// were, all are counted.
 fn reserved_with(
@@ -203,7 +203,7 @@ fn reserved_with(
     }
 }
 
-/// What the first allocation comes to before the pool is asked, if the effect, with these counts, makes
+/// The plan of the initial allocation, before the pool is asked, if the effect, with these counts, makes
 /// the root's unit ready while it has no buffers, and something holds it then. The keys of the unit, and
 /// of the attached nodes right below it, are listed for it. It takes no memory.
 fn planned(
@@ -381,7 +381,7 @@ fn settle_first(
 /// it did; if not, the root's unit does not wait for its buffers after the effect, or nothing holds it
 /// then, and nothing changed.
 ///
-/// It costs a constant. Where the unit is ready, it costs besides a few reads of each
+/// It costs O(1). Where the unit is ready, it costs besides a few reads of each
 /// node of the unit and of each attached node right below it, a write of each node of the unit, what the
 /// places of the buffers cost, and what the turns cost, or, where the root is lost, O(1) for each node of
 /// the collection; and at last what `finish_event` costs. `NoMemory` where the room for the held buffers

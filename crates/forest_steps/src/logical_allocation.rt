@@ -1,4 +1,4 @@
-//! An attached unit that comes to its turn: it is allocated, or it is refused, and fails.
+//! The logical allocation of a pending attached unit: it is allocated, or it is refused and fails.
 ghost use Rattle.std.specs.List.{filter_map, sum_by};
 ghost use Rattle.std.specs.Prelude.{◌≡◌, ◌≤◌, ◌∷◌, [], List, ℕ, Some, true, false, IsSome, vec_capacity};
 ghost use Rattle.sm_names.specs.Demands.{Demand};

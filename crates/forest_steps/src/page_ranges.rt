@@ -6,7 +6,7 @@ ghost use Rattle.forest_steps.specs.Runs.{rest_of, HoldsRun};
 use buffer_pool::Pool;
 use sm_names::Interval;
 
-/// So many intervals of as many pages, side by side from a page on.
+/// This many intervals of as many pages, side by side from a page on.
 #[derive(Clone, Copy)]
 pub(crate) struct PageRange {
     pub(crate) start: u32,

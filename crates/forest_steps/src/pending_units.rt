@@ -47,8 +47,8 @@ fn place_by_pass(keys: &[NodeKey], key: NodeKey) -> usize
     0
 }
 
-/// The unit with this head, which stands among the keys, as it comes to its turn. Its place is looked
-/// for beside this one first, then by birth, and at last in a pass over the keys.
+/// The pending unit with this head, which is one of the keys. Its place is searched beside `near` first,
+/// then by birth, and at last in a pass over the keys.
 fn pending_of(table: &NodeTable<Node>, keys: &[NodeKey], near: usize, head: NodeKey) -> PendingUnit
     ensures head { result.head ≡ head }
     ensures placed { list_any (same_key head) keys.now ≡ true → IsPlace keys.now head result.place }

@@ -11,7 +11,7 @@ use sm_names::{
     MAX_SIZE, NoMemory, NodeKey, PAGE_SIZE,
 };
 
-/// Places so many buffers of the collection in the pool, and answers them with the others behind them.
+/// Places this many buffers of the collection in the pool, and answers them with the others behind them.
 /// `None` where the pool is full. With `None` and `NoMemory` the pool is as it was.
 pub(crate) fn place_buffers(
     pool: &mut Pool,
@@ -41,7 +41,7 @@ pub(crate) fn place_buffers(
     }
 }
 
-/// The pages that so many bytes take.
+/// The pages that this many bytes take.
 fn pages_of(size: u32) -> u32
     requires { (1 ≤ size) × (size ≤ MAX_SIZE) }
     ensures value { result ≡ pages_taken size }

@@ -91,7 +91,7 @@ pub(crate) fn look_at(pool: &Pool)
     let _free = pool.free_pages();
 }
 
-/// The buffers that are home are not held any longer. So many are not.
+/// The buffers that are home are not held any longer. This many are not.
 fn keep_held(held: &mut Vec<HeldBuffer>, holds: &Holds, strong_live: bool, out: usize)
     requires { out ≡ length (filter (is_out (total holds.now) strong_live) held.old.items) }
     ensures { held.new.items ≡ filter (is_out (total holds.now) strong_live) held.old.items }

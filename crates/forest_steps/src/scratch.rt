@@ -31,7 +31,7 @@ impl Scratch {
         }
     }
 
-    /// Makes room for so many nodes in each list. It costs a constant, growth spread over the calls.
+    /// Makes room for this many nodes in each list. It costs O(1), growth spread over the calls.
     pub fn reserve(&mut self, nodes: usize) -> Result<(), NoMemory>
         ensures removed { OnOk result (nodes ≤ vec_capacity self.new.removed) }
         ensures unit { OnOk result (nodes ≤ vec_capacity self.new.unit) }
@@ -48,7 +48,7 @@ impl Scratch {
     }
 }
 
-// Makes room for so many in this list, and answers whether there is.
+// Makes room for this many in this list, and answers whether there is.
 fn make_in<T>(list: &mut Vec<T>, most: usize) -> bool
     ensures { result ≡ true → most ≤ vec_capacity list.new }
 {

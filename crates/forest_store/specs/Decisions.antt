@@ -1,4 +1,4 @@
--- Which step is forced next, by the nodes as they are kept, and the mark that it comes to.
+-- Which step is forced next, by the nodes as they are kept, and the mark that it leaves in the history.
 use Rattle.std.specs.Prelude.{ℕ, ◌≤◌, ◌+◌, Bool, true, false, ◌||◌, ◌&&◌, ◌==◌, not, nat_lt, max, List, [], ◌∷◌, Option, ◌≡◌, is_none}
 use Rattle.std.specs.List.{list_any, list_all, find, sum_by}
 use Rattle.std.specs.Option.{option_map, option_map_or, option_and_then}
@@ -29,7 +29,7 @@ pub data Decision : Type 0 where
   Places : NodeKey → Buffers → Decision
   Allocates : NodeKey → Decision
 
--- the mark that the decision comes to in a pool of so many pages, of which these are held
+-- the mark of the decision in a pool of this many pages, of which these are held
 abbrev pub mark_of : ℕ → List Interval → Decision → Mark
 mark_of pool held (Ends top) = Ended top
 mark_of pool held (Loses origin cause) = Loss origin cause
@@ -72,12 +72,12 @@ waiting nodes = option_and_then
     (λ (root : Node). when (not root.allocated && list_all (is_ready_node root.key) nodes) root)
     (find is_root_left nodes)
 
--- the first step that the root unit's allocation comes to
+-- the first step of the root unit's allocation
 abbrev pub first_step : List Node → NodeKey → Decision
 first_step nodes root = option_map_or (λ why. Loses root (Cause.Failed why)) (early_failure root nodes)
     (Places root (wanted_by root nodes))
 
--- the step that the allocation of an attached unit comes to
+-- the step of the allocation of an attached unit
 abbrev pub later_step : List Node → Buffers → NodeKey → Decision
 later_step nodes buffers head = option_map_or (λ why. Loses head (Cause.Failed why)) (late_failure head nodes buffers)
     (Allocates head)

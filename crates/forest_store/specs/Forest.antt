@@ -99,7 +99,7 @@ is_left c = length c.nodes == 0 && length c.held == 0
 abbrev pub tidied : Collection → Collection
 tidied c = with_nodes (filter (λ n. not (is_over n))) c
 
--- the collections, where the one with this id is without the nodes that are over, and goes where nothing is left of it
+-- the collections, where the one with this id is without the nodes that are over, and is removed if it is empty then
 abbrev pub without_over_in : ℕ → List Collection → List Collection
 without_over_in id [] = []
 without_over_in id (c ∷ cs) =

@@ -56,7 +56,7 @@ lost taken fault n = record n {
   fault = if taken n && not n.gone then Some fault else n.fault;
 }
 
--- a loss at the key takes the node: it goes up as far as links don't block, and takes all below
+-- a loss at the key takes the node: it climbs to the highest node over links that don't block, and takes all below that node
 abbrev pub is_taken : List Node → NodeKey → Node → Bool
 is_taken nodes key n = option_map_or
     (λ (origin : Node). is_under (highest (members_of nodes) (member_of nodes origin)) (member_of nodes n))
@@ -74,7 +74,7 @@ given_buffers head n = record n { allocated = same_key head n.head || n.allocate
 abbrev pub after_allocation : NodeKey → List Node → List Node
 after_allocation head nodes = map (given_buffers head) nodes
 
--- the node goes without a fault, if it is the top one or below it
+-- the node ends without a fault, if it is the top one or below it
 abbrev pub ended : List Node → NodeKey → Node → Node
 ended nodes top n = record n { gone = is_under top (member_of nodes n) || n.gone }
 

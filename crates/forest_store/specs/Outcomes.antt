@@ -1,4 +1,4 @@
--- What comes of a change that is to be made in its place: it was made, or nothing changed. No public clause of `alloc_event` cites this module.
+-- The outcome of a change: it was made, or nothing changed. No public clause of `alloc_event` cites this module.
 use Rattle.std.specs.Prelude.{◌≡◌, ℕ, Bool, true, false, List, Result, Ok, Err}
 use Rattle.buffer_pool.specs.Holdings.{Holdings}
 use Rattle.node_table.specs.Table.{Table}

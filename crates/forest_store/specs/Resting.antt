@@ -13,6 +13,6 @@ abbrev pub is_at_rest : Handles → Table Node → Shelf → Bool
 is_at_rest handles t s =
     not (has_given_root t s.keys && not (is_held_strongly handles s.id s.buffers)) && list_all (is_out handles false) s.held
 
--- so many strong nodes are live, which are some, or it is at rest without
+-- this many strong nodes are live, which are some, or it is at rest without
 abbrev pub is_kept_by : Handles → Table Node → Shelf → ℕ → Bool
 is_kept_by handles t s lives = nat_lt 0 lives || is_at_rest handles t s

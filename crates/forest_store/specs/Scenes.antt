@@ -21,7 +21,7 @@ use Rattle.forest_store.specs.Nodes.{is_of}
 abbrev pub name_of : ℕ → ℕ → BufferName
 name_of collection index = record { collection = collection; index = index }
 
--- the collection's buffers from this index on, of so many pages each, at these starts
+-- the collection's buffers from this index on, of this many pages each, at these starts
 abbrev pub laid : ℕ → ℕ → ℕ → List ℕ → List HeldBuffer
 laid collection pages index [] = []
 laid collection pages index (start ∷ starts) =

@@ -44,7 +44,7 @@ standing handles others c = record {
 abbrev pub is_root_of : Collection → NodeKey → Bool
 is_root_of c key = option_map_or (λ (n : Node). is_none n.parent) (node_of c.nodes key) false
 
--- the collection once the mark is made, in a pool of so many pages, beside the pages of the others. An event is no forced
+-- the collection once the mark is made, in a pool of this many pages, beside the pages of the others. An event is no forced
 -- step: it changes the collection by what `changed` says of it
 abbrev pub made : ℕ → List Interval → Mark → Collection → Collection
 made pool others (Called client reply call) c = c

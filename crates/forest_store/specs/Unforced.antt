@@ -27,7 +27,7 @@ is_plain Effect.Taken = true
 is_plain Effect.Released = false
 is_plain Effect.Tracked = true
 
--- the change may be made to the collection of the shelf, which is calm and has so many strong live nodes, and the
+-- the change may be made to the collection of the shelf, which is calm and has this many strong live nodes, and the
 -- units are counted
 pub record IsOpen (t : Table Node) (us : List Unit) (ss : List Shelf) (s : Shelf) (change : Change) (lives : ℕ) : Type 0 where
   pub kept : IsStored t ss
@@ -37,7 +37,7 @@ pub record IsOpen (t : Table Node) (us : List Unit) (ss : List Shelf) (s : Shelf
   pub strong : lives ≡ strong_count (nodes_with t s.keys)
   pub units : AreUnits us (map (collection_in t) ss)
 
--- an effect may be made on the node with this key, of the collection of the shelf, which has so many strong live nodes, and the
+-- an effect may be made on the node with this key, of the collection of the shelf, which has this many strong live nodes, and the
 -- units are counted
 pub record MayAffect (t : Table Node) (us : List Unit) (ss : List Shelf) (s : Shelf) (key : NodeKey) (lives : ℕ) : Type 0 where
   pub kept : IsStored t ss

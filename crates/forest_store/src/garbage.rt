@@ -364,7 +364,7 @@ pub fn note_gone(table: &NodeTable<Node>, entry: &mut Entry, keys: &[NodeKey], o
     }
 }
 
-/// Reserves room for the list of dead nodes of a collection with so many nodes: none where a pass
+/// Reserves room for the list of dead nodes of a collection with this many nodes: none where a pass
 /// over all nodes is as cheap, and at most 64 keys.
 pub(crate) fn reserve_notes(garbage: &mut Vec<NodeKey>, nodes: usize) -> Result<(), AllocError>
     ensures { garbage.new.items ≡ garbage.old.items }

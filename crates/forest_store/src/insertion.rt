@@ -188,7 +188,7 @@ fn insert_root(
 }
 
 /// The birth of a node, where nothing else changes with it. `NoMemory` leaves the table as it was,
-/// and of the entries all but their room. It costs a constant and a binary search, growth spread
+/// and of the entries all but their room. It costs O(1) and a binary search, growth spread
 /// over the births, and for a root the shift of the entries behind it.
 fn insert_uncounted(store: &mut Store, id: CollectionId, birth: Birth) -> Result<NodeKey, NoMemory>
     requires forest { IsResting store.old }
@@ -206,7 +206,7 @@ fn insert_uncounted(store: &mut Store, id: CollectionId, birth: Birth) -> Result
 
 /// The birth of a node, where nothing else changes with it, counted for its unit, whose slot the list
 /// of units reaches. `NoMemory` leaves the table and the units as they were, and of the entries all
-/// but their room. It costs a constant and a binary search, growth spread over the births, and for a
+/// but their room. It costs O(1) and a binary search, growth spread over the births, and for a
 /// root the shift of the entries behind it.
 pub fn insert_counted(
     store: &mut Store,

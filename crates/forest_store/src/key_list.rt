@@ -124,7 +124,7 @@ impl KeyList {
     }
 }
 
-// Drops so many cells from the front.
+// Drops this many cells from the front.
 fn move_down(cells: &mut Vec<NodeKey>, front: usize)
     requires { front ≤ length cells.old.items }
     ensures items { cells.new.items ≡ drop front cells.old.items }

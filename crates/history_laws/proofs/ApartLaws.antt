@@ -141,7 +141,7 @@ module _ (pool : ℕ) (a b : Timeline) (collection : ℕ) (s : SameIn pool a b c
         to_open = cond (m i).allocated (to_open i) [];
       }
 
-  -- its ends are unchanged, except who holds them
+  -- its ends are unchanged, except their holders
   ends_same : (node : NodeKey) → collection_in (births a) node ≡ Some collection →
       (readings b).end_of node ≡ option_map (λ (e : OpenEnd). record e { holder = holder b node; in_transit = in_transit b node })
       ((readings a).end_of node)

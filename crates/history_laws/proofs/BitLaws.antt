@@ -1,4 +1,4 @@
--- The bits of a set of buffers, and the names of so many buffers.
+-- The bits of a set of buffers, and the names of this many buffers.
 use Rattle.std.proofs.Common.{ℕ, zero, suc, ◌≡◌, ◌≤◌, ◌<◌, ◌+◌, ◌*◌, ◌/◌, ◌%◌, ◌^◌, refl, ap, sym, ◌∙◌, Bool, true, false, cond, ◌&&◌, ◌==◌, nat_lt, inl, inr, List, [], ◌∷◌, map, arith}
 use Rattle.std.proofs.lemmas.Bool.{eqb-true, eq-eqb, ltb-true, ltb-false}
 use Rattle.std.proofs.Math.Nat.{pow-succ'}
@@ -14,7 +14,7 @@ use Rattle.sm_names.specs.Words.{times}
 use Rattle.sm_names.proofs.SamenessLaws.{either_way, none_below}
 use Rattle.history_laws.proofs.SumLaws.{one, any_one}
 
--- the number whose bits tell which of so many, from a on, pass
+-- the number whose bits tell which of this many, from a on, pass
 abbrev bits_from : (ℕ → Bool) → ℕ → ℕ → ℕ
 bits_from p a zero = 0
 bits_from p a (suc n) = one (p a) + 2 * bits_from p (a + 1) n
@@ -103,9 +103,9 @@ pub one_is : (b : Bool) → (one b == 1) ≡ b
 one_is true = refl
 one_is false = refl
 
--- ---- the names of so many buffers
+-- ---- the names of this many buffers
 
--- of so many numbers from a on, one is the j-th after a if there are more than j
+-- of this many numbers from a on, one is the j-th after a if there are more than j
 index_times : (a n j : ℕ) → times (λ i. i == a + j) (range_with_len a n) ≡ one (nat_lt j n)
 index_times a zero j = rw (none_below j) refl
 index_times a (suc n) zero =
@@ -139,7 +139,7 @@ names_times collection x (i ∷ is) =
       | inr e ↦ rw e (names_times collection x is ∙ rw e refl)
     ]
 
--- a buffer is one of so many of a collection exactly if it is of the collection and its index is below their number
+-- a buffer is one of this many of a collection exactly if it is of the collection and its index is below their number
 pub times_below : (collection n : ℕ) (x : BufferName) →
     times (λ b. same_buffer b x) (names collection n) ≡ one (collection == x.collection && nat_lt x.index n)
 times_below collection n x =

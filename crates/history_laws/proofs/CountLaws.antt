@@ -245,7 +245,7 @@ clients-called limits marks caller reply call answer old = with_new (joined_at (
           once = rw e (new_once made is, old.once);
         }
 
--- ---- who moves handles has joined
+-- ---- a client that moves handles has joined
 
 -- the mark opens, drops, gives or collects a handle
 abbrev moves : Mark → Bool
@@ -261,18 +261,18 @@ abbrev gives : Mark → Bool
 gives (Called client Reply.Done (Call.GiveHandle name strength to)) = true
 gives _ = false
 
--- who moved a handle has joined, and so has who was given one
+-- a client that moved a handle has joined, and so has the one that was given it
 pub record HaveJoined (marks : Timeline) : Type 0 where
   pub callers : (m : Mark) → In m marks → moves m ≡ true → has_joined marks (caller m) ≡ true
   pub receivers : (m : Mark) → In m marks → gives m ≡ true → has_joined marks (receiver m) ≡ true
 
--- who is known has joined, and so has the one whom the call names
+-- a known client has joined, and so has the one that the call names
 known_of : (b c : Bool) → refused_if (not b || c) Refusal.NoSuchClient ≡ None → (b ≡ true) × (c ≡ false)
 known_of true true h = cc
 known_of true false h = (refl, refl)
 known_of false c h = cc
 
--- who moves a handle has joined
+-- a client that moves a handle has joined
 pub caller_joined : (limits : Bound) (marks : Timeline) (client : ℕ) (reply : Reply) (call : Call) →
     IsAnswer limits (readings marks) client call reply → moves (Called client reply call) ≡ true → has_joined marks client ≡ true
 caller_joined limits marks client (Reply.Taken collection taken set) (Call.Take key) answer h =
@@ -292,7 +292,7 @@ caller_joined limits marks client (Reply.CollectedHandle name strength) Call.Col
     Call.Collect (Reply.CollectedHandle name strength) refl refl answer.told).known).0
 caller_joined limits marks client _ _ answer h = absurd (false≢true h)
 
--- and so has who is given one
+-- and so has the one that is given it
 receiver_joined : (limits : Bound) (marks : Timeline) (client : ℕ) (reply : Reply) (call : Call) →
     IsAnswer limits (readings marks) client call reply → gives (Called client reply call) ≡ true →
     has_joined marks (receiver (Called client reply call)) ≡ true
@@ -302,7 +302,7 @@ receiver_joined limits marks client Reply.Done (Call.GiveHandle name strength to
     (record { slot = 0; generation = 0 }) (Call.GiveHandle name strength to) Reply.Done refl refl answer.told).known).1
 receiver_joined limits marks client _ _ answer h = absurd (false≢true h)
 
--- who has joined stays so
+-- a client that has joined stays joined
 still_joined : (o : Option ℕ) (cs : List ℕ) (k : ℕ) → one_of cs k ≡ true → one_of (cons_option o cs) k ≡ true
 still_joined None cs k h = h
 still_joined (Some c) cs k h = or_right (c == k) (one_of cs k) h

@@ -20,7 +20,7 @@ use Rattle.history_laws.proofs.KeptLaws.{kept-after}
 use Rattle.sm_names.proofs.SamenessLaws.{either_way, and_left, and_right, same_buffer-true, same_strength-true}
 use Rattle.sm_names.specs.Words.{times}
 
--- who is not refused for want of a handle has one open
+-- a client that is not refused for want of a handle has one open
 pub some_open : (n : ℕ) → refused_if (n == 0) Refusal.NoSuchHandle ≡ None → 0 < n
 some_open zero h = cc
 some_open (suc n) h = omega arith
@@ -47,7 +47,7 @@ module _ (client : ℕ) (buffer : BufferName) (strength : Strength) where
   abbrev pub let_go : Timeline → ℕ
   let_go marks = times (drops it buffer strength) marks + times (lifts it buffer strength) marks
 
-  -- who lets a handle go had one
+  -- a client that loses a handle had one
   had_one : (marks : Timeline) (caller : ℕ) (name : BufferName) (dropped : Strength) →
       refused_if (open_of marks caller name dropped == 0) Refusal.NoSuchHandle ≡ None →
       (it caller && (same_buffer name buffer && same_strength dropped strength)) ≡ true → let_go marks < got marks
@@ -63,7 +63,7 @@ module _ (client : ℕ) (buffer : BufferName) (strength : Strength) where
       let here : 0 < open_of marks client buffer strength = subst (λ (n : ℕ). 0 < n) (λ i. open_of marks (who i) (what i) (how i)) there in
       omega (arith, here)
 
-  -- so who drops a handle had one, and gives none by that call
+  -- so a client that drops a handle had one, and gives none by that call
   drop_had_one : (limits : Bound) (marks : Timeline) (caller : ℕ) (reply : Reply) (call : Call) →
       IsAnswer limits (readings marks) caller call reply → drops it buffer strength (Called caller reply call) ≡ true →
       (lifts it buffer strength (Called caller reply call) ≡ false) × (let_go marks < got marks)
@@ -73,7 +73,7 @@ module _ (client : ℕ) (buffer : BufferName) (strength : Strength) where
       (refl, had_one marks caller name dropped t.has_handle is)
   drop_had_one limits marks caller _ _ answer is = absurd (false≢true is)
 
-  -- and who gives a handle had one
+  -- and a client that gives a handle had one
   lift_had_one : (limits : Bound) (marks : Timeline) (caller : ℕ) (reply : Reply) (call : Call) →
       IsAnswer limits (readings marks) caller call reply → lifts it buffer strength (Called caller reply call) ≡ true →
       let_go marks < got marks

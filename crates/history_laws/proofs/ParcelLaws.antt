@@ -49,7 +49,7 @@ waits marks client drawn some =
       | inr less ↦ less
     ]
 
--- who collects had a parcel waiting
+-- a client that collects had a parcel waiting
 strict : (limits : Bound) (marks : Timeline) (client caller : ℕ) (reply : Reply) (call : Call) → IsDrawn marks →
     IsAnswer limits (readings marks) caller call reply → collects client (Called caller reply call) ≡ true →
     times (collects client) marks < length (given marks client)

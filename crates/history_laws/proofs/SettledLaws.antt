@@ -318,7 +318,7 @@ forced_no_event pool collection marks mark h = why_no_event pool collection mark
 
 -- ---- so they come to an end
 
--- where so many steps are enough, none applies after them
+-- where this many steps are enough, none applies after them
 pub settled_within_rests : (pool collection most : ℕ) (marks : Timeline) → AreSound (births marks) → left_over marks ≤ most →
     (next_forced pool collection (settled_within pool collection most marks) ≡ None) ×
     Settles pool collection marks (settled_within pool collection most marks)

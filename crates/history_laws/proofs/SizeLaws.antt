@@ -25,7 +25,7 @@ IsSized marks h = (b : Buffers) × (buffers_of marks h.buffer.collection ≡ Som
 abbrev AreSized : ℕ → Timeline → Type 0
 AreSized pool marks = (h : HeldBuffer) → In h (placed pool marks) → IsSized marks h
 
--- what is laid out is one of the buffers, with so many pages
+-- what is laid out is one of the buffers, with this many pages
 laid_out-In : (pages : ℕ) (bs : List BufferName) (starts : List ℕ) (h : HeldBuffer) → In h (laid_out pages bs starts) →
     In h.buffer bs × (h.pages.pages ≡ pages)
 laid_out-In pages [] starts h on = absurd on

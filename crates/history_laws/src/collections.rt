@@ -41,7 +41,7 @@ pub fn collections_are_apart()
 /// An event changes nothing in any collection but its own: how its nodes stand, what it was given,
 /// the handles on its buffers, which of them are doomed or home, the pages that they hold, what its
 /// ends answer, and when its trackers fired. An event that names no collection changes nothing in
-/// any. Only who holds an end may change.
+/// any. Only the holder of an end may change.
 pub fn events_stay_in_their_collection()
     ensures { (pool : ℕ) (limits : Bound) (history : List Entry) (entry : Entry) →
         IsLegal pool limits (history ++ entry ∷ []) → (collection : ℕ) →

@@ -53,7 +53,7 @@ pub fn fired_is_for_good()
 
 /// A node whose end is spent is gone or released. So once every end is spent and every handle is
 /// dropped, no node is live, no page is held, and the whole pool is free.
-pub fn all_goes()
+pub fn spent_ends_and_dropped_handles_free_all()
     ensures spent { (pool : ℕ) (limits : Bound) (history : List Entry) →
         IsLegal pool limits history →
         (node : NodeKey) → spent (timeline pool history) node ≡ true →

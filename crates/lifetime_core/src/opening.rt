@@ -45,7 +45,7 @@ pub(crate) fn is_one_full(core: &Core, collection: CollectionId, strength: Stren
     false
 }
 
-// The set of all of so many buffers.
+// The set of all of this many buffers.
 fn full_set(count: u32) -> u64
     requires { count ≤ MAX_BUFFERS }
     ensures { result + 1 ≡ 2 ^ count }

@@ -62,7 +62,7 @@ module _ {N : Type 0} (old : List (Option (Slot N))) (nexts : List ℕ) (first c
     half-row : (k : NodeKey) → row_at half k ≡ option_map (at_parent (Some key) without_parent k) (row_at before k)
     half-row k = edited-key old-rows mid-rows nexts first limit (Some key) without_parent loosened-rows there k
 
-    -- who was there is there
+    -- a node that was there is there
     still-there : (k : NodeKey) → IsSome (row_at before k) → IsSome (row_at half k)
     still-there k some = ap is_some (half-row k) ∙ is_some-option_map (at_parent (Some key) without_parent k) (row_at before k) ∙ some
 

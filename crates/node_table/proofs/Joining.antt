@@ -106,7 +106,7 @@ module _ {N : Type 0} (old mid new : Slab (Slot N)) (nexts nexts2 : List ℕ) (f
               λ at. apart (ap (λ (k : NodeKey). k.slot) it ∙ at))) in omega (arith, more)
         ]
 
-    -- who is there lies in another slot
+    -- a node that is there lies in another slot
     elsewhere : (x : NodeKey) → IsSome (row_at (table_of old.slots nexts first limit) x) → x.slot ≢ key.slot
     elsewhere x there at =
         let entry = entry-there old.slots nexts first limit x there in
@@ -313,7 +313,7 @@ module _ {N : Type 0} (old mid new : Slab (Slot N)) (nexts nexts2 : List ℕ) (f
     )
 
 module _ {N : Type 0} where
-  -- so many values more fit after the links as before
+  -- this many values more fit after the links as before
   pub linked-room : (old mid : Slab (Slot N)) (parent : Option NodeKey) (key : NodeKey) (last : Option NodeKey) →
       LinksLast old mid parent key last → slab_len old + 1 ≤ old.capacity → slab_len mid + 1 ≤ mid.capacity
   linked-room old mid parent key last linked room =

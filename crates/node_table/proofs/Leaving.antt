@@ -95,7 +95,7 @@ module _ {N : Type 0} (old mid : Slab (Slot N)) (nexts : List ℕ) (first count 
               (option_map core_of (entry_in (get old i))))
         ]
 
-    -- the children of a row change before or after its parent goes
+    -- the children of a row change before or after its parent is removed
     children-under : (b : Bool) (keys : List NodeKey) (o : Option (Row N)) →
         option_map (with_children keys) (option_map (λ (row : Row N). if b then without_parent row else row) o) ≡ option_map
         (λ (row : Row N). if b then without_parent row else row) (option_map (with_children keys) o)

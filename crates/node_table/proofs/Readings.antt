@@ -1,4 +1,4 @@
--- What a sound table shows to those who read it.
+-- What reads of a sound table answer.
 use Rattle.std.proofs.Common.{◌≡◌, ◌≢◌, ℕ, ◌+◌, ◌<◌, ◌≤◌, ◌==◌, ◌^◌, ◌&&◌, nat_le, nat_lt, Bool, true, false, List, [], Option, Some, None, IsSome, Contains, AllPairs, slice_index_or, arith, refl, sym, ap, subst}
 use Rattle.std.proofs.lemmas.Bool.Decides.{nat_tests}
 use Rattle.sm_names.specs.declared.keys.NodeKey.{NodeKey}

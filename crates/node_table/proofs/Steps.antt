@@ -50,7 +50,7 @@ module _ {N : Type 0} where
           | inr differ ↦ ap (λ o. part (entry_in o)) (there i differ)
         ]
 
-    -- a part that f sets is so at the slot
+    -- a field that f sets has that value at the slot
     pub part-set : {X : Type 0} (part : Option (Entry N) → X) (value : X) → ((e : Entry N) → part (Some (f e)) ≡ value) → (i : ℕ) →
         part (entry_in (get new i)) ≡ cond (slot == i) value (part (entry_in (get old i)))
     part-set part value sets i =

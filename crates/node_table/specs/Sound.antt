@@ -16,7 +16,7 @@ pub record IsLinked (up : NodeKey → Option NodeKey) (down : NodeKey → List N
   pub rank : NodeKey → ℕ
   pub ranked : (parent key : NodeKey) → up key ≡ Some parent → rank parent < rank key
 
--- the keys from this one on, each the next of the one before, up to so many
+-- the keys from this one on, each the next of the one before, up to this many
 abbrev pub run_from : (ℕ → Option NodeKey) → ℕ → Option NodeKey → List NodeKey
 run_from next zero first = []
 run_from next (suc most) first = option_map_or (λ (key : NodeKey). key ∷ run_from next most (next key.slot)) first []

@@ -76,28 +76,28 @@ impl<N> NodeTable<N> {
         }
     }
 
-    /// How many nodes there are. It costs a constant.
+    /// How many nodes there are. It costs O(1).
     pub fn len(&self) -> usize
         ensures { result ≡ table_len self.now }
     {
         self.count
     }
 
-    /// The slot that the next node is stored in, if it is stored. It costs a constant.
+    /// The slot that the next node is stored in, if it is stored. It costs O(1).
     pub fn next_slot(&self) -> usize
         ensures { result ≡ self.now.vacant }
     {
         self.slots.vacant_key()
     }
 
-    /// Whether `key` is there: it was given, and its node was not removed. It costs a constant.
+    /// Whether `key` is there: it was given, and its node was not removed. It costs O(1).
     pub fn contains(&self, key: NodeKey) -> bool
         ensures { result ≡ is_some (row_at self.now key) }
     {
         self.entry(key).is_some()
     }
 
-    /// The node of `key`, or `None` if it is not there. It costs a constant.
+    /// The node of `key`, or `None` if it is not there. It costs O(1).
     pub fn get(&self, key: NodeKey) -> Option<&N>
         ensures { option_copied result ≡ node_at self.now key }
     {
@@ -107,7 +107,7 @@ impl<N> NodeTable<N> {
         }
     }
 
-    /// The node of `key` for writing, or `None` if it is not there. It costs a constant.
+    /// The node of `key` for writing, or `None` if it is not there. It costs O(1).
     ///
     /// Whatever is written, no link, no key and no other node changes.
     #[tactic(auto, using(crate::proofs::Writes::writes))]
@@ -134,7 +134,7 @@ impl<N> NodeTable<N> {
         &mut entry.node
     }
 
-    /// The parent of `key`, or `None` if it has none or is not there. It costs a constant.
+    /// The parent of `key`, or `None` if it has none or is not there. It costs O(1).
     pub fn parent(&self, key: NodeKey) -> Option<NodeKey>
         ensures value { result ≡ parent_at self.now key }
         ensures forest { IsForest self.now }
@@ -145,8 +145,7 @@ impl<N> NodeTable<N> {
         }
     }
 
-    /// The first-born child of `key`, or `None` if it has none or is not there. It costs a
-    /// constant.
+    /// The first-born child of `key`, or `None` if it has none or is not there. It costs O(1).
     pub fn first_child(&self, key: NodeKey) -> Option<NodeKey>
         ensures value { result ≡ first_key (children_at self.now key) }
         ensures forest { IsForest self.now }
@@ -158,7 +157,7 @@ impl<N> NodeTable<N> {
     }
 
     /// The child of the same parent that was born next after `key`, or `None` if there is none or
-    /// `key` is not there. It costs a constant.
+    /// `key` is not there. It costs O(1).
     pub fn next_sibling(&self, key: NodeKey) -> Option<NodeKey>
         ensures value { result ≡ next_key key (siblings_at self.now key) }
         ensures forest { IsForest self.now }
@@ -205,7 +204,7 @@ impl<N> NodeTable<N> {
     ///
     /// `Full` is answered exactly where there are as many nodes as the limit, and else `NoMemory`
     /// where a growth was refused or no slot has a number left. On both the node comes back, and
-    /// the table is as it was. It costs a constant, growth spread over the calls.
+    /// the table is as it was. It costs O(1), growth spread over the calls.
     pub fn insert(&mut self, parent: Option<NodeKey>, node: N) -> Result<NodeKey, (N, TableFault)>
         requires { IfSome parent (λ p. IsSome (row_at self.old p)) }
         ensures born { IfOk result (Births self.old self.new parent node) }
@@ -247,7 +246,7 @@ impl<N> NodeTable<N> {
     /// Takes `key` out of its parent's children, so that it has no parent. It stays there with its
     /// node and its children, and no other link changes. A key without a parent stays as it is.
     ///
-    /// It takes no memory, and costs a constant, however many siblings there are.
+    /// It takes no memory, and costs O(1), however many siblings there are.
     pub fn cut(&mut self, key: NodeKey)
         requires { IsSome (row_at self.old key) }
         ensures { Cuts self.old self.new key }

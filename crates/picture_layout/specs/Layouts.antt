@@ -57,7 +57,7 @@ own_width widths at = max (number_at widths at) 1
 unfoldable pub widened : List (Option ℕ) → ℕ → List ℕ → List ℕ
 widened parents at widths = more_above (own_width widths at) (with_number widths at (own_width widths at)) (parent_place parents at)
 
--- the same of so many nodes, the last first
+-- the same of this many nodes, the last first
 abbrev pub widened_all : ℕ → List (Option ℕ) → List ℕ → List ℕ
 widened_all zero parents widths = widths
 widened_all (suc n) parents widths = widened_all n parents (widened parents n widths)
@@ -86,7 +86,7 @@ unfoldable pub taken_columns : List (Option ℕ) → List ℕ → ℕ → List �
 taken_columns parents widths at free =
     with_number (less_above (number_at widths at) free (parent_place parents at)) at (column_of free (parent_place parents at))
 
--- the first column of each of so many nodes, from this place on
+-- the first column of each of this many nodes, from this place on
 abbrev pub columns_from : List (Option ℕ) → List ℕ → ℕ → ℕ → List ℕ → List ℕ
 columns_from parents widths zero at free = []
 columns_from parents widths (suc n) at free =
@@ -97,7 +97,7 @@ columns_of parents widths = columns_from parents widths (length parents) 0 (repl
 
 -- ---- boxes
 
--- the corner of a box in this column and this generation, over so many columns, of which each is so wide
+-- the corner of a box that spans `width` columns of this pitch, from this column on, in this generation
 abbrev pub corner_of : Corner → ℕ → ℕ → ℕ → ℕ → Corner
 corner_of start pitch width column depth = record {
   x = capped_sum (capped_sum start.x (capped_product column pitch)) (capped_product (width - 1) pitch / 2);
@@ -109,7 +109,7 @@ abbrev pub corner_at : Corner → ℕ → List ℕ → List ℕ → List ℕ →
 corner_at start pitch widths columns depths at =
     corner_of start pitch (number_at widths at) (number_at columns at) (number_at depths at)
 
--- the corners of the boxes, from this corner on, where a box is so wide
+-- the corners of the boxes, from this corner on, where a box has this width
 unfoldable pub corners_of : List (Option ℕ) → Corner → ℕ → List Corner
 corners_of parents start width =
     let widths = widths_of parents in

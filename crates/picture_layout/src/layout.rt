@@ -41,7 +41,7 @@ pub struct NodeBox {
     pub left: bool,
 }
 
-/// Lays out the boxes of these nodes, which stand by birth, the root first, each so many units wide,
+/// Lays out the boxes of these nodes, which stand by birth, the root first, each this many units wide,
 /// from this corner on. `left` has the keys of those that left at the event.
 ///
 /// `AllocError` where memory is refused. Costs O(n log n) for n nodes, those that left among them.
@@ -276,7 +276,7 @@ fn corners_of(
     corners_over(*parents.allocator(), start, pitch, &grid, parents.len())
 }
 
-// The corners of so many boxes, where a column is so wide.
+// The corners of the boxes, in columns of this pitch.
 fn corners_over(
     alloc: Global,
     start: Corner,
@@ -309,7 +309,7 @@ fn corner_under(start: Corner, pitch: u64, grid: &Grid, at: usize) -> Corner
     )
 }
 
-// The corner of a box in this column and this generation, over so many columns, of which each is so wide.
+// The corner of a box that spans `width` columns of this pitch, from this column on, in this generation.
 fn corner_over(start: Corner, pitch: u64, width: u64, column: u64, depth: u64) -> Corner
     ensures { result ≡ corner_of start pitch width column depth }
 {

@@ -17,7 +17,7 @@ use Rattle.picture_svg.specs.declared.bars.Bar.{Bar}
 use Rattle.picture_svg.specs.declared.elements.TheConstants.{MARGIN}
 use Rattle.picture_svg.specs.Elements.{Paint, look, rect_text, words_text}
 
--- what is drawn of a buffer: its name and pages, who keeps it, how many letters that has, and its colours
+-- what is drawn of a buffer: its name and pages, its holders, how many letters these have, and its colours
 pub record Shown : Type 0 where
   pub name : List ℕ
   pub keepers : List ℕ
@@ -45,7 +45,7 @@ live_part names nodes = if length nodes == 0 then [] else concat (codes "live no
 abbrev pub words_before : List NodeKey → List ℕ
 words_before nodes = if length nodes == 0 then codes "handles: " else codes "; handles: "
 
--- who keeps it
+-- its holders
 unfoldable pub kept_line : State → Names → List ℕ → List NodeKey → HeldBuffer → List ℕ
 kept_line s names clients strong held = concat (
     codes "kept by "
@@ -94,11 +94,11 @@ shown_of s names clients tree = shown_to s names clients tree MAX_BUFFERS
 abbrev pub bar_paint : Shown → Paint
 bar_paint b = record { rounded = 3; fill = b.fill; stroke = codes "#7A6A00"; stroke_width = []; dashes = b.dashes }
 
--- the column of the words beside a buffer, where a box is so wide
+-- the column of the words beside a buffer, where a box has this width
 abbrev pub words_column : ℕ → ℕ
 words_column width = capped_sum (MARGIN + COLUMN_GAP) width
 
--- a buffer in this row, where a box is so wide
+-- a buffer in this row, where a box has this width
 unfoldable pub bar_text : ℕ → ℕ → Shown → List ℕ
 bar_text width y b = concat (
     rect_text MARGIN y 216 22 (bar_paint b)

@@ -30,7 +30,7 @@ path_text a b middle x y = concat (
     ∷ []
     )
 
--- the row in which a link goes along that ends in this row
+-- the row of the horizontal part of a link that ends in this row
 abbrev pub middle_row : ℕ → ℕ
 middle_row y = y - ROW_GAP / 2
 
@@ -113,7 +113,7 @@ svg_end to (Some Way.Stop) = svg_stop_end to
 unfoldable pub svg_link : Node → Corner → Corner → Option Way → List ℕ
 svg_link n from to way = concat (way_path from to way ∷ svg_line n way ∷ svg_end to way ∷ [])
 
--- the middle below a box that is so wide, and that above it
+-- the middle of the lower edge of a box of this width, and of its upper edge
 abbrev pub foot_corner : ℕ → Corner → Corner
 foot_corner width c = record { x = capped_sum c.x (width / 2); y = capped_sum c.y BOX_HEIGHT }
 

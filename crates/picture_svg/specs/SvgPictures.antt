@@ -81,7 +81,7 @@ fires_bottom y (f ∷ fs) = fires_bottom (capped_sum y 18) fs
 
 -- ---- the pool
 
--- the width of a page, where the pool has so many
+-- the width of a page, where the pool has this many
 abbrev pub page_width : ℕ → ℕ
 page_width pages = if pages == 0 then 2 else max (min (800 / pages) 24) 2
 
@@ -94,14 +94,14 @@ cell_name names x y width held =
     let name = words_text (capped_sum x (width / 2)) (capped_sum y 14) (look 10 false (codes "#222222") true) (buffer_name names held.buffer) in
     if nat_lt width 44 then [] else name
 
--- the pages of a buffer, and its name, where a page is so wide
+-- the pages of a buffer, and its name, where a page has this width
 unfoldable pub held_cell : Names → ℕ → ℕ → HeldBuffer → List ℕ
 held_cell names cell y held =
     let x = capped_sum (MARGIN + 48) (capped_product cell held.pages.start) in
     let width = capped_product cell held.pages.pages in
     concat (rect_text x y width 20 (cell_paint (codes "#FAF2CC") (codes "#7A6A00")) ∷ cell_name names x y width held ∷ [])
 
--- so many pages in this row, and which buffers hold them
+-- this many pages in this row, and which buffers hold them
 unfoldable pub svg_held : Names → ℕ → List HeldBuffer → ℕ → List ℕ
 svg_held names y held pages = concat (
     words_text MARGIN (capped_sum y 14) (look 12 true (codes "#222222") false) (codes "pool")

@@ -1,4 +1,4 @@
-//! The buffers of a tree as a vector graphic: a bar for each, and beside it who keeps it.
+//! The buffers of a tree as a vector graphic: a bar for each, and beside it the holders that keep it.
 ghost use Rattle.std.specs.Prelude.{◌≡◌, ◌++◌, codes, IfOk, OnOk, map};
 ghost use Rattle.std.specs.List.{filter};
 ghost use Rattle.script_labels.specs.Names.{Names};
@@ -20,7 +20,7 @@ use std::alloc::{AllocError, Global};
 // How many indices the buffers of a collection may have.
 const INDICES: u8 = MAX_BUFFERS as u8;
 
-// What is drawn of a buffer: its name and pages, who keeps it, for how many letters that has room, and its
+// What is drawn of a buffer: its name and pages, its holders, for how many letters these have room, and its
 // colours.
 #[derive(Drop)]
 pub(crate) struct Bar {
@@ -230,7 +230,7 @@ fn words_before(nodes: &[NodeKey]) -> &'static str
     }
 }
 
-// Draws these buffers from this row on, where a box is so wide; answers the row below them, and their last
+// Draws these buffers from this row on, where a box has this width; answers the row below them, and their last
 // column, or this one.
 pub(crate) fn push_bars(
     body: &mut Vec<u8>,
@@ -281,14 +281,14 @@ fn right_of(bars: &[Bar], width: u64, start: u64) -> u64
     right
 }
 
-// The column of the words beside a buffer, where a box is so wide.
+// The column of the words beside a buffer, where a box has this width.
 fn beside(width: u64) -> u64
     ensures { result ≡ words_column width }
 {
     plus(MARGIN + COLUMN_GAP, width)
 }
 
-// Draws a buffer in this row, and puts beside it who keeps it.
+// Draws a buffer in this row, and puts its holders beside it.
 #[tactic(auto, unfolding(crate::specs::Bars::bar_text))]
 fn push_bar(body: &mut Vec<u8>, bar: &Bar, width: u64, y: u64) -> Result<(), AllocError>
     ensures { OnOk result (body.new.items

@@ -15,7 +15,7 @@ use script_pictures::{Travel, Way, way_of};
 use std::alloc::AllocError;
 use text_parts::{Part, push_parts};
 
-// Draws the links of the nodes, in their order, where a box is so wide.
+// Draws the links of the nodes, in their order, where a box has this width.
 pub(crate) fn push_links(
     body: &mut Vec<u8>,
     boxes: &[NodeBox],

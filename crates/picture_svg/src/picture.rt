@@ -91,7 +91,7 @@ fn push_body(
     })
 }
 
-// The last column of the trees, which is this, of the pool, which has so many pages, and of the legend.
+// The last column of the trees, which is this, of the pool, which has this many pages, and of the legend.
 fn right_column(pages: u32, trees: u64) -> u64
     ensures { result ≡ right_of pages trees }
 {
@@ -314,7 +314,7 @@ fn push_fact(body: &mut Vec<u8>, y: u64, style: Style, words: &[u8]) -> Result<(
     push_words(body, MARGIN, minus(y, 12), style, words)
 }
 
-// The width of a page, where the pool has so many.
+// The width of a page, where the pool has this many.
 fn page_width(pages: u32) -> u64
     ensures { result ≡ width_of_page pages }
 {
@@ -339,7 +339,7 @@ fn push_pool(body: &mut Vec<u8>, teller: &Teller, y: u64) -> Result<(), Stop>
     Ok(())
 }
 
-// Draws so many pages in this row, and which buffers hold them.
+// Draws this many pages in this row, and which buffers hold them.
 #[tactic(auto, unfolding(crate::specs::SvgPictures::svg_held))]
 fn push_held(
     body: &mut Vec<u8>,
@@ -356,7 +356,7 @@ fn push_held(
     push_cells(body, teller, held, page_width(pages), y)
 }
 
-// Draws the frame of the pool in this row, which is so wide.
+// Draws the frame of the pool in this row, with this width.
 fn push_row(body: &mut Vec<u8>, width: u64, y: u64) -> Result<(), AllocError>
     ensures { OnOk result (body.new.items ≡ body.old.items
         ++ rect_text (MARGIN + 48) y width 20 (cell_paint (codes "#FFFFFF") (codes "#808080"))) }
@@ -377,7 +377,7 @@ fn push_row(body: &mut Vec<u8>, width: u64, y: u64) -> Result<(), AllocError>
     )
 }
 
-// Draws the pages of these buffers in this row, where a page is so wide.
+// Draws the pages of these buffers in this row, where a page has this width.
 fn push_cells(
     body: &mut Vec<u8>,
     teller: &Teller,
@@ -394,7 +394,7 @@ fn push_cells(
     Ok(())
 }
 
-// Puts behind the pool, which has so many pages, how many of them are free.
+// Puts behind the pool, which has this many pages, how many of them are free.
 #[tactic(auto, unfolding(crate::specs::SvgPictures::free_words))]
 fn push_free(body: &mut Vec<u8>, free: u32, pages: u32, y: u64) -> Result<(), AllocError>
     ensures { OnOk result (body.new.items ≡ body.old.items ++ free_words y free pages) }
@@ -404,7 +404,7 @@ fn push_free(body: &mut Vec<u8>, free: u32, pages: u32, y: u64) -> Result<(), Al
     push_words(body, plus(MARGIN + 60, end), plus(y, 14), plain(12), &line)
 }
 
-// How many of so many pages are free.
+// How many of this many pages are free.
 fn free_line(alloc: Global, free: u32, pages: u32) -> Result<Vec<u8>, AllocError>
     ensures { IfOk result (λ line. line.items ≡ free_line_text free pages) }
 {

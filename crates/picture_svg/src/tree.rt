@@ -45,7 +45,7 @@ pub(crate) fn sign_of(class: Class) -> &'static str
     }
 }
 
-// Draws these trees one below the other, from this row on, where a box is so wide; answers the row below
+// Draws these trees one below the other, from this row on, where a box has this width; answers the row below
 // them, and their last column.
 pub(crate) fn push_trees(
     body: &mut Vec<u8>,

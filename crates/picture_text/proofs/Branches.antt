@@ -71,7 +71,7 @@ none_waits n nodes lines ts none =
     ap (λ (l : List Twig). lines ++ outline_from n nodes (reverse l)) none
     ∙ (ap (λ (l : List Line). lines ++ l) (lines_none n nodes) ∙ append-nil lines)
 
--- nor behind so many
+-- nor behind this many
 pub lines_end : (count : ℕ) (nodes : List Node) (at : ℕ) (lines : List Line) (ts : List Twig) → count ≤ at →
     lines ++ outline_from (count - at) nodes ts ≡ lines
 lines_end count nodes at lines ts all =

@@ -74,7 +74,7 @@ abbrev pub first_branches : List Node → List Twig
 first_branches [] = []
 first_branches (root ∷ others) = twig root [] 0 true ∷ []
 
--- so many lines of these nodes: that of the first that waits, and then those of its children in front of the others that wait
+-- this many lines of these nodes: that of the first that waits, and then those of its children in front of the others that wait
 abbrev pub outline_from : ℕ → List Node → List Twig → List Line
 outline_from zero nodes waiting = []
 outline_from (suc n) nodes [] = []

@@ -56,7 +56,7 @@ widest names rows = fold (λ width r. max width (row_width names r)) 0 rows
 abbrev pub widest_row : Names → List Row → ℕ
 widest_row names rows = fold (λ width r. max width (row_width names (line_of_row r))) 0 rows
 
--- spaces from so many columns up to this width
+-- spaces from this many columns up to this width
 abbrev pub spaces : ℕ → ℕ → List ℕ
 spaces taken width = replicate (width - taken) 32
 
@@ -136,7 +136,7 @@ told_row names width left r = row_text names width left (line_of_row r)
 abbrev pub live_text : Names → List NodeKey → List ℕ
 live_text names nodes = if length nodes == 0 then [] else concat (codes "live" ∷ flat_map (node_text names) nodes ∷ [])
 
--- who keeps the buffer: live nodes, these clients and parcels
+-- the holders of the buffer: live nodes, these clients and parcels
 abbrev pub keepers_text : State → Names → List ℕ → List NodeKey → HeldBuffer → List ℕ
 keepers_text s names clients strong held = concat (
     codes "; kept by "
@@ -183,7 +183,7 @@ has_page page held = nat_le held.pages.start page && nat_lt (page - held.pages.s
 abbrev pub sign_of_page : List HeldBuffer → ℕ → List ℕ
 sign_of_page held page = if list_any (has_page page) held then 226 ∷ 150 ∷ 136 ∷ [] else 226 ∷ 150 ∷ 145 ∷ []
 
--- the signs of so many pages
+-- the signs of this many pages
 abbrev pub signs_of_pages : List HeldBuffer → ℕ → List ℕ
 signs_of_pages held pages = concat (map (sign_of_page held) (range_with_len 0 pages))
 

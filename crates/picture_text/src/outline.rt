@@ -41,7 +41,7 @@ pub(crate) fn outline_of(nodes: &Vec<Node>) -> Result<Vec<Row>, AllocError>
 }
 
 // Puts the rows of those that wait behind the others, and below each those of its children, but no more
-// than so many.
+// than this many.
 fn push_waiting(
     rows: &mut Vec<Row>,
     waiting: &mut Vec<Branch>,

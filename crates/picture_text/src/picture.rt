@@ -146,7 +146,7 @@ fn push_free(text: &mut Vec<u8>, core: &Core) -> Result<(), AllocError>
     )
 }
 
-// Appends a sign for each of so many pages, unless they are many.
+// Appends a sign for each of this many pages, unless they are many.
 fn push_signs(text: &mut Vec<u8>, held: &[HeldBuffer], pages: u32) -> Result<(), AllocError>
     ensures { OnOk result (text.new.items ≡ text.old.items ++ pool_signs held.now pages) }
 {
@@ -157,7 +157,7 @@ fn push_signs(text: &mut Vec<u8>, held: &[HeldBuffer], pages: u32) -> Result<(),
     push(text, " ")
 }
 
-// Appends a sign for each of so many pages.
+// Appends a sign for each of this many pages.
 fn push_each_sign(text: &mut Vec<u8>, held: &[HeldBuffer], pages: u32) -> Result<(), AllocError>
     ensures { OnOk result (text.new.items ≡ text.old.items ++ signs_of_pages held.now pages) }
 {

@@ -82,7 +82,7 @@ fn push_in_parentheses(text: &mut Vec<u8>, words: &[u8]) -> Result<(), AllocErro
     )
 }
 
-// Appends so many spaces.
+// Appends this many spaces.
 fn push_spaces(text: &mut Vec<u8>, count: u64) -> Result<(), AllocError>
     ensures { OnOk result (text.new.items ≡ text.old.items ++ replicate count 32) }
 {
@@ -368,7 +368,7 @@ fn push_padded(text: &mut Vec<u8>, words: &[u8], width: u64) -> Result<(), Alloc
     push_spaces(text, width.saturating_sub(words.len() as u64))
 }
 
-// Appends who keeps the buffer, where these nodes are strong and live.
+// Appends the holders of the buffer, where these nodes are strong and live.
 fn push_keepers(
     text: &mut Vec<u8>,
     teller: &Teller,

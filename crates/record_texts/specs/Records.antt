@@ -70,7 +70,7 @@ client_text s client = 32 ∷ label_text (scribe_client_label s client)
 abbrev pub bound_word : Binds → List ℕ
 bound_word binds = 32 ∷ bound_text binds
 
--- who calls: a client that joins is bound by the line
+-- the caller: a client that joins is bound by the line
 abbrev pub asker_text : Scribe → Binds → ℕ → Call → List ℕ
 asker_text s binds client Call.Join = bound_text binds
 asker_text s binds client _ = label_text (scribe_client_label s client)
@@ -137,7 +137,7 @@ abbrev pub next_label : List Label → Option Label
 next_label [] = None
 next_label (label ∷ labels) = Some label
 
--- a record that goes on with this event, where clients with these labels are still to join
+-- a record whose first event has this number, where clients with these labels have not joined yet
 abbrev pub record_from : Scribe → List Label → ℕ → List Entry → List ℕ
 record_from s labels event [] = []
 record_from s labels event (entry ∷ entries) =

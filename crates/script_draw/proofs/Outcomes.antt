@@ -1,4 +1,4 @@
--- What comes of a drawing once its picture goes out.
+-- The outcome of a drawing once its picture is written.
 use Rattle.std.proofs.Common.{◌≡◌, ◌⊎◌, ℕ, ◌+◌, ◌<◌, ◌≤◌, true, false, List, [], ◌∷◌, ◌++◌, length, append-nil, sym, ◌∙◌, subst, Option, Some, None, inl, inr, arith}
 use Rattle.std.proofs.KnownBytes.{Keeps-refl}
 use Rattle.std.specs.Prelude.{Ok, Err, Result, OnOk, IfErr}

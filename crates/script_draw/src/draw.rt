@@ -317,7 +317,7 @@ impl Scroll {
         })
     }
 
-    // Whether so many events were made.
+    // Whether this many events were made.
     fn is_at(&self, until: Option<u64>) -> bool
         ensures { (scene : Scene) → Knows self.now.teller scene →
             result ≡ is_reached until (length scene.history) }

@@ -1,4 +1,4 @@
--- What comes of an explanation once its text goes out.
+-- The outcome of an explanation once its text is written.
 use Rattle.std.proofs.Common.{◌≡◌, ◌≢◌, ℕ, ◌+◌, ◌≤◌, List, [], ◌∷◌, ◌++◌, length, append_assoc, append-nil, refl, sym, ap, ◌∙◌, subst, Option, inl, inr, arith}
 use Rattle.std.proofs.KnownBytes.{Appends-nil, Appends-trans, Keeps-refl}
 use Rattle.std.specs.Prelude.{Ok, Err, Result, OnOk, IfErr}

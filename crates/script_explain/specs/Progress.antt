@@ -103,7 +103,7 @@ pub record Compared (setting : Setting) (c : Comparison) (lines : List (List ℕ
   pub agrees : Agrees setting.pool lines (comparison_place c scene)
   pub is_at : IsAt c.teller.session scene
 
--- what comes of one more line, where so many were compared before it: it agrees, or is the first that does not
+-- the verdict on one more line, where this many were compared before it: it agrees, or is the first that does not
 abbrev pub Judges : Setting → Comparison → Comparison → List (List ℕ) → List ℕ → Verdict → Type 0
 Judges setting old new lines line Verdict.Agrees = Compared setting new (lines ++ line ∷ []) × (new.text.items ≡ old.text.items)
 Judges setting old new lines line Verdict.Differs =
@@ -116,7 +116,7 @@ CheckHalted setting lines ReportFault.HistoryFull = IsUnchecked setting lines Re
 CheckHalted setting lines ReportFault.NoMemory = Unit {0}
 CheckHalted setting lines _ = ⊥
 
--- what comes of all lines: they agree, and the last one has an end; or one of them is the first that does not
+-- the verdict on all lines: they agree, and the last one has an end; or one of them is the first that does not
 abbrev pub Ended : Setting → Comparison → List ℕ → Verdict → Type 0
 Ended setting c script Verdict.Agrees =
     Compared setting c (whole_lines script) × (last_part script ≡ []) × (c.text.items ≡ [])

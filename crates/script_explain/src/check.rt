@@ -75,7 +75,7 @@ pub fn check_script<R: Read, W: Write>(
     }
 }
 
-// Compares the lines, and writes what comes of it.
+// Compares the lines, and writes the verdict.
 fn check_all<W: Write>(
     alloc: Global,
     comparison: &mut Comparison,

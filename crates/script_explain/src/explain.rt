@@ -22,7 +22,7 @@ use std::alloc::{AllocError, Global};
 use std::io::{Read, Write};
 use text_parts::{Part, push_parts};
 
-// Text is written once there is so much of it.
+// How many bytes of text are collected before they are written.
 const ENOUGH: usize = 65_536;
 
 // A teller, and the text of the lines so far that is still to go out.

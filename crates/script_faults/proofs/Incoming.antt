@@ -5,7 +5,7 @@ use Rattle.std.specs.Io.KnownBytes.{Consumes, Keeps}
 use Rattle.script_lines.specs.declared.TheConstants.{MOST_BYTES}
 use Rattle.script_faults.specs.Streams.{Came, CameBeyond}
 
--- these bytes came, and so many more may come
+-- these bytes came, and this many more may come
 pub record IsIn (left_before left : Option (List ℕ)) (script : List ℕ) (room : ℕ) : Type 0 where
   pub taken : Consumes left_before left script
   pub counted : length script + room ≡ MOST_BYTES

@@ -35,7 +35,7 @@ pub enum ReportFault {
 impl ReportFault {
     /// The status that a program ends with on this fault: 1 where reading or writing failed, 2 where an
     /// event is asked for that there is not, 3 for a bad line, 4 where the history is full or memory was
-    /// refused. Takes a constant time.
+    /// refused. Takes O(1) time.
     pub fn status(&self) -> u8
         ensures { result ≡ fault_status self.now }
     {
@@ -109,7 +109,7 @@ pub fn bad_line(alloc: Global, number: u64, words: &str) -> ReportFault
     }
 }
 
-/// The fault that the last line, the one of this number, has no end. Takes a constant time.
+/// The fault that the last line, the one of this number, has no end. Takes O(1) time.
 pub fn unended(alloc: Global, number: u64) -> ReportFault
     ensures line { IsBadLine number result }
     ensures reason { HasReason (codes "the last line has no end") result }

@@ -6,14 +6,14 @@ use script_lines::line_end;
 use std::alloc::AllocError;
 use text_parts::{Part, push_parts};
 
-/// Whether the line begins with two spaces. Takes a constant time.
+/// Whether the line begins with two spaces. Takes O(1) time.
 pub fn is_indented(line: &[u8]) -> bool
     ensures { result ≡ is_indented_line line.now }
 {
     line.starts_with(b"  ")
 }
 
-/// What stands behind the two spaces that the line begins with, if it does. Takes a constant time.
+/// What stands behind the two spaces that the line begins with, if it does. Takes O(1) time.
 pub fn behind_indent(line: &[u8]) -> Option<&[u8]>
     ensures { option_map (λ text. text.now) result ≡ text_behind_indent line.now }
 {

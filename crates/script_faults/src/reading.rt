@@ -55,7 +55,7 @@ fn read_on<R: Read>(alloc: Global, reader: &mut R, block: &mut [u8]) -> Result<V
     }
 }
 
-/// The bytes behind the one at this place. Takes a constant time.
+/// The bytes behind the one at this place. Takes O(1) time.
 pub fn behind(bytes: &[u8], at: usize) -> &[u8]
     requires { at < length bytes.now }
     ensures value { result.now ≡ drop (at + 1) bytes.now }

@@ -29,7 +29,7 @@ pub struct Tables {
 }
 
 impl Tables {
-    /// No label stands for anything. Takes a constant time.
+    /// No label stands for anything. Takes O(1) time.
     pub fn new(alloc: Global, labels: LabelHash) -> Tables
         ensures { Keeps result no_names }
     {

@@ -229,7 +229,7 @@ fn push_member(
     Ok(())
 }
 
-// Puts behind it that there are so many buffers of so many bytes.
+// Puts behind it that there are this many buffers of this many bytes.
 fn push_allocated(text: &mut Vec<u8>, count: u32, size: u32) -> Result<(), AllocError>
     ensures { OnOk result (text.new.items
         ≡ text.old.items ++ (codes "allocated " ++ numbered count (decimal size))) }

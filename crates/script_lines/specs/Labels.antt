@@ -29,7 +29,7 @@ packed bytes = fold with_byte 0 bytes
 abbrev pub label_of : List ℕ → Option Label
 label_of word = if is_label word then Some (record { code = packed word }) else None
 
--- so many of the lowest digits to the base 256, without zeros in front, before these
+-- this many of the lowest digits to the base 256, without zeros in front, before these
 abbrev pub spelled : ℕ → ℕ → List ℕ → List ℕ
 spelled zero code behind = behind
 spelled (suc most) code behind = if code == 0 then behind else spelled most (code / 256) (code % 256 ∷ behind)

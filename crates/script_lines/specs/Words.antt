@@ -7,7 +7,7 @@ use denote.Ref.{Bor}
 abbrev pub words : List ℕ → List (List ℕ)
 words bytes = slice_split (λ byte. byte == 32) bytes
 
--- the words of what is left of a line, if anything is
+-- the words of the rest of a line, if there is any
 abbrev pub words_left : Option (Bor (List ℕ)) → List (List ℕ)
 words_left None = []
 words_left (Some text) = words text.now

@@ -10,7 +10,7 @@ use crate::spelling::{push, push_label, push_number};
 use sm_names::{Argument, Constraints, Object, Strength, word_of};
 use std::alloc::AllocError;
 
-/// The name of the strength: `strong` or `weak`. Takes a constant time.
+/// The name of the strength: `strong` or `weak`. Takes O(1) time.
 pub fn strength_name(strength: Strength) -> &'static str
     ensures { result.now ≡ name_of_strength strength }
 {

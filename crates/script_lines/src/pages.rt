@@ -12,7 +12,7 @@ pub struct Pages {
 }
 
 impl Pages {
-    /// So many pages, or `None` where a pool may not have as many. Takes a constant time.
+    /// This many pages, or `None` where a pool may not have as many. Takes O(1) time.
     pub fn new(count: u32) -> Option<Pages>
         ensures { SomeIff (option_map (λ pages. pages.count) result)
             ((1 ≤ count) × (count ≤ MAX_PAGES)) count }

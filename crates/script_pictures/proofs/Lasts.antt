@@ -1,4 +1,4 @@
--- What the last of some comes to.
+-- What the last element of a list decides.
 use Rattle.std.proofs.Common.{◌≡◌, refl, List, [], ◌∷◌, ◌++◌}
 use Rattle.sm_names.specs.declared.keys.NodeKey.{NodeKey}
 use Rattle.forest_store.specs.declared.node.Node.{Node}

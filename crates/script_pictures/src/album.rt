@@ -54,7 +54,7 @@ fn collection_of(core: &Core, key: NodeKey) -> Option<CollectionId>
 }
 
 impl Album {
-    /// No nodes. Takes a constant time.
+    /// No nodes. Takes O(1) time.
     pub fn new(alloc: Global) -> Album
         ensures { (id : ℕ) → known_in result id ≡ [] }
     {
@@ -187,7 +187,7 @@ impl Album {
     }
 }
 
-// The nodes with this one in the place of that which was born at its event, or behind all.
+// The nodes, where this one replaces the one of the same birth, or is appended if there is none.
 fn with_node(nodes: Vec<Node>, node: &Node) -> Result<Vec<Node>, AllocError>
     ensures { IfOk result (λ more. more.items ≡ with_seen node.now nodes.items) }
 {

@@ -26,7 +26,7 @@ pub enum Class {
     Ended,
 }
 
-/// What the node is drawn as. Takes a constant time.
+/// What the node is drawn as. Takes O(1) time.
 pub fn class_of(node: &Node) -> Class
     ensures { result ≡ class_in node.now }
 {
@@ -49,7 +49,7 @@ pub fn class_of(node: &Node) -> Class
     }
 }
 
-/// The name of what the node's end is. Takes a constant time.
+/// The name of what the node's end is. Takes O(1) time.
 pub fn kind_name(node: &Node) -> &'static str
     ensures { result.now ≡ kind_text node.now }
 {
@@ -92,7 +92,7 @@ pub fn push_pages(text: &mut Vec<u8>, pages: Interval) -> Result<(), AllocError>
 }
 
 /// What stands between the live nodes that keep a buffer and the handles: nothing where there are no such
-/// nodes. Takes a constant time.
+/// nodes. Takes O(1) time.
 pub fn gap_behind(nodes: &[NodeKey]) -> &'static str
     ensures { result.now ≡ gap_behind_nodes nodes.now }
 {

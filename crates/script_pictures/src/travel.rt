@@ -61,7 +61,7 @@ struct Trail {
 }
 
 impl Trail {
-    // No links. Takes a constant time.
+    // No links. Takes O(1) time.
     fn new(alloc: Global) -> Trail {
         Trail {
             travels: Vec::new(alloc),
@@ -206,7 +206,7 @@ fn generation_below(above: &BTreeMap<NodeKey, usize>, node: &Node) -> usize {
     }
 }
 
-// The last step behind each of so many generations, of which these are reached.
+// The last step behind each of this many generations, of which these are reached.
 fn steps_of(reached: &Vec<Reached>, count: usize, before: u64) -> Result<Vec<u64>, AllocError> {
     let mut steps = vec![in *reached.allocator(); 0u64; count]?;
     for node in reached {

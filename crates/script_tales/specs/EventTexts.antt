@@ -52,12 +52,12 @@ camp_text names head n =
 abbrev pub nobody_text : ℕ → List ℕ
 nobody_text sum = if sum == 0 then codes " nobody" else []
 
--- who of the unit camps
+-- the nodes of the unit that camp
 abbrev pub camps_text : Names → NodeKey → List Node → List ℕ
 camps_text names head nodes = concat
     (codes "  camps  " ∷ flat_map (camp_text names head) nodes ∷ nobody_text (camped_in head nodes) ∷ [])
 
--- that so many were asked for at least, where fewer are camped on
+-- that this many were asked for at least, where fewer are camped on
 abbrev pub at_least_text : ℕ → ℕ → List ℕ
 at_least_text camped count =
     let told = concat (codes "; at least " ∷ decimal count ∷ []) in
@@ -93,7 +93,7 @@ logical_text names nodes head given =
 
 -- ---- what an event left
 
--- who has the end
+-- the holder of the end
 abbrev pub end_holder : Names → End → List ℕ
 end_holder names (End.Held client) = label_text (client_label names client)
 end_holder names (End.InTransit client) = codes "a parcel"

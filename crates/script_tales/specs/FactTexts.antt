@@ -22,7 +22,7 @@ abbrev pub keeper_name : Names → Option ℕ → List ℕ
 keeper_name names (Some client) = label_text (client_label names client)
 keeper_name names None = codes "parcels"
 
--- who holds so many handles of which strength
+-- the holders of handles, with the number and strength of each
 abbrev pub holder_text : Names → Holder → List ℕ
 holder_text names holder =
     concat (keeper_name names holder.client ∷ codes " " ∷ strength_name holder.strength ∷ codes " " ∷ decimal holder.count ∷ [])

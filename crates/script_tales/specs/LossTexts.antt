@@ -28,7 +28,7 @@ use Rattle.script_tales.specs.FactTexts.{concat}
 abbrev pub name_text : Names → NodeKey → List ℕ
 name_text names node = label_text (label_of_node names node)
 
--- so many of them
+-- this many of them
 abbrev pub counted : ℕ → List ℕ → List ℕ
 counted number word = decimal number ++ codes " " ++ word ++ plural_end number
 
@@ -87,7 +87,7 @@ small_text given size = concat (
 abbrev pub count_of : Option Buffers → ℕ
 count_of given = option_map_or (λ (b : Buffers). b.count) given 0
 
--- it camps on so many of the buffers, of which so many are taken
+-- it camps on this many of the buffers, of which this many are taken
 abbrev pub camped_text : ℕ → ℕ → ℕ → List ℕ
 camped_text camping taken count = concat (
     codes "it camps on "
@@ -100,7 +100,7 @@ camped_text camping taken count = concat (
     ∷ []
     )
 
--- it asks for so many at least, and there are so many
+-- it asks for this many at least, and there are this many
 abbrev pub least_text : ℕ → ℕ → List ℕ
 least_text at_least count = concat (
     codes "it asks for at least " ∷ decimal at_least ∷ codes ", and there are " ∷ counted count (codes "buffer") ∷ []
@@ -118,7 +118,7 @@ few_text nodes given camping at_least =
     let least = least_text at_least (count_of given) in
     if nat_lt (count_of given) (min (taken + camping) (2 ^ 128 - 1)) then camped else least
 
--- why the allocation of a unit that asks so fails, where so many pages are free
+-- why the allocation of a unit that asks so fails, where this many pages are free
 abbrev pub failure_text : List Node → Option Buffers → ℕ → ℕ → ℕ → ℕ → Failure → List ℕ
 failure_text nodes given free camping at_least size Failure.NoStrong = codes "no strong node is live"
 failure_text nodes given free camping at_least size Failure.NoBuffers = codes "its unit asks for no buffer"
@@ -161,7 +161,7 @@ fault_text names nodes given free fault = concat (
     ∷ []
     )
 
--- ---- where a failure goes
+-- ---- how a failure propagates
 
 -- a node further up
 abbrev pub next_above : Names → NodeKey → List ℕ
@@ -177,7 +177,7 @@ up_text names (first ∷ others) =
 abbrev pub way_text : Names → List NodeKey → List ℕ
 way_text names way = if nat_lt (length way) 2 then [] else up_text names way
 
--- why a failure goes no further than the node, if it is no root
+-- why a failure does not propagate above the node, if it is no root
 abbrev pub stop_text : Names → Stop → NodeKey → List ℕ
 stop_text names Stop.AtRoot top = []
 stop_text names (Stop.AtAttached parent) top = concat (
@@ -217,7 +217,7 @@ abbrev pub down_text : Names → List Node → NodeKey → List NodeKey → List
 down_text names nodes top way =
     let taken = filter (is_lost_with nodes top) nodes in flat_map (handed_text names way taken) taken
 
--- that the node ends, and what goes with it
+-- that the node ends, and the nodes that end with it
 abbrev pub end_text : Names → List Node → NodeKey → List ℕ
 end_text names nodes top =
     concat (name_text names top ∷ codes " ends: no node at or below it is live\n" ∷ down_text names nodes top [] ∷ [])
@@ -226,7 +226,7 @@ end_text names nodes top =
 abbrev pub last_of : List NodeKey → Option NodeKey
 last_of way = slice_get way (length way - 1)
 
--- why a failure goes no further than the top one, and the way down
+-- why a failure does not propagate above the top one, and the way down
 abbrev pub under_text : Names → List Node → List NodeKey → NodeKey → List ℕ
 under_text names nodes way top = concat (stop_text names (stop_of nodes top) top ∷ down_text names nodes top way ∷ [])
 
@@ -238,7 +238,7 @@ below_text names nodes way = option_map_or (under_text names nodes way) (last_of
 abbrev pub way_of : List Node → NodeKey → List NodeKey
 way_of nodes origin = climb (λ k. list_any (blocks_here k) nodes) origin (above_among (reverse nodes) origin)
 
--- that the node where the fault began fails, why, and where the failure goes
+-- that the node where the fault began fails, why, and how the failure propagates
 abbrev pub loss_text : Names → List Node → Option Buffers → ℕ → Fault → List ℕ
 loss_text names nodes given free fault = concat (
     fault_text names nodes given free fault

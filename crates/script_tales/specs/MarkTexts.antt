@@ -25,7 +25,7 @@ allocated_text names scene head placed =
     let initial = option_map_or (λ (p : Buffers × List HeldBuffer). initial_text names scene.nodes.items head p.0 p.1) placed [] in
     option_map_or (λ (given : Buffers). logical_text names scene.nodes.items head given) scene.buffers initial
 
--- a mark in a collection where so many pages are free, behind which these buffers are there
+-- a mark in a collection where this many pages are free, behind which these buffers are there
 abbrev pub forced_text : Names → ℕ → Placed → Snapshot → Forced → List ℕ
 forced_text names free placed scene (Forced.Loss fault) = loss_text names scene.nodes.items scene.buffers free fault
 forced_text names free placed scene (Forced.Allocated head) = allocated_text names scene head placed

@@ -57,7 +57,7 @@ fn push_given(
     )
 }
 
-// Appends that so many buffers were asked for at least, where fewer are camped on.
+// Appends that this many buffers were asked for at least, where fewer are camped on.
 fn push_at_least(text: &mut Vec<u8>, camped: u64, count: u64) -> Result<(), AllocError>
     ensures { OnOk result (text.new.items ≡ text.old.items ++ at_least_text camped count) }
 {
@@ -124,7 +124,7 @@ fn push_shared(text: &mut Vec<u8>, tables: &Tables, head: NodeKey) -> Result<(),
     )
 }
 
-// Appends how many of so many buffers were reserved before.
+// Appends how many of this many buffers were reserved before.
 fn push_reserved(text: &mut Vec<u8>, nodes: &[Node], count: u64) -> Result<(), AllocError>
     ensures { OnOk result (text.new.items ≡ text.old.items ++ reserved_text nodes.now count) }
 {
@@ -167,7 +167,7 @@ fn camped(nodes: &[Node], head: NodeKey) -> u64
     sum
 }
 
-// Appends who of the unit camps on how many buffers.
+// Appends the nodes of the unit that camp on buffers, with the number of each.
 fn push_camps(
     text: &mut Vec<u8>,
     tables: &Tables,

@@ -1,4 +1,4 @@
-//! The text of who keeps the pages of a buffer.
+//! The text of the holders that keep the pages of a buffer.
 ghost use Rattle.std.specs.Prelude.{◌≡◌, ◌++◌, [], OnOk};
 ghost use Rattle.std.specs.List.{flat_map};
 ghost use Rattle.event_facts.specs.Facts.{holders_in};
@@ -46,7 +46,7 @@ fn live_words(nodes: &[NodeKey]) -> &'static str
     }
 }
 
-// Appends who has handles on the buffers, those in a row that the same have in one line.
+// Appends the holders of the buffers: consecutive buffers with the same holders in one line.
 pub(crate) fn push_kept(
     text: &mut Vec<u8>,
     core: &Core,
@@ -91,7 +91,7 @@ fn push_by(text: &mut Vec<u8>, row: &[u8]) -> Result<(), AllocError> {
     )
 }
 
-/// Appends who has handles on the buffer open, and how many: these clients in their order, strong
+/// Appends the holders of open handles on the buffer, and how many each has: these clients in their order, strong
 /// before weak, and the parcels last. These words stand before them, if there are some. Costs a
 /// look-up for each client and strength, and the text.
 pub fn push_holders(

@@ -18,7 +18,7 @@ pub struct Labels {
 }
 
 impl Labels {
-    /// No labels. Takes a constant time.
+    /// No labels. Takes O(1) time.
     pub fn new(alloc: Global) -> Labels
         ensures { Calls result no_names }
     {

@@ -18,8 +18,8 @@ use sm_names::{Buffers, Cause, Failure, Fault, MAX_BUFFERS, NodeKey};
 use std::alloc::AllocError;
 use text_parts::{Part, push_parts};
 
-// Appends that the node where the fault began fails, why, and where the failure goes, in the
-// collection before it; so many pages are free.
+// Appends that the node where the fault began fails, why, and how the failure propagates, in the
+// collection before it; this many pages are free.
 pub(crate) fn push_loss(
     text: &mut Vec<u8>,
     tables: &Tables,
@@ -235,7 +235,7 @@ fn push_few(text: &mut Vec<u8>, scene: &Snapshot, asks: TotalDemand) -> Result<(
     }
 }
 
-// Appends that the unit camps on so many of the buffers, of which so many are taken.
+// Appends that the unit camps on this many of the buffers, of which this many are taken.
 fn push_camped(text: &mut Vec<u8>, camping: u64, taken: u64, count: u64) -> Result<(), AllocError>
     ensures { OnOk result (text.new.items ≡ text.old.items ++ camped_text camping taken count) }
 {
@@ -253,7 +253,7 @@ fn push_camped(text: &mut Vec<u8>, camping: u64, taken: u64, count: u64) -> Resu
     )
 }
 
-// Appends that the unit asks for so many buffers at least, and there are so many.
+// Appends that the unit asks for this many buffers at least, and there are this many.
 fn push_least(text: &mut Vec<u8>, at_least: u64, count: u64) -> Result<(), AllocError>
     ensures { OnOk result (text.new.items ≡ text.old.items ++ least_text at_least count) }
 {

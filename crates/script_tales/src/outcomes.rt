@@ -110,7 +110,7 @@ fn push_next(
     push_waited(text, tables, labels, node)
 }
 
-// Appends a node that is waited for, and who has its end.
+// Appends a node that is waited for, and the holder of its end.
 fn push_waited(
     text: &mut Vec<u8>,
     tables: &Tables,

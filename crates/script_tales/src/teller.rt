@@ -51,7 +51,7 @@ pub struct Teller {
 impl Teller {
     /// A teller that has seen no line. Counts and labels hash from the seed.
     ///
-    /// `NoMemory` where the core is refused its first tables. Takes a constant time.
+    /// `NoMemory` where the core is refused its first tables. Takes O(1) time.
     pub fn new(
         alloc: Global,
         seed: [u8; 16],
@@ -328,7 +328,7 @@ impl Teller {
         }
     }
 
-    // Appends who keeps pages that did not go back, where a handle was dropped or a live node left.
+    // Appends the holders of pages that were not given back, where a handle was dropped or a live node left.
     fn push_keepers(&self, event: &Event, facts: &mut Vec<u8>) -> Result<(), Stop> {
         let Some(after) = &event.after else {
             return Ok(());
@@ -345,7 +345,7 @@ impl Teller {
         }
     }
 
-    // Appends who keeps the pages of the buffer, if they did not go back.
+    // Appends the holders of the buffer, if its pages were not given back.
     fn push_kept_one(
         &self,
         after: &Snapshot,
@@ -392,7 +392,7 @@ impl Teller {
         )
     }
 
-    // Appends who has handles on the buffers.
+    // Appends the holders of handles on the buffers.
     fn push_kept_all(&self, held: &[HeldBuffer], facts: &mut Vec<u8>) -> Result<(), Stop> {
         let session = &self.session;
         push_kept(facts, &session.core, &session.tables, &self.labels, held)

@@ -14,7 +14,7 @@ use Rattle.core_state.specs.State.{State}
 use Rattle.core_state.specs.Theorem.{tracker_told}
 use Rattle.service_lock.specs.Units.{BookSums}
 
--- a pool of so many pages, the limits, the record, the trackers that are still to be taken, and how many units can be handed out
+-- a pool of this many pages, the limits, the record, the trackers that are still to be taken, and how many units can be handed out
 pub record View : Type 0 where
   pub pool : ℕ
   pub limits : Bound
@@ -33,7 +33,7 @@ view_after s client call reply = record s {
   untaken = s.untaken ++ cons_option (tracker_told reply) [];
 }
 
--- the state with so many more units to be handed out
+-- the state with this many more units to be handed out
 abbrev pub with_parts : ℕ → View → View
 with_parts n s = record s { parts = s.parts + n }
 

@@ -62,7 +62,7 @@ abbrev pub Passed : Strength → Amounts → Amounts → Amounts → Amounts →
 Passed strength from_old from_new to_old to_new =
     (from_old ≡ with_one strength from_new) × (to_new ≡ with_one strength to_old)
 
--- each blank is that of its ledger, and of so many parts
+-- each blank is that of its ledger, and of this many parts
 pub record AreFor (events events_parts strong strong_parts weak weak_parts : ℕ) (blanks : BlankBooks) : Type 0 where
   pub events_name : blanks.events.name ≡ events
   pub events_size : (blanks.events.parts ≡ events_parts) × (events_parts ≡ 2 ^ 40)

@@ -30,7 +30,7 @@ impl<L: Ledger> Model for Tally<L> {
 }
 
 impl<L: Ledger> Tally<L> {
-    /// Makes an empty book of so many parts, and keeps one of them for the parcels.
+    /// Makes an empty book of this many parts, and keeps one of them for the parcels.
     pub fn new(blank: Blank, parts: u64) -> Tally<L>
         requires name { blank.name ≡ L.name }
         requires parts { (blank.parts ≡ L.parts) × (parts ≡ L.parts) }

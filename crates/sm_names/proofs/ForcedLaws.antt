@@ -23,7 +23,7 @@ first_none None None (Some m) d h = cc
 first_none None (Some m) c d h = cc
 first_none (Some m) b c d h = cc
 
--- where nothing is forced, all this is so
+-- where nothing is forced, all these facts hold
 pub at_rest : (pool : ℕ) (s : Standing) → forced pool s ≡ None → AtRest s
 at_rest pool s h =
     let n = first_none (ending s) (abandoned s) (initial_allocation pool s) (logical_allocation s) h in
@@ -36,7 +36,7 @@ at_rest pool s h =
     from (Some root) h =
         when-None (not root.allocated && is_ready root.key s.members) (outcome root.key (initial_failure pool s (asked s.members))) h
 
--- and where it is so, nothing is forced
+-- and where they hold, nothing is forced
 pub none_forced : (pool : ℕ) (s : Standing) → AtRest s → forced pool s ≡ None
 none_forced pool s r = rw (r.none_ends, r.none_abandoned, from (root_left s.members) r.none_waits, r.no_head) refl
   where
@@ -46,6 +46,6 @@ none_forced pool s r = rw (r.none_ends, r.none_abandoned, from (root_left s.memb
     from None h = refl
     from (Some root) h = rw h refl
 
--- what rests does so whatever pages are held
+-- what rests does so for any held pages
 pub rests_with : (s : Standing) (held : List Interval) → AtRest s → AtRest (record s { held = held })
 rests_with s held r = record { none_ends = r.none_ends; none_abandoned = r.none_abandoned; none_waits = r.none_waits; no_head = r.no_head }

@@ -10,7 +10,7 @@ use Rattle.sm_names.proofs.SamenessLaws.{either_way, none_or_some, map-Some}
 
 -- ---- the first number that passes a test
 
--- of the numbers from `from` on, so many, this one passes first
+-- of the numbers from `from` on, this many, this one passes first
 record IsLeast (test : ℕ → Bool) (from many n : ℕ) : Type 0 where
   late : from ≤ n
   early : n < from + many

@@ -14,11 +14,11 @@ abbrev pub are_in : ℕ → List Interval → Bool
 are_in pool [] = true
 are_in pool (i ∷ is) = nat_le (i.start + i.pages) pool && are_in pool is
 
--- so many pages from the start on
+-- this many pages from the start on
 abbrev pub at_pages : ℕ → ℕ → Interval
 at_pages pages start = record { start = start; pages = pages }
 
--- so many pages have room at this start and at none before it
+-- this many pages have room at this start and at none before it
 pub record IsFirst (pool pages : ℕ) (held : List Interval) (start : ℕ) : Type 0 where
   pub below : start < pool
   pub fits : has_room pool held (at_pages pages start) ≡ true
@@ -35,7 +35,7 @@ abbrev pub with_placed : ℕ → List ℕ → List Interval → List Interval
 with_placed pages [] held = held
 with_placed pages (start ∷ starts) held = with_placed pages starts (at_pages pages start ∷ held)
 
--- no start has room for so many pages
+-- no start has room for this many pages
 abbrev pub IsFull : ℕ → ℕ → List Interval → Type 0
 IsFull pool pages held =
     (start : ℕ) → start < pool → has_room pool held (at_pages pages start) ≡ false

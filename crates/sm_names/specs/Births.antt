@@ -11,7 +11,7 @@ use Rattle.sm_names.specs.declared.messages.Reply.{Reply}
 use Rattle.sm_names.specs.Marks.{Mark, Timeline, events, Called}
 use Rattle.sm_names.specs.Sameness.{same_key}
 
--- the birth of a node, by an event of a client, who holds its end first
+-- the birth of a node, by an event of a client, which holds its end first
 pub record Birth : Type 0 where
   pub node : NodeKey
   pub parent : Option NodeKey

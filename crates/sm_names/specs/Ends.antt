@@ -1,4 +1,4 @@
--- Ends, who holds them, and what waits for a client.
+-- Ends, their holders, and what waits for a client.
 -- `kind` restates `fuchsia.sysmem2.Allocator.BindSharedCollection`, `spent` restates
 -- `fuchsia.sysmem2.Node.Release`. Clients, parcels and shutting are this profile's own.
 use Rattle.std.specs.Prelude.{ℕ, Bool, false, ◌&&◌, ◌==◌, if◌then◌else◌, List, [], ◌∷◌, drop, reverse, Option, Some, None}

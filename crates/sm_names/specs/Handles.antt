@@ -82,11 +82,11 @@ buffers_of (mark ∷ before) collection =
     let on : Option Buffers = buffers_of before collection in
     if is_initial before collection mark then given else on
 
--- a buffer with so many open strong handles is doomed: there is none, and no strong node is live
+-- a buffer with this many open strong handles is doomed: there is none, and no strong node is live
 abbrev pub is_doomed : ℕ → Bool → Bool
 is_doomed strong strong_live = strong == 0 && not strong_live
 
--- a buffer with so many open handles is home: it is doomed, and no weak handle is open either
+-- a buffer with this many open handles is home: it is doomed, and no weak handle is open either
 abbrev pub is_home : ℕ → ℕ → Bool → Bool
 is_home strong weak strong_live = is_doomed strong strong_live && weak == 0
 
@@ -101,7 +101,7 @@ doomed marks buffer =
 abbrev pub home : Timeline → BufferName → Bool
 home marks buffer = doomed marks buffer && open_total marks buffer Strength.Weak == 0
 
--- the names of so many buffers
+-- the names of this many buffers
 abbrev pub names : ℕ → ℕ → List BufferName
 names collection count =
     map (λ i. record { collection = collection; index = i }) (range_with_len 0 count)

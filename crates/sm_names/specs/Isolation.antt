@@ -44,7 +44,7 @@ pub record IsAsBefore (pool : ℕ) (earlier later : Timeline) (collection : ℕ)
   -- the pages that its buffers hold
   pub pages : filter (λ h. h.buffer.collection == collection) (held pool later)
       ≡ filter (λ h. h.buffer.collection == collection) (held pool earlier)
-  -- its ends, except who holds them, and whether they are in a parcel
+  -- its ends, except their holders, and whether they are in a parcel
   pub ends : (node : NodeKey) → collection_in (births earlier) node ≡ Some collection →
       (readings later).end_of node
       ≡ option_map

@@ -6,7 +6,7 @@ use Rattle.sm_names.specs.declared.messages.Reply.{Reply}
 use Rattle.sm_names.specs.declared.outcomes.Cause.{Cause}
 use Rattle.sm_names.specs.Words.{times}
 
--- an event: who called, the call, and the reply
+-- an event: the caller, the call, and the reply
 abbrev pub Entry : Type 0
 Entry = ℕ × Call × Reply
 

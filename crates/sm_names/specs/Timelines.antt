@@ -78,7 +78,7 @@ pub data Settles (pool collection : ℕ) : Timeline → Timeline → Type 0 wher
   Forces : (marks after : Timeline) (mark : Mark) → next_forced pool collection marks ≡ Some mark →
       Settles pool collection (mark ∷ marks) after → Settles pool collection marks after
 
--- the marks and then those that the collection forces, at most so many
+-- the marks and then those that the collection forces, at most this many
 abbrev pub settled_within : ℕ → ℕ → ℕ → Timeline → Timeline
 settled_within pool collection zero marks = marks
 settled_within pool collection (suc most) marks =

@@ -46,7 +46,7 @@ pub enum Argument<C> {
     /// For children too, or for the node alone.
     Children(bool),
     Constraints(Constraints),
-    /// At most so many buffers.
+    /// At most this many buffers.
     Most(u32),
     Strength(Strength),
     /// A handle of this strength, for this client.
@@ -123,7 +123,7 @@ pub enum Product {
 }
 
 impl Product {
-    /// Whether it is an end, or may be one. Takes a constant time, as does `is_tracker`.
+    /// Whether it is an end, or may be one. Takes O(1) time, as does `is_tracker`.
     pub fn brings_end(self) -> bool
         ensures { result ≡ is_end self }
     {

@@ -38,7 +38,7 @@ pub enum Kind {
     Collection,
 }
 
-/// So many pages of the pool, of 4,096 bytes each, from page `start` on.
+/// This many pages of the pool, of 4,096 bytes each, from page `start` on.
 #[derive(Clone, Copy, Debug, PartialEq, Eq)]
 pub struct Interval {
     pub start: u32,

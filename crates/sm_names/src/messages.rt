@@ -58,7 +58,7 @@ pub enum Call {
     /// Makes a tracker that fires once the node is gone
     /// (`fuchsia.sysmem2.Node.AttachNodeTracking`).
     TrackNode(NodeKey),
-    /// Makes a tracker that fires once the node's unit is allocated and at most so many buffers of
+    /// Makes a tracker that fires once the node's unit is allocated and at most this many buffers of
     /// its collection are not home, or once the node is gone and its unit was never allocated
     /// (`fuchsia.sysmem2.BufferCollection.AttachLifetimeTracking`).
     TrackLifetime(NodeKey, u32),
@@ -81,7 +81,7 @@ pub enum Reply {
     Done,
     /// The new client.
     Joined(ClientId),
-    /// The client is shut, and so many parcels wait for it.
+    /// The client is shut, and this many parcels wait for it.
     Shut(u64),
     /// A new token.
     Token {
@@ -103,7 +103,7 @@ pub enum Reply {
     Empty,
     /// The node's unit is not allocated yet.
     Pending,
-    /// The collection has so many buffers of so many bytes each.
+    /// The collection has this many buffers of this many bytes each.
     Allocated {
         count: u32,
         size: u32,

@@ -39,7 +39,7 @@ pub enum Misuse {
 }
 
 impl Misuse {
-    /// The misuse's number, from 1. Takes a constant time.
+    /// The misuse's number, from 1. Takes O(1) time.
     pub fn number(self) -> u8
         ensures { result ≡ misuse_number self }
     {
@@ -52,7 +52,7 @@ impl Misuse {
         }
     }
 
-    /// The misuse's name, as it is spelled here. Takes a constant time.
+    /// The misuse's name, as it is spelled here. Takes O(1) time.
     pub fn name(self) -> &'static str
         ensures { result.now ≡ misuse_name self }
     {
@@ -119,7 +119,7 @@ pub enum Refusal {
 }
 
 impl Refusal {
-    /// The refusal's number, from 1. Takes a constant time. A call is checked in another order, which
+    /// The refusal's number, from 1. Takes O(1) time. A call is checked in another order, which
     /// `answers_first` defines: NoSuchHandle precedes the limits.
     pub fn number(self) -> u8
         ensures { result ≡ refusal_number self }
@@ -138,7 +138,7 @@ impl Refusal {
         }
     }
 
-    /// The refusal's name, as it is spelled here. Takes a constant time.
+    /// The refusal's name, as it is spelled here. Takes O(1) time.
     pub fn name(self) -> &'static str
         ensures { result.now ≡ refusal_name self }
     {

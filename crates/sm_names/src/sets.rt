@@ -4,7 +4,7 @@ ghost use Rattle.std.specs.Int.{bit_at};
 
 use crate::rules::MAX_BUFFERS;
 
-/// Whether the set has the buffer with this index: bit i stands for buffer i. Takes a constant
+/// Whether the set has the buffer with this index: bit i stands for buffer i. Takes O(1)
 /// time.
 pub fn has_buffer(set: u64, index: u8) -> bool
     requires { index < MAX_BUFFERS }

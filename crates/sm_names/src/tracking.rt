@@ -6,7 +6,7 @@ use crate::keys::{BufferName, CollectionId, NodeKey, TrackerId};
 pub enum Condition {
     /// The node is gone (`fuchsia.sysmem2.Node.AttachNodeTracking`).
     Node(NodeKey),
-    /// The node's unit was allocated and at most so many buffers of its collection are not home,
+    /// The node's unit was allocated and at most this many buffers of its collection are not home,
     /// or the node is gone and its unit was never allocated
     /// (`fuchsia.sysmem2.BufferCollection.AttachLifetimeTracking`).
     Lifetime(NodeKey, CollectionId, u32),

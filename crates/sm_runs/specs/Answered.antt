@@ -158,7 +158,7 @@ strangers =
     ∷ (0, Call.Collect, Reply.Refused Refusal.NoSuchClient)
     ∷ []
 
--- client 1 gives its root to nobody, and to client 9, who did not join
+-- client 1 gives its root to client 0, and to client 9, which did not join
 abbrev pub given_to_nobody : List Entry
 given_to_nobody =
     (0, Call.Join, Reply.Joined 1)

@@ -75,7 +75,7 @@ pub fn the_receiver_is_looked_at_before_the_end()
         (answered_instead (Reply.Refused Refusal.NoSuchEnd) gift_of_a_spent_end) → ⊥ }
 {}
 
-/// Clients are made by client 0 alone, and who was not made is refused, whatever it calls and
+/// Client 0 alone makes clients. A client that was not made is refused, whatever it calls and
 /// whatever is given to it.
 pub fn strangers_are_refused()
     ensures legal { IsLegal 16 full strangers }

@@ -1,4 +1,4 @@
--- A session that goes on by one line.
+-- A session that advances by one line.
 use Rattle.std.proofs.Common.{◌≡◌, ◌≢◌, ◌≤◌, ℕ, List, [], ◌++◌, refl, sym, ap, ◌∙◌, subst, Some}
 use Rattle.sm_names.specs.declared.messages.Call.{Call}
 use Rattle.script_labels.specs.declared.act.Act.{Act}

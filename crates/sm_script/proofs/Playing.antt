@@ -1,4 +1,4 @@
--- A run that goes on by one line, or stops at it.
+-- A run that is extended by one line, or stops at it.
 use Rattle.std.proofs.Common.{◌≡◌, ◌≢◌, ℕ, ◌+◌, ◌≤◌, List, [], ◌∷◌, ◌++◌, length-append, append_assoc, append-nil, refl, sym, ap, ◌∙◌, subst, Option, inl, inr, arith}
 use Rattle.std.proofs.KnownBytes.{Appends-trans}
 use Rattle.std.specs.Io.KnownBytes.{Appends}

@@ -30,7 +30,7 @@ told-so_far setting player old new lines far empty =
     so_far-told setting player old new lines far new (subst (Appends new new) (sym empty) (Appends-nil new))
 
 module _ (left_before old : Option (List ℕ)) (first : Player) where
-  -- these bytes came, the lines that end in them were answered, and so many more may come
+  -- these bytes came, the lines that end in them were answered, and this many more may come
   pub record Come (left now : Option (List ℕ)) (player : Player) (front : List ℕ) (room : ℕ) : Type 0 where
     pub script : List ℕ
     pub taken : Consumes left_before left script

@@ -10,7 +10,7 @@ use Rattle.sm_script.specs.Runs.{IsOver}
 use Rattle.sm_script.specs.Scenes.{Scene, Setting}
 use Rattle.sm_script.specs.Sessions.{IsAt, IsStopped}
 
--- what is over in the session is over in the setting
+-- a session that a full history stops is over in the setting
 pub over-in : (setting : Setting) (session : Session) (scene : Scene) (line : List ℕ) → session.core.pool ≡ setting.pool →
     session.core.limits ≡ setting.limits → IsStopped session line scene Stop.HistoryFull → IsOver setting scene line
 over-in setting session scene line pool limits why = record {

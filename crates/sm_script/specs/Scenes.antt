@@ -61,7 +61,7 @@ pub data Plays (pool : ℕ) : Scene → List (List ℕ) → List ℕ → Scene �
       Answers pool scene line text next → Plays pool next lines texts last →
       Plays pool scene (line ∷ lines) (text ++ texts) last
 
--- a pool of so many pages, and the limits
+-- a pool of this many pages, and the limits
 pub record Setting : Type 0 where
   pub pool : ℕ
   pub limits : Bound

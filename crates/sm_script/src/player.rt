@@ -13,7 +13,7 @@ use sm_names::{Limits, MAX_PAGES, NoMemory};
 use std::alloc::Global;
 use std::io::Write;
 
-// Text is written once it has so many bytes.
+// Text is written once it has this many bytes.
 const ENOUGH: usize = 65_536;
 
 // A session, the number of answered lines, and the text of these lines that is not written yet.

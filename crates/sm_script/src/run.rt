@@ -23,7 +23,7 @@ const BLOCK: usize = 65_536;
 /// firing that this reader knows, if the core knows it too. `seed` is that of the hash tables of labels
 /// and handles, best of random bytes: it changes costs, but no output.
 ///
-/// If the run comes to the end of the script, the output is the text of all lines. Otherwise:
+/// If the run reaches the end of the script, the output is the text of all lines. Otherwise:
 /// - `ReadFault`: the reader failed, or the script has more than `MOST_BYTES` bytes. The output is
 ///   the text of the whole lines among the bytes that were read.
 /// - `WriteFault`: the writer failed, or took nothing, or could not be flushed. The output is a
@@ -153,7 +153,7 @@ fn answer_all<W: Write>(
     }
 }
 
-// Ends a run after so many lines, with this front of a further line, if it is not empty.
+// Ends a run after this many lines, with this front of a further line, if it is not empty.
 fn end_run<W: Write>(writer: &mut W, front: &[u8], lines: u64) -> Result<(), ScriptFault>
     requires { lines + 1 < 2 ^ 64 }
     ensures kept { Keeps (W.contents writer.old) (W.contents writer.new) }

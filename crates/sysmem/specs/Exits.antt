@@ -10,7 +10,7 @@ fault_code PartFault.NoSuchClient = 9
 fault_code PartFault.HistoryFull = 5
 fault_code PartFault.NoMemory = 6
 
--- so many events were made, and then no more for the reason that the code tells
+-- this many events were made, and then no more for the reason that the code tells
 pub record StoppedBy (old new : State) (client count code : ℕ) : Type 0 where
   pub fault : PartFault
   pub told : code ≡ fault_code fault

@@ -31,13 +31,13 @@ is_end_spent (End.Held client) = false
 is_end_spent (End.InTransit client) = false
 is_end_spent End.Spent = true
 
--- who holds the end, or gave it away, or 0
+-- the client that holds the end or gave it away, or 0
 abbrev pub holder_number : End → ℕ
 holder_number (End.Held client) = client
 holder_number (End.InTransit client) = client
 holder_number End.Spent = 0
 
--- what is so of the node, a bit each
+-- the properties of the node, one bit each
 abbrev pub flags_of : Node → ℕ
 flags_of n =
     ((((((flag n.attached 1 + flag n.allocated 2) + flag n.gone 4) + flag (is_some n.fault) 8) + flag n.released 16) + flag n.dispensable 32)

@@ -1,4 +1,4 @@
--- What is handed to those who run a script.
+-- The arguments of the functions that run a script.
 use Rattle.std.specs.Prelude.{Bool, true, false}
 use Rattle.command_line.specs.declared.task.Format.{Format as AskedFormat}
 use Rattle.script_draw.specs.declared.draw.Format.{Format}
@@ -9,7 +9,7 @@ abbrev pub output_for : Bool → Output
 output_for true = Output.Transcript
 output_for false = Output.Report
 
--- the format that is asked for, in the words of those who draw it
+-- the format that is asked for, as `script_draw` names it
 abbrev pub format_for : AskedFormat → Format
 format_for AskedFormat.Text = Format.Text
 format_for AskedFormat.Dot = Format.Dot

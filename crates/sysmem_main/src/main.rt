@@ -231,7 +231,7 @@ fn output_of(has_record: bool) -> Output
     }
 }
 
-// The picture that is asked for, in the words of those who draw it.
+// The picture that is asked for, as `script_draw` names it.
 fn drawn(view: View) -> script_draw::View
     ensures { result ≡ record { format = format_for view.format; at = view.at } }
 {

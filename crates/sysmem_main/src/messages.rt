@@ -46,7 +46,7 @@ impl fmt::Display for Misplaced<'_> {
     }
 }
 
-/// Why a file can't be opened, where the system gives an error of this kind. Takes a constant time.
+/// Why a file can't be opened, where the system gives an error of this kind. Takes O(1) time.
 pub(crate) fn reason_of(kind: ErrorKind) -> &'static str
     ensures { result.now ≡ open_reason kind }
 {

@@ -1,9 +1,9 @@
--- What a part of a text comes to.
+-- The text of a part.
 use Rattle.std.specs.Prelude.{ℕ, ◌==◌, if◌then◌else◌, List, [], ◌++◌, codes, decimal}
 use Rattle.script_lines.specs.Labels.{label_text}
 use Rattle.text_parts.specs.declared.Part.{Part}
 
--- what follows a word that so many are counted of
+-- what follows a word that this many are counted of
 abbrev pub plural_end : ℕ → List ℕ
 plural_end number = if number == 1 then [] else codes "s"
 

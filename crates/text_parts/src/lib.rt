@@ -59,7 +59,7 @@ fn push_counted(text: &mut Vec<u8>, number: u64, word: &str) -> Result<(), Alloc
     push(text, ending(number))
 }
 
-// What follows a word that so many are counted of.
+// What follows a word that this many are counted of.
 fn ending(number: u64) -> &'static str
     ensures { result.now ≡ plural_end number }
 {

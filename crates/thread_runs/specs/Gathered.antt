@@ -34,7 +34,7 @@ abbrev pub first_fault : {E S W : Type 0} → List (ActorEnd E S W) → Option T
 first_fault [] = None
 first_fault (end ∷ ends) = option_or (end_fault end) (first_fault ends)
 
--- what is left of the actor: gone, or there with what it holds
+-- the part that the actor leaves: its remains if it vanished, or itself with what it holds
 abbrev pub IsLeft : {E S W : Type 0} → ActorEnd E S W → Holding E S W → Type 0
 IsLeft (ActorEnd.Wrecked wreck) (Holding.Wrecked remains) = remains ≡ wreck
 IsLeft (ActorEnd.Stopped client held fault) (Holding.Present one its) = (one ≡ client) × (held_in its ≡ held_in held)
@@ -62,8 +62,8 @@ first_stray (line ∷ lines) [] = Some line
 first_stray (line ∷ lines) (part ∷ parts) =
     let later = first_stray lines parts in if line == part then later else Some part
 
--- the record is a legal history with this pool and these limits, those who joined are just those of the parts, in order, each own list is its client's part, and
--- the text is what is told of it
+-- the record is a legal history with this pool and these limits, the clients that joined are just those of the parts, in order,
+-- each own list is its client's part, and the text is what is told of it
 pub record TellsRecord {E S W : Type 0} (output : Output) (pages : ℕ) (limits : Bound) (s : View) (labels : List Label)
     (parts : List (Holding E S W)) (text : List ℕ) : Type 0 where
   pub legal : IsLegal pages limits s.history
@@ -71,7 +71,7 @@ pub record TellsRecord {E S W : Type 0} (output : Output) (pages : ℕ) (limits 
   pub own_lists : All (Matches s.history) parts
   pub told : text ≡ told_text output labels s.history
 
--- one of those who joined has no part at its place, or a part has another client's line beside it: this is the first such client
+-- a client that joined has no part at its place, or a part has another client's line beside it: this is the first such client
 abbrev pub IsStray : {E S W : Type 0} → View → List (Holding E S W) → GatherFault → Type 0
 IsStray s parts (GatherFault.MissingClient client) = first_stray (joined s.history) (ids_of parts) ≡ Some client
 IsStray s parts _ = ⊥

@@ -38,7 +38,7 @@ abbrev pub told_text : Output → List Label → List Entry → List ℕ
 told_text Output.Report labels history = report_of [] labels history
 told_text Output.Transcript labels history = record_text labels history ++ report_of (codes "# ") labels history
 
--- the text is what is told of a legal history, with a pool of so many pages and these limits, in which the actors of the company
+-- the text is what is told of a legal history, with a pool of this many pages and these limits, in which the actors of the company
 -- joined in their order, and nobody else, and each of them played its script
 pub record IsRunText (output : Output) (pages : ℕ) (limits : Bound) (company : Actors) (text : List ℕ) : Type 0 where
   pub history : List Entry

@@ -42,7 +42,7 @@ fn part_of<E: Setup, S: Ledger, W: Ledger>(
     }
 }
 
-// Puts what is left of each actor into the list, in order, and answers why the first of those that
+// Puts the part of each actor into the list, in order, and answers why the first of those that
 // did not vanish did not.
 pub(crate) fn part_all<E: Setup, S: Ledger, W: Ledger>(
     alloc: Global,

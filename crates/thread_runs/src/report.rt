@@ -142,7 +142,7 @@ fn tell<E: Setup, S: Ledger, W: Ledger, R: Wait>(
     (parts, told)
 }
 
-// The report on the actors, and what is left of them.
+// The report on the actors, and the part that each leaves.
 fn run_all<
     E: Setup + Send + Sync,
     S: Ledger + Send + Sync,

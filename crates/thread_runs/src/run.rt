@@ -17,7 +17,7 @@ use std::thread::Threads;
 use std::time::Clock;
 
 /// Runs the script of actors that the reader holds, each actor in a thread of its own, against a new
-/// service with a pool of so many pages, and writes the report of what they leave, or also their record.
+/// service with a pool of this many pages, and writes the report of what they leave, or also their record.
 ///
 /// The whole script is read before any line is judged, and all lines are judged before any actor
 /// starts. Nothing is written before all actors have ended and all that they left was gathered. The
@@ -34,7 +34,7 @@ use std::time::Clock;
 /// - `HistoryFull`, `NoThread`: a client could not join or an actor could not make a call, since as
 ///   many events were made as may be; or the system gave an actor no thread. It is the fault of the
 ///   first of the actors that did not come to their end, in the order of the joins.
-/// - `Gather`: what the actors left is not all that there is, or not what is on record; or those who
+/// - `Gather`: the actors' parts are not complete, or don't agree with the record; or the clients that
 ///   joined are not just the actors in their order, reported as the first client that is elsewhere.
 /// - `WriteFault`: the writer failed, or took nothing, or could not be flushed. The output is a
 ///   first part of that.

@@ -78,7 +78,7 @@ in_slot_of_waiting slots fired place waits = waits_in slots fired place.number p
 
 module _ (slots : Slots) (fired : List Fired) (places : List Place) (at : ℕ) (place : Place) (is : get_or places at place ≡ place)
     (within : at < length (rows_of slots fired places)) (sound : RowsInvariant slots fired places) where
-  -- so many places
+  -- this many places
   inside : at < length places
   inside = omega (arith, within, rows_long slots fired places)
 

@@ -173,7 +173,7 @@ join_step f qs at q condition place empty none more =
     let nothing : weigh f (map (wish_at condition) empty) ≡ 0 = ap (λ (l : List (ℕ × ℕ)). weigh f (map (wish_at condition) l)) none in
     omega (arith, more, nothing, weigh_between f (take at qs) q (drop at qs), weigh_halves f qs at)
 
--- ---- a part of what each list asks goes
+-- ---- a part of each list is removed
 
 -- what two lists have from a place on begins alike, and goes on so
 pub drop_next : (xs ys : List WaitList) (at : ℕ) (d : WaitList) → at < length xs → at < length ys → drop at xs ≡ drop at ys →

@@ -52,7 +52,7 @@ module _ (w : World) (e : ℕ) (start : List TrackerRow) (had : List Fired) wher
     pub place : at ≡ length done
     pub reach : MetPlaces w (length done + 1) todo due
 
-  -- what is over with one more row that is not met
+  -- the rows that are done, and one more whose condition does not hold
   done_pass : (done : List TrackerRow) (row : TrackerRow) (todo rows : List TrackerRow) → is_met w row ≡ false → rows ≡
       map (row_after w e) done ++ row ∷ todo →
       rows ≡ map (row_after w e) (done ++ row ∷ []) ++ todo
@@ -107,7 +107,7 @@ module _ (w : World) (e : ℕ) (start : List TrackerRow) (had : List Fired) wher
       stand rows fired (get_or due i 0) (drop (i + 1) due) (subst (Walked rows fired) (drop_more due i 0 below) walked)
 
   module _ (rows : List TrackerRow) (fired : List Fired) (at : ℕ) (due : List ℕ) (stands : Stands rows fired at due) where
-    -- so many rows are done
+    -- this many rows are done
     at_length : length (map (row_after w e) stands.done) ≡ at
     at_length = length-map stands.done (row_after w e) ∙ sym stands.place
 

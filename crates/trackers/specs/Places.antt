@@ -57,7 +57,7 @@ IsKept slots count number name InSlot = IsSomeAnd (slot_at slots number) (λ (ro
 IsKept slots count number name Untaken = number < count
 IsKept slots count number name Taken = number < count
 
--- what the place names is there, where there are so many firings
+-- what the place names is there, where there are this many firings
 abbrev pub IsKeptAt : Slots → ℕ → Place → Type 0
 IsKeptAt slots count place = IsKept slots count place.number place.note.cell place.stage
 

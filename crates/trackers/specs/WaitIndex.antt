@@ -63,7 +63,7 @@ entries_of index collection = entries_in (lists_of index collection)
 abbrev pub is_wish_met : World → Wish → Bool
 is_wish_met world wish = holds world wish.0
 
--- the places of the rows of which that is so
+-- the places of the rows whose condition holds
 abbrev pub met_in : World → List Wish → List ℕ
 met_in world wishes = map (λ (wish : Wish). wish.1) (filter (is_wish_met world) wishes)
 

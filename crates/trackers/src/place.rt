@@ -78,7 +78,7 @@ pub(crate) fn is_due_at<W: World>(
     }
 }
 
-/// Makes room for one place and one row, and for one firing beside those of so many that wait.
+/// Makes room for one place and one row, and for one firing beside those of this many that wait.
 pub(crate) fn make_room(
     places: &mut Vec<Place>,
     slots: &mut Slab<Row>,

@@ -55,7 +55,7 @@ impl Model for Trackers {
 }
 
 impl Trackers {
-    /// No trackers, of which so many may wait at once. It takes no memory.
+    /// No trackers, of which this many may wait at once. It takes no memory.
     pub fn new(alloc: Global, limit: u32) -> Trackers
         ensures { result ≡ empty limit }
     {
@@ -96,7 +96,7 @@ impl Trackers {
         }
     }
 
-    /// How many trackers wait. It takes no memory and constant time.
+    /// How many trackers wait. It takes no memory and O(1) time.
     pub fn waiting(&self) -> usize
         ensures { result ≡ length self.now.unfired }
     {
@@ -140,7 +140,7 @@ impl Trackers {
     }
 
     /// The firings in their order: by event, as the sweeps came, and by rising id within one. It
-    /// takes constant time and no memory.
+    /// takes O(1) time and no memory.
     pub fn fired(&self) -> &[Fired]
         ensures { result.now ≡ self.now.fired }
     {

@@ -52,7 +52,7 @@ impl Range {
         }
     }
 
-    /// The number of the node so many steps behind the first.
+    /// The number of the node this many steps behind the first.
     pub fn at(self, step: u32) -> usize {
         if self.first < self.last {
             self.first.saturating_add(step) as usize

@@ -41,7 +41,7 @@ stays start i (x ∷ is) other (suc k) lt at =
       | inr keep ↦ rw keep (suc r.0, omega (arith, r.1), r.2)
     ]
 
--- one goes back
+-- one is given back
 pub one_goes : (at : ℕ) (list held : List Interval) (back : Interval) → at < length list → back ≡ get_or list at back
     → AreToCome at list held → AreToCome (at + 1) list (without back.start held)
 one_goes at list held back lt is t =

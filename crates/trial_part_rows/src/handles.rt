@@ -61,7 +61,7 @@ fn bytes_of(seed: u64) -> [u8; 16] {
     [u8::try_from(seed).unwrap_or(u8::MAX); 16]
 }
 
-// How many of so many clients hash with their twins as the first one does.
+// How many of this many clients hash with their twins as the first one does.
 fn alike_under(seed: u64, clients: u64) -> u64 {
     let hash = CountHash::new(bytes_of(seed));
     let first = hash_of(hash, 1);

@@ -21,7 +21,7 @@
 //!
 //!     place COUNT PAGES                 places buffers: prints their pages, and how many holes were looked at
 //!     back FIRST LAST STEP              gives back the buffers that begin at these pages, one by one
-//!     run START PAGES                   gives back at once all of so many pages that lie side by side from a page on
+//!     run START PAGES                   gives back at once all of this many pages that lie side by side from a page on
 //!     held                              prints the pages of each buffer
 //!
 //! Counts. C is a client, B a buffer, S is `strong` or `weak`.

@@ -84,7 +84,7 @@ fn push_other(text: &mut Text, word: &str, number: Option<u64>) {
 }
 
 impl Nodes {
-    /// A table for so many nodes, whose slots begin at this generation.
+    /// A table for this many nodes, whose slots begin at this generation.
     pub fn new(alloc: Global, limit: usize, generation: u32) -> Nodes {
         Nodes {
             alloc,
@@ -139,7 +139,7 @@ impl Nodes {
         }
     }
 
-    // Bears so many nodes below one, each beside the one before, or below it. Answers the last birth.
+    // Bears this many nodes below one, each beside the one before, or below it. Answers the last birth.
     fn bear_each(&mut self, above: u64, count: u64, deep: bool) -> Birth {
         let mut parent = above;
         let mut last = Birth::Refused;

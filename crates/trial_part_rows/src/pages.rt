@@ -61,7 +61,7 @@ fn give_back(pool: &mut Pool, range: Range) -> u64 {
     }
 }
 
-// Whether the interval is of so many pages, and lies behind so many others of as many from this page on.
+// Whether the interval is of this many pages, and lies behind this many others of as many from this page on.
 fn is_next(next: Interval, start: u32, pages: u32, count: u32) -> bool
     ensures { result ≡ true → next ≡ in_run start pages count }
 {
@@ -69,7 +69,7 @@ fn is_next(next: Interval, start: u32, pages: u32, count: u32) -> bool
     next.pages == pages && u64::from(next.start) == end
 }
 
-// How many of these are of so many pages and lie side by side from this page on.
+// How many of these are of this many pages and lie side by side from this page on.
 fn run_from(held: &[Interval], start: u32, pages: u32) -> u32
     ensures { HasRun start pages result held.now }
 {
@@ -83,7 +83,7 @@ fn run_from(held: &[Interval], start: u32, pages: u32) -> u32
     count
 }
 
-// Gives back at once all that are of so many pages and lie side by side from this page on, and answers
+// Gives back at once all that are of this many pages and lie side by side from this page on, and answers
 // how many those are.
 fn give_back_from(pool: &mut Pool, start: u32, pages: u32) -> u64 {
     match pool.held() {
@@ -119,7 +119,7 @@ fn push_intervals(held: &[Interval], text: &mut Text) {
 }
 
 impl Pages {
-    /// A pool of so many pages, if it may have so many and there is memory.
+    /// A pool of this many pages, if it may have this many and there is memory.
     pub fn new(alloc: Global, pages: u32) -> Option<Pages> {
         if pages == 0 || MAX_PAGES < pages {
             return None;
@@ -130,7 +130,7 @@ impl Pages {
         }
     }
 
-    // Places so many buffers of so many pages.
+    // Places this many buffers of this many pages.
     fn place(&mut self, count: u32, pages_each: u32, text: &mut Text) {
         if count == 0 || pages_each == 0 {
             return text.word(": not understood");
@@ -159,7 +159,7 @@ impl Pages {
         text.push(&[Part::Word(before), Part::Number(free), Part::Word(" free")]);
     }
 
-    // Puts behind what is there that so many buffers went back.
+    // Puts behind what is there that this many buffers went back.
     fn push_back(&self, count: u64, text: &mut Text) {
         text.push(&[Part::Word(": "), Part::Counted(count, "buffer")]);
         self.push_free(", ", text);

@@ -24,7 +24,7 @@ impl Player {
         *self = player;
     }
 
-    // A pool of so many pages, if one can be made.
+    // A pool of this many pages, if one can be made.
     fn put_pages(&mut self, alloc: Global, pages: u32) -> bool {
         match Pages::new(alloc, pages) {
             Some(pages) => {

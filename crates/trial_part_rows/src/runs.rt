@@ -25,7 +25,7 @@ fn push_run(text: &mut Text, run: Run, step: u64) {
     }
 }
 
-/// Puts one number behind what is there, which covers so many.
+/// Puts one number behind what is there, which covers this many.
 pub fn push_one(text: &mut Text, number: u64, covers: u64) {
     let run = Run {
         first: number,
@@ -35,7 +35,7 @@ pub fn push_one(text: &mut Text, number: u64, covers: u64) {
 }
 
 /// Numbers that are written one after another, those that follow each other by this step as one run; each number
-/// covers so many, as a buffer covers its pages.
+/// covers this many, as a buffer covers its pages.
 #[derive(Clone, Copy)]
 pub struct Runs {
     step: u64,

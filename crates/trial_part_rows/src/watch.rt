@@ -68,7 +68,7 @@ const QUIET: Here = Here {
     doomed: None,
 };
 
-// The world in which so many buffers are left.
+// The world in which this many buffers are left.
 fn left(number: u64) -> Here {
     Here {
         gone: None,
@@ -114,7 +114,7 @@ fn waiting(id: TrackerId, condition: Condition) -> Waiting
     }
 }
 
-// That so many buffers of the node of a slot are left at most.
+// That this many buffers of the node of a slot are left at most.
 fn lifetime(slot: u64, most: u64) -> Condition {
     Condition::Lifetime(node(slot), HERE, small(most))
 }
@@ -147,7 +147,7 @@ pub struct Watch {
 }
 
 impl Watch {
-    /// No trackers, of which so many may wait at once.
+    /// No trackers, of which this many may wait at once.
     pub fn new(alloc: Global, limit: u32) -> Watch {
         Watch {
             trackers: Trackers::new(alloc, limit),
@@ -189,7 +189,7 @@ impl Watch {
         self.trackers.sweep(self.event, HERE, world);
     }
 
-    // Attaches lifetimes, for each number of buffers from the first to the last one of each of so many nodes, whose
+    // Attaches lifetimes, for each number of buffers from the first to the last one of each of this many nodes, whose
     // slots are 7 apart.
     fn track_each(&mut self, numbers: [u64; 4]) -> Result<TrackerId, TrackFault> {
         let [first, last, nodes, _] = numbers;
@@ -237,7 +237,7 @@ impl Watch {
         }
     }
 
-    // Puts the trackers that fired behind the first so many behind what is there.
+    // Puts the trackers that fired behind the first this many behind what is there.
     fn push_fired(&self, before: usize, text: &mut Text) {
         let mut runs = Runs::new(1);
         text.word(":");
@@ -247,7 +247,7 @@ impl Watch {
         runs.end(text);
     }
 
-    // How many of the trackers that fired behind the first so many did so at this event.
+    // How many of the trackers that fired behind the first this many did so at this event.
     fn count_since(&self, before: usize) -> u64 {
         let mut count: u64 = 0;
         for one in self.trackers.fired().iter().skip(before) {
@@ -272,7 +272,7 @@ impl Watch {
         ]);
     }
 
-    // Sweeps at the next event with so many buffers left, and answers how many trackers fire.
+    // Sweeps at the next event with this many buffers left, and answers how many trackers fire.
     fn count_swept(&mut self, number: u64) -> u64 {
         let before = self.trackers.fired().len();
         self.pass();

@@ -2,7 +2,7 @@
 use std::io;
 use std::io::{ErrorKind, Read};
 
-/// So many bytes a read, and an error at read `fails` (0: none).
+/// This many bytes a read, and an error at read `fails` (0: none).
 #[derive(Drop)]
 pub struct ShortReader<'a> {
     pub bytes: &'a [u8],

@@ -1,4 +1,4 @@
--- A birth, after which what is left to be done is done at the place of the collection.
+-- A birth, after which the forced steps are made at the place of the collection.
 use Rattle.alloc_event.proofs.Common.{◌≡◌, ℕ, ◌==◌, refl, ap, sym, ◌∙◌, subst, true, false, List, [], ◌∷◌, map, get_or, Option, Some, None, find, HeldBuffer, NodeKey, Table, Change, Entry, Node, Unit, Collection, IsStored, Shelf, collection_in, forest_of, nodes_with, place_in, shelves_of, is_of, Handles, collection_or_new, Holdings, MayClose, AreServedByGiven, none_in, place_is, get_or_default, sorted_by, Finishes, Gives, with_birth, before_is, IsForest, Closes, is_some, false≢true, node_at, collection_at, collection_none}
 use Rattle.forest_store.specs.Forest.{IsPoolOf}
 use Rattle.std.proofs.lemmas.Bool.{eq-eqb}

@@ -91,7 +91,7 @@ closing-fits (Call.Close key) reply is =
     let same : Reply.Done ≡ reply = cc in subst (λ (x : Reply). fits_call (Call.Close key) x ≡ true) same refl
 closing-fits _ reply is = cc
 
--- who is told of a failure named a node
+-- a call that is answered with a failure named a node
 closed-fits : (call : Call) (fault : Option Fault) → is_some (key_of call) ≡ true →
     Fits call (option_map (λ (f : Fault). Reply.PeerClosed f.cause f.origin) fault)
 closed-fits call None named reply is = cc
@@ -112,7 +112,7 @@ peer-fits r call reply is = by (key_of call) refl
     by None none = let no : None ≡ Some reply = rw none at is in cc
     by (Some key) some = at (option_and_then r.end_of (key_of call)) (ap is_some some) is
 
--- so did who misused one
+-- so did a call that misused one
 misused-fits : (call : Call) (b : Bool) (m : Misuse) → is_some (key_of call) ≡ true → Fits call (misused_if b m)
 misused-fits call true m named reply is =
     let same : Reply.Misused m ≡ reply = cc in subst (λ (x : Reply). fits_call call x ≡ true) same named

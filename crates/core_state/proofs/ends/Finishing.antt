@@ -1,4 +1,4 @@
--- An end is put elsewhere and what is over is forgotten: what is left is what the marks keep.
+-- An end gets a new holder and the nodes that are over are forgotten: the marks keep just the remaining nodes.
 use Rattle.std.proofs.Common.{ℕ, ◌≡◌, refl, ap, sym, ◌∙◌, Bool, true, false, not, ◌&&◌, ◌||◌, ◌==◌, ◌⊎◌, inl, inr, List, [], ◌∷◌, map, length, Option, Some, None, arith}
 use Rattle.std.proofs.lemmas.Bool.{eqb-true}
 use Rattle.std.specs.List.{filter}

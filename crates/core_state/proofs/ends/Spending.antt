@@ -1,4 +1,4 @@
--- An end is spent, and what is over is forgotten.
+-- An end is spent, and the nodes that are over are forgotten.
 use Rattle.std.proofs.Common.{ℕ, ◌≡◌, ◌<◌, refl, ap, sym, ◌∙◌, subst, Bool, true, false, ◌==◌, ◌||◌, ◌&&◌, not, if◌then◌else◌, List, [], ◌∷◌, ◌++◌, length, map, Option, Some, None, arith}
 use Rattle.std.proofs.lemmas.Bool.{eqb-true, eqb-false, not-true}
 use Rattle.std.specs.List.{filter, flat_map, AllByRecursion}

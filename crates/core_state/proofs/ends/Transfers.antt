@@ -1,4 +1,4 @@
--- An end goes to another client or to a parcel.
+-- An end is moved to another client or to a parcel.
 use Rattle.std.proofs.Common.{ℕ, ◌≡◌, refl, ap, sym, ◌∙◌, subst, Bool, true, false, ◌||◌, ◌&&◌, not, if◌then◌else◌, List, [], ◌∷◌, ◌++◌, map, Option, Some, None}
 use Rattle.std.proofs.lemmas.List.{length-map}
 use Rattle.std.specs.List.{filter, flat_map}
@@ -134,7 +134,7 @@ module _ (f : Forest) (sound : IsSound f) (key : NodeKey) (end : End) (here : No
   pub carried_held : all_held g ≡ all_held f
   carried_held = placed_held key end unspent f.collections
 
--- the forest once the end that is carried, if one is, is where it goes
+-- the forest once the end that is moved, if one is, has its new holder
 pub record Carries (f g : Forest) : Type 0 where
   pub sound : IsSound g
   pub tidy : g.collections ≡ without_over g.collections

@@ -82,7 +82,7 @@ module _ (s : State) (marks : Timeline) (shown : IsAfter s marks) (limits : Boun
     pub untaken : (id : ℕ) → is_untaken t.untaken id ≡ true →
         list_any (λ (u : Tracked). u.id == id) (tracked (after s.pool marks (client, call, reply))) ≡ true
 
-  -- who was tracked is so still
+  -- a tracked node stays tracked
   tracked_later : (o : Option Tracked) → o ≡ tracked_at marks (Called client reply call) →
       tracked (after s.pool marks (client, call, reply)) ≡ cons_option o (tracked marks)
   tracked_later o is = tracked_after s.pool marks entry ∙ ap (λ (x : Option Tracked). cons_option x (tracked marks)) (sym is)

@@ -1,4 +1,4 @@
--- What trackers look at stays, for those that are not due, where an end is put elsewhere and what is over is forgotten.
+-- The facts that a tracker depends on stay, if it is not due, as an end gets a new holder and the nodes that are over are forgotten.
 use Rattle.std.proofs.Common.{ℕ, ◌≡◌, refl, ap, sym, ◌∙◌, subst, Bool, true, false, ◌==◌, ◌&&◌, nat_le, not, if◌then◌else◌, inl, inr, List, [], map, length, Option, Some, None, is_some, IfSome}
 use Rattle.std.proofs.lemmas.Bool.{eqb-true, not-true}
 use Rattle.std.specs.List.{filter, list_any}
@@ -73,10 +73,10 @@ module _ (f : Forest) (named : AreNamed f) where
           ∙ found_collection c c.id on refl) in
           named.once c on m n (subst (λ (x : Collection). In m x.nodes) same d.2) n_in keys
 
--- ---- what is over
+-- ---- nodes that are over
 
 module _ (o : Option Place) where
-  -- the collection, once that end is put elsewhere and what is over is forgotten, if anything is left of it
+  -- the collection once that end has its new holder and the nodes that are over are forgotten, if anything is left of it
   abbrev pub left_of : Collection → Option Collection
   left_of c = if is_left (finished o c) then None else Some (finished o c)
 

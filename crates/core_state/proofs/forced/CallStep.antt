@@ -195,7 +195,7 @@ module _ (s : State) (marks : Timeline) (shown : IsAfter s marks) (limits : Boun
         (some_strong_live (members_idle buffer.collection i))))
         && idle.opens_alike buffer Strength.Weak i
 
-    -- so no page goes back
+    -- so no page is given back
     pub held_idle : held s.pool (Called client reply call ∷ marks) ≡ held s.pool marks
     held_idle = filter-In (λ (h : HeldBuffer). not (home called h.buffer)) (λ (h : HeldBuffer).
         not (home marks h.buffer)) (placed s.pool marks) (λ h on. ap not (home_idle h.buffer))

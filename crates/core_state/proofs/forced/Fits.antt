@@ -154,7 +154,7 @@ pub record IsFitting (f : Forest) (w : Work) : Type 0 where
   pub room : leaves_tracker_room w.change (collection_or_new f w.collection).nodes ≡ true
   pub fresh : (key : NodeKey) → given f key ≡ false → list_any (is_of key) (collection_or_new f w.collection).nodes ≡ false
 
--- that is so of what a call changes
+-- the same holds of a call's change
 pub is_fitting : (pool : Holdings) (s now : State) (client : ℕ) (call : Call) (asked : Reply) → s ≡ now →
     IsWholeCore pool s.limits s.events s.clients s.forest s.holds s.trackers →
     asked ≡ answer now.limits (readings_of now) client no_key call →

@@ -130,14 +130,14 @@ abandoned_ends : (s : Standing) → NoEnd (abandoned s)
 abandoned_ends s top is = let found = and_then-Some _ (root_left s.members) (Ended top) is in let yes =
     when-Some _ (Loss found.0.key Cause.NoStrong) (Ended top) found.2 in cc
 
--- nor is what comes of the root unit
+-- nor is the outcome of the root unit
 initial_ends : (pool : ℕ) (s : Standing) → NoEnd (initial_allocation pool s)
 initial_ends pool s top is =
     let found = and_then-Some _ (root_left s.members) (Ended top) is in
     let yes = when-Some _ (outcome found.0.key (initial_failure pool s (asked s.members))) (Ended top) found.2 in
     outcome_ends found.0.key (initial_failure pool s (asked s.members)) top yes.1
 
--- nor is what comes of an attached unit
+-- nor is the outcome of an attached unit
 logical_ends : (s : Standing) → NoEnd (logical_allocation s)
 logical_ends s top is =
     let found = and_then-Some _ s.buffers (Ended top) is in

@@ -212,7 +212,7 @@ module _ (s : State) (client : ℕ) (call : Call) (asked : Reply) (task : Option
         here None may work e = cc
         here (Some t) may work e = in_task t t.change refl may work e
 
-    -- nor once an end is put elsewhere and what is over is forgotten
+    -- nor once an end has a new holder and the nodes that are over are forgotten
     pub out_after : (place : Option Place) (g : Forest) → g.collections ≡ without_over (with_place place worked).collections → IsSound g →
         NoBufferHome (total holds) g
     out_after place g left sound d on =

@@ -48,7 +48,7 @@ named_in id n index below =
     let found = In-list_any (λ b. same_buffer b x) (names id n) (named_below id n x ∙ rw (eq-eqb id id refl, below) refl) in
     subst (λ (y : BufferName). In y (names id n)) (same_buffer-true found.0 x found.2) found.1
 
--- those of so many buffers that pass, where none that passes is full
+-- those of this many buffers that pass, where none that passes is full
 opens_some : (limits : Bound) (s : State) (id : ℕ) (strength : Strength) (p : BufferName → Bool) (o : Option Buffers) →
     s.holds.limit ≡ limits.handles →
     list_any (is_at_limit limits (readings_of s) strength) (filter p (option_map_or (λ (b : Buffers). names id b.count) o [])) ≡ false →

@@ -42,12 +42,12 @@ same_counts old new each in_parcels in_all = λ i. record {
 
 -- ---- one count, where only that of these handles changes
 
--- it goes up
+-- it grows
 pub up : {new old at : ℕ} (x : Bool) → new ≡ (if x then at + 1 else old) → (x ≡ true → at ≡ old) → new ≡ old + one_if x
 up true is one = let here = one refl in omega arith
 up false is one = omega arith
 
--- it goes down
+-- it shrinks
 pub down : {new old at : ℕ} (x : Bool) → 0 < at → new ≡ (if x then at - 1 else old) → (x ≡ true → at ≡ old) → old ≡ new + one_if x
 down true some is one = let here = one refl in omega arith
 down false some is one = omega arith

@@ -69,7 +69,7 @@ is_one [] c id on is = absurd on
 is_one (d ∷ cs) c id (inl here) is = rw (eq-eqb d.id id (ap (λ (x : Client). x.id) (sym here) ∙ is)) refl
 is_one (d ∷ cs) c id (inr on) is = or_right (d.id == id) (one_of (ids cs) id) (is_one cs c id on is)
 
--- where each client loses so many and gets so many, so do all
+-- where each client loses this many and gets this many, so do all
 tallied : (w : Client → ℕ) (next : Client → Client) (out got : ℕ → ℕ) (cs : List Client) →
     ((c : Client) → In c cs → w (next c) + out c.id ≡ w c + got c.id) →
     sum_by w (map next cs) + sum_by out (ids cs) ≡ sum_by w cs + sum_by got (ids cs)

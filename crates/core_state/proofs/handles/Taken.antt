@@ -102,7 +102,7 @@ module _ (pool : ℕ) (limits : Bound) where
 
 -- ---- a node that is not gone has a root that is not gone
 
--- what goes at the root goes everywhere in its collection
+-- if the root is gone, so is each node of its collection
 module _ (marks : Timeline) (ord : IsOrdered marks) (root : Birth) (there : In root (births marks)) (top : root.parent ≡ None)
     (taken : gone marks root.node ≡ true) where
   -- each node of a gone root's collection is gone, by induction from the oldest birth

@@ -24,7 +24,7 @@ use Rattle.core_state.proofs.handles.Opening.{same_counts, up, down, still, one_
 
 -- ---- one count
 
--- it goes up by what is gained
+-- it grows by what is gained
 goes_up : {old new : ℕ} (x y : Bool) → y ≡ x → new ≡ old + one_if x → GoesBy old new y false
 goes_up x y is more = record { adds_up = rw is (omega arith); was_there = λ h. cc; not_both = λ h. cc }
 

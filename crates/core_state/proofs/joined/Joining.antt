@@ -1,4 +1,4 @@
--- What an event does to the clients, and what is known of who has not joined.
+-- What an event does to the clients, and what is known of a client that has not joined.
 use Rattle.std.proofs.Common.{ℕ, ◌≡◌, refl, ap, sym, ◌∙◌, subst, Bool, true, false, not, ◌||◌, inl, inr, List, [], ◌∷◌, ◌++◌, drop, map, reverse, Option, Some, None, is_some}
 use Rattle.std.proofs.lemmas.Bool.{eqb-true, false≢true}
 use Rattle.std.proofs.lemmas.List.{append-nil, map-append, reverse-append}
@@ -28,9 +28,9 @@ use Rattle.core_state.specs.Shown.{client_after}
 use Rattle.core_state.specs.State.{Client}
 use Rattle.core_state.specs.Steps.{client_by, clients_by, new_client}
 
--- ---- who has not joined
+-- ---- a client that has not joined
 
--- who shuts has joined
+-- a client that shuts has joined
 shuts_joined : (limits : Bound) (marks : Timeline) (caller : ℕ) (reply : Reply) (call : Call) →
     IsAnswer limits (readings marks) caller call reply → (client : ℕ) → shuts client (Called caller reply call) ≡ true →
     has_joined marks client ≡ true
@@ -60,7 +60,7 @@ stranger_not_shut pool limits _ (Answers before caller reply call g answer) clie
     e) stranger) in
     rw (now, stranger_not_shut pool limits before g client stranger) refl
 
--- so who has not joined is as a new client
+-- so a client that has not joined is as a new one
 stranger_is_new : (pool : ℕ) (limits : Bound) (marks : Timeline) → Grows pool limits [] marks → (client : ℕ) →
     has_joined marks client ≡ false → client_after marks client ≡ new_client client
 stranger_is_new pool limits marks grown client h = λ i. record {
@@ -71,13 +71,13 @@ stranger_is_new pool limits marks grown client h = λ i. record {
 
 -- ---- one more mark
 
--- who collects is given nothing
+-- a client that collects is given nothing
 collects_given_none : (client : ℕ) (mark : Mark) → collects client mark ≡ true → given_at client mark ≡ None
 collects_given_none client (Called caller (Reply.Collected key kind collection) Call.Collect) h = refl
 collects_given_none client (Called caller (Reply.CollectedHandle buffer strength) Call.Collect) h = refl
 collects_given_none client _ h = absurd (false≢true h)
 
--- what waits goes by the mark
+-- the waiting parcels change as the mark says
 parcels-by : (marks : Timeline) (mark : Mark) (client : ℕ) → IsDrawn marks →
     parcels (mark ∷ marks) client ≡ drop (one_if (collects client mark)) (parcels marks client) ++ cons_option (given_at client mark) []
 parcels-by marks mark client drawn = elim (either_way (collects client mark)) [

@@ -92,7 +92,7 @@ module _ (keep : NodeKey → Bool) (marks : Timeline) (collection : ℕ) (w : Is
 
 -- ---- what a loss takes
 
--- the nodes that are not gone tell the highest one that the failure of one of them goes to
+-- the nodes that are not gone determine the highest one that a failure of one of them reaches
 highest-left : (marks : Timeline) (collection : ℕ) → IsWhole marks → (b : Birth) → gone marks b.node ≡ false →
     highest (left_of (members marks collection)) (member marks b) ≡ highest (members marks collection) (member marks b)
 highest-left marks collection w b here =

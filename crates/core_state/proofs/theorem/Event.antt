@@ -194,7 +194,7 @@ worked_is handles s client call asked task key worked work made done =
     by None done = done.0
     by (Some w) settled = settled
 
--- nor where an end goes
+-- nor the new holder of an end
 pub same_end : (client : ℕ) (call : Call) (asked : Reply) (key : Option NodeKey) →
     end_by client call (with_key asked key) ≡ end_by client call asked
 same_end client call (Reply.Token first c) None = refl

@@ -1,4 +1,4 @@
--- Each legal history that a state shows goes on by an answered event to one that the next state shows.
+-- Each legal history that a state shows, extended by an answered event, is legal, and the next state shows it.
 use Rattle.std.proofs.Common.{ℕ, ◌≡◌, ◌<◌, ◌+◌, refl, ap, sym, ◌∙◌, subst, true, false, ◌||◌, ◌==◌, not, inl, inr, List, [], ◌∷◌, ◌++◌, map, length, Option, Some, None, arith}
 use Rattle.std.specs.List.{cons_option}
 use Rattle.std.specs.Option.{option_map_or}
@@ -149,7 +149,7 @@ module _ (s : State) (marks : Timeline) (shown : IsAfter s marks) (limits : Boun
 
 -- ---- histories
 
--- a call that is answered, and whose event the next state follows, goes on each history that the old state shows
+-- a call that is answered, and whose event the next state follows, extends each history that the old state shows
 pub goes_on : (old new : State) (client : ℕ) (call : Call) (reply : Reply) → IsAnswer old.limits (readings_of old) client call reply →
     Follows old new client call reply →
     old.events < old.limits.events → GoesOn old new ((client, call, reply) ∷ [])

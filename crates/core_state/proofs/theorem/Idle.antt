@@ -28,7 +28,7 @@ use Rattle.core_state.proofs.theorem.Fields.{whole_then}
 
 -- ---- a mark that nobody sees
 
--- the mark moves no handle, makes and shuts no client, and no parcel goes or comes
+-- the mark moves no handle, makes and shuts no client, and sends and delivers no parcel
 record IsUnseen (mark : Mark) : Type 0 where
   opened : (who : ℕ → Bool) (b : BufferName) (s : Strength) → opens who b s mark ≡ false
   dropped : (who : ℕ → Bool) (b : BufferName) (s : Strength) → drops who b s mark ≡ false
@@ -39,7 +39,7 @@ record IsUnseen (mark : Mark) : Type 0 where
   collected : (client : ℕ) → collects client mark ≡ false
   given : (client : ℕ) → given_at client mark ≡ None
 
--- a count to which nothing comes and from which nothing goes
+-- a count that nothing changes
 stays : (n : ℕ) (gained lost : Bool) → gained ≡ false → lost ≡ false → GoesBy n n gained lost
 stays n gained lost none nothing = rw (none, nothing) (record { adds_up = refl; was_there = λ e. cc; not_both = λ e. refl })
 

@@ -8,11 +8,11 @@ use Rattle.core_state.specs.Shown.{Shows}
 use Rattle.core_state.specs.State.{State}
 use Rattle.core_state.specs.Theorem.{GoesOn, entries}
 
--- a state goes on by no entries to itself
+-- a state advances by no entries to itself
 pub goes_nowhere : (s : State) → GoesOn s s []
 goes_nowhere s history shows = subst (Shows s) (sym (append-nil history)) shows
 
--- where one state goes on to the next and that to a third, the first goes on to the third by all entries
+-- if one state advances to the next and that to a third, the first advances to the third by all entries
 pub goes_far : (old mid new : State) (first then : List Entry) → GoesOn old mid first → GoesOn mid new then → GoesOn old new (first ++ then)
 goes_far old mid new first then one two history shows =
     subst (Shows new) (append_assoc history first then) (two (history ++ first) (one history shows))

@@ -56,7 +56,7 @@ module _ (s : State) (marks : Timeline) (shown : IsAfter s marks) (limits : Boun
   abbrev moved : Option Place
   moved = end_by client call reply
 
-  -- who was born stays so
+  -- a node that was born stays so
   still_born : (b : Birth) → In b (births marks) → In b (births (after s.pool marks (client, call, reply)))
   still_born b on =
       kept-after (λ m. In b (births m)) (λ m mark quiet there. In_old (birth_at (events m + 1) mark) (births m) b there) s.pool marks

@@ -66,7 +66,7 @@ strong_live_is pool marks collection =
 
 -- ---- where the end is
 
--- who holds it
+-- its holder
 holder_is : (marks : Timeline) (node : NodeKey) → spent marks node ≡ false → holder_of (end_after marks node) ≡ holder marks node
 holder_is marks node e =
     rw e (elim (in_transit marks node) as (λ (b : Bool).

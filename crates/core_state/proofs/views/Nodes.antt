@@ -30,7 +30,7 @@ use Rattle.core_state.proofs.lists.Maps.{filter-map, filter-reverse, map-flat_ma
 use Rattle.core_state.proofs.lists.Reorderings.{Mixed, In-mixed, In-mixed_back}
 use Rattle.core_state.proofs.collections.Roots.{listed_once, listed_kept}
 
--- ---- what is over
+-- ---- nodes that are over
 
 -- the end reads as spent if it was spent
 pub spent_end : (marks : Timeline) (node : NodeKey) → is_spent (end_after marks node) ≡ spent marks node

@@ -44,14 +44,14 @@ any-reverse p (x ∷ xs) =
 -- ---- the readings
 
 module _ (s : State) (marks : Timeline) (shown : IsAfter s marks) where
-  -- who joined
+  -- the clients that joined
   joined_is : (client : ℕ) → list_any (λ (c : Client). c.id == client) s.clients ≡ has_joined marks client
   joined_is client =
       ap (list_any (λ (c : Client). c.id == client)) shown.clients
       ∙ (list_any-map (λ (c : Client). c.id == client) (client_after marks) (reverse (clients marks))
       ∙ any-reverse (λ c. c == client) (clients marks))
 
-  -- who joined is as the marks make it, and is found
+  -- a client that joined is as the marks make it, and is found
   client_is : (client : ℕ) → joined_client s client ≡ cond (has_joined marks client) (Some (client_after marks client)) None
   client_is client =
       ap (find (λ (c : Client). c.id == client)) shown.clients
@@ -92,7 +92,7 @@ module _ (s : State) (marks : Timeline) (shown : IsAfter s marks) where
         ∙ (length-mixed (kept_births marks) (kept_by_collection marks) (mixed_births s marks shown limits grown)
         ∙ length-filter (λ (b : Birth). is_kept marks b.node) (births marks)))
 
-    -- who was shut
+    -- the clients that are shut
     shut_is : (client : ℕ) → (readings_of s).is_shut client ≡ is_shut marks client
     shut_is client = ap (λ (o : Option Client). option_map_or (λ (c : Client). c.shut) o false) (client_is client)
         ∙ from (has_joined marks client) refl

@@ -76,7 +76,7 @@ module _ {t : Table Node} {nodes : List Node} (tied : IsTied t nodes) where
       left_at k (inl is) = rw is left
       left_at k (inr on) = (line_at _ left).left k on
 
-  -- a failure takes what lies at or below the highest node that it goes to
+  -- a failure takes the nodes at or below the highest node that it reaches
   pub fall_line : (origin : NodeKey) → is_left_of nodes origin ≡ true → (keys : List NodeKey) → IsFall t origin keys →
       (n : Node) → In n nodes → n.gone ≡ false → list_any (same_key n.key) keys ≡ is_below nodes (highest_at origin) n.key
   fall_line origin left keys fall n on here =

@@ -52,7 +52,7 @@ pub places_sorted : (pool pages count : ℕ) (is : List Interval) →
 places_sorted pool pages count is = places_same pool pages count _ is (λ test. any_sorted _ is)
 
 module _ (pool : ℕ) (others : List Interval) (c : Collection) (head : NodeKey) (wants : Buffers) where
-  -- what the decision comes to
+  -- the outcome of the decision
   abbrev step : Mark
   step = mark_of pool (pages_in c ++ others) (Places head wants)
 

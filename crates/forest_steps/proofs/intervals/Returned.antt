@@ -82,7 +82,7 @@ holds_one held front rest h others is =
     (any_sorted (same h.pages) (pages_held front ++ h.pages ∷ (pages_held rest ++ others))
     ∙ among h.pages (pages_held front) (pages_held rest ++ others)))
 
--- the loop comes to one more buffer
+-- the loop handles one more buffer
 pub kept_here : (out : HeldBuffer → Bool) (held : List HeldBuffer) (i : ℕ) (h : HeldBuffer) → i < length held →
     filter out (take i held) ++ drop i held ≡ filter out (take i held) ++ get_or held i h ∷ drop (i + 1) held
 kept_here out held i h within = at_drop_more (λ l. filter out (take i held) ++ l) held i h within

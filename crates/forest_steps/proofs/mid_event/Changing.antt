@@ -426,7 +426,7 @@ module _ {t now : Table Node} {us after : List Unit} {ss : List Shelf} {e new : 
       out = inl refl;
     }
 
-    -- so many strong nodes are live then as were worked out
+    -- this many strong nodes are live then as were worked out
     strong_told : (counts : Option EffectCounts) → AreCountsThen t us e key effect counts →
         strong_then e counts ≡ strong_count (map (affected key effect) (nodes_with t e.keys.items))
     strong_told None keeps = under.store.strong ∙ sym (times_map is_strong _ f nodes (keeps.strong key))

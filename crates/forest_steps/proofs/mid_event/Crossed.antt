@@ -1,4 +1,4 @@
--- Where nodes fall, each unit is held as it was but the one right above them, and none comes to its turn by it.
+-- Where nodes fail, each unit except the one right above them is held as it was, and none becomes pending by it.
 use Rattle.forest_steps.proofs.Common.{◌≡◌, refl, ap, sym, ◌∙◌, subst, Bool, true, false, not, ◌&&◌, ◌||◌, ◌⊎◌, inl, inr, List, ◌∷◌, map, Option, Some, None, arith, not-true, list_any, list_all, option_map_or, NodeKey, same_key, In, In-list_any, In-map, In-map-back, and_both, and_left, and_right, both_ways, either_way, false_if, same_key-true, some-injective, In-any, all_on, Node, is_left_of, waiting, Collection, IsWhole, is_of, is_next_node, is_ready_node, is_root_left, is_head, or-true, or_none_right, or_none_left, is_allocated_node, left_parent, all-In, IsSameNode, is_none, or_cases, or_left, or_right, same_key-refl, hangs_in, are_held_except, holds_unit, is_held, is_next_except, waits_among, hangs_mapped}
 use Rattle.forest_steps.proofs.tables.Upward.{own_head, still_here, by_unit}
 use Rattle.forest_steps.proofs.mid_event.RootLost.{waits_was}
@@ -156,7 +156,7 @@ module _ {c : Collection} {falls : NodeKey → Bool} {top above : Node} (way : A
       root_one : (x : Node) → In x nodes → is_root_left (f x) ≡ is_root_left x
       root_one x on = grind (arith, up_of)
 
-      -- who is in an allocated unit now was so before
+      -- a node of a unit that is allocated now was in an allocated unit before
       allocated_before : (p : NodeKey) → list_any (is_allocated_node p) now ≡ true → list_any (is_allocated_node p) nodes ≡ true
       allocated_before p h =
           let x = In-list_any _ now h in

@@ -92,7 +92,7 @@ pub record IsAbove (nodes : List Node) (h : Node) (over : NodeKey) : Type 0 wher
   pub live : times (lives_in node.key) nodes ≡ 0
   pub below : times (heads_below nodes node.key) nodes ≡ 1
 
--- where so many steps from a head come to
+-- where this many steps from a head come to
 pub record IsTop (nodes : List Node) (t : Table Node) (us : List Unit) (first : NodeKey) (n : ℕ) (from : NodeKey) : Type 0 where
   pub top : Node
   pub keys : List NodeKey
@@ -189,7 +189,7 @@ module _ {t : Table Node} {us : List Unit} {ss : List Shelf} {e : Entry} {first 
       let no : Some q.head ≡ None = sym some ∙ last in
       cc
 
-  -- so with enough steps it comes to the highest
+  -- so with enough steps it reaches the highest
   reach : (n : ℕ) {h : Node} {keys : List NodeKey} → AreLoose nodes h keys → is_one keys first ≡ true → length (above h.key) ≤ n →
       IsTop nodes t us first n h.key
   reach zero {h} {keys} unheld own few = record {

@@ -61,13 +61,13 @@ module _ (pool : ℕ) (others : List Interval) (c : Collection) (distinct : are_
         held)) Failure.PoolFull)
     step_if found (Some why) = λ is. cc
 
-    -- the root that waits comes to its allocation
+    -- the waiting root is allocated
     waits_if : (w : Option Node) → waiting c.nodes ≡ w →
         IfSome (first_some (option_map (λ (n : Node). first_step c.nodes n.key) w ∷ None ∷ [])) (IsRootIf held)
     waits_if None is = tt
     waits_if (Some n) is = step_if (ready_root c.nodes is).found _
 
-    -- or a unit ends, or the root is lost: without buffers no attached unit comes to its allocation
+    -- or a unit ends, or the root is lost: without buffers no attached unit is allocated
     decided_if : (a r w : Option Node) → waiting c.nodes ≡ w → (strong_open : Bool) →
         IfSome (first_some (option_map (λ (n : Node). Ends n.key) a ∷ losing c.nodes strong_open r
         ∷ option_map (λ (n : Node). first_step c.nodes n.key) w ∷ None ∷ [])) (IsRootIf held)

@@ -49,7 +49,7 @@ pub turns_none : (handles : Handles) (t : Table Node) (us : List Unit) (e : Entr
     HaveTurns handles t t us us e e buffers all all
 turns_none handles t us e buffers all ss under turns waits given = (led_none _ under, (turns, waits))
 
--- what comes of one turn, if it is the next
+-- the outcome of one logical allocation, if it is the next
 abbrev pub Takes : Handles → Table Node → Table Node → List Unit → List Unit → Entry → Entry → Buffers → NodeKey → Type 0
 Takes handles t now us vs old new buffers head =
     (ss : List Shelf) (place : ℕ) (ws : List PendingUnit) → MidEvent t us ss old [] (head ∷ turn_heads ws) →

@@ -1,4 +1,4 @@
--- A root whose unit comes to its allocation, and is lost instead.
+-- A root whose unit becomes ready, and is lost instead.
 use Rattle.forest_steps.proofs.Common.{◌≡◌, refl, ap, sym, ◌∙◌, subst, true, false, not, ◌&&◌, inl, List, [], ◌∷◌, Option, Some, None, not-true, find, list_all, option_and_then, NodeKey, Cause, when, In, In-find, and_left, and_right, Table, Entry, Node, Unit, waiting, with_nodes, Shelf, collection_in, nodes_with, put_shelf, shelf_of, is_ready_node, is_root_left, Handles, Failure, after_loss, found_put, left_in, arith, AllocationOutcome, IsComing, IsRooted, MidEvent, AfterRemoval, MayGo, when-Some, none_if, map, and_both, In-map, is_some, drop}
 use Rattle.forest_steps.proofs.failures.AllGone.{AreGone, held_gone, next_gone, root_gone}
 use Rattle.forest_steps.proofs.mid_event.Ready.{whole_under, under_with}

@@ -1,4 +1,4 @@
--- The root's unit comes to its allocation by an effect: what is forced then.
+-- An effect makes the root's unit ready: what is forced then.
 use Rattle.forest_steps.proofs.Common.{◌≡◌, ℕ, refl, ap, sym, ◌∙◌, subst, Bool, true, false, not, ◌||◌, inl, inr, is_none, ◌⊎◌, List, [], ◌∷◌, ◌++◌, map, Option, Some, None, find, list_any, HeldBuffer, Interval, NodeKey, Buffers, Cause, same_key, when, either_way, same_key-true, all_on, Table, Entry, Node, Unit, has_strong, Collection, Shelf, nodes_with, is_deserted_node, Failure, outcome, names, places, pages_of, first_some, Holdings, with_buffers, Decision, Loses, Places, decided, first_step, mark_of, wanted_by, pages_in, after_allocation, IsSound, by_page, made, all-In, arith, Result, Ok, Err, laid_out, AllocationOutcome, IsPlacing, IsComing, IsAllocationOutcome, first_made, wants_of, MidEvent, holds_unit, is_held}
 use Rattle.std.specs.Option.{IfSome}
 use Rattle.forest_store.specs.Decisions.{IsStep}

@@ -1,4 +1,4 @@
--- The root's unit comes to its allocation by an effect, and all that follows is made: the forest then.
+-- An effect makes the root's unit ready, and the allocation and all that follows are made: the forest then.
 use Rattle.forest_steps.proofs.Common.{◌≡◌, ℕ, refl, ap, sym, ◌∙◌, subst, true, false, inl, inr, List, [], ◌∷◌, ◌++◌, map, get_or, set, Some, None, option_map, find, list_any, sum_by, HeldBuffer, Interval, NodeKey, Demand, forced, Table, Change, Effect, Entry, Node, Unit, has_strong, waiting, Collection, with_nodes, Shelf, collection_in, forest_of, nodes_with, place_in, put_shelf, shelf_of, shelves_of, affected, is_deserted_node, reserved_count, Handles, collection_or_new, put, standing, get_or-set_same, Mark, sorted_by, Holdings, first_step, mark_of, wanted_by, IsPoolOf, all_held, beside, pages_in, IsOpen, Finishes, after_allocation, IsOutcomeIn, IsReady, IsSettledIn, changed_in, starts_differ, by_page, asked_with, Forces, changed, made, no_key, forced_made, start_of, counted_but, shelves_put, IsPlace, place_is, set_put, arith, AllocationOutcome, Closes, MayClose, IsComing, IsPlanned, IsRooted, IsAllocationOutcome, comes_first, first_made, shelf_then, wants_of, AfterEffect, IsBeside, MidEvent, Reaches, are_held_except, holds_unit}
 use Rattle.forest_steps.specs.declared.initial_allocation.Plan.{Plan}
 use Rattle.forest_store.specs.Calm.{put_in}

@@ -1,4 +1,4 @@
--- A node that goes: what it keeps, what it counts for no more, and how it is written.
+-- A node that is removed: what it keeps, where it is not counted any more, and how it is written.
 use Rattle.forest_store.proofs.Common.{In-map, all_on, ◌≡◌, ℕ, ◌==◌, refl, ap, sym, ◌∙◌, Bool, true, false, ◌||◌, ◌⊎◌, inl, inr, if◌then◌else◌, List, [], ◌∷◌, map, Option, Some, None, cons_option, list_all, list_any, NodeKey, same_key, In, either_way, same_key-refl, same_key-true, Table, node_at, Node, lives_in, waits_in, is_filed, nodes_with, and-false, Going, gone_by, all_of, is_strong, stored, written, camped, and-true, arith}
 use Rattle.forest_store.proofs.changes.Finishing.{keys_in}
 use Rattle.forest_store.proofs.lists.Lookups.{in_nodes, same_key-swap}
@@ -9,7 +9,7 @@ use Rattle.forest_store.proofs.tallies.Reserved.{camped_but, camped_gone}
 use Rattle.forest_store.proofs.tallies.Untold.{but}
 use Rattle.forest_store.proofs.tables.Writing.{IsSameNode}
 
--- ---- one node that goes
+-- ---- one node that is removed
 
 -- going changes only the mark and the fault
 pub gone_same : (going : Going) (n : Node) → IsSameNode (gone_by going n) n
@@ -29,18 +29,18 @@ goes_in going keys n e = λ i. if e i then gone_by going n else n
 pub goes_not : (going : Going) (keys : List NodeKey) (n : Node) → list_any (same_key n.key) keys ≡ false → goes_of going keys n ≡ n
 goes_not going keys n e = λ i. if e i then gone_by going n else n
 
--- either it goes, which keeps the place, or it stays
+-- either it is removed, which keeps the place, or it stays
 pub same_of : (going : Going) (keys : List NodeKey) (n : Node) → IsSameNode (goes_of going keys n) n
 same_of going keys n = elim (list_any (same_key n.key) keys) as (λ (b : Bool). IsSameNode (if b then gone_by going n else n) n) [
   | true ↦ gone_same going n
   | false ↦ record { key = refl; parent = refl; attached = refl; collection = refl; head = refl }
 ]
 
--- either it goes, which keeps the allocation, or it stays
+-- either it is removed, which keeps the allocation, or it stays
 pub given_of : (going : Going) (keys : List NodeKey) (n : Node) → (goes_of going keys n).allocated ≡ n.allocated
 given_of going keys n = grind arith
 
--- either it goes now, or it is as before
+-- either it is removed now, or it is as before
 pub gone_of : (going : Going) (keys : List NodeKey) (n : Node) → (goes_of going keys n).gone ≡ (list_any (same_key n.key) keys || n.gone)
 gone_of going keys n = grind arith
 
@@ -55,7 +55,7 @@ but_is test none going keys n = grind (arith, and-false, and-true)
 pub strong_gone : (m : Node) → m.gone ≡ true → is_strong m ≡ false
 strong_gone m e = rw e refl
 
--- a node that goes is counted no longer, and one that stays as before
+-- a node that is removed is not counted any more, and one that stays is counted as before
 pub strong_but : (keys : List NodeKey) (going : Going) (n : Node) → is_strong (goes_of going keys n) ≡ but is_strong keys n
 strong_but keys going n = but_is _ strong_gone _ keys n
 
@@ -88,7 +88,7 @@ module _ (t : Table Node) (named : (key : NodeKey) (n : Node) → node_at t key 
       let key : k ≡ x.0 = a.2 ∙ (ap (λ (n : Node). n.key) b.2 ∙ ((gone_same going b.0).key ∙ named x.0 b.0 x.2)) in
       rw (key, x.2) (all-In (λ (n : Node). n.collection == id) (nodes_with t ks) b.0 b.1 own))
 
-  -- a node is written as it goes where its key is among these
+  -- a node is written as gone if its key is among these
   pub stored_goes : (ks : List NodeKey) (n : Node) → node_at t n.key ≡ Some n → (x : Node) → (x ≡ n) ⊎ (x ≡ gone_by going n) →
       stored (map (gone_by going) (nodes_with t ks)) x ≡ (if list_any (same_key n.key) ks then gone_by going n else x)
   stored_goes [] n is x one = refl

@@ -40,7 +40,7 @@ module _ (t : Table Node) (named : (key : NodeKey) (n : Node) → node_at t key 
   with_more : nodes_with t (done ++ k ∷ []) ≡ nodes_with t done ++ cons_option (node_at t k) []
   with_more = filter_map-append _ done _
 
-  -- one node more is written as it goes
+  -- one more node is written as gone
   pub went_more : (now : Table Node) → (node_at u k ≡ None → now ≡ u) →
       ((n : Node) → node_at u k ≡ Some n → now ≡ table_with_node u k (gone_by going n)) →
       ((n : Node) → node_at u k ≡ Some n → Writes u now k (gone_by going n)) →

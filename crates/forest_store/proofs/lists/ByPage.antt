@@ -16,7 +16,7 @@ put_is new (i ∷ is) = ap (λ (l : List Interval). cond (nat_lt i.start new.sta
 pub not_lt : (a b : ℕ) → b ≤ a → nat_lt a b ≡ false
 not_lt a b l = le-ltb a b l
 
--- an interval goes in front of one that does not begin before it
+-- an interval is inserted in front of one that does not begin before it
 pub front : (new i : Interval) (is : List Interval) → nat_lt i.start new.start ≡ false →
     put_in new (i ∷ is) ≡ new ∷ i ∷ is
 front new i is h = rw h refl
@@ -26,7 +26,7 @@ pub behind : (new i : Interval) (is : List Interval) → nat_lt i.start new.star
     put_in new (i ∷ is) ≡ i ∷ put_in new is
 behind new i is h = rw h refl
 
--- two of so many pages go in in either order
+-- two of this many pages go in in either order
 pub swap_in : (pages a b : ℕ) (is : List Interval) →
     put_in (at_pages pages a) (put_in (at_pages pages b) is) ≡ put_in (at_pages pages b) (put_in (at_pages pages a) is)
 swap_in pages a b is = elim (cases_eq a b) [

@@ -40,7 +40,7 @@ module _ {A : Type 0} (number : A → ℕ) where
   first_insert x y [] le first = (le, tt)
   first_insert x y (z ∷ zs) le first = grind (arith, first_insert x y zs le first.1)
 
-  -- by induction: the element goes before the first that is not smaller
+  -- by induction: the element is inserted before the first that is not smaller
   rises_insert : (x : A) (xs : List A) → Rises xs → Rises (insert_by number x xs)
   rises_insert x [] rises = (tt, tt)
   rises_insert x (y ∷ ys) rises = elim (either_way (nat_lt (number y) (number x))) [

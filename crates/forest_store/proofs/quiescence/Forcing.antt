@@ -4,11 +4,11 @@ use Rattle.sm_names.specs.Pages.{places, pages_of}
 use Rattle.forest_store.proofs.lists.Filters.{any-map_filter, all-map_filter, find-map_filter, any-filter, all-filter, made-filter_map, above_greatest}
 use Rattle.forest_store.proofs.lists.Booleans.{and_again_behind, and_again_pair, and_again_swap, settled_once}
 
--- who is not gone
+-- a node that is not gone
 abbrev left : Node → Bool
 left n = not n.gone
 
--- who is gone asks for nothing anyway
+-- a node that is gone asks for nothing anyway
 once_gone : {A : Type 0} (g s : Bool) (o : Option A) →
     (if not g && s then (if g then None else o) else None) ≡ (if not g && s then o else None)
 once_gone g s o = grind arith
@@ -228,7 +228,7 @@ module _ (handles : Handles) (pool : ℕ) (others : List Interval) (c : Collecti
           (λ b. option_map (λ (n : Node). later_step c.nodes b n.key) (find (is_next_node c.nodes) c.nodes)) o)
       from o = grind (arith, next_tie, next)
 
-  -- the decision comes to the mark that is forced
+  -- the mark of the decision is the one that is forced
   pub forced_made : forced pool s ≡ option_map mark (decided c.nodes c.buffers s.strong_open)
   forced_made = (λ i. first_some (ending_made i ∷ abandoned_made i ∷ initial_made i ∷ logical_made i ∷ []))
       ∙ first_made mark (decisions c.nodes c.buffers s.strong_open)

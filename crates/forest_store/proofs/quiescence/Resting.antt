@@ -63,7 +63,7 @@ roots_stay t now f look (k ∷ ks) stays none =
     from None stays none = refl
     from (Some n) stays none = stays n (inl refl) none
 
--- where no root comes to have buffers, it rests as before
+-- if no root gets buffers, it rests as before
 pub rests_on : (handles : Handles) (t now : Table Node) (s : Shelf) (lives : ℕ) →
     (has_given_root t s.keys ≡ false → has_given_root now s.keys ≡ false) → is_kept_by handles t s lives ≡ true →
     is_kept_by handles now s lives ≡ true

@@ -25,7 +25,7 @@ pub record KeepsPlace (f : Node → Node) (taken : Node → Bool) : Type 0 where
   pub allocated : (n : Node) → (f n).allocated ≡ n.allocated
   pub gone : (n : Node) → (f n).gone ≡ (taken n || n.gone)
 
--- with a node of a unit without buffers goes its head
+-- a loss that takes a node of a unit without buffers takes its head
 abbrev pub GoesUp : List Node → (Node → Bool) → Type 0
 GoesUp nodes taken = (n h : Node) → In n nodes → In h nodes → n.head ≡ h.key → h.head ≡ h.key → n.gone ≡ false → h.gone ≡ false →
     h.allocated ≡ false → taken n ≡ true → taken h ≡ true
@@ -155,7 +155,7 @@ pub record AreFormed (nodes : List Node) : Type 0 where
   pub united : are_united (reverse nodes) ≡ true
   pub together : GoTogether nodes
 
--- with a node of a unit without buffers goes its parent, unless the node heads the unit
+-- a loss that takes a node of a unit without buffers takes its parent, unless the node heads the unit
 abbrev pub StepsUp : List Node → (Node → Bool) → Type 0
 StepsUp nodes taken = (n q : Node) (p : NodeKey) → In n nodes → In q nodes → n.parent ≡ Some p → q.key ≡ p → n.gone ≡ false →
     n.attached ≡ false → n.allocated ≡ false → taken n ≡ true → taken q ≡ true

@@ -1,4 +1,4 @@
--- Entries of which one loses keys, or goes.
+-- Entries of which one loses keys, or is removed.
 use Rattle.forest_store.proofs.Common.{◌≡◌, ℕ, ◌==◌, true, false, List, [], ◌∷◌, get_or, set, Some, None, option_map, sym, ap, ◌∙◌, eq-eqb, find, Table, Entry, Node, Shelf, AreRising, place_in, shelf_of, shelves_of, is_bare, thin_in, thinned, without_bare, remove}
 use Rattle.forest_store.proofs.leaving.Tidying.{above_other, bare_others, none_others, thin_others}
 use Rattle.forest_store.proofs.Basics.{none_in, place_cases, shelf_found}
@@ -7,7 +7,7 @@ use Rattle.forest_store.proofs.Basics.{none_in, place_cases, shelf_found}
 pub no_shelf : (id : ℕ) (es : List Entry) → place_in id es ≡ None → find (λ (s : Shelf). s.id == id) (shelves_of es) ≡ None
 no_shelf id es none = shelf_found id es ∙ ap (option_map shelf_of) (none_in id es none)
 
--- and nothing goes
+-- and nothing is removed
 pub bare_none : (id : ℕ) (es : List Entry) → place_in id es ≡ None → shelves_of es ≡ without_bare id (shelves_of es)
 bare_none id es none = sym (bare_others _ _ (none_others _ _ (no_shelf id es none)))
 
@@ -21,7 +21,7 @@ set_thin t id (x ∷ es) at e rising told is =
     (λ same is. rw (same, thin_others t _ _ (above_other _ _ _ rising.0 same)) (ap (λ s. s ∷ shelves_of es) is))
     (λ n other told is. rw other (ap (λ l. shelf_of x ∷ l) (set_thin t id es n e rising.1 told is))) is
 
--- the entry at the place of the id goes, if it is bare
+-- the entry at the place of the id is removed, if it is bare
 pub remove_bare : (id : ℕ) (es : List Entry) (at : ℕ) (d : Entry) → AreRising (shelves_of es) → place_in id es ≡ Some at →
     is_bare (shelf_of (get_or es at d)) ≡ true → shelves_of (remove es at) ≡ without_bare id (shelves_of es)
 remove_bare id [] at d rising told bare = absurd (cc)

@@ -11,14 +11,14 @@ module _ (parent : NodeKey → Option NodeKey) where
   one_line node (p ∷ a) (q ∷ b) one other = grind (arith, one_line q a b)
 
   module _ (blocks : NodeKey → Bool) (origin : NodeKey) where
-    -- the failure of the top goes no further
+    -- the failure of the top does not propagate further up
     stops : (node : NodeKey) (line : List NodeKey) → IsChain parent node line →
         (blocks (top blocks node line) ≡ true) ⊎ (parent (top blocks node line) ≡ None)
     stops node [] chain = inr chain
     stops node (p ∷ line) chain = grind (arith, stops p line chain.1)
 
     module _ (above : List NodeKey) (up : IsChain parent origin above) where
-      -- the highest node that a failure of the origin goes to
+      -- the highest node that a failure of the origin reaches
       abbrev highest : NodeKey
       highest = top blocks origin above
 

@@ -124,7 +124,7 @@ module _ (nodes : List Node) (old : IsRooted nodes) where
   under_down : (top : NodeKey) → GoesDown nodes (λ n. is_under top (member_of nodes n))
   under_down top n m on there here up h = rw (line_on n _ on here up) (or_right _ _ h)
 
-  -- so a loss goes down
+  -- so a loss propagates down
   taken_down : (origin : NodeKey) → GoesDown nodes (is_taken nodes origin)
   taken_down origin n m on there here up h = from _ h
     where

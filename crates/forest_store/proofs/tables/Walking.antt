@@ -36,7 +36,7 @@ stays_look : (t : Table Node) (older : List NodeKey) (key : NodeKey) → option_
     left_at t older k ≡ left_at t (older ++ key ∷ []) k
 stays_look t older key not_over k = grind (arith, key_cases, left_before)
 
--- and one that is dead goes
+-- and one that is dead is removed
 goes_look : (t now : Table Node) (older : List NodeKey) (key : NodeKey) → TakesOut t now key →
     option_map_or is_over (node_at t key) false ≡ true → (k : NodeKey) → left_at now older k ≡ left_at t (older ++ key ∷ []) k
 goes_look t now older key out over k = elim (key_cases key k) [
@@ -59,7 +59,7 @@ Walks-stays old t keys older key walks not_over = record {
   given = walks.given;
 }
 
--- or goes
+-- or is removed
 pub Walks-goes : (old t now : Table Node) (keys older : List NodeKey) (key : NodeKey) → Walks old t keys (older ++ key ∷ []) →
     TakesOut t now key → option_map_or is_over (node_at t key) false ≡ true → Walks old now keys older
 Walks-goes old t now keys older key walks out over = record {

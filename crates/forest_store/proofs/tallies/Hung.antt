@@ -12,13 +12,13 @@ use Rattle.forest_store.proofs.tallies.Amounts.{bit_few, times_more}
 abbrev pub is_hung : Table Node → NodeKey → Node → Bool
 is_hung t k n = is_above k (head_above t n)
 
--- so many units more hang right below, and the other counts are the same
+-- this many units more hang right below, and the other counts are the same
 pub record Hangs (old new : Unit) (more : ℕ) : Type 0 where
   pub live : new.live ≡ old.live
   pub unready : new.unready ≡ old.unready
   pub below : new.below ≡ old.below + more
 
--- so many less do
+-- this many less do
 pub record Drops (old new : Unit) (less : ℕ) : Type 0 where
   pub live : new.live ≡ old.live
   pub unready : new.unready ≡ old.unready

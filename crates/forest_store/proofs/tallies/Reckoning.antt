@@ -33,7 +33,7 @@ waits_gone head n gone = rw gone refl
 pub lives_gone : (head : NodeKey) (n : Node) → n.gone ≡ true → lives_in head n ≡ false
 lives_gone head n gone = rw gone refl
 
--- what the counts of a unit are with so many more
+-- what the counts of a unit are with this many more
 pub record Gains (old new : Unit) (lives waits : ℕ) : Type 0 where
   pub live : new.live ≡ old.live + lives
   pub unready : new.unready ≡ old.unready + waits

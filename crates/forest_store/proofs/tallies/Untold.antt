@@ -11,7 +11,7 @@ lowered_is : (is : Bool) (count : ℕ) → bit is ≤ count → lowered is count
 lowered_is true count some = let e : nat_lt 0 count ≡ true = lt-ltb 0 count (omega arith) in rw e (omega arith)
 lowered_is false count some = omega arith
 
--- what the counts of a unit are with so many less
+-- what the counts of a unit are with this many less
 pub record Takes (old new : Unit) (lives waits : ℕ) : Type 0 where
   pub live : new.live + lives ≡ old.live
   pub unready : new.unready + waits ≡ old.unready

@@ -22,7 +22,7 @@ pub enum Play {
     LastEvent,
     LastDrop,
     Exit,
-    /// Units of so many nodes come and go.
+    /// Units of this many nodes come and go.
     Units(u8, Leaving),
 }
 
@@ -85,7 +85,7 @@ pub fn first_root(core: &mut Core) -> Option<NodeKey> {
     }
 }
 
-/// Whether so many such calls each make a token or a tracker.
+/// Whether this many such calls each make a token or a tracker.
 pub fn makes(core: &mut Core, call: &Call, count: u32) -> bool {
     for _ in 0..count {
         match core.step(1, *call) {

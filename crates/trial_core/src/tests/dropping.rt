@@ -30,7 +30,7 @@ const COLLECTED: Reply = Reply::CollectedHandle {
     strength: Strength::Strong,
 };
 
-// Whether the node asks for so many buffers, and its lifetime is waited for until none is left.
+// Whether the node asks for this many buffers, and its lifetime is waited for until none is left.
 fn is_tracked(core: &mut Core, node: NodeKey, buffers: u8) -> bool {
     let Some(wanted) = Constraints::new(buffers, 0, 4096) else {
         return false;

@@ -18,14 +18,14 @@ pub enum Leaving {
     Closed,
 }
 
-// The root of the first collection, with so many children, bound.
+// The root of the first collection, with this many children, bound.
 fn family(core: &mut Core) -> Option<NodeKey> {
     let root = first_root(core)?;
     let is_there = makes(core, &Call::Duplicate(root), STAY) && is_done(core, Call::Bind(root));
     is_there.then_some(root)
 }
 
-// Whether the node becomes the head of a unit of so many, whose keys are noted, its own last.
+// Whether the node becomes the head of a unit of this many, whose keys are noted, its own last.
 fn has_unit(core: &mut Core, head: NodeKey, nodes: u8, keys: &mut Vec<NodeKey>) -> bool {
     for _ in 1..nodes {
         match token(core, Call::Duplicate(head)) {
@@ -74,7 +74,7 @@ fn leave(core: &mut Core, keys: &[NodeKey], leaving: Leaving) -> bool {
     none_is_live(core, keys)
 }
 
-// Whether a unit of so many nodes below the root comes and goes so.
+// Whether a unit of this many nodes below the root comes and goes so.
 fn comes_and_goes(
     alloc: Global,
     core: &mut Core,
@@ -89,7 +89,7 @@ fn comes_and_goes(
     has_unit(core, head, nodes, &mut keys) && are_bound(core, &keys) && leave(core, &keys, leaving)
 }
 
-/// Whether units of so many nodes come and go so, one after another, beside nodes that stay.
+/// Whether units of this many nodes come and go so, one after another, beside nodes that stay.
 pub fn leave_beside(alloc: Global, core: &mut Core, nodes: u8, leaving: Leaving) -> bool {
     let Some(root) = family(core) else {
         return false;

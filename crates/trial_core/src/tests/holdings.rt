@@ -1,7 +1,7 @@
 //! What each client holds: ends and handles.
 use sm_names::{BufferName, Call, ClientId, CollectionId, Parcel, Reply, Strength};
 
-// So many things may be got.
+// This many things may be got.
 const ROOM: usize = 64;
 
 /// The ends and handles of all clients, in the order in which they were got. Takes no memory.

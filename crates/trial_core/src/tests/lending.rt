@@ -37,7 +37,7 @@ pub fn on_player<F: FnOnce(&mut Player) -> bool>(alloc: Global, limits: [u32; 5]
 pub enum Question<'a> {
     /// Whether the script is answered, and leaves, as it says.
     Plays(&'a Script),
-    /// Whether all clients vanish cleanly after so many of its calls, and if that is asked, runs answer as the steps.
+    /// Whether all clients vanish cleanly after this many of its calls, and if that is asked, runs answer as the steps.
     EndsWell(&'a Script, usize, bool),
     /// Whether trackers tell of their firings.
     Tells,

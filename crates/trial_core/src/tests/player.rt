@@ -5,7 +5,7 @@ use lifetime_core::Core;
 use sm_names::{Call, ClientId, Limits, NodeKey, Parcel, Reply, StepFault};
 use std::alloc::Global;
 
-/// So many calls are kept, and so many nodes are noted by the numbers of their calls.
+/// This many calls are kept, and this many nodes are noted by the numbers of their calls.
 pub const ROOM: usize = 64;
 
 // A key that no node has.
@@ -167,7 +167,7 @@ impl Player {
         }
     }
 
-    /// Makes the calls of so many rows, and whether they are answered as the rows say.
+    /// Makes the calls of this many rows, and whether they are answered as the rows say.
     pub fn keeps_to(&mut self, rows: &[Row], count: usize) -> bool {
         for row in rows.iter().take(count) {
             if self.takes(row) != Ok(true) {
@@ -196,7 +196,7 @@ impl Player {
         }
     }
 
-    // Whether the client collects so many parcels.
+    // Whether the client collects this many parcels.
     fn collects_all(&mut self, client: ClientId, waiting: u64) -> bool {
         for _ in 0..waiting {
             match self.ask(client, Call::Collect) {

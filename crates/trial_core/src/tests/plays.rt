@@ -54,7 +54,7 @@ pub fn scripts() -> &'static [&'static Script] {
     SCRIPTS
 }
 
-// Whether the player sees what one sees that made so many of the calls.
+// Whether the player sees what one sees that made this many of the calls.
 fn has_made(alloc: Global, player: &Player, script: &Script, made: usize) -> bool {
     on_player(alloc, script.limits, |other| {
         other.keeps_to(script.rows, made)

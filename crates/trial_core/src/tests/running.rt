@@ -41,7 +41,7 @@ fn repeats(alloc: Global, core: &mut Core, log: &Log, count: usize) -> bool {
         && are_taken_once(core, replies)
 }
 
-/// Whether all clients vanish cleanly after so many calls, and if that is asked, a core that runs the calls answers as
+/// Whether all clients vanish cleanly after this many calls, and if that is asked, a core that runs the calls answers as
 /// they were answered.
 pub fn ends_well(
     alloc: Global,

@@ -2,7 +2,7 @@
 use super::acts::{Deed, Row, Said};
 use sm_names::{Cause, Fired, HeldBuffer, Reply, Strength};
 
-/// What is seen after so many calls: how many pages are free, and the buffers that hold the others.
+/// What is seen after this many calls: how many pages are free, and the buffers that hold the others.
 pub type Look = (u64, u32, &'static [HeldBuffer]);
 
 /// Calls with their replies, and what is seen between them and at the end.

@@ -28,7 +28,7 @@ fn sees_live(core: &Core, wanted: &[NodeKey]) -> bool {
     }
 }
 
-// Whether these buffers hold pages, and so many pages are free.
+// Whether these buffers hold pages, and this many pages are free.
 fn sees_pages(core: &Core, wanted: &[HeldBuffer], free: u32) -> bool {
     match held(core) {
         Some(held) => held.as_slice() == wanted && core.free_pages() == free,
@@ -64,7 +64,7 @@ pub fn see_the_same(core: &Core, other: &Core) -> bool {
         && core.fired() == other.fired()
 }
 
-/// Whether all is seen that is to be seen after so many calls.
+/// Whether all is seen that is to be seen after this many calls.
 pub fn looks_so(core: &Core, looks: &[Look]) -> bool {
     for (event, free, held) in looks {
         if *event == core.events() && !sees_pages(core, held, *free) {

@@ -54,7 +54,7 @@ pub fn constraints<R: Abort>(rt: &R, camping: u8, at_least: u8, size: u32) -> Co
     }
 }
 
-/// The record, the books and the client's own list have so many events, and the books so many open
+/// The record, the books and the client's own list have this many events, and the books this many open
 /// handles.
 pub fn stands<E: Setup, S: Ledger, W: Ledger, R: Wait>(
     rt: &R,

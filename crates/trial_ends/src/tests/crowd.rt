@@ -45,7 +45,7 @@ fn has_all<E: Setup, S: Ledger, W: Ledger>(state: &State<E, S, W>) -> bool {
     entries(state).len() as u64 == events && books(state).events == events
 }
 
-// Opens and closes so many roots.
+// Opens and closes this many roots.
 fn open_and_close<E: Setup, S: Ledger, W: Ledger, R: Wait + Abort>(
     rt: &R,
     service: &Service<E, S, W>,

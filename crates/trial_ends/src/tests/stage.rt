@@ -42,7 +42,7 @@ fn limits(scene: Scene) -> Option<Limits> {
     }
 }
 
-/// Plays the scene on a service that has seen nothing and has a pool of so many pages, ends it, and
+/// Plays the scene on a service that has seen nothing and has a pool of this many pages, ends it, and
 /// lets the client go.
 pub fn stage<R: Threads + Wait + Abort + Sync>(rt: &R, alloc: Global, scene: Scene, pages: u32)
     requires { (1 ≤ pages) × (pages ≤ 1048576) }

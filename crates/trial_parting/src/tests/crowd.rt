@@ -148,7 +148,7 @@ fn share_buffer<E: Setup, S: Ledger, W: Ledger, R: Wait + Abort>(
     receive(rt, service, client);
 }
 
-// Plays until so many calls were made, and vanishes.
+// Plays until this many calls were made, and vanishes.
 fn play<E: Setup, S: Ledger, W: Ledger, R: Wait + Abort>(
     rt: &R,
     alloc: Global,

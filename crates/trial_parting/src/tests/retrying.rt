@@ -143,7 +143,7 @@ pub fn fill_again<E: Setup, S: Ledger, W: Ledger, R: Wait + Abort>(
     take_again(rt, alloc, service, client, collection)
 }
 
-/// A new collection of so many buffers, and a handle on each: 4 events.
+/// A new collection of this many buffers, and a handle on each: 4 events.
 pub fn filled_again<E: Setup, S: Ledger, W: Ledger, R: Wait + Abort>(
     rt: &R,
     alloc: Global,

@@ -38,7 +38,7 @@ fn limits(scene: Scene) -> Option<Limits> {
     }
 }
 
-/// Plays the scene on a service that has seen nothing and has a pool of so many pages, and ends it.
+/// Plays the scene on a service that has seen nothing and has a pool of this many pages, and ends it.
 pub fn stage<R: Threads + Wait + Clock + Abort + Sync>(
     rt: &R,
     alloc: Global,

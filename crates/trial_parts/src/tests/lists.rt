@@ -9,7 +9,7 @@ use std::io;
 use std::io::Read;
 use trial_streams::ShortReader;
 
-// So many bytes, of remarks of 255 bytes and an end.
+// This many bytes, of remarks of 255 bytes and an end.
 #[derive(Drop)]
 struct Remarks {
     left: usize,
@@ -30,7 +30,7 @@ impl Read for Remarks {
 const TWO: &str = "a join\nb join\na open r\nb open s\na bind r\nb bind s\na constrain r 1 0 4096\n\
 b constrain s 1 0 4096\na take r\nb take s\n";
 
-// Reads a script, so many bytes a read, with an error at read `fails`.
+// Reads a script, this many bytes a read, with an error at read `fails`.
 fn read(
     alloc: Global,
     script: &str,

@@ -50,7 +50,7 @@ fn front(text: &[u8], lines: usize) -> usize {
     bytes
 }
 
-// How many bytes of the replies are out once so many bytes were read.
+// How many bytes of the replies are out once this many bytes were read.
 fn answered(read: usize) -> usize {
     let mut lines = 0usize;
     for byte in SCRIPT.as_bytes().iter().take(read) {

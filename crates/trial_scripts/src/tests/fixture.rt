@@ -4,7 +4,7 @@ use sm_script::{ScriptFault, run_script};
 use std::alloc::Global;
 use trial_streams::{FailingWriter, ShortReader};
 
-/// Runs a script with 16 pages, so many bytes a read.
+/// Runs a script with 16 pages, this many bytes a read.
 pub fn play(
     alloc: Global,
     script: &[u8],

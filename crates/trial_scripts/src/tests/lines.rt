@@ -5,7 +5,7 @@ use std::alloc::{AllocError, Global};
 use std::test::Fail;
 use trial_streams::FailingWriter;
 
-// A script whose second line is a remark with so many bytes behind its sign, none of them a letter.
+// A script whose second line is a remark with this many bytes behind its sign, none of them a letter.
 fn remark_of(alloc: Global, count: usize) -> Result<Vec<u8>, AllocError> {
     let mut script = Vec::new(alloc);
     script.extend_from_slice(b"a join\n#")?;

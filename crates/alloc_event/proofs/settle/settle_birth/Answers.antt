@@ -1,4 +1,4 @@
--- The node is inserted, and then what is left to be done is done at the place of its collection.
+-- The node is inserted, and then the forced steps are made at the place of its collection.
 use Rattle.alloc_event.proofs.Common.{◌≡◌, ◌∙◌, List, Some, None, refl, sym, Entry, Result, Ok, Err}
 use Rattle.std.proofs.Common.{OnErr}
 use Rattle.forest_store.specs.Insertion.{IsUnborn}

@@ -1,4 +1,4 @@
--- The next hole goes where the two touch.
+-- The next hole is removed if the two touch.
 use Rattle.std.proofs.Common.{◌∙◌, ◌≡◌, ◌≤◌, ◌+◌, ◌<◌, ◌^◌, arith, rules, ap, sym, get_or, set, take, drop, [], List, length-set, true, refl, subst}
 use Rattle.std.specs.List.{remove}
 use Rattle.std.proofs.lemmas.List.{take-take}

@@ -3,7 +3,7 @@ use Rattle.std.specs.List.{All}
 use Rattle.client_actors.specs.ActorEnds.{IsIdle, CanStart}
 use Rattle.client_actors.proofs.actor_threads.clients_of.Given as goal
 
--- those who are left are ready, and the others idle
+-- the remaining clients are ready, and the others idle
 abbrev pub invariant-loop-actor : goal.invariant-loop-actor
 invariant-loop-actor g l = record {
   ready : All CanStart l.actors.items;

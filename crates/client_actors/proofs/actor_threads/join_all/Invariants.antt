@@ -3,7 +3,7 @@ use Rattle.std.specs.List.{All}
 use Rattle.client_actors.specs.ActorEnds.{CanStart, id_there}
 use Rattle.client_actors.proofs.actor_threads.join_all.Given as goal
 
--- those who joined are ready
+-- the clients that joined are ready
 abbrev pub invariant-loop : goal.invariant-loop
 invariant-loop g l = record {
   ready : All CanStart l.actors.items;

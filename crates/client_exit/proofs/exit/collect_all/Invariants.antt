@@ -3,7 +3,7 @@ use Rattle.client_exit.specs.Events.{Collecting}
 use Rattle.client_exit.specs.Phases.{Phase}
 use Rattle.client_exit.proofs.exit.collect_all.Given as goal
 
--- so many were collected so far
+-- this many were collected so far
 abbrev pub invariant-loop-left : goal.invariant-loop-left
 invariant-loop-left l =
     (count : ℕ) × (count + l.left ≡ l.waiting) × Phase l.fn.core l.core (Collecting l.client l.waiting count)

@@ -5,7 +5,7 @@ use Rattle.client_exit.specs.Exits.{IsDrop}
 use Rattle.client_exit.specs.Phases.{Phase}
 use Rattle.client_exit.proofs.exit.drop_each.Given as goal
 
--- so many are open still
+-- this many are open still
 abbrev pub invariant-loop-left : goal.invariant-loop-left
 invariant-loop-left l =
     Phase l.fn.core l.core (Lets (IsDrop l.client) l.client (λ later. open_of later l.client l.buffer l.strength ≡ l.left))

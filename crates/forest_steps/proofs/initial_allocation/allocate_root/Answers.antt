@@ -1,4 +1,4 @@
--- The root's unit comes to its allocation, and what is forced is made in the collection.
+-- The root's unit is allocated or lost, and the forced steps are made in the collection.
 use Rattle.forest_steps.proofs.Common.{◌≡◌, ◌∙◌, true, false, List, Option, None, Some, refl, sym, ap, arith, total, NodeKey, not, ◌&&◌, and_left, option_map, option_map_or, affected, is_root_left, node_at, Table, Change, Effect, Node, Unit, Row, row_at, place_is, IsSome, unit_then, comes_first, is_bare_root, is_held_ready, KeepsCounts, tracker_room}
 use Rattle.forest_steps.proofs.mid_event.Counted.{may_make, waits_plain}
 use Rattle.forest_steps.proofs.mid_event.Listed.{listed_written}
@@ -43,7 +43,7 @@ returns-in_default-planned-clause-waits c told e is held =
     waits_not e c.requires.ready.place is _ _ c.requires.ready.ready
     (c.planned.ensures.none c.in_default-planned.is) held
 
--- a node that comes to its allocation has a head
+-- a node that is to be allocated has a head
 bare_row : (t : Table Node) (us : List Unit) (key : NodeKey) (effect : Effect) (n : Node) → node_at t key ≡ Some n →
     comes_first t us key effect ≡ true → IsSome (row_at t n.head)
 bare_row t us key effect n was comes =

@@ -1,4 +1,4 @@
--- What goes down is what is lost or ends.
+-- The nodes that are removed are those that are lost or end.
 use Rattle.forest_steps.proofs.Common.{Some, None, refl, nodes_with, Fault, MayGo}
 use Rattle.forest_steps.proofs.mid_event.Went.{went_ended, went_lost}
 use Rattle.forest_steps.proofs.tables.Rows.{still_named}

@@ -1,4 +1,4 @@
--- What a failure takes is written as it goes, and neither the units nor the entry count it any more.
+-- The nodes that a failure takes are written as gone, and neither the units nor the entry count them any more.
 use Rattle.forest_steps.proofs.Common.{◌+◌, sym, ◌∙◌, ap, list_any, over_except, strong_count, nodes_with, reserved_count, arith, ◌-◌, rules, unreckoned, head_over, went_now}
 use Rattle.forest_steps.proofs.tables.Rows.{still_named}
 use Rattle.forest_steps.proofs.removal.remove_taken.Goals as goal

@@ -1,4 +1,4 @@
--- One node more is looked at, and goes or stays.
+-- One more node is looked at, and is removed or stays.
 use Rattle.forest_store.proofs.Common.{◌≡◌, ◌++◌, ◌∷◌, [], sym, subst, ◌∙◌, rules}
 use Rattle.forest_store.proofs.tables.Walking.{Walks, Walks-none, Walks-goes, Walks-stays}
 use Rattle.forest_store.proofs.garbage.collect_garbage.Goals as goal

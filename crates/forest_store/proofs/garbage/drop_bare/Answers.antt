@@ -1,4 +1,4 @@
--- The entry at the place of the id goes, if it has no key and no buffer.
+-- The entry at the place of the id is removed, if it has no key and no buffer.
 use Rattle.forest_store.proofs.Common.{◌≡◌, true, false, get_or, sym, ◌∙◌, ap, arith, Entry, shelf_of, shelves_of, is_bare}
 use Rattle.forest_store.proofs.shelves.Counted.{counted_removed}
 use Rattle.forest_store.proofs.shelves.Dropping.{bare_none, keep_bare, remove_bare}

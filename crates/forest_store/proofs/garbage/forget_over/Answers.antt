@@ -22,7 +22,7 @@ returns-then-forget_nodes-clause-kept c =
 pub returns-then-forget_nodes-clause-counted : goal.returns-then-forget_nodes-clause-counted
 returns-then-forget_nodes-clause-counted c = c.drop_bare.ensures.counted c.forget_nodes.new.table c.forget_nodes.ensures.counted
 
--- ---- where something is left, none of it goes
+-- ---- where something is left, no entry is removed
 
 pub returns-else-forget_nodes-clause-collections : goal.returns-else-forget_nodes-clause-collections
 returns-else-forget_nodes-clause-collections c =

@@ -8,7 +8,7 @@ use Rattle.core_state.proofs.handles.Moves.{moves_to}
 use Rattle.std.proofs.Common.{rules}
 use Rattle.lifetime_core.proofs.event.take_effect.Goals as goal
 
--- only the count of the dropped handle goes down
+-- only the count of the dropped handle shrinks
 pub make_change-requires-clause-others : goal.make_change-requires-clause-others
 make_change-requires-clause-others c =
     others_stay c.args.contents.now.holds c.apply_handles.new.holds c.args.contents.now.forest c.args.client c.args.call.now c.args.asked.now

@@ -3,7 +3,7 @@ use Rattle.std.proofs.Math.Nat.{pow-succ'}
 use Rattle.std.proofs.Math.Pow.{pow_mono}
 use Rattle.lifetime_core.proofs.opening.full_set.Goals as goal
 
--- the bit of the last of so many buffers fits, and twice that bit is one more than the set of all
+-- the bit of the last of this many buffers fits, and twice that bit is one more than the set of all
 half : (count : ℕ) → 0 < count → count ≤ 64 → (2 ^ count ≡ 2 * 2 ^ (count - 1)) × (1 ≤ 2 ^ (count - 1)) × (2 ^ (count - 1) ≤ 2 ^ 63) ×
     (1 * 2 ^ (count - 1) % 2 ^ 64 ≡ 2 ^ (count - 1))
 half count some few =

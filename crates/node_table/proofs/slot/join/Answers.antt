@@ -4,7 +4,7 @@ use Rattle.node_table.specs.Sound.{HasEntry, with_first, with_next}
 use Rattle.node_table.proofs.Steps.{has, joins_first, joins_last, joins_mid}
 use Rattle.node_table.proofs.slot.join.Goals as goal
 
--- who had an entry has one after a write elsewhere
+-- a slot that had an entry has one after a write elsewhere
 pub set_last-requires : goal.set_last-requires
 set_last-requires g c =
     has c.args.slots.now c.set_first.new.slots c.args.parent.slot (with_first None) c.set_first.ensures c.args.parent.slot c.requires.parent

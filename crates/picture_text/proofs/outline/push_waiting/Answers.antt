@@ -37,7 +37,7 @@ returns-in_default c =
     (ap (map branch_of) none))
     ∙ c.loop-at.invariant nodes finds
 
--- there are so many lines
+-- there are this many lines
 pub returns : goal.returns
 returns c =
     let all : c.args.count ≤ c.loop-at.at = omega arith in

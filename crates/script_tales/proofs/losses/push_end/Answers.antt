@@ -5,7 +5,7 @@ use Rattle.script_tales.specs.LossTexts.{down_text, name_text}
 use Rattle.script_tales.proofs.Pieces.{two-and}
 use Rattle.script_tales.proofs.losses.push_end.Goals as goal
 
--- the node's label and the words, and behind them what goes with it
+-- the node's label and the words, and behind them the nodes that end with it
 pub returns : goal.returns
 returns c = on_ok_weaker c.push_down.result
     (λ put names keeps.

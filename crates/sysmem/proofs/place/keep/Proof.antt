@@ -1,4 +1,4 @@
--- `keep` writes the pointer and the allocator elsewhere, and what they own goes along.
+-- `keep` writes the pointer and the allocator elsewhere, with all that they own.
 use mathlib.Core.Path.{refl, sym, subst, ◌≡◌}
 use mathlib.Core.List.{List, [], ◌∷◌, ◌++◌}
 use mir.Val.{Val}

@@ -1,4 +1,4 @@
--- `out_of` writes the pointer and the allocator back, and what they own goes along.
+-- `out_of` writes the pointer and the allocator back, with all that they own.
 use mathlib.Core.Path.{refl, sym, subst, ◌≡◌}
 use mathlib.Core.List.{List, [], ◌∷◌, ◌++◌}
 use mir.Val.{Val}

@@ -63,7 +63,7 @@ pub fn token<E: Setup, S: Ledger, W: Ledger, R: Abort>(
     }
 }
 
-/// The record and the books have so much, and the core so many events.
+/// The record and the books have so much, and the core this many events.
 pub fn stands<E: Setup, S: Ledger, W: Ledger>(
     state: &State<E, S, W>,
     events: u64,

@@ -35,7 +35,7 @@ pub fn crowd<
     assert!(rt; stands(service.lock(rt).state(), 4 * EVENTS, 0, 0));
 }
 
-// Makes so many events that are refused.
+// Makes this many events that are refused.
 fn shout<E: Setup, S: Ledger, W: Ledger, R: Wait + Abort>(
     rt: &R,
     service: &Service<E, S, W>,

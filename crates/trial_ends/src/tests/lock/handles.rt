@@ -136,7 +136,7 @@ fn fetch<E: Setup, S: Ledger, W: Ledger, R: Abort>(
 }
 
 // One more handle goes into a parcel, comes out of it and is dropped: 4 events. Whether the record and the books
-// had so many events and handles while it was in the parcel.
+// had this many events and handles while it was in the parcel.
 fn moved<E: Setup, S: Ledger, W: Ledger, R: Abort>(
     rt: &R,
     state: &mut State<E, S, W>,

@@ -1,4 +1,4 @@
--- Each interval is held until it goes back.
+-- Each interval is held until it is given back.
 use Rattle.std.proofs.Common.{◌≡◌, ◌∙◌, arith, ap, get_or}
 use Rattle.std.proofs.lemmas.List.{get_or_default}
 use Rattle.sm_names.specs.declared.keys.Interval.{Interval}

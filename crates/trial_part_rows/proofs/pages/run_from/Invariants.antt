@@ -1,4 +1,4 @@
--- So many are held so far that lie side by side.
+-- This many are held so far that lie side by side.
 use Rattle.std.proofs.Common.{◌≤◌}
 use Rattle.buffer_pool.specs.Holdings.{HasRun}
 use Rattle.trial_part_rows.proofs.pages.run_from.Given as goal

@@ -19,7 +19,7 @@ c@ droph r#.0 strong\nc@ close m#\nc@ release r#\nc@ check r#\n";
 
 const ACTORS: u64 = 64;
 
-// So often they run, each time in another order of events. Once so many seconds have passed no further run begins: a
+// So often they run, each time in another order of events. Once this many seconds have passed no further run begins: a
 // build that looks for misused memory takes a hundred times as long as one that is proved.
 const RUNS: u64 = 20;
 

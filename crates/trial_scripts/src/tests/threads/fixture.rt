@@ -20,7 +20,7 @@ pub const TWO_REPORT: &str =
 /// What labels and counts are hashed from.
 pub const SEED: [u8; 16] = [3; 16];
 
-/// Limits of so many events, and else the greatest.
+/// Limits of this many events, and else the greatest.
 pub fn events<R: Abort>(rt: &R, most: u32) -> Limits {
     match Limits::new(most, 1024, 256, 4096, u32::MAX) {
         Some(limits) => limits,
@@ -28,7 +28,7 @@ pub fn events<R: Abort>(rt: &R, most: u32) -> Limits {
     }
 }
 
-/// A report on a pool of so many pages.
+/// A report on a pool of this many pages.
 pub fn report_of<R: Abort>(rt: &R, pages: u32) -> Job {
     match Pages::new(pages) {
         Some(pages) => Job {
@@ -56,7 +56,7 @@ pub fn reports<R: Threads + Wait + Clock + Abort + Sync>(
     ended == outcome && out.as_slice() == report.as_bytes()
 }
 
-/// Runs both actors, so many bytes a read.
+/// Runs both actors, this many bytes a read.
 pub fn run_two<R: Threads + Wait + Clock + Abort + Sync>(
     rt: &R,
     alloc: Global,

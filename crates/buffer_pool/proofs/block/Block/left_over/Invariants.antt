@@ -1,4 +1,4 @@
--- What is left over of all is left over by what is left.
+-- The rest of the count after all cells is the rest of the present count after the remaining cells.
 use Rattle.std.proofs.Common.{◌≡◌, ◌-◌, drop}
 use Rattle.buffer_pool.specs.Fitting.{rooms}
 use Rattle.buffer_pool.proofs.block.Block.left_over.Given as goal

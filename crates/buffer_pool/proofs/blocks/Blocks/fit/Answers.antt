@@ -1,4 +1,4 @@
--- The search goes from block to block.
+-- The search looks at block after block.
 use Rattle.std.proofs.lemmas.Grind.{common_steps}
 use Rattle.std.proofs.Common.{◌≡◌, ◌<◌, ◌≤◌, ◌∙◌, ap, arith, length, get_or, set, [], ◌+◌, rules}
 use Rattle.std.specs.List.{prefix_len}

@@ -1,4 +1,4 @@
--- The search has not passed the first that has so many pages.
+-- The search has not passed the first that has this many pages.
 use Rattle.std.proofs.Common.{◌≡◌, ◌-◌, length, vec_capacity}
 use Rattle.buffer_pool.specs.Rows.{IsPassed, AreBlocks}
 use Rattle.buffer_pool.proofs.blocks.Blocks.fit.Given as goal

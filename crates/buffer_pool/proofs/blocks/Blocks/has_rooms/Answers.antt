@@ -1,4 +1,4 @@
--- What is passed has no room, and a block's room is taken from what is left.
+-- The blocks that are passed have no room, and the room of a block is subtracted from the count.
 use Rattle.std.proofs.lemmas.Grind.{common_steps}
 use Rattle.std.proofs.Common.{◌≡◌, ◌<◌, ◌≤◌, ◌-◌, ap, arith, sym, length, get_or, take, drop, [], List, ◌+◌}
 use Rattle.std.proofs.lemmas.Bool.{le-leb}
@@ -23,7 +23,7 @@ loop-block-init c =
 there : (c : After-index) → c.loop-block.block < length c.self.inside.used.items
 there c = omega (arith, c.loop-block-test.true, c.len-block-end.ensures, c.self.inside.used.ok.0)
 
--- what is left of the count once the block has taken its part
+-- the rest of the count once the block has taken its part
 left : (c : After-left_over-left) →
     c.left_over-left.result - rooms c.args.pages_each (drop (length (all_in (take (c.loop-block.block + 1) c.self.inside.used.items)) + 0)
     (all_in c.self.inside.used.items))

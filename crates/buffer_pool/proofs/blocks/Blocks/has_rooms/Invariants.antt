@@ -1,4 +1,4 @@
--- What is left over of all is left over by what is left.
+-- The rest of the count after all blocks is the rest of the present count after the remaining blocks.
 use Rattle.std.proofs.Common.{◌≡◌, ◌≤◌, ◌+◌, ◌-◌, drop, take, length, get_or, []}
 use Rattle.buffer_pool.specs.Fitting.{rooms}
 use Rattle.buffer_pool.specs.Rows.{all_in}

@@ -1,4 +1,4 @@
--- The intervals lie in one block, which goes with its last.
+-- The intervals lie in one block, which is removed with its last interval.
 use Rattle.std.proofs.lemmas.Grind.{common_steps}
 use Rattle.std.proofs.Common.{◌≡◌, ◌<◌, ◌≤◌, ◌+◌, ◌-◌, ◌*◌, ◌∙◌, ap, arith, sym, min, length, get_or, set, take, [], List}
 use Rattle.std.specs.List.{remove_range}
@@ -35,7 +35,7 @@ items c =
     ∙ ap (λ (X : List Interval). remove_range X c.args.spot.offset (c.args.spot.offset + c.min-count.result)) (here c))
     ∙ remove_range_in c.self.inside.used.items c.args.spot.block c.args.spot.offset c.min-count.result taken.0 fits
 
--- as many as there are in the block, and at most so many
+-- as many as there are in the block, and at most this many
 no_fewer : (c : After-remove_run) → c.min-count.result
     ≡ min c.args.most (length (get_or c.self.inside.used.items c.args.spot.block []) - c.args.spot.offset)
 no_fewer c = c.min-count.ensures ∙ ap (λ n. min c.args.most (n - c.args.spot.offset)) (size c)

@@ -3,7 +3,7 @@ use Rattle.event_laws.specs.Members.{Marks}
 use Rattle.event_laws.proofs.MemberLaws.{IsRead}
 use Rattle.event_laws.proofs.parts.Parts.first_absent.Given as goal
 
--- who joined so far is there
+-- each client that joined so far is there
 abbrev pub invariant-loop-entry : goal.invariant-loop-entry
 invariant-loop-entry l = record {
   marks : Marks l.present.items l.ids;

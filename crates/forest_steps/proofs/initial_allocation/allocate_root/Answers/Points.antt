@@ -55,7 +55,7 @@ module _ (c : After-finish_event-arg-3-1) where
   pub planned : IsPlanned t us old key effect plan
   planned = c.in-Some-planned.ensures.some
 
-  -- the contract of the plan: the unit comes to its allocation
+  -- the contract of the plan: the unit is ready
   pub comes : comes_first t us key effect ≡ true
   comes = c.in-Some-planned.ensures.comes
 

@@ -59,7 +59,7 @@ sweep-requires c =
           (none_elsewhere _ _ _ _ _ _ _ b parts c.in-Ok.ensures.ok);
     }
 
--- what is over can be forgotten
+-- the nodes that are over can be forgotten
 pub put_end-requires : goal.put_end-requires
 put_end-requires c =
     let b = begun (goal.at.put_end-requires c).After-changes_nothing in

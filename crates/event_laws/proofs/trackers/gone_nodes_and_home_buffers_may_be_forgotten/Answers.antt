@@ -7,7 +7,7 @@ use Rattle.history_laws.proofs.GrowthLaws.{GrowsOn, legal_grows_on}
 use Rattle.history_laws.proofs.HistoryLaws.{AreAnswers-last}
 use Rattle.event_laws.proofs.NumberLaws.{all-In}
 use Rattle.event_laws.proofs.RecallLaws.{recalled_due}
-use Rattle.event_laws.proofs.trackers.what_is_over_may_be_forgotten.Goals as goal
+use Rattle.event_laws.proofs.trackers.gone_nodes_and_home_buffers_may_be_forgotten.Goals as goal
 
 pub returns : goal.returns
 returns c pool limits history entry legal w recalled =

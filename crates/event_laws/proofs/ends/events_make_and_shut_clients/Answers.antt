@@ -1,5 +1,5 @@
 use Rattle.event_laws.proofs.ParcelEventLaws.{clients_event, made_event, shut_event}
-use Rattle.event_laws.proofs.ends.clients_go_by_event.Goals as goal
+use Rattle.event_laws.proofs.ends.events_make_and_shut_clients.Goals as goal
 
 pub returns-clause-joined : goal.returns-clause-joined
 returns-clause-joined c = clients_event

@@ -1,5 +1,5 @@
 use Rattle.event_laws.proofs.EndEventLaws.{spent_event, transit_event, holder_event, kind_event, born_event}
-use Rattle.event_laws.proofs.ends.ends_go_by_event.Goals as goal
+use Rattle.event_laws.proofs.ends.events_move_ends.Goals as goal
 
 pub returns-clause-spent : goal.returns-clause-spent
 returns-clause-spent c = spent_event

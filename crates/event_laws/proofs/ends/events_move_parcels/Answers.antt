@@ -1,7 +1,7 @@
 use Rattle.sm_names.specs.Timelines.{timeline}
 use Rattle.history_laws.proofs.GrowthLaws.{legal_grows}
 use Rattle.event_laws.proofs.ParcelEventLaws.{given_event, collected_event, idle_event, stranger_waits_for_none}
-use Rattle.event_laws.proofs.ends.parcels_go_by_event.Goals as goal
+use Rattle.event_laws.proofs.ends.events_move_parcels.Goals as goal
 
 pub returns-clause-given : goal.returns-clause-given
 returns-clause-given c = given_event

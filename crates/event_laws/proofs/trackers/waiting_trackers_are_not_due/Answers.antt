@@ -3,7 +3,7 @@ use Rattle.sm_names.specs.Trackers.{Tracked, world}
 use Rattle.event_laws.specs.Waiting.{IsWaitedFor, is_tracked_met, unfired_trackers}
 use Rattle.event_laws.proofs.WaitingLaws.{waited_for, waiting_not_due}
 use Rattle.event_laws.proofs.NumberLaws.{all-In}
-use Rattle.event_laws.proofs.trackers.waiting_is_not_over.Goals as goal
+use Rattle.event_laws.proofs.trackers.waiting_trackers_are_not_due.Goals as goal
 
 pub returns-clause-undue : goal.returns-clause-undue
 returns-clause-undue c marks = all-In (λ (t : Tracked). is_tracked_met (world marks) t ≡ false) (unfired_trackers marks) (waiting_not_due marks)

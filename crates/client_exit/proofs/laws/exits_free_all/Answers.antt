@@ -6,7 +6,7 @@ use Rattle.sm_names.specs.Timelines.{timeline, held}
 use Rattle.history_laws.proofs.EndLaws.{no_live_nodes, none_held}
 use Rattle.history_laws.proofs.SettledLaws.{In-was_born}
 use Rattle.client_exit.proofs.AllGone.{all_spent, none_open}
-use Rattle.client_exit.proofs.laws.all_goes_with_its_clients.Goals as goal
+use Rattle.client_exit.proofs.laws.exits_free_all.Goals as goal
 
 pub returns-clause-live : goal.returns-clause-live
 returns-clause-live c pool limits history legal all =

@@ -1,5 +1,5 @@
 use Rattle.event_laws.proofs.HandleEventLaws.{open_of_event, open_total_event, moving_event}
-use Rattle.event_laws.proofs.handles.handles_go_by_event.Goals as goal
+use Rattle.event_laws.proofs.handles.events_move_handles.Goals as goal
 
 pub returns-clause-each : goal.returns-clause-each
 returns-clause-each c = open_of_event

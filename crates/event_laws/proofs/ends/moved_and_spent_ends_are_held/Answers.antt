@@ -1,5 +1,5 @@
 use Rattle.event_laws.proofs.EndEventLaws.{given_was, spent_was, delivered_was}
-use Rattle.event_laws.proofs.ends.ends_are_there_to_go.Goals as goal
+use Rattle.event_laws.proofs.ends.moved_and_spent_ends_are_held.Goals as goal
 
 pub returns-clause-given : goal.returns-clause-given
 returns-clause-given c = given_was

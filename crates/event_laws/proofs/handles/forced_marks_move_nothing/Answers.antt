@@ -3,7 +3,7 @@ use Rattle.event_laws.specs.ByEvent.{SameHands, entry_mark}
 use Rattle.sm_names.specs.Timelines.{timeline}
 use Rattle.event_laws.proofs.HandLaws.{same_hands, same_after}
 use Rattle.history_laws.proofs.HistoryLaws.{timeline-push}
-use Rattle.event_laws.proofs.handles.only_calls_move_things.Goals as goal
+use Rattle.event_laws.proofs.handles.forced_marks_move_nothing.Goals as goal
 
 pub returns-clause-mark : goal.returns-clause-mark
 returns-clause-mark c = same_hands

@@ -5,7 +5,7 @@ use Rattle.sm_names.specs.declared.keys.HeldBuffer.{HeldBuffer}
 use Rattle.sm_names.specs.Timelines.{timeline, held}
 use Rattle.history_laws.proofs.EndLaws.{spent_left, no_live_nodes, none_held}
 use Rattle.history_laws.proofs.SettledLaws.{In-was_born}
-use Rattle.history_laws.proofs.lives.all_goes.Goals as goal
+use Rattle.history_laws.proofs.lives.spent_ends_and_dropped_handles_free_all.Goals as goal
 
 pub returns-clause-spent : goal.returns-clause-spent
 returns-clause-spent c = spent_left
