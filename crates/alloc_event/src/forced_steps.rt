@@ -20,7 +20,7 @@ use forest_store::change::Effect;
 use forest_store::store::Store;
 use sm_names::{Fault, NoMemory, NodeKey};
 
-/// Makes room for as many as there are nodes, in each list for removals and turns.
+/// Reserves room for as many as there are nodes, in the lists of removed nodes and of pending units.
 fn reserve(store: &Store, room: &mut Scratch) -> Result<(), NoMemory>
     ensures removed { OnOk result
         (table_len store.now.nodes.table ≤ vec_capacity room.new.removed) }
@@ -31,7 +31,7 @@ fn reserve(store: &Store, room: &mut Scratch) -> Result<(), NoMemory>
     room.reserve(store.nodes.table.len())
 }
 
-/// Makes a loss, with all that it forces. `NoMemory` where the room for removed nodes is refused: then
+/// Makes a loss, with all that it forces. `NoMemory` if room for the removed nodes is refused; then
 /// nothing changed.
 #[inline(never)]
 pub(crate) fn settle_loss(
@@ -55,7 +55,7 @@ pub(crate) fn settle_loss(
 }
 
 /// Makes what is forced in a collection without a change: its buffers may be abandoned, or home.
-/// `NoMemory` where the room for removed nodes is refused: then nothing changed.
+/// `NoMemory` if room for the removed nodes is refused; then nothing changed.
 #[inline(never)]
 pub(crate) fn settle_nothing(
     store: &mut Store,
@@ -77,8 +77,8 @@ pub(crate) fn settle_nothing(
     Ok(())
 }
 
-/// Makes an effect, with all that it forces, where the root's unit does not wait for its first buffers
-/// then. It takes no memory.
+/// Makes an effect, with all that it forces, if the initial allocation is not among that. Takes no
+/// memory.
 fn settle_applied(
     store: &mut Store,
     at: usize,
@@ -100,8 +100,8 @@ fn settle_applied(
     finish_event(store, at, pool, holds, &mut room.removed);
 }
 
-/// Makes an effect that was worked out, with all that it forces. `NoMemory` where the room for removals
-/// and turns, for held buffers, or the pool's is refused: then nothing changed.
+/// Makes an effect that was worked out, with all that it forces. `NoMemory` if room for removed nodes,
+/// pending units, held buffers or in the pool is refused; then nothing changed.
 #[inline(never)]
 fn settle_forced(
     store: &mut Store,
@@ -125,8 +125,8 @@ fn settle_forced(
     Ok(())
 }
 
-/// Makes what an effect forces that was worked out, as `settle_forced` does, which is handed a copy: the
-/// values of a caller that makes an effect at once need no memory then.
+/// Calls `settle_forced` with a copy of the effect. So a caller that makes an effect without forced steps
+/// keeps it in registers.
 #[inline(always)]
 fn settle_copied(
     store: &mut Store,
@@ -145,9 +145,9 @@ fn settle_copied(
     settle_forced(store, at, pool, holds, *made, room)
 }
 
-/// Makes an effect that was worked out, with all that it forces: at once where the counts tell that this
-/// is nothing, and else one step after another. `NoMemory` where the room for removals and turns, for held
-/// buffers, or the pool's is refused: then nothing changed.
+/// Makes an effect that was worked out, with all that it forces: the effect alone if by the counts it
+/// forces nothing, otherwise one step after another. `NoMemory` if room for removed nodes, pending units,
+/// held buffers or in the pool is refused; then nothing changed.
 #[inline(always)]
 fn settle_worked_out(
     store: &mut Store,
@@ -216,8 +216,8 @@ fn settle_counted(
     settle_worked_out(store, at, pool, holds, &made, room)
 }
 
-/// Makes an effect, with all that it forces. The effect is worked out once. `NoMemory` where the room for
-/// removals and turns, for held buffers, or the pool's is refused: then nothing changed.
+/// Makes an effect, with all that it forces. The effect is worked out once. `NoMemory` if room for removed
+/// nodes, pending units, held buffers or in the pool is refused; then nothing changed.
 #[inline(always)]
 pub(crate) fn settle_effect(
     store: &mut Store,

@@ -55,7 +55,7 @@ impl Model for Forest {
 }
 
 impl Forest {
-    /// An empty forest for `limit` nodes at a time. It takes no memory.
+    /// An empty forest for `limit` nodes at a time. Takes no memory.
     pub fn new(alloc: Global, limit: usize) -> Forest
         ensures { result ≡ empty_forest limit }
     {
@@ -73,46 +73,34 @@ impl Forest {
 
     /// Makes the change to the collection and then the steps that it forces, one after another,
     /// until none applies, and gives back the pages of buffers that are home. A birth answers the
-    /// key of the new node, which no node had before. Each step writes the nodes that it concerns,
-    /// and counts that are kept of the collection and of each unit tell which step is next.
+    /// key of the new node, which no node had before.
     ///
-    /// `NoMemory` where a growth is refused, or no slot has a number left. The forest and the pool
-    /// are then as they were.
+    /// `NoMemory` if a growth is refused, or no slot has a number left. The forest and the pool are
+    /// then as they were. Only a birth and the initial allocation take memory: a birth for its
+    /// node, the counts of its unit, and the lists of removed nodes, of pending units and of
+    /// garbage; the initial allocation for the list of held buffers.
     ///
-    /// Each change costs O(log n) for n collections, and the cost of the steps that it forces. The
-    /// growth of a birth is spread over the births, and that of a root shifts the collections behind
-    /// its own.
+    /// Costs O(log c) for c collections, and in the changed collection, with n kept nodes:
     ///
-    /// A loss costs what `fall` costs: some reads and a write of each node that is removed. Where
-    /// nothing holds a unit after a release, a loss or a refusal, neither a live node of it nor a
-    /// unit that hangs right below, the highest of the units above one another ends that nothing
-    /// holds but the one below: that costs O(1) for each of these units, and the same reads and
-    /// writes for each node at and below the highest, also for one that is gone and still kept. Where
-    /// the root is lost or ends so, that is each node of the collection.
+    /// - a birth: O(1) amortized. A root also shifts the entries of the collections behind its own;
+    /// - a loss: O(1) for each node that is removed, as `failure_domains::fall`;
+    /// - the end of a subtree, once a release, a loss or a refusal leaves a unit without a live node
+    ///   and without a unit directly below it: O(1) for each unit above it that only this one
+    ///   holds, and for each kept node at and below the highest of these, gone nodes included;
+    /// - the initial allocation, once the root's unit is ready: O(1) for each node of the unit and
+    ///   for each attached node directly below it, and the cost of `Pool::place`. If it fails, a
+    ///   loss of the root;
+    /// - the logical allocation of an attached unit, once it is ready below an allocated unit, and
+    ///   then of the ready units directly below it, recursively, by birth: O(log n) for each unit,
+    ///   and O(1) for each of its nodes and for each attached node directly below it. If it is
+    ///   refused, a loss of its head. O(n) replaces O(log n) if births came with falling events;
+    /// - if no strong node is live after the change: O(1) look-ups of handles for each of at most
+    ///   `MAX_BUFFERS` buffers, and one for each logical allocation. If the buffers are abandoned, a
+    ///   loss of the root. For each buffer that is home, the cost of `Pool::give_back`, and a shift
+    ///   of the buffers behind it if some stay held.
     ///
-    /// An effect by which an attached unit becomes ready, below one that has its buffers, gives it
-    /// its turn, and then, by birth, each attached unit below it that is ready, as far as one hangs
-    /// right below another of them. That costs some reads of each node of these units and of each
-    /// attached node right below them, a write of each node that is allocated, a logarithm of the
-    /// number of the collection's nodes for each of these units, and a loss for each that is
-    /// refused. What lies deeper costs nothing else. Where births were not told of rising events,
-    /// each of these units may cost a pass over the keys of the collection in place of the
-    /// logarithm. A unit that becomes ready below one without buffers costs nothing more.
-    ///
-    /// An effect by which the root's unit becomes ready, while something holds it and it has no
-    /// buffers, is the first allocation: that costs some reads of each node of the unit and of each
-    /// attached node right below it, a write of each node of the unit, what the places in the pool
-    /// cost, and the turns of the attached units that are ready below it, as above. Where it fails,
-    /// each node of the collection is removed.
-    ///
-    /// Where no strong node of the collection is live after the change, it costs some looks at the
-    /// handles of each buffer besides, of which there are at most `MAX_BUFFERS`, and one for each
-    /// turn, a removal of each node where the buffers are abandoned, and the return of the home
-    /// buffers: for each a shift of those behind it where some stay held, and the pool's cost.
-    ///
-    /// Of all these only a birth and the first allocation take memory: the birth for its node, the
-    /// counts of its unit, and the lists of removed nodes, of turns and of nodes that may be
-    /// forgotten, the first allocation for the list of held buffers.
+    /// Counts of each collection and of each unit determine the next step, so no step looks at
+    /// other nodes. A unit that becomes ready below a unit without buffers costs O(1).
     #[inline(always)]
     pub fn settle(
         &mut self,
@@ -154,19 +142,22 @@ impl Forest {
         Ok(None)
     }
 
-    /// Makes the steps that are forced because a handle of the buffer was dropped, and frees the pages
-    /// of the buffer, if it is home. No other buffer of its collection may be home before the call:
-    /// `settle` and `settle_drop` leave none, and opening a handle brings none home.
+    /// Makes the steps that are forced because a handle of the buffer was dropped, and gives back
+    /// the pages of the buffer, if it is home. No other buffer of its collection may be home before
+    /// the call: `settle` and `settle_drop` leave none, and opening a handle makes none home.
     ///
-    /// `NoMemory` where a growth is refused. The forest and the pool are then as they were.
+    /// `NoMemory` if a growth is refused. The forest and the pool are then as they were.
     ///
-    /// Where a strong node of the collection is live, it costs a binary search. Else, where the root
-    /// is gone or has no buffers, it costs besides one look at the handles of the buffer, and where
-    /// that is home, a pass over the names of the collection's buffers, a shift of those behind it,
-    /// and the cost of `Pool::give_back`. Where the root is not gone and has its buffers, it costs
-    /// besides a look at the strong handles of each buffer up to the first one of which one is open.
-    /// None of these takes memory. Where no strong handle of any is open then, the root is lost, and it
-    /// costs what `settle` does: each node of the collection is removed.
+    /// Costs O(log c) for c collections, if a strong node of the collection is live. If none is, it
+    /// also costs:
+    ///
+    /// - if the root is gone or has no buffers: one look-up of handles; if the buffer is home, also
+    ///   O(buffers) of its collection, and the cost of `Pool::give_back`;
+    /// - if the root has its buffers: a look-up of handles for each buffer up to the first that has
+    ///   an open strong handle. If no buffer has one, the root is lost, which costs what `settle`
+    ///   costs for a loss of each node of the collection.
+    ///
+    /// Only the loss of the root takes memory.
     pub fn settle_drop(
         &mut self,
         pool: &mut Pool,
@@ -185,14 +176,15 @@ impl Forest {
         settle_dropped(&mut self.store, pool, holds, buffer, &mut self.room)
     }
 
-    /// The node with this key, unless it was never born or was forgotten. It costs O(1).
+    /// The node with this key; `None` if it was never born, or was forgotten. Costs O(1).
     pub fn node(&self, key: NodeKey) -> Option<&Node>
         ensures { option_copied result ≡ node_at self.now key }
     {
         self.store.nodes.table.get(key)
     }
 
-    /// The collection with this id at a glance, if it is there. A binary search.
+    /// The number of nodes and held buffers of the collection with this id, and its buffers; `None`
+    /// if it is not there. Costs O(log collections).
     pub fn collection(&self, id: CollectionId) -> Option<Summary>
         ensures value { result ≡ option_map summary_of (collection_at self.now id) }
         ensures few { IfSome result (λ s. IfSome s.buffers (λ b. b.count ≤ MAX_BUFFERS)) }
@@ -207,22 +199,22 @@ impl Forest {
         }
     }
 
-    /// How many nodes are kept. It costs O(1).
+    /// How many nodes are kept. Costs O(1).
     pub fn len(&self) -> usize
         ensures { result ≡ node_count self.now }
     {
         self.store.nodes.table.len()
     }
 
-    /// How many collections there are. It costs O(1).
+    /// How many collections there are. Costs O(1).
     pub fn collections(&self) -> usize
         ensures { result ≡ length self.now.collections }
     {
         self.store.entries.len()
     }
 
-    /// Whether a strong node of the collection is live; no, if there is no such collection. A
-    /// binary search.
+    /// Whether a strong node of the collection is live. False if there is no such collection. Costs
+    /// O(log collections).
     pub fn strong_live(&self, id: CollectionId) -> bool
         ensures { result ≡ option_map_or (λ (c : Collection).
             some_strong_live (members_of c.nodes)) (collection_at self.now id) false }
@@ -233,8 +225,8 @@ impl Forest {
         }
     }
 
-    /// The keys of all live nodes, by birth. `NoMemory` where the list is refused room. It costs
-    /// the number of nodes, and a sort.
+    /// The keys of all live nodes, by birth. `NoMemory` if the list is refused. Costs O(n + l log l)
+    /// for n kept nodes, of which l are live.
     pub fn live(&self) -> Result<Vec<NodeKey>, NoMemory>
         ensures { IfOk result (λ keys. keys.items ≡ live_keys self.now) }
     {
@@ -249,7 +241,7 @@ impl Forest {
     }
 
     /// All kept nodes with their ends, collection by collection by rising id, and by birth within each.
-    /// `NoMemory` where the list is refused room. It costs the number of nodes.
+    /// `NoMemory` if the list is refused. Costs O(nodes).
     pub fn nodes(&self) -> Result<Vec<Node>, NoMemory>
         ensures { IfOk result (λ nodes. nodes.items ≡ all_nodes self.now) }
     {
@@ -264,7 +256,7 @@ impl Forest {
     }
 
     /// The collection with this id, with its kept nodes and its buffers; `None` if it is not there.
-    /// `NoMemory` where the lists are refused room. It costs a binary search, and a copy.
+    /// `NoMemory` if the lists are refused. Costs O(log collections), and a copy.
     pub fn snapshot(&self, id: CollectionId) -> Result<Option<Snapshot>, NoMemory>
         ensures value { IfOk result (λ copied. option_map collection_of copied
             ≡ collection_at self.now id) }
@@ -283,8 +275,7 @@ impl Forest {
         }
     }
 
-    /// The ids of the collections, rising. `NoMemory` where the list is refused room. It costs
-    /// their number.
+    /// The ids of the collections, rising. `NoMemory` if the list is refused. Costs O(collections).
     pub fn ids(&self) -> Result<Vec<CollectionId>, NoMemory>
         ensures { IfOk result (λ ids. ids.items
             ≡ map (λ (c : Collection). c.id) self.now.collections) }
@@ -296,8 +287,7 @@ impl Forest {
     }
 
     /// The pages of the buffers of all collections but this one, collection by collection, and by
-    /// index within each. `NoMemory` where the list is refused room. It costs the number of
-    /// collections and of their buffers.
+    /// index within each. `NoMemory` if the list is refused. Costs O(collections + their buffers).
     pub fn pages_beside(&self, id: CollectionId) -> Result<Vec<Interval>, NoMemory>
         ensures { IfOk result (λ pages. pages.items ≡ beside self.now id) }
     {
@@ -307,8 +297,8 @@ impl Forest {
         }
     }
 
-    /// All buffers whose pages were not given back, by page. `NoMemory` where the list is refused
-    /// room. It costs their number, and a sort.
+    /// All buffers whose pages were not given back, by page. `NoMemory` if the list is refused. Costs
+    /// O(b log b) for b such buffers.
     pub fn held(&self) -> Result<Vec<HeldBuffer>, NoMemory>
         ensures { IfOk result (λ held. held.items ≡ held_by_page self.now) }
     {
@@ -318,8 +308,8 @@ impl Forest {
         }
     }
 
-    /// Puts the end of a node that is kept elsewhere. It takes no memory, and costs O(1), and
-    /// a binary search where the end of a gone node is spent, which is noted then.
+    /// Sets the state of a kept node's end. Takes no memory. Costs O(1); O(log collections) if the
+    /// node is gone and its end is spent, since it is then listed as garbage.
     pub fn set_end(&mut self, key: NodeKey, end: End)
         requires { is_some (node_at self.old key) ≡ true }
         ensures { self.new ≡ on_collections (with_nodes (map (with_end key end))) self.old }
@@ -329,8 +319,8 @@ impl Forest {
         }
     }
 
-    /// Forgets a node that is gone and whose end is spent. Its key is given to no other node. It
-    /// takes no memory, and costs the number of its collection's nodes.
+    /// Forgets a node that is gone and whose end is spent. Its key is given to no other node. Takes
+    /// no memory. Costs O(log collections + nodes of the collection).
     pub fn forget(&mut self, key: NodeKey)
         requires there { is_some (node_at self.old key) ≡ true }
         requires over { option_map_or is_over (node_at self.old key) false ≡ true }
@@ -344,8 +334,8 @@ impl Forest {
         }
     }
 
-    /// Forgets a collection that has no node and holds no page. It takes no memory, and costs a
-    /// binary search and a shift.
+    /// Forgets a collection that has no node and holds no page. Takes no memory. Costs
+    /// O(collections), for a shift.
     pub fn forget_collection(&mut self, id: CollectionId)
         requires { option_map_or is_left (collection_at self.old id) false ≡ true }
         ensures collections { self.new.collections
@@ -357,12 +347,13 @@ impl Forest {
         }
     }
 
-    /// Forgets each node of the collection that is gone and whose end is spent, and the collection
-    /// where it has no node and holds no page then. Without such a collection nothing changes. It
-    /// takes no memory, and costs a binary search. Each node that is forgotten costs a binary search
-    /// among the collection's nodes and a move of the keys on its shorter side besides. Where more
-    /// than 64 such nodes were found since the last call, one that is found twice counted
-    /// twice, it costs a pass over its nodes.
+    /// Forgets each node of the collection that is gone and whose end is spent, and then the
+    /// collection, if it has no node and holds no page. Without such a collection nothing changes.
+    ///
+    /// Takes no memory. Costs O(log collections), and for each node that is forgotten O(log n + s),
+    /// where n is the number of the collection's nodes and s the number of keys on its shorter side.
+    /// Costs O(n) instead if more than 64 such nodes were found since the last call (one found twice
+    /// counts twice).
     pub fn forget_over(&mut self, id: CollectionId)
         ensures collections { self.new.collections ≡ without_over_in id self.old.collections }
         ensures keys { SameKeys self.old self.new }

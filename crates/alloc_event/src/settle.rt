@@ -24,9 +24,9 @@ use forest_store::store::Store;
 use forest_store::unit_counts::{bound, reach};
 use sm_names::{BufferName, CollectionId, Fault, NoMemory, NodeKey};
 
-/// Makes a change that is no birth to a collection that is there, and all that it forces.
-/// `NoMemory` leaves the table, the entries and the pool as they were. The collection is looked up once,
-/// by a binary search.
+/// Makes a change other than a birth to a collection that is there, and all that it forces. `NoMemory`
+/// leaves the table, the entries and the pool as they were. Looks the collection up once, by a binary
+/// search.
 #[inline(always)]
 pub(crate) fn settle_change(
     store: &mut Store,
@@ -56,9 +56,9 @@ pub(crate) fn settle_change(
     }
 }
 
-/// The birth of a node, and all that it forces: where no strong node of the collection is live then, its
-/// buffers may be abandoned, or home. `NoMemory` leaves the table and the pool as they were, of the
-/// entries all but their room, and what the units count.
+/// Makes the birth of a node, and all that it forces: if no strong node of the collection is live then, its
+/// buffers may be abandoned, or home. `NoMemory` leaves the table and the pool as they were, and the
+/// entries and the counts of units except for their room.
 #[inline(never)]
 pub(crate) fn settle_birth(
     store: &mut Store,
@@ -90,8 +90,8 @@ pub(crate) fn settle_birth(
     Ok(key)
 }
 
-/// What comes of a handle of the buffer that was dropped. `NoMemory` leaves the table, the entries
-/// and the pool as they were.
+/// Makes what a dropped handle of the buffer forces. `NoMemory` leaves the table, the entries and the
+/// pool as they were.
 pub(crate) fn settle_dropped(
     store: &mut Store,
     pool: &mut Pool,

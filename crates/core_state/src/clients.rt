@@ -31,7 +31,7 @@ impl Model for Client {
     ghost view = { λ c. record { id = c.id; shut = c.shut; waiting = c.waiting.items } };
 }
 
-/// Whether the client joined: a look, or a binary search, since clients are numbered as they join.
+/// Whether the client joined. Costs O(log clients): clients are numbered as they join.
 pub fn has_joined(clients: &[Client], client: ClientId) -> bool
     requires { Rise (map (λ (c : Row). c.id) clients.now) }
     ensures { result ≡ list_any (λ (c : Row). c.id == client) clients.now }
@@ -39,7 +39,7 @@ pub fn has_joined(clients: &[Client], client: ClientId) -> bool
     place_of(clients, client).is_some()
 }
 
-/// Whether the client was shut. A look, or a binary search.
+/// Whether the client was shut. Costs O(log clients).
 pub fn is_shut(clients: &[Client], client: ClientId) -> bool
     requires { Rise (map (λ (c : Row). c.id) clients.now) }
     ensures { result ≡ option_map_or (λ (c : Row). c.shut)
@@ -54,7 +54,7 @@ pub fn is_shut(clients: &[Client], client: ClientId) -> bool
     }
 }
 
-/// How many parcels wait for the client. A look, or a binary search.
+/// How many parcels wait for the client. Costs O(log clients).
 pub fn count_waiting(clients: &[Client], client: ClientId) -> usize
     requires { Rise (map (λ (c : Row). c.id) clients.now) }
     ensures { result ≡ length (option_map_or (λ (c : Row). c.waiting)
@@ -70,7 +70,7 @@ pub fn count_waiting(clients: &[Client], client: ClientId) -> usize
     }
 }
 
-/// The parcel that the client collects next. A look, or a binary search.
+/// The parcel that the client collects next. Costs O(log clients).
 pub fn first_waiting(clients: &[Client], client: ClientId) -> Option<Parcel>
     requires { Rise (map (λ (c : Row). c.id) clients.now) }
     ensures { result ≡ slice_get (option_map_or (λ (c : Row). c.waiting)
@@ -83,8 +83,8 @@ pub fn first_waiting(clients: &[Client], client: ClientId) -> Option<Parcel>
 /// Changes the clients as the event does: a client joins or is shut, or a parcel is given or
 /// collected.
 ///
-/// `NoMemory` where there is no room for a client or a parcel more; then they are as they were. A
-/// look, or a binary search.
+/// `NoMemory` if room for one more client or parcel is refused; then they are as they were. Costs
+/// O(log clients).
 #[inline(always)]
 pub fn note_client(
     clients: &mut Vec<Client>,
