@@ -33,7 +33,6 @@ mod ground;
 mod line;
 mod past;
 mod player;
-mod text;
 mod texts;
 mod verb;
 
@@ -42,7 +41,7 @@ use std::alloc::Global;
 use std::io::Write;
 use std::test::Fail;
 use std::{io, mem};
-use text::Text;
+use trial_streams::Text;
 
 // Takes each line of a text, and puts it with its answer behind what is there.
 fn take_lines(input: &str, player: &mut Player, text: &mut Text) {

@@ -2,7 +2,6 @@
 use crate::ground::Ground;
 use crate::line::{Line, Range, line_of};
 use crate::past::{Leaving, Past};
-use crate::text::Text;
 use crate::texts::{
     Tally, push_birth, push_kept, push_node, push_pool, push_tally, tally_in, tally_of,
 };
@@ -11,6 +10,7 @@ use alloc_event::forest::Forest;
 use sm_names::{Call, Constraints, NodeKey, Strength};
 use std::alloc::Global;
 use std::mem;
+use trial_streams::Text;
 
 /// A ground, and the keys of the nodes that were born on it; or what is left of its forest.
 #[derive(Drop)]

@@ -1,12 +1,12 @@
 //! What is told of a forest.
 use crate::ground::{Ground, HERE};
 use crate::line::Range;
-use crate::text::Text;
 use alloc_event::births::{new_child, new_root};
 use alloc_event::forest::Forest;
 use alloc_event::node::Node;
 use sm_names::{Buffers, Cause, CollectionId, Failure, NodeKey};
 use text_parts::Part;
+use trial_streams::Text;
 
 /// How many of some nodes are live, have their buffers, and failed; or the change of these numbers.
 #[derive(Clone, Copy, PartialEq, Eq)]

@@ -2,13 +2,13 @@
 ghost use Rattle.std.specs.Prelude.{◌<◌};
 
 use crate::line::Line;
-use crate::text::Text;
 use crate::verb::Verb;
 use buffer_holds::{CountHash, HandleKind, Hold, HoldFault, Holds, Spot};
 use sm_names::{BufferName, ClientId, Strength};
 use std::alloc::Global;
 use std::hash::{BuildHasher, Hash, Hasher};
 use text_parts::Part;
+use trial_streams::Text;
 
 // The collection of all buffers but the twins.
 const HERE: u64 = 7;

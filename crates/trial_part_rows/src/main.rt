@@ -55,7 +55,6 @@ mod nodes;
 mod pages;
 mod player;
 mod runs;
-mod text;
 mod verb;
 mod watch;
 
@@ -64,7 +63,7 @@ use std::alloc::Global;
 use std::io;
 use std::io::Write;
 use std::test::Fail;
-use text::Text;
+use trial_streams::Text;
 
 // Takes each line of a text, and puts it with its answer behind what is there.
 fn take_lines(alloc: Global, input: &str, player: &mut Player, text: &mut Text) {

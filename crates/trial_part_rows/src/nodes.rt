@@ -4,13 +4,13 @@ ghost use Rattle.node_table.specs.Table.{row_at};
 
 use crate::line::Line;
 use crate::runs::Runs;
-use crate::text::Text;
 use crate::verb::Verb;
 use failure_domains::{Bound, Fall, Link, fall, walk_within};
 use node_table::{NodeTable, TableFault};
 use sm_names::NodeKey;
 use std::alloc::Global;
 use text_parts::Part;
+use trial_streams::Text;
 
 /// A node: its number, what was written into it, and whether its failure leaves its parent alone.
 #[derive(Clone, Copy)]

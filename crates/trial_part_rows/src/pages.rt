@@ -4,12 +4,12 @@ ghost use Rattle.buffer_pool.specs.Holdings.{in_run, HasRun};
 
 use crate::line::{Line, small};
 use crate::runs::{Runs, push_one};
-use crate::text::Text;
 use crate::verb::Verb;
 use buffer_pool::{Placed, Pool, PoolFault};
 use sm_names::{Interval, MAX_PAGES};
 use std::alloc::Global;
 use text_parts::Part;
+use trial_streams::Text;
 
 /// A pool.
 #[derive(Drop)]

@@ -3,10 +3,10 @@ use crate::handles::Handles;
 use crate::line::{Line, line_of, small};
 use crate::nodes::Nodes;
 use crate::pages::Pages;
-use crate::text::Text;
 use crate::verb::Verb;
 use crate::watch::Watch;
 use std::alloc::Global;
+use trial_streams::Text;
 
 /// The part that the last heading made.
 #[derive(Drop)]

@@ -1,6 +1,6 @@
 //! Lists of numbers as text.
-use crate::text::Text;
 use text_parts::Part;
+use trial_streams::Text;
 
 // Numbers that follow each other by one step, up or down.
 #[derive(Clone, Copy)]

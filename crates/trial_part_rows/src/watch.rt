@@ -6,12 +6,12 @@ ghost use Rattle.trial_part_rows.specs.declared.watch.TheConstants.{HERE};
 
 use crate::line::{Line, small};
 use crate::runs::Runs;
-use crate::text::Text;
 use crate::verb::Verb;
 use sm_names::{BufferName, CollectionId, Fired, NodeKey, TrackerId};
 use std::alloc::Global;
 use text_parts::Part;
 use trackers::{Condition, TrackFault, Tracker, Trackers, Waiting, World};
+use trial_streams::Text;
 
 /// The collection.
 const HERE: CollectionId = 1;

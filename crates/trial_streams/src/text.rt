@@ -1,4 +1,4 @@
-//! The text that is written.
+//! The text that a player writes.
 use std::alloc::Global;
 use text_parts::{Part, push_parts};
 
