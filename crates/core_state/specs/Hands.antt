@@ -9,6 +9,7 @@ use Rattle.sm_names.specs.Handles.{opens, drops, lifts, lands}
 use Rattle.sm_names.specs.Marks.{Mark}
 use Rattle.sm_names.specs.Sameness.{same_buffer, same_strength}
 use Rattle.event_laws.specs.ByEvent.{GoesBy, anyone, only, gains, loses, one_if}
+use Rattle.buffer_holds.specs.Changes.{Tidies}
 use Rattle.buffer_holds.specs.Counts.{Counts, of, moving_count, total, has_handle_room}
 
 -- a handle of each buffer of the set has room under the limit
@@ -47,6 +48,13 @@ CanUndo holds client _ _ = ⊤
 abbrev pub collects_handle : Call → Reply → Bool
 collects_handle Call.Collect (Reply.CollectedHandle buffer strength) = true
 collects_handle _ _ = false
+
+-- a call that drops or gives a handle takes back the room of its kind if the client has none open any more; other calls change
+-- nothing
+abbrev pub TidiesAfter : Counts → Counts → ℕ → Call → Type 0
+TidiesAfter old new client (Call.DropHandle buffer strength) = Tidies old new client buffer strength
+TidiesAfter old new client (Call.GiveHandle buffer strength to) = Tidies old new client buffer strength
+TidiesAfter old new client _ = new ≡ old
 
 -- the event needs room for handles: it opens some, or gives one whose receiver needs it
 abbrev pub takes_handle_room : Call → Reply → Bool

@@ -3,7 +3,7 @@ ghost use Rattle.std.specs.Prelude.{◌≡◌, ◌+◌, ◌/◌, ◌%◌, ◌^�
 ghost use Rattle.std.specs.Int.{bit_at};
 ghost use Rattle.sm_names.specs.Marks.{Called};
 ghost use Rattle.buffer_holds.specs.Counts.{Counts, of, total};
-ghost use Rattle.core_state.specs.Hands.{MayMove, MovesHandles, CanUndo, Opens, CanOpen, collects_handle, is_the, is_in_set_below, takes_handle_room};
+ghost use Rattle.core_state.specs.Hands.{MayMove, MovesHandles, CanUndo, Opens, CanOpen, TidiesAfter, collects_handle, is_the, is_in_set_below, takes_handle_room};
 ghost use Rattle.core_state.specs.State.{counts_of};
 
 use buffer_holds::{HoldFault, Holds, Spot};
@@ -107,10 +107,11 @@ pub fn undo_handles(holds: &mut Holds, client: ClientId, call: Call, reply: Repl
     }
 }
 
-/// Takes back the room of a handle that the client dropped or gave: it is not to come back. No count
-/// changes. It takes no memory, and costs two look-ups.
+/// Takes back the room of the handles that the call dropped or gave, if the client has no other handle of
+/// the buffer and strength. No count changes. Takes no memory. Costs two look-ups.
 #[inline(always)]
 pub fn tidy_up(holds: &mut Holds, client: ClientId, call: &Call)
+    ensures tidied { TidiesAfter holds.old holds.new client call.now }
     ensures counts { counts_of holds.new ≡ counts_of holds.old }
     ensures limit { holds.new.limit ≡ holds.old.limit }
 {
