@@ -1,5 +1,6 @@
 //! The service, and its lock.
-ghost use Rattle.std.specs.Prelude.{◌≤◌};
+ghost use Rattle.std.specs.Prelude.{◌≡◌, ◌≤◌};
+ghost use Rattle.std.specs.Sync.Mutex.{mutex_guard_value};
 ghost use Rattle.service_lock.specs.States.{IsSetUpWith};
 ghost use Rattle.service_lock.specs.Units.{AreFor};
 
@@ -29,12 +30,16 @@ pub struct Guard<'a, E: Setup, S: Ledger, W: Ledger> {
 
 impl<'a, E: Setup, S: Ledger, W: Ledger> Guard<'a, E, S, W> {
     /// The state, to read it. Costs nothing.
-    pub fn state(&self) -> &State<E, S, W> {
+    pub fn state(&self) -> &State<E, S, W>
+        ensures { result.now ≡ mutex_guard_value self.now.lock }
+    {
         &*self.lock
     }
 
     /// The state, to change it. Costs nothing.
-    pub fn state_mut(&mut self) -> &mut State<E, S, W> {
+    pub fn state_mut(&mut self) -> &mut State<E, S, W>
+        ensures { result.now ≡ mutex_guard_value self.old.lock }
+    {
         &mut *self.lock
     }
 }
