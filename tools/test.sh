@@ -65,7 +65,7 @@ try_program() {
     add_case alone examples/alone.actors 'threads --record' examples/alone.record
     add_case shared examples/shared.actors threads
   fi
-  (cd "$crate" && rt try --cases "$room/$item.cases")
+  (cd "$crate" && rt try --seconds 600 --cases "$room/$item.cases")
 }
 
 # Whether the actors of examples/shared.actors, whose number of events is open, have all come to their end.
