@@ -11,7 +11,7 @@ pub struct Text {
 }
 
 impl Text {
-    /// No text.
+    /// No text. Takes no memory. Costs O(1).
     pub fn new(alloc: Global) -> Text {
         Text {
             bytes: Vec::new(alloc),
@@ -19,7 +19,8 @@ impl Text {
         }
     }
 
-    /// Puts the parts behind what is there.
+    /// Appends the parts. If memory is refused, some of them may be missing, and `whole` answers `None`
+    /// from then on. Costs O(their length), amortized.
     pub fn push(&mut self, parts: &[Part]) {
         match push_parts(&mut self.bytes, parts) {
             Ok(()) => {}
@@ -27,12 +28,12 @@ impl Text {
         }
     }
 
-    /// Puts a word behind what is there.
+    /// Appends a word, as `push` appends parts.
     pub fn word(&mut self, word: &str) {
         self.push(&[Part::Word(word)]);
     }
 
-    /// The whole text. `None` if memory was refused for some of it.
+    /// The whole text. `None` if memory was refused for some of it. Costs O(1).
     pub fn whole(&self) -> Option<&[u8]> {
         if self.is_whole {
             Some(self.bytes.as_slice())
