@@ -2,5 +2,3 @@
 pub mod Fields
 pub mod NextTrackers
 pub mod Sweeps
-pub mod Worlds
-pub mod WorldsApart

@@ -7,6 +7,7 @@ pub mod Fits
 pub mod Fitting
 pub mod ForcedStep
 pub mod Forest
+pub mod Known
 pub mod Losing
 pub mod NothingForced
 pub mod Settled

@@ -4,7 +4,6 @@ pub mod HeldNames
 pub mod Movable
 pub mod Moves
 pub mod Opening
-pub mod Parcels
 pub mod Standing
 pub mod Taken
 pub mod ToOpen

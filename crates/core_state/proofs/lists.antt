@@ -3,5 +3,4 @@ pub mod ByNumber
 pub mod Maps
 pub mod Parts
 pub mod Reorderings
-pub mod Rising
 pub mod Sorted

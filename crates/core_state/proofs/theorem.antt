@@ -8,3 +8,6 @@ pub mod GoesOn
 pub mod Idle
 pub mod Leads
 pub mod Runs
+pub mod Sweeping
+pub mod OfHistory
+pub mod Keeps

@@ -5,7 +5,6 @@ use Rattle.sm_names.specs.declared.keys.NodeKey.{NodeKey}
 use Rattle.sm_names.specs.declared.messages.Call.{Call}
 use Rattle.sm_names.specs.declared.messages.Reply.{Reply}
 use Rattle.forest_store.specs.declared.change.Change.{Change}
-use Rattle.forest_store.specs.declared.change.Effect.{Effect}
 use Rattle.forest_store.specs.declared.node.End.{End}
 use Rattle.forest_store.specs.declared.node.Node.{Node}
 use Rattle.sm_names.specs.Answers.{answer}
@@ -50,11 +49,6 @@ spent_place key = option_map (λ k. record { key = k; end = End.Spent }) key
 abbrev pub spent_in : Option Task → Option NodeKey
 spent_in task = option_and_then (λ (t : Task). t.spends) task
 
--- the node that the change releases
-abbrev pub released_by : Change → Option NodeKey
-released_by (Change.Effect key Effect.Released) = Some key
-released_by _ = None
-
 -- the end that the task spends is one of its collection
 abbrev pub SpendsThere : Forest → Task → Type 0
 SpendsThere f t = IfSome t.spends (λ key. option_map (λ (n : Node). n.collection) (node_at f key) ≡ Some t.collection)
@@ -67,12 +61,10 @@ DoesSome t = (is_some t.change || is_some t.spends) ≡ true
 abbrev pub end_placed : Option Task → Option Place → Option Place
 end_placed task carried = option_or (spent_place (spent_in task)) carried
 
--- the task may be done: its change may be made, the end that it spends is one of its collection, and a release spends
--- the end
+-- the task may be done: its change may be made, and the end that it spends is one of its collection
 pub record MayDo (f : Forest) (t : Task) : Type 0 where
   pub change : IfSome t.change (MayChange f t.collection)
   pub there : SpendsThere f t
-  pub spends : IfSome t.change (λ change. IfSome (released_by change) (λ key. t.spends ≡ Some key))
 
 -- where a handle was dropped, the task changes nothing but the question what follows in the buffer's collection
 abbrev pub AsksOnly : Call → Option Task → Type 0

@@ -70,7 +70,7 @@ impl Model for Core {
 
     ghost Value = { State };
 
-    ghost use Rattle.core_state.specs.Whole.{IsWholeCore};
+    ghost use Rattle.core_state.specs.Whole.{IsCore};
 
     ghost view = { λ c. record {
       pool = c.contents.pool.size;
@@ -82,9 +82,15 @@ impl Model for Core {
       trackers = c.contents.trackers;
     } };
 
-    ghost invariant = { λ c. IsWholeCore c.contents.pool c.limits c.events
-        c.contents.clients.items c.contents.forest c.contents.holds
-        c.contents.trackers };
+    ghost invariant = { λ c. IsCore c.contents.pool (record {
+      pool = c.contents.pool.size;
+      limits = c.limits;
+      events = c.events;
+      clients = c.contents.clients.items;
+      forest = c.contents.forest;
+      holds = c.contents.holds;
+      trackers = c.contents.trackers;
+    }) };
 }
 
 // Stands for the key of a new node until it has one.
@@ -154,6 +160,8 @@ impl Core {
         ensures value { result ≡ self.now.events }
         ensures shown { (history : List Entry) → Shows self.now history →
             result ≡ length history }
+        // Every core shows a legal history.
+        ensures legal { (history : List Entry) × Shows self.now history }
     {
         self.events
     }

@@ -12,7 +12,7 @@ ghost use Rattle.core_state.specs.Steps.{work_of, with_place, without_over};
 ghost use Rattle.core_state.specs.Tasks.{AsksOnly, OthersStay};
 ghost use Rattle.core_state.specs.Tasks.{DoesSome, MayDo, Reworked, SpendsThere};
 ghost use Rattle.core_state.specs.Tasks.{end_placed, spent_by, spent_in, spent_place, work_in};
-ghost use Rattle.core_state.specs.Whole.{AreUpTo, CanCarry, CanFinish, IsSound};
+ghost use Rattle.core_state.specs.Whole.{CanCarry, CanFinish};
 
 use crate::machine::Core;
 use alloc_event::effects::effect_of;
@@ -252,9 +252,7 @@ pub(crate) fn put_end(forest: &mut Forest, task: &Option<Task>, carried: Option<
     ensures collections { forest.new.collections
         ≡ without_over (with_place (end_placed task.now carried) forest.old).collections }
     ensures keys { SameKeys forest.old forest.new }
-    ensures sound { IsSound forest.new }
     ensures held { all_held forest.new ≡ all_held forest.old }
-    ensures ids { (most : ℕ) → AreUpTo most forest.old → AreUpTo most forest.new }
 {
     let Some(task) = *task else {
         carry(forest, carried);

@@ -56,19 +56,6 @@ put_from new (d ∷ cs) c there =
     at_behind : In c (d ∷ put new cs) → (c ≡ d) ⊎ In c (put new cs)
     at_behind h = h
 
--- another is found as before
-pub put_other : (new : Collection) (cs : List Collection) (id : ℕ) → (new.id == id) ≡ false →
-    find (λ (c : Collection). c.id == id) (put new cs) ≡ find (λ (c : Collection). c.id == id) cs
-put_other new [] id other = rw other refl
-put_other new (c ∷ cs) id other =
-    elim (either_way (c.id == new.id)) [
-      | inl same ↦ let apart : (c.id == id) ≡ false = ap (λ n. n == id) (eqb-true c.id new.id same) ∙ other in rw (same, other, apart) refl
-      | inr apart ↦ elim (either_way (nat_lt new.id c.id)) [
-        | inl before ↦ rw (apart, before, other) refl
-        | inr behind ↦ rw (apart, behind) (ap (λ o. if c.id == id then Some c else o) (put_other new cs id other))
-      ]
-    ]
-
 -- what follows of each number
 pub weaken : (P Q : ℕ → Type 0) → ((n : ℕ) → P n → Q n) → (ns : List ℕ) → AllByRecursion P ns → AllByRecursion Q ns
 weaken P Q more [] all = tt

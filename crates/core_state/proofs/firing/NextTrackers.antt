@@ -47,7 +47,7 @@ found s marks shown limits grown key n =
     node_kept s marks shown limits grown key n.birth n.found kept
 
 -- but for where it is filed, it is the one that the marks tell
-tracker_is : (s : State) (marks : Timeline) → IsAfter s marks → (limits : Bound) → Grows s.pool limits [] marks →
+pub tracker_is : (s : State) (marks : Timeline) → IsAfter s marks → (limits : Bound) → Grows s.pool limits [] marks →
     (client : ℕ) (reply : Reply) (call : Call) → IsAnswer limits (readings marks) client call reply →
     option_map tracked_as (tracker_by s.forest call reply) ≡ tracked_at marks (Called client reply call)
 tracker_is s marks shown limits grown client (Reply.Tracker id) (Call.TrackNode key) answer =
@@ -88,7 +88,7 @@ module _ (s : State) (marks : Timeline) (shown : IsAfter s marks) (limits : Boun
   tracked_later o is = tracked_after s.pool marks entry ∙ ap (λ (x : Option Tracked). cons_option x (tracked marks)) (sym is)
 
   -- so it is once the new tracker is attached
-  are_asked : (t : TrackerTable) (o : Option Waiting) → GainsTracker s.trackers o t →
+  pub are_asked : (t : TrackerTable) (o : Option Waiting) → GainsTracker s.trackers o t →
       option_map tracked_as o ≡ tracked_at marks (Called client reply call) → AreAsked t
   are_asked t None same is = record {
     fired = ap (λ (x : TrackerTable). x.fired) same ∙ shown.trackers.fired;

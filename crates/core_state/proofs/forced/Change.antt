@@ -1,18 +1,16 @@
 -- What the change of a task leaves of the forest.
-use Rattle.std.proofs.Common.{ℕ, ◌≡◌, refl, sym, ◌∙◌, subst, ◌≤◌, inl, inr, Option, Some, None, IfSome, is_some, true}
+use Rattle.std.proofs.Common.{ℕ, ◌≡◌, refl, sym, ◌∙◌, subst, Option, Some, None, IfSome, is_some, true}
 use Rattle.std.specs.Option.{option_map}
 use Rattle.sm_names.specs.declared.keys.NodeKey.{NodeKey}
-use Rattle.sm_names.proofs.ListLaws.{In}
 use Rattle.sm_names.proofs.SamenessLaws.{map-Some}
 use Rattle.forest_store.specs.declared.change.Change.{Change}
 use Rattle.forest_store.specs.declared.node.Node.{Node}
 use Rattle.forest_store.specs.Forest.{Forest, node_at}
 use Rattle.forest_store.specs.Settling.{Handles, Settled}
 use Rattle.core_state.specs.declared.task.Task.{Task}
-use Rattle.core_state.specs.Tasks.{MayDo, Reworked, released_by, work_in}
-use Rattle.core_state.specs.Whole.{AreUpTo, CanFinish, IsAmid, IsSound}
-use Rattle.core_state.specs.Steps.{Work}
-use Rattle.core_state.proofs.forced.Forest.{IsThere, amid_same, amid_settled, worked_id, key_is_there, node_with_key}
+use Rattle.core_state.specs.Tasks.{MayDo, Reworked, work_in}
+use Rattle.core_state.specs.Whole.{CanFinish, IsAmid, IsSound}
+use Rattle.core_state.proofs.forced.Forest.{IsThere, amid_same, amid_settled, key_is_there, node_with_key}
 
 -- the end that the task spends is of a node of its collection
 pub may_spend : (f : Forest) (t : Task) → IsSound f → MayDo f t → IsThere f t.collection t.spends
@@ -23,14 +21,6 @@ may_spend f t sound may key is =
     let n = map-Some (λ (x : Node). x.collection) (node_at f key) t.collection at in
     let c = node_with_key f key n.0 n.1 in
     (c.0, n.0, c.1, c.2, c.3, sym (sound.fit c.0 c.1 n.0 c.2).collection ∙ n.2)
-
--- a release spends the end
-pub may_release : (f : Forest) (t : Task) (change : Change) → MayDo f t → t.change ≡ Some change → (key : NodeKey) →
-    released_by change ≡ Some key → t.spends ≡ Some key
-may_release f t change may is key releases =
-    let each : IfSome (released_by change) (λ k. t.spends ≡ Some k) =
-    subst (λ (o : Option Change). IfSome o (λ x. IfSome (released_by x) (λ k. t.spends ≡ Some k))) is may.spends in
-    subst (λ (o : Option NodeKey). IfSome o (λ k. t.spends ≡ Some k)) releases each
 
 -- the forest once the change is made, and all that it forces
 pub amid_worked : (pool : ℕ) (handles : Handles) (f worked : Forest) (t : Task) (key : Option NodeKey) → IsSound f → MayDo f t →
@@ -49,33 +39,7 @@ amid_worked pool handles f worked t key sound may work = by t.change refl
         let settled : Settled pool handles f worked t.collection change key =
         subst (λ (o : Option Change). Reworked pool handles f (option_map (λ x. record { collection = t.collection; change = x }) o) key
         worked) is work in
-        amid_settled pool handles f worked t.collection change key t.spends sound (may_spend f t sound may) (may_release f t change may is)
-        settled
-
--- no id is above the others and that of the change
-worked_up_to : (pool : ℕ) (handles : Handles) (f worked : Forest) (t : Task) (key : Option NodeKey) (most : ℕ) → IsSound f → MayDo f t →
-    Reworked pool handles f (work_in (Some t)) key worked →
-    AreUpTo most f → IfSome (work_in (Some t)) (λ w. w.collection ≤ most) → AreUpTo most worked
-worked_up_to pool handles f worked t key most sound may work before here = by t.change refl
-  where
-    by : (o : Option Change) → t.change ≡ o → AreUpTo most worked
-    by None is c on =
-        let same : worked ≡ f =
-        (subst (λ (o : Option Change). Reworked pool handles f (option_map (λ x. record { collection = t.collection; change = x }) o)
-        key worked) is work).0 in
-        before c (subst (λ (x : Forest). In c x.collections) same on)
-    by (Some change) is c on =
-        let settled : Settled pool handles f worked t.collection change key =
-        subst (λ (o : Option Change). Reworked pool handles f (option_map (λ x. record { collection = t.collection; change = x }) o) key
-        worked) is work in
-        let within : t.collection ≤ most =
-        subst (λ (o : Option Change). IfSome (option_map (λ x. record { collection = t.collection; change = x }) o) (λ (w : Work).
-        w.collection ≤ most)) is here in
-        elim (worked_id pool handles f worked t.collection change key t.spends sound (may_spend f t sound may)
-        (may_release f t change may is) settled c on) [
-          | inl one ↦ rw one within
-          | inr old ↦ before c old
-        ]
+        amid_settled pool handles f worked t.collection change key t.spends sound (may_spend f t sound may) settled
 
 -- the end that is about to be spent is there
 pub end_is_there : (f : Forest) (id : ℕ) (leaving : Option NodeKey) (key : NodeKey) → IsAmid f id leaving → leaving ≡ Some key →
@@ -96,12 +60,3 @@ pub can_finish : (pool : ℕ) (handles : Handles) (f worked : Forest) (task : Op
     Reworked pool handles f (work_in task) key worked → CanFinish worked task
 can_finish pool handles f worked None key sound may work = subst IsSound (sym work.0) sound
 can_finish pool handles f worked (Some t) key sound may work = amid_worked pool handles f worked t key sound may work
-
--- no id is above the others and that of the change
-pub up_to_worked : (pool : ℕ) (handles : Handles) (f worked : Forest) (task : Option Task) (key : Option NodeKey) (most : ℕ) → IsSound f →
-    IfSome task (MayDo f) →
-    Reworked pool handles f (work_in task) key worked → AreUpTo most f → IfSome (work_in task) (λ w. w.collection ≤ most) →
-    AreUpTo most worked
-up_to_worked pool handles f worked None key most sound may work before here = subst (AreUpTo most) (sym work.0) before
-up_to_worked pool handles f worked (Some t) key most sound may work before here =
-    worked_up_to pool handles f worked t key most sound may work before here

@@ -14,7 +14,6 @@ use Rattle.sm_names.specs.Sameness.{same_key}
 use Rattle.sm_names.specs.Words.{first_some}
 use Rattle.sm_names.proofs.ListLaws.{In-find, In-list_any, all_on}
 use Rattle.sm_names.proofs.SamenessLaws.{and_left, both_ways, either_way, same_key-true}
-use Rattle.buffer_pool.specs.Holdings.{Holdings}
 use Rattle.forest_store.specs.declared.change.Change.{Change}
 use Rattle.forest_store.specs.declared.change.Effect.{Effect}
 use Rattle.forest_store.specs.declared.node.Node.{Node}
@@ -25,7 +24,8 @@ use Rattle.forest_store.specs.Settling.{MayChange, collection_or_new, no_key}
 use Rattle.core_state.specs.Reads.{readings_of}
 use Rattle.core_state.specs.State.{State}
 use Rattle.core_state.specs.Steps.{Work, leaves_tracker_room, work_of}
-use Rattle.core_state.specs.Whole.{IsSound, IsWholeCore}
+use Rattle.core_state.specs.Whole.{IsSound}
+use Rattle.core_state.proofs.forced.Known.{IsKnown}
 use Rattle.core_state.proofs.collections.ById.{found_by_id}
 use Rattle.core_state.proofs.forced.Forest.{node_with_key}
 use Rattle.core_state.proofs.forced.Whole.{well}
@@ -155,11 +155,11 @@ pub record IsFitting (f : Forest) (w : Work) : Type 0 where
   pub fresh : (key : NodeKey) → given f key ≡ false → list_any (is_of key) (collection_or_new f w.collection).nodes ≡ false
 
 -- the same holds of a call's change
-pub is_fitting : (pool : Holdings) (s now : State) (client : ℕ) (call : Call) (asked : Reply) → s ≡ now →
-    IsWholeCore pool s.limits s.events s.clients s.forest s.holds s.trackers →
+pub is_fitting : (s now : State) (client : ℕ) (call : Call) (asked : Reply) → s ≡ now →
+    IsKnown s.limits s →
     asked ≡ answer now.limits (readings_of now) client no_key call →
     (w : Work) → Some w ≡ work_of now client call asked → IsFitting now.forest w
-is_fitting pool s now client call asked same whole told w work =
+is_fitting s now client call asked same whole told w work =
     subst (λ (x : State). IsFitting x.forest w) same (record {
       may = may;
       room = tracker_room s.forest whole.sound w.collection w.change may;
@@ -168,5 +168,5 @@ is_fitting pool s now client call asked same whole told w work =
   where
     may : MayChange s.forest w.collection w.change
     may = (well s.limits s client call asked
-        (record { pool = pool; whole = whole; told = subst (λ (x : State). asked ≡ answer x.limits (readings_of x) client no_key call) (sym same) told })
+        (record { whole = whole; told = subst (λ (x : State). asked ≡ answer x.limits (readings_of x) client no_key call) (sym same) told })
         w (subst (λ (x : State). work_of x client call asked ≡ Some w) (sym same) (sym work))).may

@@ -22,7 +22,6 @@ use Rattle.history_laws.proofs.AnswerLaws.{took_effect_all}
 use Rattle.sm_names.proofs.ListLaws.{In, In-find}
 use Rattle.history_laws.proofs.RejectLaws.{is_refusal}
 use Rattle.sm_names.proofs.SamenessLaws.{none_or_some, and_then-Some, map-Some}
-use Rattle.buffer_pool.specs.Holdings.{Holdings}
 use Rattle.forest_store.specs.declared.change.Change.{Change}
 use Rattle.forest_store.specs.declared.change.Effect.{Effect}
 use Rattle.forest_store.specs.declared.node.Node.{Node}
@@ -32,8 +31,8 @@ use Rattle.forest_store.specs.Settling.{MayChange, is_birth, is_there, no_key}
 use Rattle.core_state.specs.Reads.{end_in, open_end_of, readings_of}
 use Rattle.core_state.specs.State.{State}
 use Rattle.core_state.specs.Steps.{Work, at_node, done_to, drop_at, loss_at, work_of}
-use Rattle.core_state.specs.Tasks.{released_by, spent_by}
-use Rattle.core_state.specs.Whole.{AreUpTo, IsSound, IsWholeCore}
+use Rattle.core_state.specs.Whole.{IsSound}
+use Rattle.core_state.proofs.forced.Known.{AreUpTo, IsKnown}
 use Rattle.core_state.proofs.forced.Dropping.{took_last}
 use Rattle.core_state.proofs.forced.Losing.{IsLosing, losing}
 use Rattle.core_state.proofs.answers.Passed.{Passed, is_closed, passed}
@@ -72,7 +71,7 @@ named limits s client new call reply key told stands is =
 
 -- a node with an end that has not failed is not gone
 not_gone : (gone released spent : Bool) (fault : Option Fault) → (gone ≡ true → (is_some fault || released) ≡ true) →
-    (released ≡ true → (spent || false) ≡ true) →
+    (released ≡ true → spent ≡ true) →
     spent ≡ false → fault ≡ None → gone ≡ false
 not_gone false released spent fault failed left unspent unfailed = refl
 not_gone true released true fault failed left unspent unfailed = cc
@@ -125,45 +124,37 @@ none_some h = cc
 
 -- ---- what the event changes
 
--- the change may be made, its collection is a new one or was there, a release spends the end, and a birth tells of a key
+-- the change may be made, and a birth tells of a key
 pub record Well (s : State) (call : Call) (asked : Reply) (w : Work) : Type 0 where
   pub may : MayChange s.forest w.collection w.change
-  pub within : w.collection ≤ s.events + 1
-  pub releases : (key : NodeKey) → released_by w.change ≡ Some key → spent_by call asked ≡ Some key
   pub births : is_birth w.change ≡ is_some (new_key asked)
 
 -- what is known of a core where the call is answered
 pub record Known (limits : Bound) (s : State) (client : ℕ) (call : Call) (asked : Reply) : Type 0 where
-  pub pool : Holdings
-  pub whole : IsWholeCore pool limits s.events s.clients s.forest s.holds s.trackers
+  pub whole : IsKnown limits s
   pub told : asked ≡ answer limits (readings_of s) client no_key call
 
 module _ (limits : Bound) (s : State) (client : ℕ) (call : Call) (asked : Reply) (known : Known limits s client call asked) where
   -- a call on a node that has not failed
   on_node : (key : NodeKey) → is_refusal asked ≡ false → is_closed asked ≡ false → closing call ≡ None → key_of call ≡ Some key →
-      (n : Node) × (node_at s.forest key ≡ Some n) × (is_there s.forest n.collection key ≡ true) × (n.collection ≤ s.events + 1)
+      (n : Node) × (node_at s.forest key ≡ Some n) × (is_there s.forest n.collection key ≡ true)
   on_node key stands_so alive going is =
       let named_so : Named s call asked key = named limits s client no_key call asked key known.told stands_so is in
       let stands_there : Stands s key named_so.node = stands s key named_so.node known.whole.sound named_so.at in
       let gone : named_so.node.gone ≡ false = stands_there.gone named_so.unspent (named_so.unfailed going alive) in
-      let less : stands_there.collection.id ≤ s.events = known.whole.opened stands_there.collection stands_there.there in
-      let same : stands_there.collection.id ≡ named_so.node.collection = stands_there.id in
-      (named_so.node, named_so.at, is_in s.forest key named_so.node named_so.at gone, omega arith)
+      (named_so.node, named_so.at, is_in s.forest key named_so.node named_so.at gone)
 
   -- a call that takes effect on its node
   effect_well : (key : NodeKey) (effect : Effect) → is_refusal asked ≡ false → is_closed asked ≡ false → closing call ≡ None →
       key_of call ≡ Some key → new_key asked ≡ None →
-      ((k : NodeKey) → released_by (Change.Effect key effect) ≡ Some k → spent_by call asked ≡ Some k) →
       ((k : NodeKey) (n : Node) → Change.Effect key effect ≡ Change.Effect k Effect.Tracked → node_at s.forest k ≡ Some n →
       n.trackers < MAX_NODE_TRACKERS) →
       (w : Work) → at_node s.forest key (λ n. Change.Effect key effect) ≡ Some w → Well s call asked w
-  effect_well key effect stands_so alive going is none releases tracks w work =
+  effect_well key effect stands_so alive going is none tracks w work =
       let on = on_node key stands_so alive going is in
       let w_is : record { collection = on.0.collection; change = Change.Effect key effect } ≡ w = some_is (rw on.1 at work) in
       subst (Well s call asked) w_is (record {
         may = record { named = on.2; room = λ h. cc; heads = refl; trackers = tracks };
-        within = on.3;
-        releases = releases;
         births = rw none refl;
       })
 
@@ -176,8 +167,6 @@ module _ (limits : Bound) (s : State) (client : ℕ) (call : Call) (asked : Repl
       let w_is : record { collection = on.0.collection; change = Change.Loss key (Cause.Misused misuse) } ≡ w = some_is (rw on.1 at work) in
       subst (Well s call asked) w_is (record {
         may = record { named = on.2; room = λ h. cc; heads = refl; trackers = λ k n h. cc };
-        within = on.3;
-        releases = λ k h. cc;
         births = rw none refl;
       })
 
@@ -188,13 +177,9 @@ close_well limits s client key known w work =
     let l : IsLosing s.forest key Cause.Lost w = losing s.forest key Cause.Lost w work in
     let n : Node = l.node in
     let stands_there : Stands s key n = stands s key n known.whole.sound l.at in
-    let less : stands_there.collection.id ≤ s.events = known.whole.opened stands_there.collection stands_there.there in
-    let same : stands_there.collection.id ≡ n.collection = stands_there.id in
     let w_is : record { collection = n.collection; change = Change.Loss key Cause.Lost } ≡ w = some_is (rw l.at at l.work_at) in
     subst (Well s (Call.Close key) Reply.Done) w_is (record {
       may = record { named = is_in s.forest key n l.at l.here; room = λ h. cc; heads = refl; trackers = λ k n h. cc };
-      within = omega arith;
-      releases = λ k h. cc;
       births = refl;
     })
 
@@ -225,8 +210,6 @@ root_well limits s client key c known w work =
     let room : node_count s.forest < s.forest.limit = node_fits limits s client Call.OpenRoot (Reply.Token key c) known refl refl refl in
     subst (Well s Call.OpenRoot (Reply.Token key c)) (some_is work) (record {
       may = record { named = rw none refl; room = λ h. room; heads = refl; trackers = λ k n h. cc };
-      within = omega arith;
-      releases = λ k h. cc;
       births = refl;
     })
   where
@@ -258,8 +241,6 @@ child_well limits s client call attached above key c is going makes tells known 
     let room : node_count s.forest < s.forest.limit = node_fits limits s client call (Reply.Token key c) known refl going makes in
     subst (Well s call (Reply.Token key c)) (some_is work) (record {
       may = record { named = rw new on.2; room = λ h. room; heads = and-false attached; trackers = λ k n h. cc };
-      within = rw new on.3;
-      releases = λ k h. cc;
       births = refl;
     })
   where
@@ -291,13 +272,8 @@ drop_well : (limits : Bound) (s : State) (client : ℕ) (buffer : BufferName) (s
 drop_well limits s client buffer strength known w work =
     let found = map-Some (λ (c : Collection). record { collection = buffer.collection; change = Change.Nothing })
     (collection_at s.forest buffer.collection) w (took_last s buffer strength w work) in
-    let here = In-find (λ (c : Collection). c.id == buffer.collection) s.forest.collections found.0 found.1 in
-    let same : found.0.id ≡ buffer.collection = eqb-true found.0.id buffer.collection here.1 in
-    let less : found.0.id ≤ s.events = known.whole.opened found.0 here.0 in
     subst (Well s (Call.DropHandle buffer strength) Reply.Done) found.2 (record {
       may = record { named = rw found.1 refl; room = λ h. cc; heads = refl; trackers = λ k n h. cc };
-      within = omega arith;
-      releases = λ k h. cc;
       births = refl;
     })
 
@@ -319,20 +295,17 @@ few_trackers limits s client key id known n at =
 done_well : (limits : Bound) (s : State) (client : ℕ) (call : Call) → Known limits s client call Reply.Done → (w : Work) →
     done_to s call ≡ Some w → Well s call Reply.Done w
 done_well limits s client (Call.Bind key) known w work =
-    effect_well limits s client (Call.Bind key) Reply.Done known key Effect.Bound refl refl refl refl refl (λ k h. cc) (λ k n h. cc) w work
+    effect_well limits s client (Call.Bind key) Reply.Done known key Effect.Bound refl refl refl refl refl (λ k n h. cc) w work
 done_well limits s client (Call.SetDispensable key) known w work =
-    effect_well limits s client (Call.SetDispensable key) Reply.Done known key Effect.Dispensable refl refl refl refl refl (λ k h.
-    cc) (λ k n h. cc) w work
+    effect_well limits s client (Call.SetDispensable key) Reply.Done known key Effect.Dispensable refl refl refl refl refl (λ k n h. cc) w work
 done_well limits s client (Call.SetWeak key) known w work = effect_well limits s client (Call.SetWeak key) Reply.Done known key Effect.Weak
-    refl refl refl refl refl (λ k h. cc) (λ k n h. cc) w work
+    refl refl refl refl refl (λ k n h. cc) w work
 done_well limits s client (Call.SetWeakOk key children) known w work =
-    effect_well limits s client (Call.SetWeakOk key children) Reply.Done known key (Effect.WeakOk children) refl refl refl refl refl (λ k h.
-    cc) (λ k n h. cc) w work
+    effect_well limits s client (Call.SetWeakOk key children) Reply.Done known key (Effect.WeakOk children) refl refl refl refl refl (λ k n h. cc) w work
 done_well limits s client (Call.SetConstraints key demand) known w work =
-    effect_well limits s client (Call.SetConstraints key demand) Reply.Done known key (Effect.Constrained demand) refl refl refl refl refl
-    (λ k h. cc) (λ k n h. cc) w work
+    effect_well limits s client (Call.SetConstraints key demand) Reply.Done known key (Effect.Constrained demand) refl refl refl refl refl (λ k n h. cc) w work
 done_well limits s client (Call.Release key) known w work =
-    effect_well limits s client (Call.Release key) Reply.Done known key Effect.Released refl refl refl refl refl (λ k h. h) (λ k n h.
+    effect_well limits s client (Call.Release key) Reply.Done known key Effect.Released refl refl refl refl refl (λ k n h.
     cc) w work
 done_well limits s client (Call.Close key) known w work = close_well limits s client key known w work
 done_well limits s client (Call.DropHandle buffer strength) known w work = drop_well limits s client buffer strength known w work
@@ -349,11 +322,9 @@ well limits s client (Call.AttachToken above) (Reply.Token key c) known w work =
 well limits s client call (Reply.Misused m) known w work = misused_well limits s client call m known w work
 well limits s client call Reply.Done known w work = done_well limits s client call known w work
 well limits s client (Call.Take key) (Reply.Taken c strength set) known w work =
-    effect_well limits s client (Call.Take key) (Reply.Taken c strength set) known key Effect.Taken refl refl refl refl refl (λ k h.
-    cc) (λ k n h. cc) w work
+    effect_well limits s client (Call.Take key) (Reply.Taken c strength set) known key Effect.Taken refl refl refl refl refl (λ k n h. cc) w work
 well limits s client (Call.TrackNode key) (Reply.Tracker id) known w work =
-    effect_well limits s client (Call.TrackNode key) (Reply.Tracker id) known key Effect.Tracked refl refl refl refl refl (λ k h.
-    cc) (λ k n is at. few k n is at) w work
+    effect_well limits s client (Call.TrackNode key) (Reply.Tracker id) known key Effect.Tracked refl refl refl refl refl (λ k n is at. few k n is at) w work
   where
     few : (k : NodeKey) (n : Node) → Change.Effect key Effect.Tracked ≡ Change.Effect k Effect.Tracked → node_at s.forest k ≡ Some n →
         n.trackers < MAX_NODE_TRACKERS

@@ -6,7 +6,6 @@ use Rattle.std.proofs.lemmas.Nat.Bits.{bit_at-zero}
 use Rattle.std.specs.List.{count_by, filter, list_any}
 use Rattle.std.specs.Option.{option_map_or}
 use Rattle.sm_names.specs.declared.keys.BufferName.{BufferName}
-use Rattle.sm_names.specs.declared.keys.Kind.{Kind}
 use Rattle.sm_names.specs.declared.keys.NodeKey.{NodeKey}
 use Rattle.sm_names.specs.declared.keys.Strength.{Strength}
 use Rattle.sm_names.specs.declared.keys.Strength.TheVariants.{Strong, Weak}
@@ -36,7 +35,7 @@ use Rattle.forest_store.specs.Settling.{buffer_names, no_key}
 use Rattle.core_state.specs.Hands.{CanOpen, MayMove}
 use Rattle.core_state.specs.Reads.{buffers_in, joined_client, end_in, open_end_of, readings_of, to_open_in}
 use Rattle.core_state.specs.State.{Client, State, counts_of}
-use Rattle.core_state.specs.Whole.{AreSent, waiting_in}
+use Rattle.core_state.proofs.forced.Known.{AreSent, waiting_in}
 use Rattle.event_laws.proofs.FreeEndLaws.{passed}
 
 -- ---- the set of a Take
@@ -103,14 +102,6 @@ first_handle r (Parcel.End key ∷ more) buffer strength is = by (r.end_of key) 
         (rest : List Parcel) × (Parcel.End key ∷ more ≡ Parcel.Handle buffer strength ∷ rest)
     by None h = cc
     by (Some e) h = cc
-
--- so was an end
-pub first_end : (r : Readings) (waiting : List Parcel) (key : NodeKey) (kind : Kind) (collection : ℕ) →
-    Reply.Collected key kind collection ≡ collected r waiting →
-    (name : NodeKey) × (more : List Parcel) × (waiting ≡ Parcel.End name ∷ more)
-first_end r [] key kind collection is = cc
-first_end r (Parcel.Handle name given ∷ more) key kind collection is = cc
-first_end r (Parcel.End name ∷ more) key kind collection is = (name, more, refl)
 
 -- the client of whom parcels are read
 pub client_of : (s : State) (client : ℕ) (p : Parcel) (more : List Parcel) → (readings_of s).waiting client ≡ p ∷ more →

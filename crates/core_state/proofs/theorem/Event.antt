@@ -1,5 +1,5 @@
 -- What the whole event tells and makes.
-use Rattle.std.proofs.Common.{ℕ, ◌≡◌, ◌≤◌, ◌+◌, refl, ap, sym, ◌∙◌, subst, true, false, List, Option, Some, None, IfSome, is_some}
+use Rattle.std.proofs.Common.{ℕ, ◌≡◌, ◌+◌, refl, ap, sym, ◌∙◌, subst, true, false, List, Option, Some, None, IfSome, is_some}
 use Rattle.std.specs.Option.{option_map_or}
 use Rattle.sm_names.specs.declared.keys.NodeKey.{NodeKey}
 use Rattle.sm_names.specs.declared.messages.Call.{Call}
@@ -17,7 +17,7 @@ use Rattle.core_state.specs.declared.task.Task.{Task}
 use Rattle.core_state.specs.Reads.{readings_of}
 use Rattle.core_state.specs.State.{Client, HandleCounts, State}
 use Rattle.core_state.specs.Steps.{Work, Worked, clients_by, end_by, handles_by, tracker_by, work_of}
-use Rattle.core_state.specs.Tasks.{MayDo, Reworked, SpendsThere, with_key, released_by, spent_by, spent_in, work_in, work_on}
+use Rattle.core_state.specs.Tasks.{MayDo, Reworked, SpendsThere, with_key, work_in, work_on}
 use Rattle.core_state.proofs.forced.Whole.{Known, Well, well}
 use Rattle.core_state.proofs.answers.Kinds.{reply-fits, token-made}
 
@@ -26,13 +26,11 @@ use Rattle.core_state.proofs.answers.Kinds.{reply-fits, token-made}
 -- the task may be done
 pub may_do : (limits : Bound) (s : State) (client : ℕ) (call : Call) (asked : Reply) (task : Option Task) →
     Known limits s client call asked →
-    work_in task ≡ work_of s client call asked → spent_in task ≡ spent_by call asked → IfSome task (SpendsThere s.forest) →
-    IfSome task (MayDo s.forest)
-may_do limits s client call asked None known work spends there = tt
-may_do limits s client call asked (Some t) known work spends there = record {
+    work_in task ≡ work_of s client call asked → IfSome task (SpendsThere s.forest) → IfSome task (MayDo s.forest)
+may_do limits s client call asked None known work there = tt
+may_do limits s client call asked (Some t) known work there = record {
   change = may t.change refl;
   there = there;
-  spends = releases t.change refl;
 }
   where
     at : (change : Change) → t.change ≡ Some change → Well s call asked (record { collection = t.collection; change = change })
@@ -42,24 +40,6 @@ may_do limits s client call asked (Some t) known work spends there = record {
     may : (o : Option Change) → t.change ≡ o → IfSome o (MayChange s.forest t.collection)
     may None is = tt
     may (Some change) is = (at change is).may
-
-    each : (o : Option NodeKey) (change : Change) → t.change ≡ Some change → released_by change ≡ o → IfSome o (λ key. t.spends ≡ Some key)
-    each None change is releases = tt
-    each (Some key) change is releases = spends ∙ (at change is).releases key releases
-
-    releases : (o : Option Change) → t.change ≡ o → IfSome o (λ change. IfSome (released_by change) (λ key. t.spends ≡ Some key))
-    releases None is = tt
-    releases (Some change) is = each (released_by change) change is refl
-
--- its collection is a new one, or was there
-pub within : (limits : Bound) (s : State) (client : ℕ) (call : Call) (asked : Reply) (task : Option Task) →
-    Known limits s client call asked →
-    work_in task ≡ work_of s client call asked → IfSome (work_in task) (λ w. w.collection ≤ s.events + 1)
-within limits s client call asked task known work = by (work_in task) refl
-  where
-    by : (o : Option Work) → work_in task ≡ o → IfSome o (λ w. w.collection ≤ s.events + 1)
-    by None is = tt
-    by (Some w) is = (well limits s client call asked known w (sym work ∙ is)).within
 
 -- ---- the reply
 
@@ -173,7 +153,7 @@ new_is s _ None made = refl
 new_is s _ (Some key) made = both_ways true refl made.both
 
 -- what is done depends on no new key
-same_work : (s : State) (client : ℕ) (call : Call) (asked : Reply) (key : Option NodeKey) →
+pub same_work : (s : State) (client : ℕ) (call : Call) (asked : Reply) (key : Option NodeKey) →
     work_of s client call (with_key asked key) ≡ work_of s client call asked
 same_work s client call (Reply.Token first c) None = refl
 same_work s client Call.OpenRoot (Reply.Token first c) (Some key) = refl

@@ -13,7 +13,6 @@ use Rattle.sm_names.proofs.SamenessLaws.{and_then-Some}
 use Rattle.trackers.specs.declared.waiting.Waiting.{Waiting}
 use Rattle.trackers.specs.Table.{TrackerTable}
 use Rattle.buffer_holds.specs.Counts.{total}
-use Rattle.buffer_pool.specs.Holdings.{Holdings}
 use Rattle.forest_store.specs.declared.change.Change.{Change}
 use Rattle.forest_store.specs.declared.node.End.{End}
 use Rattle.forest_store.specs.declared.node.Node.{Node}
@@ -27,7 +26,8 @@ use Rattle.core_state.specs.Reads.{open_end_of, readings_of, world_in}
 use Rattle.core_state.specs.State.{State, counts_of}
 use Rattle.core_state.specs.Steps.{Follows, GainsTracker, end_by, swept, tracker_by, with_place, without_over, work_of}
 use Rattle.core_state.specs.Tasks.{DoesSome, MayDo, Parts, Reworked, SpendsThere, TakesEffect, carried_by, with_key, end_placed, spent_by, spent_in, spent_place, takes_room, work_in, work_on}
-use Rattle.core_state.specs.Whole.{CanCarry, CanFinish, IsWholeCore}
+use Rattle.core_state.specs.Whole.{CanCarry, CanFinish}
+use Rattle.core_state.proofs.forced.Known.{IsKnown}
 use Rattle.core_state.proofs.forced.Change.{can_finish}
 use Rattle.core_state.proofs.handles.Moves.{moved}
 use Rattle.core_state.proofs.theorem.Event.{IsKeyed, is_answer, is_keyed, may_do, same_clients, same_end, same_handles, same_tracker, worked_is}
@@ -135,16 +135,15 @@ pub record Begins (s : State) (client : ℕ) (call : Call) (asked : Reply) (task
   pub tracks : tracking ≡ tracker_by s.forest call asked
 
 -- a core tells it of itself
-pub begins : (pool : Holdings) (s now : State) (client : ℕ) (call : Call) (asked : Reply) (task : Option Task)
+pub begins : (s now : State) (client : ℕ) (call : Call) (asked : Reply) (task : Option Task)
     (tracking : Option Waiting) → s ≡ now →
-    IsWholeCore pool s.limits s.events s.clients s.forest s.holds s.trackers →
+    IsKnown s.limits s →
     asked ≡ answer now.limits (readings_of now) client no_key call →
     work_in task ≡ work_of now client call asked → spent_in task ≡ spent_by call asked → IfSome task (SpendsThere now.forest) →
     IfSome task DoesSome →
     tracking ≡ tracker_by now.forest call asked → Begins s client call asked task tracking
-begins pool s now client call asked task tracking same whole told work spends there some tracks =
+begins s now client call asked task tracking same whole told work spends there some tracks =
     let known : Known s.limits s client call asked = record {
-      pool = pool;
       whole = whole;
       told = subst (λ (x : State). asked ≡ answer x.limits (readings_of x) client no_key call) (sym same) told;
     } in
@@ -154,7 +153,7 @@ begins pool s now client call asked task tracking same whole told work spends th
       known = known;
       work = work_here;
       spends = spends;
-      may = may_do s.limits s client call asked task known work_here spends (subst (λ (x : State). IfSome task (SpendsThere x.forest))
+      may = may_do s.limits s client call asked task known work_here (subst (λ (x : State). IfSome task (SpendsThere x.forest))
           (sym same) there);
       some = some;
       tracks = subst (λ (x : State). tracking ≡ tracker_by x.forest call asked) (sym same) tracks;
@@ -182,7 +181,7 @@ module _ (s : State) (client : ℕ) (call : Call) (asked reply : Reply) (task : 
       (record { clients = s.clients; forest = s.forest; holds = s.holds; trackers = s.trackers }) parts client call asked task tracking
       reply) where
     -- the key is as the answer wants it
-    made : IsKeyed s asked takes.key
+    pub made : IsKeyed s asked takes.key
     made = is_keyed s.limits (total parts.holds) s client call asked task takes.key parts.forest b.known b.work takes.work
 
     -- the reply is the answer

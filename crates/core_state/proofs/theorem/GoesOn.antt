@@ -81,7 +81,7 @@ module _ (s : State) (marks : Timeline) (shown : IsAfter s marks) (limits : Boun
             answer w e) handles counts worked settled
 
     -- trackers see what the marks tell
-    seen_later : IsSeen worked handles marks (after s.pool marks (client, call, reply))
+    pub seen_later : IsSeen worked handles marks (after s.pool marks (client, call, reply))
     seen_later = from (work_of s client call reply) refl work
       where
         from : (o : Option Work) → work_of s client call reply ≡ o → Worked s handles o (new_key reply) worked →

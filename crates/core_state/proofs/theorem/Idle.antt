@@ -1,6 +1,6 @@
 -- A call that changes nothing, but that it is one event more.
 use Rattle.std.proofs.lemmas.Bool.{false≢true}
-use Rattle.std.proofs.Common.{ℕ, ◌≡◌, ◌<◌, ◌+◌, ◌^◌, refl, sym, ◌∙◌, Bool, true, false, List, [], ◌∷◌, append-nil, map, None}
+use Rattle.std.proofs.Common.{ℕ, ◌≡◌, ◌+◌, refl, sym, ◌∙◌, Bool, true, false, List, [], ◌∷◌, append-nil, map, None}
 use Rattle.sm_names.specs.declared.keys.BufferName.{BufferName}
 use Rattle.sm_names.specs.declared.keys.Strength.{Strength}
 use Rattle.sm_names.specs.declared.messages.Call.{Call}
@@ -11,20 +11,20 @@ use Rattle.sm_names.specs.Handles.{opens, drops, lifts, lands}
 use Rattle.sm_names.specs.Marks.{Called, Mark}
 use Rattle.event_laws.specs.ByEvent.{GoesBy, anyone, gains, loses, only}
 use Rattle.buffer_holds.specs.Counts.{Counts, moving_count, of, total}
-use Rattle.buffer_pool.specs.Holdings.{Holdings}
 use Rattle.forest_store.specs.Forest.{Forest}
 use Rattle.forest_store.specs.Settling.{no_key}
 use Rattle.core_state.specs.Hands.{MovesHandles}
 use Rattle.core_state.specs.Reads.{readings_of, world_in}
 use Rattle.core_state.specs.State.{Client, State}
 use Rattle.core_state.specs.Steps.{Follows, client_by, clients_by, swept, tracker_by, without_over, work_of}
+use Rattle.trackers.specs.declared.waiting.Waiting.{Waiting}
+use Rattle.trackers.specs.Table.{is_due}
 use Rattle.core_state.specs.Tasks.{Parts, TakesEffect, carried_by, changes_nothing, with_key, spent_by}
-use Rattle.core_state.specs.Whole.{IsWholeCore, StillWaits}
+use Rattle.core_state.proofs.forced.Known.{IsKnown}
 use Rattle.core_state.proofs.collections.ById.{all_tidy}
 use Rattle.event_laws.proofs.NumberLaws.{In-all}
 use Rattle.core_state.proofs.firing.Sweeps.{none_swept}
 use Rattle.core_state.proofs.theorem.EventParts.{Begins, begins, step_follows}
-use Rattle.core_state.proofs.theorem.Fields.{whole_then}
 
 -- ---- a mark that nobody sees
 
@@ -191,11 +191,11 @@ pub record Idles (s : State) (client : ℕ) (call : Call) (asked : Reply) : Type
   pub still : s.trackers ≡ swept (world_in s.forest (total s.holds)) (s.events + 1) s.trackers
 
 -- an idle call takes effect on a whole core without a change, and makes no tracker due
-pub idles : (pool : Holdings) (s now : State) (client : ℕ) (call : Call) (asked : Reply) → s ≡ now →
-    IsWholeCore pool s.limits s.events s.clients s.forest s.holds s.trackers →
+pub idles : (s now : State) (client : ℕ) (call : Call) (asked : Reply) → s ≡ now →
+    IsKnown s.limits s →
     asked ≡ answer now.limits (readings_of now) client no_key call → changes_nothing call asked ≡ true → Idles s client call asked
-idles pool s now client call asked same whole told idle = record {
-  begins = begins pool s now client call asked None None same whole told (no_work now client call asked idle) (no_spend call asked idle) tt
+idles s now client call asked same whole told idle = record {
+  begins = begins s now client call asked None None same whole told (no_work now client call asked idle) (no_spend call asked idle) tt
       tt (no_track now.forest call asked idle);
   takes = record {
     key = None;
@@ -208,7 +208,7 @@ idles pool s now client call asked same whole told idle = record {
   carries = no_carry client call asked idle;
   tidy = sym (all_tidy s.forest.collections whole.sound.tidy);
   still = sym (none_swept (world_in s.forest (total s.holds)) (s.events + 1) s.trackers (λ t on.
-      (In-all (StillWaits s.forest (total s.holds)) s.trackers.unfired whole.waiting t on).undue));
+      In-all (λ (x : Waiting). is_due (world_in s.forest (total s.holds)) x ≡ false) s.trackers.unfired whole.undue t on));
 }
 
 module _ (s : State) (client : ℕ) (call : Call) (asked : Reply) (i : Idles s client call asked) where
@@ -220,13 +220,3 @@ module _ (s : State) (client : ℕ) (call : Call) (asked : Reply) (i : Idles s c
   pub idle_follows : Follows s further client call asked
   idle_follows = step_follows s client call asked asked None None i.begins (parts_of s) i.takes None i.carries s.forest s.trackers i.tidy
       (record { limit = refl; keys = λ key. refl }) i.still
-
-  -- and the fields are whole
-  pub idle_whole : (pool : Holdings) → IsWholeCore pool s.limits s.events s.clients s.forest s.holds s.trackers →
-      s.events < s.limits.events →
-      s.events + 1 < 2 ^ 32 →
-      IsWholeCore pool s.limits (s.events + 1) s.clients s.forest s.holds s.trackers
-  idle_whole pool whole room short =
-      whole_then s client call asked asked None None i.begins (parts_of s) i.takes pool pool s.forest None s.trackers whole refl whole.pages
-      refl refl room short i.tidy
-      (record { limit = refl; keys = λ key. refl }) whole.sound (λ most up. up) i.still

@@ -63,7 +63,7 @@ pub record IsSeen (worked : Forest) (handles : Handles) (marks later : Timeline)
 -- ---- what was over
 
 -- a node that is not kept is gone
-over_gone : (marks : Timeline) (key : NodeKey) → is_kept marks key ≡ false → gone marks key ≡ true
+pub over_gone : (marks : Timeline) (key : NodeKey) → is_kept marks key ≡ false → gone marks key ≡ true
 over_gone marks key over = from (gone marks key) (spent marks key) over
   where
     from : (g t : Bool) → (not g || not t) ≡ false → g ≡ true
@@ -71,7 +71,7 @@ over_gone marks key over = from (gone marks key) (spent marks key) over
     from false t h = cc
 
 -- no buffer of a collection that is not kept is left
-none_left : (marks : Timeline) (id : ℕ) → is_kept_collection marks id ≡ false → left marks id ≡ 0
+pub none_left : (marks : Timeline) (id : ℕ) → is_kept_collection marks id ≡ false → left marks id ≡ 0
 none_left marks id lost = from (left marks id == 0) refl (or_none_right _ (not (left marks id == 0)) lost)
   where
     from : (b : Bool) → (left marks id == 0) ≡ b → not b ≡ false → left marks id ≡ 0

@@ -7,7 +7,7 @@ use Rattle.core_state.specs.Steps.{with_place}
 use Rattle.core_state.specs.Tasks.{end_placed, spent_place}
 use Rattle.core_state.specs.Whole.{CanFinish, IsAmid, IsSound}
 use Rattle.core_state.proofs.ends.Transfers.{carries}
-use Rattle.core_state.proofs.ends.Spending.{are_left, id_from, same_held, same_worked, sound_left}
+use Rattle.core_state.proofs.ends.Spending.{are_left, same_held, same_worked}
 use Rattle.core_state.proofs.forced.Change.{ends_are_there}
 use Rattle.lifetime_core.proofs.task.put_end.Goals as goal
 
@@ -17,7 +17,7 @@ returns-in_default c =
     let sound : IsSound c.args.forest.now = subst (CanFinish c.args.forest.now) c.in_default.is c.requires.task in
     let done = carries c.args.forest.now c.args.carried sound c.requires.carried in
     rw (c.in_default.is, c.carry.ensures)
-    (record { collections = done.tidy; keys = done.same; sound = done.sound; held = done.held; ids = done.ids })
+    (record { collections = done.tidy; keys = done.same; held = done.held })
 
 pub spend-requires : goal.spend-requires
 spend-requires c =
@@ -41,11 +41,7 @@ returns c =
     record {
       collections = rw place (are_left f c.forget_over.new.self t.collection t.spends amid same less);
       keys = same_worked t.spends f c.forget_over.new.self same;
-      sound = sound_left f c.forget_over.new.self t.collection t.spends amid same less;
       held = same_held f c.forget_over.new.self t.collection t.spends amid same less;
-      ids = λ most up d on.
-          let old = id_from f c.forget_over.new.self t.collection t.spends amid same less d on in
-          rw old.2 (up old.0 old.1);
     }
   where
     first : (o : Option Place) → option_or o None ≡ o

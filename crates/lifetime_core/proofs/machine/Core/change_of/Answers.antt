@@ -9,6 +9,7 @@ use Rattle.forest_store.specs.Settling.{MayChange, collection_or_new}
 use Rattle.core_state.specs.Steps.{Work, leaves_tracker_room}
 use Rattle.core_state.specs.Tasks.{work_in}
 use Rattle.core_state.proofs.forced.Fits.{is_fitting, work_answered}
+use Rattle.core_state.proofs.theorem.Keeps.{core_known}
 use Rattle.lifetime_core.proofs.machine.Core.change_of.Goals as goal
 
 -- what holds of the work holds of it as a pair
@@ -28,7 +29,7 @@ pub returns-clause-may : goal.returns-clause-may
 returns-clause-may c =
     subst (λ (o : Option (ℕ × Change)). IfSome o (λ w. MayChange c.args.self.now.forest w.0 w.1)) (sym c.change_in.ensures)
     (of_pair (MayChange c.args.self.now.forest) (work_in c.decide.result.task)
-    (λ w e. (is_fitting c.self.inside.contents.pool (record {
+    (λ w e. (is_fitting (record {
       pool = c.self.inside.contents.pool.size;
       limits = c.self.inside.limits;
       events = c.self.inside.events;
@@ -36,14 +37,14 @@ returns-clause-may c =
       forest = c.self.inside.contents.forest;
       holds = c.self.inside.contents.holds;
       trackers = c.self.inside.contents.trackers;
-    }) c.args.self.now c.args.client c.args.call.now c.decide.result.reply c.self.view_is c.self.invariant
+    }) c.args.self.now c.args.client c.args.call.now c.decide.result.reply c.self.view_is (core_known c.self.inside.contents.pool _ c.self.invariant)
     c.decide.ensures.reply w (sym e ∙ c.decide.ensures.work)).may))
 
 pub returns-clause-room : goal.returns-clause-room
 returns-clause-room c =
     subst (λ (o : Option (ℕ × Change)). IfSome o (λ w. leaves_tracker_room w.1 (collection_or_new c.args.self.now.forest w.0).nodes ≡ true)) (sym c.change_in.ensures)
     (of_pair (λ id change. leaves_tracker_room change (collection_or_new c.args.self.now.forest id).nodes ≡ true) (work_in c.decide.result.task)
-    (λ w e. (is_fitting c.self.inside.contents.pool (record {
+    (λ w e. (is_fitting (record {
       pool = c.self.inside.contents.pool.size;
       limits = c.self.inside.limits;
       events = c.self.inside.events;
@@ -51,7 +52,7 @@ returns-clause-room c =
       forest = c.self.inside.contents.forest;
       holds = c.self.inside.contents.holds;
       trackers = c.self.inside.contents.trackers;
-    }) c.args.self.now c.args.client c.args.call.now c.decide.result.reply c.self.view_is c.self.invariant
+    }) c.args.self.now c.args.client c.args.call.now c.decide.result.reply c.self.view_is (core_known c.self.inside.contents.pool _ c.self.invariant)
     c.decide.ensures.reply w (sym e ∙ c.decide.ensures.work)).room))
 
 pub returns-clause-fresh : goal.returns-clause-fresh
@@ -60,7 +61,7 @@ returns-clause-fresh c =
     list_any (is_of key) (collection_or_new c.args.self.now.forest w.0).nodes ≡ false)) (sym c.change_in.ensures)
     (of_pair (λ id change. (key : NodeKey) → given c.args.self.now.forest key ≡ false →
     list_any (is_of key) (collection_or_new c.args.self.now.forest id).nodes ≡ false) (work_in c.decide.result.task)
-    (λ w e. (is_fitting c.self.inside.contents.pool (record {
+    (λ w e. (is_fitting (record {
       pool = c.self.inside.contents.pool.size;
       limits = c.self.inside.limits;
       events = c.self.inside.events;
@@ -68,5 +69,5 @@ returns-clause-fresh c =
       forest = c.self.inside.contents.forest;
       holds = c.self.inside.contents.holds;
       trackers = c.self.inside.contents.trackers;
-    }) c.args.self.now c.args.client c.args.call.now c.decide.result.reply c.self.view_is c.self.invariant
+    }) c.args.self.now c.args.client c.args.call.now c.decide.result.reply c.self.view_is (core_known c.self.inside.contents.pool _ c.self.invariant)
     c.decide.ensures.reply w (sym e ∙ c.decide.ensures.work)).fresh))

@@ -1,11 +1,18 @@
-use Rattle.std.proofs.Common.{◌≡◌, ◌+◌, ap, sym, ◌∙◌, arith}
-use Rattle.core_state.specs.State.{State}
-use Rattle.core_state.specs.Tasks.{end_placed}
-use Rattle.core_state.proofs.theorem.EventParts.{alone, can_carry, finishes, lands, one}
-use Rattle.core_state.proofs.theorem.Idle.{idle_whole}
+use Rattle.std.proofs.Common.{ℕ, ◌≡◌, ◌+◌, refl, ap, sym, ◌∙◌, subst, List, map, None, arith}
+use Rattle.sm_names.specs.declared.keys.HeldBuffer.{HeldBuffer}
+use Rattle.sm_names.specs.declared.keys.Interval.{Interval}
+use Rattle.sm_names.specs.Words.{sorted_by}
+use Rattle.buffer_pool.specs.Holdings.{Holdings}
+use Rattle.forest_store.specs.Forest.{IsPoolOf}
+use Rattle.core_state.specs.State.{IsSame, State}
+use Rattle.core_state.specs.Tasks.{with_key}
+use Rattle.core_state.specs.Whole.{IsCore}
+use Rattle.core_state.proofs.theorem.EventParts.{after, alone, can_carry, finishes, lands, one, step_answers, step_follows}
+use Rattle.core_state.proofs.theorem.Idle.{further, idle_follows, parts_of}
+use Rattle.core_state.proofs.theorem.Keeps.{core_goes_on, core_same}
 use Rattle.core_state.proofs.forced.StillOut.{asks_only}
-use Rattle.core_state.proofs.theorem.Fields.{above, fits, moves, none_elsewhere, whole_same, whole_then}
-use Rattle.lifetime_core.proofs.machine.Core.commit.Answers.Points.{before, begun, idle, made}
+use Rattle.core_state.proofs.theorem.Fields.{above, fits, moves, none_elsewhere}
+use Rattle.lifetime_core.proofs.machine.Core.commit.Answers.Points.{before, begun, idle, known, made}
 use Rattle.lifetime_core.proofs.machine.Core.commit.Answers.Replies.{idle_returns, made_returns, refused_returns}
 use Rattle.lifetime_core.proofs.machine.Core.commit.Goals as goal
 mod Points
@@ -17,11 +24,11 @@ take_effect-requires c =
     let s = before (goal.at.take_effect-requires c).After-changes_nothing in
     let b = begun (goal.at.take_effect-requires c).After-changes_nothing in
     record {
-      clients = c.self.invariant.rising;
+      clients = (known (goal.at.take_effect-requires c).After-changes_nothing).rising;
       handles = moves _ _ _ _ c.args.decision.now.reply _ _ b;
       may = b.may;
       asks = asks_only s c.args.client _ _ _ b.work;
-      out = c.self.invariant.out;
+      out = (known (goal.at.take_effect-requires c).After-changes_nothing).out;
       pool = c.self.invariant.pages;
       rising = above _ _ _ _ c.args.decision.now.reply _ _ b;
       room = fits _ _ _ _ c.args.decision.now.reply _ _ b;
@@ -36,18 +43,38 @@ invariant_of-self c =
     let i = idle (goal.at.invariant_of-self c).After-changes_nothing c.if-changes_nothing.true in
     let next : c.next_event-self-inside.result ≡ s.events + 1 =
     c.next_event-self-inside.ensures ∙ ap (λ (x : State). x.events + 1) (sym c.self.view_is) in
-    rw next (idle_whole _ _ _ _ i c.self.inside.contents.pool c.self.invariant (omega arith) (omega arith))
+    rw next (core_goes_on c.self.inside.contents.pool s (further _ _ _ _ i) c.args.client c.args.call.now c.args.decision.now.reply
+    (step_answers _ _ _ _ _ None None i.begins (parts_of s) i.takes) (idle_follows _ _ _ _ i) c.self.invariant c.self.inside.contents.pool
+    (omega arith) (omega arith) c.self.invariant.pages refl)
 
 -- memory was refused, and the fields are as they were
 pub invariant_of-self-in_default : goal.invariant_of-self-in_default
 invariant_of-self-in_default c =
     let kept = c.in_default.ensures.err in
-    whole_same c.self.inside.contents.pool c.take_effect.new.contents.pool c.self.inside.limits c.self.inside.events
-    c.self.inside.contents.clients.items
-    c.take_effect.new.contents.clients.items c.self.inside.contents.forest c.take_effect.new.contents.forest
-    c.self.inside.contents.holds c.take_effect.new.contents.holds c.self.inside.contents.trackers c.take_effect.new.contents.trackers kept.0
-    kept.1 kept.2 kept.3 kept.4
-    c.take_effect.ensures.limit c.self.invariant
+    let s = before (goal.at.invariant_of-self-in_default c).After-changes_nothing in
+    let now : State = record {
+      pool = c.take_effect.new.contents.pool.size;
+      limits = c.self.inside.limits;
+      events = c.self.inside.events;
+      clients = c.take_effect.new.contents.clients.items;
+      forest = c.take_effect.new.contents.forest;
+      holds = c.take_effect.new.contents.holds;
+      trackers = c.take_effect.new.contents.trackers;
+    } in
+    let same : IsSame s now = record {
+      rest = λ i. record {
+        pool = (kept.2 i).size;
+        limits = c.self.inside.limits;
+        events = c.self.inside.events;
+        clients = kept.0 i;
+        forest = kept.1 i;
+        holds = c.take_effect.new.contents.holds;
+        trackers = kept.4 i;
+      };
+      counts = kept.3;
+    } in
+    core_same c.self.inside.contents.pool c.take_effect.new.contents.pool s now same c.take_effect.ensures.limit
+    (subst (λ (p : Holdings). IsPoolOf p s.forest) (sym kept.2) c.self.invariant.pages) c.self.invariant
 
 -- trackers elsewhere are not due
 pub sweep-requires : goal.sweep-requires
@@ -56,7 +83,7 @@ sweep-requires c =
     let parts = made (goal.at.sweep-requires c).In-Ok in
     record {
       elsewhere = rw (c.place_to_sweep-place.ensures, c.changed_by.ensures)
-          (none_elsewhere _ _ _ _ _ _ _ b parts c.in-Ok.ensures.ok);
+          (none_elsewhere _ _ _ _ _ _ _ b c.self.inside.contents.pool c.self.invariant parts c.in-Ok.ensures.ok);
     }
 
 -- the nodes that are over can be forgotten
@@ -75,12 +102,19 @@ pub invariant_of-self-2 : goal.invariant_of-self-2
 invariant_of-self-2 c =
     let b = begun (goal.at.invariant_of-self-2 c).After-changes_nothing in
     let parts = made (goal.at.invariant_of-self-2 c).In-Ok in
-    whole_then _ _ _ _ _ _ _ b parts c.in-Ok.ensures.ok c.self.inside.contents.pool c.take_effect.new.contents.pool
-    c.put_end.new.forest
-    (end_placed c.args.decision.now.task c.carried_end-carried.result) c.sweep.new.trackers c.self.invariant c.take_effect.ensures.size
-    c.take_effect.ensures.pool c.put_end.ensures.held c.take_effect.ensures.limit
-    (omega arith) (omega arith) c.put_end.ensures.collections c.put_end.ensures.keys c.put_end.ensures.sound c.put_end.ensures.ids
-    c.sweep.ensures
+    let s = before (goal.at.invariant_of-self-2 c).After-changes_nothing in
+    let next = after _ _ _ _ _ _ _ b parts c.in-Ok.ensures.ok c.carried_end-carried.result c.carried_end-carried.ensures
+    c.put_end.new.forest c.sweep.new.trackers c.put_end.ensures.collections c.put_end.ensures.keys c.sweep.ensures in
+    subst (λ (pages : ℕ). IsCore c.take_effect.new.contents.pool (record next { pool = pages })) (sym c.take_effect.ensures.size)
+    (core_goes_on c.self.inside.contents.pool s next c.args.client c.args.call.now
+    (with_key c.args.decision.now.reply c.in-Ok.key)
+    (step_answers _ _ _ _ _ _ _ b parts c.in-Ok.ensures.ok)
+    (step_follows _ _ _ _ _ _ _ b parts c.in-Ok.ensures.ok c.carried_end-carried.result c.carried_end-carried.ensures
+    c.put_end.new.forest c.sweep.new.trackers c.put_end.ensures.collections c.put_end.ensures.keys c.sweep.ensures)
+    c.self.invariant c.take_effect.new.contents.pool (omega arith) (omega arith)
+    (c.take_effect.ensures.pool ∙ ap (λ (hs : List HeldBuffer). sorted_by (λ (i : Interval). i.start)
+    (map (λ (h : HeldBuffer). h.pages) hs)) (sym c.put_end.ensures.held))
+    c.take_effect.ensures.limit)
 
 -- each reply is the answer, and the new state follows: also where the call changes nothing, or memory is refused
 pub returns : goal.returns

@@ -2,6 +2,7 @@ use Rattle.std.proofs.Common.{sym, subst}
 use Rattle.core_state.specs.Shown.{Shows}
 use Rattle.core_state.specs.State.{State}
 use Rattle.core_state.proofs.theorem.GoesOn.{take_shows}
+use Rattle.core_state.proofs.theorem.Keeps.{core_took}
 use Rattle.std.proofs.Common.{rules}
 use Rattle.lifetime_core.proofs.machine.Core.take_tracker.Goals as goal
 
@@ -31,3 +32,7 @@ returns-clause-taken c = search rules
 
 pub returns-clause-tracker : goal.returns-clause-tracker
 returns-clause-tracker c = search rules
+
+-- and the history is the same
+pub invariant_of-self : goal.invariant_of-self
+invariant_of-self c = rw c.take_tracker.ensures.taken (core_took _ _ c.args.id c.self.invariant)

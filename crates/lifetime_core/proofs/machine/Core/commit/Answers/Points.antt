@@ -2,8 +2,10 @@
 use Rattle.std.proofs.Common.{◌≡◌, true, sym, ◌∙◌}
 use Rattle.core_state.specs.State.{State}
 use Rattle.core_state.specs.Tasks.{Parts}
+use Rattle.core_state.proofs.forced.Known.{IsKnown}
 use Rattle.core_state.proofs.theorem.EventParts.{Begins, begins}
 use Rattle.core_state.proofs.theorem.Idle.{Idles, idles}
+use Rattle.core_state.proofs.theorem.Keeps.{core_known}
 use Rattle.lifetime_core.proofs.machine.Core.commit.Goals.{After-changes_nothing, In-Ok}
 
 -- the state before the call
@@ -18,18 +20,22 @@ before c = record {
   trackers = c.self.inside.contents.trackers;
 }
 
+-- what is known of its fields
+pub known : (c : After-changes_nothing) → IsKnown (before c).limits (before c)
+known c = core_known c.self.inside.contents.pool (before c) c.self.invariant
+
 -- the call begins there with what was asked: each premise is one of the function's
 pub begun : (c : After-changes_nothing) →
     Begins (before c) c.args.client c.args.call.now c.args.decision.now.reply c.args.decision.now.task c.args.decision.now.tracking
-begun c = begins c.self.inside.contents.pool (before c) c.args.self.now c.args.client c.args.call.now c.args.decision.now.reply
-    c.args.decision.now.task c.args.decision.now.tracking c.self.view_is c.self.invariant c.requires.reply c.requires.work
+begun c = begins (before c) c.args.self.now c.args.client c.args.call.now c.args.decision.now.reply
+    c.args.decision.now.task c.args.decision.now.tracking c.self.view_is (known c) c.requires.reply c.requires.work
     c.requires.spends c.requires.there c.requires.some c.requires.tracking
 
 -- a call that changes nothing leaves the state, but for the number of events: the test is what the definition says
 pub idle : (c : After-changes_nothing) → c.changes_nothing.result ≡ true →
     Idles (before c) c.args.client c.args.call.now c.args.decision.now.reply
-idle c nothing = idles c.self.inside.contents.pool (before c) c.args.self.now c.args.client c.args.call.now
-    c.args.decision.now.reply c.self.view_is c.self.invariant c.requires.reply (sym c.changes_nothing.ensures ∙ nothing)
+idle c nothing = idles (before c) c.args.self.now c.args.client c.args.call.now
+    c.args.decision.now.reply c.self.view_is (known c) c.requires.reply (sym c.changes_nothing.ensures ∙ nothing)
 
 -- what the effect of the call left
 abbrev pub made : In-Ok → Parts

@@ -1,0 +1,41 @@
+-- What is known of a core's fields.
+use Rattle.std.proofs.Common.{ℕ, ◌≡◌, ◌≤◌, false, List, map}
+use Rattle.std.specs.List.{All, count_by, sum_by}
+use Rattle.sm_names.specs.declared.keys.BufferName.{BufferName}
+use Rattle.sm_names.specs.declared.keys.Strength.{Strength}
+use Rattle.sm_names.specs.Bounds.{Bound}
+use Rattle.sm_names.specs.Ends.{is_handle_of}
+use Rattle.sm_names.specs.Elements.{In}
+use Rattle.buffer_holds.specs.Counts.{total}
+use Rattle.trackers.specs.declared.waiting.Waiting.{Waiting}
+use Rattle.trackers.specs.Table.{Cell, is_due}
+use Rattle.forest_store.specs.Forest.{Collection, Forest}
+use Rattle.core_state.specs.Reads.{world_in}
+use Rattle.core_state.specs.State.{Client, HandleCounts, State, counts_of}
+use Rattle.core_state.specs.Whole.{IsSound, NoBufferHome, Rise}
+
+-- how many handles of a buffer and strength wait for the client
+abbrev pub waiting_in : BufferName → Strength → Client → ℕ
+waiting_in buffer strength c = count_by (is_handle_of buffer strength) c.waiting
+
+-- the handles in parcels are those that wait for the clients
+abbrev pub AreSent : List Client → HandleCounts → Type 0
+AreSent clients handles = (buffer : BufferName) (strength : Strength) →
+    handles.moving buffer strength ≡ sum_by (waiting_in buffer strength) clients
+
+-- no id is above this number
+abbrev pub AreUpTo : ℕ → Forest → Type 0
+AreUpTo most f = (c : Collection) → In c f.collections → c.id ≤ most
+
+-- what the history that a core shows tells of its fields, and its bookkeeping
+pub record IsKnown (limits : Bound) (s : State) : Type 0 where
+  pub rising : Rise (map (λ (c : Client). c.id) s.clients)
+  pub limit : s.forest.limit ≡ limits.nodes
+  pub opened : AreUpTo s.events s.forest
+  pub sound : IsSound s.forest
+  pub handle_limit : s.holds.limit ≡ limits.handles
+  pub sent : AreSent s.clients (counts_of s.holds)
+  pub tracker_limit : s.trackers.limit ≡ limits.trackers
+  pub numbered : All (λ (c : Cell). c.id ≤ s.events) s.trackers.cells
+  pub undue : All (λ (t : Waiting). is_due (world_in s.forest (total s.holds)) t ≡ false) s.trackers.unfired
+  pub out : NoBufferHome (total s.holds) s.forest

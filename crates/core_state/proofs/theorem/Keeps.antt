@@ -1,0 +1,207 @@
+-- A core shows a legal history, and an event keeps it so.
+use Rattle.std.proofs.lemmas.Bool.{false≢true}
+use Rattle.std.proofs.Common.{ℕ, ◌≡◌, ◌<◌, ◌≤◌, ◌+◌, ◌^◌, refl, ap, sym, ◌∙◌, subst, not, inl, inr, ◌∷◌, ◌++◌, Option, Some, None, is_some, arith, []}
+use Rattle.std.specs.List.{All}
+use Rattle.std.proofs.lemmas.List.Elements.{All-nil}
+use Rattle.sm_names.specs.declared.messages.Call.{Call}
+use Rattle.sm_names.specs.declared.messages.Reply.{Reply}
+use Rattle.sm_names.specs.declared.keys.NodeKey.{NodeKey}
+use Rattle.sm_names.specs.Answers.{IsAnswer, answer, key_told}
+use Rattle.sm_names.specs.declared.rules.TheConstants.{MAX_PAGES}
+use Rattle.sm_names.specs.Bounds.{Bound}
+use Rattle.sm_names.specs.Isolation.{IsOf}
+use Rattle.sm_names.specs.Marks.{Timeline}
+use Rattle.sm_names.specs.Timelines.{after, timeline}
+use Rattle.history_laws.proofs.GrowthLaws.{Grows, legal_grows}
+use Rattle.history_laws.proofs.HistoryLaws.{timeline-push}
+use Rattle.sm_names.proofs.ListLaws.{In, In-append, In-filter}
+use Rattle.event_laws.proofs.ConcernLaws.{of_after}
+use Rattle.event_laws.proofs.NumberLaws.{In-all, all-In}
+use Rattle.buffer_holds.specs.Counts.{total}
+use Rattle.buffer_pool.specs.Holdings.{Holdings}
+use Rattle.trackers.specs.declared.waiting.Waiting.{Waiting}
+use Rattle.trackers.specs.Table.{Cell, TrackerTable, is_due, without_id}
+use Rattle.forest_store.specs.Forest.{Forest, IsPoolOf}
+use Rattle.forest_store.specs.Settling.{Handles}
+use Rattle.core_state.specs.Reads.{readings_of, world_in}
+use Rattle.core_state.specs.Shown.{IsAfter}
+use Rattle.core_state.specs.State.{IsSame, State}
+use Rattle.core_state.specs.Steps.{Follows, GainsTracker, Work, Worked, tracker_by, work_of}
+use Rattle.core_state.specs.Whole.{IsCore}
+use Rattle.core_state.proofs.forced.Known.{IsKnown}
+use Rattle.core_state.proofs.firing.Fields.{is_made}
+use Rattle.core_state.proofs.theorem.GoesOn.{empty_state, goes_on, shows_nothing, take_shows}
+use Rattle.core_state.proofs.theorem.OfHistory.{opened_of, out_of, rising_of, sent_of, sound_of, undue_of}
+use Rattle.core_state.proofs.theorem.Sweeping.{filed_now}
+use Rattle.core_state.proofs.views.SameAnswers.{answer_is}
+
+-- what a core shows tells all that its parts need
+pub core_known : (pool : Holdings) (s : State) → IsCore pool s → IsKnown s.limits s
+core_known pool s core =
+    let marks : Timeline = timeline s.pool core.history in
+    let grown : Grows s.pool s.limits [] marks = legal_grows s.pool s.limits core.history core.shows.legal in
+    let shown : IsAfter s marks = core.shows.shown in
+    record {
+      rising = rising_of s marks shown s.limits grown;
+      limit = core.limit;
+      opened = opened_of s marks shown s.limits grown;
+      sound = sound_of s marks shown s.limits grown;
+      handle_limit = core.handle_limit;
+      sent = sent_of s marks shown s.limits grown;
+      tracker_limit = core.tracker_limit;
+      numbered = core.numbered;
+      undue = undue_of s marks shown s.limits grown core.filed;
+      out = out_of s marks shown s.limits grown;
+    }
+
+-- a core that saw nothing
+pub core_empty : (pages : ℕ) (limits : Bound) → (1 ≤ pages) × (pages ≤ MAX_PAGES) →
+    IsCore (record { size = pages; held = [] }) (empty_state pages limits)
+core_empty pages limits sized = record {
+  sized = sized;
+  pages = refl;
+  few = omega arith;
+  limit = refl;
+  handle_limit = refl;
+  tracker_limit = refl;
+  numbered = All-nil (λ (c : Cell). c.id ≤ 0);
+  history = [];
+  shows = shows_nothing pages limits;
+  filed = All-nil (λ (t : Waiting). IsOf (timeline pages []) t.collection t.condition);
+}
+
+-- ---- an event
+
+-- the work leaves the limit of nodes
+same_limit : (s : State) (handles : Handles) (o : Option Work) (key : Option NodeKey) (worked : Forest) → Worked s handles o key worked →
+    worked.limit ≡ s.forest.limit
+same_limit s handles None key worked same = ap (λ (f : Forest). f.limit) same
+same_limit s handles (Some w) key worked settled = settled.limit
+
+-- a tracker more leaves the limit of trackers
+attached_limit : (old new : TrackerTable) (o : Option Waiting) → GainsTracker old o new → new.limit ≡ old.limit
+attached_limit old new None gains = ap (λ (t : TrackerTable). t.limit) gains
+attached_limit old new (Some t) gains = ap (λ (x : TrackerTable). x.limit) gains.next
+
+module _ (before : Holdings) (old new : State) (client : ℕ) (call : Call) (reply : Reply)
+    (answers : IsAnswer old.limits (readings_of old) client call reply) (f : Follows old new client call reply) (core : IsCore before old) where
+  -- the marks of the history that the old state shows
+  abbrev marks : Timeline
+  marks = timeline old.pool core.history
+
+  -- they grew from nothing
+  grown : Grows old.pool old.limits [] marks
+  grown = legal_grows old.pool old.limits core.history core.shows.legal
+
+  -- a tracker that the event attaches is numbered by it
+  number : (c : Call) (r : Reply) → r ≡ answer old.limits (readings_of old) client (key_told r) c → (t : Waiting) →
+      tracker_by old.forest c r ≡ Some t → t.id ≡ old.events + 1
+  number (Call.TrackNode key) (Reply.Tracker id) told t is =
+      (is_made old.limits old client (Call.TrackNode key) (Reply.Tracker id) told t is).number
+  number (Call.TrackLifetime key most) (Reply.Tracker id) told t is =
+      (is_made old.limits old client (Call.TrackLifetime key most) (Reply.Tracker id) told t is).number
+  number (Call.TrackWeak buffer) (Reply.Tracker id) told t is =
+      (is_made old.limits old client (Call.TrackWeak buffer) (Reply.Tracker id) told t is).number
+  number _ _ told t is = absurd (false≢true (ap is_some is))
+
+  -- the ids are still those of events
+  numbered_after : All (λ (c : Cell). c.id ≤ old.events + 1) f.attached.cells
+  numbered_after = all-In (λ (c : Cell). c.id ≤ old.events + 1) f.attached.cells (λ c on. by (tracker_by old.forest call reply) refl f.gains
+      c on)
+    where
+      was : (c : Cell) → In c old.trackers.cells → c.id ≤ old.events + 1
+      was c on = let below : c.id ≤ old.events = In-all (λ (d : Cell). d.id ≤ old.events) old.trackers.cells core.numbered c on in
+          omega (arith, below)
+
+      by : (o : Option Waiting) → tracker_by old.forest call reply ≡ o → GainsTracker old.trackers o f.attached → (c : Cell) →
+          In c f.attached.cells → c.id ≤ old.events + 1
+      by None is gains c on = was c (subst (λ (t : TrackerTable). In c t.cells) gains on)
+      by (Some t) is gains c on =
+          elim (In-append old.trackers.cells (record { id = t.id; name = gains.name } ∷ []) c (subst (λ (x : TrackerTable).
+          In c x.cells) gains.next on)) [
+            | inl there ↦ was c there
+            | inr (inl made) ↦
+                let id : c.id ≡ t.id = ap (λ (d : Cell). d.id) made in
+                let is_next : t.id ≡ old.events + 1 = number call reply answers.told t is in
+                omega (arith, id, is_next)
+            | inr (inr none) ↦ absurd none
+          ]
+
+  -- so each is, also once the event is over
+  filed_after : All (λ (t : Waiting). IsOf (after old.pool marks (client, call, reply)) t.collection t.condition) new.trackers.unfired
+  filed_after = all-In (λ (t : Waiting). IsOf (after old.pool marks (client, call, reply)) t.collection t.condition) new.trackers.unfired
+      (λ t on.
+      let kept = In-filter (λ (x : Waiting). not (is_due (world_in f.worked (total new.holds)) x)) f.attached.unfired t
+      (subst (λ (x : TrackerTable). In t x.unfired) f.trackers on) in
+      let its : IsOf marks t.collection t.condition =
+      filed_now old marks core.shows.shown old.limits grown core.filed client reply call f.attached f.gains t kept.0 in
+      of_after old.pool old.limits marks (client, call, reply) t.collection t.condition
+      (answer_is old marks core.shows.shown old.limits grown old.limits client call reply answers) its)
+
+  -- the core shows the history with one more event
+  pub core_goes_on : (pool : Holdings) → old.events < old.limits.events → old.events + 1 < 2 ^ 32 → IsPoolOf pool new.forest →
+      new.holds.limit ≡ old.holds.limit → IsCore pool new
+  core_goes_on pool room short pages limit =
+      let there : timeline new.pool (core.history ++ (client, call, reply) ∷ []) ≡ after old.pool marks (client, call, reply) =
+      ap (λ (p : ℕ). timeline p (core.history ++ (client, call, reply) ∷ [])) f.pool
+      ∙ timeline-push old.pool core.history (client, call, reply) in
+      record {
+        sized = rw f.pool core.sized;
+        pages = pages;
+        few = rw f.events short;
+        limit = f.keys.limit ∙ (same_limit old (total new.holds) (work_of old client call reply) _ f.worked f.work ∙ (core.limit
+            ∙ ap (λ l. l.nodes) (sym f.limits)));
+        handle_limit = limit ∙ (core.handle_limit ∙ ap (λ l. l.handles) (sym f.limits));
+        tracker_limit = ap (λ (t : TrackerTable). t.limit) f.trackers
+            ∙ (attached_limit old.trackers f.attached (tracker_by old.forest call reply) f.gains ∙ (core.tracker_limit
+            ∙ ap (λ l. l.trackers) (sym f.limits)));
+        numbered = rw (f.trackers, f.events) numbered_after;
+        history = core.history ++ (client, call, reply) ∷ [];
+        shows = goes_on old new client call reply answers f room core.history core.shows;
+        filed = rw there filed_after;
+      }
+
+-- ---- no event
+
+-- the same state, but for the order of the rows of handles
+pub core_same : (before pool : Holdings) (old new : State) → IsSame old new → new.holds.limit ≡ old.holds.limit → IsPoolOf pool old.forest →
+    IsCore before old → IsCore pool new
+core_same before pool old new same limit pages core =
+    rw same.rest (record {
+      sized = core.sized;
+      pages = pages;
+      few = core.few;
+      limit = core.limit;
+      handle_limit = limit ∙ core.handle_limit;
+      tracker_limit = core.tracker_limit;
+      numbered = core.numbered;
+      history = core.history;
+      shows = record {
+        legal = core.shows.legal;
+        shown = record {
+          events = core.shows.shown.events;
+          clients = core.shows.shown.clients;
+          collections = core.shows.shown.collections;
+          given = core.shows.shown.given;
+          handles = same.counts ∙ core.shows.shown.handles;
+          trackers = core.shows.shown.trackers;
+        };
+      };
+      filed = core.filed;
+    })
+
+-- a state of which a tracker was taken
+pub core_took : (pool : Holdings) (s : State) (id : ℕ) → IsCore pool s →
+    IsCore pool (record s { trackers = record s.trackers { untaken = without_id s.trackers.untaken id } })
+core_took pool s id core = record {
+  sized = core.sized;
+  pages = core.pages;
+  few = core.few;
+  limit = core.limit;
+  handle_limit = core.handle_limit;
+  tracker_limit = core.tracker_limit;
+  numbered = core.numbered;
+  history = core.history;
+  shows = take_shows s id core.history core.shows;
+  filed = core.filed;
+}
