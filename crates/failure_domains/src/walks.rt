@@ -98,7 +98,8 @@ fn way_up<N: Link>(table: &NodeTable<N>, key: NodeKey) -> Option<NodeKey>
 {
     match table.get(key) {
         Some(node) if node.blocks() => None,
-        _ => table.parent(key),
+        Some(_) => table.kept_parent(key),
+        None => None,
     }
 }
 

@@ -27,8 +27,7 @@ fn head_over(table: &NodeTable<Node>, keys: &[NodeKey]) -> Option<NodeKey>
         return None;
     };
     let parent = table.parent(*key)?;
-    let above = table.get(parent)?;
-    Some(above.head)
+    Some(table.kept(parent).head)
 }
 
 /// Removes each node that a failure of this node takes, and subtracts it from the counts of its unit and

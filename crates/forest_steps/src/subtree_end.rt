@@ -24,7 +24,7 @@ fn unit_over(table: &NodeTable<Node>, units: &[Unit], head: NodeKey) -> Option<N
     ensures over { result ≡ unit_over table.now units.now head }
     ensures there { IfSome result (λ over. IsSome (row_at table.now over)) }
 {
-    let above = table.get(table.parent(head)?)?;
+    let above = table.kept(table.parent(head)?);
     let _ = table.get(above.head)?;
     let unit = unit_in(units, above.head.slot as usize);
     if unit.live == 0 && unit.below == 1 {

@@ -35,7 +35,7 @@ pub(crate) fn has_turn(table: &NodeTable<Node>, head: NodeKey) -> bool
     if !is_waiting_head(node) {
         return false;
     }
-    match table.parent(head) {
+    match table.kept_parent(head) {
         Some(above) => has_buffers_there(table, above),
         None => false,
     }

@@ -7,7 +7,7 @@ use Rattle.sm_names.specs.declared.keys.NodeKey.{NodeKey}
 use Rattle.sm_names.specs.Sameness.{same_key}
 use Rattle.node_table.specs.Table.{Row, Table, row_at, parent_at, parent_in, children_at, children_in, next_at, was_given}
 use Rattle.node_table.specs.Changes.{Births, at_parent, with_child}
-use Rattle.node_table.specs.Sound.{row_in, rows_of, run_in, first_in, last_in, prev_in, next_in, given_count, table_of, with_vacant, IsSound, IsRun, IsLinked, at_slot, Bumped}
+use Rattle.node_table.specs.Sound.{row_in, rows_of, run_in, first_in, last_in, prev_in, next_in, given_count, entry_in, stamp_in, table_of, with_vacant, IsSound, IsRun, IsLinked, at_slot, Bumped}
 use Rattle.node_table.specs.declared.slot.Slot.{Slot}
 use Rattle.node_table.proofs.Rows.{count-gain}
 use Rattle.node_table.proofs.Keys.{eq-true, eq-false, same-fields, key_cases, same_key-equal, same_key-apart}
@@ -118,8 +118,10 @@ module _ {N : Type 0} (old new : List (Option (Slot N))) (nexts nexts2 : List �
         ∙ children-with key (row_at before above) (parent-row parent above there is))
         (λ above differ away. ap children_in (others above differ ∙ map-stranger parent (with_child key) above (row_at before above) away))
 
-    pub sound-born : IsSound new nexts2 first (count + 1) limit
-    sound-born =
+    pub sound-born : stamp_in (entry_in (slice_index_or new key.slot None)) ≡ Some key.generation →
+        ((i : ℕ) → i ≢ key.slot → stamp_in (entry_in (slice_index_or new i None)) ≡ stamp_in (entry_in (slice_index_or old i None))) →
+        IsSound new nexts2 first (count + 1) limit
+    sound-born stamp other-stamps =
         record {
           counted = let c : count ≡ count_by is_some old-rows = sound.counted in omega (arith, longer);
           within = omega arith;
@@ -141,6 +143,14 @@ module _ {N : Type 0} (old new : List (Option (Slot N))) (nexts nexts2 : List �
             | inr differ ↦
                 rw (bumped.others i differ) (sound.begun i (sym (is_some-option_map (at_slot parent (with_child key) i)
                 (slice_index_or old-rows i None)) ∙ ap is_some (sym (other-row i differ)) ∙ some))
+          ];
+          stamped = λ i generation is. elim (cases_eq i key.slot) [
+            | inl same ↦
+                let both : Some key.generation ≡ Some generation =
+                sym stamp ∙ (ap (λ j. stamp_in (entry_in (slice_index_or new j None))) (sym same) ∙ is) in
+                let it : key.generation ≡ generation = cc in
+                rw (same, bumped.at, next) (ap (λ g. g + 1) it)
+            | inr differ ↦ rw (bumped.others i differ) (sound.stamped i generation (sym (other-stamps i differ) ∙ is))
           ];
           forest = forest-born;
           chained = chained;

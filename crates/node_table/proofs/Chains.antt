@@ -4,10 +4,10 @@ use Rattle.sm_names.specs.declared.keys.NodeKey.{NodeKey}
 use Rattle.node_table.specs.Table.{Row, Table, row_at, node_at, parent_at, parent_in, children_at, children_in}
 use Rattle.node_table.specs.Forest.{first_key, next_key, siblings_at}
 use Rattle.std.specs.Option.{option_map_or}
-use Rattle.node_table.specs.Sound.{IsSound, IsRun, run_from, run_in, first_in, last_in, prev_in, next_in, rows_of, table_of, with_vacant, entry_in, link_in, core_of, row_of, with_children, given_count}
+use Rattle.node_table.specs.Sound.{IsSound, IsRun, run_from, run_in, first_in, last_in, prev_in, next_in, rows_of, table_of, with_vacant, entry_in, stamp_in, link_in, core_of, row_of, with_children, given_count}
 use Rattle.node_table.specs.declared.slot.Entry.{Entry}
 use Rattle.node_table.specs.declared.slot.Slot.{Slot}
-use Rattle.node_table.proofs.Keys.{eq-true, same-fields}
+use Rattle.node_table.proofs.Keys.{eq-true, eq-false, same-fields}
 use Rattle.node_table.proofs.Runs.{run-first, run-next, run_is, run_from-none, run_from-short}
 use Rattle.node_table.proofs.Slots.{row-at, row-parts}
 use Rattle.node_table.proofs.Depths.{next-there, there-above, parent-there}
@@ -19,6 +19,19 @@ module _ {N : Type 0} where
     pub node : option_map (λ (e : Entry N). e.node) o ≡ node_at t key
     pub parent : link_in (λ (e : Entry N). e.parent) o ≡ parent_at t key
     pub first : link_in (λ (e : Entry N). e.first) o ≡ first_key (children_at t key)
+
+  -- a key that is not there shows nothing
+  pub none-shown : (t : Table N) (key : NodeKey) → row_at t key ≡ None → Shows t key None
+  none-shown t key none = record {
+    there = sym (ap is_some none);
+    node = sym (ap (option_map (λ (row : Row N). row.node)) none);
+    parent = sym (ap parent_in none);
+    first = sym (ap (λ q. first_key (children_in q)) none);
+  }
+
+  -- and has no parent
+  pub none-above : (t : Table N) (key : NodeKey) → row_at t key ≡ None → IsSome (parent_at t key) → ⊥
+  none-above t key none some = let gone : parent_at t key ≡ None = ap parent_in none in absurd (cc)
 
   -- the row of a slot, by its parts
   pub row-is : (slots : List (Option (Slot N))) (most i : ℕ) →
@@ -157,6 +170,15 @@ module _ {N : Type 0} where
             (last_in slots p.slot) (sound.chained p.slot)
             (subst (λ ks. Contains ks key) keys ((sound.forest.linked p key).0 above))
             ∙ ap (next_key key) (sym keys)
+
+    -- a key of another generation than the entry in its slot is not there
+    pub not-there : (vacant : ℕ) (t : Table N) → with_vacant vacant (table_of slots nexts first limit) ≡ t → (key : NodeKey) (e : Entry N) →
+        entry_in (slice_index_or slots key.slot None) ≡ Some e → (e.generation ≡ key.generation → ⊥) → row_at t key ≡ None
+    not-there vacant t is key e at differ =
+        let next : slice_index_or nexts key.slot first ≡ e.generation + 1 = sound.stamped key.slot e.generation (ap stamp_in at) in
+        subst (λ u. row_at u key ≡ None) is
+        (ap (λ b. cond b (slice_index_or (rows_of slots (given_count first nexts)) key.slot None) None)
+        (eq-false (slice_index_or nexts key.slot first) (key.generation + 1) (λ same. differ (omega (arith, next, same)))))
 
     -- an entry says what its key's row has, since the row is made of it
     pub entry-shows : (vacant : ℕ) (t : Table N) → with_vacant vacant (table_of slots nexts first limit) ≡ t → (key : NodeKey)

@@ -3,7 +3,7 @@ use Rattle.std.proofs.Common.{◌≡◌, ◌≢◌, ℕ, ◌+◌, ◌<◌, List,
 use Rattle.sm_names.specs.declared.keys.NodeKey.{NodeKey}
 use Rattle.node_table.specs.Table.{Row, Table, row_at, parent_at, parent_in, children_at, children_in, next_at}
 use Rattle.node_table.specs.Changes.{Cuts, at_parent, without_child, without_parent}
-use Rattle.node_table.specs.Sound.{row_of, rows_of, run_in, first_in, last_in, prev_in, next_in, link_in, entry_in, parent_of, given_count, table_of, with_vacant, IsRun, IsSound, IsLinked, EditsRows, at_slot}
+use Rattle.node_table.specs.Sound.{row_of, rows_of, run_in, first_in, last_in, prev_in, next_in, link_in, entry_in, stamp_in, parent_of, given_count, table_of, with_vacant, IsRun, IsSound, IsLinked, EditsRows, at_slot}
 use Rattle.node_table.specs.declared.slot.Entry.{Entry}
 use Rattle.node_table.specs.declared.slot.Slot.{Slot}
 use Rattle.node_table.proofs.Keys.{eq-true}
@@ -135,8 +135,9 @@ module _ {N : Type 0} (old : List (Option (Slot N))) (nexts : List ℕ) (first c
             ∙ ap is_some (loosened-rows i) ∙ is_some-option_map (at_slot (Some key) without_parent i) (slice_index_or old-rows i None)
 
         -- the fields are sound after the cut
-        pub sound-cut : IsSound new nexts first count limit
-        sound-cut =
+        pub sound-cut : ((i : ℕ) → stamp_in (entry_in (slice_index_or new i None)) ≡ stamp_in (entry_in (slice_index_or old i None))) →
+            IsSound new nexts first count limit
+        sound-cut stamps =
             record {
               counted = sound.counted ∙ sym count-kept;
               within = sound.within;
@@ -144,6 +145,7 @@ module _ {N : Type 0} (old : List (Option (Slot N))) (nexts : List ℕ) (first c
               rising = sound.rising;
               narrow = sound.narrow;
               begun = λ i some. sound.begun i (sym (row-kept i) ∙ some);
+              stamped = λ i generation is. sound.stamped i generation (sym (stamps i) ∙ is);
               forest = forest-cut;
               chained = chained;
             }

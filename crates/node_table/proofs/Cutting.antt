@@ -4,10 +4,10 @@ use Rattle.slab.specs.Slab.{Slab, get}
 use Rattle.sm_names.specs.declared.keys.NodeKey.{NodeKey}
 use Rattle.node_table.specs.Table.{Row, row_at}
 use Rattle.node_table.specs.Changes.{Cuts}
-use Rattle.node_table.specs.Sound.{IsSound, Edits, Joins, loosened, prev_in, next_in, parent_of, table_of, table_in, entry_in, core_of}
+use Rattle.node_table.specs.Sound.{IsSound, Edits, Joins, loosened, prev_in, next_in, parent_of, table_of, table_in, entry_in, stamp_in, core_of}
 use Rattle.node_table.specs.declared.slot.Slot.{Slot}
 use Rattle.node_table.proofs.Slots.{option_map-keeps}
-use Rattle.node_table.proofs.Steps.{kinds}
+use Rattle.node_table.proofs.Steps.{kinds, part-kept}
 use Rattle.node_table.proofs.Cuts.{sound-cut, cuts}
 use Rattle.node_table.proofs.Leaving.{each-root, each-joined, rows-left, chained-left}
 
@@ -25,6 +25,10 @@ module _ {N : Type 0} (old mid : Slab (Slot N)) (nexts : List ℕ) (first count 
     same : mid.vacant_key ≡ old.vacant_key
     same = ap (λ (s : Slab (Slot N)). s.vacant_key) edits.becomes
 
+    -- every entry keeps its generation
+    stamps : (i : ℕ) → stamp_in (entry_in (get mid i)) ≡ stamp_in (entry_in (get old i))
+    stamps = part-kept old mid key.slot loosened edits stamp_in (λ e. refl)
+
     -- a root leaves none
     pub root-cut : None ≡ parent_of old.slots key.slot → IsCut mid
     root-cut was =
@@ -33,7 +37,7 @@ module _ {N : Type 0} (old mid : Slab (Slot N)) (nexts : List ℕ) (first count 
         let each = each-root old mid nexts first count limit key sound there edits was in
         let rows = rows-left old mid nexts first count limit key sound there edits None was mid (λ i. refl) each in
         let chained = chained-left old mid nexts first count limit key sound there edits None was mid (λ i. refl) each in (
-          sound-cut old.slots nexts first count limit None key sound there was mid.slots alike rows chained,
+          sound-cut old.slots nexts first count limit None key sound there was mid.slots alike rows chained stamps,
           cuts old.slots nexts first count limit None key sound there was mid.slots alike rows chained old.vacant_key mid.vacant_key same,
         )
 
@@ -48,7 +52,8 @@ module _ {N : Type 0} (old mid : Slab (Slot N)) (nexts : List ℕ) (first count 
         let each = each-joined old mid nexts first count limit key sound there edits above was new joins in
         let rows = rows-left old mid nexts first count limit key sound there edits (Some above) was new cores each in
         let chained = chained-left old mid nexts first count limit key sound there edits (Some above) was new cores each in (
-          sound-cut old.slots nexts first count limit (Some above) key sound there was new.slots alike rows chained,
+          sound-cut old.slots nexts first count limit (Some above) key sound there was new.slots alike rows chained
+              (λ i. joins.same_rows.stamps i ∙ stamps i),
           cuts old.slots nexts first count limit (Some above) key sound there was new.slots alike rows chained old.vacant_key new.vacant_key
               (joins.same_rows.vacant_key ∙ same),
         )

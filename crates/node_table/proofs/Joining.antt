@@ -7,7 +7,7 @@ use Rattle.node_table.proofs.Rows.{count-same}
 use Rattle.sm_names.specs.declared.keys.NodeKey.{NodeKey}
 use Rattle.node_table.specs.Table.{Row, row_at}
 use Rattle.node_table.specs.Changes.{Births, with_child}
-use Rattle.node_table.specs.Sound.{IsSound, IsRun, run_from, LinksLast, Bumped, run_in, first_in, last_in, prev_in, next_in, last_under, rows_of, table_of, table_in, entry_in, link_in, core_of, with_children, given_count, at_slot, unless}
+use Rattle.node_table.specs.Sound.{IsSound, IsRun, run_from, LinksLast, Bumped, run_in, first_in, last_in, prev_in, next_in, last_under, rows_of, table_of, table_in, entry_in, stamp_in, link_in, core_of, with_children, given_count, at_slot, unless}
 use Rattle.node_table.specs.declared.slot.Entry.{Entry}
 use Rattle.node_table.specs.declared.slot.Slot.{Slot}
 use Rattle.node_table.specs.declared.slot.Slot.TheVariants.{Taken}
@@ -70,7 +70,7 @@ module _ {N : Type 0} (old mid new : Slab (Slot N)) (nexts nexts2 : List ℕ) (f
     (linked : LinksLast old mid parent key last)
     (bumped : Bumped nexts nexts2 first key.slot)
     (updates : Updates mid new key.slot
-    (Some (Taken (record { parent = parent; first = None; last = None; prev = last; next = None; node = node }))))
+    (Some (Taken (record { generation = key.generation; parent = parent; first = None; last = None; prev = last; next = None; node = node }))))
     (in_table : IfSome parent (λ p. IsSome (row_at (table_of old.slots nexts first limit) p)))
   where
     abbrev most : ℕ
@@ -124,7 +124,7 @@ module _ {N : Type 0} (old mid new : Slab (Slot N)) (nexts nexts2 : List ℕ) (f
 
     key-link : (link : Entry N → Option NodeKey) →
         link_in link (entry_in (get new key.slot)) ≡ link
-        (record { parent = parent; first = None; last = None; prev = last; next = None; node = node })
+        (record { generation = key.generation; parent = parent; first = None; last = None; prev = last; next = None; node = node })
     key-link link = ap (λ o. link_in link (entry_in o)) updates.changed
 
     nothing-there : run key.slot ≡ []
@@ -307,7 +307,8 @@ module _ {N : Type 0} (old mid new : Slab (Slot N)) (nexts nexts2 : List ℕ) (f
         × Births (table_in old nexts first limit) (table_in new nexts2 first limit) parent node key
     born next slot room = (
       sound-born old.slots new.slots nexts nexts2 first count limit parent key node sound next was_vacant bumped born-taken born-kinds
-          other-row new-row chained-born in_table room,
+          other-row new-row chained-born in_table room (ap (λ o. stamp_in (entry_in o)) updates.changed)
+          (λ i differ. ap (λ o. stamp_in (entry_in o)) (updates.others i differ) ∙ linked.same_rows.stamps i),
       births old.slots new.slots nexts nexts2 first count limit parent key node sound next was_vacant bumped born-taken born-kinds other-row
           new-row chained-born in_table room old.vacant_key new.vacant_key slot,
     )

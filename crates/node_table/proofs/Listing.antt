@@ -26,6 +26,18 @@ pub appends-none : (children old : List NodeKey) (next : Option NodeKey) → nex
 appends-none children old next is = record { done = []; rest = children; all = refl; items = sym (append-nil old); next_is = is }
 
 module _ {N : Type 0} (t : Table N) (forest : IsForest t) (key : NodeKey) where
+  -- the next of them is a child
+  pub appends-child : (old now : List NodeKey) (at : Option NodeKey) (child : NodeKey) → Appends (children_at t key) old now at →
+      at ≡ Some child → parent_at t child ≡ Some key
+  appends-child old now at child so is = by_rest so.rest so.all so.next_is
+    where
+      by_rest : (rest : List NodeKey) → children_at t key ≡ so.done ++ rest → at ≡ first_key rest → parent_at t child ≡ Some key
+      by_rest [] all first = absurd (cc)
+      by_rest (k ∷ rest) all first =
+          let same : k ≡ child = let both : Some k ≡ Some child = sym first ∙ is in cc in
+          (forest.linked key child).1 (subst (λ keys. Contains keys child) (sym (all ∙ ap (λ j. so.done ++ j ∷ rest) same))
+          (Contains-append_right so.done (child ∷ rest) child (Contains-head child rest)))
+
   -- one more was appended, and the next is its sibling
   pub appends-more : (old now : List NodeKey) (at next : Option NodeKey) (child : NodeKey) → Appends (children_at t key) old now at →
       at ≡ Some child → next ≡ next_key child (siblings_at t child)

@@ -63,6 +63,7 @@ module _ (N : Type 0) (first limit : ℕ) where
         rising = λ slot. omega arith;
         narrow = λ slot. omega arith;
         begun = λ slot some. absurd (cc);
+        stamped = λ slot generation is. absurd (cc);
         forest = record {
           linked = λ parent key. (λ above. absurd (no-parent parent key above), λ there. absurd (no-child parent key there));
           once = λ key. subst (λ keys. AllPairs (λ (a b : NodeKey). a ≢ b) keys) (sym (ap children_in (empty-row key)))

@@ -5,7 +5,7 @@ use Rattle.slab.specs.Slab.{Slab, get}
 use Rattle.sm_names.specs.declared.keys.NodeKey.{NodeKey}
 use Rattle.node_table.specs.Table.{Row, Table, row_at, node_at, parent_at, parent_in, children_at, children_in, next_at}
 use Rattle.node_table.specs.Changes.{Cuts, Removes, without_parent}
-use Rattle.node_table.specs.Sound.{row_in, row_of, rows_of, core_of, with_children, entry_in, link_in, run_in, first_in, last_in, prev_in, next_in, given_count, IsRun, table_in, IsSound}
+use Rattle.node_table.specs.Sound.{row_in, row_of, rows_of, core_of, with_children, entry_in, stamp_in, link_in, run_in, first_in, last_in, prev_in, next_in, given_count, IsRun, table_in, IsSound}
 use Rattle.node_table.specs.declared.slot.Entry.{Entry}
 use Rattle.node_table.specs.declared.slot.Slot.{Slot}
 use Rattle.node_table.specs.declared.slot.Slot.TheVariants.{Taken}
@@ -174,6 +174,11 @@ module _ {N : Type 0} (whole : Table N) (old new : Slab (Slot N)) (nexts : List 
             | inl at ↦ let none : slice_index_or (rows_of new.slots most) i None ≡ None =
                 ap (λ j. slice_index_or (rows_of new.slots most) j None) at ∙ new-row in absurd (cc)
             | inr differ ↦ sound.begun i (ap is_some (sym (other-row i differ)) ∙ some)
+          ];
+          stamped = λ i generation is. elim (cases_eq i key.slot) [
+            | inl at ↦ let none : stamp_in (entry_in (get new i)) ≡ None =
+                ap (λ j. stamp_in (entry_in (get new j))) at ∙ ap stamp_in empty in absurd (cc)
+            | inr differ ↦ sound.stamped i generation (ap (λ o. stamp_in (entry_in o)) (sym (same i differ)) ∙ is)
           ];
           forest = IsLinked-same (parent_at before) (children_at before) (parent_at after) (children_at after) sound.forest ups downs;
           chained = chained_so new.slots most lists (λ j. each-by j (cases_eq j key.slot)) (λ j. short-by j (cases_eq j key.slot));

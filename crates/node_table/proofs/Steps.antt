@@ -4,7 +4,7 @@ use Rattle.std.proofs.lemmas.Bool.{cases_eq}
 use Rattle.slab.specs.Slab.{Slab, get}
 use Rattle.sm_names.specs.declared.keys.NodeKey.{NodeKey}
 use Rattle.node_table.specs.Table.{Row}
-use Rattle.node_table.specs.Sound.{Edits, Relinks, LinksLast, Joins, HasEntry, entry_in, link_in, core_of, with_first, with_last, with_prev, with_next}
+use Rattle.node_table.specs.Sound.{Edits, Relinks, LinksLast, Joins, HasEntry, entry_in, stamp_in, link_in, core_of, with_first, with_last, with_prev, with_next, with_adopted, childless}
 use Rattle.node_table.specs.declared.slot.Entry.{Entry}
 use Rattle.node_table.specs.declared.slot.Slot.{Slot}
 use Rattle.node_table.specs.declared.slot.Slot.TheVariants.{Taken}
@@ -64,14 +64,16 @@ module _ {N : Type 0} where
         ]
 
     -- with a change that keeps the core, the slab is linked anew and no more
-    pub relinks : ((e : Entry N) → core_of (f e) ≡ core_of e) → Relinks old new (λ i row. row)
-    relinks keeps =
+    pub relinks : ((e : Entry N) → core_of (f e) ≡ core_of e) → ((e : Entry N) → (f e).generation ≡ e.generation) →
+        Relinks old new (λ i row. row)
+    relinks keeps same =
         record {
           vacant_key = ap (λ (s : Slab (Slot N)). s.vacant_key) edits.becomes;
           capacity = ap (λ (s : Slab (Slot N)). s.capacity) edits.becomes;
           kinds = kinds;
           cores = λ i. part-kept (option_map core_of) (λ e. ap Some (keeps e)) i
               ∙ sym (option_map-keeps (λ (row : Row N). row) (λ row. refl) (option_map core_of (entry_in (get old i))));
+          stamps = part-kept stamp_in (λ e. ap Some (same e));
         }
 
   -- one change after the other
@@ -84,6 +86,7 @@ module _ {N : Type 0} where
         kinds = λ i. two.kinds i ∙ one.kinds i;
         cores = λ i. two.cores i ∙ (option_map-keeps (λ (row : Row N). row) (λ row. refl) (option_map core_of (entry_in (get mid i)))
             ∙ one.cores i);
+        stamps = λ i. two.stamps i ∙ one.stamps i;
       }
 
   -- with no change all links stay
@@ -94,6 +97,7 @@ module _ {N : Type 0} where
         capacity = refl;
         kinds = λ i. refl;
         cores = λ i. sym (option_map-keeps (λ (row : Row N). row) (λ row. refl) (option_map core_of (entry_in (get slots i))));
+        stamps = λ i. refl;
       }
 
   -- with no parent nothing is linked
@@ -102,57 +106,44 @@ module _ {N : Type 0} where
       record { same_rows = relinks-none slots; firsts = λ i. refl; lasts = λ i. refl; prevs = λ i. refl; nexts = λ i. refl }
 
   -- a first child is linked to its parent
-  pub links_first : (old mid new : Slab (Slot N)) (parent key : NodeKey) → Edits old mid parent.slot (with_first (Some key)) →
-      Edits mid new parent.slot (with_last (Some key)) → LinksLast old new (Some parent) key None
-  links_first old mid new parent key one two =
+  pub links_first : (old new : Slab (Slot N)) (parent key : NodeKey) → Edits old new parent.slot (with_adopted None key) →
+      LinksLast old new (Some parent) key None
+  links_first old new parent key one =
       record {
-        same_rows = relinks-both old mid new (relinks old mid parent.slot (with_first (Some key)) one (λ e. refl))
-            (relinks mid new parent.slot (with_last (Some key)) two (λ e. refl));
-        firsts = λ i. part-kept mid new parent.slot (with_last (Some key)) two (link_in (λ (e : Entry N). e.first)) (λ e. refl) i
-            ∙ part-set old mid parent.slot (with_first (Some key)) one (link_in (λ (e : Entry N). e.first)) (Some key) (λ e. refl) i;
-        lasts = λ i. part-set mid new parent.slot (with_last (Some key)) two (link_in (λ (e : Entry N). e.last)) (Some key) (λ e. refl) i
-            ∙ ap (λ o. cond (parent.slot == i) (Some key) o) (part-kept old mid parent.slot (with_first (Some key)) one
-            (link_in (λ (e : Entry N). e.last)) (λ e. refl) i);
-        prevs = λ i. part-kept mid new parent.slot (with_last (Some key)) two (link_in (λ (e : Entry N). e.prev)) (λ e. refl) i
-            ∙ part-kept old mid parent.slot (with_first (Some key)) one (link_in (λ (e : Entry N). e.prev)) (λ e. refl) i;
-        nexts = λ i. part-kept mid new parent.slot (with_last (Some key)) two (link_in (λ (e : Entry N). e.next)) (λ e. refl) i
-            ∙ part-kept old mid parent.slot (with_first (Some key)) one (link_in (λ (e : Entry N). e.next)) (λ e. refl) i;
+        same_rows = relinks old new parent.slot (with_adopted None key) one (λ e. refl) (λ e. refl);
+        firsts = part-set old new parent.slot (with_adopted None key) one (link_in (λ (e : Entry N). e.first)) (Some key) (λ e. refl);
+        lasts = part-set old new parent.slot (with_adopted None key) one (link_in (λ (e : Entry N). e.last)) (Some key) (λ e. refl);
+        prevs = part-kept old new parent.slot (with_adopted None key) one (link_in (λ (e : Entry N). e.prev)) (λ e. refl);
+        nexts = part-kept old new parent.slot (with_adopted None key) one (link_in (λ (e : Entry N). e.next)) (λ e. refl);
       }
 
   -- a further child is linked to the last one
-  pub links_more : (old mid new : Slab (Slot N)) (parent key last : NodeKey) → Edits old mid last.slot (with_next (Some key)) →
-      Edits mid new parent.slot (with_last (Some key)) → LinksLast old new (Some parent) key (Some last)
+  pub links_more : (old mid new : Slab (Slot N)) (parent key last : NodeKey) → Edits old mid parent.slot (with_adopted (Some last) key) →
+      Edits mid new last.slot (with_next (Some key)) → LinksLast old new (Some parent) key (Some last)
   links_more old mid new parent key last one two =
       record {
-        same_rows = relinks-both old mid new (relinks old mid last.slot (with_next (Some key)) one (λ e. refl))
-            (relinks mid new parent.slot (with_last (Some key)) two (λ e. refl));
-        firsts = λ i. part-kept mid new parent.slot (with_last (Some key)) two (link_in (λ (e : Entry N). e.first)) (λ e. refl) i
-            ∙ part-kept old mid last.slot (with_next (Some key)) one (link_in (λ (e : Entry N). e.first)) (λ e. refl) i;
-        lasts = λ i. part-set mid new parent.slot (with_last (Some key)) two (link_in (λ (e : Entry N). e.last)) (Some key) (λ e. refl) i
-            ∙ ap (λ o. cond (parent.slot == i) (Some key) o) (part-kept old mid last.slot (with_next (Some key)) one
-            (link_in (λ (e : Entry N). e.last)) (λ e. refl) i);
-        prevs = λ i. part-kept mid new parent.slot (with_last (Some key)) two (link_in (λ (e : Entry N). e.prev)) (λ e. refl) i
-            ∙ part-kept old mid last.slot (with_next (Some key)) one (link_in (λ (e : Entry N). e.prev)) (λ e. refl) i;
-        nexts = λ i. part-kept mid new parent.slot (with_last (Some key)) two (link_in (λ (e : Entry N). e.next)) (λ e. refl) i
-            ∙ part-set old mid last.slot (with_next (Some key)) one (link_in (λ (e : Entry N). e.next)) (Some key) (λ e. refl) i;
+        same_rows = relinks-both old mid new (relinks old mid parent.slot (with_adopted (Some last) key) one (λ e. refl) (λ e. refl))
+            (relinks mid new last.slot (with_next (Some key)) two (λ e. refl) (λ e. refl));
+        firsts = λ i. part-kept mid new last.slot (with_next (Some key)) two (link_in (λ (e : Entry N). e.first)) (λ e. refl) i
+            ∙ part-kept old mid parent.slot (with_adopted (Some last) key) one (link_in (λ (e : Entry N). e.first)) (λ e. refl) i;
+        lasts = λ i. part-kept mid new last.slot (with_next (Some key)) two (link_in (λ (e : Entry N). e.last)) (λ e. refl) i
+            ∙ part-set old mid parent.slot (with_adopted (Some last) key) one (link_in (λ (e : Entry N). e.last)) (Some key) (λ e. refl) i;
+        prevs = λ i. part-kept mid new last.slot (with_next (Some key)) two (link_in (λ (e : Entry N). e.prev)) (λ e. refl) i
+            ∙ part-kept old mid parent.slot (with_adopted (Some last) key) one (link_in (λ (e : Entry N). e.prev)) (λ e. refl) i;
+        nexts = λ i. part-set mid new last.slot (with_next (Some key)) two (link_in (λ (e : Entry N). e.next)) (Some key) (λ e. refl) i
+            ∙ ap (λ o. cond (last.slot == i) (Some key) o) (part-kept old mid parent.slot (with_adopted (Some last) key) one
+            (link_in (λ (e : Entry N). e.next)) (λ e. refl) i);
       }
 
   -- an only child leaves none
-  pub joins_only : (old mid new : Slab (Slot N)) (parent : NodeKey) → Edits old mid parent.slot (with_first None) →
-      Edits mid new parent.slot (with_last None) → Joins old new parent None None
-  joins_only old mid new parent one two =
+  pub joins_only : (old new : Slab (Slot N)) (parent : NodeKey) → Edits old new parent.slot childless → Joins old new parent None None
+  joins_only old new parent one =
       record {
-        same_rows = relinks-both old mid new (relinks old mid parent.slot (with_first None) one (λ e. refl))
-            (relinks mid new parent.slot (with_last None) two (λ e. refl));
-        firsts = λ i. part-kept mid new parent.slot (with_last None) two (link_in (λ (e : Entry N). e.first)) (λ e. refl) i
-            ∙ part-set old mid parent.slot (with_first None) one (link_in (λ (e : Entry N). e.first)) None (λ e. refl) i;
-        lasts = λ i. part-set mid new parent.slot (with_last None) two (link_in (λ (e : Entry N). e.last)) None (λ e. refl) i
-            ∙ ap (λ o. cond (parent.slot == i) None o) (part-kept old mid parent.slot (with_first None) one (link_in (λ (e : Entry N).
-            e.last)) (λ e. refl) i);
-        prevs = λ i. part-kept mid new parent.slot (with_last None) two (link_in (λ (e : Entry N). e.prev)) (λ e. refl) i
-            ∙ part-kept old mid parent.slot (with_first None) one (link_in (λ (e : Entry N). e.prev)) (λ e. refl) i;
-        nexts = λ i. part-kept mid new parent.slot (with_last None) two (link_in (λ (e : Entry N). e.next)) (λ e. refl) i
-            ∙ part-kept old mid parent.slot (with_first None) one (link_in (λ (e : Entry N). e.next)) (λ e. refl) i;
+        same_rows = relinks old new parent.slot childless one (λ e. refl) (λ e. refl);
+        firsts = part-set old new parent.slot childless one (link_in (λ (e : Entry N). e.first)) None (λ e. refl);
+        lasts = part-set old new parent.slot childless one (link_in (λ (e : Entry N). e.last)) None (λ e. refl);
+        prevs = part-kept old new parent.slot childless one (link_in (λ (e : Entry N). e.prev)) (λ e. refl);
+        nexts = part-kept old new parent.slot childless one (link_in (λ (e : Entry N). e.next)) (λ e. refl);
       }
 
   -- a first child leaves the next as the first
@@ -160,8 +151,8 @@ module _ {N : Type 0} where
       Edits mid new after.slot (with_prev None) → Joins old new parent None (Some after)
   joins_first old mid new parent after one two =
       record {
-        same_rows = relinks-both old mid new (relinks old mid parent.slot (with_first (Some after)) one (λ e. refl))
-            (relinks mid new after.slot (with_prev None) two (λ e. refl));
+        same_rows = relinks-both old mid new (relinks old mid parent.slot (with_first (Some after)) one (λ e. refl) (λ e. refl))
+            (relinks mid new after.slot (with_prev None) two (λ e. refl) (λ e. refl));
         firsts = λ i. part-kept mid new after.slot (with_prev None) two (link_in (λ (e : Entry N). e.first)) (λ e. refl) i
             ∙ part-set old mid parent.slot (with_first (Some after)) one (link_in (λ (e : Entry N). e.first)) (Some after) (λ e. refl) i;
         lasts = λ i. part-kept mid new after.slot (with_prev None) two (link_in (λ (e : Entry N). e.last)) (λ e. refl) i
@@ -178,8 +169,8 @@ module _ {N : Type 0} where
       Edits mid new parent.slot (with_last (Some before)) → Joins old new parent (Some before) None
   joins_last old mid new parent before one two =
       record {
-        same_rows = relinks-both old mid new (relinks old mid before.slot (with_next None) one (λ e. refl))
-            (relinks mid new parent.slot (with_last (Some before)) two (λ e. refl));
+        same_rows = relinks-both old mid new (relinks old mid before.slot (with_next None) one (λ e. refl) (λ e. refl))
+            (relinks mid new parent.slot (with_last (Some before)) two (λ e. refl) (λ e. refl));
         firsts = λ i. part-kept mid new parent.slot (with_last (Some before)) two (link_in (λ (e : Entry N). e.first)) (λ e. refl) i
             ∙ part-kept old mid before.slot (with_next None) one (link_in (λ (e : Entry N). e.first)) (λ e. refl) i;
         lasts = λ i. part-set mid new parent.slot (with_last (Some before)) two (link_in (λ (e : Entry N). e.last)) (Some before) (λ e.
@@ -196,8 +187,8 @@ module _ {N : Type 0} where
       Edits mid new after.slot (with_prev (Some before)) → Joins old new parent (Some before) (Some after)
   joins_mid old mid new parent before after one two =
       record {
-        same_rows = relinks-both old mid new (relinks old mid before.slot (with_next (Some after)) one (λ e. refl))
-            (relinks mid new after.slot (with_prev (Some before)) two (λ e. refl));
+        same_rows = relinks-both old mid new (relinks old mid before.slot (with_next (Some after)) one (λ e. refl) (λ e. refl))
+            (relinks mid new after.slot (with_prev (Some before)) two (λ e. refl) (λ e. refl));
         firsts = λ i. part-kept mid new after.slot (with_prev (Some before)) two (link_in (λ (e : Entry N). e.first)) (λ e. refl) i
             ∙ part-kept old mid before.slot (with_next (Some after)) one (link_in (λ (e : Entry N). e.first)) (λ e. refl) i;
         lasts = λ i. part-kept mid new after.slot (with_prev (Some before)) two (link_in (λ (e : Entry N). e.last)) (λ e. refl) i

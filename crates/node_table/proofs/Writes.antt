@@ -6,7 +6,7 @@ use Rattle.sm_names.specs.declared.keys.NodeKey.{NodeKey}
 use Rattle.node_table.specs.Table.{Row, Table, row_at, node_at, parent_in, children_in, next_at}
 use Rattle.node_table.specs.Changes.{Writes, at_parent, with_node}
 use Rattle.node_table.specs.Lending.{table_with_node}
-use Rattle.node_table.specs.Sound.{row_in, rows_of, run_in, first_in, last_in, prev_in, next_in, link_in, given_count, IsRun, table_of, table_in, IsSound, EditsRows, Edits, at_slot}
+use Rattle.node_table.specs.Sound.{row_in, rows_of, run_in, first_in, last_in, prev_in, next_in, link_in, stamp_in, given_count, IsRun, table_of, table_in, IsSound, EditsRows, Edits, at_slot}
 use Rattle.node_table.specs.declared.slot.Entry.{Entry}
 use Rattle.node_table.specs.declared.slot.Slot.{Slot}
 use Rattle.node_table.specs.declared.slot.Slot.TheVariants.{Taken}
@@ -104,6 +104,8 @@ module _ {N : Type 0} (slots : Slab (Slot N)) (nexts : List ℕ) (first count li
             rising = sound.rising;
             narrow = sound.narrow;
             begun = λ i some. sound.begun i (sym (row-kept i) ∙ some);
+            stamped = λ i generation is. sound.stamped i generation
+                (sym (part-kept slots written key.slot writing edits stamp_in (λ entry. refl) i) ∙ is);
             forest =
                 IsLinked-same _ _ _ _ sound.forest
                 (λ k. ap parent_in (key-row k) ∙ map-up (Some key) (with_node node) k (row_at (table_of slots.slots nexts first limit) k)

@@ -57,6 +57,14 @@ module _ {N : Type 0} where
   entry_in (Some Retired) = None
   entry_in (Some (Taken e)) = Some e
 
+  -- the node of a slot, if it has one
+  abbrev pub node_in : Option (Slot N) → Option N
+  node_in slot = option_map (λ (e : Entry N). e.node) (entry_in slot)
+
+  -- the generation of an entry, if there is one
+  abbrev pub stamp_in : Option (Entry N) → Option ℕ
+  stamp_in entry = option_map (λ (e : Entry N). e.generation) entry
+
   -- a link of an entry, if there is one
   abbrev pub link_in : (Entry N → Option NodeKey) → Option (Entry N) → Option NodeKey
   link_in link None = None
@@ -136,6 +144,9 @@ module _ {N : Type 0} where
     -- a slot with a node gave a key
     pub begun : (slot : ℕ) → IsSome (slice_index_or (rows_of slots (given_count first nexts)) slot None) →
         first < slice_index_or nexts slot first
+    -- an entry has the generation that its slot gave last
+    pub stamped : (slot generation : ℕ) → stamp_in (entry_in (slice_index_or slots slot None)) ≡ Some generation →
+        slice_index_or nexts slot first ≡ generation + 1
     pub forest : IsLinked (parent_at (table_of slots nexts first limit)) (children_at (table_of slots nexts first limit))
     -- the children of each slot are linked to and fro, from its first to its last
     pub chained : (slot : ℕ) → IsRun (next_in slots) (prev_in slots) None (first_in slots slot)
@@ -160,6 +171,15 @@ module _ {N : Type 0} where
   abbrev pub with_next : Option NodeKey → Entry N → Entry N
   with_next link e = record e { next = link }
 
+  -- the entry with another last child, which is the first if there was no last one
+  abbrev pub with_adopted : Option NodeKey → NodeKey → Entry N → Entry N
+  with_adopted None key e = record e { first = Some key; last = Some key }
+  with_adopted (Some last) key e = record e { last = Some key }
+
+  -- the entry without children
+  abbrev pub childless : Entry N → Entry N
+  childless e = record e { first = None; last = None }
+
   -- the entry without a parent and neighbours
   abbrev pub loosened : Entry N → Entry N
   loosened e = record e { parent = None; prev = None; next = None }
@@ -180,6 +200,7 @@ module _ {N : Type 0} where
     pub capacity : new.capacity ≡ old.capacity
     pub kinds : (i : ℕ) → is_some (get new i) ≡ is_some (get old i)
     pub cores : (i : ℕ) → option_map core_of (entry_in (get new i)) ≡ option_map (f i) (option_map core_of (entry_in (get old i)))
+    pub stamps : (i : ℕ) → stamp_in (entry_in (get new i)) ≡ stamp_in (entry_in (get old i))
 
   -- the key follows the last child of the parent, if there is a parent
   pub record LinksLast (old new : Slab (Slot N)) (parent : Option NodeKey) (key : NodeKey) (last : Option NodeKey) : Type 0 where

@@ -1,21 +1,27 @@
 use Rattle.std.proofs.lemmas.Grind.{common_steps}
-use Rattle.std.proofs.Common.{◌≡◌, ◌+◌, ◌<◌, [], ◌∷◌, ◌++◌, rules, arith, refl, ap, subst, length, sym, ◌∙◌}
+use Rattle.std.proofs.Common.{◌≡◌, ◌+◌, ◌<◌, [], ◌∷◌, ◌++◌, is_some, rules, arith, refl, ap, subst, length, sym, ◌∙◌}
 use Rattle.std.proofs.lemmas.List.{length_push}
 use Rattle.node_table.specs.Table.{children_at}
 use Rattle.node_table.specs.Sound.{Appends}
-use Rattle.node_table.proofs.Listing.{appends-none, appends-more, appends-all, appends-within}
+use Rattle.node_table.proofs.Listing.{appends-child, appends-none, appends-more, appends-all, appends-within}
 use Rattle.node_table.proofs.table.NodeTable.append_children.Goals as goal
+
+-- the child is one of its parent's
+pub kept_next_sibling-at-requires : goal.kept_next_sibling-at-requires
+kept_next_sibling-at-requires g c =
+    ap is_some (appends-child c.args.self.now c.children.invariant.forest c.args.key c.args.keys.now.items c.children.keys.items
+    c.children.at c.in-Some.child c.children.invariant.appends c.in-Some.is)
 
 -- the next child was appended
 pub children-preserved : goal.children-preserved
 children-preserved g c =
     let pushed : c.push.new.self.items ≡ c.children.keys.items ++ c.in-Some.child ∷ [] = search rules in
     record {
-      appends = subst (λ items. Appends (children_at c.args.self.now c.args.key) c.args.keys.now.items items c.next_sibling-at.result)
+      appends = subst (λ items. Appends (children_at c.args.self.now c.args.key) c.args.keys.now.items items c.kept_next_sibling-at.result)
           (sym pushed)
           (appends-more c.args.self.now c.children.invariant.forest c.args.key c.args.keys.now.items c.children.keys.items c.children.at
-          c.next_sibling-at.result c.in-Some.child
-          c.children.invariant.appends c.in-Some.is c.next_sibling-at.ensures.value);
+          c.kept_next_sibling-at.result c.in-Some.child
+          c.children.invariant.appends c.in-Some.is c.kept_next_sibling-at.ensures.value);
       forest = c.children.invariant.forest;
       capacity = omega (arith, c.push.ensures.capacity, c.children.invariant.capacity);
     }

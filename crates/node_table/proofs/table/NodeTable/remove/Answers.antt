@@ -1,33 +1,46 @@
 use Rattle.std.proofs.lemmas.Grind.{common_steps}
-use Rattle.std.proofs.Common.{◌∙◌, sym, ap, subst, rules, is_some, IsSome, arith}
+use Rattle.std.proofs.Common.{◌≡◌, ◌∙◌, Some, sym, ap, subst, rules, is_some, IsSome, arith}
 use Rattle.node_table.specs.Table.{row_at}
-use Rattle.node_table.specs.Changes.{Cuts, without_parent}
+use Rattle.node_table.specs.Changes.{Cuts, Removes, without_parent}
+use Rattle.node_table.specs.Sound.{HasEntry, node_in, table_in}
 use Rattle.node_table.proofs.Slots.{entry-there, is_some-option_map}
 use Rattle.node_table.proofs.Removals.{sound-removed, removes}
 use Rattle.node_table.proofs.table.NodeTable.remove.Goals as goal
 
 -- the key is there after its cut
-pub take_entry-entry-requires : goal.take_entry-entry-requires
-take_entry-entry-requires g c =
+pub take_node-node-requires : goal.take_node-node-requires
+take_node-node-requires g c =
     entry-there c.self.inside.slots.slots c.self.inside.nexts.items c.self.inside.first c.self.inside.limit c.args.key
     (subst (λ t. IsSome (row_at t c.args.key)) (sym c.self.view_is) (ap is_some c.cut.ensures.loose
     ∙ is_some-option_map without_parent (row_at c.args.self.now c.args.key) ∙ c.requires.there))
 
 pub invariant_of-self : goal.invariant_of-self
 invariant_of-self g c =
-    sound-removed c.args.self.now c.self.inside.slots c.take_entry-entry.new.slots c.self.inside.nexts.items c.self.inside.first
-    c.self.inside.count c.self.inside.limit c.args.key c.take_entry-entry.result
+    let held : HasEntry c.self.inside.slots c.args.key.slot =
+    entry-there c.self.inside.slots.slots c.self.inside.nexts.items c.self.inside.first c.self.inside.limit c.args.key
+    (subst (λ t. IsSome (row_at t c.args.key)) (sym c.self.view_is) (ap is_some c.cut.ensures.loose
+    ∙ is_some-option_map without_parent (row_at c.args.self.now c.args.key) ∙ c.requires.there)) in
+    sound-removed c.args.self.now c.self.inside.slots c.take_node-node.new.slots c.self.inside.nexts.items c.self.inside.first
+    c.self.inside.count c.self.inside.limit c.args.key held.0
     c.requires.there c.requires.leaf (subst (λ t. Cuts c.args.self.now t c.args.key) (sym c.self.view_is) c.cut.ensures)
-    c.self.invariant c.take_entry-entry.ensures.was c.take_entry-entry.ensures.none c.take_entry-entry.ensures.others
-    (λ last. c.take_entry-entry.ensures.retired (search rules)) (search rules)
+    c.self.invariant held.1 c.take_node-node.ensures.none c.take_node-node.ensures.others
+    (λ last. c.take_node-node.ensures.retired (search rules)) (search rules)
 
 pub returns : goal.returns
 returns g c =
-    removes c.args.self.now c.self.inside.slots c.take_entry-entry.new.slots c.self.inside.nexts.items c.self.inside.first
-    c.self.inside.count c.self.inside.limit c.args.key c.take_entry-entry.result
+    let held : HasEntry c.self.inside.slots c.args.key.slot =
+    entry-there c.self.inside.slots.slots c.self.inside.nexts.items c.self.inside.first c.self.inside.limit c.args.key
+    (subst (λ t. IsSome (row_at t c.args.key)) (sym c.self.view_is) (ap is_some c.cut.ensures.loose
+    ∙ is_some-option_map without_parent (row_at c.args.self.now c.args.key) ∙ c.requires.there)) in
+    let both : Some held.0.node ≡ Some c.take_node-node.result = sym (ap node_in held.1) ∙ c.take_node-node.ensures.was in
+    let same : held.0.node ≡ c.take_node-node.result = cc in
+    subst (λ node. Removes c.args.self.now
+    (table_in c.take_node-node.new.slots c.self.inside.nexts.items c.self.inside.first c.self.inside.limit) c.args.key node) same
+    (removes c.args.self.now c.self.inside.slots c.take_node-node.new.slots c.self.inside.nexts.items c.self.inside.first
+    c.self.inside.count c.self.inside.limit c.args.key held.0
     c.requires.there c.requires.leaf (subst (λ t. Cuts c.args.self.now t c.args.key) (sym c.self.view_is) c.cut.ensures)
-    c.self.invariant c.take_entry-entry.ensures.was c.take_entry-entry.ensures.none c.take_entry-entry.ensures.others
-    (λ last. c.take_entry-entry.ensures.retired (search rules)) (search rules)
+    c.self.invariant held.1 c.take_node-node.ensures.none c.take_node-node.ensures.others
+    (λ last. c.take_node-node.ensures.retired (search rules)) (search rules))
 
 -- by arithmetic and the usual steps
 pub overflow_sub-self : goal.overflow_sub-self

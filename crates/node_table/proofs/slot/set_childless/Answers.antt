@@ -1,0 +1,13 @@
+use Rattle.std.proofs.Common.{◌∙◌, Some, refl}
+use Rattle.node_table.proofs.Slots.{taken-by}
+use Rattle.node_table.proofs.slot.set_childless.Goals as goal
+
+-- the entry has no children, and is else as it was
+pub returns : goal.returns
+returns g c =
+    record {
+      before = c.entry_mut-entry.result.now;
+      was = c.index_mut.ensures.value
+          ∙ taken-by (Some c.index_mut.result.now) c.entry_mut-entry.result.now c.entry_mut-entry.ensures.value;
+      becomes = refl;
+    }
