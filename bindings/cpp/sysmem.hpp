@@ -487,11 +487,12 @@ public:
         auto state = std::make_shared<detail::State>();
         if (o.record) state->recorder = std::make_unique<detail::Recorder>(o.record);
         state->is_watched = state->recorder != nullptr;
+        auto seed = o.seed.value_or(std::array<std::uint8_t, 16>{});
         std::uint32_t code =
-            o.seed ? sysmem_open_seeded(&state->core, o.pages, o.events, o.nodes, o.collections,
-                                        o.trackers, o.handles, o.seed->data())
-                   : sysmem_open(&state->core, o.pages, o.events, o.nodes, o.collections,
-                                 o.trackers, o.handles);
+            o.events ? sysmem_open_seeded(&state->core, o.pages, *o.events, o.nodes, o.collections,
+                                          o.trackers, o.handles, seed.data())
+                     : sysmem_open_lasting(&state->core, o.pages, o.nodes, o.collections,
+                                           o.trackers, o.handles, seed.data());
         if (code != SYSMEM_DONE) return Error::fault(code);
         return Service(std::move(state));
     }

@@ -114,7 +114,10 @@ using Record = std::function<void(std::string_view)>;
 // The options of a new service: the pool's pages of 4,096 bytes, and the limits of sysmem_open.
 struct Options {
     std::uint32_t pages = 16;
-    std::uint32_t events = UINT32_MAX, nodes = 1024, collections = 256, trackers = 4096;
+    // How many events may be made; without a number as many as sysmem_open_lasting allows, which at a
+    // million a second is 285 years.
+    std::optional<std::uint32_t> events = std::nullopt;
+    std::uint32_t nodes = 1024, collections = 256, trackers = 4096;
     std::uint32_t handles = UINT32_MAX;
     // 16 random bytes, if clients may be hostile: see sysmem_open_seeded.
     std::optional<std::array<std::uint8_t, 16>> seed = std::nullopt;

@@ -76,7 +76,7 @@ const _: () = {
 type View<T> = unsafe extern "C" fn(*mut Handle, *mut T, usize, *mut u64) -> u32;
 
 extern "C" {
-    fn sysmem_open(
+    fn sysmem_open_seeded(
         handle: *mut Handle,
         pages: u32,
         events: u32,
@@ -84,11 +84,11 @@ extern "C" {
         collections: u32,
         trackers: u32,
         handles: u32,
+        seed: *const u8,
     ) -> u32;
-    fn sysmem_open_seeded(
+    fn sysmem_open_lasting(
         handle: *mut Handle,
         pages: u32,
-        events: u32,
         nodes: u32,
         collections: u32,
         trackers: u32,
@@ -138,14 +138,20 @@ pub(crate) struct Core(Handle);
 unsafe impl Send for Core {}
 
 impl Core {
-    pub fn open(pages: u32, limits: [u32; 5], seed: Option<[u8; 16]>) -> Result<Core, u32> {
+    pub fn open(
+        pages: u32,
+        events: Option<u32>,
+        limits: [u32; 4],
+        seed: Option<[u8; 16]>,
+    ) -> Result<Core, u32> {
         let mut core = Core(Handle { is_open: false, core: null_mut() });
-        let [e, n, c, t, h] = limits;
+        let [n, c, t, h] = limits;
+        let seed = seed.unwrap_or([0; 16]);
         // SAFETY: the handle is of zeros, and a seed has 16 bytes.
         let code = unsafe {
-            match seed {
-                Some(seed) => sysmem_open_seeded(&mut core.0, pages, e, n, c, t, h, seed.as_ptr()),
-                None => sysmem_open(&mut core.0, pages, e, n, c, t, h),
+            match events {
+                Some(e) => sysmem_open_seeded(&mut core.0, pages, e, n, c, t, h, seed.as_ptr()),
+                None => sysmem_open_lasting(&mut core.0, pages, n, c, t, h, seed.as_ptr()),
             }
         };
         if code == 0 {

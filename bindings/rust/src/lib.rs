@@ -128,7 +128,7 @@ impl Service {
     pub fn open(options: Options) -> Result<Service, Error> {
         let Options { pages, events, nodes, collections, trackers, handles, seed, record } =
             options;
-        let core = Core::open(pages, [events, nodes, collections, trackers, handles], seed);
+        let core = Core::open(pages, events, [nodes, collections, trackers, handles], seed);
         let state = State::new(core.map_err(Error::of)?, record);
         Ok(Service(Arc::new(Shared(Mutex::new(state)))))
     }

@@ -152,7 +152,9 @@ pub fn record_to(file: File) -> Record {
 #[derive(Clone)]
 pub struct Options {
     pub pages: u32,
-    pub events: u32,
+    /// How many events may be made; without a number as many as `sysmem_open_lasting` allows, which
+    /// at a million a second is 285 years.
+    pub events: Option<u32>,
     pub nodes: u32,
     pub collections: u32,
     pub trackers: u32,
@@ -183,7 +185,7 @@ impl Default for Options {
     fn default() -> Options {
         Options {
             pages: 16,
-            events: u32::MAX,
+            events: None,
             nodes: 1024,
             collections: 256,
             trackers: 4096,

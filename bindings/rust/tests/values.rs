@@ -120,7 +120,7 @@ fn refusals_misuses_and_faults() {
         Service::open(Options { pages: 0, ..Options::default() }).err(),
         Some(Error::BadLimits)
     );
-    let few = Options { nodes: 1, events: 40, ..Options::default() };
+    let few = Options { nodes: 1, events: Some(40), ..Options::default() };
     let service = Service::open(few).unwrap();
     let a = service.join().unwrap();
     let root = a.open_root("").unwrap();

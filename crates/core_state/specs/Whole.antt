@@ -85,7 +85,7 @@ NoBufferHome handles f = (c : Collection) → In c f.collections → (h : HeldBu
 pub record IsCore (pool : Holdings) (s : State) : Type 0 where
   pub sized : (1 ≤ s.pool) × (s.pool ≤ MAX_PAGES)
   pub pages : IsPoolOf pool s.forest
-  pub few : s.events < 2 ^ 32
+  pub few : s.events < 2 ^ 53
   pub limit : s.forest.limit ≡ s.limits.nodes
   pub handle_limit : s.holds.limit ≡ s.limits.handles
   pub tracker_limit : s.trackers.limit ≡ s.limits.trackers

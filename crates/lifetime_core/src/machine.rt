@@ -325,7 +325,7 @@ impl Core {
         ensures { (result ≡ StepFault.HistoryFull)
             ↔ (self.now.limits.events ≤ self.now.events) }
     {
-        if self.limits.events() as u64 <= self.events {
+        if self.limits.events() <= self.events {
             StepFault::HistoryFull
         } else {
             StepFault::NoMemory
@@ -362,7 +362,7 @@ impl Core {
         requires { IsDecision self.old client call.now decision.now }
         ensures { Stepped self.old self.new client call.now result }
     {
-        if self.events >= self.limits.events() as u64 {
+        if self.events >= self.limits.events() {
             return Err(StepFault::HistoryFull);
         }
         if changes_nothing(call, &decision.reply) {

@@ -392,7 +392,7 @@ impl Scroll {
     fn is_full(&self) -> bool
         ensures { result ≡ nat_le self.now.limits.events self.now.teller.session.core.events }
     {
-        self.limits.events() as u64 <= self.teller.session.core.events()
+        self.limits.events() <= self.teller.session.core.events()
     }
 
     // Makes one more call, that of this line. It fails for want of memory alone.

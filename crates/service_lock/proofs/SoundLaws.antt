@@ -50,7 +50,7 @@ begins pages asked core limits history events strong weak none shows paged as_as
 pub fits : (pool : ℕ) (limits : Bound) (strength : Strength) (client : ℕ) (call : Call) (reply : Reply) (history : List Entry)
     (moves : HandleMoves) (sums : BookSums) (most : ℕ) →
     IsLegal pool limits history → moves ≡ moves_by strength call reply → CountsHandles (timeline pool history) strength sums →
-    length history < most → most < 2 ^ 32 → sums.total + moves.opened < 2 ^ 64
+    length history < most → most < 2 ^ 53 → sums.total + moves.opened < 2 ^ 64
 fits pool limits strength client call reply history moves sums most legal is counts few small =
     omega (
       arith,

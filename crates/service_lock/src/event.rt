@@ -50,7 +50,7 @@ pub fn apply<E: Setup, S: Ledger, W: Ledger>(
     ensures full { (result ≡ Err Fault.HistoryFull)
         ↔ (state.old.limits.events ≤ length state.old.history) }
 {
-    if state.core.events() >= state.limits.events() as u64 {
+    if state.core.events() >= state.limits.events() {
         return Err(StepFault::HistoryFull);
     }
     if state.log.reserve(1).is_err() {

@@ -191,7 +191,7 @@ pub fn books<E: Setup, S: Ledger, W: Ledger>(state: &State<E, S, W>) -> Books
 pub fn is_full<E: Setup, S: Ledger, W: Ledger>(state: &State<E, S, W>) -> bool
     ensures { result ≡ nat_le state.now.limits.events (length state.now.history) }
 {
-    state.limits.events() as u64 <= state.core.events()
+    state.limits.events() <= state.core.events()
 }
 
 /// Takes the reader of the tracker with this id: `Some` once for each tracker that a reply named,

@@ -29,8 +29,8 @@ pub use keys::{
 pub use messages::{Call, Parcel, Reply};
 pub use outcomes::{Buffers, Cause, Failure, Fault, Misuse, NoMemory, Refusal, StepFault};
 pub use rules::{
-    MAX_AT_LEAST, MAX_BUFFERS, MAX_CAMPING, MAX_COLLECTIONS, MAX_EVENTS, MAX_HANDLES,
-    MAX_NODE_TRACKERS, MAX_NODES, MAX_PAGES, MAX_SIZE, MAX_TRACKERS, PAGE_SIZE,
+    LASTING_EVENTS, MAX_AT_LEAST, MAX_BUFFERS, MAX_CAMPING, MAX_COLLECTIONS, MAX_EVENTS,
+    MAX_HANDLES, MAX_NODE_TRACKERS, MAX_NODES, MAX_PAGES, MAX_SIZE, MAX_TRACKERS, PAGE_SIZE,
 };
 pub use sets::has_buffer;
 pub use tracking::{Condition, Fired};

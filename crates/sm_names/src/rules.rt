@@ -1,7 +1,10 @@
 //! The numbers of the rules. Code, specifications and proofs cite them, and write none of them out.
 
-/// The greatest number of events that limits may allow. The number of an event has 32 bits.
+/// The greatest number of events that `Limits::new` allows.
 pub const MAX_EVENTS: u32 = u32::MAX;
+
+/// How many events lasting limits allow: 2^53 - 1, which at a million events a second is 285 years.
+pub const LASTING_EVENTS: u64 = (1 << 53) - 1;
 
 /// The greatest number of nodes that limits may allow: ends of
 /// `fuchsia.sysmem2.BufferCollectionToken` and `fuchsia.sysmem2.BufferCollection` that a service

@@ -26,7 +26,7 @@ pub use names::sysmem_name;
 pub use nodes::{
     NodeWords, sysmem_given, sysmem_handles_in_parcels, sysmem_nodes, sysmem_open_handles,
 };
-pub use opening::{sysmem_close, sysmem_open, sysmem_open_seeded};
+pub use opening::{sysmem_close, sysmem_open, sysmem_open_lasting, sysmem_open_seeded};
 pub use stepping::sysmem_step;
 pub use views::{
     FiredWords, HeldWords, KeyWords, sysmem_cause, sysmem_events, sysmem_fired, sysmem_fired_from,

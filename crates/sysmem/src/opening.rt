@@ -5,7 +5,7 @@ ghost use Rattle.sysmem.specs.Opening.{IsInRange, IsNew};
 use crate::codes::{ALREADY_OPEN, BAD_LIMITS, DONE, NO_MEMORY, NOT_OPEN};
 use crate::handle::{Handle, is_open, put, take};
 use lifetime_core::Core;
-use sm_names::{Limits, MAX_PAGES};
+use sm_names::{LASTING_EVENTS, Limits, MAX_PAGES};
 use std::alloc::Global;
 
 /// Opens a core without an event, with these limits and a pool of `pages` pages of 4,096 bytes, on a handle
@@ -69,13 +69,61 @@ pub extern "C" fn sysmem_open_seeded(
         ¬ IsInRange pages events nodes collections trackers handles → result ≡ 3 }
     ensures failed { result ≢ 0 → handle.new.place.core ≡ handle.old.place.core }
 {
+    let limits = Limits::new(events, nodes, collections, trackers, handles);
+    open_with(alloc, handle, pages, limits, seed)
+}
+
+/// Does what `sysmem_open_seeded` does, for a core that is to run for years: its history has room for
+/// 9,007,199,254,740,991 events.
+#[unsafe(no_mangle)]
+pub extern "C" fn sysmem_open_lasting(
+    alloc: Global,
+    handle: &mut Handle,
+    pages: u32,
+    nodes: u32,
+    collections: u32,
+    trackers: u32,
+    handles: u32,
+    seed: &[u8; 16],
+) -> u32
+    ensures done { result ≡ 0 → IsSomeAnd handle.new.place.core
+        (IsNew pages LASTING_EVENTS nodes collections trackers handles) }
+    ensures already { (result ≡ 2) ↔ (is_some handle.old.place.core ≡ true) }
+    ensures refused { result ≡ 3 →
+        ¬ IsInRange pages LASTING_EVENTS nodes collections trackers handles }
+    ensures outside { handle.old.place.core ≡ None →
+        ¬ IsInRange pages LASTING_EVENTS nodes collections trackers handles → result ≡ 3 }
+    ensures failed { result ≢ 0 → handle.new.place.core ≡ handle.old.place.core }
+{
+    let limits = match Limits::new(1, nodes, collections, trackers, handles) {
+        Some(limits) => Some(limits.lasting()),
+        None => None,
+    };
+    open_with(alloc, handle, pages, limits, seed)
+}
+
+// Opens a core with these limits, if there are any.
+fn open_with(
+    alloc: Global,
+    handle: &mut Handle,
+    pages: u32,
+    limits: Option<Limits>,
+    seed: &[u8; 16],
+) -> u32
+    ensures done { result ≡ 0 → IsSomeAnd limits (λ l. IsSomeAnd handle.new.place.core
+        (λ core. IsNew pages l.events l.nodes l.collections l.trackers l.handles core)) }
+    ensures already { (result ≡ 2) ↔ (is_some handle.old.place.core ≡ true) }
+    ensures refused { (result ≡ 3) ↔ ((handle.old.place.core ≡ None)
+        × (¬ ((is_some limits ≡ true) × ((1 ≤ pages) × (pages ≤ MAX_PAGES))))) }
+    ensures failed { result ≢ 0 → handle.new.place.core ≡ handle.old.place.core }
+{
     if is_open(handle) {
         return ALREADY_OPEN;
     }
     if pages < 1 || pages > MAX_PAGES {
         return BAD_LIMITS;
     }
-    let Some(limits) = Limits::new(events, nodes, collections, trackers, handles) else {
+    let Some(limits) = limits else {
         return BAD_LIMITS;
     };
     let Ok(core) = Core::with_seed(alloc, pages, limits, *seed) else {

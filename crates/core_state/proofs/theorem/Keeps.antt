@@ -139,7 +139,7 @@ module _ (before : Holdings) (old new : State) (client : ℕ) (call : Call) (rep
       (answer_is old marks core.shows.shown old.limits grown old.limits client call reply answers) its)
 
   -- the core shows the history with one more event
-  pub core_goes_on : (pool : Holdings) → old.events < old.limits.events → old.events + 1 < 2 ^ 32 → IsPoolOf pool new.forest →
+  pub core_goes_on : (pool : Holdings) → old.events < old.limits.events → old.events + 1 < 2 ^ 53 → IsPoolOf pool new.forest →
       new.holds.limit ≡ old.holds.limit → IsCore pool new
   core_goes_on pool room short pages limit =
       let there : timeline new.pool (core.history ++ (client, call, reply) ∷ []) ≡ after old.pool marks (client, call, reply) =

@@ -52,15 +52,18 @@ const LIMITS: &[(u32, u32, u32, u32, u32, bool)] = &[
 ];
 
 // The greatest numbers.
-const FULL: [u32; 5] = [4_294_967_295, 1_024, 256, 4_096, 4_294_967_295];
+const FULL: [u64; 5] = [4_294_967_295, 1_024, 256, 4_096, 4_294_967_295];
 
-fn numbers(limits: Limits) -> [u32; 5] {
+// The numbers of limits that last.
+const LASTING: [u64; 5] = [9_007_199_254_740_991, 1_024, 256, 4_096, 4_294_967_295];
+
+fn numbers(limits: Limits) -> [u64; 5] {
     [
         limits.events(),
-        limits.nodes(),
-        limits.collections(),
-        limits.trackers(),
-        limits.handles(),
+        u64::from(limits.nodes()),
+        u64::from(limits.collections()),
+        u64::from(limits.trackers()),
+        u64::from(limits.handles()),
     ]
 }
 
@@ -77,7 +80,7 @@ fn are_limits() -> bool {
 
 #[test]
 fn limits_are_made_up_to_the_full_ones(rt: HostRuntime) {
-    assert!(rt; numbers(Limits::full()) == FULL && are_limits());
+    assert!(rt; numbers(Limits::full()) == FULL && numbers(Limits::full().lasting()) == LASTING && are_limits());
 }
 
 // All refusals, with their numbers and names.

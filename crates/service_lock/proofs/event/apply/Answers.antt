@@ -112,9 +112,6 @@ invariant_of-state c = search rules
 pub invariant_of-units : goal.invariant_of-units
 invariant_of-units c = search rules
 
-pub overflow_cast-events : goal.overflow_cast-events
-overflow_cast-events c = search rules
-
 pub returns-clause-counts : goal.returns-clause-counts
 returns-clause-counts c = search rules
 
