@@ -105,9 +105,10 @@ impl Nodes {
 
     // The number of the node with this key.
     fn number_of(&self, key: NodeKey) -> Option<u64> {
-        match self.table.get(key) {
-            Some(item) => Some(item.number),
-            None => None,
+        if self.table.contains(key) {
+            Some(self.table.kept(key).number)
+        } else {
+            None
         }
     }
 
@@ -213,9 +214,7 @@ impl Nodes {
     // Writes into a node.
     fn write(&mut self, number: u64, content: u64) {
         if let Some(key) = self.there(number) {
-            if let Some(item) = self.table.get_mut(key) {
-                item.content = content;
-            }
+            self.table.kept_mut(key).content = content;
         }
     }
 
@@ -235,15 +234,26 @@ impl Nodes {
         }
     }
 
+    // The sibling of this key that was born next.
+    fn next_to(&self, key: NodeKey) -> Option<NodeKey> {
+        if self.table.parent(key).is_some() {
+            self.table.kept_next_sibling(key)
+        } else {
+            self.table.next_sibling(key)
+        }
+    }
+
     // Puts behind what is there which nodes are next to the one with this key: its parent, first child and next sibling.
-    fn push_others(&self, key: NodeKey, text: &mut Text) {
-        push_other(text, ", below ", self.other(self.table.parent(key)));
+    fn push_others(&self, key: NodeKey, text: &mut Text)
+        requires { IsSome (row_at self.now.table key) }
+    {
+        push_other(text, ", below ", self.other(self.table.kept_parent(key)));
         push_other(
             text,
             ", first child ",
-            self.other(self.table.first_child(key)),
+            self.other(self.table.kept_first_child(key)),
         );
-        push_other(text, ", next ", self.other(self.table.next_sibling(key)));
+        push_other(text, ", next ", self.other(self.next_to(key)));
     }
 
     // Puts behind what is there what a node has: its content, and the nodes that are next to it.
