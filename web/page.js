@@ -175,6 +175,22 @@ function with_core(act) {
   }
 }
 
+// A sentence with a link to each line that it names.
+function linked(words) {
+  const p = document.createElement('p');
+  for (const part of words.split(/(\bline \d+\b)/)) {
+    const line = /^line (\d+)$/.exec(part)?.[1];
+    if (line === undefined || line > steps.length) {
+      p.append(part);
+      continue;
+    }
+    const a = Object.assign(document.createElement('a'), { href: `#line=${line}`, textContent: part });
+    a.addEventListener('click', (e) => { e.preventDefault(); show(line - 1); });
+    p.append(a);
+  }
+  return p;
+}
+
 function sentences(k) {
   const step = steps[k];
   if (step.bad) return [`Line ${k + 1}: ${step.text}`, `The run stops here: ${step.bad}.`];
@@ -195,7 +211,8 @@ function show(k) {
   $('slide').setAttribute('aria-valuetext', `line ${at + 1}: ${step.text}`);
   lines[at].setAttribute('aria-current', 'step');
   $('lines').scrollTop = lines[at].offsetTop - $('lines').offsetTop - 160;
-  $('said').replaceChildren(...sentences(at).map((w) => Object.assign(document.createElement('p'), { textContent: w })));
+  const [title, ...facts] = sentences(at);
+  $('said').replaceChildren(Object.assign(document.createElement('p'), { textContent: title }), ...facts.map(linked));
   with_core(() => {
     if (pictured !== step.event) tables(picture(step.event));
     pictured = step.event;
@@ -232,7 +249,7 @@ function listed(step, i) {
   say.append(step.text);
   const answer = step.reply ?? step.bad;
   if (answer !== undefined) say.append(Object.assign(document.createElement('b'), { textContent: answer }));
-  li.className = step.bad ? 'bad' : step.passed || isRemark(step.text) ? 'remark' : '';
+  li.className = step.bad ? 'bad' : fails(step) ? 'fails' : step.passed || isRemark(step.text) ? 'remark' : '';
   return li;
 }
 
@@ -240,6 +257,29 @@ const last = () => steps.length - 1;
 const fails = (step) => step.facts?.some((fact) => / fails, /.test(fact));
 // The first line at which something failed, or the last one.
 const first_failure = () => (steps.some(fails) ? steps.findIndex(fails) : last());
+// The next line at which something failed; after the last such line the first again.
+function next_failure() {
+  const next = steps.findIndex((step, i) => i > at && fails(step));
+  return next >= 0 ? next : first_failure();
+}
+
+// Saves the picture that is shown: an SVG image, or text where the trees are too large for one.
+function save() {
+  const svg = $('tree').querySelector('svg');
+  const [text, type, ending] = svg
+    ? [new XMLSerializer().serializeToString(svg), 'image/svg+xml', 'svg'] : [$('rows').textContent, 'text/plain', 'txt'];
+  const a = document.createElement('a');
+  a.href = URL.createObjectURL(new Blob([text], { type }));
+  a.download = `${$('pick').value || 'script'}.${steps[at]?.event ?? 0}.${ending}`;
+  a.click();
+  URL.revokeObjectURL(a.href);
+}
+
+// Plays a script from a file.
+async function open_file(file) {
+  $('script').value = await file.text();
+  run(first_failure);
+}
 
 // Plays the script, and shows this line of it.
 function run(line = last) {
@@ -265,6 +305,10 @@ function begin_controls() {
   $('slide').addEventListener('input', () => show(Number($('slide').value)));
   $('back').addEventListener('click', () => show(at - 1));
   $('on').addEventListener('click', () => show(at + 1));
+  $('failure').addEventListener('click', () => show(next_failure()));
+  $('save').addEventListener('click', save);
+  $('open').addEventListener('click', () => $('file').click());
+  $('file').addEventListener('change', () => { if ($('file').files.length) open_file($('file').files[0]); });
   $('lines').addEventListener('click', (e) => {
     const li = e.target.closest('li');
     if (li) show([...$('lines').children].indexOf(li));

@@ -80,13 +80,36 @@ async function keyboard({ value, key }) {
   await value("$('run').focus(); $('run').click()");
   assert.equal(await value('document.activeElement.id'), 'run');
   await value("$('pick').focus()");
-  for (const name of ['pages', 'run', 'script', 'lines', 'back', 'slide', 'on', 'tree', 'SUMMARY']) {
+  for (const name of ['pages', 'run', 'open', 'script', 'SUMMARY', 'lines', 'back', 'slide', 'on', 'failure', 'save', 'tree', 'SUMMARY']) {
     await key('Tab');
     const [reached, outline] = await value(`(() => { const e = document.activeElement, style = getComputedStyle(e); return [e.id || e.nodeName, style.outlineStyle + ' ' + style.outlineWidth]; })()`);
     assert.equal(reached, name);
     // Firefox without a window gives its page no focus to see.
     if (kind === 'chromium') assert.equal(outline, 'solid 3px', `${name}: the focus is not seen`);
   }
+}
+
+// Failures are marked and stepped through, a line that a fact names is a link, a file is opened, the picture is saved.
+async function controls({ value, open }) {
+  await open(page, '#example=camera&line=1');
+  const failing = await value("[...$('lines').children].flatMap((li, i) => (li.className === 'fails' ? [i + 1] : []))");
+  assert.deepEqual(failing, await value('steps.flatMap((s, i) => (s.facts?.some((f) => / fails, /.test(f)) ? [i + 1] : []))'));
+  for (const line of [...failing, failing[0]]) {
+    await value("$('failure').click()");
+    assert.equal(await value("Number($('at').textContent)"), line);
+  }
+  await value("show(steps.findIndex((s) => s.facts?.some((f) => f.startsWith('  since') || f.startsWith('since'))))");
+  assert.equal(await value("$('said').querySelector('a').textContent"), 'line 36');
+  await value("$('said').querySelector('a').click()");
+  assert.equal(await value("$('at').textContent"), '36');
+  const saved = await value(`(() => { let got; const click = HTMLAnchorElement.prototype.click;
+    HTMLAnchorElement.prototype.click = function () { got = [this.download, this.href.slice(0, 5)]; };
+    $('save').click(); HTMLAnchorElement.prototype.click = click; return got; })()`);
+  assert.deepEqual(saved, ['camera.28.svg', 'blob:']);
+  await value("open_file(new File(['a join\\na open r\\na close r\\n'], 'own.script')).then(() => { document.title = 'opened'; })");
+  while (await value('document.title') !== 'opened');
+  assert.deepEqual(await value("[$('script').value, $('at').textContent]"), ['a join\na open r\na close r\n', '3']);
+  await open(page);
 }
 
 // What went wrong is named, and what was before it stands.
@@ -165,7 +188,7 @@ async function names_and_contrasts({ say, value }) {
   const { nodes } = await say('Accessibility.getFullAXTree');
   const roles = new Set(['button', 'slider', 'textbox', 'combobox', 'spinbutton', 'image', 'list', 'table']);
   for (const n of nodes.filter((m) => roles.has(m.role?.value) && !m.ignored)) assert.ok(n.name?.value, `${n.role.value} has no name`);
-  assert.deepEqual(await value("[...document.querySelectorAll('[role=group]')].map((e) => !!e.getAttribute('aria-label'))"), [true, true]);
+  assert.deepEqual(await value("[...document.querySelectorAll('[role=group]')].map((e) => !!e.getAttribute('aria-label'))"), [true, true, true]);
   const contrasts = `(() => {
     const light = (c) => { const v = c.match(/\\d+/g).slice(0, 3).map((x) => { const s = x / 255; return s <= 0.03928 ? s / 12.92 : ((s + 0.055) / 1.055) ** 2.4; }); return 0.2126 * v[0] + 0.7152 * v[1] + 0.0722 * v[2]; };
     const behind = (e) => { for (; e; e = e.parentElement) { const c = getComputedStyle(e).backgroundColor; if (!/rgba\\(.*, 0\\)/.test(c) && c !== 'transparent') return c; } return 'rgb(255, 255, 255)'; };
@@ -200,8 +223,8 @@ async function screenshots({ say, value }) {
   }
 }
 
-const tests = { chromium: [example_texts, display_failure, keyboard, links, sizes, names_and_contrasts, faults_told],
-  firefox: [example_texts, display_failure, keyboard, links, sizes, faults_told] }[kind];
+const tests = { chromium: [example_texts, display_failure, keyboard, links, controls, sizes, names_and_contrasts, faults_told],
+  firefox: [example_texts, display_failure, keyboard, links, controls, sizes, faults_told] }[kind];
 const begun = performance.now();
 const browser = await start();
 try {
