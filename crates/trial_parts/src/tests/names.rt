@@ -80,7 +80,11 @@ fn are_limits() -> bool {
 
 #[test]
 fn limits_are_made_up_to_the_full_ones(rt: HostRuntime) {
-    assert!(rt; numbers(Limits::full()) == FULL && numbers(Limits::full().lasting()) == LASTING && are_limits());
+    assert!(rt;
+        numbers(Limits::full()) == FULL
+            && numbers(Limits::full().lasting()) == LASTING
+            && are_limits()
+    );
 }
 
 // All refusals, with their numbers and names.
