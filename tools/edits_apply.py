@@ -14,7 +14,7 @@ import sys
 
 CRATES = pathlib.Path(__file__).resolve().parent.parent / "crates"
 FOLDERS = ("must-fail", "more-edits")
-MOST = 6
+MOST = 8
 
 
 class DoesNotApply(Exception):
