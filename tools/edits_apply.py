@@ -5,7 +5,7 @@
   tools/edits_apply.py --make FOLDER EDIT.edit         makes the edit in this copy of its crate
 
 An edit applies where each of its `old:` texts stands exactly once in its file, after the pairs before it, and the
-edit changes something. With no NAME it is also a fault where the gate tries more than six edits of a crate. It reads
+edit changes something. With no NAME it is also a fault where the gate tries more than eight edits of a crate. It reads
 files alone, and takes less than a second. The last line counts; the status is 1 if there is a fault.
 """
 import pathlib

@@ -1,4 +1,4 @@
--- How many holes are looked at while buffers are placed.
+-- At how many holes a first fit over a plain list of holes looks while buffers are placed.
 use Rattle.std.specs.Prelude.{ℕ, ◌+◌, nat_le, List, [], ◌∷◌, count_by}
 use Rattle.sm_names.specs.declared.keys.Interval.{Interval}
 use Rattle.buffer_pool.specs.Holes.{holes_of}

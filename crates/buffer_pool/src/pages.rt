@@ -192,9 +192,10 @@ fn reserve(
     Vec::with_capacity(held.allocator(), count as usize)
 }
 
-// Places buffers that all have room, and counts the looks. As the buffers are of one size, a hole
-// that was too small for one is too small for those after it, so the search continues where it was, and
-// those that have room in one hole lie side by side there.
+// Places buffers that all have room, and computes at how many holes a first fit over a plain list looks
+// for them: it looks at no more itself. As the buffers are of one size, a hole that was too small for
+// one is too small for those after it, so the search continues where it was, and those that have room in
+// one hole lie side by side there.
 fn fill(
     holes: &mut Holes,
     held: &mut Blocks,

@@ -4,7 +4,8 @@
 pub struct Placed {
     /// The first page of each buffer, in the order in which they were placed.
     pub starts: Vec<u32>,
-    /// How many holes were looked at: for each buffer those that begin at or before its start.
+    /// At how many holes a first fit over a plain list looks for these buffers: for each buffer, at
+    /// those that begin at or before its start. Each of the two walks of `place` looks at no more.
     pub looks: u64,
 }
 
