@@ -1,5 +1,6 @@
 -- What a visit of one row and its firing leave.
 use Rattle.std.proofs.Common.{◌≡◌, ◌≢◌, ℕ, ◌<◌, Bool, true, false, if◌then◌else◌, List, [], ◌∷◌, ◌++◌, length, get_or, set, option_to_list, Option, Some, None, IsSomeAnd, refl, sym, ap, subst, ◌∙◌, arith, append-nil}
+use Rattle.std.specs.Bool.{OnTrue}
 use Rattle.std.proofs.lemmas.List.{length_push, get_or_push, get_or_append_left, set-get_or}
 use Rattle.sm_names.specs.declared.tracking.Fired.{Fired}
 use Rattle.sm_names.specs.Trackers.{World}
@@ -8,22 +9,23 @@ use Rattle.trackers.specs.declared.place.Stage.{Stage}
 use Rattle.trackers.specs.declared.place.Stage.TheVariants.{InSlot, Untaken, Taken}
 use Rattle.trackers.specs.Row.{TrackerRow, RowState, Waits, Over, WaitingRow, is_waiting}
 use Rattle.trackers.specs.Held.{is_met, row_after, fires}
-use Rattle.trackers.specs.Places.{Slots, slot_at, firing_or_none, row_in, row_over, row_as, row_at, rows_of, IsKept, IsKeptAt, IsHere, RowsInvariant}
+use Rattle.trackers.specs.Places.{Slots, slot_at, firing_or_none, row_in, row_over, row_as, row_at, rows_of, IsKept, IsKeptAt, IsHere, IsFiredAt, RowsInvariant}
 use Rattle.trackers.proofs.SlotLemmas.{rows_long, row_there, kept_there, in_slot, at_place}
 use Rattle.trackers.proofs.Walks.{row_of}
 
 -- ---- the place after the firing
 
-module _ (slots : Slots) (fired : List Fired) (number name : ℕ) (stage : Stage) where
+module _ (slots : Slots) (fired : List Fired) (number name : ℕ) (known : Option Fired) (stage : Stage) (was_set : Bool) where
   -- its row is one that fired, of which the reader is here or was taken
-  over_as : (b : Bool) → stage ≡ (if b then Untaken else Taken) → row_as slots fired number name stage ≡ row_over name b (firing_or_none fired number)
+  over_as : (b : Bool) → stage ≡ (if b then Untaken else Taken was_set) → row_as slots fired number name stage ≡ row_over name b (firing_or_none fired number)
   over_as true is = ap (row_as slots fired number name) is
   over_as false is = ap (row_as slots fired number name) is
 
   -- and its firing is there
-  over_kept : (b : Bool) → stage ≡ (if b then Untaken else Taken) → number < length fired → IsKept slots (length fired) number name stage
-  over_kept true is less = subst (IsKept slots (length fired) number name) (sym is) less
-  over_kept false is less = subst (IsKept slots (length fired) number name) (sym is) less
+  over_kept : (b : Bool) → stage ≡ (if b then Untaken else Taken was_set) → number < length fired →
+      OnTrue was_set (known ≡ Some (firing_or_none fired number)) → IsKept slots fired number name known stage
+  over_kept true is less told = subst (IsKept slots fired number name known) (sym is) less
+  over_kept false is less told = subst (IsKept slots fired number name known) (sym is) (less, told)
 
 -- the row of a place in a slot
 in_slot_row : (slots : Slots) (fired : List Fired) (number name : ℕ) (stage : Stage) (o : Option WaitingRow) → stage ≡ InSlot →
@@ -31,34 +33,34 @@ in_slot_row : (slots : Slots) (fired : List Fired) (number name : ℕ) (stage : 
 in_slot_row slots fired number name stage o stage_is is = ap (row_as slots fired number name) stage_is ∙ ap row_in is
 
 -- the row of a tracker that fired is that of the one that waited, at its event
-fired_in : (slots' : Slots) (fired : List Fired) (number' name name' event : ℕ) (stage' : Stage) (firing : Fired) (o : Option WaitingRow) →
+fired_in : (slots' : Slots) (fired : List Fired) (number' name name' event : ℕ) (known' : Option Fired) (stage' : Stage) (was_set : Bool)
+    (firing : Fired) (o : Option WaitingRow) →
     IsSomeAnd o (λ (row : WaitingRow). row.cell ≡ name) → number' ≡ length fired → name' ≡ name →
-    stage' ≡ (if (row_in o).has_reader then Untaken else Taken) → firing ≡ record { tracker = (row_in o).id; event = event } →
+    stage' ≡ (if (row_in o).has_reader then Untaken else Taken was_set) → OnTrue was_set (known' ≡ Some firing) → firing ≡ record { tracker = (row_in o).id; event = event } →
     (row_as slots' (fired ++ firing ∷ []) number' name' stage' ≡ record (row_in o) { state = Over event })
-    × IsKept slots' (length (fired ++ firing ∷ [])) number' name' stage'
-fired_in slots' fired number' name name' event stage' firing None here number_is name_is stage_is firing_is = absurd here
-fired_in slots' fired number' name name' event stage' firing (Some w) here number_is name_is stage_is firing_is =
+    × IsKept slots' (fired ++ firing ∷ []) number' name' known' stage'
+fired_in slots' fired number' name name' event known' stage' was_set firing None here number_is name_is stage_is told firing_is = absurd here
+fired_in slots' fired number' name name' event known' stage' was_set firing (Some w) here number_is name_is stage_is told firing_is =
     let last : firing_or_none (fired ++ firing ∷ []) number' ≡ firing =
     get_or_push fired firing (record { tracker = 0; event = 0 }) number' (sym number_is) in (
-      over_as slots' (fired ++ firing ∷ []) number' name' stage' w.has_reader stage_is
+      over_as slots' (fired ++ firing ∷ []) number' name' known' stage' was_set w.has_reader stage_is
           ∙ ap (row_over name' w.has_reader) (last ∙ firing_is)
           ∙ ap (λ n. row_over n w.has_reader (record { tracker = w.tracker.id; event = event })) (name_is ∙ sym here),
-      over_kept slots' (fired ++ firing ∷ []) number' name' stage' w.has_reader stage_is (omega (arith, number_is, length_push fired firing)),
+      over_kept slots' (fired ++ firing ∷ []) number' name' known' stage' was_set w.has_reader stage_is
+          (omega (arith, number_is, length_push fired firing))
+          (subst (λ (f : Fired). OnTrue was_set (known' ≡ Some f)) (sym last) told),
     )
 
 -- so it is of places
 pub fired_row : (slots slots' : Slots) (fired : List Fired) (place place' : Place) (event : ℕ) (firing : Fired) → IsHere slots place →
-    place.stage ≡ InSlot → place'.number ≡ length fired → place'.note ≡ place.note →
-    place'.stage ≡ (if (row_in (slot_at slots place.number)).has_reader then Untaken else Taken) →
+    place.stage ≡ InSlot → place'.number ≡ length fired → place'.note.cell ≡ place.note.cell →
+    IsFiredAt (row_in (slot_at slots place.number)).has_reader firing place' →
     firing ≡ record { tracker = (row_in (slot_at slots place.number)).id; event = event } →
     (row_at slots' (fired ++ firing ∷ []) place' ≡ record (row_at slots fired place) { state = Over event })
-    × IsKeptAt slots' (length (fired ++ firing ∷ [])) place'
-fired_row slots slots' fired place place' event firing here in_slot number_is note_is stage_is firing_is =
-    let both = fired_in slots' fired place'.number place.note.cell place'.note.cell event place'.stage firing (slot_at slots place.number) here
-    number_is
-    (ap (λ n. n.cell) note_is)
-    stage_is
-    firing_is in (
+    × IsKeptAt slots' (fired ++ firing ∷ []) place'
+fired_row slots slots' fired place place' event firing here in_slot number_is cell_is told firing_is =
+    let both = fired_in slots' fired place'.number place.note.cell place'.note.cell event place'.note.known place'.stage told.was_set firing
+    (slot_at slots place.number) here number_is cell_is told.stage_is told.told firing_is in (
       both.0 ∙ ap (λ (row : TrackerRow). record row { state = Over event })
           (sym (in_slot_row slots fired place.number place.note.cell place.stage (slot_at slots place.number) in_slot refl)),
       both.1,
@@ -68,11 +70,22 @@ fired_row slots slots' fired place place' event firing here in_slot number_is no
 waits_in : (slots : Slots) (fired : List Fired) (number name : ℕ) (stage : Stage) → is_waiting (row_as slots fired number name stage) ≡ true → stage ≡ InSlot
 waits_in slots fired number name InSlot waits = refl
 waits_in slots fired number name Untaken waits = absurd (cc)
-waits_in slots fired number name Taken waits = absurd (cc)
+waits_in slots fired number name (Taken was_set) waits = absurd (cc)
 
 -- a place that names a firing has a row that is over, so one whose row waits names a slot
 pub in_slot_of_waiting : (slots : Slots) (fired : List Fired) (place : Place) → is_waiting (row_at slots fired place) ≡ true → place.stage ≡ InSlot
 in_slot_of_waiting slots fired place waits = waits_in slots fired place.number place.note.cell place.stage waits
+
+-- the row of a place has the cell that this names
+cell_as : (slots : Slots) (fired : List Fired) (number name : ℕ) (known : Option Fired) (stage : Stage) →
+    IsKept slots fired number name known stage → (row_as slots fired number name stage).cell ≡ name
+cell_as slots fired number name known InSlot kept = cell_in (slot_at slots number) kept
+  where
+    cell_in : (o : Option WaitingRow) → IsSomeAnd o (λ (row : WaitingRow). row.cell ≡ name) → (row_in o).cell ≡ name
+    cell_in (Some row) kept = kept
+    cell_in None kept = absurd kept
+cell_as slots fired number name known Untaken kept = refl
+cell_as slots fired number name known (Taken was_set) kept = refl
 
 -- ---- the rows
 
@@ -86,6 +99,10 @@ module _ (slots : Slots) (fired : List Fired) (places : List Place) (at : ℕ) (
   pub row_here : (d : TrackerRow) → get_or (rows_of slots fired places) at d ≡ row_at slots fired place
   row_here = row_there slots fired places at place is inside
 
+  -- the place names its cell
+  pub cell_here : (row_at slots fired place).cell ≡ place.note.cell
+  cell_here = cell_as slots fired place.number place.note.cell place.note.known place.stage (kept_there slots fired places at place is inside sound.kept)
+
   module _ (waits : (d : TrackerRow) → is_waiting (get_or (rows_of slots fired places) at d) ≡ true) where
     -- where the row waits, the place names a slot
     pub names_slot : place.stage ≡ InSlot
@@ -93,18 +110,18 @@ module _ (slots : Slots) (fired : List Fired) (places : List Place) (at : ℕ) (
 
     -- with the row in it
     pub slot_here : IsHere slots place
-    slot_here = in_slot slots (length fired) place.number place.note.cell place.stage (kept_there slots fired places at place is inside sound.kept) names_slot
+    slot_here = in_slot slots fired place.number place.note.cell place.note.known place.stage (kept_there slots fired places at place is inside sound.kept) names_slot
 
     -- and after the firing that row alone is another
-    pub fired_all : (slots' : Slots) (place' : Place) (event : ℕ) (firing : Fired) → place'.number ≡ length fired → place'.note ≡ place.note →
-        place'.stage ≡ (if (row_in (slot_at slots place.number)).has_reader then Untaken else Taken) →
+    pub fired_all : (slots' : Slots) (place' : Place) (event : ℕ) (firing : Fired) → place'.number ≡ length fired → place'.note.cell ≡ place.note.cell →
+        IsFiredAt (row_in (slot_at slots place.number)).has_reader firing place' →
         firing ≡ record { tracker = (row_in (slot_at slots place.number)).id; event = event } →
         ((n : ℕ) → n ≢ place.number → slot_at slots' n ≡ slot_at slots n) →
         (rows_of slots' (fired ++ firing ∷ []) (set places at place')
         ≡ set (rows_of slots fired places) at (record (row_at slots fired place) { state = Over event }))
         × RowsInvariant slots' (fired ++ firing ∷ []) (set places at place')
-    fired_all slots' place' event firing number_is note_is stage_is firing_is others =
-        let both = fired_row slots slots' fired place place' event firing slot_here names_slot number_is note_is stage_is firing_is in
+    fired_all slots' place' event firing number_is cell_is told firing_is others =
+        let both = fired_row slots slots' fired place place' event firing slot_here names_slot number_is cell_is told firing_is in
         let all = at_place slots slots' fired (fired ++ firing ∷ []) (omega (arith, length_push fired firing))
         (λ n less. get_or_append_left fired (firing ∷ []) (record { tracker = 0; event = 0 }) n less) place
         (λ n clear. others n (clear names_slot)) places sound at is inside place' both.1 (ap (λ (r : TrackerRow). r.id) both.0) in

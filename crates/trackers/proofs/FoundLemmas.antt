@@ -1,7 +1,7 @@
 -- Rows by their ids: where one stands, what is found there, and what its change leaves.
 use Rattle.std.proofs.Common.{◌≡◌, ◌≢◌, ◌↔◌, ℕ, zero, suc, ◌+◌, ◌<◌, Bool, true, false, ◌==◌, List, [], ◌∷◌, map, length, get_or, set, Option, Some, None, IfSome, count_by, cond, if◌then◌else◌, refl, sym, ap, ◌∙◌, arith}
 use Rattle.std.specs.List.{filter_map, cons_option, AllByRecursion}
-use Rattle.std.specs.Prelude.{unwrap_or}
+use Rattle.std.specs.Bool.{OnTrue}
 use Rattle.std.proofs.lemmas.List.Elements.{All-from_recursion}
 use Rattle.std.proofs.lemmas.List.Sums.{sum_by-cons}
 use Rattle.std.proofs.lemmas.Bool.Decides.{nat_tests}
@@ -238,21 +238,9 @@ module _ (id : ℕ) where
 
 -- ---- a reader and the firing
 
--- what the row says of its firing is what the firings say of its id
-pub agreed : (id : ℕ) {rows : List TrackerRow} {at : ℕ} {row : TrackerRow} (fired : List Fired) → Found id rows at row →
-    AllByRecursion (λ (r : TrackerRow). firing_of fired r.id ≡ firing_of_row r) rows → (result : Option Fired) →
-    ((d : TrackerRow) → result ≡ firing_of_row (get_or rows at d)) → firing_of fired id ≡ result
-agreed id {row = row} fired found told result says =
-    found_told id fired found told ∙ ap firing_of_row (sym (found_row id found row)) ∙ sym (says row)
-
--- no reader knows a firing of what has none, where the answer is false
-pub same_none : (known firing : Option Fired) → firing ≡ None → IfSome known (λ f. (false ≡ true) ↔ (firing ≡ Some f))
-same_none None firing none = tt
-same_none (Some f) firing none = ((λ e. absurd (cc)), (λ e. absurd (cc)))
-
--- a reader knows the firing exactly if that is the one that there was
-pub same_some : (answer : Bool) (known firing : Option Fired) (fired : Fired) → firing ≡ Some fired →
-    IfSome known (λ f. (answer ≡ true) ↔ (fired ≡ f)) → IfSome known (λ f. (answer ≡ true) ↔ (firing ≡ Some f))
-same_some answer None firing fired is same = tt
-same_some answer (Some f) firing fired is same =
-    ((λ yes. is ∙ ap Some (same.0 yes)), (λ e. same.1 (ap (λ (o : Option Fired). unwrap_or o fired) (sym is ∙ e))))
+-- where the answer is that a reader knows the firing, it does
+pub known_same : (answer : Bool) (known firing : Option Fired) → IfSome known (λ f. (answer ≡ true) ↔ (firing ≡ Some f)) →
+    OnTrue answer (IfSome known (λ f. firing ≡ Some f))
+known_same true None firing same = tt
+known_same true (Some f) firing same = same.0 refl
+known_same false known firing same = tt

@@ -1,5 +1,6 @@
 -- What a change of one place, its slot and the firings leaves of the rows.
-use Rattle.std.proofs.Common.{◌≡◌, ◌≢◌, ℕ, zero, suc, ◌<◌, ◌≤◌, true, false, List, [], ◌∷◌, ◌++◌, map, length, get_or, set, option_to_list, Option, Some, None, IsSomeAnd, refl, sym, ap, subst, ◌∙◌, arith}
+use Rattle.std.proofs.Common.{◌≡◌, ◌≢◌, ℕ, zero, suc, ◌<◌, ◌≤◌, Bool, true, false, List, [], ◌∷◌, ◌++◌, map, length, get_or, set, option_to_list, Option, Some, None, IsSomeAnd, refl, sym, ap, subst, ◌∙◌, arith}
+use Rattle.std.specs.Bool.{OnTrue}
 use Rattle.std.specs.List.{AllByRecursion}
 use Rattle.std.proofs.lemmas.List.{map_push, length-map, get_or_default, same_from_push}
 use Rattle.std.proofs.lemmas.List.Elements.{All-from_recursion}
@@ -39,8 +40,8 @@ module _ (slots : Slots) (fired : List Fired) (places : List Place) (at : ℕ) (
       ∙ ap (row_at slots fired) is
 
   -- what it names is there
-  pub kept_there : AllByRecursion (IsKeptAt slots (length fired)) places → IsKeptAt slots (length fired) place
-  kept_there kept = subst (IsKeptAt slots (length fired)) is (All-from_recursion (IsKeptAt slots (length fired)) places kept at place within)
+  pub kept_there : AllByRecursion (IsKeptAt slots fired) places → IsKeptAt slots fired place
+  kept_there kept = subst (IsKeptAt slots fired) is (All-from_recursion (IsKeptAt slots fired) places kept at place within)
 
   -- its row is found there
   pub found_there : IdsRise (rows_of slots fired places) → Found (row_at slots fired place).id (rows_of slots fired places) at (row_at slots fired place)
@@ -68,18 +69,19 @@ rows_long slots fired places = length-map places (row_at slots fired)
 
 -- ---- what a place names, by its stage
 
-module _ (slots : Slots) (count number name : ℕ) (stage : Stage) (kept : IsKept slots count number name stage) where
+module _ (slots : Slots) (fired : List Fired) (number name : ℕ) (known : Option Fired) (stage : Stage)
+    (kept : IsKept slots fired number name known stage) where
   -- in a slot there is a row
   pub in_slot : stage ≡ InSlot → IsSomeAnd (slot_at slots number) (λ (row : WaitingRow). row.cell ≡ name)
-  in_slot is = subst (IsKept slots count number name) is kept
+  in_slot is = subst (IsKept slots fired number name known) is kept
 
   -- after the firing there is that, whether the reader is here
-  pub in_fired : stage ≡ Untaken → number < count
-  in_fired is = subst (IsKept slots count number name) is kept
+  pub in_fired : stage ≡ Untaken → number < length fired
+  in_fired is = subst (IsKept slots fired number name known) is kept
 
   -- or was taken
-  pub in_taken : stage ≡ Taken → number < count
-  in_taken is = subst (IsKept slots count number name) is kept
+  pub in_taken : (was_set : Bool) → stage ≡ Taken was_set → number < length fired
+  in_taken was_set is = (subst (IsKept slots fired number name known) is kept).0
 
 -- ---- one slot changes
 
@@ -91,18 +93,21 @@ same_slot slots fired number name stage number' name' stage' one two same = rw (
 module _ (slots slots' : Slots) (fired fired' : List Fired) (longer : length fired ≤ length fired')
     (grown : (n : ℕ) → n < length fired → firing_or_none fired' n ≡ firing_or_none fired n) where
   -- what a place of this stage names is as it was, where its slot is
-  stays_as : (number name : ℕ) (stage : Stage) → IsKept slots (length fired) number name stage →
+  stays_as : (number name : ℕ) (known : Option Fired) (stage : Stage) → IsKept slots fired number name known stage →
       (stage ≡ InSlot → slot_at slots' number ≡ slot_at slots number) →
-      (row_as slots' fired' number name stage ≡ row_as slots fired number name stage) × IsKept slots' (length fired') number name stage
-  stays_as number name InSlot kept same =
+      (row_as slots' fired' number name stage ≡ row_as slots fired number name stage) × IsKept slots' fired' number name known stage
+  stays_as number name known InSlot kept same =
       (ap row_in (same refl), subst (λ (o : Option WaitingRow). IsSomeAnd o (λ (row : WaitingRow). row.cell ≡ name)) (sym (same refl)) kept)
-  stays_as number name Untaken kept same = (ap (row_over name true) (grown number kept), omega (arith, kept, longer))
-  stays_as number name Taken kept same = (ap (row_over name false) (grown number kept), omega (arith, kept, longer))
+  stays_as number name known Untaken kept same = (ap (row_over name true) (grown number kept), omega (arith, kept, longer))
+  stays_as number name known (Taken was_set) kept same = (
+    ap (row_over name false) (grown number kept.0),
+    (omega (arith, kept.0, longer), subst (λ (f : Fired). OnTrue was_set (known ≡ Some f)) (sym (grown number kept.0)) kept.1),
+  )
 
   -- so is the row of a place
-  pub stays : (q : Place) → IsKeptAt slots (length fired) q → (q.stage ≡ InSlot → slot_at slots' q.number ≡ slot_at slots q.number) →
-      (row_at slots' fired' q ≡ row_at slots fired q) × IsKeptAt slots' (length fired') q
-  stays q kept same = stays_as q.number q.note.cell q.stage kept same
+  pub stays : (q : Place) → IsKeptAt slots fired q → (q.stage ≡ InSlot → slot_at slots' q.number ≡ slot_at slots q.number) →
+      (row_at slots' fired' q ≡ row_at slots fired q) × IsKeptAt slots' fired' q
+  stays q kept same = stays_as q.number q.note.cell q.note.known q.stage kept same
 
   module _ (place : Place) (leaves : Leaves slots slots' place) where
     -- a place of another id has another slot
@@ -112,8 +117,8 @@ module _ (slots slots' : Slots) (fired fired' : List Fired) (longer : length fir
 
     -- places of other ids stay
     pub others : (qs : List Place) → NoneHas (row_at slots fired place).id (rows_of slots fired qs) →
-        AllByRecursion (IsKeptAt slots (length fired)) qs →
-        (rows_of slots' fired' qs ≡ rows_of slots fired qs) × AllByRecursion (IsKeptAt slots' (length fired')) qs
+        AllByRecursion (IsKeptAt slots fired) qs →
+        (rows_of slots' fired' qs ≡ rows_of slots fired qs) × AllByRecursion (IsKeptAt slots' fired') qs
     others [] none kept = (refl, tt)
     others (q ∷ qs) none kept =
         let first = stays q kept.0 (apart q none.0) in
@@ -121,10 +126,10 @@ module _ (slots slots' : Slots) (fired fired' : List Fired) (longer : length fir
         ((λ i. first.0 i ∷ more.0 i), (first.1, more.1))
 
     -- and where the place itself is another, its row alone is another
-    changed : (qs : List Place) (at : ℕ) {row : TrackerRow} (place' : Place) → IsKeptAt slots' (length fired') place' →
-        Found (row_at slots fired place).id (rows_of slots fired qs) at row → AllByRecursion (IsKeptAt slots (length fired)) qs →
+    changed : (qs : List Place) (at : ℕ) {row : TrackerRow} (place' : Place) → IsKeptAt slots' fired' place' →
+        Found (row_at slots fired place).id (rows_of slots fired qs) at row → AllByRecursion (IsKeptAt slots fired) qs →
         (rows_of slots' fired' (set qs at place') ≡ set (rows_of slots fired qs) at (row_at slots' fired' place'))
-        × AllByRecursion (IsKeptAt slots' (length fired')) (set qs at place')
+        × AllByRecursion (IsKeptAt slots' fired') (set qs at place')
     changed [] at place' now found kept = elim found [ ]
     changed (q ∷ qs) zero place' now (here same none) kept =
         let more = others qs none kept.1 in
@@ -136,7 +141,7 @@ module _ (slots slots' : Slots) (fired fired' : List Fired) (longer : length fir
 
     -- the rows stay sound
     pub at_place : (places : List Place) → RowsInvariant slots fired places → (at : ℕ) → get_or places at place ≡ place → at < length places →
-        (place' : Place) → IsKeptAt slots' (length fired') place' → (row_at slots' fired' place').id ≡ (row_at slots fired place).id →
+        (place' : Place) → IsKeptAt slots' fired' place' → (row_at slots' fired' place').id ≡ (row_at slots fired place).id →
         (rows_of slots' fired' (set places at place') ≡ set (rows_of slots fired places) at (row_at slots' fired' place'))
         × RowsInvariant slots' fired' (set places at place')
     at_place places sound at is within place' now same =
@@ -161,7 +166,7 @@ rows_popped slots slots' fired init place sound leaves =
     let rising = subst IdsRise pushed sound.rising in
     let none = fresh (row_at slots fired place).id (rows_of slots fired init) (below_last (rows_of slots fired init) (row_at slots fired place) rising) in
     let stay = others slots slots' fired fired (omega arith) (λ n l. refl) place leaves init none
-    (front_of (IsKeptAt slots (length fired)) init place sound.kept) in (
+    (front_of (IsKeptAt slots fired) init place sound.kept) in (
       pushed ∙ ap (λ l. l ++ row_at slots fired place ∷ []) (sym stay.0),
       record {
         kept = stay.1;
@@ -172,24 +177,24 @@ rows_popped slots slots' fired init place sound leaves =
 module _ (slots slots' : Slots) (fired : List Fired) (key : ℕ) (row : WaitingRow) (vacant : slot_at slots key ≡ None)
     (put : slot_at slots' key ≡ Some row) (rest : (n : ℕ) → n ≢ key → slot_at slots' n ≡ slot_at slots n) where
   -- no place names the empty slot
-  not_vacant : (number name : ℕ) (stage : Stage) → IsKept slots (length fired) number name stage → stage ≡ InSlot → number ≢ key
-  not_vacant number name InSlot kept stage same =
+  not_vacant : (number name : ℕ) (known : Option Fired) (stage : Stage) → IsKept slots fired number name known stage → stage ≡ InSlot → number ≢ key
+  not_vacant number name known InSlot kept stage same =
       subst (λ (o : Option WaitingRow). IsSomeAnd o (λ (row : WaitingRow). row.cell ≡ name)) (ap (slot_at slots) same ∙ vacant) kept
-  not_vacant number name Untaken kept stage same = absurd (cc)
-  not_vacant number name Taken kept stage same = absurd (cc)
+  not_vacant number name known Untaken kept stage same = absurd (cc)
+  not_vacant number name known (Taken was_set) kept stage same = absurd (cc)
 
   -- the new row is that of its place
-  new_row : (number name : ℕ) (stage : Stage) → number ≡ key → stage ≡ InSlot → name ≡ row.cell →
-      (row_as slots' fired number name stage ≡ row_of_waiting row) × IsKept slots' (length fired) number name stage
-  new_row number name stage number_is stage_is name_is = rw (number_is, stage_is, name_is, put) (refl, refl)
+  new_row : (number name : ℕ) (known : Option Fired) (stage : Stage) → number ≡ key → stage ≡ InSlot → name ≡ row.cell →
+      (row_as slots' fired number name stage ≡ row_of_waiting row) × IsKept slots' fired number name known stage
+  new_row number name known stage number_is stage_is name_is = rw (number_is, stage_is, name_is, put) (refl, refl)
 
   -- the rows before it stay
-  before_new : (places : List Place) → AllByRecursion (IsKeptAt slots (length fired)) places →
-      (rows_of slots' fired places ≡ rows_of slots fired places) × AllByRecursion (IsKeptAt slots' (length fired)) places
+  before_new : (places : List Place) → AllByRecursion (IsKeptAt slots fired) places →
+      (rows_of slots' fired places ≡ rows_of slots fired places) × AllByRecursion (IsKeptAt slots' fired) places
   before_new [] kept = (refl, tt)
   before_new (q ∷ qs) kept =
       let first = stays slots slots' fired fired (omega arith) (λ n l. refl) q kept.0 (λ stage.
-      rest q.number (not_vacant q.number q.note.cell q.stage kept.0 stage)) in
+      rest q.number (not_vacant q.number q.note.cell q.note.known q.stage kept.0 stage)) in
       let more = before_new qs kept.1 in
       ((λ i. first.0 i ∷ more.0 i), (first.1, more.1))
 
@@ -204,13 +209,13 @@ module _ (slots slots' : Slots) (fired : List Fired) (key : ℕ) (row : WaitingR
       (rows_of slots' fired (places ++ place ∷ []) ≡ rows_of slots fired places ++ row_of_waiting row ∷ [])
       × RowsInvariant slots' fired (places ++ place ∷ [])
   rows_pushed places place names sound below =
-      let new = new_row place.number place.note.cell place.stage names.number_is names.stage_is names.cell_is in
+      let new = new_row place.number place.note.cell place.note.known place.stage names.number_is names.stage_is names.cell_is in
       let stay = before_new places sound.kept in
       let pushed : rows_of slots' fired (places ++ place ∷ []) ≡ rows_of slots fired places ++ row_of_waiting row ∷ [] =
       map_push (row_at slots' fired) places place ∙ (λ i. stay.0 i ++ new.0 i ∷ []) in (
         pushed,
         record {
-          kept = all_push (IsKeptAt slots' (length fired)) places place stay.1 new.1;
+          kept = all_push (IsKeptAt slots' fired) places place stay.1 new.1;
           rising = subst IdsRise (sym pushed) (rising_push (row_of_waiting row) (rows_of slots fired places) below sound.rising);
         },
       )

@@ -1,5 +1,6 @@
 -- How places, slots and firings show the rows, and what is always true of them. No public clause cites this module.
-use Rattle.std.specs.Prelude.{◌≡◌, ◌≢◌, ℕ, ◌<◌, Bool, true, false, List, map, length, Option, None, unwrap_or, IsSomeAnd, slice_index_or}
+use Rattle.std.specs.Prelude.{◌≡◌, ◌≢◌, ℕ, ◌<◌, Bool, true, false, if◌then◌else◌, List, map, length, Option, Some, None, unwrap_or, IsSomeAnd, slice_index_or}
+use Rattle.std.specs.Bool.{OnTrue}
 use Rattle.std.specs.List.{AllByRecursion}
 use Rattle.sm_names.specs.declared.tracking.Condition.{Condition}
 use Rattle.sm_names.specs.declared.tracking.Fired.{Fired}
@@ -41,7 +42,7 @@ row_over name has_reader fired = record { id = fired.tracker; cell = name; state
 abbrev pub row_as : Slots → List Fired → ℕ → ℕ → Stage → TrackerRow
 row_as slots fired number name InSlot = row_in (slot_at slots number)
 row_as slots fired number name Untaken = row_over name true (firing_or_none fired number)
-row_as slots fired number name Taken = row_over name false (firing_or_none fired number)
+row_as slots fired number name (Taken was_set) = row_over name false (firing_or_none fired number)
 
 -- the row of a place
 abbrev pub row_at : Slots → List Fired → Place → TrackerRow
@@ -51,19 +52,21 @@ row_at slots fired place = row_as slots fired place.number place.note.cell place
 abbrev pub rows_of : Slots → List Fired → List Place → List TrackerRow
 rows_of slots fired places = map (row_at slots fired) places
 
--- the slot of this number has a row with the cell of this name, or there are more firings than the number
-abbrev pub IsKept : Slots → ℕ → ℕ → ℕ → Stage → Type 0
-IsKept slots count number name InSlot = IsSomeAnd (slot_at slots number) (λ (row : WaitingRow). row.cell ≡ name)
-IsKept slots count number name Untaken = number < count
-IsKept slots count number name Taken = number < count
+-- the slot of this number has a row with the cell of this name, or there are more firings than the number. Of a cell that
+-- the firing set, that firing is known
+abbrev pub IsKept : Slots → List Fired → ℕ → ℕ → Option Fired → Stage → Type 0
+IsKept slots fired number name known InSlot = IsSomeAnd (slot_at slots number) (λ (row : WaitingRow). row.cell ≡ name)
+IsKept slots fired number name known Untaken = number < length fired
+IsKept slots fired number name known (Taken was_set) =
+    (number < length fired) × OnTrue was_set (known ≡ Some (firing_or_none fired number))
 
--- what the place names is there, where there are this many firings
-abbrev pub IsKeptAt : Slots → ℕ → Place → Type 0
-IsKeptAt slots count place = IsKept slots count place.number place.note.cell place.stage
+-- what the place names is there
+abbrev pub IsKeptAt : Slots → List Fired → Place → Type 0
+IsKeptAt slots fired place = IsKept slots fired place.number place.note.cell place.note.known place.stage
 
 -- what holds of all rows: what each place names is there, and the ids rise
 pub record RowsInvariant (slots : Slots) (fired : List Fired) (places : List Place) : Type 0 where
-  pub kept : AllByRecursion (IsKeptAt slots (length fired)) places
+  pub kept : AllByRecursion (IsKeptAt slots fired) places
   pub rising : IdsRise (rows_of slots fired places)
 
 -- the slots but that of this place have what they had
@@ -73,6 +76,15 @@ Leaves old new place = (number : ℕ) → (place.stage ≡ InSlot → number ≢
 -- the slot of the place has a row with the cell that the place names
 abbrev pub IsHere : Slots → Place → Type 0
 IsHere slots place = IsSomeAnd (slot_at slots place.number) (λ (row : WaitingRow). row.cell ≡ place.note.cell)
+
+-- the place is one of a tracker that fired so, by whether its reader is still here. If not, what its cell holds is known: this
+-- firing, if that set the cell
+pub record IsFiredAt (has_reader : Bool) (firing : Fired) (place : Place) : Type 0 where
+  pub was_set : Bool
+  pub stage_is : place.stage ≡ (if has_reader then Untaken else Taken was_set)
+  pub told : OnTrue was_set (place.note.known ≡ Some firing)
+  pub held : Fired
+  pub known : has_reader ≡ false → place.note.known ≡ Some held
 
 -- the place names this slot, and this cell
 pub record Names (place : Place) (number name : ℕ) : Type 0 where

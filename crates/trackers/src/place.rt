@@ -1,10 +1,10 @@
 //! The places of trackers in the table.
-ghost use Rattle.std.specs.Prelude.{◌≡◌, ◌+◌, ◌^◌, ◌<◌, ◌≤◌, [], ◌∷◌, ◌++◌, length, vec_len, vec_capacity, Some, None, OnOk, false, if◌then◌else◌};
+ghost use Rattle.std.specs.Prelude.{◌≡◌, ◌↔◌, ◌+◌, ◌^◌, ◌<◌, ◌≤◌, [], ◌∷◌, ◌++◌, vec_len, vec_capacity, Some, None, OnOk, IfSome, true, false};
 ghost use Rattle.slab.specs.Slab.{get, HasRoomFor, Updates};
 ghost use Rattle.trackers.specs.declared.place.Place.{Place as PlaceValue};
-ghost use Rattle.trackers.specs.Row.{reader_of_row};
+ghost use Rattle.trackers.specs.Row.{firing_of_row, reader_of_row};
 ghost use Rattle.trackers.specs.Held.{IdsRise, IsSearchAnswer, is_met};
-ghost use Rattle.trackers.specs.Places.{firing_or_none, row_in, row_at, rows_of, IsKeptAt, IsHere, Leaves, Names};
+ghost use Rattle.trackers.specs.Places.{firing_or_none, row_in, row_at, rows_of, IsFiredAt, IsKeptAt, IsHere, Leaves, Names};
 
 use crate::row::Row;
 use crate::tracker::Tracker;
@@ -24,12 +24,12 @@ pub(crate) enum Stage {
     InSlot,
     /// It fired, and its reader is still here.
     Untaken,
-    /// It fired, and its reader was taken.
-    Taken,
+    /// It fired, and its reader was taken, before or after. Whether the firing set its cell.
+    Taken { was_set: bool },
 }
 
 /// What the table keeps of a tracker for good: the slot of its row, or the place of its firing. The
-/// note, which takes no bytes, names its cell for the proofs.
+/// note, which takes no bytes, tells the proofs the name of its cell, and the firing that set it.
 #[derive(Drop)]
 pub(crate) struct Place {
     pub(crate) number: u32,
@@ -47,7 +47,7 @@ pub(crate) fn id_at(place: &Place, slots: &Slab<Row>, fired: &[Fired]) -> Tracke
             Some(row) => row.id(),
             None => 0,
         },
-        Stage::Untaken | Stage::Taken => id_of(fired, number),
+        Stage::Untaken | Stage::Taken { .. } => id_of(fired, number),
     }
 }
 
@@ -69,12 +69,12 @@ pub(crate) fn is_due_at<W: World>(
     fired: &[Fired],
     world: &W,
 ) -> bool
-    requires { IsKeptAt slots.now.slots (length fired.now) place.now }
+    requires { IsKeptAt slots.now.slots fired.now place.now }
     ensures { result ≡ is_met (W.seen world.now) (row_at slots.now.slots fired.now place.now) }
 {
     match place.stage {
         Stage::InSlot => slots[place.number as usize].is_due(world),
-        Stage::Untaken | Stage::Taken => false,
+        Stage::Untaken | Stage::Taken { .. } => false,
     }
 }
 
@@ -133,44 +133,71 @@ pub(crate) fn leave(slots: &mut Slab<Row>, place: &Place)
     }
 }
 
-/// Takes the row out of its slot and fires it: from then on the place names the firing of this number.
+/// Takes the row out of its slot and fires it: from then on the place names the firing of this number,
+/// and its note knows what the cell was set to, if the reader was taken.
 pub(crate) fn fire_place(place: &mut Place, slots: &mut Slab<Row>, number: u32, event: u64) -> Fired
     requires { IsHere slots.old.slots place.old }
     ensures firing { result
         ≡ record { tracker = (row_in (get slots.old place.old.number)).id; event = event } }
     ensures number { place.new.number ≡ number }
-    ensures cell { place.new.note ≡ place.old.note }
-    ensures stage { place.new.stage ≡ (if (row_in (get slots.old place.old.number)).has_reader
-        then Stage.Untaken else Stage.Taken) }
+    ensures cell { place.new.note.cell ≡ place.old.note.cell }
+    ensures told { IsFiredAt (row_in (get slots.old place.old.number)).has_reader result place.new }
     ensures slots { Updates slots.old slots.new place.old.number None }
 {
     let row = slots.remove(place.number as usize);
+    let (firing, note, set) = row.fire(event);
     place.number = number;
-    place.stage = if row.has_reader() {
-        Stage::Untaken
-    } else {
-        Stage::Taken
+    place.note = note;
+    place.stage = match set {
+        Some(set) => Stage::Taken {
+            was_set: set.is_ok(),
+        },
+        None => Stage::Untaken,
     };
-    row.fire(event)
+    firing
 }
 
 /// The reader of the tracker, once.
 pub(crate) fn take_at(place: &mut Place, slots: &mut Slab<Row>, fired: &[Fired]) -> Option<Tracker>
-    requires { IsKeptAt slots.old.slots (length fired.now) place.old }
+    requires { IsKeptAt slots.old.slots fired.now place.old }
     ensures reader { result ≡ reader_of_row (row_at slots.old.slots fired.now place.old) }
     ensures taken { row_at slots.new.slots fired.now place.new
         ≡ record (row_at slots.old.slots fired.now place.old) { has_reader = false } }
-    ensures kept { IsKeptAt slots.new.slots (length fired.now) place.new }
+    ensures kept { IsKeptAt slots.new.slots fired.now place.new }
     ensures others { Leaves slots.old.slots slots.new.slots place.old }
 {
     let number = place.number as usize;
     match place.stage {
         Stage::InSlot => slots[number].take(),
         Stage::Untaken => {
-            place.stage = Stage::Taken;
+            place.stage = Stage::Taken { was_set: false };
             Some(Tracker::told(fired[number], place.note.again()))
         }
-        Stage::Taken => None,
+        Stage::Taken { .. } => None,
+    }
+}
+
+/// Whether the tracker fired, and what a reader of its cell knows is that firing.
+pub(crate) fn agree_at(
+    place: &mut Place,
+    slots: &Slab<Row>,
+    fired: &[Fired],
+    reader: &mut Tracker,
+) -> bool
+    requires kept { IsKeptAt slots.now.slots fired.now place.old }
+    requires own { reader.old.cell ≡ place.old.note.cell }
+    ensures kept { place.new ≡ place.old }
+    ensures reader_kept { reader.new ≡ reader.old }
+    ensures waiting { firing_of_row (row_at slots.now.slots fired.now place.old) ≡ None
+        → result ≡ false }
+    ensures same { IfSome reader.old.known (λ f. (result ≡ true)
+        ↔ (firing_of_row (row_at slots.now.slots fired.now place.old) ≡ Some f)) }
+{
+    let number = place.number as usize;
+    match place.stage {
+        Stage::InSlot => false,
+        Stage::Taken { was_set: true } => reader.compare(&mut place.note, fired[number]),
+        Stage::Untaken | Stage::Taken { was_set: false } => reader.holds(fired[number]),
     }
 }
 

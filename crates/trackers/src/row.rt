@@ -1,5 +1,6 @@
 //! One tracker that waits, as the table keeps it.
-ghost use Rattle.std.specs.Prelude.{◌≡◌, true, false, IfOk};
+ghost use Rattle.std.specs.Prelude.{◌≡◌, true, false, Some, IfOk, MatchOption, MatchResult};
+ghost use Rattle.sm_names.specs.declared.tracking.Fired.{Fired};
 ghost use Rattle.sm_names.specs.Trackers.{holds};
 ghost use Rattle.trackers.specs.Row.{WaitingRow, reader_of_waiting};
 
@@ -87,11 +88,17 @@ impl Row {
         self.note.again()
     }
 
-    /// The firing of the tracker at this event, to which its cell is set for a reader that was taken.
-    /// A reader that is still here gets the firing as a value instead: nobody will read the cell, so
-    /// that the cell and its room are given back.
-    pub(crate) fn fire(self, event: u64) -> Fired
-        ensures { result ≡ record { tracker = self.tracker.id; event = event } }
+    /// The firing of the tracker at this event, a note of its cell, and what the setting of the cell
+    /// to the firing was answered, for a reader that was taken. The note then knows what the cell
+    /// holds: the firing where the answer is `Ok`, and else what another set before. A reader that is
+    /// still here gets the firing as a value instead: nobody will read the cell, so that the cell and
+    /// its room are given back, and the answer is `None`.
+    pub(crate) fn fire(self, event: u64) -> (Fired, Note<Fired>, Option<Result<(), Box<Fired>>>)
+        ensures firing { result.0 ≡ record { tracker = self.tracker.id; event = event } }
+        ensures cell { result.1.cell ≡ self.cell }
+        ensures set { MatchOption result.2 (self.has_reader ≡ true) (λ set.
+            (self.has_reader ≡ false) × MatchResult set (λ _. result.1.known ≡ Some result.0)
+            (λ room. (room.value ≡ result.0) × (x : Fired) × (result.1.known ≡ Some x))) }
     {
         let Row {
             tracker,
@@ -104,11 +111,12 @@ impl Row {
             tracker: tracker.id,
             event,
         };
-        if reader.is_none() {
-            *room = fired;
-            let _set = cell.set_as(room, &mut note);
+        if reader.is_some() {
+            return (fired, note, None);
         }
-        fired
+        *room = fired;
+        let set = cell.set_as(room, &mut note);
+        (fired, note, Some(set))
     }
 
     /// The reader, once.

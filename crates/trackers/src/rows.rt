@@ -2,13 +2,13 @@
 //! of one that fired the table keeps its firing, and a place of 8 bytes with the number of that.
 //! Places stand by rising id, for a binary search; firings stand in their order, in which ids do
 //! not rise.
-ghost use Rattle.std.specs.Prelude.{◌≡◌, ◌+◌, ◌^◌, ◌<◌, ◌≤◌, [], ◌∷◌, ◌++◌, length, true, false, Option, None, OnOk, OnErr, IsTrue, slice_index_or, slice_set, option_to_list};
+ghost use Rattle.std.specs.Prelude.{◌≡◌, ◌↔◌, ◌+◌, ◌^◌, ◌<◌, ◌≤◌, [], ◌∷◌, ◌++◌, length, true, false, Option, Some, None, OnOk, OnErr, IfSome, IsTrue, slice_index_or, slice_set, option_to_list};
 ghost use Rattle.std.specs.List.{AllByRecursion};
 ghost use Rattle.trackers.specs.Row.{TrackerRow, Over, is_waiting, firing_of_row, reader_of_row, row_of_waiting};
 ghost use Rattle.trackers.specs.Held.{IsSearchAnswer, row_after, fires};
 
 use crate::place::{
-    Place, Stage, add, find_place, fire_place, is_due_at, leave, make_room, take_at,
+    Place, add, agree_at, find_place, fire_place, is_due_at, leave, make_room, take_at,
 };
 use crate::row::Row;
 use crate::tracker::Tracker;
@@ -114,16 +114,19 @@ impl Rows {
         find_place(&self.places, &self.slots, &self.fired, id)
     }
 
-    /// The firing of the tracker at this place, if it fired.
-    pub(crate) fn firing(&self, at: usize) -> Option<Fired>
-        requires { at < length self.now.rows }
-        ensures { (d : TrackerRow) → result ≡ firing_of_row (slice_index_or self.now.rows at d) }
+    /// Whether the tracker at this place fired, and what a reader of its cell knows is that firing.
+    pub(crate) fn agree(&mut self, at: usize, reader: &mut Tracker) -> bool
+        requires within { at < length self.old.rows }
+        requires own { (d : TrackerRow) →
+            reader.old.cell ≡ (slice_index_or self.old.rows at d).cell }
+        ensures kept { self.new ≡ self.old }
+        ensures reader_kept { reader.new ≡ reader.old }
+        ensures waiting { (d : TrackerRow) →
+            firing_of_row (slice_index_or self.old.rows at d) ≡ None → result ≡ false }
+        ensures same { (d : TrackerRow) → IfSome reader.old.known (λ f. (result ≡ true)
+            ↔ (firing_of_row (slice_index_or self.old.rows at d) ≡ Some f)) }
     {
-        let place = &self.places[at];
-        match place.stage {
-            Stage::InSlot => None,
-            Stage::Untaken | Stage::Taken => Some(self.fired[place.number as usize]),
-        }
+        agree_at(&mut self.places[at], &self.slots, &self.fired, reader)
     }
 
     /// Fires the tracker at this place, if it waits and what it waits for holds.

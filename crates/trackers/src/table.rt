@@ -3,6 +3,7 @@ ghost use Rattle.std.specs.Prelude.{◌≡◌, ◌≢◌, ℕ, ◌+◌, ◌^◌,
 ghost use Rattle.trackers.specs.declared.waiting.Waiting.{Waiting};
 ghost use Rattle.trackers.specs.Table.{TrackerTable, Cell, empty, is_due, firings, still_waiting, firing_of, cell_of, is_untaken, without_id, reader_of, Attaches};
 ghost use Rattle.trackers.specs.WaitIndex.{Wish, entries_of, weigh};
+ghost use Rattle.std.specs.Bool.{OnTrue};
 ghost use Rattle.std.specs.List.{AllByRecursion};
 ghost use Rattle.trackers.specs.Row.{TrackerRow};
 ghost use Rattle.trackers.specs.Held.{attached};
@@ -164,14 +165,18 @@ impl Trackers {
     }
 
     /// Whether what a reader of one of these cells knows is the firing of its tracker. The answer is
-    /// `false` where the tracker has not fired. Of a reader that knows no firing, as one that was not
-    /// polled since, the cell is looked at instead. Nothing but the firing sets a cell, so that the
+    /// `false` where the tracker has not fired. It is `true`, and no cell is read, where the firing
+    /// set the cell: the table knows that it did, and two that know what a cell holds know the same.
+    /// Of a reader that was taken after the firing, the firing that it got is compared; and where
+    /// another had set the cell, what that holds. Nothing but the firing sets a cell, so that the
     /// answer is `true` wherever there was one; but no contract of a cell says so. A body that always
     /// answers `false` breaks this contract. Both sides are `&mut`, since what is known of a cell is
     /// read through one; neither changes. It takes no memory, and a binary search.
     pub fn agree(&mut self, tracker: &mut Tracker) -> bool
         requires own { cell_of self.old.cells tracker.old.tracker ≡ Some tracker.old.cell }
         ensures waiting { firing_of self.old.fired tracker.old.tracker ≡ None → result ≡ false }
+        ensures known { OnTrue result (IfSome tracker.old.known
+            (λ f. firing_of self.old.fired tracker.old.tracker ≡ Some f)) }
         ensures same { IfSome tracker.old.known
             (λ f. (result ≡ true) ↔ (firing_of self.old.fired tracker.old.tracker ≡ Some f)) }
         ensures kept { self.new ≡ self.old }
@@ -180,10 +185,7 @@ impl Trackers {
         let Some(at) = self.rows.find(tracker.id()) else {
             return false;
         };
-        match self.rows.firing(at) {
-            Some(fired) => tracker.holds(fired),
-            None => false,
-        }
+        self.rows.agree(at, tracker)
     }
 }
 

@@ -86,6 +86,22 @@ impl Tracker {
         self.id
     }
 
+    /// Whether the firing that the reader knows, if it knows one, is this one, to which its cell was
+    /// set. It reads no cell: two notes of one cell know the same.
+    pub(crate) fn compare(&mut self, note: &mut Note<Fired>, fired: Fired) -> bool
+        requires cell { note.old.cell ≡ self.old.cell }
+        requires set { note.old.known ≡ Some fired }
+        ensures kept { self.new ≡ self.old }
+        ensures note_kept { note.new ≡ note.old }
+        ensures same { IfSome self.old.known (λ f. (result ≡ true) ↔ (fired ≡ f)) }
+    {
+        if let Source::Told(told) = &self.source {
+            return *told == fired;
+        }
+        note.compare(self.note.again());
+        true
+    }
+
     /// Whether the firing that the reader knows, or that its cell holds, is this one: one read of the
     /// cell at most. The reader learns nothing.
     pub(crate) fn holds(&mut self, fired: Fired) -> bool

@@ -17,7 +17,7 @@ invariant_of-self c = rw c.push_reserved.ensures.items (fired_all c.self.inside.
     (rw (← c.self.view_is) at c.requires.within) c.self.invariant (rw (← c.self.view_is) at c.requires.waits)
     c.fire_place-firing.new.slots.slots c.fire_place-firing.new.place c.args.event c.fire_place-firing.result
     (omega (arith, c.fire_place-firing.ensures.number, c.len-number.ensures))
-    c.fire_place-firing.ensures.cell c.fire_place-firing.ensures.stage c.fire_place-firing.ensures.firing
+    c.fire_place-firing.ensures.cell c.fire_place-firing.ensures.told c.fire_place-firing.ensures.firing
     c.fire_place-firing.ensures.slots.others).1
 
 -- and its own is over
@@ -32,7 +32,7 @@ returns-clause-row c = λ d.
     within c.self.invariant (rw (← c.self.view_is) at c.requires.waits)
     c.fire_place-firing.new.slots.slots c.fire_place-firing.new.place c.args.event c.fire_place-firing.result
     (omega (arith, c.fire_place-firing.ensures.number, c.len-number.ensures))
-    c.fire_place-firing.ensures.cell c.fire_place-firing.ensures.stage c.fire_place-firing.ensures.firing
+    c.fire_place-firing.ensures.cell c.fire_place-firing.ensures.told c.fire_place-firing.ensures.firing
     c.fire_place-firing.ensures.slots.others).0
 
 -- by arithmetic and the usual steps

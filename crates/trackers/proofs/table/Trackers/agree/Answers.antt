@@ -1,28 +1,41 @@
-use Rattle.std.proofs.Common.{refl, sym, ◌∙◌}
-use Rattle.trackers.proofs.FoundLemmas.{found_within, agreed, same_none, same_some}
-use Rattle.trackers.proofs.table.Trackers.agree.Goals.{in-Some-firing, in-None}
+use Rattle.std.proofs.Common.{◌≡◌, ℕ, ◌∙◌, sym, ap, Some, get_or}
+use Rattle.trackers.specs.Row.{TrackerRow, firing_of_row}
+use Rattle.trackers.proofs.FoundLemmas.{found_within, found_row, found_cell, found_told, known_same}
 use Rattle.trackers.proofs.table.Trackers.agree.Goals as goal
 
-pub firing-requires : goal.firing-requires
-firing-requires c = found_within _ c.in-Some.ensures.1
+pub agree-requires-clause-within : goal.agree-requires-clause-within
+agree-requires-clause-within c = found_within _ c.in-Some.ensures.1
+
+-- the cell of the row is found under the id of the reader
+pub agree-requires-clause-own : goal.agree-requires-clause-own
+agree-requires-clause-own c = λ d.
+    let own = rw (← c.self.view_is, ← c.id.ensures) at c.requires.own in
+    same_name (sym own ∙ found_cell _ c.in-Some.ensures.1) ∙ ap (λ (r : TrackerRow). r.cell) (sym (found_row _ c.in-Some.ensures.1 d))
+  where
+    same_name : {a b : ℕ} → Some a ≡ Some b → a ≡ b
+    same_name e = cc
 
 -- the firing of the row is found under its id
 pub returns-clause-same : goal.returns-clause-same
 returns-clause-same c =
-    let told = agreed _ c.self.inside.rows.fired c.in-Some.ensures.1 c.self.invariant.held.told c.firing.result c.firing.ensures in
-    elim c.match-firing.branch [
-      | in-Some-firing w ↦ rw (w.result-is, ← c.self.view_is, ← c.id.ensures) (same_some w.holds.result c.args.tracker.now.known _ _
-          (told ∙ w.in-Some-firing.is) w.holds.ensures.same)
-      | in-None w ↦ rw (w.result-is, ← c.self.view_is, ← c.id.ensures) (same_none c.args.tracker.now.known _ (told ∙ w.in-None.is))
-    ]
+    let found = c.in-Some.ensures.1 in
+    let d : TrackerRow = c.in-Some.ensures.0 in
+    let told = found_told _ c.self.inside.rows.fired found c.self.invariant.held.told ∙ ap firing_of_row (sym (found_row _ found d)) in
+    rw (← c.self.view_is, ← c.id.ensures, told) (c.agree.ensures.same d)
 
 -- so it is where it has none
 pub returns-clause-waiting : goal.returns-clause-waiting
 returns-clause-waiting c =
-    let told = agreed _ c.self.inside.rows.fired c.in-Some.ensures.1 c.self.invariant.held.told c.firing.result c.firing.ensures in
-    elim c.match-firing.branch [
-      | in-Some-firing w ↦ rw (← c.self.view_is, ← c.id.ensures) (λ none.
-          let bad = sym none ∙ told ∙ w.in-Some-firing.is in
-          absurd (cc))
-      | in-None w ↦ rw w.result-is (λ none. refl)
-    ]
+    let found = c.in-Some.ensures.1 in
+    let d : TrackerRow = c.in-Some.ensures.0 in
+    let told = found_told _ c.self.inside.rows.fired found c.self.invariant.held.told ∙ ap firing_of_row (sym (found_row _ found d)) in
+    rw (← c.self.view_is, ← c.id.ensures, told) (c.agree.ensures.waiting d)
+
+-- and where the answer is true it is what the reader knows
+pub returns-clause-known : goal.returns-clause-known
+returns-clause-known c =
+    let found = c.in-Some.ensures.1 in
+    let d : TrackerRow = c.in-Some.ensures.0 in
+    let told = found_told _ c.self.inside.rows.fired found c.self.invariant.held.told ∙ ap firing_of_row (sym (found_row _ found d)) in
+    rw (← c.self.view_is, ← c.id.ensures, told) (known_same c.agree.result c.args.tracker.now.known
+    (firing_of_row (get_or c.self.inside.rows.rows c.in-Some.at d)) (c.agree.ensures.same d))
