@@ -310,6 +310,7 @@ impl Forest {
 
     /// Sets the state of a kept node's end. Takes no memory. Costs O(1); O(log collections) if the
     /// node is gone and its end is spent, since it is then listed as garbage.
+    #[inline(always)]
     pub fn set_end(&mut self, key: NodeKey, end: End)
         requires { is_some (node_at self.old key) ≡ true }
         ensures { self.new ≡ on_collections (with_nodes (map (with_end key end))) self.old }
@@ -354,6 +355,7 @@ impl Forest {
     /// where n is the number of the collection's nodes and s the number of keys on its shorter side.
     /// Costs O(n) instead if more than 64 such nodes were found since the last call (one found twice
     /// counts twice).
+    #[inline(always)]
     pub fn forget_over(&mut self, id: CollectionId)
         ensures collections { self.new.collections ≡ without_over_in id self.old.collections }
         ensures keys { SameKeys self.old self.new }

@@ -59,7 +59,7 @@ pub(crate) fn settle_change(
 /// Makes the birth of a node, and all that it forces: if no strong node of the collection is live then, its
 /// buffers may be abandoned, or home. `NoMemory` leaves the table and the pool as they were, and the
 /// entries and the counts of units except for their room.
-#[inline(never)]
+#[inline(always)]
 pub(crate) fn settle_birth(
     store: &mut Store,
     pool: &mut Pool,

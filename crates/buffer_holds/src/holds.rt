@@ -103,6 +103,7 @@ impl Holds {
 
     /// How many of these handles the client has open: what it opened and landed, less what it
     /// closed and lifted. Those in parcels belong to nobody. One look-up.
+    #[inline(always)]
     pub fn of(&self, client: ClientId, buffer: BufferName, strength: Strength) -> u32
         ensures { result ≡ of self.now client buffer strength }
     {
@@ -327,6 +328,7 @@ impl Holds {
     /// Closes one of the client's handles, and answers whether it had one. Without one nothing
     /// changes. The client keeps its room, so that `add` undoes this without memory until `tidy`.
     /// Two look-ups.
+    #[inline(always)]
     pub fn sub(&mut self, client: ClientId, buffer: BufferName, strength: Strength) -> bool
         ensures had { IsTrue result ↔ (0 < of self.old client buffer strength) }
         ensures closed { OnTrue result (Sets self.old self.new client buffer strength
@@ -346,6 +348,7 @@ impl Holds {
 
     /// Takes back the room of a client that has none of these handles open. No count changes, and
     /// no other client loses room. Two look-ups, and two removals at most.
+    #[inline(always)]
     pub fn tidy(&mut self, client: ClientId, buffer: BufferName, strength: Strength)
         ensures { Tidies self.old self.new client buffer strength }
     {

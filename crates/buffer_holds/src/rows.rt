@@ -141,6 +141,7 @@ pub(crate) fn raise(
 }
 
 // One handle less, where there is one. The row stays, though it may be of 0.
+#[inline(always)]
 pub(crate) fn lower(rows: &mut Rows, hold: Hold, last: &Cell<usize>) -> bool
     ensures had { IsTrue result ↔ (0 < count_at rows.old.entries hold) }
     ensures lowered { OnTrue result (Resets same_hold rows.old.entries rows.new.entries hold
@@ -160,6 +161,7 @@ pub(crate) fn lower(rows: &mut Rows, hold: Hold, last: &Cell<usize>) -> bool
 }
 
 // Takes the row away if it is of 0.
+#[inline(always)]
 pub(crate) fn forget(rows: &mut Rows, hold: Hold, last: &Cell<usize>) -> bool
     ensures idle { IsTrue result ↔ (row_at rows.old.entries hold ≡ Some 0) }
     ensures forgotten { OnTrue result (Resets same_hold rows.old.entries rows.new.entries hold

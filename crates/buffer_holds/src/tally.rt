@@ -170,6 +170,7 @@ pub(crate) fn tally_near(
 }
 
 // One client less has a row. A tally without counts is removed.
+#[inline(always)]
 pub(crate) fn leave(tallies: &mut Tallies, kind: HandleKind, hint: &Hint)
     requires { 0 < (tally_at tallies.old.entries kind).clients }
     ensures { Resets same_handle_kind tallies.old.entries tallies.new.entries kind

@@ -32,6 +32,7 @@ impl Model for Client {
 }
 
 /// Whether the client joined. Costs O(log clients): clients are numbered as they join.
+#[inline(always)]
 pub fn has_joined(clients: &[Client], client: ClientId) -> bool
     requires { Rise (map (λ (c : Row). c.id) clients.now) }
     ensures { result ≡ list_any (λ (c : Row). c.id == client) clients.now }
@@ -40,6 +41,7 @@ pub fn has_joined(clients: &[Client], client: ClientId) -> bool
 }
 
 /// Whether the client was shut. Costs O(log clients).
+#[inline(always)]
 pub fn is_shut(clients: &[Client], client: ClientId) -> bool
     requires { Rise (map (λ (c : Row). c.id) clients.now) }
     ensures { result ≡ option_map_or (λ (c : Row). c.shut)
@@ -55,6 +57,7 @@ pub fn is_shut(clients: &[Client], client: ClientId) -> bool
 }
 
 /// How many parcels wait for the client. Costs O(log clients).
+#[inline(always)]
 pub fn count_waiting(clients: &[Client], client: ClientId) -> usize
     requires { Rise (map (λ (c : Row). c.id) clients.now) }
     ensures { result ≡ length (option_map_or (λ (c : Row). c.waiting)
@@ -71,6 +74,7 @@ pub fn count_waiting(clients: &[Client], client: ClientId) -> usize
 }
 
 /// The parcel that the client collects next. Costs O(log clients).
+#[inline(always)]
 pub fn first_waiting(clients: &[Client], client: ClientId) -> Option<Parcel>
     requires { Rise (map (λ (c : Row). c.id) clients.now) }
     ensures { result ≡ slice_get (option_map_or (λ (c : Row). c.waiting)
@@ -130,6 +134,7 @@ pub fn note_client(
 }
 
 // Where the client stands: at once where nothing but joins came before its own, else by a search.
+#[inline(always)]
 fn place_of(clients: &[Client], client: ClientId) -> Option<usize>
     requires { Rise (map (λ (c : Row). c.id) clients.now) }
     ensures { result ≡ position (λ (c : Row). c.id == client) clients.now }
@@ -153,6 +158,7 @@ fn searched_place(clients: &[Client], client: ClientId) -> Option<usize>
 }
 
 // Puts a client that joined just now behind all others.
+#[inline(always)]
 fn admit(clients: &mut Vec<Client>, made: ClientId) -> Result<(), NoMemory>
     ensures ok { OnOk result (clients.new.items ≡ clients.old.items ++ new_client made ∷ []) }
     ensures err { OnErr result (clients.new.items ≡ clients.old.items) }
@@ -169,6 +175,7 @@ fn admit(clients: &mut Vec<Client>, made: ClientId) -> Result<(), NoMemory>
 }
 
 // Shuts the client.
+#[inline(always)]
 fn shut(clients: &mut Vec<Client>, client: ClientId)
     requires { Rise (map (λ (c : Row). c.id) clients.old.items) }
     ensures { clients.new.items ≡ with_client client now_shut clients.old.items }
@@ -180,6 +187,7 @@ fn shut(clients: &mut Vec<Client>, client: ClientId)
 }
 
 // Puts the parcel behind those that wait for the client.
+#[inline(always)]
 fn send(clients: &mut Vec<Client>, to: ClientId, parcel: Parcel) -> Result<(), NoMemory>
     requires { Rise (map (λ (c : Row). c.id) clients.old.items) }
     ensures ok { OnOk result (clients.new.items
@@ -197,6 +205,7 @@ fn send(clients: &mut Vec<Client>, to: ClientId, parcel: Parcel) -> Result<(), N
 }
 
 // Takes the first parcel that waits for the client.
+#[inline(always)]
 fn collect(clients: &mut Vec<Client>, client: ClientId)
     requires { Rise (map (λ (c : Row). c.id) clients.old.items) }
     ensures { clients.new.items ≡ with_client client without_first clients.old.items }

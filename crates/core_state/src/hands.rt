@@ -69,6 +69,7 @@ pub fn apply_handles(
 }
 
 /// Undoes what `apply_handles` did, unless a handle was collected. It takes no memory, and costs as much.
+#[inline(always)]
 pub fn undo_handles(holds: &mut Holds, client: ClientId, call: Call, reply: Reply)
     requires undo { CanUndo holds.old client call reply }
     requires stands { collects_handle call reply ≡ false }
@@ -247,6 +248,7 @@ fn open(
 }
 
 // Opens a handle that is looked for where the last one was.
+#[inline(always)]
 fn open_one(
     holds: &mut Holds,
     client: ClientId,

@@ -45,6 +45,7 @@ pub fn is_finished(store: &Store, at: usize, pool: &Pool, holds: &Holds) -> bool
 /// of its root removes all its nodes; then the home buffers return their pages. No step is forced after
 /// that. It costs O(1), a look at the handles of each buffer where no strong node is live, O(1) for each
 /// node that is removed, and the cost of `free_home_buffers`. It takes no memory.
+#[inline(always)]
 pub fn finish_event(
     store: &mut Store,
     at: usize,

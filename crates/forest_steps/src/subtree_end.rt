@@ -86,6 +86,7 @@ pub(crate) fn end_above(
 /// Removes each node that the fault takes; where nothing holds the unit above them then, that unit ends,
 /// or the highest above it that nothing holds. It costs O(1) for each node that the failure climbs over,
 /// and for each that is removed. It takes no memory.
+#[inline(always)]
 pub(crate) fn fall_by(
     nodes: &mut NodeStore,
     entry: &mut Entry,

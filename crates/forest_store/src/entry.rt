@@ -35,6 +35,7 @@ pub struct Entry {
 }
 
 /// How many collections have a smaller id, if the last one has this id or a smaller one.
+#[inline(always)]
 fn before_last(entries: &[Entry], id: CollectionId) -> Option<usize>
     requires { AreRising (shelves_of entries.now) }
     ensures { IfSome result (λ at. at ≡ prefix_len (λ e. nat_lt e.id id) entries.now) }
@@ -50,6 +51,7 @@ fn before_last(entries: &[Entry], id: CollectionId) -> Option<usize>
 }
 
 /// The index that is guessed, if the collection with this id is there.
+#[inline(always)]
 fn guessed(entries: &[Entry], id: CollectionId) -> Option<usize>
     requires { AreRising (shelves_of entries.now) }
     ensures { IfSome result (λ at. at ≡ prefix_len (λ e. nat_lt e.id id) entries.now) }
@@ -63,6 +65,7 @@ fn guessed(entries: &[Entry], id: CollectionId) -> Option<usize>
 }
 
 /// Keeps the index as the next guess, if it fits in 16 bits.
+#[inline(always)]
 fn keep_guess(entries: &[Entry], at: usize) {
     if let Some(first) = entries.first() {
         if at <= u16::MAX as usize {
@@ -83,6 +86,7 @@ fn searched(entries: &[Entry], id: CollectionId) -> usize
 
 /// How many collections have a smaller id. Looks at the last one, then at the one that was found
 /// last, then makes a binary search.
+#[inline(always)]
 pub(crate) fn entries_before(entries: &[Entry], id: CollectionId) -> usize
     requires { AreRising (shelves_of entries.now) }
     ensures { result ≡ prefix_len (λ e. nat_lt e.id id) entries.now }
@@ -97,6 +101,7 @@ pub(crate) fn entries_before(entries: &[Entry], id: CollectionId) -> usize
 }
 
 /// The index of the collection with this id.
+#[inline(always)]
 pub fn place_of(entries: &[Entry], id: CollectionId) -> Option<usize>
     requires { AreRising (shelves_of entries.now) }
     ensures { result ≡ place_in id entries.now }

@@ -32,6 +32,7 @@ const FEW: usize = 4;
 const MOST: usize = 64;
 
 /// The first child of the node.
+#[inline(always)]
 pub(crate) fn first_child(table: &NodeTable<Node>, key: NodeKey) -> Option<NodeKey>
     ensures { MatchOption result (children_at table.now key ≡ []) (IsChild table.now key) }
 {
@@ -39,6 +40,7 @@ pub(crate) fn first_child(table: &NodeTable<Node>, key: NodeKey) -> Option<NodeK
 }
 
 /// Removes the links between the node and its children. Takes O(number of children).
+#[inline(always)]
 fn cut_children(table: &mut NodeTable<Node>, key: NodeKey)
     ensures { Unlinks table.old table.new key }
 {
@@ -48,6 +50,7 @@ fn cut_children(table: &mut NodeTable<Node>, key: NodeKey)
 }
 
 /// Removes the node from the table. Its children stay, without a parent. Allocates nothing.
+#[inline(always)]
 pub fn take_out(table: &mut NodeTable<Node>, key: NodeKey) -> Node
     requires { IsSome (node_at table.old key) }
     ensures out { TakesOut table.old table.new key }
@@ -58,6 +61,7 @@ pub fn take_out(table: &mut NodeTable<Node>, key: NodeKey) -> Node
 }
 
 /// Whether the table has a dead node with this key.
+#[inline(always)]
 fn is_over_at(table: &NodeTable<Node>, key: NodeKey) -> bool
     ensures { result ≡ option_map_or is_over (node_at table.now key) false }
 {
@@ -69,6 +73,7 @@ fn is_over_at(table: &NodeTable<Node>, key: NodeKey) -> bool
 
 /// Removes the dead nodes with these keys from the table, from the last to the first. Allocates
 /// nothing.
+#[inline(always)]
 fn collect_garbage(table: &mut NodeTable<Node>, keys: &[NodeKey])
     ensures look { (k : Key) → node_at table.new k ≡ left_at table.old keys.now k }
     ensures kept { (ss : List Shelf) → IsStored table.old ss →
@@ -85,6 +90,7 @@ fn collect_garbage(table: &mut NodeTable<Node>, keys: &[NodeKey])
 }
 
 /// Whether the table has a node with this key.
+#[inline(always)]
 pub(crate) fn is_found(table: &NodeTable<Node>, key: NodeKey) -> bool
     ensures { result ≡ is_found table.now key }
 {
@@ -92,6 +98,7 @@ pub(crate) fn is_found(table: &NodeTable<Node>, key: NodeKey) -> bool
 }
 
 /// Whether it is known that no node of the collection is dead.
+#[inline(always)]
 fn is_garbage_known(entry: &Entry) -> bool
     ensures { result ≡ true → (entry.now.garbage_known ≡ true) × (entry.now.garbage.items ≡ []) }
 {
@@ -99,6 +106,7 @@ fn is_garbage_known(entry: &Entry) -> bool
 }
 
 /// Whether the table has a node with this key that was born before this event.
+#[inline(always)]
 fn is_born_before(table: &NodeTable<Node>, key: NodeKey, event: u64) -> bool
     ensures { result ≡ option_map_or (λ (n : NodeValue).
         nat_lt n.event event) (node_at table.now key) false }
@@ -110,6 +118,7 @@ fn is_born_before(table: &NodeTable<Node>, key: NodeKey, event: u64) -> bool
 }
 
 /// The index, if the key is at this index.
+#[inline(always)]
 fn found_at(keys: &[NodeKey], at: usize, key: NodeKey) -> Option<usize>
     ensures { IfSome result (λ at. IsPlace keys.now key at) }
 {
@@ -123,6 +132,7 @@ fn found_at(keys: &[NodeKey], at: usize, key: NodeKey) -> Option<usize>
 /// The index of the key among these, which are ordered by birth. Takes O(1) for the first key, for
 /// the second one, which is the oldest below a root that stays, and for the last one, and O(log n)
 /// for the others.
+#[inline(always)]
 pub(crate) fn place_by_birth(
     table: &NodeTable<Node>,
     keys: &[NodeKey],
@@ -145,6 +155,7 @@ pub(crate) fn place_by_birth(
 }
 
 /// The same. Looks first behind this index, then before it.
+#[inline(always)]
 pub fn place_near(
     table: &NodeTable<Node>,
     keys: &[NodeKey],
@@ -163,6 +174,7 @@ pub fn place_near(
 }
 
 /// Whether the node with this key belongs to this collection, if it is dead.
+#[inline(always)]
 fn is_own_if_over(table: &NodeTable<Node>, id: CollectionId, key: NodeKey) -> bool
     ensures { result ≡ is_own_if_over table.now id key }
 {
@@ -173,6 +185,7 @@ fn is_own_if_over(table: &NodeTable<Node>, id: CollectionId, key: NodeKey) -> bo
 }
 
 /// Whether each dead node with one of these keys belongs to this collection.
+#[inline(always)]
 fn are_own(table: &NodeTable<Node>, id: CollectionId, keys: &[NodeKey]) -> bool
     ensures { result ≡ list_all (is_own_if_over table.now id) keys.now }
 {
@@ -180,6 +193,7 @@ fn are_own(table: &NodeTable<Node>, id: CollectionId, keys: &[NodeKey]) -> bool
 }
 
 /// Removes this key from those of a collection.
+#[inline(always)]
 fn drop_key(table: &NodeTable<Node>, keys: &mut KeyList, key: NodeKey)
     requires { are_apart keys.old.items ≡ true }
     ensures { keys.new.items ≡ filter (λ other. not (same_key key other)) keys.old.items }
@@ -191,6 +205,7 @@ fn drop_key(table: &NodeTable<Node>, keys: &mut KeyList, key: NodeKey)
 }
 
 /// Removes the listed keys whose nodes are dead from those of a collection.
+#[inline(always)]
 fn drop_keys(table: &NodeTable<Node>, keys: &mut KeyList, garbage: &[NodeKey])
     requires { are_apart keys.old.items ≡ true }
     ensures { keys.new.items ≡ filter (is_left_by table.now garbage.now) keys.old.items }
@@ -207,6 +222,7 @@ fn drop_keys(table: &NodeTable<Node>, keys: &mut KeyList, garbage: &[NodeKey])
 /// Removes the dead nodes with these keys from the table, and their keys from these. If it is known
 /// that no other node is dead, this reads only the listed keys, and otherwise all keys. Allocates
 /// nothing.
+#[inline(always)]
 fn take_all_over(table: &mut NodeTable<Node>, keys: &mut KeyList, garbage: &[NodeKey], known: bool)
     requires apart { are_apart keys.old.items ≡ true }
     requires known { known ≡ true → AreAllOver table.old garbage.now keys.old.items }
@@ -226,6 +242,7 @@ fn take_all_over(table: &mut NodeTable<Node>, keys: &mut KeyList, garbage: &[Nod
 }
 
 /// Removes the dead nodes of the collection.
+#[inline(always)]
 fn forget_of(table: &mut NodeTable<Node>, entry: &mut Entry)
     requires { IsForgettable table.old entry.old }
     ensures look { (k : Key) → node_at table.new k ≡ left_at table.old entry.old.keys.items k }
@@ -241,6 +258,7 @@ fn forget_of(table: &mut NodeTable<Node>, entry: &mut Entry)
 }
 
 /// Whether the collection has no node and no page.
+#[inline(always)]
 fn is_bare(entry: &Entry) -> bool
     ensures { result ≡ is_bare (shelf_of entry.now) }
 {
@@ -248,6 +266,7 @@ fn is_bare(entry: &Entry) -> bool
 }
 
 /// Removes the collection, if it has no node and no page. Allocates nothing.
+#[inline(always)]
 pub(crate) fn drop_bare(entries: &mut Vec<Entry>, id: CollectionId)
     requires { AreRising (shelves_of entries.old.items) }
     ensures shelves { shelves_of entries.new.items
@@ -266,6 +285,7 @@ pub(crate) fn drop_bare(entries: &mut Vec<Entry>, id: CollectionId)
 /// then. If it is known that no node is dead, this takes O(log n) in the number of collections. If
 /// the dead nodes are listed, each takes a binary search among the collection's nodes and a move of
 /// the keys on its shorter side. Otherwise this takes O(n) in the number of the collection's nodes.
+#[inline(always)]
 fn forget_nodes(table: &mut NodeTable<Node>, entries: &mut Vec<Entry>, id: CollectionId) -> bool
     requires kept { IsStored table.old (shelves_of entries.old.items) }
     requires counted { AreCounted table.old entries.old.items }
@@ -291,6 +311,7 @@ fn forget_nodes(table: &mut NodeTable<Node>, entries: &mut Vec<Entry>, id: Colle
 
 /// Removes the dead nodes of the collection, and the collection if it has no node and no page then.
 /// Allocates nothing.
+#[inline(always)]
 pub fn forget_over(table: &mut NodeTable<Node>, entries: &mut Vec<Entry>, id: CollectionId)
     requires kept { IsStored table.old (shelves_of entries.old.items) }
     requires counted { AreCounted table.old entries.old.items }
@@ -307,6 +328,7 @@ pub fn forget_over(table: &mut NodeTable<Node>, entries: &mut Vec<Entry>, id: Co
 
 /// Lists the key of a dead node. If the list has no room, the entry records that not all dead nodes
 /// are listed. Allocates nothing.
+#[inline(always)]
 fn note_key(entry: &mut Entry, key: NodeKey)
     ensures entry { IsNoting entry.old entry.new }
     ensures garbage { IsNotedIn entry.new key }
@@ -318,6 +340,7 @@ fn note_key(entry: &mut Entry, key: NodeKey)
 }
 
 /// Lists the collection's node with this key, if it is dead now. Allocates nothing.
+#[inline(always)]
 pub fn list_garbage(entries: &mut Vec<Entry>, id: CollectionId, key: NodeKey, over: bool)
     requires { AreRising (shelves_of entries.old.items) }
     ensures shelves { shelves_of entries.new.items ≡ shelves_of entries.old.items }
@@ -335,6 +358,7 @@ pub fn list_garbage(entries: &mut Vec<Entry>, id: CollectionId, key: NodeKey, ov
 }
 
 /// Lists the collection's nodes with these keys that are dead. Allocates nothing.
+#[inline(always)]
 fn note_all(table: &NodeTable<Node>, entry: &mut Entry, keys: &[NodeKey])
     requires named { AreNamed table.now }
     ensures entry { IsNoting entry.old entry.new }
@@ -352,6 +376,7 @@ fn note_all(table: &NodeTable<Node>, entry: &mut Entry, keys: &[NodeKey])
 
 /// Lists the collection's nodes with these keys that are dead, if the caller says that one is.
 /// Allocates nothing.
+#[inline(always)]
 pub fn note_gone(table: &NodeTable<Node>, entry: &mut Entry, keys: &[NodeKey], over: bool)
     requires named { AreNamed table.now }
     requires over { over ≡ list_any is_over (nodes_with table.now keys.now) }
@@ -366,6 +391,7 @@ pub fn note_gone(table: &NodeTable<Node>, entry: &mut Entry, keys: &[NodeKey], o
 
 /// Reserves room for the list of dead nodes of a collection with this many nodes: none where a pass
 /// over all nodes is as cheap, and at most 64 keys.
+#[inline(always)]
 pub(crate) fn reserve_notes(garbage: &mut Vec<NodeKey>, nodes: usize) -> Result<(), AllocError>
     ensures { garbage.new.items ≡ garbage.old.items }
 {

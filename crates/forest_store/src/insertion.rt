@@ -96,6 +96,7 @@ fn insert<N: Drop>(
 }
 
 /// One more node in the table, which is given its key.
+#[inline(always)]
 fn insert_node(table: &mut NodeTable<Node>, draft: &Node) -> Result<NodeKey, NoMemory>
     requires first { table.old.first ≡ 0 }
     requires parent { IfSome draft.now.parent (λ p. IsSome (row_at table.old p)) }

@@ -167,6 +167,7 @@ impl Core {
     }
 
     // The number of the event that is made now.
+    #[inline(always)]
     pub(crate) fn next_event(&self) -> u64
         ensures { result ≡ self.now.events + 1 }
     {
@@ -174,6 +175,7 @@ impl Core {
     }
 
     // Whether the client was shut.
+    #[inline(always)]
     pub(crate) fn is_shut(&self, client: ClientId) -> bool
         ensures { result ≡ (readings_of self.now).is_shut client }
     {
@@ -181,6 +183,7 @@ impl Core {
     }
 
     // How many parcels wait for the client.
+    #[inline(always)]
     pub(crate) fn count_waiting(&self, client: ClientId) -> usize
         ensures { result ≡ length ((readings_of self.now).waiting client) }
     {
@@ -188,6 +191,7 @@ impl Core {
     }
 
     // The parcel that the client collects next.
+    #[inline(always)]
     pub(crate) fn first_waiting(&self, client: ClientId) -> Option<Parcel>
         ensures { result ≡ slice_get ((readings_of self.now).waiting client) 0 }
     {
@@ -195,6 +199,7 @@ impl Core {
     }
 
     // How many of these handles the client has open.
+    #[inline(always)]
     pub(crate) fn open_of(&self, client: ClientId, buffer: BufferName, strength: Strength) -> u32
         ensures { result ≡ (readings_of self.now).open_of client buffer strength }
     {
@@ -202,6 +207,7 @@ impl Core {
     }
 
     // How many of these handles are open, those in parcels among them.
+    #[inline(always)]
     pub(crate) fn open_total(&self, buffer: BufferName, strength: Strength) -> u32
         ensures { result ≡ total self.now.holds buffer strength }
     {
@@ -209,6 +215,7 @@ impl Core {
     }
 
     // True only if one more handle of any buffer and strength may be opened.
+    #[inline(always)]
     pub(crate) fn have_room(&self) -> bool
         ensures { result ≡ true → (buffer : Buffer) (strength : Strength) →
             is_at_limit self.now.limits (readings_of self.now) strength buffer ≡ false }
@@ -217,6 +224,7 @@ impl Core {
     }
 
     // Whether as many of these handles are open as the limit allows.
+    #[inline(always)]
     pub(crate) fn has_all_handles(&self, buffer: BufferName, strength: Strength) -> bool
         ensures { result ≡ is_at_limit self.now.limits (readings_of self.now) strength buffer }
     {
@@ -227,6 +235,7 @@ impl Core {
     }
 
     // Does what `has_all_handles` does, and searches from this spot on.
+    #[inline(always)]
     pub(crate) fn has_all_handles_near(
         &self,
         buffer: BufferName,
@@ -239,6 +248,7 @@ impl Core {
     }
 
     // Whether as many trackers wait as the limit allows.
+    #[inline(always)]
     pub(crate) fn has_all_trackers(&self) -> bool
         ensures { result
             ≡ nat_le self.now.limits.trackers (readings_of self.now).unfired }
@@ -247,6 +257,7 @@ impl Core {
     }
 
     // Whether a strong node of the collection is live.
+    #[inline(always)]
     pub(crate) fn strong_live(&self, id: CollectionId) -> bool
         ensures { result ≡ option_map_or
             (λ (c : CollectionValue). some_strong_live (members_of c.nodes))
@@ -264,6 +275,7 @@ impl Core {
     }
 
     // Whether the client joined.
+    #[inline(always)]
     pub(crate) fn has_joined(&self, client: ClientId) -> bool
         ensures { result ≡ (readings_of self.now).has_joined client }
     {
@@ -271,6 +283,7 @@ impl Core {
     }
 
     // The node with this key, unless its end is spent.
+    #[inline(always)]
     pub(crate) fn node_with_end(&self, key: NodeKey) -> Option<&Node>
         ensures value { end_in self.now key
             ≡ option_map (open_end_of self.now) (option_copied result) }
@@ -291,6 +304,7 @@ impl Core {
     }
 
     // Whether the collection is kept.
+    #[inline(always)]
     pub(crate) fn has_collection(&self, id: CollectionId) -> bool
         ensures { result ≡ is_some (collection_at self.now.forest id) }
     {
@@ -298,6 +312,7 @@ impl Core {
     }
 
     // The collection's buffers, if it is kept and allocated.
+    #[inline(always)]
     pub(crate) fn buffers_of(&self, id: CollectionId) -> Option<Buffers>
         ensures value { result ≡ buffers_in self.now id }
         ensures few { IfSome result (λ b. b.count ≤ MAX_BUFFERS) }
@@ -306,6 +321,7 @@ impl Core {
     }
 
     // Whether as many nodes are kept as the limit allows.
+    #[inline(always)]
     pub(crate) fn has_all_nodes(&self) -> bool
         ensures { result ≡ nat_le self.now.limits.nodes (node_count self.now.forest) }
     {
@@ -313,6 +329,7 @@ impl Core {
     }
 
     // Whether as many collections are kept as the limit allows.
+    #[inline(always)]
     pub(crate) fn has_all_collections(&self) -> bool
         ensures { result
             ≡ nat_le self.now.limits.collections (length self.now.forest.collections) }
@@ -321,6 +338,7 @@ impl Core {
     }
 
     // Why a call is not made if memory is refused: `HistoryFull` comes first.
+    #[inline(always)]
     fn out_of_memory_fault(&self) -> StepFault
         ensures { (result ≡ StepFault.HistoryFull)
             ↔ (self.now.limits.events ≤ self.now.events) }
