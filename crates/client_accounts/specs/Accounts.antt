@@ -4,6 +4,7 @@ use Rattle.sm_names.specs.declared.keys.Strength.{Strength}
 use Rattle.sm_names.specs.declared.messages.Call.{Call}
 use Rattle.sm_names.specs.declared.messages.Reply.{Reply}
 use Rattle.sm_names.specs.declared.outcomes.StepFault.{StepFault}
+use Rattle.service_lock.specs.States.{View}
 use Rattle.service_lock.specs.Units.{Amounts, with_one}
 use Rattle.event_laws.specs.declared.own.Own.{Own}
 
@@ -16,6 +17,14 @@ pub record ClientAmounts : Type 0 where
 pub record AppendsOwn (old new : List Own) (call : Call) (reply : Reply) : Type 0 where
   pub event : ℕ
   pub next : new ≡ old ++ record { event = event; call = call; reply = reply } ∷ []
+
+-- the same, and this is the event's number
+abbrev pub AppendsEvent : List Own → List Own → ℕ → Call → Reply → Type 0
+AppendsEvent old new event call reply = new ≡ old ++ record { event = event; call = call; reply = reply } ∷ []
+
+-- the state, with this many shares of each book to be handed out
+abbrev pub with_parts_left : ℕ → View → View
+with_parts_left parts s = record s { parts = parts }
 
 -- the reply is Done
 abbrev pub is_done : Reply → Bool

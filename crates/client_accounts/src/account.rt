@@ -5,7 +5,7 @@ ghost use Rattle.sm_names.specs.declared.messages.Call.{Call as Asked};
 ghost use Rattle.core_state.specs.Kinds.{fits_call};
 ghost use Rattle.service_lock.specs.States.{view_after};
 ghost use Rattle.service_lock.specs.Units.{CountsEvent, HasOne, HasUnitFor, Passed};
-ghost use Rattle.client_accounts.specs.Accounts.{AppendsOwn, SameHandles, gained, handle_gain, is_done, lets_go, made_done, may_gain, no_amounts, handle_unit, with_gain};
+ghost use Rattle.client_accounts.specs.Accounts.{AppendsEvent, AppendsOwn, SameHandles, gained, handle_gain, is_done, lets_go, made_done, may_gain, no_amounts, handle_unit, with_parts_left, with_gain};
 ghost use Rattle.client_accounts.specs.Takes.{told_taken, units_by};
 
 use crate::empty_units::{empty, memory_fault};
@@ -101,6 +101,8 @@ impl<E: Setup, S: Ledger, W: Ledger> Account<E, S, W> {
         requires { HasUnitFor call self.old.units }
         ensures counts { IfOk result (λ r. CountsEvent self.old.units self.new.units call r) }
         ensures told { IfOk result (λ r. AppendsOwn self.old.own self.new.own call r) }
+        ensures event { IfOk result (λ r.
+            AppendsEvent self.old.own self.new.own (length state.new.history) call r) }
         ensures kind { IfOk result (λ r. fits_call call r ≡ true) }
         ensures state { IfOk result (λ r. state.new ≡ view_after state.old client call r) }
         ensures fault { OnErr result ((self.new ≡ self.old) × (state.new ≡ state.old)) }
@@ -173,6 +175,8 @@ impl<E: Setup, S: Ledger, W: Ledger> Account<E, S, W> {
         ensures share { IfOk result (λ r.
             self.new.units.events ≡ self.old.units.events + 1) }
         ensures told { IfOk result (λ r. AppendsOwn self.old.own self.new.own call r) }
+        ensures event { IfOk result (λ r.
+            AppendsEvent self.old.own self.new.own (length state.new.history) call r) }
         ensures state { IfOk result (λ r. state.new ≡ view_after state.old client call r) }
         ensures kind { IfOk result (λ r. fits_call call r ≡ true) }
         ensures kept { IfOk result (λ r. is_done r ≡ false → unit.new ≡ unit.old) }
@@ -205,8 +209,12 @@ impl<E: Setup, S: Ledger, W: Ledger> Account<E, S, W> {
         ensures share { IfOk result (λ p.
             self.new.units.events ≡ self.old.units.events + 1) }
         ensures told { IfOk result (λ p. AppendsOwn self.old.own self.new.own call p.0) }
+        ensures event { IfOk result (λ p.
+            AppendsEvent self.old.own self.new.own (length state.new.history) call p.0) }
         ensures kind { IfOk result (λ p. fits_call call p.0 ≡ true) }
         ensures unit { IfOk result (λ p. p.1 ≡ option_map handle_unit (gained call p.0)) }
+        ensures state { IfOk result (λ p. state.new
+            ≡ with_parts_left state.new.parts (view_after state.old client call p.0)) }
         ensures parts { IfOk result (λ p.
             state.new.parts + handle_gain (gained call p.0) ≡ state.old.parts) }
         ensures fault { OnErr result ((self.new ≡ self.old) × (state.new ≡ state.old)) }
@@ -240,6 +248,7 @@ impl<E: Setup, S: Ledger, W: Ledger> Account<E, S, W> {
         ensures events { self.new.units.events ≡ self.old.units.events }
         ensures own { self.new.own ≡ self.old.own }
         ensures unit { result ≡ option_map handle_unit gain }
+        ensures state { state.new ≡ with_parts_left state.new.parts state.old }
         ensures parts { state.new.parts + handle_gain gain ≡ state.old.parts + 1 }
     {
         match gain {
@@ -268,6 +277,8 @@ impl<E: Setup, S: Ledger, W: Ledger> Account<E, S, W> {
         ensures share { IfOk result (λ r.
             self.new.units.events ≡ self.old.units.events + 1) }
         ensures told { IfOk result (λ r. AppendsOwn self.old.own self.new.own (Asked.Take key) r) }
+        ensures event { IfOk result (λ r.
+            AppendsEvent self.old.own self.new.own (length state.new.history) (Asked.Take key) r) }
         ensures kind { IfOk result (λ r. fits_call (Asked.Take key) r ≡ true) }
         ensures state { IfOk result (λ r.
             state.new ≡ view_after state.old client (Asked.Take key) r) }
