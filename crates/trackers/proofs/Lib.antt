@@ -2,6 +2,7 @@ pub mod AttachLemmas
 pub mod DetachLemmas
 pub mod IndexLemmas
 pub mod FiringLemmas
+pub mod ForgetLemmas
 pub mod FoundLemmas
 pub mod HeldLemmas
 pub mod PlaceLemmas

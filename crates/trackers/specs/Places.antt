@@ -44,6 +44,12 @@ row_as slots fired number name InSlot = row_in (slot_at slots number)
 row_as slots fired number name Untaken = row_over name true (firing_or_none fired number)
 row_as slots fired number name (Taken was_set) = row_over name false (firing_or_none fired number)
 
+-- a tracker at this stage has its row in a slot
+abbrev pub in_slot : Stage → Bool
+in_slot InSlot = true
+in_slot Untaken = false
+in_slot (Taken was_set) = false
+
 -- the row of a place
 abbrev pub row_at : Slots → List Fired → Place → TrackerRow
 row_at slots fired place = row_as slots fired place.number place.note.cell place.stage

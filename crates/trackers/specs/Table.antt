@@ -62,6 +62,18 @@ is_untaken untaken id = list_any (λ i. i == id) untaken
 abbrev pub without_id : List ℕ → ℕ → List ℕ
 without_id untaken id = filter (λ i. not (i == id)) untaken
 
+-- the tracker with this id waits
+abbrev pub is_unfired : List Waiting → ℕ → Bool
+is_unfired unfired id = list_any (λ (t : Waiting). t.id == id) unfired
+
+-- the table without the trackers that fired: their firings, their cells, and those of their readers that were still to be taken
+abbrev pub forgetful : TrackerTable → TrackerTable
+forgetful table = record table {
+  cells = filter (λ (c : Cell). is_unfired table.unfired c.id) table.cells;
+  untaken = filter (is_unfired table.unfired) table.untaken;
+  fired = [];
+}
+
 -- a reader of the tracker with this id, which knows the firing if there was one
 abbrev pub reader_of : TrackerTable → ℕ → Reader
 reader_of table id = record { tracker = id; cell = unwrap_or (cell_of table.cells id) 0; known = firing_of table.fired id }

@@ -66,6 +66,13 @@ impl Row {
         self.tracker.id
     }
 
+    /// The tracker.
+    pub(crate) fn tracker(&self) -> Waiting
+        ensures { result ≡ self.now.tracker }
+    {
+        self.tracker
+    }
+
     /// Whether what the tracker waits for holds.
     pub(crate) fn is_due<W: World>(&self, world: &W) -> bool
         ensures { result ≡ holds (W.seen world.now) self.now.tracker.condition }

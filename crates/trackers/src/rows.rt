@@ -3,15 +3,17 @@
 //! Places stand by rising id, for a binary search; firings stand in their order, in which ids do
 //! not rise.
 ghost use Rattle.std.specs.Prelude.{◌≡◌, ◌↔◌, ◌+◌, ◌^◌, ◌<◌, ◌≤◌, [], ◌∷◌, ◌++◌, length, true, false, Option, Some, None, OnOk, OnErr, IfSome, IsTrue, slice_index_or, slice_set, option_to_list};
-ghost use Rattle.std.specs.List.{AllByRecursion};
-ghost use Rattle.trackers.specs.Row.{TrackerRow, Over, is_waiting, firing_of_row, reader_of_row, row_of_waiting};
+ghost use Rattle.std.specs.List.{AllByRecursion, filter};
+ghost use Rattle.trackers.specs.Row.{TrackerRow, Over, is_waiting, firing_of_row, reader_of_row, row_of_waiting, waiting_of_row};
 ghost use Rattle.trackers.specs.Held.{IsSearchAnswer, row_after, fires};
 
 use crate::place::{
-    Place, add, agree_at, find_place, fire_place, is_due_at, leave, make_room, take_at,
+    Place, add, agree_at, find_place, fire_place, is_due_at, leave, make_room, take_at, waiting_at,
+    waits,
 };
 use crate::row::Row;
 use crate::tracker::Tracker;
+use crate::waiting::Waiting;
 use crate::world::World;
 use slab::Slab;
 use sm_names::{Fired, TrackerId};
@@ -70,6 +72,24 @@ impl Rows {
         ensures { result + length self.now.fired ≡ length self.now.rows }
     {
         self.places.len() - self.fired.len()
+    }
+
+    /// What the tracker at this place waits for, if it waits.
+    pub(crate) fn waiting_at(&self, at: usize) -> Option<Waiting>
+        requires { at < length self.now.rows }
+        ensures { (d : TrackerRow) → result ≡ waiting_of_row (slice_index_or self.now.rows at d) }
+    {
+        waiting_at(&self.places[at], &self.slots, &self.fired)
+    }
+
+    /// Forgets the rows of the trackers that fired, and their firings.
+    pub(crate) fn forget(&mut self)
+        ensures rows { self.new.rows ≡ filter is_waiting self.old.rows }
+        ensures fired { self.new.fired ≡ [] }
+        ensures room { self.new.room ≡ self.old.room }
+    {
+        self.places.retain(|place| waits(place));
+        self.fired.clear();
     }
 
     /// The firings in their order.

@@ -1,12 +1,12 @@
 //! All trackers of a service.
-ghost use Rattle.std.specs.Prelude.{◌≡◌, ◌≢◌, ℕ, ◌+◌, ◌^◌, ◌<◌, ◌≤◌, ◌==◌, ◌↔◌, [], ◌∷◌, ◌++◌, length, vec_capacity, true, false, if◌then◌else◌, Some, None, All, OnOk, OnErr, IfSome, Err};
+ghost use Rattle.std.specs.Prelude.{◌≡◌, ◌≢◌, ℕ, ◌+◌, ◌^◌, ◌<◌, ◌≤◌, ◌==◌, ◌↔◌, [], ◌∷◌, ◌++◌, length, vec_capacity, true, false, if◌then◌else◌, Some, None, All, OnOk, OnErr, IfOk, IfSome, Err};
 ghost use Rattle.trackers.specs.declared.waiting.Waiting.{Waiting};
-ghost use Rattle.trackers.specs.Table.{TrackerTable, Cell, empty, is_due, firings, still_waiting, firing_of, cell_of, is_untaken, without_id, reader_of, Attaches};
+ghost use Rattle.trackers.specs.Table.{TrackerTable, Cell, empty, is_due, firings, still_waiting, firing_of, cell_of, is_untaken, without_id, reader_of, forgetful, Attaches};
 ghost use Rattle.trackers.specs.WaitIndex.{Wish, entries_of, weigh};
 ghost use Rattle.std.specs.Bool.{OnTrue};
-ghost use Rattle.std.specs.List.{AllByRecursion};
-ghost use Rattle.trackers.specs.Row.{TrackerRow};
-ghost use Rattle.trackers.specs.Held.{attached};
+ghost use Rattle.std.specs.List.{AllByRecursion, filter};
+ghost use Rattle.trackers.specs.Row.{TrackerRow, is_waiting};
+ghost use Rattle.trackers.specs.Held.{IsIndexed, attached};
 
 use crate::index::{WaitIndex, insert_row, remove_row, take_due_rows};
 use crate::row::Row;
@@ -15,7 +15,7 @@ use crate::tracker::Tracker;
 use crate::waiting::Waiting;
 use crate::walk::fire_due;
 use crate::world::World;
-use sm_names::{CollectionId, Fired, TrackerId};
+use sm_names::{CollectionId, Fired, NoMemory, TrackerId};
 use std::alloc::{AllocError, Global};
 use std::collections::HashMap;
 use std::marker::Model;
@@ -148,6 +148,26 @@ impl Trackers {
         self.rows.fired()
     }
 
+    /// Forgets the trackers that fired: their firings, and those of their readers that were not taken. A
+    /// reader that was taken still reads its firing.
+    ///
+    /// `NoMemory` if a new index of those that wait is refused; then nothing changed. It costs a pass over
+    /// the trackers that fired since the last time, and the logarithm of how many wait for each that
+    /// does.
+    pub fn forget_fired(&mut self) -> Result<(), NoMemory>
+        ensures ok { OnOk result (self.new ≡ forgetful self.old) }
+        ensures err { OnErr result (self.new ≡ self.old) }
+    {
+        match index_of_waiting(*self.due.allocator(), &self.rows) {
+            Ok(index) => {
+                self.index = index;
+                self.rows.forget();
+                Ok(())
+            }
+            Err(_) => Err(NoMemory),
+        }
+    }
+
     /// The reader of the tracker with this id: `Some` once for each that was attached, and else
     /// `None`. It knows the firing if there was one. It takes no memory, and a binary search among
     /// all that were ever attached.
@@ -226,4 +246,25 @@ fn add(
             Err(fault)
         }
     }
+}
+
+/// The index of the rows that wait, by the places that they have among themselves.
+fn index_of_waiting(alloc: Global, rows: &Rows) -> Result<WaitIndex, AllocError>
+    ensures { IfOk result (λ index. IsIndexed (filter is_waiting rows.now.rows) index) }
+{
+    let mut index = HashMap::new(alloc);
+    let mut place = 0;
+    for at in 0..rows.len() {
+        if let Some(tracker) = rows.waiting_at(at) {
+            insert_row(
+                &mut index,
+                alloc,
+                tracker.collection,
+                tracker.condition,
+                place,
+            )?;
+            place += 1;
+        }
+    }
+    Ok(index)
 }

@@ -1,0 +1,319 @@
+-- What is left of the table once the trackers that fired are forgotten.
+use Rattle.std.proofs.Common.{◌≡◌, ◌≢◌, ℕ, ◌+◌, ◌<◌, ◌≤◌, Bool, true, false, ◌==◌, ◌||◌, if◌then◌else◌, cond, List, [], ◌∷◌, ◌++◌, map, length, count_by, option_to_list, Option, Some, None, refl, sym, ap, ◌∙◌, append-nil, arith}
+use Rattle.std.specs.List.{filter, filter_map, cons_option, list_any, AllByRecursion}
+use Rattle.std.specs.Option.{option_map_or}
+use Rattle.std.proofs.lemmas.List.{length_push}
+use Rattle.std.proofs.lemmas.List.Sums.{sum_by-cons}
+use Rattle.sm_names.specs.declared.tracking.Fired.{Fired}
+use Rattle.trackers.specs.declared.place.Place.{Place}
+use Rattle.trackers.specs.declared.place.Stage.{Stage}
+use Rattle.trackers.specs.declared.place.Stage.TheVariants.{InSlot, Untaken, Taken}
+use Rattle.trackers.specs.declared.waiting.Waiting.{Waiting}
+use Rattle.trackers.specs.Table.{Cell, firing_of, forgetful, is_unfired}
+use Rattle.trackers.specs.Row.{TrackerRow, RowState, Waits, Over, is_waiting, waiting_of_row, firing_of_row}
+use Rattle.trackers.specs.WaitIndex.{WaitIndex, Wish, entries_of, weigh}
+use Rattle.trackers.specs.Held.{AreHeld, IdsRise, IsIndexed, NoneHas, TableInvariant, cell_of_row, table_of, untaken_of_row, wish_of_row, wishes_from}
+use Rattle.trackers.specs.Places.{IsKept, IsKeptAt, RowsInvariant, Slots, in_slot, row_as, row_at, rows_of}
+use Rattle.trackers.proofs.FoundLemmas.{other_id, same_id, table_with}
+use Rattle.trackers.proofs.IndexLemmas.{asked_push}
+use Rattle.trackers.proofs.Walks.{row_of}
+use Rattle.trackers.proofs.Weights.{weigh_append}
+
+-- ---- some of a list
+
+-- what holds of all holds of those that pass a test
+all_kept : {X : Type 0} (P : X → Type 0) (test : X → Bool) (xs : List X) → AllByRecursion P xs → AllByRecursion P (filter test xs)
+all_kept P test [] all = tt
+all_kept P test (x ∷ xs) all = elim (test x) as (λ b. AllByRecursion P (cond b (x ∷ filter test xs) (filter test xs))) [
+  | true ↦ (all.0, all_kept P test xs all.1)
+  | false ↦ all_kept P test xs all.1
+]
+
+-- they are no more
+kept_le : {X : Type 0} (test : X → Bool) (xs : List X) → length (filter test xs) ≤ length xs
+kept_le test [] = omega arith
+kept_le test (x ∷ xs) = elim (test x) as (λ b. length (cond b (x ∷ filter test xs) (filter test xs)) ≤ length (x ∷ xs)) [
+  | true ↦ omega (arith, kept_le test xs)
+  | false ↦ omega (arith, kept_le test xs)
+]
+
+-- all of those that are kept pass
+kept_count : {X : Type 0} (test : X → Bool) (xs : List X) → length (filter test xs) ≡ count_by test xs
+kept_count test [] = refl
+kept_count test (x ∷ xs) =
+    elim (test x) as (λ b. length (cond b (x ∷ filter test xs) (filter test xs)) ≡ cond b 1 0 + count_by test xs) [
+      | true ↦ omega (arith, kept_count test xs)
+      | false ↦ omega (arith, kept_count test xs)
+    ] ∙ sym (sum_by-cons (λ y. cond (test y) 1 0) x xs)
+
+kept_again : {X : Type 0} (test : X → Bool) (xs : List X) → count_by test (filter test xs) ≡ count_by test xs
+kept_again test [] = refl
+kept_again test (x ∷ xs) = at (test x) refl (kept_again test xs) ∙ sym (sum_by-cons (λ y. cond (test y) 1 0) x xs)
+  where
+    at : (b : Bool) → test x ≡ b → count_by test (filter test xs) ≡ count_by test xs →
+        count_by test (cond b (x ∷ filter test xs) (filter test xs)) ≡ cond (test x) 1 0 + count_by test xs
+    at true e more = sum_by-cons (λ y. cond (test y) 1 0) x (filter test xs) ∙ ap (λ n. cond (test x) 1 0 + n) more
+    at false e more = omega (arith, more, ap (λ (b : Bool). cond {A = ℕ} b 1 0) e)
+
+-- one more
+pub kept_push : {X : Type 0} (test : X → Bool) (xs : List X) (x : X) →
+    filter test (xs ++ x ∷ []) ≡ filter test xs ++ cond (test x) (x ∷ []) []
+kept_push test [] x = elim (test x) as (λ b. cond b (x ∷ []) [] ≡ [] ++ cond b (x ∷ []) []) [ true ↦ refl | false ↦ refl ]
+kept_push test (y ∷ ys) x =
+    elim (test y) as (λ b. cond b (y ∷ filter test (ys ++ x ∷ [])) (filter test (ys ++ x ∷ [])) ≡ cond b (y ∷ filter test ys)
+    (filter test ys) ++ cond (test x) (x ∷ []) []) [
+      | true ↦ ap (λ l. y ∷ l) (kept_push test ys x)
+      | false ↦ kept_push test ys x
+    ]
+
+-- what a function makes of a list that may have one more
+map_cond : {X Y : Type 0} (f : X → Y) (b : Bool) (x : X) (xs : List X) → map f (cond b (x ∷ xs) xs) ≡ cond b (f x ∷ map f xs) (map f xs)
+map_cond f true x xs = refl
+map_cond f false x xs = refl
+
+-- ---- the places of rows in slots
+
+-- the place is in a slot
+abbrev pub is_in_slot : Place → Bool
+is_in_slot place = in_slot place.stage
+
+module _ (slots : Slots) (fired : List Fired) where
+  -- their rows are those that wait
+  pub rows_kept : (places : List Place) → rows_of slots [] (filter is_in_slot places) ≡ filter is_waiting (rows_of slots fired places)
+  rows_kept [] = refl
+  rows_kept (p ∷ ps) = map_cond (row_at slots []) (in_slot p.stage) p (filter is_in_slot ps)
+      ∙ elim p.stage as (λ s. cond (in_slot s) (row_as slots [] p.number p.note.cell s ∷ rows_of slots [] (filter is_in_slot ps))
+      (rows_of slots [] (filter is_in_slot ps)) ≡ cond (is_waiting (row_as slots fired p.number p.note.cell s))
+      (row_as slots fired p.number p.note.cell s ∷ filter is_waiting (rows_of slots fired ps)) (filter is_waiting (rows_of slots fired ps))) [
+        | InSlot ↦ ap (λ l. row_as slots fired p.number p.note.cell InSlot ∷ l) (rows_kept ps)
+        | Untaken ↦ rows_kept ps
+        | Taken was_set ↦ rows_kept ps
+      ]
+
+  -- what they name is there
+  names_kept : (number name : ℕ) (known : Option Fired) (stage : Stage) → in_slot stage ≡ true →
+      IsKept slots fired number name known stage → IsKept slots [] number name known stage
+  names_kept number name known InSlot is kept = kept
+  names_kept number name known Untaken is kept = let no : false ≡ true = is in cc
+  names_kept number name known (Taken was_set) is kept = let no : false ≡ true = is in cc
+
+  all_named : (places : List Place) → AllByRecursion (IsKeptAt slots fired) places →
+      AllByRecursion (IsKeptAt slots []) (filter is_in_slot places)
+  all_named [] all = tt
+  all_named (p ∷ ps) all = at (in_slot p.stage) refl (all_named ps all.1)
+    where
+      at : (b : Bool) → in_slot p.stage ≡ b → AllByRecursion (IsKeptAt slots []) (filter is_in_slot ps) →
+          AllByRecursion (IsKeptAt slots []) (cond b (p ∷ filter is_in_slot ps) (filter is_in_slot ps))
+      at true e more = (names_kept p.number p.note.cell p.note.known p.stage e all.0, more)
+      at false e more = more
+
+-- the ids of some rows rise too
+pub rising_kept : (test : TrackerRow → Bool) (rows : List TrackerRow) → IdsRise rows → IdsRise (filter test rows)
+rising_kept test [] rising = tt
+rising_kept test (row ∷ rows) rising = elim (test row) as (λ b. IdsRise (cond b (row ∷ filter test rows) (filter test rows))) [
+  | true ↦ (all_kept (λ (later : TrackerRow). row.id < later.id) test rows rising.0, rising_kept test rows rising.1)
+  | false ↦ rising_kept test rows rising.1
+]
+
+-- the rows that wait are sound by themselves
+pub places_kept : (slots : Slots) (fired : List Fired) (places : List Place) → RowsInvariant slots fired places →
+    RowsInvariant slots [] (filter is_in_slot places)
+places_kept slots fired places sound = record {
+  kept = all_named slots fired places sound.kept;
+  rising = rw (rows_kept slots fired places) (rising_kept is_waiting (rows_of slots fired places) sound.rising);
+}
+
+-- ---- the table
+
+-- a row that waits has no firing
+untold : (row : TrackerRow) → is_waiting row ≡ true → None ≡ firing_of_row row
+untold row waits = at row.id row.state waits
+  where
+    at : (id : ℕ) (state : RowState) → is_waiting (row_of id row.cell state row.has_reader) ≡ true →
+        None ≡ firing_of_row (row_of id row.cell state row.has_reader)
+    at id (Waits place condition) is = refl
+    at id (Over event) is = let no : false ≡ true = is in cc
+
+untold_all : (rows : List TrackerRow) → AllByRecursion (λ (row : TrackerRow). firing_of [] row.id ≡ firing_of_row row) (filter is_waiting rows)
+untold_all [] = tt
+untold_all (row ∷ rows) = at (is_waiting row) refl (untold_all rows)
+  where
+    at : (b : Bool) → is_waiting row ≡ b →
+        AllByRecursion (λ (r : TrackerRow). firing_of [] r.id ≡ firing_of_row r) (filter is_waiting rows) →
+        AllByRecursion (λ (r : TrackerRow). firing_of [] r.id ≡ firing_of_row r)
+        (cond b (row ∷ filter is_waiting rows) (filter is_waiting rows))
+    at true e more = (untold row e, more)
+    at false e more = more
+
+-- it is sound without what fired
+pub sound_forgotten : (limit capacity spare : ℕ) (rows rows' : List TrackerRow) (fired fired' : List Fired) (old new : WaitIndex) →
+    TableInvariant limit rows fired capacity spare old → IsIndexed (filter is_waiting rows) new →
+    rows' ≡ filter is_waiting rows → fired' ≡ [] → TableInvariant limit rows' fired' capacity spare new
+sound_forgotten limit capacity spare rows rows' fired fired' old new sound indexed left none = rw (left, none) record {
+  held = record {
+    rising = rising_kept is_waiting rows sound.held.rising;
+    counted = omega (arith, kept_count is_waiting rows, kept_again is_waiting rows);
+    room = omega (arith, sound.held.room, kept_le is_waiting rows);
+    within = omega (arith, sound.held.within, kept_again is_waiting rows);
+    told = untold_all rows;
+    own = λ id none. refl;
+  };
+  indexed = indexed;
+  spare_room = omega (arith, sound.spare_room, kept_again is_waiting rows);
+}
+
+-- ---- what is shown of it
+
+-- what the others wait for
+rest_waits : (rows : List TrackerRow) → filter_map waiting_of_row (filter is_waiting rows) ≡ filter_map waiting_of_row rows
+rest_waits [] = refl
+rest_waits (row ∷ rows) = at row.id row.cell row.state row.has_reader (rest_waits rows)
+  where
+    at : (id cell : ℕ) (state : RowState) (has : Bool) →
+        filter_map waiting_of_row (filter is_waiting rows) ≡ filter_map waiting_of_row rows → filter_map waiting_of_row (cond (is_waiting (row_of id cell state has))
+        (row_of id cell state has ∷ filter is_waiting rows) (filter is_waiting rows)) ≡ cons_option (waiting_of_row (row_of id cell state has))
+        (filter_map waiting_of_row rows)
+    at id cell (Waits place condition) has more = ap (λ (l : List Waiting). record { id = id; collection = place; condition = condition } ∷ l) more
+    at id cell (Over event) has more = more
+
+-- no tracker of rows with higher ids has this one
+none_waits : (id : ℕ) (rows : List TrackerRow) → AllByRecursion (λ (r : TrackerRow). id < r.id) rows →
+    is_unfired (filter_map waiting_of_row rows) id ≡ false
+none_waits id [] above = refl
+none_waits id (row ∷ rows) above = at row.id row.cell row.state row.has_reader above.0 (none_waits id rows above.1)
+  where
+    at : (i cell : ℕ) (state : RowState) (has : Bool) → id < i → is_unfired (filter_map waiting_of_row rows) id ≡ false → is_unfired (cons_option (waiting_of_row (row_of i cell state has))
+        (filter_map waiting_of_row rows)) id ≡ false
+    at i cell (Waits place condition) has less more = rw (other_id i id (λ same. omega (arith, less, same))) more
+    at i cell (Over event) has less more = more
+
+-- each of the rows waits exactly if its tracker is unfired
+abbrev pub IsTold : List Waiting → TrackerRow → Type 0
+IsTold unfired row = is_unfired unfired row.id ≡ is_waiting row
+
+-- one tracker more, of a lower id
+told_on : (t : TrackerRow) (unfired : List Waiting) (rows : List TrackerRow) → AllByRecursion (λ (r : TrackerRow). t.id < r.id) rows →
+    AllByRecursion (IsTold unfired) rows → AllByRecursion (IsTold (cons_option (waiting_of_row t) unfired)) rows
+told_on t unfired [] above all = tt
+told_on t unfired (row ∷ rows) above all = (at t.id t.cell t.state t.has_reader above.0, told_on t unfired rows above.1 all.1)
+  where
+    at : (i cell : ℕ) (state : RowState) (has : Bool) → i < row.id →
+        is_unfired (cons_option (waiting_of_row (row_of i cell state has)) unfired) row.id ≡ is_waiting row
+    at i cell (Waits place condition) has less = rw (other_id i row.id (λ same. omega (arith, less, same))) all.0
+    at i cell (Over event) has less = all.0
+
+-- its own
+told_here : (row : TrackerRow) (rows : List TrackerRow) → AllByRecursion (λ (r : TrackerRow). row.id < r.id) rows →
+    IsTold (cons_option (waiting_of_row row) (filter_map waiting_of_row rows)) row
+told_here row rows above = at row.id row.cell row.state row.has_reader above
+  where
+    at : (i cell : ℕ) (state : RowState) (has : Bool) → AllByRecursion (λ (r : TrackerRow). i < r.id) rows →
+        IsTold (cons_option (waiting_of_row (row_of i cell state has)) (filter_map waiting_of_row rows)) (row_of i cell state has)
+    at i cell (Waits place condition) has up = rw (same_id i) refl
+    at i cell (Over event) has up = none_waits i rows up
+
+all_told : (rows : List TrackerRow) → IdsRise rows → AllByRecursion (IsTold (filter_map waiting_of_row rows)) rows
+all_told [] rising = tt
+all_told (row ∷ rows) rising =
+    (told_here row rows rising.0, told_on row (filter_map waiting_of_row rows) rows rising.0 (all_told rows rising.1))
+
+module _ (unfired : List Waiting) where
+  -- the cells that are left
+  cells_left : (rows : List TrackerRow) → AllByRecursion (IsTold unfired) rows →
+      map cell_of_row (filter is_waiting rows) ≡ filter (λ (c : Cell). is_unfired unfired c.id) (map cell_of_row rows)
+  cells_left [] all = refl
+  cells_left (row ∷ rows) all = map_cond cell_of_row (is_waiting row) row (filter is_waiting rows)
+      ∙ (let here = sym all.0 in let more = cells_left rows all.1 in λ i. cond (here i) (cell_of_row row ∷ more i) (more i))
+
+  -- and the readers that are left to be taken
+  untaken_left : (rows : List TrackerRow) → AllByRecursion (IsTold unfired) rows →
+      filter_map untaken_of_row (filter is_waiting rows) ≡ filter (is_unfired unfired) (filter_map untaken_of_row rows)
+  untaken_left [] all = refl
+  untaken_left (row ∷ rows) all = at row.has_reader (is_waiting row) all.0 (untaken_left rows all.1)
+    where
+      at : (has b : Bool) → is_unfired unfired row.id ≡ b →
+          filter_map untaken_of_row (filter is_waiting rows) ≡ filter (is_unfired unfired) (filter_map untaken_of_row rows) → filter_map untaken_of_row (cond b (record row { has_reader = has } ∷ filter is_waiting rows) (filter is_waiting rows))
+          ≡ filter (is_unfired unfired) (cons_option (untaken_of_row (record row { has_reader = has })) (filter_map untaken_of_row rows))
+      at true true e more = rw e (ap (λ l. row.id ∷ l) more)
+      at true false e more = rw e more
+      at false true e more = more
+      at false false e more = more
+
+-- so the table is the one without what fired
+pub table_forgotten : (limit : ℕ) (rows rows' : List TrackerRow) (fired fired' : List Fired) → IdsRise rows →
+    rows' ≡ filter is_waiting rows → fired' ≡ [] → table_of limit rows' fired' ≡ forgetful (table_of limit rows fired)
+table_forgotten limit rows rows' fired fired' rising left none =
+    let told = all_told rows rising in
+    rw (left, none) (λ i. table_with limit (cells_left _ rows told i) (rest_waits rows i) (untaken_left _ rows told i) [])
+
+-- ---- the new index
+
+-- a row that there is not
+abbrev pub no_row : TrackerRow
+no_row = record { id = 0; cell = 0; state = Over 0; has_reader = false }
+
+-- the rows so far that wait are indexed, and so many are they
+pub record IsPartIndexed (rows : List TrackerRow) (place : ℕ) (index : WaitIndex) : Type 0 where
+  pub at : (c : ℕ) (f : Wish → ℕ) → weigh f (entries_of index c) ≡ weigh f (wishes_from c 0 (filter is_waiting rows))
+  pub place_is : place ≡ length (filter is_waiting rows)
+
+module _ (rows : List TrackerRow) (place : ℕ) (index : WaitIndex) (so : IsPartIndexed rows place index) (row : TrackerRow) where
+  -- one row more that fired
+  pub indexed_pass : waiting_of_row row ≡ None → IsPartIndexed (rows ++ row ∷ []) place index
+  indexed_pass none = record {
+    at = λ c f. so.at c f ∙ ap (λ l. weigh f (wishes_from c 0 l)) (sym kept);
+    place_is = so.place_is ∙ ap length (sym kept);
+  }
+    where
+      from : (id cell : ℕ) (state : RowState) (has : Bool) → waiting_of_row (row_of id cell state has) ≡ None →
+          is_waiting (row_of id cell state has) ≡ false
+      from id cell (Waits p condition) has e = cc
+      from id cell (Over event) has e = refl
+
+      over : is_waiting row ≡ false
+      over = from row.id row.cell row.state row.has_reader none
+
+      kept : filter is_waiting (rows ++ row ∷ []) ≡ filter is_waiting rows
+      kept = kept_push is_waiting rows row ∙ ap (λ b. filter is_waiting rows ++ cond b (row ∷ []) []) over
+          ∙ append-nil (filter is_waiting rows)
+
+  -- or one more that waits
+  pub indexed_more : (t : Waiting) (new : WaitIndex) → waiting_of_row row ≡ Some t →
+      ((c : ℕ) (f : Wish → ℕ) → weigh f (entries_of new c) ≡ (if c == t.collection then f (t.condition, place) + weigh f (entries_of index c)
+      else weigh f (entries_of index c))) → IsPartIndexed (rows ++ row ∷ []) (place + 1) new
+  indexed_more t new is indexed = record {
+    at = λ c f. at c f ∙ ap (λ l. weigh f (wishes_from c 0 l)) (sym kept);
+    place_is = omega (arith, so.place_is, length_push (filter is_waiting rows) row, ap length kept);
+  }
+    where
+      from : (id cell : ℕ) (state : RowState) (has : Bool) → waiting_of_row (row_of id cell state has) ≡ Some t →
+          is_waiting (row_of id cell state has) ≡ true
+      from id cell (Waits p condition) has e = refl
+      from id cell (Over event) has e = cc
+
+      on : is_waiting row ≡ true
+      on = from row.id row.cell row.state row.has_reader is
+
+      kept : filter is_waiting (rows ++ row ∷ []) ≡ filter is_waiting rows ++ row ∷ []
+      kept = kept_push is_waiting rows row ∙ ap (λ b. filter is_waiting rows ++ cond b (row ∷ []) []) on
+
+      asked : (c n : ℕ) → wish_of_row c n row ≡ (if c == t.collection then Some (t.condition, n) else None)
+      asked c n = ap (λ o. option_map_or (λ (w : Waiting). if c == w.collection then Some (w.condition, n) else None) o None) is
+
+      at : (c : ℕ) (f : Wish → ℕ) → weigh f (entries_of new c) ≡ weigh f (wishes_from c 0 (filter is_waiting rows ++ row ∷ []))
+      at c f =
+          let kept : List TrackerRow = filter is_waiting rows in
+          let had : weigh f (entries_of index c) ≡ weigh f (wishes_from c 0 kept) = so.at c f in
+          let place_is : 0 + length kept ≡ place = omega (arith, so.place_is) in
+          let joined : weigh f (wishes_from c 0 (kept ++ row ∷ [])) ≡ weigh f (wishes_from c 0 kept) + weigh f
+          (option_to_list (if c == t.collection then Some (t.condition, place) else None)) =
+          ap (weigh f) (asked_push c 0 kept row)
+          ∙ weigh_append f (wishes_from c 0 kept) (option_to_list (wish_of_row c (0 + length kept) row))
+          ∙ ap (λ o. weigh f (wishes_from c 0 kept) + weigh f (option_to_list o)) (asked c (0 + length kept)
+          ∙ ap (λ n. if c == t.collection then Some (t.condition, n) else None) place_is) in
+          indexed c f ∙ (elim (c == t.collection) as (λ b.
+          (if b then f (t.condition, place) + weigh f (entries_of index c) else weigh f (entries_of index c)) ≡ weigh f
+          (wishes_from c 0 kept) + weigh f (option_to_list (if b then Some (t.condition, place) else None))) [
+            | true ↦ omega (arith, had)
+            | false ↦ omega (arith, had)
+          ] ∙ sym joined)
