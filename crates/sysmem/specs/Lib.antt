@@ -1,6 +1,7 @@
 pub mod Exits
 pub mod Ownership
 pub mod Arrays
+pub mod Codes
 pub mod Names
 pub mod Nodes
 pub mod Opening

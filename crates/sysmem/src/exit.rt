@@ -1,6 +1,7 @@
 //! The exit of a client.
-ghost use Rattle.std.specs.Prelude.{◌≡◌, ◌↔◌, ◌≢◌, None, IsSomeAnd};
+ghost use Rattle.std.specs.Prelude.{◌≡◌, ◌↔◌, ◌≢◌, ◌≤◌, None, IsSomeAnd, true};
 ghost use Rattle.client_exit.specs.Parting.{Exits};
+ghost use Rattle.sysmem.specs.Codes.{is_among, vanish_codes};
 ghost use Rattle.sysmem.specs.Exits.{IsExitStopped, StoppedBy, fault_code};
 
 use crate::codes::{DONE, HISTORY_FULL, NO_CLIENT, NO_MEMORY, NOT_OPEN};
@@ -15,6 +16,7 @@ fn fault_code(fault: PartFault) -> u32
     ensures value { result ≡ fault_code fault }
     ensures failed { result ≢ 0 }
     ensures open { result ≢ 1 }
+    ensures codes { is_among vanish_codes result ≡ true }
 {
     match fault {
         PartFault::NoSuchClient => NO_CLIENT,
@@ -28,6 +30,8 @@ fn part(core: &mut Core, client: ClientId, events: &mut u64) -> u32
     ensures done { result ≡ 0 → Exits core.old core.new client events.new }
     ensures stopped { result ≢ 0 → StoppedBy core.old core.new client events.new result }
     ensures open { result ≢ 1 }
+    ensures full { result ≡ 5 → core.new.limits.events ≤ core.new.events }
+    ensures codes { is_among vanish_codes result ≡ true }
 {
     match part_with(core, client) {
         Ok(parted) => {
@@ -63,6 +67,9 @@ pub extern "C" fn sysmem_vanish(
         IsExitStopped handle.old.place.core handle.new.place.core client events.new result }
     ensures not_open { (result ≡ 1) ↔ (handle.old.place.core ≡ None) }
     ensures untold { result ≡ 1 → events.new ≡ events.old }
+    ensures full { result ≡ 5 → IsSomeAnd handle.new.place.core
+        (λ core. core.limits.events ≤ core.events) }
+    ensures codes { is_among vanish_codes result ≡ true }
 {
     let Some(mut core) = take(alloc, handle) else {
         return NOT_OPEN;

@@ -1,5 +1,6 @@
 //! Opening and closing.
-ghost use Rattle.std.specs.Prelude.{◌≡◌, ◌↔◌, ◌≢◌, None, true, is_some, IsSomeAnd};
+ghost use Rattle.std.specs.Prelude.{◌≡◌, ◌↔◌, ◌≢◌, ◌≤◌, None, true, is_some, IsSomeAnd};
+ghost use Rattle.sysmem.specs.Codes.{is_among, open_codes};
 ghost use Rattle.sysmem.specs.Opening.{IsInRange, IsNew};
 
 use crate::codes::{ALREADY_OPEN, BAD_LIMITS, DONE, NO_MEMORY, NOT_OPEN};
@@ -32,6 +33,7 @@ pub extern "C" fn sysmem_open(
     ensures outside { handle.old.place.core ≡ None →
         ¬ IsInRange pages events nodes collections trackers handles → result ≡ 3 }
     ensures failed { result ≢ 0 → handle.new.place.core ≡ handle.old.place.core }
+    ensures codes { is_among open_codes result ≡ true }
 {
     let seed = [0; 16];
     sysmem_open_seeded(
@@ -68,6 +70,7 @@ pub extern "C" fn sysmem_open_seeded(
     ensures outside { handle.old.place.core ≡ None →
         ¬ IsInRange pages events nodes collections trackers handles → result ≡ 3 }
     ensures failed { result ≢ 0 → handle.new.place.core ≡ handle.old.place.core }
+    ensures codes { is_among open_codes result ≡ true }
 {
     let limits = Limits::new(events, nodes, collections, trackers, handles);
     open_with(alloc, handle, pages, limits, seed)
@@ -94,6 +97,7 @@ pub extern "C" fn sysmem_open_lasting(
     ensures outside { handle.old.place.core ≡ None →
         ¬ IsInRange pages LASTING_EVENTS nodes collections trackers handles → result ≡ 3 }
     ensures failed { result ≢ 0 → handle.new.place.core ≡ handle.old.place.core }
+    ensures codes { is_among open_codes result ≡ true }
 {
     let limits = match Limits::new(1, nodes, collections, trackers, handles) {
         Some(limits) => Some(limits.lasting()),
@@ -116,6 +120,7 @@ fn open_with(
     ensures refused { (result ≡ 3) ↔ ((handle.old.place.core ≡ None)
         × (¬ ((is_some limits ≡ true) × ((1 ≤ pages) × (pages ≤ MAX_PAGES))))) }
     ensures failed { result ≢ 0 → handle.new.place.core ≡ handle.old.place.core }
+    ensures codes { is_among open_codes result ≡ true }
 {
     if is_open(handle) {
         return ALREADY_OPEN;

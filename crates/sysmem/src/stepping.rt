@@ -1,5 +1,6 @@
 //! One call.
 ghost use Rattle.std.specs.Prelude.{◌≡◌, ◌↔◌, ◌≢◌, ◌≤◌, None, IsSomeAnd, is_some, true};
+ghost use Rattle.sysmem.specs.Codes.{is_among, step_codes};
 ghost use Rattle.sysmem.specs.Stepping.{IsCoreUnchanged, IsCoreCall, StaysAs};
 ghost use Rattle.sysmem.specs.Words.{said};
 
@@ -17,8 +18,10 @@ fn step_by_words(core: &mut Core, client: ClientId, asked: &CallWords, told: &mu
     ensures untold { result ≢ 0 → told.new ≡ told.old }
     ensures bad { (result ≡ 4) ↔ (said asked.now ≡ None) }
     ensures bad_same { result ≡ 4 → core.new ≡ core.old }
-    ensures full { result ≡ 5 → core.old.limits.events ≤ core.old.events }
+    ensures full { (result ≡ 5) ↔ ((is_some (said asked.now) ≡ true)
+        × (core.old.limits.events ≤ core.old.events)) }
     ensures open { result ≢ 1 }
+    ensures codes { is_among step_codes result ≡ true }
 {
     let Some(call) = call_of(asked) else {
         return BAD_CALL;
@@ -35,9 +38,10 @@ fn step_by_words(core: &mut Core, client: ClientId, asked: &CallWords, told: &mu
 
 /// Makes one call of this client, and writes its reply. This is one event, also if the call is refused.
 ///
-/// `NOT_OPEN` if the handle has no core; `BAD_CALL` exactly if the numbers encode no call; `HISTORY_FULL`
-/// if the limit allows no further event, `NO_MEMORY` if memory is refused. Each of these leaves the core
-/// and `told` as they were. Costs what `Core::step` costs.
+/// `NOT_OPEN` exactly if the handle has no core; `BAD_CALL` exactly if the numbers encode no call;
+/// `HISTORY_FULL` exactly if they do and the limit allows no further event; `NO_MEMORY` if memory is
+/// refused. There is no other code but `DONE`. Each of these leaves the core and `told` as they were.
+/// Costs what `Core::step` costs.
 #[unsafe(no_mangle)]
 pub extern "C" fn sysmem_step(
     alloc: Global,
@@ -56,8 +60,9 @@ pub extern "C" fn sysmem_step(
     ensures unsaid { is_some handle.old.place.core ≡ true → said asked.now ≡ None →
         result ≡ 4 }
     ensures bad_same { result ≡ 4 → handle.new.place.core ≡ handle.old.place.core }
-    ensures full { result ≡ 5 → IsSomeAnd handle.old.place.core
-        (λ core. core.limits.events ≤ core.events) }
+    ensures full { (result ≡ 5) ↔ IsSomeAnd handle.old.place.core
+        (λ core. (is_some (said asked.now) ≡ true) × (core.limits.events ≤ core.events)) }
+    ensures codes { is_among step_codes result ≡ true }
 {
     let Some(mut core) = take(alloc, handle) else {
         return NOT_OPEN;
