@@ -6,21 +6,16 @@ use std::sync::Wait;
 use std::thread::Threads;
 use std::time::Clock;
 
-// Whether all is gathered if the actors make no step, the first one, and so on to all steps. Each actor joins in one of
-// the first lines.
+// Whether all is gathered if the one actor makes no step, the first one, and so on to all steps. It joins in
+// the first line.
 fn are_gathered<R: Threads + Wait + Clock + Abort + Sync>(
     rt: &R,
     alloc: Global,
     script: &[u8],
-    actors: usize,
 ) -> bool {
-    let mut lines: usize = 0;
     for at in 0..script.len() {
-        if script[at] == b'\n' {
-            lines = lines.saturating_add(1);
-            if actors <= lines && !gathers(rt, alloc, &script[..at + 1], actors) {
-                return false;
-            }
+        if script[at] == b'\n' && !gathers(rt, alloc, &script[..at + 1], 1) {
+            return false;
         }
     }
     true
@@ -31,10 +26,67 @@ fn all_are_gathered<R: Threads + Wait + Clock + Abort + Sync>(
     rt: &R,
     alloc: Global,
     scripts: &[&str],
-    actors: usize,
 ) -> bool {
     for script in scripts {
-        if !are_gathered(rt, alloc, script.as_bytes(), actors) {
+        if !are_gathered(rt, alloc, script.as_bytes()) {
+            return false;
+        }
+    }
+    true
+}
+
+// Whether all is gathered if these are the steps of two actors.
+fn both_are_gathered<R: Threads + Wait + Clock + Abort + Sync>(
+    rt: &R,
+    alloc: Global,
+    first: &[u8],
+    second: &[u8],
+) -> bool {
+    let mut script = Vec::new(alloc);
+    script.extend_from_slice(b"a join\nb join\n").is_ok()
+        && script.extend_from_slice(first).is_ok()
+        && script.extend_from_slice(second).is_ok()
+        && gathers(rt, alloc, script.as_slice(), 2)
+}
+
+// The same if the second makes no step, the first one, and so on to all its steps.
+fn cuts_are_gathered<R: Threads + Wait + Clock + Abort + Sync>(
+    rt: &R,
+    alloc: Global,
+    first: &[u8],
+    second: &[u8],
+) -> bool {
+    for at in 0..second.len() {
+        if second[at] == b'\n' && !both_are_gathered(rt, alloc, first, &second[..at + 1]) {
+            return false;
+        }
+    }
+    both_are_gathered(rt, alloc, first, b"")
+}
+
+// The same if the first does so too, for each cut of the second.
+fn all_cuts_are_gathered<R: Threads + Wait + Clock + Abort + Sync>(
+    rt: &R,
+    alloc: Global,
+    first: &[u8],
+    second: &[u8],
+) -> bool {
+    for at in 0..first.len() {
+        if first[at] == b'\n' && !cuts_are_gathered(rt, alloc, &first[..at + 1], second) {
+            return false;
+        }
+    }
+    cuts_are_gathered(rt, alloc, b"", second)
+}
+
+// The same for each pair of scripts.
+fn pairs_are_gathered<R: Threads + Wait + Clock + Abort + Sync>(
+    rt: &R,
+    alloc: Global,
+    pairs: &[(&str, &str)],
+) -> bool {
+    for (first, second) in pairs {
+        if !all_cuts_are_gathered(rt, alloc, first.as_bytes(), second.as_bytes()) {
             return false;
         }
     }
@@ -48,7 +100,7 @@ a constrain r 1 0 4096\na constrain k 1 0 4096\na constrain j 1 0 4096\na close 
 
 #[test]
 fn a_failure_stops_at_an_allocated_dispensable_node(rt: HostRuntime) {
-    assert!(rt; all_are_gathered(&rt, rt.alloc(), DISPENSABLE, 1));
+    assert!(rt; all_are_gathered(&rt, rt.alloc(), DISPENSABLE));
 }
 
 const ATTACHED: &[&str] = &[
@@ -62,18 +114,27 @@ a attach r u\na bind u\na constrain u 1 0 4096\na check u\na check r\n",
 
 #[test]
 fn an_attached_subtree_fails_alone(rt: HostRuntime) {
-    assert!(rt; all_are_gathered(&rt, rt.alloc(), ATTACHED, 1));
+    assert!(rt; all_are_gathered(&rt, rt.alloc(), ATTACHED));
 }
 
-const PARCELS: &[&str] = &[
-    "a join\nb join\na open r\nb shut\na give r b\na bind r\na give r a\na collect m\na check m\n",
-    "a join\nb join\na open r\na dup r k\na give k b\na sync k\nb sync k\nb sync r\nb shut\nb collect m\n\
-b close m\nb collect o\na sync r\n",
-    "a join\nb join\na open r\na bind r\na constrain r 2 0 4096\na take r\na giveh r.0 strong b\n\
-a duph r.1 strong\na giveh r.1 strong a\nb collect m\na collect n\na droph r.1 strong\n",
+// The steps of a and of b.
+const PARCELS: &[(&str, &str)] = &[
+    (
+        "a open r\na give r b\na bind r\na give r a\na collect m\na check m\n",
+        "b shut\n",
+    ),
+    (
+        "a open r\na dup r k\na give k b\na sync k\na sync r\n",
+        "b sync k\nb sync r\nb shut\nb collect m\nb close m\nb collect o\n",
+    ),
+    (
+        "a open r\na bind r\na constrain r 2 0 4096\na take r\na giveh r.0 strong b\na duph r.1 strong\n\
+a giveh r.1 strong a\na collect n\na droph r.1 strong\n",
+        "b collect m\n",
+    ),
 ];
 
 #[test]
-fn clients_that_vanish_collect_their_parcels(rt: HostRuntime) {
-    assert!(rt; all_are_gathered(&rt, rt.alloc(), PARCELS, 2));
+fn clients_that_vanish_after_any_steps_collect_their_parcels(rt: HostRuntime) {
+    assert!(rt; pairs_are_gathered(&rt, rt.alloc(), PARCELS));
 }
