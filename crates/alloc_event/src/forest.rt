@@ -1,5 +1,5 @@
 //! The forest: the collections with their nodes and buffers.
-ghost use Rattle.std.specs.Prelude.{◌≡◌, ◌≤◌, false, true, None, IfOk, IfSome, OnErr, OnOk, map, length, not, is_some, option_copied, ◌==◌};
+ghost use Rattle.std.specs.Prelude.{◌≡◌, ◌≤◌, [], false, true, None, IfOk, IfSome, OnErr, OnOk, map, length, not, is_some, option_copied, ◌==◌};
 ghost use Rattle.std.specs.List.{filter};
 ghost use Rattle.buffer_holds.specs.Counts.{total};
 ghost use Rattle.std.specs.Option.{option_map, option_map_or};
@@ -305,6 +305,18 @@ impl Forest {
         match held_by_page(*self.store.entries.allocator(), &self.store.entries) {
             Ok(held) => Ok(held),
             Err(_) => Err(NoMemory),
+        }
+    }
+
+    /// The buffers of the collection with this id whose pages were not given back, by index; none if it
+    /// is not there. Takes no memory. Costs O(log collections).
+    pub fn held_of(&self, id: CollectionId) -> &[HeldBuffer]
+        ensures { result.now
+            ≡ option_map_or (λ (c : Collection). c.held) (collection_at self.now id) [] }
+    {
+        match entry_of(&self.store.entries, id) {
+            Some(entry) => &entry.held,
+            None => &[],
         }
     }
 

@@ -1,6 +1,7 @@
 //! Views of a core: fired trackers, nodes, buffers and pages, collections, clients and handles.
 ghost use Rattle.std.specs.Prelude.{◌≡◌, ◌+◌, ◌≤◌, List, map, reverse, option_map, if◌then◌else◌};
-ghost use Rattle.std.specs.Prelude.{AllPairs, IfOk, IfSome, None, Some};
+ghost use Rattle.std.specs.Prelude.{AllPairs, IfOk, IfSome, None, Some, []};
+ghost use Rattle.std.specs.Option.{option_map_or};
 ghost use Rattle.sm_names.specs.declared.outcomes.Fault.{Fault};
 ghost use Rattle.sm_names.specs.declared.keys.HeldBuffer.{HeldBuffer as Held};
 ghost use Rattle.sm_names.specs.Births.{birth_of};
@@ -95,6 +96,19 @@ impl Core {
         // By the pool each buffer has a page, so that no two start at the same one.
         let _free = self.contents.pool.free_pages();
         self.contents.forest.held()
+    }
+
+    /// The buffers of this collection that hold pages, with these pages, by index: none if it is not
+    /// allocated, or not kept. Takes no memory. Costs O(log collections).
+    pub fn held_of(&self, collection: CollectionId) -> &[HeldBuffer]
+        ensures value { result.now ≡ option_map_or (λ (c : CollectionValue). c.held)
+            (collection_told self.now.forest collection) [] }
+        ensures shown { (history : List Entry) → Shows self.now history →
+            let marks = timeline self.now.pool history in
+            result.now ≡ (if is_kept_collection marks collection
+            then (collection_after self.now.pool marks collection).held else []) }
+    {
+        self.contents.forest.held_of(collection)
     }
 
     /// The number of the pool's pages that no buffer holds. Costs O(1).

@@ -1,0 +1,20 @@
+-- The entry with the id has the buffers.
+use Rattle.alloc_event.proofs.Common.{◌≡◌, [], sym, ◌∙◌, ap, option_map, option_map_or, Collection, shelf_of, shelf_found, collection_none}
+use Rattle.forest_store.specs.Shelves.{collection_in}
+use Rattle.forest_store.proofs.shelves.Showing.{collection_is}
+use Rattle.alloc_event.proofs.forest.Forest.held_of.Goals as goal
+
+pub returns-in-Some : goal.returns-in-Some
+returns-in-Some c =
+    let table = c.self.inside.store.nodes.table in
+    let shelf = shelf_found c.args.id c.self.inside.store.entries.items
+    ∙ ap (option_map shelf_of) (sym (rw c.deref.ensures.value at c.in-Some.ensures)) in
+    let told = collection_is table c.args.id _ ∙ ap (option_map (collection_in table)) shelf in
+    rw (← c.self.view_is)
+    (c.deref-in-Some.ensures.value ∙ sym (ap (λ o. option_map_or (λ (d : Collection). d.held) o []) told))
+
+pub returns-in-None : goal.returns-in-None
+returns-in-None c =
+    rw (← c.self.view_is)
+    (sym (ap (λ o. option_map_or (λ (d : Collection). d.held) o []) (collection_none c.self.inside.store.nodes.table
+    c.self.inside.store.entries.items c.args.id (sym (rw c.deref.ensures.value at c.in-None.ensures)))))
