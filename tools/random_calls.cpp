@@ -117,6 +117,14 @@ static void look_at_nodes(sysmem_core &core, Seen &seen) {
         expect(sysmem_given(&core, node.collection, &buffers, &size) == SYSMEM_DONE, "given");
         expect(!(node.flags & SYSMEM_NODE_ALLOCATED) || buffers > 0, "allocated without buffers");
         found += is;
+        sysmem_node same{};
+        uint32_t is_kept = 0;
+        expect(sysmem_node_of(&core, &node.key, &is_kept, &same) == SYSMEM_DONE && is_kept == 1, "a kept node");
+        expect(same.key.slot == node.key.slot && same.key.generation == node.key.generation &&
+                   same.event == node.event && same.flags == node.flags && same.holder == node.holder &&
+                   same.collection == node.collection && same.size == node.size, "it is the same node");
+        sysmem_key other{node.key.slot, node.key.generation + 1000};
+        expect(sysmem_node_of(&core, &other, &is_kept, &same) == SYSMEM_DONE && is_kept == 0, "no node");
     }
     expect(count > 32 || found == living, "each live node is told");
     expect(sysmem_held(&core, held, 32, &holding) == SYSMEM_DONE, "held");
@@ -129,6 +137,12 @@ static void look_at_nodes(sysmem_core &core, Seen &seen) {
         expect(sysmem_given(&core, id, &buffers, &size) == SYSMEM_DONE, "given");
         expect(held[i].index < buffers, "a held buffer was given");
         expect(held[i].pages == (size + 4095) / 4096, "its pages have room for its bytes");
+        sysmem_held_buffer its[64];
+        uint64_t all = 0, place = 0;
+        expect(sysmem_held_of(&core, id, its, 64, &all) == SYSMEM_DONE && all <= buffers, "held of");
+        while (place < all && its[place].index != held[i].index) place++;
+        expect(place < all && its[place].collection == id && its[place].start == held[i].start &&
+                   its[place].pages == held[i].pages, "it is among those of its collection");
         for (uint32_t strength = 0; strength < 3; strength++) {
             uint32_t wanted = strength < 2 ? SYSMEM_DONE : SYSMEM_BAD_CALL;
             expect(sysmem_open_handles(&core, client, id, index, strength, &found) == wanted,
@@ -159,10 +173,31 @@ static void look(sysmem_core &core, Seen &seen) {
     expect(sysmem_fired(&core, fired, upto(6), &count) == SYSMEM_DONE, "fired");
     uint64_t all = 0, from = upto(8);
     expect(sysmem_fired_from(&core, from, fired, 5, &all) == SYSMEM_DONE && all == count, "fired from");
+    uint64_t left = 0;
     expect(sysmem_events(&core, &events) == SYSMEM_DONE, "events");
+    expect(sysmem_remaining(&core, &left) == SYSMEM_DONE && events + left >= 200 && events + left < 2200, "remaining");
+    if (upto(50) == 0) {
+        expect(sysmem_forget_fired(&core) == SYSMEM_DONE, "forget fired");
+        expect(sysmem_fired(&core, fired, 5, &count) == SYSMEM_DONE && count == 0, "no firings are left");
+    }
     uint32_t code = sysmem_cause(&core, &key, &cause, &live[0]);
     expect(code == SYSMEM_DONE || code == SYSMEM_NOT_FAILED, "cause");
     look_at_nodes(core, seen);
+}
+
+// A name is cut so that a zero ends it.
+static void look_at_names() {
+    expect(sysmem_version() == SYSMEM_VERSION_MAJOR * 10000 + SYSMEM_VERSION_MINOR * 100 + SYSMEM_VERSION_PATCH, "version");
+    for (size_t room = 0; room < 40; room++) {
+        char text[40];
+        uint64_t count = 0;
+        for (char &byte : text) byte = '!';
+        expect(sysmem_name(SYSMEM_ABOUT_REFUSAL, SYSMEM_NO_SUCH_CLIENT, text, room, &count) == SYSMEM_DONE, "name");
+        size_t end = room < 13 ? room - 1 : 12;
+        expect(count == 12 && (room == 0 || text[end] == 0), "a zero");
+        for (size_t i = 0; room > 0 && i < end; i++) expect(text[i] == "NoSuchClient"[i], "its letters");
+        expect(text[room] == '!' || room == 40, "nothing behind it");
+    }
 }
 
 // Parts with each client, unless the history is full before: nothing is left.
@@ -185,6 +220,7 @@ static void part(sysmem_core &core, const Seen &seen) {
 
 int main(int count, char **words) {
     long calls = count > 1 ? std::atol(words[1]) : 10000;
+    look_at_names();
     uint64_t codes[SYSMEM_ERRORS] = {}, replies[SYSMEM_PEER_CLOSED + 1] = {};
     for (long left = calls; left > 0;) {
         sysmem_core core{};

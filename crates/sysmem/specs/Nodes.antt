@@ -1,12 +1,15 @@
 -- What is written for a node.
-use Rattle.std.specs.Prelude.{ℕ, ◌+◌, Bool, true, false, if◌then◌else◌, is_some}
+use Rattle.std.specs.Prelude.{ℕ, ◌+◌, Bool, true, false, List, [], if◌then◌else◌, is_some}
 use Rattle.std.specs.Option.{option_map_or, unwrap_or}
 use Rattle.sm_names.specs.declared.keys.BufferName.{BufferName}
+use Rattle.sm_names.specs.declared.keys.HeldBuffer.{HeldBuffer}
 use Rattle.sm_names.specs.declared.keys.NodeKey.{NodeKey}
 use Rattle.sm_names.specs.declared.outcomes.Fault.{Fault}
 use Rattle.sm_names.specs.Demands.{Demand}
 use Rattle.forest_store.specs.declared.node.End.{End}
 use Rattle.forest_store.specs.declared.node.Node.{Node}
+use Rattle.forest_store.specs.Forest.{Collection, collection_at}
+use Rattle.core_state.specs.State.{State}
 use Rattle.sysmem.specs.declared.nodes.NodeWords.{NodeWords}
 use Rattle.sysmem.specs.Encodings.{key_words}
 use Rattle.sysmem.specs.Words.{cause_number}
@@ -14,6 +17,10 @@ use Rattle.sysmem.specs.Words.{cause_number}
 -- the buffer with this collection and index
 abbrev pub buffer_at : ℕ → ℕ → BufferName
 buffer_at collection index = record { collection = collection; index = index }
+
+-- the buffers of the collection that hold pages, by index
+abbrev pub held_in : State → ℕ → List HeldBuffer
+held_in s collection = option_map_or (λ (c : Collection). c.held) (collection_at s.forest collection) []
 
 -- the weight, if the flag is set
 abbrev pub flag : Bool → ℕ → ℕ

@@ -1,6 +1,6 @@
 //! Writing into the arrays of a caller in C.
-ghost use Rattle.std.specs.Prelude.{◌≡◌, ◌∷◌, ◌++◌, [], map};
-ghost use Rattle.sysmem.specs.Arrays.{written_over};
+ghost use Rattle.std.specs.Prelude.{◌≡◌, length, map};
+ghost use Rattle.sysmem.specs.Arrays.{text_in, written_over};
 
 use crate::encode::Encode;
 
@@ -14,13 +14,15 @@ pub(crate) fn write_array<T: Copy, W: Encode<T>>(out: &mut [W], items: &[T])
     }
 }
 
-// Writes the first bytes of a text and a zero over the first places, as many as there are of both.
+// Writes a text and a zero over the first places. Where there are fewer, the text is cut, so that the last
+// place has the zero.
 pub(crate) fn write_text(out: &mut [u8], text: &[u8])
-    ensures { out.new ≡ written_over (text.now ++ 0 ∷ []) out.old }
+    ensures { out.new ≡ written_over (text_in text.now (length out.old)) out.old }
 {
-    write_array(out, text);
-    let end = text.len();
-    if end < out.len() {
-        out[end] = 0;
-    }
+    let Some(most) = out.len().checked_sub(1) else {
+        return;
+    };
+    let end = most.min(text.len());
+    write_array(out, &text[..end]);
+    out[end] = 0;
 }

@@ -22,9 +22,10 @@ mod words;
 
 pub use exit::sysmem_vanish;
 pub use handle::Handle;
-pub use names::sysmem_name;
+pub use names::{sysmem_name, sysmem_version};
 pub use nodes::{
-    NodeWords, sysmem_given, sysmem_handles_in_parcels, sysmem_nodes, sysmem_open_handles,
+    NodeWords, sysmem_given, sysmem_handles_in_parcels, sysmem_held_of, sysmem_node_of,
+    sysmem_nodes, sysmem_open_handles,
 };
 pub use opening::{sysmem_close, sysmem_open, sysmem_open_lasting, sysmem_open_seeded};
 pub use stepping::sysmem_step;

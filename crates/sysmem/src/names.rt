@@ -1,11 +1,22 @@
 //! Names of the numbers for C.
-ghost use Rattle.std.specs.Prelude.{◌≡◌, ◌≢◌, ◌∷◌, ◌++◌, length, []};
-ghost use Rattle.sysmem.specs.Arrays.{written_over};
+ghost use Rattle.std.specs.Prelude.{◌≡◌, ◌≢◌, length, []};
+ghost use Rattle.sysmem.specs.Arrays.{text_in, written_over};
 ghost use Rattle.sysmem.specs.Names.{cause_name, code_name, misuse_at, name, refusal_at};
 
 use crate::arrays::write_text;
 use crate::codes::{DONE, NO_NAME};
 use sm_names::{Misuse, Refusal};
+
+/// The library's version: 10,000 times the major number, and 100 times the minor one, and the patch.
+const VERSION: u32 = 100;
+
+/// Answers the library's version: `VERSION`. Costs O(1).
+#[unsafe(no_mangle)]
+pub extern "C" fn sysmem_version() -> u32
+    ensures { result ≡ VERSION }
+{
+    VERSION
+}
 
 // The name of the code.
 fn code_name(number: u32) -> &'static str
@@ -101,12 +112,14 @@ fn name(about: u32, number: u32) -> &'static str
 }
 
 /// Writes the name of a code (`about` 0), a refusal (1), a misuse (2) or a cause (3), and a zero
-/// after it, as many of these bytes as `out` has room for, and how many bytes the name has.
+/// after it, and how many bytes the name has. Where `out` has fewer places, the name is cut, so that the
+/// last place has the zero.
 ///
 /// `NO_NAME` if there is no such number: nothing is written then. Costs what it writes.
 #[unsafe(no_mangle)]
 pub extern "C" fn sysmem_name(about: u32, number: u32, out: &mut [u8], count: &mut u64) -> u32
-    ensures done { result ≡ 0 → (out.new ≡ written_over (name about number ++ 0 ∷ []) out.old)
+    ensures done { result ≡ 0 →
+        (out.new ≡ written_over (text_in (name about number) (length out.old)) out.old)
         × (count.new ≡ length (name about number)) }
     ensures none { result ≢ 0 → name about number ≡ [] }
     ensures failed { result ≢ 0 → (out.new ≡ out.old) × (count.new ≡ count.old) }

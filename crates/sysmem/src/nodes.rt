@@ -1,19 +1,20 @@
 //! Views of a core's nodes, of the buffers of a collection, and of open handles.
-ghost use Rattle.std.specs.Prelude.{◌≡◌, ◌≢◌, ◌≤◌, ◌↔◌, ◌⊎◌, None, IsSomeAnd, length, map, option_map, if◌then◌else◌};
+ghost use Rattle.std.specs.Prelude.{◌≡◌, ◌≢◌, ◌≤◌, ◌↔◌, ◌⊎◌, [], None, IsSomeAnd, is_some, length, map, option_map, if◌then◌else◌};
 ghost use Rattle.std.specs.Option.{option_map_or};
 ghost use Rattle.sm_names.specs.declared.outcomes.Buffers.{Buffers};
 ghost use Rattle.buffer_holds.specs.Counts.{moving_count, of};
-ghost use Rattle.forest_store.specs.Forest.{all_nodes};
+ghost use Rattle.forest_store.specs.Forest.{all_nodes, node_at};
 ghost use Rattle.core_state.specs.Reads.{buffers_in};
 ghost use Rattle.sysmem.specs.Arrays.{written_over};
-ghost use Rattle.sysmem.specs.Nodes.{buffer_at, flags_of, holder_number, node_words};
+ghost use Rattle.sysmem.specs.Encodings.{held_words, key_from_words};
+ghost use Rattle.sysmem.specs.Nodes.{buffer_at, flags_of, held_in, holder_number, node_words};
 ghost use Rattle.sysmem.specs.Words.{said_strength};
 
 use crate::arrays::write_array;
 use crate::codes::{BAD_CALL, DONE, NO_MEMORY, NOT_OPEN};
 use crate::encode::Encode;
 use crate::handle::{Handle, put, take};
-use crate::views::KeyWords;
+use crate::views::{HeldWords, KeyWords, node_key};
 use crate::words::{cause_word, strength_of};
 use alloc_event::{End, Node};
 use lifetime_core::Core;
@@ -151,6 +152,72 @@ pub extern "C" fn sysmem_nodes(
     let code = put_nodes(&core, out, count);
     put(handle, core);
     code
+}
+
+/// Writes the node with this key, and 1, if it is kept; 0 and no node if it is not.
+///
+/// `NOT_OPEN` if the handle has no core: nothing is written then. Takes no memory. Costs one look-up.
+#[unsafe(no_mangle)]
+pub extern "C" fn sysmem_node_of(
+    alloc: Global,
+    handle: &mut Handle,
+    key: &KeyWords,
+    kept: &mut u32,
+    out: &mut NodeWords,
+) -> u32
+    ensures same { handle.new.place.core ≡ handle.old.place.core }
+    ensures codes { (result ≡ 0) ⊎ (result ≡ 1) }
+    ensures not_open { (result ≡ 1) ↔ (handle.old.place.core ≡ None) }
+    ensures done { result ≡ 0 → IsSomeAnd handle.old.place.core (λ core.
+        let found = node_at core.forest (key_from_words key.now) in
+        (kept.new ≡ (if is_some found then 1 else 0))
+        × (out.new ≡ option_map_or node_words found out.old)) }
+    ensures failed { result ≢ 0 → (kept.new ≡ kept.old) × (out.new ≡ out.old) }
+{
+    let Some(core) = take(alloc, handle) else {
+        return NOT_OPEN;
+    };
+    let found = core.node(node_key(key));
+    put(handle, core);
+    match found {
+        Some(node) => {
+            *out = NodeWords::encode(node);
+            *kept = 1;
+        }
+        None => *kept = 0,
+    }
+    DONE
+}
+
+/// Writes the buffers of the collection that hold pages, by index, as many as `out` has room for, and the
+/// number of all, at most 64: none if the collection is not allocated, or not kept.
+///
+/// `NOT_OPEN` if the handle has no core: nothing is written then. Takes no memory. Costs
+/// O(log collections), and what it writes.
+#[unsafe(no_mangle)]
+pub extern "C" fn sysmem_held_of(
+    alloc: Global,
+    handle: &mut Handle,
+    collection: u64,
+    out: &mut [HeldWords],
+    count: &mut u64,
+) -> u32
+    ensures same { handle.new.place.core ≡ handle.old.place.core }
+    ensures codes { (result ≡ 0) ⊎ (result ≡ 1) }
+    ensures not_open { (result ≡ 1) ↔ (handle.old.place.core ≡ None) }
+    ensures done { result ≡ 0 → IsSomeAnd handle.old.place.core (λ core.
+        (out.new ≡ written_over (map held_words (held_in core collection)) out.old)
+        × (count.new ≡ length (held_in core collection))) }
+    ensures failed { result ≢ 0 → (out.new ≡ out.old) × (count.new ≡ count.old) }
+{
+    let Some(core) = take(alloc, handle) else {
+        return NOT_OPEN;
+    };
+    let held = core.held_of(collection);
+    *count = held.len() as u64;
+    write_array(out, held);
+    put(handle, core);
+    DONE
 }
 
 /// Writes how many buffers the collection has, and how many bytes each has: 0 and 0 if the collection is

@@ -316,7 +316,7 @@ pub extern "C" fn sysmem_events(alloc: Global, handle: &mut Handle, events: &mut
 }
 
 // The key that the words encode.
-fn node_key(words: &KeyWords) -> NodeKey
+pub(crate) fn node_key(words: &KeyWords) -> NodeKey
     ensures { result ≡ key_from_words words.now }
 {
     NodeKey {
