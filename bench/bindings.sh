@@ -17,7 +17,7 @@ rust=target/bindings/release/binding-calls
 run() { # side, job, threads, turns
     case $1 in c | cpp) out/calls "$@" ;; *) $rust "$@" ;; esac
 }
-turns_of() { case $1 in sync) echo 400000 ;; open) echo 100000 ;; life) echo 40000 ;; esac; }
+turns_of() { case $1 in sync) echo 400000 ;; open) echo 100000 ;; *) echo 40000 ;; esac; }
 # The median of the rounds.
 time_of() { # side, job, threads
     turns=$(($(turns_of "$2") / $3))
@@ -39,16 +39,19 @@ count_of() { # side, job
 
 `bench/bindings.sh` writes this page. An event of a job costs so many instructions, counted by valgrind in one thread, and so
 many nanoseconds, the median of the rounds. Other programs on the machine move the times, not the instructions. A job is a Sync
-again and again; a root that is opened and closed; or a life of a collection of one buffer in 7 calls. "C" is `sysmem_step` in one
-thread without a lock, "plain" the plain core under a `Mutex`.
+again and again; a root that is opened and closed; a life of a collection of one buffer in 7 calls; or a frame, a handle that is
+doubled, given, collected and dropped. With idle the giver is told when it has the only handle again; with descriptors both clients
+also ask their `pending` each time. "C" is `sysmem_step` in one thread without a lock, "plain" the plain core under a `Mutex`.
 
 | job | side | instructions | ns, 1 thread | 2 threads | 4 threads |
 |---|---|---|---|---|---|
 END
-    for job in sync open life; do
+    for job in sync open life frame frame_idle frame_fd; do
         for side in c cpp rust plain; do
+            case $job-$side in frame-plain | frame_*-c | frame_*-plain) continue ;; esac
+            case $job in frame_idle) word="frame with idle" ;; frame_fd) word="frame with descriptors" ;; *) word=$job ;; esac
             case $side in c) name=C ;; cpp) name=C++ ;; rust) name=Rust ;; plain) name=plain ;; esac
-            row="| $job | $name | $(count_of $side $job) |"
+            row="| $word | $name | $(count_of $side $job) |"
             for threads in 1 2 4; do
                 if [ $side = c ] && [ $threads != 1 ]; then row="$row |"; else
                     row="$row $(time_of $side $job $threads | awk '{ printf "%.0f", $1 }') |"

@@ -14,15 +14,16 @@ import tempfile
 
 HERE = os.path.dirname(os.path.abspath(__file__))
 LIBRARY = f"{HERE}/build/libsysmem.a"
-HEADERS = {"hpp": "sysmem.hpp", "state": "sysmem/state.hpp", "words": "sysmem/words.hpp", "record": "sysmem/record.hpp"}
+HEADERS = {"hpp": "sysmem.hpp", "state": "sysmem/state.hpp", "words": "sysmem/words.hpp", "record": "sysmem/record.hpp",
+           "memory": "sysmem/memory.hpp", "cancel": "sysmem/cancel.hpp"}
 
 # the header, what is wrong, the text, and what stands in its place
 WRONG = [
-    ('state','a vanishing does not shut','            Answer answer = step(a.id, call(SYSMEM_SHUT), 0);\n            if (!answer.is_good()) return !answer.is_no_memory();\n            a.is_shut = true;\n            a.parcels = answer.reply.id;','            a.is_shut = true;'),
+    ('state','a vanishing does not shut','            Answer answer = step(a.id, call(SYSMEM_SHUT), 0);\n            if (!answer.is_good()) return is_lost(answer);\n            a.is_shut = true;\n            a.parcels = answer.reply.id;','            a.is_shut = true;'),
     ('state','a vanishing collects nothing','a.parcels = answer.reply.id;','a.parcels = 0;'),
     ('state','a vanishing leaves its ends','if (row.kind == Row::FREE ||','if (row.kind == Row::FREE || (row.kind == SYSMEM_CLOSE && a.is_leaving) ||'),
     ('state','a vanishing leaves its handles','for (bool handles : {false, true})','for (bool handles : {false})'),
-    ('state','nothing is put off','.is_no_memory()) return put_off(a, row);\n','.is_no_memory()) {}\n'),
+    ('state','nothing is put off','if (!give_up(a, row)) put_off(a, row);','(void)give_up(a, row);'),
     ('state','a vanishing is not put off','if (a.is_late || !settle(a)) put_off(a);','settle(a);'),
     ('state','put off and forgotten','if (state.late) state.catch_up();',''),
     ('state','catching up forgets','while (late && settle(*late)) {','while (late) {\n            (void)0;'),
@@ -33,34 +34,59 @@ WRONG = [
     ('state','the fd is not written','if (watch.fd >= 0) eventfd_write(watch.fd, 1);','(void)watch;'),
     ('state','the fd stays open','close(std::exchange(watch->fd, -1));',''),
     ('state','firings are told from the first on','sysmem_fired_from(&core, seen, some, 16, &count);','sysmem_fired_from(&core, 0, some, 16, &count);'),
-    ('state','callbacks in the other order','std::shared_ptr<Watch> next = std::exchange(ready->next, std::move(first));\n            first = std::exchange(ready, std::move(next));','std::shared_ptr<Watch> next = std::exchange(ready->next, nullptr);\n            std::shared_ptr<Watch> *end = &first;\n            while (*end) end = &(*end)->next;\n            *end = std::exchange(ready, std::move(next));'),
-    ('state','a dead end closes again','        if (a.is_leaving) return;\n        if (step','        if (a.rows.size() <= row) return;\n        if (step'),
+    ('state','callbacks in the other order','std::shared_ptr<Due> next = std::exchange(ready->next, std::move(first));\n            first = std::exchange(ready, std::move(next));','std::shared_ptr<Due> next = std::exchange(ready->next, nullptr);\n            std::shared_ptr<Due> *end = &first;\n            while (*end) end = &(*end)->next;\n            *end = std::exchange(ready, std::move(next));'),
+    ('state','a dead end closes again','        if (a.is_leaving) return;\n        if (!give_up','        if (a.rows.size() <= row) return;\n        if (!give_up'),
     ('state','a value does not count','--account.values == 0','false'),
     ('state','the core is never closed','if (--state.users == 0) last = std::move(state.self);','--state.users;'),
     ('state','the core goes with the Service','if (--state.users == 0) last','if (state.users-- > 0) last'),
     ('state','gifts wake nobody','        (*at)->given.notify_all();',''),
     ('state','gifts are not counted','        (*at)->parcels++;',''),
-    ('state','labels of live nodes go first','at = is_known(at->first) ? std::next(at) : labels.erase(at);','at = is_known(at->first) ? labels.erase(at) : std::next(at);'),
-    ('state','labels are never dropped','at = is_known(at->first) ? std::next(at) : labels.erase(at);','++at;'),
-    ('state','the origin has no label','r.detail, origin, label(origin)}','r.detail, origin, {}}'),
-    ('hpp','a given end stays ours','        a.erase(row);\n        a.state->tell_gift(to);\n        account = nullptr;\n        return {};\n    }\n    // Spends the end','        a.state->tell_gift(to);\n        account = nullptr;\n        return {};\n    }\n    // Spends the end'),
-    ('hpp','a given end closes','        a.erase(row);\n        a.state->tell_gift(to);\n        account = nullptr;\n        return {};\n    }\n    // Spends the end','        a.state->tell_gift(to);\n        guard.stay();\n        return {};\n    }\n    // Spends the end'),
-    ('hpp','a given handle stays ours','        a.erase(row);\n        a.state->tell_gift(to);\n        account = nullptr;\n        return {};\n    }\n    // Makes a tracker','        a.state->tell_gift(to);\n        account = nullptr;\n        return {};\n    }\n    // Makes a tracker'),
-    ('hpp','a refused gift is lost','if (!answer.is_good()) return guard.stay(), a.state->why(answer);\n        a.erase(row);\n        a.state->tell_gift(to);\n        account = nullptr;\n        return {};\n    }\n    // Spends the end','if (!answer.is_good()) return account = nullptr, a.state->why(answer);\n        a.erase(row);\n        a.state->tell_gift(to);\n        account = nullptr;\n        return {};\n    }\n    // Spends the end'),
+    ('state','labels of live nodes go first','at = kept.has(at->first) ? std::next(at) : labels.erase(at);','at = kept.has(at->first) ? labels.erase(at) : std::next(at);'),
+    ('state','labels are never dropped','at = kept.has(at->first) ? std::next(at) : labels.erase(at);','++at;'),
+    ('state','the origin has no label','r.detail, origin, label(origin), false','r.detail, origin, {}, false'),
+    ('hpp','a given end stays ours','        a.state->erase(a, row);\n        a.state->tell_gift(to);\n        account = nullptr;\n        return {};\n    }\n    /// Spends the end','        a.state->tell_gift(to);\n        account = nullptr;\n        return {};\n    }\n    /// Spends the end'),
+    ('hpp','a given end closes','        a.state->erase(a, row);\n        a.state->tell_gift(to);\n        account = nullptr;\n        return {};\n    }\n    /// Spends the end','        a.state->tell_gift(to);\n        guard.stay();\n        return {};\n    }\n    /// Spends the end'),
+    ('hpp','a given handle stays ours','        a.erase(row);\n        a.state->tell_gift(to);','        a.state->tell_gift(to);'),
+    ('hpp','a refused gift is lost','if (!answer.is_good()) return guard.stay(), a.state->why(answer);\n        a.state->erase(a, row);','if (!answer.is_good()) return account = nullptr, a.state->why(answer);\n        a.state->erase(a, row);'),
     ('hpp','a refused release closes','            a.rows[row].kind = SYSMEM_RELEASE;',''),
     ('hpp','a release is a close','detail::call(SYSMEM_RELEASE, node), tree)','detail::call(SYSMEM_CLOSE, node), tree)'),
-    ('hpp','a refused release is forgotten','            if (answer.is_no_memory()) s.put_off(a, row);\n            else a.erase(row);','            a.erase(row);'),
+    ('hpp','a refused release is forgotten','            if (answer.code != SYSMEM_DONE && !s.is_lost(answer)) s.put_off(a, row);\n            else s.erase(a, row);','            s.erase(a, row);'),
     ('hpp','the destructor of an end does nothing','    ~End() {\n        if (account) close();\n    }','    ~End() {}'),
     ('hpp','the destructor of a handle does nothing','    ~Handle() {\n        if (account) drop();\n    }','    ~Handle() {}'),
-    ('hpp','the destructor of a client does nothing','    ~Client() { vanish(); }','    ~Client() {}'),
+    ('hpp','the destructor of a client does nothing','    ~Client() {\n        if (account) vanish();\n    }','    ~Client() {}'),
     ('hpp','a bound token closes','return Collection(std::move(*this));','Collection bound(std::move(*this));\n        account = bound.account;\n        return bound;'),
-    ('hpp','a wait stays','                s.forget(waiter);\n                return std::optional<Allocation>();','                return std::optional<Allocation>();'),
-    ('hpp','no room is made for a row','        if (!a.has_room()) return Error::fault(SYSMEM_NO_MEMORY);\n        detail::Answer answer =\n            a.is_leaving','        detail::Answer answer =\n            a.is_leaving'),
+    ('hpp','a wait stays','            s.forget(waiter);\n        }\n        if (!is_so)','        }\n        if (!is_so)'),
+    ('hpp','no room is made for a row','        if (!a.has_room()) return Error::fault(SYSMEM_NO_MEMORY);\n        if (s.is_short()) return Error::fault(SYSMEM_HISTORY_FULL);\n        detail::Answer answer =\n            a.is_leaving','        detail::Answer answer =\n            a.is_leaving'),
     ('record','a refused label is used','if (r.kind == SYSMEM_NEW_TOKEN) {','if (true) {'),
     ('record','the given label is taken twice','used.count(*wanted) == 0','true'),
     ('record','events are not counted','        event++;\n','        if (event == 0) event++;\n'),
     ('record','a handle is told without its index','+ "." + std::to_string(index)','+ ".0"'),
     ('words','the label is lost','(label.empty() ? "" : " (" + label + ")")','""'),
+    ('state','a handle in a parcel is not counted','                tree->cells[i].open += open;\n                tree->open += open;','                (void)open;'),
+    ('state','a dropped handle counts','        cell->open--;\n',''),
+    ('state','an opened handle does not count','        cell->open++;\n        cell->tree->open++;','        cell->tree->open++;'),
+    ('state','one handle too many is idle','if (cell.open > (*at)->most) {','if (cell.open > (*at)->most + 1) {'),
+    ('state','who waits for an idle buffer is not told','            one->is_told = true;\n',''),
+    ('state','a tree stays','if (--cell->tree->open == 0) spare = trees.extract(row.tree);','--cell->tree->open;'),
+    ('state','a descriptor stays lit','        a.is_lit = false;\n#ifdef __linux__\n        eventfd_t','        return;\n#ifdef __linux__\n        eventfd_t'),
+    ('state','a parcel lights nothing','        light(**at);\n',''),
+    ('state','a decided node lights nothing','            row.is = now;\n            light(*at->account);','            row.is = now;'),
+    ('state','a firing lights nothing','                    a->fired = watch;\n                    light(*a);','                    a->fired = watch;'),
+    ('state','an end that goes keeps its news','if (r.is != r.told) a.news--;',''),
+    ('state','firings are kept','if (seen >= 4096 &&','if (seen >= UINT64_MAX &&'),
+    ('state','the last events are for everybody','return left < margin;','return false;'),
+    ('state','a lost call is not counted','            lost++;\n        } else if','        } else if'),
+    ('state','sleepers are not told of late calls','for (Sleeper *s = sleepers; s; s = s->next) s->changed->notify_all(); // they try it again',''),
+    ('state','sleepers do not try late calls','{ Guard tries(state); }',''),
+    ('state','callbacks within callbacks','if (Runner *outer = mine()) return outer->append(std::move(first));',''),
+    ('hpp','an assignment keeps the old handle','        if (this == &other) return *this;\n        drop();','        if (this == &other) return *this;'),
+    ('hpp','an assignment keeps the old end','        if (this == &other) return *this;\n        close();','        if (this == &other) return *this;'),
+    ('hpp','a node is told twice','            row.told = row.is;\n            a.news--;','            a.news--;'),
+    ('hpp','a cancelled wait goes on','return a.parcels > 0 || ends.are_here(); });','return a.parcels > 0; });'),
+    ('hpp','a wait for buffers makes a Check at the end','        if (!is_so) return std::optional<Allocation>();\n        detail::Guard','        detail::Guard'),
+    ('hpp','the bytes of another page','return {start + (h.bytes >> 32) * page','return {start + (h.bytes >> 32) * page + page'),
+    ('cancel','a cancel wakes nobody','for (detail::Ending *e = shared->waits; e; e = e->next) e->wake();',''),
+    ('record','labels of forgotten nodes stay','at = kept.has(at->first) ? std::next(at) : nodes.erase(at);','++at;'),
 ]
 
 
@@ -92,7 +118,7 @@ def try_one(room, number, header, name, old, new):
         return "DOES NOT APPLY"
     with open(path, "w") as file:
         file.write(text.replace(old, new))
-    for test in ("values", "memory", "crowd", "record"):
+    for test in ("values", "realuse", "memory", "crowd", "told", "record"):
         wraps = ["-Wl,--wrap=malloc,--wrap=realloc,--wrap=sysmem_step"] if test == "memory" else []
         program = f"{folder}/{test}.test"
         why = build(f"{folder}/tests/{test}.cpp", folder, program, wraps)
@@ -102,7 +128,7 @@ def try_one(room, number, header, name, old, new):
             if test == "record":
                 passed = is_replayed(program, f"{room}/player")
             else:
-                words = ["4", "60", "80"] if test == "crowd" else []
+                words = {"crowd": ["4", "60", "80"], "told": ["20000"]}.get(test, [])
                 passed = subprocess.run([program, *words], capture_output=True, timeout=60).returncode == 0
         except subprocess.TimeoutExpired:
             return f"caught by {test}, which hangs"

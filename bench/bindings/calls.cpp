@@ -1,6 +1,6 @@
 // The jobs of the typed calls, by sysmem_step and by the values of sysmem.hpp.
 //
-//   calls c|cpp sync|open|life THREADS TURNS
+//   calls c|cpp sync|open|life|frame|frame_idle|frame_fd THREADS TURNS
 //
 // It writes the nanoseconds that the turns took, and the events. By sysmem_step there is one thread and no
 // lock.
@@ -13,7 +13,30 @@
 
 using namespace sysmem;
 
-// One turn of a job makes 1, 2 or 7 calls.
+// A frame goes from one client to another as a handle, and is dropped there: 4 calls. With idle, the first one is
+// told that it has the only handle again; with fd, both ask their descriptors' `pending` each time.
+static void pass_frames(const Client &client, const Client &other, const std::string &job, long turns) {
+    Collection all = client.open_root().value().bind().value();
+    all.set_constraints({5, 0, 4096}).value();
+    std::vector<Handle> handles = *all.take().value();
+#ifdef __linux__
+    bool with_fd = job == "frame_fd", with_idle = job == "frame_idle";
+    if (with_fd) client.fd(), other.fd();
+#endif
+    for (long i = 0; i < turns; i++) {
+        handles[0].duplicate().value().give(other.id()).value();
+#ifdef __linux__
+        if (with_idle) handles[0].on_idle(1, [](Buffer) {}).value();
+        if (with_fd) handles[0].on_idle(1).value(), (void)other.pending().value();
+#endif
+        { auto parcel = other.collect().value(); }
+#ifdef __linux__
+        if (with_fd) (void)client.pending().value();
+#endif
+    }
+}
+
+// One turn of another job makes 1, 2 or 7 calls.
 static void play(const Client &client, const std::string &job, long turns) {
     if (job == "sync") {
         Token root = client.open_root().value();
@@ -37,16 +60,23 @@ static double by_values(const std::string &job, int threads, long turns, unsigne
     Service service = Service::open(options).value();
     std::vector<Client> clients;
     for (int i = 0; i < threads; i++) clients.push_back(service.join().value());
+    std::vector<Client> others;
+    for (int i = 0; i < threads; i++) others.push_back(service.join().value());
+    bool is_frame = job.compare(0, 5, "frame") == 0;
+    auto work = [&](int i) {
+        if (is_frame) pass_frames(clients[i], others[i], job, turns);
+        else play(clients[i], job, turns);
+    };
     auto begin = std::chrono::steady_clock::now();
     if (threads == 1) {
-        play(clients[0], job, turns);
+        work(0);
     } else {
         std::vector<std::thread> all;
-        for (const Client &client : clients) all.emplace_back([&] { play(client, job, turns); });
+        for (int i = 0; i < threads; i++) all.emplace_back(work, i);
         for (std::thread &one : all) one.join();
     }
     auto time = std::chrono::steady_clock::now() - begin;
-    events = service.events() - std::uint64_t(threads);
+    events = service.events() - 2 * std::uint64_t(threads);
     return std::chrono::duration<double, std::nano>(time).count();
 }
 
@@ -71,7 +101,17 @@ static double by_steps(const std::string &job, long turns, unsigned long long &e
     call.size = 4096;
     bool is_life = job == "life";
     auto begin = std::chrono::steady_clock::now();
-    if (job == "sync") {
+    if (job == "frame") {
+        open();
+        ask(SYSMEM_BIND);
+        call.camping = 5;
+        ask(SYSMEM_SET_CONSTRAINTS);
+        ask(SYSMEM_TAKE);
+        call.client = client;
+        for (long i = 0; i < turns; i++)
+            for (std::uint32_t kind : {SYSMEM_DUP_HANDLE, SYSMEM_GIVE_HANDLE, SYSMEM_COLLECT, SYSMEM_DROP_HANDLE})
+                ask(kind);
+    } else if (job == "sync") {
         open();
         for (long i = 0; i < turns; i++) ask(SYSMEM_SYNC);
         ask(SYSMEM_CLOSE);

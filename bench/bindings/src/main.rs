@@ -1,7 +1,8 @@
 //! The jobs of the typed calls, by the values of the crate `sysmem`, and by the plain core under a
 //! `Mutex`.
 //!
-//!     binding-calls rust|plain sync|open|life THREADS TURNS
+//!     binding-calls rust sync|open|life|frame|frame_idle|frame_fd THREADS TURNS
+//!     binding-calls plain sync|open|life THREADS TURNS
 //!
 //! It writes the nanoseconds that the turns took, and the events.
 use plain_core as p;
@@ -9,7 +10,32 @@ use std::sync::Mutex;
 use std::time::Instant;
 use sysmem::{Client, Constraints, Options, Service};
 
-/// One turn of a job makes 1, 2 or 7 calls.
+/// A frame goes from one client to another as a handle, and is dropped there: 4 calls. With idle, the
+/// first one is told that it has the only handle again; with fd, both ask their descriptors' `pending`
+/// each time.
+fn pass_frames(client: &Client, other: &Client, job: &str, turns: u64) {
+    let all = client.open_root("").unwrap().bind().unwrap();
+    all.set_constraints(Constraints { camping: 5, at_least: 0, size: 4096 }).unwrap();
+    let handles = all.take().unwrap().unwrap();
+    let (with_idle, with_fd) = (job == "frame_idle", job == "frame_fd");
+    let _fds = with_fd.then(|| (client.fd().unwrap(), other.fd().unwrap()));
+    for _ in 0..turns {
+        handles[0].duplicate().unwrap().give(other.id()).unwrap();
+        if with_idle {
+            handles[0].on_idle(1, |_| {}).unwrap();
+        }
+        if with_fd {
+            handles[0].tell_idle(1).unwrap();
+            other.pending();
+        }
+        drop(other.collect().unwrap());
+        if with_fd {
+            client.pending();
+        }
+    }
+}
+
+/// One turn of another job makes 1, 2 or 7 calls.
 fn play(client: &Client, job: &str, turns: u64) {
     if job == "sync" {
         let root = client.open_root("").unwrap();
@@ -80,7 +106,13 @@ fn main() {
     let (time, events) = if words[1] == "rust" {
         let service = Service::open(Options { pages: 4096, ..Options::default() }).unwrap();
         let clients: Vec<Client> = (0..threads).map(|_| service.join().unwrap()).collect();
-        (timed(&clients, |client| play(client, job, turns)), service.events())
+        let others: Vec<Client> = (0..threads).map(|_| service.join().unwrap()).collect();
+        let all: Vec<_> = clients.iter().zip(&others).collect();
+        let time = timed(&all, |(client, other)| match job {
+            "frame" | "frame_idle" | "frame_fd" => pass_frames(client, other, job, turns),
+            _ => play(client, job, turns),
+        });
+        (time, service.events() - threads)
     } else {
         let limits = p::Limits::new(u32::MAX, 1024, 256, 4096, u32::MAX).unwrap();
         let service = Mutex::new(p::Core::new(4096, limits));

@@ -5,6 +5,7 @@
 
 #include "words.hpp"
 
+#include <algorithm>
 #include <map>
 #include <set>
 
@@ -17,12 +18,25 @@
 #endif
 
 namespace sysmem {
+inline namespace SYSMEM_INLINE {
 namespace detail {
+
+// The nodes that are kept or that made a kept one fail, and the collections that have a kept node or a buffer
+// with pages; each by number.
+struct Kept {
+    bool is_known = false; // false if memory was refused
+    std::vector<Key> nodes;
+    std::vector<CollectionId> collections;
+    bool has(Key key) const { return std::binary_search(nodes.begin(), nodes.end(), key); }
+    bool has(CollectionId id) const {
+        return std::binary_search(collections.begin(), collections.end(), id);
+    }
+};
 
 // Writes the events of one core. A client or a node has the label that the program gave it, if this
 // is a label of the language, unique, and not of the form of generated labels: c, n or t and the
-// number of the event that made it. Otherwise it has a generated label. All labels ever used are
-// kept.
+// number of the event that made it. Otherwise it has a generated label. The labels of clients, and the
+// program's labels of nodes that were used, are kept; those of forgotten nodes are dropped now and then.
 class Recorder {
 public:
     explicit Recorder(Record to) : to(std::move(to)) {}
@@ -41,6 +55,20 @@ public:
         } SYSMEM_CATCH {
             is_over = true;
         }
+    }
+
+    // Whether it is time to forget the nodes that the core forgot.
+    bool is_large() const noexcept { return size() >= most; }
+    // How many labels of nodes and roots it keeps.
+    std::size_t size() const noexcept { return nodes.size() + roots.size(); }
+    void forget(const Kept &kept) noexcept {
+        if (kept.is_known) {
+            for (auto at = nodes.begin(); at != nodes.end();)
+                at = kept.has(at->first) ? std::next(at) : nodes.erase(at);
+            for (auto at = roots.begin(); at != roots.end();)
+                at = kept.has(at->first) ? std::next(at) : roots.erase(at);
+        }
+        most = 4096 + 2 * size();
     }
 
 private:
@@ -91,7 +119,7 @@ private:
     const std::string &join(const sysmem_reply &r) {
         made = fresh('c', client_labels);
         if (r.kind == SYSMEM_JOINED) {
-            client_labels.insert(made);
+            if (!is_generated(made, 'c')) client_labels.insert(made);
             clients.emplace(r.id, made);
         }
         return made;
@@ -100,7 +128,7 @@ private:
     const std::string &birth(bool is_root, const sysmem_reply &r) {
         made = fresh('n', node_labels);
         if (r.kind == SYSMEM_NEW_TOKEN) {
-            node_labels.insert(made);
+            if (!is_generated(made, 'n')) node_labels.insert(made);
             nodes.emplace(Key{r.slot, r.generation}, made);
             if (is_root) roots.emplace(r.id, made);
         }
@@ -165,6 +193,7 @@ private:
     }
 
     Record to;
+    std::size_t most = 4096; // so many nodes and roots
     Event event = 0;
     bool is_over = false, is_known = true;
     const std::string *wanted = nullptr;
@@ -176,6 +205,7 @@ private:
 };
 
 } // namespace detail
+} // namespace SYSMEM_INLINE
 } // namespace sysmem
 
 #endif

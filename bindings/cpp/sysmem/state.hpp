@@ -3,6 +3,8 @@
 #ifndef SYSMEM_STATE_HPP
 #define SYSMEM_STATE_HPP
 
+#include "cancel.hpp"
+#include "memory.hpp"
 #include "record.hpp"
 #include "words.hpp"
 
@@ -21,22 +23,93 @@
 // Functions that seldom run are compiled apart from those that each call runs.
 #ifdef __GNUC__
 #define SYSMEM_SELDOM __attribute__((noinline, cold))
+#define SYSMEM_OFTEN __attribute__((always_inline)) inline
 #else
 #define SYSMEM_SELDOM
+#define SYSMEM_OFTEN inline
 #endif
 
 namespace sysmem {
+inline namespace SYSMEM_INLINE {
 namespace detail {
 
 struct State;
 
+// A callback that is due, in a list.
+struct Due {
+    virtual ~Due() = default;
+    virtual void run() = 0;
+    std::shared_ptr<Due> next;
+};
+
+// The callbacks that are due in this thread. One thread never runs a callback inside another one:
+// what falls due in a callback runs after it.
+class Runner {
+public:
+    // Runs the callbacks of this list, or leaves them to the caller that already runs some.
+    static void run(std::shared_ptr<Due> first) {
+        if (!first) return;
+        if (Runner *outer = mine()) return outer->append(std::move(first));
+        Runner self;
+        mine() = &self;
+        self.append(std::move(first));
+        self.run_all();
+    }
+    // Calls it at once, or after the callback that this thread runs. Takes memory only for that.
+    static void call(std::function<void(Event)> then, Event event) {
+        struct Told : Due {
+            Event event = 0;
+            std::function<void(Event)> then;
+            void run() override { then(event); }
+        };
+        if (!then) return;
+        if (Runner *outer = mine()) {
+            auto due = std::make_shared<Told>();
+            due->event = event;
+            due->then = std::move(then);
+            return outer->append(std::move(due));
+        }
+        Runner self;
+        mine() = &self;
+        then(event);
+        self.run_all();
+    }
+    ~Runner() { mine() = nullptr; }
+
+private:
+    static Runner *&mine() noexcept {
+        static thread_local Runner *runner = nullptr;
+        return runner;
+    }
+    void run_all() {
+        while (first) {
+            std::shared_ptr<Due> now = first;
+            now->run();
+            if (last == now.get()) last = nullptr;
+            first = std::move(now->next);
+        }
+    }
+    void append(std::shared_ptr<Due> more) noexcept {
+        Due *end = more.get();
+        while (end->next) end = end->next.get();
+        (last ? last->next : first) = std::move(more);
+        last = end;
+    }
+    std::shared_ptr<Due> first;
+    Due *last = nullptr;
+};
+
 // A tracker, and what happens when it fires.
-struct Watch {
+struct Watch : Due {
     TrackerId id = 0;
+    ClientId owner = 0;
     std::atomic<Event> event{0}; // 0: it has not fired yet
     std::condition_variable changed;
     std::function<void(Event)> then;
-    std::shared_ptr<Watch> next;
+    std::shared_ptr<Watch> told; // the next one that the owner's pending() will name
+    void run() override {
+        if (then) then(event.load(std::memory_order_relaxed));
+    }
     int fd = -1; // an eventfd, from the first call of Tracker::fd on
 };
 
@@ -45,6 +118,50 @@ struct Reader {
     std::shared_ptr<State> state;
     std::shared_ptr<Watch> watch;
     ~Reader();
+};
+
+// One who waits until at most so many handles of a buffer are open: a thread, a callback, or the
+// client's pending().
+struct Idle : Due {
+    std::uint32_t most = 0;
+    ClientId owner = 0;
+    Buffer buffer;
+    bool is_told = false;                  // a thread waits, and may go on
+    std::condition_variable *changed = nullptr;
+    std::function<void(Buffer)> then;      // if neither, pending() names the buffer
+    std::shared_ptr<Idle> after;           // the next one of this buffer, or of this client
+    void run() override {
+        if (then) then(buffer);
+    }
+};
+
+// Takes a chain apart one by one: destructors would call each other.
+template <class T> void unchain(std::shared_ptr<T> &first, std::shared_ptr<T> T::*next) noexcept {
+    while (first) first = std::move((*first).*next);
+}
+
+struct Tree;
+
+// A buffer of which handles are open.
+struct Cell {
+    Tree *tree = nullptr;
+    std::uint32_t open = 0; // handles of either strength, of all clients and in parcels
+    Pages at;
+    bool is_shut = true; // its bytes can't be read, as far as the memory is guarded
+    std::shared_ptr<Idle> idle;
+};
+
+// A collection of which handles are open.
+struct Tree {
+    std::uint64_t open = 0; // handles
+    std::uint32_t size = 0; // bytes of a buffer
+    std::vector<Cell> cells;
+};
+
+// A thread that sleeps. It lies on the stack of that thread.
+struct Sleeper {
+    std::condition_variable *changed;
+    Sleeper *next;
 };
 
 // A thread that waits for a change of a collection. It lies on the stack of that thread.
@@ -77,14 +194,18 @@ struct Row {
     enum : std::uint32_t { FREE = SYSMEM_JOIN };
     std::uint32_t kind = FREE; // SYSMEM_CLOSE, SYSMEM_RELEASE or SYSMEM_DROP_HANDLE
     bool is_late = false;      // its value is destroyed, and the call must still be made
+    // Of an end whose client has a descriptor: what happened to its node, and what pending() told.
+    enum : std::uint8_t { DECIDED = 1, FAILED = 2 };
+    std::uint8_t is = 0, told = 0;
     std::uint32_t a = 0, b = 0; // an end's key, a handle's index and strength, the next free row
     CollectionId tree = 0;
+    Cell *cell = nullptr; // of a handle
 
     Row(Key key, CollectionId tree)
         : kind(SYSMEM_CLOSE), a(key.slot), b(key.generation), tree(tree) {}
-    Row(Buffer buffer, Strength strength)
+    Row(Buffer buffer, Strength strength, Cell *cell)
         : kind(SYSMEM_DROP_HANDLE), a(buffer.index), b(std::uint32_t(strength)),
-          tree(buffer.collection) {}
+          tree(buffer.collection), cell(cell) {}
     sysmem_call words() const {
         return kind == SYSMEM_DROP_HANDLE
                    ? call(kind, Buffer{tree, std::uint8_t(a)}, Strength(b))
@@ -108,6 +229,10 @@ template <class T> bool reserve(std::vector<T> &list, std::uint64_t more) noexce
 struct Account {
     enum : std::uint32_t { NONE = UINT32_MAX };
     Account(State &state, std::string label) : state(&state), label(std::move(label)) {}
+    ~Account() {
+        unchain(fired, &Watch::told);
+        unchain(idle, &Idle::after);
+    }
 
     State *const state;
     ClientId id = 0;
@@ -117,12 +242,17 @@ struct Account {
     std::size_t values = 1;         // the number of values, the Client included
     std::uint64_t parcels = 0;      // the number of parcels that wait for the client
     std::condition_variable given;  // notified of each parcel
-    bool is_leaving = false;        // the client vanished
+    std::atomic<bool> is_leaving{false}; // the client vanished
     bool is_dead = false;           // it vanished, and its vanishing was put off
     bool is_shut = false;           // it vanished, and its Shut was made: `parcels` must be collected
     std::size_t own = 0;            // the number of rows at the Shut
     bool is_late = false;           // some call was put off
     Account *next_late = nullptr;
+    int fd = -1;                    // from the first call of Client::fd on
+    bool is_lit = false;            // the descriptor is readable
+    std::uint32_t news = 0;         // the number of rows with something to tell
+    std::shared_ptr<Watch> fired;   // what pending() will name
+    std::shared_ptr<Idle> idle;
 
     // Room for one more row.
     bool has_room() noexcept { return free != NONE || reserve(rows, 1); }
@@ -145,6 +275,13 @@ struct Account {
     }
 };
 
+// The row of an end whose client has a descriptor.
+struct Seat {
+    CollectionId tree;
+    Account *account;
+    std::uint32_t row;
+};
+
 // A reply, or a code that says why there is none.
 struct Answer {
     std::uint32_t code;
@@ -161,15 +298,30 @@ struct State : std::enable_shared_from_this<State> {
     std::shared_ptr<State> self;                          // set as long as there are users
     std::vector<Account *> clients;                       // those that have not vanished, by id
     std::vector<std::pair<TrackerId, std::shared_ptr<Watch>>> waiting; // by id
-    std::uint64_t seen = 0;                               // the number of firings passed on
+    std::uint64_t seen = 0;      // the number of firings passed on, of those that the core keeps
+    std::uint64_t forgotten = 0; // the number of firings that the core was told to forget
+    std::uint64_t margin = 0;    // with fewer events left, the binding opens nothing more
+    std::uint64_t lost = 0;      // the number of calls of destructors that were refused for good
+    std::chrono::milliseconds slow{0};
     Account *late = nullptr;                              // the accounts with calls put off
     std::map<Key, std::string> labels;
+    std::map<CollectionId, Tree> trees;
+    std::map<CollectionId, Tree>::node_type spare; // of a collection that is gone: saves an allocation
+    std::map<CollectionId, Key> roots;             // those that were born with a label
+    std::vector<Seat> seats;                       // the ends of clients with a descriptor, by collection
+    std::shared_ptr<Memory> memory;
+    std::shared_ptr<Due> due; // callbacks of buffers that fell idle, the last first
     Waiter *waiters = nullptr;
+    Sleeper *sleepers = nullptr;
     std::unique_ptr<Recorder> recorder;
+    bool is_eager = false;   // whether a tracker waits, or a callback is due
     bool is_watched = false; // whether there is a waiter or a recorder
 
     ~State() {
+        leave_memory();
         sysmem_close(&core);
+        for (auto &one : trees)
+            for (Cell &cell : one.second.cells) unchain(cell.idle, &Idle::after);
         while (late) delete std::exchange(late, late->next_late);
     }
 
@@ -184,8 +336,20 @@ struct State : std::enable_shared_from_this<State> {
     SYSMEM_SELDOM void tell(ClientId who, const sysmem_call &c, CollectionId tree,
                             const Answer &answer) noexcept {
         if (answer.code != SYSMEM_DONE) return;
-        if (may_change(c.kind, answer.reply.kind)) wake(tree);
-        if (recorder) recorder->note(who, c, answer.reply);
+        if (may_change(c.kind, answer.reply.kind)) {
+            wake(tree);
+            look(tree);
+        }
+        if (!recorder) return;
+        recorder->note(who, c, answer.reply);
+        if (recorder->is_large()) recorder->forget(find_kept());
+    }
+    // Whether only those who let go get an event any more.
+    bool is_short() noexcept { return margin > 0 && is_nearly_full(); }
+    SYSMEM_SELDOM bool is_nearly_full() noexcept {
+        std::uint64_t left = 0;
+        sysmem_remaining(&core, &left);
+        return left < margin;
     }
     // Makes a call, with this label for the client or node that it makes.
     Answer step_named(ClientId who, const sysmem_call &c, const std::string &label) noexcept {
@@ -212,10 +376,10 @@ struct State : std::enable_shared_from_this<State> {
     SYSMEM_SELDOM Error why(const Answer &answer) const {
         const sysmem_reply &r = answer.reply;
         if (answer.code != SYSMEM_DONE) return Error::fault(answer.code);
-        if (r.kind == SYSMEM_REFUSED) return Error{Error::Kind::Refused, r.detail, {}, {}};
-        if (r.kind == SYSMEM_MISUSED) return Error{Error::Kind::Misused, r.detail, {}, {}};
+        if (r.kind == SYSMEM_REFUSED) return Error{Error::Kind::Refused, r.detail, {}, {}, false, {}};
+        if (r.kind == SYSMEM_MISUSED) return Error{Error::Kind::Misused, r.detail, {}, {}, false, {}};
         Key origin{r.slot, r.generation};
-        return Error{Error::Kind::PeerClosed, r.detail, origin, label(origin)};
+        return Error{Error::Kind::PeerClosed, r.detail, origin, label(origin), false, {}};
     }
 
     // Whether a call with this reply may cause an allocation or a failure.
@@ -239,7 +403,191 @@ struct State : std::enable_shared_from_this<State> {
         Waiter **at = &waiters;
         while (*at != &waiter) at = &(*at)->next;
         *at = waiter.next;
-        is_watched = waiters || recorder;
+        is_watched = waiters || recorder || !seats.empty();
+    }
+
+    // The collection's cells, made when a call first needs them, or with a memory before the first
+    // Take; null if it is not allocated. False if memory is refused. It counts the handles that are
+    // open by then: those of all accounts, and those in parcels.
+    bool place_tree(CollectionId id, Tree *&tree) noexcept {
+        tree = nullptr;
+        auto at = trees.find(id);
+        if (at != trees.end()) return tree = &at->second, true;
+        std::uint32_t count = 0, size = 0;
+        if (sysmem_given(&core, id, &count, &size) || count == 0) return true;
+        SYSMEM_TRY {
+            if (spare) {
+                spare.key() = id;
+                at = trees.insert(std::move(spare)).position;
+            } else {
+                at = trees.emplace(id, Tree()).first;
+            }
+            at->second.cells.assign(count, Cell());
+        } SYSMEM_CATCH {
+            if (at != trees.end()) trees.erase(at);
+            return false;
+        }
+        tree = &at->second;
+        tree->open = 0;
+        tree->size = size;
+        for (Cell &cell : tree->cells) cell.tree = tree;
+        sysmem_held_buffer held[64];
+        std::uint64_t all = 0;
+        sysmem_held_of(&core, id, held, 64, &all);
+        for (std::uint64_t i = 0; i < all; i++)
+            tree->cells[held[i].index].at = {held[i].start, held[i].pages};
+        for (Account *a : clients) seat_handles(*a, id, *tree);
+        for (Account *a = late; a; a = a->next_late)
+            if (a->is_leaving) seat_handles(*a, id, *tree);
+        for (std::uint32_t i = 0; i < count; i++)
+            for (std::uint32_t strength : {SYSMEM_STRONG, SYSMEM_WEAK}) {
+                std::uint32_t open = 0;
+                sysmem_handles_in_parcels(&core, id, std::uint8_t(i), strength, &open);
+                tree->cells[i].open += open;
+                tree->open += open;
+            }
+        return true;
+    }
+    void seat_handles(Account &a, CollectionId id, Tree &tree) noexcept {
+        for (Row &row : a.rows)
+            if (row.kind == SYSMEM_DROP_HANDLE && row.tree == id) {
+                row.cell = &tree.cells[row.a];
+                opened(row.cell);
+            }
+    }
+    Cell *cell_of(Buffer buffer) noexcept {
+        if (trees.empty()) return nullptr;
+        auto at = trees.find(buffer.collection);
+        return at == trees.end() ? nullptr : &at->second.cells[buffer.index];
+    }
+    // Notes that a handle of this buffer was opened. Whoever opens the first one knows that the pages
+    // are the buffer's: after a failure they may be another one's.
+    void opened(Cell *cell) noexcept {
+        cell->open++;
+        cell->tree->open++;
+        if (cell->is_shut) open_bytes(*cell);
+    }
+    // Notes that a handle of this buffer was dropped.
+    void dropped(Row &row) noexcept {
+        Cell *cell = row.cell;
+        cell->open--;
+        if (cell->idle) tell_idle(*cell);
+        if (cell->open == 0 && memory) shut_bytes(*cell);
+        if (--cell->tree->open == 0) spare = trees.extract(row.tree);
+    }
+    SYSMEM_SELDOM void tell_idle(Cell &cell) noexcept {
+        std::shared_ptr<Idle> *at = &cell.idle;
+        while (*at) {
+            if (cell.open > (*at)->most) {
+                at = &(*at)->after;
+                continue;
+            }
+            std::shared_ptr<Idle> one = std::move(*at);
+            *at = std::move(one->after);
+            tell_idle(std::move(one));
+        }
+    }
+    void tell_idle(std::shared_ptr<Idle> one) noexcept {
+        if (one->changed) {
+            one->is_told = true;
+            one->changed->notify_all();
+        } else if (one->then) {
+            one->next = std::move(due);
+            due = std::move(one);
+            is_eager = true;
+        } else if (Account *a = account_of(one->owner)) {
+            one->after = std::move(a->idle);
+            a->idle = std::move(one);
+            light(*a);
+        }
+    }
+    Tree *tree_of(CollectionId id) noexcept {
+        auto at = trees.find(id);
+        return at == trees.end() ? nullptr : &at->second;
+    }
+    void forget_tree(CollectionId id) noexcept {
+        auto at = trees.find(id);
+        if (at->second.open == 0) spare = trees.extract(at);
+    }
+    inline void leave_memory() noexcept;
+    inline void open_bytes(Cell &cell) noexcept;
+    inline void shut_bytes(Cell &cell) noexcept;
+
+    // The client's account, if it has not vanished.
+    Account *account_of(ClientId id) noexcept {
+        auto at = place(id);
+        return at != clients.end() && (*at)->id == id ? *at : nullptr;
+    }
+    void light(Account &a) noexcept {
+        if (a.fd < 0 || a.is_lit) return;
+        a.is_lit = true;
+#ifdef __linux__
+        eventfd_write(a.fd, 1);
+#endif
+    }
+    void dim(Account &a) noexcept {
+        if (!a.is_lit || a.parcels > 0 || a.news > 0 || a.fired || a.idle) return;
+        a.is_lit = false;
+#ifdef __linux__
+        eventfd_t count;
+        eventfd_read(a.fd, &count);
+#endif
+    }
+    // The node, if it is kept.
+    bool look_up(Key key, sysmem_node &node) noexcept {
+        sysmem_key k{key.slot, key.generation};
+        std::uint32_t is_kept = 0;
+        return sysmem_node_of(&core, &k, &is_kept, &node) == SYSMEM_DONE && is_kept == 1;
+    }
+    // The kept nodes; nothing if memory is refused.
+    std::optional<std::vector<sysmem_node>> kept_nodes() {
+        sysmem_node none;
+        std::uint64_t count = 0;
+        if (sysmem_nodes(&core, &none, 0, &count)) return std::nullopt;
+        std::vector<sysmem_node> nodes(std::size_t(count) + 1);
+        if (sysmem_nodes(&core, nodes.data(), std::size_t(count), &count)) return std::nullopt;
+        nodes.pop_back();
+        return nodes;
+    }
+    // Whether the node's unit is allocated, or the node failed.
+    static std::uint8_t state_of(const sysmem_node &n) noexcept {
+        return std::uint8_t((n.flags & SYSMEM_NODE_ALLOCATED ? Row::DECIDED : 0) |
+                            (n.flags & SYSMEM_NODE_FAILED ? Row::FAILED : 0));
+    }
+    std::vector<Seat>::iterator seat(CollectionId tree) noexcept {
+        return std::lower_bound(seats.begin(), seats.end(), tree,
+                                [](const Seat &s, CollectionId t) { return s.tree < t; });
+    }
+    // Gives the end in this row a seat: its client has a descriptor. There is room: see Client::fd.
+    void sit(Account &a, std::uint32_t row) noexcept {
+        CollectionId tree = a.rows[row].tree;
+        auto at = seat(tree);
+        while (at != seats.end() && at->tree == tree) ++at;
+        seats.insert(at, Seat{tree, &a, row});
+        is_watched = true;
+        look(tree);
+    }
+    void stand(Account &a, std::uint32_t row) noexcept {
+        Row &r = a.rows[row];
+        for (auto at = seat(r.tree); at != seats.end() && at->tree == r.tree; ++at)
+            if (at->account == &a && at->row == row) {
+                if (r.is != r.told) a.news--;
+                seats.erase(at);
+                is_watched = waiters || recorder || !seats.empty();
+                return dim(a);
+            }
+    }
+    // Lights the descriptors of the clients to whose nodes in this collection something happened.
+    void look(CollectionId tree) noexcept {
+        for (auto at = seat(tree); at != seats.end() && at->tree == tree; ++at) {
+            Row &row = at->account->rows[at->row];
+            sysmem_node n;
+            std::uint8_t now = look_up({row.a, row.b}, n) ? state_of(n) : row.is;
+            if (now == row.is) continue;
+            if (row.is == row.told) at->account->news++;
+            row.is = now;
+            light(*at->account);
+        }
     }
 
     std::string label(Key key) const noexcept {
@@ -250,23 +598,47 @@ struct State : std::enable_shared_from_this<State> {
             return {};
         }
     }
-    // At most 4,096 labels are kept. At that number the labels of forgotten nodes are dropped, and
-    // those of kept nodes, at most 1,024, stay.
-    void set_label(Key key, std::string text) noexcept {
+    // At most 4,096 labels are kept. At that number those of nodes that are neither kept nor the origin of the
+    // failure of a kept one are dropped. If memory is refused, the label is lost.
+    void set_label(Key key, std::string text, CollectionId root_of = 0) noexcept {
         if (text.empty()) return;
-        if (labels.size() >= 4096)
-            for (auto at = labels.begin(); at != labels.end();)
-                at = is_known(at->first) ? std::next(at) : labels.erase(at);
         SYSMEM_TRY {
+            if (labels.size() >= 4096 && labels.count(key) == 0) drop_labels();
             labels[key] = std::move(text);
-        } SYSMEM_CATCH { // the label is lost
+            if (root_of != 0) roots[root_of] = key;
+        } SYSMEM_CATCH {
         }
     }
-    bool is_known(Key key) noexcept {
-        sysmem_key k{key.slot, key.generation}, origin;
-        std::uint32_t live = 0, cause = 0;
-        sysmem_is_live(&core, &k, &live);
-        return live == 1 || sysmem_cause(&core, &k, &cause, &origin) == SYSMEM_DONE;
+    SYSMEM_SELDOM void drop_labels() {
+        Kept kept = find_kept();
+        if (!kept.is_known) return;
+        for (auto at = labels.begin(); at != labels.end();)
+            at = kept.has(at->first) ? std::next(at) : labels.erase(at);
+        for (auto at = roots.begin(); at != roots.end();)
+            at = kept.has(at->first) ? std::next(at) : roots.erase(at);
+    }
+    SYSMEM_SELDOM Kept find_kept() noexcept {
+        Kept kept;
+        SYSMEM_TRY {
+            auto nodes = kept_nodes();
+            sysmem_held_buffer none;
+            std::uint64_t count = 0;
+            if (!nodes || sysmem_held(&core, &none, 0, &count)) return kept;
+            std::vector<sysmem_held_buffer> held(std::size_t(count) + 1);
+            if (sysmem_held(&core, held.data(), std::size_t(count), &count)) return kept;
+            for (const sysmem_node &n : *nodes) {
+                kept.nodes.push_back({n.key.slot, n.key.generation});
+                kept.collections.push_back(n.collection);
+                if (n.flags & SYSMEM_NODE_FAILED)
+                    kept.nodes.push_back({n.origin.slot, n.origin.generation});
+            }
+            for (std::size_t i = 0; i < count; i++) kept.collections.push_back(held[i].collection);
+            std::sort(kept.nodes.begin(), kept.nodes.end());
+            std::sort(kept.collections.begin(), kept.collections.end());
+            kept.is_known = true;
+        } SYSMEM_CATCH {
+        }
+        return kept;
     }
 
     std::uint64_t fired_count() noexcept {
@@ -276,8 +648,11 @@ struct State : std::enable_shared_from_this<State> {
         return count;
     }
     // The watches of new firings, as a chain, the last firing first. Takes no memory.
-    std::shared_ptr<Watch> take_fired() noexcept {
-        std::shared_ptr<Watch> ready;
+    std::shared_ptr<Due> take_fired() noexcept {
+        std::shared_ptr<Due> ready = std::move(due);
+        is_eager = false;
+        if (waiting.empty()) return ready;
+        bool is_any = false;
         std::uint64_t count = seen;
         do {
             sysmem_fired_tracker some[16];
@@ -291,14 +666,23 @@ struct State : std::enable_shared_from_this<State> {
                 watch->event.store(some[i].event, std::memory_order_release);
                 watch->changed.notify_all();
                 signal(*watch);
+                if (Account *a = account_of(watch->owner); a && a->fd >= 0) {
+                    watch->told = std::move(a->fired);
+                    a->fired = watch;
+                    light(*a);
+                }
                 watch->next = std::move(ready);
                 ready = std::move(watch);
+                is_any = true;
             }
         } while (seen < count);
-        if (ready)
+        if (is_any)
             waiting.erase(std::remove_if(waiting.begin(), waiting.end(),
                                          [](const auto &w) { return !w.second; }),
                           waiting.end());
+        is_eager = !waiting.empty();
+        if (seen >= 4096 && sysmem_forget_fired(&core) == SYSMEM_DONE)
+            forgotten += std::exchange(seen, 0);
         return ready;
     }
     static void signal(Watch &watch) noexcept {
@@ -309,6 +693,10 @@ struct State : std::enable_shared_from_this<State> {
 #endif
     }
 
+    std::string client_label(ClientId id) {
+        auto at = place(id);
+        return at != clients.end() && (*at)->id == id ? (*at)->label : std::string();
+    }
     std::vector<Account *>::iterator place(ClientId id) noexcept {
         return std::lower_bound(clients.begin(), clients.end(), id,
                                 [](const Account *a, ClientId i) { return a->id < i; });
@@ -319,17 +707,35 @@ struct State : std::enable_shared_from_this<State> {
         if (at == clients.end() || (*at)->id != to) return;
         (*at)->parcels++;
         (*at)->given.notify_all();
+        light(**at);
     }
 
     // Gives up the end or handle in this row, whose value is destroyed. If its client vanished,
     // there is no event.
     void part(Account &a, std::uint32_t row) noexcept {
         if (a.is_leaving) return;
-        if (step(a.id, a.rows[row].words(), a.rows[row].tree).is_no_memory()) return put_off(a, row);
+        if (!give_up(a, row)) put_off(a, row);
+    }
+    // Makes the call that gives up the end or handle in this row, and frees the row; false if memory
+    // is refused.
+    SYSMEM_OFTEN bool give_up(Account &a, std::uint32_t row) noexcept {
+        Answer answer = step(a.id, a.rows[row].words(), a.rows[row].tree);
+        if (answer.code != SYSMEM_DONE) {
+            if (answer.is_no_memory()) return false;
+            lost++;
+        } else if (a.rows[row].cell && answer.is_good()) {
+            dropped(a.rows[row]);
+        }
+        erase(a, row);
+        return true;
+    }
+    void erase(Account &a, std::uint32_t row) noexcept {
+        if (a.fd >= 0 && a.rows[row].kind != SYSMEM_DROP_HANDLE) stand(a, row);
         a.erase(row);
     }
     SYSMEM_SELDOM void put_off(Account &a, std::uint32_t row) noexcept {
         a.rows[row].is_late = true;
+        if (a.fd >= 0) stand(a, row);
         put_off(a);
     }
     SYSMEM_SELDOM void put_off(Account &a) noexcept {
@@ -337,6 +743,7 @@ struct State : std::enable_shared_from_this<State> {
         if (a.is_late) return;
         a.is_late = true;
         a.next_late = std::exchange(late, &a);
+        for (Sleeper *s = sleepers; s; s = s->next) s->changed->notify_all(); // they try it again
     }
     // Makes the calls that were put off, as far as memory allows.
     SYSMEM_SELDOM void catch_up() noexcept {
@@ -350,7 +757,17 @@ struct State : std::enable_shared_from_this<State> {
     void vanish(Account &a) noexcept {
         clients.erase(place(a.id));
         a.is_leaving = true;
+        if (a.fd >= 0) close_fd(a);
         if (a.is_late || !settle(a)) put_off(a);
+    }
+    SYSMEM_SELDOM void close_fd(Account &a) noexcept {
+        for (std::uint32_t row = 0; row < a.rows.size(); row++)
+            if (a.rows[row].kind != Row::FREE && a.rows[row].kind != SYSMEM_DROP_HANDLE) stand(a, row);
+#ifdef __linux__
+        ::close(std::exchange(a.fd, -1));
+#endif
+        unchain(a.fired, &Watch::told);
+        unchain(a.idle, &Idle::after);
     }
     // Makes the calls that were put off for this client, and those of its vanishing. False if
     // memory is refused: then it can be called again.
@@ -364,8 +781,7 @@ struct State : std::enable_shared_from_this<State> {
                 if (row.kind == Row::FREE || (row.kind == SYSMEM_DROP_HANDLE) != handles ||
                     !(a.is_leaving || row.is_late))
                     continue;
-                if (step(a.id, row.words(), row.tree).is_no_memory()) return false;
-                a.erase(std::uint32_t(at));
+                if (!give_up(a, std::uint32_t(at))) return false;
             }
         return true;
     }
@@ -373,7 +789,7 @@ struct State : std::enable_shared_from_this<State> {
     bool collect_all(Account &a) noexcept {
         if (!a.is_shut) {
             Answer answer = step(a.id, call(SYSMEM_SHUT), 0);
-            if (!answer.is_good()) return !answer.is_no_memory();
+            if (!answer.is_good()) return is_lost(answer);
             a.is_shut = true;
             a.parcels = answer.reply.id;
             a.own = a.rows.size();
@@ -382,18 +798,42 @@ struct State : std::enable_shared_from_this<State> {
             if (!reserve(a.rows, a.parcels)) return false;
             Answer answer = step(a.id, call(SYSMEM_COLLECT), 0);
             const sysmem_reply &r = answer.reply;
-            if (!answer.is_good()) return !answer.is_no_memory();
+            if (!answer.is_good()) return is_lost(answer);
             if (r.kind == SYSMEM_COLLECTED)
                 a.rows.emplace_back(Key{r.slot, r.generation}, r.id);
             if (r.kind == SYSMEM_COLLECTED_HANDLE)
-                a.rows.emplace_back(Buffer{r.id, r.index}, Strength(r.detail));
+                a.rows.emplace_back(Buffer{r.id, r.index}, Strength(r.detail),
+                                    cell_of({r.id, r.index}));
         }
+        return true;
+    }
+    // Whether the call of a destructor was refused for good, and not for want of memory.
+    SYSMEM_SELDOM bool is_lost(const Answer &answer) noexcept {
+        if (answer.is_no_memory()) return false;
+        if (answer.code != SYSMEM_DONE) lost++;
         return true;
     }
     void forget_if_gone(Account *a) noexcept {
         if (a->values == 0 && !a->is_late) delete a;
     }
 };
+
+#ifdef __linux__
+inline void State::leave_memory() noexcept {
+    if (memory) memory->is_used = false;
+}
+inline void State::open_bytes(Cell &cell) noexcept {
+    cell.is_shut = memory && !memory->open_bytes(cell.at, cell.tree->size);
+}
+inline void State::shut_bytes(Cell &cell) noexcept {
+    cell.is_shut = true;
+    memory->shut_bytes(cell.at);
+}
+#else
+inline void State::leave_memory() noexcept {}
+inline void State::open_bytes(Cell &cell) noexcept { cell.is_shut = false; }
+inline void State::shut_bytes(Cell &) noexcept {}
+#endif
 
 // The point of time so long from now; a century from now if the clock can't count that far.
 template <class Rep, class Period>
@@ -403,6 +843,8 @@ std::chrono::steady_clock::time_point after(std::chrono::duration<Rep, Period> t
     if (time < longest) return Clock::now() + std::chrono::duration_cast<Clock::duration>(time);
     return Clock::now() + longest;
 }
+
+inline std::chrono::steady_clock::time_point forever() { return after(std::chrono::hours(1 << 20)); }
 
 // Holds the mutex. Its destructor wakes the threads that wait for a fired tracker, releases the
 // mutex, and runs the callbacks.
@@ -415,32 +857,59 @@ public:
     Guard(const Guard &) = delete;
     Guard &operator=(const Guard &) = delete;
     ~Guard() {
-        if (state.waiting.empty()) state.mutex.unlock();
+        if (!state.is_eager) state.mutex.unlock();
         else tell();
     }
 
 private:
     SYSMEM_SELDOM void tell() {
-        std::shared_ptr<Watch> ready = state.take_fired(), first;
+        std::shared_ptr<Due> ready = state.take_fired(), first;
         state.mutex.unlock();
         while (ready) { // reversed: the first firing first
-            std::shared_ptr<Watch> next = std::exchange(ready->next, std::move(first));
+            std::shared_ptr<Due> next = std::exchange(ready->next, std::move(first));
             first = std::exchange(ready, std::move(next));
         }
-        while (first) {
-            if (first->then) first->then(first->event.load(std::memory_order_relaxed));
-            first = std::move(first->next);
-        }
+        Runner::run(std::move(first));
     }
 
     State &state;
 };
 
+// Sleeps until this is so, or the time is over: then false. Meanwhile calls that were put off are tried again,
+// and callbacks that fall due by that run here. The lock is held, but not all the time.
+template <class F>
+bool sleep(State &state, std::unique_lock<std::mutex> &lock, std::condition_variable &changed,
+           std::chrono::steady_clock::time_point until, const F &is_so) {
+    struct Place {
+        State &state;
+        Sleeper self;
+        ~Place() {
+            Sleeper **at = &state.sleepers;
+            while (*at != &self) at = &(*at)->next;
+            *at = self.next;
+        }
+    };
+    Place place{state, {&changed, state.sleepers}};
+    state.sleepers = &place.self;
+    while (!is_so()) {
+        if (state.late) {
+            lock.unlock();
+            { Guard tries(state); }
+            lock.lock();
+            if (is_so()) return true;
+        }
+        auto next = until;
+        if (state.late) next = std::min(until, std::chrono::steady_clock::now() + std::chrono::milliseconds(10));
+        if (changed.wait_until(lock, next) == std::cv_status::timeout && next == until) return is_so();
+    }
+    return true;
+}
+
 // A Guard for a call that uses up a value of this client. The last value of all closes the core.
 class LastGuard {
 public:
     explicit LastGuard(Account &account) : account(account), guard(*account.state) {}
-    ~LastGuard() {
+    SYSMEM_OFTEN ~LastGuard() {
         if (stays) return;
         State &state = *account.state;
         if (--account.values == 0) state.forget_if_gone(&account);
@@ -465,10 +934,7 @@ inline Reader::~Reader() {
 }
 
 } // namespace detail
+} // namespace SYSMEM_INLINE
 } // namespace sysmem
-
-#undef SYSMEM_SELDOM
-#undef SYSMEM_TRY
-#undef SYSMEM_CATCH
 
 #endif

@@ -1,31 +1,70 @@
-// The numbers of sysmem.h as types, what a call fails with, and results.
+/// \file
+/// The numbers of sysmem.h as types, what a call fails with, and results.
 #ifndef SYSMEM_WORDS_HPP
 #define SYSMEM_WORDS_HPP
 
 #include "sysmem.h"
 
 #include <array>
+#include <chrono>
 #include <cstdint>
 #include <cstdio>
 #include <cstdlib>
 #include <functional>
+#include <memory>
 #include <optional>
+#include <ostream>
 #include <stdexcept>
 #include <string>
 #include <string_view>
 #include <type_traits>
 #include <utility>
 #include <variant>
+#include <vector>
+
+/// The address sanitizer can poison memory.
+#if defined(__SANITIZE_ADDRESS__)
+#define SYSMEM_POISONS 1
+#elif defined(__has_feature)
+#if __has_feature(address_sanitizer)
+#define SYSMEM_POISONS 1
+#endif
+#endif
+
+// The inline namespace of these headers: other versions of them, and other ways to compile them, have other
+// names, so that a program may contain several.
+#define SYSMEM_JOINED(a, b, c, d, e) a##b##_##c##d##e
+#define SYSMEM_JOIN_ALL(a, b, c, d, e) SYSMEM_JOINED(a, b, c, d, e)
+#ifdef __cpp_exceptions
+#define SYSMEM_WITH_EXCEPTIONS
+#else
+#define SYSMEM_WITH_EXCEPTIONS _plain
+#endif
+#ifdef SYSMEM_POISONS
+#define SYSMEM_WITH_POISON _poison
+#else
+#define SYSMEM_WITH_POISON
+#endif
+#define SYSMEM_INLINE                                                                              \
+    SYSMEM_JOIN_ALL(v, SYSMEM_VERSION_MAJOR, SYSMEM_VERSION_MINOR, SYSMEM_WITH_EXCEPTIONS,         \
+                    SYSMEM_WITH_POISON)
 
 namespace sysmem {
+inline namespace SYSMEM_INLINE {
 
+/// The number of a client.
 using ClientId = std::uint64_t;
+/// The number of a collection.
 using CollectionId = std::uint64_t;
+/// The number of a tracker.
 using TrackerId = std::uint64_t;
+/// The number of an event, from 1 on.
 using Event = std::uint64_t;
 
+/// Whether a node or a handle keeps buffers alive.
 enum class Strength : std::uint32_t { Strong = SYSMEM_STRONG, Weak = SYSMEM_WEAK };
 
+/// Why a call was refused.
 enum class Refusal : std::uint32_t {
     NoSuchClient = SYSMEM_NO_SUCH_CLIENT,
     ClientShut = SYSMEM_CLIENT_SHUT,
@@ -39,6 +78,7 @@ enum class Refusal : std::uint32_t {
     TooManyHandles = SYSMEM_TOO_MANY_HANDLES
 };
 
+/// A misuse: a call that fails the caller's own node.
 enum class Misuse : std::uint32_t {
     SecondConstraints = SYSMEM_SECOND_CONSTRAINTS,
     LateWeak = SYSMEM_LATE_WEAK,
@@ -47,6 +87,7 @@ enum class Misuse : std::uint32_t {
     TooManyNodeTrackers = SYSMEM_TOO_MANY_NODE_TRACKERS
 };
 
+/// Why a node failed.
 enum class Cause : std::uint32_t {
     Lost = SYSMEM_LOST,
     NoStrong = SYSMEM_NO_STRONG,
@@ -63,7 +104,7 @@ enum class Cause : std::uint32_t {
     FailedTooSmall = SYSMEM_FAILED_TOO_SMALL
 };
 
-// The name of a node. No two nodes of a service ever have the same key.
+/// The name of a node. No two nodes of a service ever have the same key.
 struct Key {
     std::uint32_t slot = 0, generation = 0;
     friend bool operator==(Key a, Key b) { return a.slot == b.slot && a.generation == b.generation; }
@@ -73,7 +114,7 @@ struct Key {
     }
 };
 
-// One buffer of a collection.
+/// One buffer of a collection.
 struct Buffer {
     CollectionId collection = 0;
     std::uint8_t index = 0;
@@ -81,52 +122,121 @@ struct Buffer {
         return a.collection == b.collection && a.index == b.index;
     }
     friend bool operator!=(Buffer a, Buffer b) { return !(a == b); }
+    friend bool operator<(Buffer a, Buffer b) {
+        return a.collection != b.collection ? a.collection < b.collection : a.index < b.index;
+    }
 };
 
-// The number of a collection's buffers, and the size of each in bytes.
+/// The number of a collection's buffers, and the size of each in bytes.
 struct Allocation {
-    std::uint32_t count = 0, size = 0;
+    std::uint32_t count = 0, size = 0; ///< how many buffers, and of how many bytes
 };
 
-// What a participant asks for: the buffers that it camps on, the least number of buffers (each 0 to
-// 64), and their size in bytes (1 to 1 << 30).
+/// What a participant asks for: the buffers that it camps on, the least number of buffers (each 0 to
+/// 64), and their size in bytes (1 to 1 << 30).
 struct Constraints {
     std::uint8_t camping = 0, at_least = 0;
     std::uint32_t size = 1;
 };
 
-// A buffer that holds pages of the pool: the first page, and how many.
+/// A buffer that holds pages of the pool: the first page, and how many.
 struct Held {
     Buffer buffer;
     std::uint32_t start = 0, pages = 0;
 };
 
-// A tracker that fired, and the event at which it fired.
+/// Pages of the pool: the first one, and how many.
+struct Pages {
+    std::uint32_t start = 0, count = 0;
+    friend bool operator==(Pages a, Pages b) { return a.start == b.start && a.count == b.count; }
+    friend bool operator!=(Pages a, Pages b) { return !(a == b); }
+};
+
+/// A tracker that fired, and the event at which it fired.
 struct Fired {
     TrackerId tracker = 0;
     Event event = 0;
 };
 
-// A recorder: it is called with each event, as two lines of a transcript (docs/SCRIPT.md): the
-// call, and the reply, indented by two spaces.
-using Record = std::function<void(std::string_view)>;
-
-// The options of a new service: the pool's pages of 4,096 bytes, and the limits of sysmem_open.
-struct Options {
-    std::uint32_t pages = 16;
-    // How many events may be made; without a number as many as sysmem_open_lasting allows, which at a
-    // million a second is 285 years.
-    std::optional<std::uint32_t> events = std::nullopt;
-    std::uint32_t nodes = 1024, collections = 256, trackers = 4096;
-    std::uint32_t handles = UINT32_MAX;
-    // 16 random bytes, if clients may be hostile: see sysmem_open_seeded.
-    std::optional<std::array<std::uint8_t, 16>> seed = std::nullopt;
-    // Called under the mutex, in the order of the events: it must be quick, and must neither call
-    // the service nor throw. record_to(file) makes a recorder.
-    Record record = nullptr;
+/// Firings in their order: the first `first` ones of all are left out.
+struct Firings {
+    std::uint64_t first = 0;
+    std::vector<Fired> all;
 };
 
-// A recorder that writes to the file. The caller keeps the file open as long as the service.
+/// A recorder: it is called with each event, as two lines of a transcript (docs/SCRIPT.md): the
+/// call, and the reply, indented by two spaces.
+using Record = std::function<void(std::string_view)>;
+
+/// A node that an allocation waits for: it has no constraints yet.
+struct Waits {
+    /// The node, and its label, which may be empty.
+    Key node;
+    std::string label;
+    ClientId holder = 0; ///< who holds its end, or gave it away
+    std::string holder_label; ///< may be empty
+    bool is_bound = false, is_in_parcel = false; ///< its end
+    Event event = 0; ///< at which the node was born
+};
+
+/// A kept node: one that is not gone, or whose end is not spent.
+struct Node {
+    Key key, parent, head; ///< a root is its own parent; the head of the node's unit
+    CollectionId collection = 0;
+    Event event = 0;     ///< at which the node was born
+    ClientId holder = 0; ///< who holds its end, or gave it away; 0 if it is spent
+    std::string label, holder_label;
+    bool is_attached = false, is_allocated = false, is_gone = false, is_released = false,
+         is_dispensable = false, is_weak = false, is_weak_ok = false, is_bound = false,
+         is_in_parcel = false;
+    std::optional<Constraints> constraints;
+    std::optional<std::pair<Cause, Key>> fault; ///< why it failed, and the node whose loss reached it
+};
+
+/// What Client::pending tells.
+struct Pending {
+    /// How many parcels wait; the nodes whose units were allocated, and that failed; the trackers that fired; the
+    /// buffers that fell idle.
+    std::uint64_t parcels = 0;
+    std::vector<Key> allocated, failed;
+    std::vector<TrackerId> fired;
+    std::vector<Buffer> idle;
+    /// Whether there is nothing to tell.
+    bool empty() const {
+        return parcels == 0 && allocated.empty() && failed.empty() && fired.empty() && idle.empty();
+    }
+};
+
+class Memory;
+
+/// The options of a new service: the pool's pages of 4,096 bytes, and the limits of sysmem_open.
+struct Options {
+    /// The pool's pages, 1 to 1,048,576.
+    std::uint32_t pages = 16;
+    /// How many events may be made; without a number as many as sysmem_open_lasting allows, which at a
+    /// million a second is 285 years. With a number, the last 1,048,576 events, but at most half of all,
+    /// are for those who let go: calls that join, bear, take or track answer SYSMEM_HISTORY_FULL then.
+    std::optional<std::uint32_t> events = std::nullopt;
+    /// How many nodes and collections may be kept, and how many trackers may wait.
+    std::uint32_t nodes = 1024, collections = 256, trackers = 4096;
+    /// How many handles of one buffer and strength may be open, in parcels too. A client that does not
+    /// collect keeps a core from more.
+    std::uint32_t handles = 65536;
+    /// 16 random bytes, if clients may be hostile: see sysmem_open_seeded.
+    std::optional<std::array<std::uint8_t, 16>> seed = std::nullopt;
+    /// Called under the mutex, in the order of the events: it must be quick, and must neither call
+    /// the service nor throw. record_to(file) makes a recorder. Without one, and with SYSMEM_DEBUG=1 in
+    /// the environment, the events are written to standard error.
+    Record record = nullptr;
+    /// The pool's memory: see Memory::open. It has at least as many pages as the pool.
+    std::shared_ptr<Memory> memory = nullptr;
+    /// After so long in Collection::wait_allocated, a line on standard error says for whom it waits. With
+    /// 0 none does.
+    std::chrono::milliseconds slow = std::chrono::seconds(5);
+};
+
+/// A recorder that writes to the file, as far as the file's buffer: what is not flushed is lost if the program
+/// ends by a signal. The caller keeps the file open as long as the service.
 inline Record record_to(std::FILE *file) {
     return [file](std::string_view lines) { std::fwrite(lines.data(), 1, lines.size(), file); };
 }
@@ -140,49 +250,115 @@ inline std::string name_of(std::uint32_t about, std::uint32_t number) {
 }
 } // namespace detail
 
+/// The name of the number, as `NoSuchEnd`.
 inline std::string name(Refusal r) {
     return detail::name_of(SYSMEM_ABOUT_REFUSAL, std::uint32_t(r));
 }
+/// The name of the number.
 inline std::string name(Misuse m) { return detail::name_of(SYSMEM_ABOUT_MISUSE, std::uint32_t(m)); }
+/// The name of the number.
 inline std::string name(Cause c) { return detail::name_of(SYSMEM_ABOUT_CAUSE, std::uint32_t(c)); }
 
-// Why a call did not succeed.
+/// Why a call did not succeed.
 struct Error {
+    /// What kind of error it is.
     enum class Kind {
-        Refused,    // refusal(): nothing changed
-        Misused,    // misuse(): the caller's own node failed
-        PeerClosed, // cause(), origin, label: the node failed before
-        Fault       // detail is a code of sysmem.h, as SYSMEM_NO_MEMORY: nothing changed
+        Refused,    ///< refusal(): nothing changed
+        Misused,    ///< misuse(): the caller's own node failed
+        PeerClosed, ///< cause(), origin, label: the node failed before
+        Fault       ///< detail is a code of sysmem.h, as SYSMEM_NO_MEMORY: nothing changed
     };
+    /// What kind of error it is.
     Kind kind = Kind::Fault;
+    /// The number of the refusal, misuse or cause, or a code of sysmem.h.
     std::uint32_t detail = 0;
+    /// The node whose loss reached the caller's, at PeerClosed.
     Key origin{};
-    std::string label; // of the origin, if it has one
+    std::string label;     ///< of the origin, if it has one
+    bool is_spent = false; ///< the value was moved from, given, released, closed or dropped: no event
+    std::string note;      ///< of a number that is out of its range: which one, and the range
 
+    /// The number as what it is.
     Refusal refusal() const { return Refusal(detail); }
     Misuse misuse() const { return Misuse(detail); }
     Cause cause() const { return Cause(detail); }
+    /// Whether it is this one.
     bool is(Refusal r) const { return kind == Kind::Refused && refusal() == r; }
     bool is(Misuse m) const { return kind == Kind::Misused && misuse() == m; }
     bool is(Cause c) const { return kind == Kind::PeerClosed && cause() == c; }
+    /// Whether it is this fault.
     bool is_no_memory() const { return kind == Kind::Fault && detail == SYSMEM_NO_MEMORY; }
+    bool is_bad_call() const { return kind == Kind::Fault && detail == SYSMEM_BAD_CALL; }
     bool is_history_full() const { return kind == Kind::Fault && detail == SYSMEM_HISTORY_FULL; }
 
+    /// The error in words.
     std::string message() const {
         switch (kind) {
-        case Kind::Refused: return "refused: " + name(refusal());
+        case Kind::Refused:
+            return "refused: " + name(refusal()) + (is_spent ? " (the value was spent)" : "");
         case Kind::Misused: return "misused: " + name(misuse());
         case Kind::PeerClosed:
             return "closed: " + name(cause()) + ", by node " + std::to_string(origin.slot) + "." +
                    std::to_string(origin.generation) + (label.empty() ? "" : " (" + label + ")");
         case Kind::Fault: break;
         }
-        return detail::name_of(SYSMEM_ABOUT_CODE, this->detail);
+        return detail::name_of(SYSMEM_ABOUT_CODE, this->detail) + (note.empty() ? "" : ": ") + note;
     }
-    static Error fault(std::uint32_t code) { return {Kind::Fault, code, {}, {}}; }
+    /// The error of a code.
+    static Error fault(std::uint32_t code) { return {Kind::Fault, code, {}, {}, false, {}}; }
+#ifdef __GNUC__
+    __attribute__((noinline, cold))
+#endif
+    static Error spent(Refusal r) { return {Kind::Refused, std::uint32_t(r), {}, {}, true, {}}; }
+    /// A number that is out of its range.
+#ifdef __GNUC__
+    __attribute__((noinline, cold))
+#endif
+    static Error outside(std::uint32_t code, const char *what, std::uint64_t is, std::uint64_t least,
+                         std::uint64_t most) {
+        Error error = fault(code);
+        error.note = std::string(what) + " is " + std::to_string(is) + ", and must be " +
+                     std::to_string(least) + " to " + std::to_string(most);
+        return error;
+    }
 };
 
-// The exception that value() throws. A program without exceptions aborts instead.
+/// As text: a key as "2.0", a buffer as its collection's number and its index, pages as "3+2".
+inline std::ostream &operator<<(std::ostream &out, Key k) { return out << k.slot << '.' << k.generation; }
+inline std::ostream &operator<<(std::ostream &out, Buffer b) {
+    return out << b.collection << '.' << unsigned(b.index);
+}
+inline std::ostream &operator<<(std::ostream &out, Pages p) { return out << p.start << '+' << p.count; }
+inline std::ostream &operator<<(std::ostream &out, Strength s) {
+    return out << (s == Strength::Strong ? "strong" : "weak");
+}
+inline std::ostream &operator<<(std::ostream &out, Refusal r) { return out << name(r); }
+inline std::ostream &operator<<(std::ostream &out, Misuse m) { return out << name(m); }
+inline std::ostream &operator<<(std::ostream &out, Cause c) { return out << name(c); }
+inline std::ostream &operator<<(std::ostream &out, const Error &e) { return out << e.message(); }
+
+namespace detail {
+/// Which of the constraints is out of its range.
+inline Error outside(Constraints c) {
+    if (c.camping > 64) return Error::outside(SYSMEM_BAD_CALL, "camping", c.camping, 0, 64);
+    if (c.at_least > 64) return Error::outside(SYSMEM_BAD_CALL, "at_least", c.at_least, 0, 64);
+    return Error::outside(SYSMEM_BAD_CALL, "size", c.size, 1, 1 << 30);
+}
+/// Which of the limits is.
+inline Error outside(const Options &o) {
+    auto bad = [](const char *what, std::uint64_t is, std::uint64_t most) {
+        return Error::outside(SYSMEM_BAD_LIMITS, what, is, 1, most);
+    };
+    if (o.pages < 1 || o.pages > 1 << 20) return bad("pages", o.pages, 1 << 20);
+    if (o.events && *o.events < 1) return bad("events", *o.events, UINT32_MAX);
+    if (o.nodes < 1 || o.nodes > 1024) return bad("nodes", o.nodes, 1024);
+    if (o.collections < 1 || o.collections > 256) return bad("collections", o.collections, 256);
+    if (o.trackers < 1 || o.trackers > 4096) return bad("trackers", o.trackers, 4096);
+    return bad("handles", o.handles, UINT32_MAX);
+}
+} // namespace detail
+
+/// The exception that value() throws. A program without exceptions aborts instead.
 struct Failure : std::runtime_error {
     explicit Failure(Error e) : std::runtime_error(e.message()), error(std::move(e)) {}
     Error error;
@@ -199,7 +375,7 @@ namespace detail {
 }
 } // namespace detail
 
-// A value or an Error, with members of std::expected.
+/// A value or an Error, with members of std::expected.
 template <class T> class [[nodiscard]] Result {
 public:
     using value_type = T;
@@ -221,7 +397,7 @@ public:
 
     T &value() & { return check(), **this; }
     const T &value() const & { return check(), **this; }
-    // By value, so that the value may outlive a temporary Result.
+    /// By value, so that the value may outlive a temporary Result.
     T value() && { return check(), std::move(**this); }
     template <class U> T value_or(U &&other) const & {
         return has_value() ? **this : static_cast<T>(std::forward<U>(other));
@@ -230,7 +406,7 @@ public:
         return has_value() ? std::move(**this) : static_cast<T>(std::forward<U>(other));
     }
 
-    // f of the value, which is a Result; or the error.
+    /// f of the value, which is a Result; or the error.
     template <class F> auto and_then(F &&f) & { return after<T &>(*this, std::forward<F>(f)); }
     template <class F> auto and_then(F &&f) const & {
         return after<const T &>(*this, std::forward<F>(f));
@@ -238,7 +414,7 @@ public:
     template <class F> auto and_then(F &&f) && {
         return after<T &&>(std::move(*this), std::forward<F>(f));
     }
-    // A Result with f of the value; or the error.
+    /// A Result with f of the value; or the error.
     template <class F> auto transform(F &&f) & { return mapped<T &>(*this, std::forward<F>(f)); }
     template <class F> auto transform(F &&f) const & {
         return mapped<const T &>(*this, std::forward<F>(f));
@@ -310,6 +486,18 @@ auto Result<T>::mapped(Self &&self, F &&f) {
     }
 }
 
+} // namespace SYSMEM_INLINE
 } // namespace sysmem
+
+template <> struct std::hash<sysmem::Key> {
+    std::size_t operator()(sysmem::Key k) const noexcept {
+        return std::hash<std::uint64_t>()(std::uint64_t(k.generation) << 32 | k.slot);
+    }
+};
+template <> struct std::hash<sysmem::Buffer> {
+    std::size_t operator()(sysmem::Buffer b) const noexcept {
+        return std::hash<std::uint64_t>()(b.collection * 64 + b.index);
+    }
+};
 
 #endif

@@ -4,14 +4,76 @@
 
 #include <cstdio>
 #include <cstdlib>
+#include <poll.h>
 #include <random>
 #include <thread>
+
+namespace sysmem {
+inline namespace SYSMEM_INLINE {
+// What the binding keeps, against the core.
+struct Raw {
+    // Whether the binding keeps nothing of buffers, and of ends that have a seat.
+    static bool is_clean(Service &service) {
+        detail::Guard guard(*service.state);
+        return service.state->trees.empty() && service.state->seats.empty() && !service.state->due;
+    }
+    // Each descriptor is readable exactly where there is something to tell, and each end's state is the core's.
+    static bool are_lit_rightly(Service &service, std::uint64_t &lit, std::uint64_t &dark) {
+        detail::State &s = *service.state;
+        detail::Guard guard(s);
+        for (detail::Account *a : s.clients) {
+            if (a->fd < 0) continue;
+            std::uint32_t news = 0;
+            for (detail::Row &row : a->rows) {
+                if (row.kind != SYSMEM_CLOSE || row.is_late) continue;
+                news += row.is != row.told;
+                sysmem_node n;
+                if (s.look_up({row.a, row.b}, n) && s.state_of(n) != row.is) return false;
+            }
+            bool has = a->parcels > 0 || news > 0 || a->fired || a->idle;
+            pollfd one{a->fd, POLLIN, 0};
+            if ((poll(&one, 1, 0) == 1) != has || news != a->news || a->is_lit != has) return false;
+            (has ? lit : dark)++;
+        }
+        return true;
+    }
+    // Each buffer has as many handles as the core counts, and its pages.
+    static bool are_counted_rightly(Service &service) {
+        detail::State &s = *service.state;
+        detail::Guard guard(s);
+        for (auto &tree : s.trees) {
+            std::uint64_t count = 0;
+            for (std::size_t i = 0; i < tree.second.cells.size(); i++) {
+                std::uint32_t all = 0, one = 0;
+                for (std::uint32_t strength : {SYSMEM_STRONG, SYSMEM_WEAK}) {
+                    for (detail::Account *a : s.clients) {
+                        sysmem_open_handles(&s.core, a->id, tree.first, std::uint8_t(i), strength, &one);
+                        all += one;
+                    }
+                    sysmem_handles_in_parcels(&s.core, tree.first, std::uint8_t(i), strength, &one);
+                    all += one;
+                }
+                if (all != tree.second.cells[i].open) return false;
+                count += all;
+            }
+            sysmem_held_buffer held[64];
+            std::uint64_t all = 0;
+            sysmem_held_of(&s.core, tree.first, held, 64, &all);
+            for (std::uint64_t i = 0; i < all; i++)
+                if (tree.second.cells[held[i].index].at != Pages{held[i].start, held[i].pages}) return false;
+            if (count != tree.second.open || count == 0) return false;
+        }
+        return true;
+    }
+};
+} // namespace SYSMEM_INLINE
+} // namespace sysmem
 
 using namespace sysmem;
 
 static std::mutex board_mutex;
 static std::vector<ClientId> board; // who was seen last
-static std::atomic<std::uint64_t> told{0}, made{0};
+static std::atomic<std::uint64_t> told{0}, made{0}, idle_told{0}, idle_made{0};
 
 static ClientId someone(std::mt19937 &dice) {
     std::lock_guard<std::mutex> lock(board_mutex);
@@ -47,7 +109,21 @@ struct Life {
         tracker->on_fired(std::move(then));
     }
     void step() {
-        switch (upto(20)) {
+        switch (upto(24)) {
+        case 20: return (void)client->fd();
+        case 21: return (void)client->pending();
+        case 22:
+            if (handles.empty()) return;
+            if (upto(2) == 0) return (void)handles.back().on_idle(upto(3));
+            if (handles.back().on_idle(upto(3), [service = service](Buffer) {
+                    idle_told++;
+                    (void)service.free_pages();
+                }))
+                idle_made++;
+            return (void)handles.back().wait_idle(upto(2), std::chrono::microseconds(upto(50)));
+        case 23:
+            if (!collections.empty()) (void)collections.back().waits_for();
+            return;
         case 0: return keep(client->open_root("root"));
         case 1:
         case 2:
@@ -158,5 +234,6 @@ static void come(Service &service, std::mt19937 &dice, int steps, F before_the_e
 
 static bool is_nothing_left(Service &service, std::uint32_t pages) {
     return service.live().value().empty() && service.held().value().empty() &&
-           service.free_pages() == pages && service.is_settled() && told == made;
+           service.free_pages() == pages && service.is_settled() && told == made &&
+           idle_told == idle_made && Raw::is_clean(service);
 }

@@ -6,6 +6,7 @@
 #include <sstream>
 
 namespace sysmem {
+inline namespace SYSMEM_INLINE {
 struct Raw {
     static Result<sysmem_reply> ask(Service &service, ClientId who, const sysmem_call &call) {
         detail::Guard guard(*service.state);
@@ -14,6 +15,7 @@ struct Raw {
         return answer.reply;
     }
 };
+} // namespace SYSMEM_INLINE
 } // namespace sysmem
 
 using namespace sysmem;

@@ -132,16 +132,16 @@ static void moves() {
     Client b = service.join("b").value();
     Token one = a->open_root("one").value(), two = b.open_root("two").value();
     Key first = one.key(), second = two.key();
-    one = std::move(two);
-    EXPECT(one.key() == second && one.client() == b.id() && two.key() == first);
-    { Token gone = std::move(two); }
-    EXPECT(!service.is_live(first) && service.is_live(second) && !two);
-    a = std::move(b); // a's client is b's, and goes with `b`
-    EXPECT(a->label() == "b" && a->id() == one.client());
-    b.vanish();
-    EXPECT(!b && service.is_live(second));
+    one = std::move(two); // what `one` had is closed at once
+    EXPECT(one.key() == second && one.client() == b.id() && !two);
+    EXPECT(!service.is_live(first) && service.is_live(second));
+    EXPECT(two.sync().error().is_spent && !std::move(two).bind() && !two.duplicate());
+    a = std::move(b); // and a's client vanishes
+    EXPECT(a->label() == "b" && a->id() == one.client() && !b && b.id() == 0);
+    EXPECT(b.collect().error().is_spent && !b.open_root() && !b.shut() && service.is_live(second));
     a.reset();
     EXPECT(!service.is_live(second) && one.sync().error().is(Refusal::NoSuchEnd));
+    EXPECT(!one.sync().error().is_spent);
 }
 
 // Labels are of nodes; at most 4,096 are kept, and those of nodes that were forgotten go first.

@@ -1,5 +1,6 @@
 //! Accounts: the ends and handles of a client.
 use crate::calls::{kind, of_buffer, of_key};
+use crate::descriptors::News;
 use crate::ffi::CallWords;
 use crate::words::*;
 use std::sync::{Arc, Condvar};
@@ -14,6 +15,10 @@ pub(crate) enum Row {
         collection: CollectionId,
         is_release: bool,
         is_late: bool,
+        /// Of an end whose client has a descriptor: what happened to its node, and what was told.
+        is: u8,
+        told: u8,
+        is_seated: bool,
     },
     Handle {
         buffer: Buffer,
@@ -25,6 +30,15 @@ pub(crate) enum Row {
 pub(crate) const NONE: u32 = u32::MAX;
 
 impl Row {
+    pub fn of_end(key: Key, collection: CollectionId) -> Row {
+        let (is_release, is_late, is_seated) = (false, false, false);
+        Row::End { key, collection, is_release, is_late, is: 0, told: 0, is_seated }
+    }
+
+    pub fn of_handle(buffer: Buffer, strength: Strength) -> Row {
+        Row::Handle { buffer, strength, is_late: false }
+    }
+
     /// The call and its collection.
     pub fn parting(&self) -> Option<(CallWords, CollectionId)> {
         match *self {
@@ -67,6 +81,7 @@ pub(crate) struct Account {
     pub stage: Stage,
     /// Whether some call was put off.
     pub is_late: bool,
+    pub news: News,
 }
 
 /// How far the vanishing of a client has come.

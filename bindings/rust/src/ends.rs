@@ -1,17 +1,15 @@
 //! Tokens and collections.
-use crate::ffi::CallWords;
+use crate::descriptors::state_of;
+use crate::ffi::{flag, CallWords};
 use crate::state::{kind, of_key, reply, Owner, State, Wait};
 use crate::{
-    Allocation, Back, Buffer, ClientId, CollectionId, Constraints, Error, Handle, Key, Strength,
-    Tracker,
+    Allocation, Back, Buffer, ClientId, CollectionId, Constraints, Error, Handle, Key, Patience,
+    Refusal, Strength, Tracker, Waits,
 };
 use std::fmt;
 use std::marker::PhantomData;
-use std::sync::{Arc, Condvar, PoisonError};
+use std::sync::{Arc, Condvar};
 use std::time::{Duration, Instant};
-
-/// The longest wait, short enough that an `Instant` can be so far off.
-const FOREVER: Duration = Duration::from_secs(1 << 31);
 
 mod sealed {
     pub trait Kind {}
@@ -169,55 +167,134 @@ impl End<OfCollection> {
         Ok((told.kind != reply::PENDING).then_some(given))
     }
 
-    /// Waits until the buffers are allocated or the node is gone; `None` if the time is over first.
-    /// Makes a Check, which is an event, and another one after each event that may have caused an
-    /// allocation or a failure in the collection.
-    pub fn wait_allocated(&self, time: Duration) -> Result<Option<Allocation>, Error> {
-        let until = Instant::now() + time.min(FOREVER);
+    /// Waits until the buffers are allocated or the node failed, and then makes one Check. `None`, and
+    /// no event, if the wait ends first.
+    pub fn wait_allocated<'a>(
+        &self,
+        time: impl Into<Patience<'a>>,
+    ) -> Result<Option<Allocation>, Error> {
         let shared = &self.owner.shared;
         let changed = Arc::new(Condvar::new());
-        let mut mine = None;
-        loop {
+        let waiting = time.into().begin(shared, &changed);
+        let (number, slow) = {
             let mut state = shared.lock();
-            let now = self.look(&mut state);
-            if now != Ok(None) {
-                if let Some(number) = mine {
-                    state.end_wait(number);
+            if self.is_decided(&mut state) {
+                return self.look(&mut state);
+            }
+            let (collection, is_changed) = (self.collection, false);
+            let number = state.wait(Wait { collection, is_changed, changed: changed.clone() });
+            (number, state.slow)
+        };
+        let mut is_so = false;
+        let first = Instant::now() + slow.min(Duration::from_secs(1 << 31));
+        let mut waits_until = |until: Instant| {
+            let sleeps = shared.sleep(shared.raw(), &changed, until, |state| {
+                if std::mem::take(&mut state.waiter(number).is_changed) {
+                    is_so = self.is_decided(state);
                 }
-                return now;
-            }
-            let (collection, is_changed, changed) = (self.collection, false, changed.clone());
-            let number = *mine.get_or_insert_with(|| {
-                state.wait(Wait { collection, is_changed, changed: changed.clone() })
+                is_so || waiting.is_cancelled()
             });
-            state.waiter(number).is_changed = false;
-            drop(state);
-            let left = until.saturating_duration_since(Instant::now());
-            let waits =
-                changed.wait_timeout_while(shared.raw(), left, |s| !s.waiter(number).is_changed);
-            let (mut state, _) = waits.unwrap_or_else(PoisonError::into_inner);
-            if !state.waiter(number).is_changed {
-                state.end_wait(number);
-                return Ok(None);
-            }
+            sleeps.1
+        };
+        let is_slow = slow > Duration::from_secs(0) && first < waiting.until;
+        if is_slow && !waits_until(first) {
+            eprintln!("{}", self.slow_line(&mut shared.raw()));
+            waits_until(waiting.until);
+        } else if !is_slow {
+            waits_until(waiting.until);
         }
+        shared.raw().end_wait(number);
+        if !is_so {
+            return Ok(None);
+        }
+        self.look(&mut shared.lock())
+    }
+
+    /// Whether a Check would tell more than that nothing is allocated.
+    fn is_decided(&self, state: &mut State) -> bool {
+        let node = state.core.node(self.key.words());
+        !state.is_here(self.owner.place) || node.map_or(true, |node| state_of(node.flags) != 0)
+    }
+
+    /// The nodes that keep this node's allocation waiting: those of its unit, and of the pending units
+    /// above it, that are neither gone nor released and have no constraints, by birth. None once the
+    /// node's unit is allocated, or the node failed. Makes no event.
+    pub fn waits_for(&self) -> Result<Vec<Waits>, Error> {
+        self.waits(&mut self.owner.shared.lock())
+    }
+
+    fn waits(&self, state: &mut State) -> Result<Vec<Waits>, Error> {
+        if !state.is_here(self.owner.place) {
+            return Err(Error::Refused(Refusal::NoSuchEnd));
+        }
+        let kept = state.core.nodes().map_err(Error::of)?;
+        let find = |key: Key| kept.iter().find(|n| Key::from(n.key) == key);
+        let done = flag::GONE | flag::RELEASED | flag::CONSTRAINED;
+        let mut all = Vec::new();
+        let mut at = find(self.key);
+        while let Some(node) = at.filter(|node| state_of(node.flags) == 0) {
+            let head = Key::from(node.head);
+            for n in kept.iter().filter(|n| n.collection == self.collection) {
+                if Key::from(n.head) == head && n.flags & done == 0 {
+                    let node = Key::from(n.key);
+                    all.push(Waits {
+                        node,
+                        label: state.labels.get(&node).cloned(),
+                        holder: n.holder,
+                        holder_label: state.client_label(n.holder).map(|l| l.to_string()),
+                        is_bound: n.flags & flag::BOUND != 0,
+                        is_in_parcel: n.flags & flag::IN_TRANSIT != 0,
+                        event: n.event,
+                    });
+                }
+            }
+            let above =
+                find(head).map(|head| Key::from(head.parent)).filter(|above| *above != head);
+            at = above.and_then(find);
+        }
+        all.sort_by_key(|waits| waits.event);
+        Ok(all)
+    }
+
+    #[cold]
+    fn slow_line(&self, state: &mut State) -> String {
+        let own = state.account(self.owner.place).label.to_string();
+        let own = if own.is_empty() { format!("client {}", self.owner.client) } else { own };
+        let mine = state.labels.get(&self.key).cloned().unwrap_or_else(|| self.key.to_string());
+        let mut line = format!("sysmem: {own} waits for the allocation of {mine}");
+        for (place, one) in self.waits(state).unwrap_or_default().into_iter().enumerate() {
+            line += if place == 0 { ": no constraints from " } else { ", " };
+            line += &one.to_string();
+        }
+        line
     }
 
     /// Opens a handle on each buffer that something strong keeps; `None` if none is allocated yet.
     pub fn take(&self) -> Result<Option<Vec<Handle>>, Error> {
         let mut state = self.owner.shared.lock();
-        let told = state.ask(&self.owner, &self.asks(kind::TAKE), self.collection)?;
-        if told.kind == reply::PENDING {
-            return Ok(None);
+        state.may_open()?;
+        if state.memory.is_some() {
+            state.tree(self.collection);
         }
-        let mut taken = Vec::with_capacity(told.set.count_ones() as usize);
-        let mut left = told.set;
-        while left != 0 {
-            let buffer = Buffer { collection: told.id, index: left.trailing_zeros() as u8 };
-            taken.push(self.owner.handle(&mut state, buffer, Strength::of(told.detail)));
-            left &= left - 1;
+        let told = state.ask(&self.owner, &self.asks(kind::TAKE), self.collection);
+        let mut taken = None;
+        if let Ok(told) = &told {
+            if told.kind != reply::PENDING {
+                let mut handles = Vec::with_capacity(told.set.count_ones() as usize);
+                let mut left = told.set;
+                while left != 0 {
+                    let index = left.trailing_zeros() as u8;
+                    let buffer = Buffer { collection: told.id, index };
+                    state.opened(buffer);
+                    let strength = Strength::of(told.detail);
+                    handles.push(self.owner.handle(&mut state, buffer, strength));
+                    left &= left - 1;
+                }
+                taken = Some(handles);
+            }
         }
-        Ok(Some(taken))
+        state.forget_tree(self.collection);
+        told.map(|_| taken)
     }
 
     /// Makes a tracker that fires once the node's unit is allocated and at most `left` buffers of

@@ -62,6 +62,38 @@ pub(crate) struct FiredWords {
     pub event: u64,
 }
 
+#[repr(C)]
+#[derive(Clone, Copy, Default)]
+pub(crate) struct NodeWords {
+    pub key: KeyWords,
+    pub parent: KeyWords,
+    pub head: KeyWords,
+    pub collection: u64,
+    pub event: u64,
+    pub holder: u64,
+    pub flags: u32,
+    pub cause: u32,
+    pub origin: KeyWords,
+    pub camping: u8,
+    pub at_least: u8,
+    pub size: u32,
+}
+
+/// The bits of a node's flags.
+pub(crate) mod flag {
+    pub const ATTACHED: u32 = 1;
+    pub const ALLOCATED: u32 = 2;
+    pub const GONE: u32 = 4;
+    pub const FAILED: u32 = 8;
+    pub const RELEASED: u32 = 16;
+    pub const DISPENSABLE: u32 = 32;
+    pub const WEAK: u32 = 64;
+    pub const WEAK_OK: u32 = 128;
+    pub const CONSTRAINED: u32 = 256;
+    pub const BOUND: u32 = 512;
+    pub const IN_TRANSIT: u32 = 1024;
+}
+
 // The library's sizes, as `tools/layout.c` has them; the order of the fields is the header's.
 const _: () = {
     use std::mem::size_of;
@@ -71,6 +103,7 @@ const _: () = {
     assert!(size_of::<KeyWords>() == 8);
     assert!(size_of::<HeldWords>() == 24);
     assert!(size_of::<FiredWords>() == 16);
+    assert!(size_of::<NodeWords>() == 72);
 };
 
 type View<T> = unsafe extern "C" fn(*mut Handle, *mut T, usize, *mut u64) -> u32;
@@ -103,8 +136,6 @@ extern "C" {
     ) -> u32;
     fn sysmem_live(handle: *mut Handle, out: *mut KeyWords, room: usize, count: *mut u64) -> u32;
     fn sysmem_held(handle: *mut Handle, out: *mut HeldWords, room: usize, count: *mut u64) -> u32;
-    fn sysmem_fired(handle: *mut Handle, out: *mut FiredWords, room: usize, count: *mut u64)
-        -> u32;
     fn sysmem_fired_from(
         handle: *mut Handle,
         from: u64,
@@ -121,6 +152,38 @@ extern "C" {
     ) -> u32;
     fn sysmem_free_pages(handle: *mut Handle, pages: *mut u32) -> u32;
     fn sysmem_events(handle: *mut Handle, events: *mut u64) -> u32;
+    fn sysmem_remaining(handle: *mut Handle, events: *mut u64) -> u32;
+    fn sysmem_forget_fired(handle: *mut Handle) -> u32;
+    fn sysmem_nodes(handle: *mut Handle, out: *mut NodeWords, room: usize, count: *mut u64) -> u32;
+    fn sysmem_node_of(
+        handle: *mut Handle,
+        key: *const KeyWords,
+        is_kept: *mut u32,
+        out: *mut NodeWords,
+    ) -> u32;
+    fn sysmem_held_of(
+        handle: *mut Handle,
+        collection: u64,
+        out: *mut HeldWords,
+        room: usize,
+        count: *mut u64,
+    ) -> u32;
+    fn sysmem_given(handle: *mut Handle, collection: u64, count: *mut u32, size: *mut u32) -> u32;
+    fn sysmem_open_handles(
+        handle: *mut Handle,
+        client: u64,
+        collection: u64,
+        index: u8,
+        strength: u32,
+        count: *mut u32,
+    ) -> u32;
+    fn sysmem_handles_in_parcels(
+        handle: *mut Handle,
+        collection: u64,
+        index: u8,
+        strength: u32,
+        count: *mut u32,
+    ) -> u32;
     fn sysmem_name(about: u32, number: u32, out: *mut u8, room: usize, count: *mut u64) -> u32;
     fn sysmem_close(handle: *mut Handle) -> u32;
 }
@@ -180,10 +243,6 @@ impl Core {
         self.view(sysmem_held)
     }
 
-    pub fn fired(&mut self) -> Result<Vec<FiredWords>, u32> {
-        self.view(sysmem_fired)
-    }
-
     fn view<T: Copy + Default>(&mut self, look: View<T>) -> Result<Vec<T>, u32> {
         let mut count = 0;
         let mut all = vec![T::default()];
@@ -219,6 +278,73 @@ impl Core {
         // SAFETY: as above.
         let code = unsafe { sysmem_cause(&mut self.0, &key, &mut cause, &mut origin) };
         (code == 0).then_some((cause, origin))
+    }
+
+    pub fn nodes(&mut self) -> Result<Vec<NodeWords>, u32> {
+        self.view(sysmem_nodes)
+    }
+
+    /// The node, if it is kept. Takes no memory.
+    pub fn node(&mut self, key: KeyWords) -> Option<NodeWords> {
+        let (mut is_kept, mut node) = (0, NodeWords::default());
+        // SAFETY: the pointers are of this handle, this key and these words.
+        unsafe { sysmem_node_of(&mut self.0, &key, &mut is_kept, &mut node) };
+        (is_kept == 1).then_some(node)
+    }
+
+    /// The buffers of the collection that hold pages.
+    pub fn held_of(&mut self, collection: u64) -> Vec<HeldWords> {
+        let (mut all, mut count) = ([HeldWords::default(); 64], 0);
+        // SAFETY: `out` has as many places as `room` says.
+        unsafe { sysmem_held_of(&mut self.0, collection, all.as_mut_ptr(), 64, &mut count) };
+        all[..count as usize].to_vec()
+    }
+
+    /// The number of the collection's buffers, and the bytes of each; zeros if it is not allocated.
+    pub fn given(&mut self, collection: u64) -> (u32, u32) {
+        let (mut count, mut size) = (0, 0);
+        // SAFETY: the pointers are of this handle and these numbers.
+        unsafe { sysmem_given(&mut self.0, collection, &mut count, &mut size) };
+        (count, size)
+    }
+
+    pub fn open_handles(&mut self, client: u64, collection: u64, index: u8, strength: u32) -> u32 {
+        let mut count = 0;
+        // SAFETY: as above.
+        unsafe {
+            sysmem_open_handles(&mut self.0, client, collection, index, strength, &mut count)
+        };
+        count
+    }
+
+    pub fn handles_in_parcels(&mut self, collection: u64, index: u8, strength: u32) -> u32 {
+        let mut count = 0;
+        // SAFETY: as above.
+        unsafe { sysmem_handles_in_parcels(&mut self.0, collection, index, strength, &mut count) };
+        count
+    }
+
+    pub fn remaining(&mut self) -> u64 {
+        let mut events = 0;
+        // SAFETY: as above.
+        unsafe { sysmem_remaining(&mut self.0, &mut events) };
+        events
+    }
+
+    pub fn forget_fired(&mut self) {
+        // SAFETY: the pointer is of this handle.
+        unsafe { sysmem_forget_fired(&mut self.0) };
+    }
+
+    /// The firings after the first `from`.
+    pub fn fired_from(&mut self, from: u64) -> Vec<FiredWords> {
+        let count = self.fired_at(u64::MAX).1;
+        let mut all = vec![FiredWords::default(); count.saturating_sub(from) as usize];
+        let mut none = FiredWords::default();
+        let out = if all.is_empty() { &mut none } else { all.as_mut_ptr() };
+        // SAFETY: `out` has as many places as `room` says.
+        unsafe { sysmem_fired_from(&mut self.0, from, out, all.len(), &mut 0) };
+        all
     }
 
     pub fn free_pages(&mut self) -> u32 {

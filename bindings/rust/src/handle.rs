@@ -1,8 +1,11 @@
 //! Handles.
+use crate::buffers::{Awaited, Cell, Idle, IdleThen};
 use crate::ffi::CallWords;
 use crate::state::{kind, of_buffer, Owner};
-use crate::{Back, Buffer, ClientId, Error, Strength, Tracker};
+use crate::{Back, Buffer, ClientId, Error, Pages, Patience, Refusal, Strength, Tracker};
 use std::fmt;
+use std::sync::atomic::Ordering;
+use std::sync::Arc;
 
 /// A handle, which keeps a buffer in use until the value is dropped.
 pub struct Handle {
@@ -10,6 +13,8 @@ pub struct Handle {
     pub(crate) row: u32,
     pub(crate) buffer: Buffer,
     pub(crate) strength: Strength,
+    /// Where its bytes are, if the service has a memory: the first page, and how many bytes.
+    pub(crate) bytes: (u32, u32),
     pub(crate) is_here: bool,
 }
 
@@ -36,8 +41,90 @@ impl Handle {
     /// Opens one more handle of this buffer and strength.
     pub fn duplicate(&self) -> Result<Handle, Error> {
         let mut state = self.owner.shared.lock();
+        state.may_open()?;
         state.ask(&self.owner, &self.asks(kind::DUP_HANDLE), 0)?;
+        if !state.trees.is_empty() {
+            state.opened(self.buffer);
+        }
         Ok(self.owner.handle(&mut state, self.buffer, self.strength))
+    }
+
+    /// The buffer's pages in the pool. They are the buffer's as long as the handle is open.
+    pub fn pages(&self) -> Result<Pages, Error> {
+        self.with_cell(|cell| cell.pages)
+    }
+
+    /// How many handles of this buffer are open: of either strength, of all clients and in parcels, this
+    /// one included. Makes no event.
+    pub fn open_handles(&self) -> Result<u32, Error> {
+        self.with_cell(|cell| cell.open)
+    }
+
+    fn with_cell<T>(&self, look: impl FnOnce(&mut Cell) -> T) -> Result<T, Error> {
+        let mut state = self.owner.shared.lock();
+        let is_open = state.is_here(self.owner.place);
+        let cell = state.cell(self.buffer).filter(|_| is_open);
+        cell.map(look).ok_or(Error::Refused(Refusal::NoSuchHandle))
+    }
+
+    /// Where the bytes are in this memory; nowhere if the client has vanished, or if the service has
+    /// another memory.
+    #[cfg(target_os = "linux")]
+    pub(crate) fn bytes_in(&self, memory: &crate::Memory) -> (u32, u32) {
+        let mut state = self.owner.shared.raw();
+        let is_its = state.memory.as_ref().map_or(false, |its| std::ptr::eq(&**its, memory));
+        if is_its && state.is_here(self.owner.place) {
+            self.bytes
+        } else {
+            (0, 0)
+        }
+    }
+
+    /// Calls `then` once, as soon as at most `most` handles of this buffer are open: of either
+    /// strength, of all clients and in parcels, this one included. At once if this is so now. It runs
+    /// as a tracker's callback does, and stays when the handle is dropped or its client vanishes.
+    ///
+    /// Nobody is kept out after that: any client with a strong collection may take handles again.
+    pub fn on_idle(
+        &self,
+        most: u32,
+        then: impl FnOnce(Buffer) + Send + 'static,
+    ) -> Result<(), Error> {
+        self.when_idle(most, IdleThen::Call(Box::new(then)))
+    }
+
+    /// Has the client's [`pending`](crate::Client::pending) name the buffer, once, as soon as at most
+    /// `most` handles of it are open.
+    pub fn tell_idle(&self, most: u32) -> Result<(), Error> {
+        self.when_idle(most, IdleThen::Tell)
+    }
+
+    fn when_idle(&self, most: u32, then: IdleThen) -> Result<(), Error> {
+        let mut state = self.owner.shared.lock();
+        let is_open = state.is_here(self.owner.place);
+        let cell = state.cell(self.buffer).filter(|_| is_open);
+        let cell = cell.ok_or(Error::Refused(Refusal::NoSuchHandle))?;
+        cell.idle.push(Idle { most, owner: self.owner.client, then });
+        state.tell_idle(self.buffer);
+        Ok(())
+    }
+
+    /// Waits until at most `most` handles of this buffer are open; false if the wait ends first. Makes
+    /// no event.
+    pub fn wait_idle<'a>(&self, most: u32, time: impl Into<Patience<'a>>) -> Result<bool, Error> {
+        let awaited = Arc::new(Awaited::default());
+        let shared = &self.owner.shared;
+        let waiting = time.into().begin(shared, &awaited.changed);
+        self.when_idle(most, IdleThen::Wake(awaited.clone()))?;
+        let is_so = || awaited.is_so.load(Ordering::Acquire);
+        let (mut state, is_told) = shared.wait_until(&waiting, &awaited.changed, |_| is_so());
+        if !is_told {
+            if let Some(cell) = state.cell(self.buffer) {
+                let is_mine = |idle: &Idle| matches!(&idle.then, IdleThen::Wake(one) if Arc::ptr_eq(one, &awaited));
+                cell.idle.retain(|idle| !is_mine(idle));
+            }
+        }
+        Ok(is_told)
     }
 
     /// Puts the handle into a parcel for the client. If that is refused, the handle comes back.

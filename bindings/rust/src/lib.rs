@@ -42,15 +42,22 @@
 //! # }
 //! ```
 #![warn(rust_2018_idioms)]
+#![deny(missing_docs)]
 
 #[cfg(test)]
 extern crate self as sysmem;
 
 mod account;
+mod buffers;
+mod callbacks;
 mod calls;
+mod cancel;
+mod descriptors;
 mod ends;
 mod ffi;
 mod handle;
+#[cfg(target_os = "linux")]
+mod memory;
 #[cfg(test)]
 mod memory_tests;
 mod record;
@@ -59,21 +66,28 @@ mod record_tests;
 #[cfg(test)]
 mod script_tests;
 mod state;
+#[cfg(all(test, target_os = "linux"))]
+mod told_tests;
 mod tracker;
 mod words;
 
+pub use cancel::{Cancel, Patience};
+#[cfg(target_os = "linux")]
+pub use descriptors::Descriptor;
 pub use ends::{Collection, End, OfCollection, OfToken, Token};
 pub use handle::Handle;
+#[cfg(target_os = "linux")]
+pub use memory::Memory;
 pub use tracker::Tracker;
 pub use words::*;
 
 use ends::Kind;
+use ffi::flag;
 use ffi::{CallWords, Core};
 use state::{kind, of_kind, reply, Owner, Shared, State, Waiter, Watch};
 use std::fmt;
 use std::marker::PhantomData;
-use std::sync::{Arc, Mutex, PoisonError};
-use std::time::Duration;
+use std::sync::{Arc, Mutex};
 
 /// One core, which all clones share.
 #[derive(Clone)]
@@ -90,20 +104,27 @@ impl Owner {
         collection: CollectionId,
     ) -> Result<Tracker, Error> {
         let mut state = self.shared.lock();
+        state.may_open()?;
         if state.waiting.is_empty() {
             state.seen = state.core.fired_at(u64::MAX).1;
         }
         let id = state.ask(self, call, collection)?.id;
         let watch = Arc::new(Watch::default());
-        state.waiting.insert(id, Waiter { watch: watch.clone(), then: None });
+        state
+            .waiting
+            .insert(id, Waiter { watch: watch.clone(), owner: self.client, then: None, fd: None });
         Ok(Tracker { shared: self.shared.clone(), watch, id })
     }
 
     pub(crate) fn birth<K: Kind>(&self, call: &CallWords, label: &str) -> Result<End<K>, Error> {
         let mut state = self.shared.lock();
+        state.may_open()?;
         let told = state.ask_named(self, call, label)?;
         let key = Key { slot: told.slot, generation: told.generation };
         state.set_label(key, label);
+        if call.kind == kind::OPEN_ROOT && !label.is_empty() {
+            state.roots.insert(told.id, key);
+        }
         Ok(self.end(&mut state, key, told.id))
     }
 
@@ -118,18 +139,41 @@ impl Owner {
     }
 
     pub(crate) fn handle(&self, state: &mut State, buffer: Buffer, strength: Strength) -> Handle {
+        let bytes = state.bytes_of(buffer);
         let row = state.add_handle(self.place, buffer, strength);
-        Handle { owner: self.clone(), row, buffer, strength, is_here: true }
+        Handle { owner: self.clone(), row, buffer, strength, bytes, is_here: true }
     }
 }
 
 impl Service {
-    /// Opens a core without an event.
+    /// Opens a core without an event. `BadLimits` if a number is out of its range.
     pub fn open(options: Options) -> Result<Service, Error> {
-        let Options { pages, events, nodes, collections, trackers, handles, seed, record } =
-            options;
+        let Options { pages, events, nodes, collections, trackers, handles, seed, .. } = options;
+        #[cfg(target_os = "linux")]
+        if let Some(memory) = options.memory.as_ref().filter(|memory| memory.pages() < pages) {
+            let (is, least) = (memory.pages().into(), pages.into());
+            let what = "the memory's pages";
+            return Err(Error::BadLimits(OutOfRange { what, is, least, most: 1 << 20 }));
+        }
         let core = Core::open(pages, events, [nodes, collections, trackers, handles], seed);
-        let state = State::new(core.map_err(Error::of)?, record);
+        let core = core.map_err(|code| match code {
+            3 => Error::BadLimits(options.outside()),
+            code => Error::of(code),
+        })?;
+        let is_debug = || std::env::var_os("SYSMEM_DEBUG").map_or(false, |word| word == "1");
+        let record = options.record.or_else(|| is_debug().then(record_to_error));
+        let mut state = State::new(core, record);
+        state.slow = options.slow;
+        if let Some(events) = events {
+            state.set_margin(events);
+        }
+        #[cfg(target_os = "linux")]
+        if let Some(memory) = options.memory {
+            if memory.is_used.swap(true, std::sync::atomic::Ordering::AcqRel) {
+                return Err(Error::MemoryInUse);
+            }
+            state.memory = Some(memory);
+        }
         Ok(Service(Arc::new(Shared(Mutex::new(state)))))
     }
 
@@ -141,6 +185,7 @@ impl Service {
     /// Makes a client with a label, for people and transcripts.
     pub fn join_as(&self, label: &str) -> Result<Client, Error> {
         let mut state = self.0.lock();
+        state.may_open()?;
         let client = state.ask_anybody(&of_kind(kind::JOIN), label)?.id;
         let place = state.open_account(client, label);
         Ok(Client { owner: Owner { shared: self.0.clone(), client, place } })
@@ -163,10 +208,45 @@ impl Service {
         Ok(held.into_iter().map(of).collect())
     }
 
-    /// The trackers that fired, by event.
+    /// The trackers that fired, by event, without those that were forgotten.
     pub fn fired(&self) -> Result<Vec<Fired>, Error> {
-        let fired = self.0.lock().core.fired().map_err(Error::of)?;
-        Ok(fired.into_iter().map(|f| Fired { tracker: f.tracker, event: f.event }).collect())
+        Ok(self.fired_from(0).all)
+    }
+
+    /// The firings after the first n of all. Those that were forgotten are left out, at the front: when
+    /// all firings were handed out to their trackers, and the core keeps 4,096 or more, it forgets them.
+    pub fn fired_from(&self, n: u64) -> Firings {
+        let mut state = self.0.lock();
+        let forgotten = state.forgotten;
+        let kept = state.core.fired_at(u64::MAX).1;
+        let first = n.max(forgotten).min(forgotten + kept);
+        let fired = state.core.fired_from(first - forgotten).into_iter();
+        let all = fired.map(|f| Fired { tracker: f.tracker, event: f.event }).collect();
+        Firings { first, all }
+    }
+
+    /// The kept nodes, collection by collection, the earliest first, and by birth within each.
+    pub fn nodes(&self) -> Result<Vec<Node>, Error> {
+        let mut state = self.0.lock();
+        let all = state.core.nodes().map_err(Error::of)?;
+        Ok(all.into_iter().map(|words| node_of(&mut state, &words)).collect())
+    }
+
+    /// What the collection was given; `None` if it is not allocated, or not kept.
+    pub fn given(&self, collection: CollectionId) -> Option<Allocation> {
+        let (count, size) = self.0.lock().core.given(collection);
+        (count > 0).then_some(Allocation { count, size })
+    }
+
+    /// How many handles of this buffer and strength the client has open. Those in parcels are nobody's.
+    pub fn open_handles(&self, client: ClientId, buffer: Buffer, strength: Strength) -> u32 {
+        let Buffer { collection, index } = buffer;
+        self.0.lock().core.open_handles(client, collection, index, strength as u32)
+    }
+
+    /// How many events the limit still allows.
+    pub fn remaining(&self) -> u64 {
+        self.0.lock().core.remaining()
     }
 
     /// How many pages no buffer holds.
@@ -201,9 +281,55 @@ impl Service {
         self.0.lock().labels.get(&key).cloned()
     }
 
-    /// Whether all calls are made that were put off because memory was refused.
+    /// The name of a node, as transcripts have it: its label, or if it has none, its numbers.
+    pub fn name(&self, key: Key) -> String {
+        self.label(key).unwrap_or_else(|| key.to_string())
+    }
+
+    /// The name of a buffer, as transcripts have it: "root.0" where the root's label is "root", and if it
+    /// has none, the collection's number and the index.
+    pub fn buffer_name(&self, buffer: Buffer) -> String {
+        let state = self.0.lock();
+        let root = state.roots.get(&buffer.collection).and_then(|key| state.labels.get(key));
+        root.map_or_else(|| buffer.to_string(), |root| format!("{root}.{}", buffer.index))
+    }
+
+    /// Whether all calls of drops and releases are made: none is put off because memory was refused,
+    /// and none was refused for good because the limit allows no further event.
     pub fn is_settled(&self) -> bool {
         self.0.lock().is_settled()
+    }
+
+    /// How many of these calls were refused for good.
+    pub fn lost(&self) -> u64 {
+        self.0.lock().lost
+    }
+}
+
+fn node_of(state: &mut State, words: &ffi::NodeWords) -> Node {
+    let key = Key::from(words.key);
+    let is = |bit: u32| words.flags & bit != 0;
+    let ffi::NodeWords { camping, at_least, size, .. } = *words;
+    Node {
+        key,
+        parent: words.parent.into(),
+        head: words.head.into(),
+        collection: words.collection,
+        event: words.event,
+        holder: words.holder,
+        label: state.labels.get(&key).cloned(),
+        holder_label: state.client_label(words.holder).map(|label| label.to_string()),
+        is_attached: is(flag::ATTACHED),
+        is_allocated: is(flag::ALLOCATED),
+        is_gone: is(flag::GONE),
+        is_released: is(flag::RELEASED),
+        is_dispensable: is(flag::DISPENSABLE),
+        is_weak: is(flag::WEAK),
+        is_weak_ok: is(flag::WEAK_OK),
+        is_bound: is(flag::BOUND),
+        is_in_parcel: is(flag::IN_TRANSIT),
+        constraints: is(flag::CONSTRAINED).then_some(Constraints { camping, at_least, size }),
+        fault: is(flag::FAILED).then(|| (Cause::of(words.cause), words.origin.into())),
     }
 }
 
@@ -215,33 +341,36 @@ pub struct Client {
 /// The content of a parcel.
 #[derive(Debug)]
 pub enum Parcel {
+    /// An end that is not bound.
     Token(Token),
+    /// A bound end.
     Collection(Collection),
+    /// A handle.
     Handle(Handle),
 }
 
 impl Parcel {
-    pub fn token(self) -> Option<Token> {
-        if let Parcel::Token(token) = self {
-            Some(token)
-        } else {
-            None
+    /// The content, if it is of this kind; else the parcel comes back.
+    pub fn token(self) -> Result<Token, Parcel> {
+        match self {
+            Parcel::Token(token) => Ok(token),
+            other => Err(other),
         }
     }
 
-    pub fn collection(self) -> Option<Collection> {
-        if let Parcel::Collection(collection) = self {
-            Some(collection)
-        } else {
-            None
+    /// The content, if it is of this kind; else the parcel comes back.
+    pub fn collection(self) -> Result<Collection, Parcel> {
+        match self {
+            Parcel::Collection(collection) => Ok(collection),
+            other => Err(other),
         }
     }
 
-    pub fn handle(self) -> Option<Handle> {
-        if let Parcel::Handle(handle) = self {
-            Some(handle)
-        } else {
-            None
+    /// The content, if it is of this kind; else the parcel comes back.
+    pub fn handle(self) -> Result<Handle, Parcel> {
+        match self {
+            Parcel::Handle(handle) => Ok(handle),
+            other => Err(other),
         }
     }
 }
@@ -270,34 +399,65 @@ impl Client {
 
     /// Takes the first parcel that waits for the client; `None` if there is none.
     pub fn collect(&self) -> Result<Option<Parcel>, Error> {
-        let mut state = self.owner.shared.lock();
+        self.collect_one(&mut self.owner.shared.lock())
+    }
+
+    fn collect_one(&self, state: &mut State) -> Result<Option<Parcel>, Error> {
         let told = state.ask(&self.owner, &of_kind(kind::COLLECT), 0)?;
         if told.kind == reply::EMPTY {
             return Ok(None);
         }
-        state.account(self.owner.place).parcels -= 1;
+        let account = state.account(self.owner.place);
+        account.parcels -= 1;
+        account.dim();
         let key = Key { slot: told.slot, generation: told.generation };
         Ok(Some(match (told.kind, told.detail) {
             (reply::COLLECTED_HANDLE, strength) => {
                 let buffer = Buffer { collection: told.id, index: told.index };
-                Parcel::Handle(self.owner.handle(&mut state, buffer, Strength::of(strength)))
+                Parcel::Handle(self.owner.handle(state, buffer, Strength::of(strength)))
             }
-            (_, 0) => Parcel::Token(self.owner.end(&mut state, key, told.id)),
-            (_, _) => Parcel::Collection(self.owner.end(&mut state, key, told.id)),
+            (_, 0) => Parcel::Token(self.owner.end(state, key, told.id)),
+            (_, _) => Parcel::Collection(self.owner.end(state, key, told.id)),
         }))
     }
 
-    /// Waits for a parcel if there is none, and takes it; `None` if the time is over first.
-    pub fn collect_for(&self, time: Duration) -> Result<Option<Parcel>, Error> {
-        let place = self.owner.place;
-        let mut state = self.owner.shared.raw();
-        let given = state.account(place).given.clone();
-        drop(
-            given
-                .wait_timeout_while(state, time, |state| state.account(place).parcels == 0)
-                .unwrap_or_else(PoisonError::into_inner),
-        );
-        self.collect()
+    /// Waits for a parcel if there is none, and takes it; `None`, and no event, if the wait ends first.
+    pub fn collect_for<'a>(&self, time: impl Into<Patience<'a>>) -> Result<Option<Parcel>, Error> {
+        let (place, shared) = (self.owner.place, &self.owner.shared);
+        let given = shared.raw().account(place).given.clone();
+        let waiting = time.into().begin(shared, &given);
+        loop {
+            let mut state = shared.lock();
+            if state.account(place).parcels > 0 {
+                return self.collect_one(&mut state);
+            }
+            drop(state);
+            let is_so = |state: &mut State| state.account(place).parcels > 0;
+            if !shared.wait_until(&waiting, &given, is_so).1 {
+                return Ok(None);
+            }
+        }
+    }
+
+    /// A file descriptor for `poll` or `epoll`. It is readable exactly as long as
+    /// [`pending`](Client::pending) has something to tell. Each call answers a clone of one descriptor.
+    #[cfg(target_os = "linux")]
+    pub fn fd(&self) -> std::io::Result<Descriptor> {
+        let mut state = self.owner.shared.lock();
+        if let Some(fd) = &state.account(self.owner.place).news.fd {
+            return Ok(fd.clone());
+        }
+        let fd = Descriptor::new()?;
+        state.watch(self.owner.place, fd.clone());
+        Ok(fd)
+    }
+
+    /// What happened since the last call: the nodes whose ends this client holds and whose unit was
+    /// allocated, or that failed, each once, also if that was before the end was collected; its trackers
+    /// that fired, and the buffers of [`Handle::tell_idle`]. And how many parcels wait: these until they
+    /// are collected. Makes no event. Of nodes and trackers it tells only from the first call of `fd` on.
+    pub fn pending(&self) -> Pending {
+        self.owner.shared.lock().account(self.owner.place).pending()
     }
 }
 

@@ -1,6 +1,6 @@
 //! A transcript of the events, in the language of `docs/SCRIPT.md`.
 use crate::ffi::{name, CallWords, ReplyWords};
-use crate::state::{kind, reply};
+use crate::state::{kind, reply, Kept};
 use crate::{ClientId, CollectionId, Event, Key, Record};
 use std::collections::{HashMap, HashSet};
 
@@ -32,8 +32,9 @@ const VERBS: [&str; 23] = [
 
 /// Writes the events of one core. A client or a node has the label that the program gave it, if
 /// this is a label of the language, unique, and not of the form of generated labels: `c`, `n` or
-/// `t` and the number of the event that made it. Otherwise it has a generated label. All labels
-/// ever used are kept.
+/// `t` and the number of the event that made it. Otherwise it has a generated label. The labels of
+/// clients, and the program's labels of nodes that were used, are kept; those of forgotten nodes are
+/// dropped now and then.
 pub(crate) struct Recorder {
     to: Record,
     event: Event,
@@ -44,6 +45,8 @@ pub(crate) struct Recorder {
     roots: HashMap<CollectionId, String>,
     client_labels: HashSet<String>,
     node_labels: HashSet<String>,
+    /// With so many nodes and roots it is time to forget those that the core forgot.
+    most: usize,
 }
 
 impl Recorder {
@@ -57,7 +60,22 @@ impl Recorder {
             roots: HashMap::new(),
             client_labels: HashSet::new(),
             node_labels: HashSet::new(),
+            most: 4096,
         }
+    }
+
+    /// Whether it is time to forget the nodes that the core forgot.
+    pub fn is_large(&self) -> bool {
+        self.nodes.len() + self.roots.len() >= self.most
+    }
+
+    /// Forgets them.
+    pub fn forget(&mut self, kept: Option<&Kept>) {
+        if let Some(kept) = kept {
+            self.nodes.retain(|key, _| kept.nodes.contains(key));
+            self.roots.retain(|id, _| kept.collections.contains(id));
+        }
+        self.most = 4096 + 2 * (self.nodes.len() + self.roots.len());
     }
 
     /// Writes one event. `wanted` is the program's label for the client or node that it makes.
@@ -153,7 +171,9 @@ impl Recorder {
     fn join(&mut self, told: &ReplyWords, wanted: &str) -> String {
         let made = self.fresh('c', wanted);
         if told.kind == reply::JOINED {
-            self.client_labels.insert(made.clone());
+            if !is_generated(&made, 'c') {
+                self.client_labels.insert(made.clone());
+            }
             self.clients.insert(told.id, made.clone());
         }
         made
@@ -164,7 +184,9 @@ impl Recorder {
         let made = self.fresh('n', wanted);
         if told.kind == reply::NEW_TOKEN {
             let key = Key { slot: told.slot, generation: told.generation };
-            self.node_labels.insert(made.clone());
+            if !is_generated(&made, 'n') {
+                self.node_labels.insert(made.clone());
+            }
             self.nodes.insert(key, made.clone());
             if is_root {
                 self.roots.insert(told.id, made.clone());

@@ -4,7 +4,7 @@ use crate::*;
 use std::sync::{Arc, Mutex};
 
 #[path = "../tests/common/things.rs"]
-mod things;
+pub(crate) mod things;
 use things::{Dice, Things};
 
 /// The transcript of a crowd: the clients of one thread, four at a time.
@@ -16,7 +16,7 @@ fn transcript() -> String {
     let service = Service::open(options).unwrap();
     let mut dice = Dice(44);
     let mut clients: Vec<(Client, Things)> = Vec::new();
-    for _ in 0..3000 {
+    for _ in 0..6000 {
         if clients.len() < 4 {
             clients.push((service.join_as("client").unwrap(), Things::default()));
         }

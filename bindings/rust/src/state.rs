@@ -1,27 +1,37 @@
 //! The state behind the values: the core, its lock, and an account for each client.
 use crate::account::{Account, Row, Stage, NONE};
+use crate::buffers::Tree;
+use crate::callbacks::{run, Due};
 use crate::calls::{dead, may_change};
 pub(crate) use crate::calls::{kind, of_buffer, of_key, of_kind, reply};
-use crate::ffi::{CallWords, Core, ReplyWords};
+use crate::cancel::Waiting;
+use crate::descriptors::{Descriptor, News};
+use crate::ffi::{flag, CallWords, Core, ReplyWords};
 use crate::record::Recorder;
 use crate::words::*;
-use std::collections::{BTreeMap, HashMap};
+use std::collections::{BTreeMap, HashMap, HashSet};
 use std::ops::{Deref, DerefMut};
+use std::panic::{catch_unwind, AssertUnwindSafe};
 use std::sync::atomic::{AtomicU64, Ordering};
 use std::sync::{Arc, Condvar, Mutex, MutexGuard, PoisonError};
+use std::time::{Duration, Instant};
 
 /// A tracker's firing.
 #[derive(Default)]
 pub(crate) struct Watch {
     pub event: AtomicU64,
-    pub changed: Condvar,
+    pub changed: Arc<Condvar>,
+    #[cfg(target_os = "linux")]
+    pub fd: Mutex<Option<Descriptor>>,
 }
 
 pub(crate) type Then = Box<dyn FnOnce(Event) + Send>;
 
 pub(crate) struct Waiter {
     pub watch: Arc<Watch>,
+    pub owner: ClientId,
     pub then: Option<Then>,
+    pub fd: Option<Descriptor>,
 }
 
 /// A thread that waits for a change of a collection.
@@ -36,21 +46,57 @@ pub(crate) type Place = usize;
 
 pub(crate) struct State {
     pub core: Core,
-    accounts: Vec<Option<Account>>,
+    pub accounts: Vec<Option<Account>>,
     free_accounts: Vec<Place>,
     /// The clients that have not vanished, by id.
-    clients: Vec<(ClientId, Place)>,
+    pub clients: Vec<(ClientId, Place)>,
     pub waiting: BTreeMap<TrackerId, Waiter>,
-    /// The number of firings passed on.
+    /// The number of firings passed on, of those that the core keeps.
     pub seen: u64,
+    /// The number of firings that the core was told to forget.
+    pub forgotten: u64,
+    /// With fewer events left, the binding opens nothing more.
+    margin: u64,
+    /// The number of calls of drops that were refused for good.
+    pub lost: u64,
+    pub slow: Duration,
     /// The accounts with calls put off.
     late: Vec<Place>,
     pub labels: HashMap<Key, String>,
+    /// The roots that were born with a label.
+    pub roots: HashMap<CollectionId, Key>,
     /// The waiting threads, by numbers of their own.
     waits: BTreeMap<u64, Wait>,
+    /// The sleeping threads, by numbers of their own.
+    sleepers: BTreeMap<u64, Arc<Condvar>>,
+    pub trees: HashMap<CollectionId, Tree>,
+    /// The ends of clients with a descriptor, by collection.
+    pub seats: BTreeMap<CollectionId, Vec<(Place, u32)>>,
+    /// Callbacks of buffers.
+    pub due: Vec<Box<dyn FnOnce() + Send>>,
+    #[cfg(target_os = "linux")]
+    pub memory: Option<Arc<crate::Memory>>,
+    #[cfg(not(target_os = "linux"))]
+    pub memory: Option<()>,
     recorder: Option<Recorder>,
-    /// Whether there is a wait or a recorder.
-    is_watched: bool,
+    /// Whether there is a wait, a recorder, or an end of a client with a descriptor.
+    pub is_watched: bool,
+}
+
+/// The nodes that are kept or that made a kept one fail, and the collections that have a kept node or a
+/// buffer with pages.
+pub(crate) struct Kept {
+    pub nodes: HashSet<Key>,
+    pub collections: HashSet<CollectionId>,
+}
+
+#[cfg(target_os = "linux")]
+impl Drop for State {
+    fn drop(&mut self) {
+        if let Some(memory) = &self.memory {
+            memory.is_used.store(false, Ordering::Release);
+        }
+    }
 }
 
 impl State {
@@ -62,12 +108,41 @@ impl State {
             clients: Vec::new(),
             waiting: BTreeMap::new(),
             seen: 0,
+            forgotten: 0,
+            margin: 0,
+            lost: 0,
+            slow: Duration::from_secs(0),
             late: Vec::new(),
             labels: HashMap::new(),
+            roots: HashMap::new(),
             waits: BTreeMap::new(),
+            sleepers: BTreeMap::new(),
+            trees: HashMap::new(),
+            seats: BTreeMap::new(),
+            due: Vec::new(),
+            memory: None,
             is_watched: record.is_some(),
             recorder: record.map(Recorder::new),
         }
+    }
+
+    /// Keeps the last events for those who let go.
+    pub fn set_margin(&mut self, events: u32) {
+        self.margin = u64::from((events / 2).min(1 << 20));
+    }
+
+    /// An error if only those who let go get an event any more.
+    #[inline]
+    pub fn may_open(&mut self) -> Result<(), Error> {
+        if self.margin > 0 && self.is_nearly_full() {
+            return Err(Error::HistoryFull);
+        }
+        Ok(())
+    }
+
+    #[cold]
+    fn is_nearly_full(&mut self) -> bool {
+        self.core.remaining() < self.margin
     }
 
     /// Makes one call, which may change this collection, and writes its reply if the code is 0.
@@ -118,9 +193,29 @@ impl State {
                 wait.changed.notify_all();
             }
         }
-        if let Some(recorder) = &mut self.recorder {
-            recorder.note(who, call, told, wanted);
+        if may_change(call.kind, told.kind) {
+            self.look(collection);
         }
+        let recorder = match &mut self.recorder {
+            Some(recorder) => recorder,
+            None => return,
+        };
+        // What a recorder does is its own affair: where it panics, the transcript ends.
+        if catch_unwind(AssertUnwindSafe(|| recorder.note(who, call, told, wanted))).is_err() {
+            self.recorder = None;
+            return self.see_who_watches();
+        }
+        if recorder.is_large() {
+            let kept = self.find_kept();
+            if let Some(recorder) = &mut self.recorder {
+                recorder.forget(kept.as_ref());
+            }
+        }
+    }
+
+    pub fn see_who_watches(&mut self) {
+        self.is_watched =
+            self.recorder.is_some() || !self.waits.is_empty() || !self.seats.is_empty();
     }
 
     /// Makes one call. Answers the reply, or an error if it is no success.
@@ -135,7 +230,7 @@ impl State {
         let mut told = ReplyWords::default();
         match self.step_named(who, call, collection, wanted, &mut told) {
             DONE if told.kind < reply::REFUSED => Ok(told),
-            code => Err(self.why(code, &told)),
+            code => Err(self.why(code, call, &told)),
         }
     }
 
@@ -173,8 +268,11 @@ impl State {
     }
 
     #[cold]
-    fn why(&self, code: u32, told: &ReplyWords) -> Error {
+    fn why(&self, code: u32, call: &CallWords, told: &ReplyWords) -> Error {
         match told.kind {
+            _ if code == BAD_CALL => {
+                Error::BadCall(OutOfRange::of_constraints(call.camping, call.at_least, call.size))
+            }
             _ if code != DONE => Error::of(code),
             reply::REFUSED => Error::Refused(Refusal::of(told.detail)),
             reply::MISUSED => Error::Misused(Misuse::of(told.detail)),
@@ -186,23 +284,47 @@ impl State {
         }
     }
 
+    pub fn is_here(&mut self, place: Place) -> bool {
+        self.account(place).stage == Stage::Here
+    }
+
     #[cold]
     fn is_dead(&self, place: Place) -> bool {
         matches!(&self.accounts[place], Some(a) if a.is_late && a.stage != Stage::Here)
     }
 
-    /// At most 4,096 labels are kept. At that number the labels of forgotten nodes are dropped, and
-    /// those of kept nodes, at most 1,024, stay.
+    /// At most 4,096 labels are kept. At that number those of nodes that are neither kept nor the origin
+    /// of the failure of a kept one are dropped.
     pub fn set_label(&mut self, key: Key, label: &str) {
         if label.is_empty() {
             return;
         }
-        if self.labels.len() >= 4096 {
-            let core = &mut self.core;
-            self.labels
-                .retain(|key, _| core.is_live(key.words()) || core.cause(key.words()).is_some());
+        if self.labels.len() >= 4096 && !self.labels.contains_key(&key) {
+            if let Some(kept) = self.find_kept() {
+                self.labels.retain(|key, _| kept.nodes.contains(key));
+                self.roots.retain(|id, _| kept.collections.contains(id));
+            }
         }
         self.labels.insert(key, label.to_string());
+    }
+
+    /// `None` if memory is refused.
+    #[cold]
+    fn find_kept(&mut self) -> Option<Kept> {
+        let (all, held) = (self.core.nodes().ok()?, self.core.held().ok()?);
+        let of_held = held.iter().map(|h| h.collection);
+        let failed = all.iter().filter(|n| n.flags & flag::FAILED != 0).map(|n| n.origin);
+        Some(Kept {
+            nodes: all.iter().map(|n| n.key).chain(failed).map(Key::from).collect(),
+            collections: all.iter().map(|n| n.collection).chain(of_held).collect(),
+        })
+    }
+
+    /// The client's label, if it has one and has not vanished.
+    pub fn client_label(&mut self, client: ClientId) -> Option<Arc<str>> {
+        let at = self.clients.binary_search_by_key(&client, |one| one.0).ok()?;
+        let label = &self.account(self.clients[at].1).label;
+        Some(label.clone()).filter(|label| !label.is_empty())
     }
 
     /// Opens an account for a client that joined.
@@ -217,6 +339,7 @@ impl State {
             given: Arc::new(Condvar::new()),
             stage: Stage::Here,
             is_late: false,
+            news: News::default(),
         };
         let place = self.free_accounts.pop().unwrap_or_else(|| {
             self.accounts.push(None);
@@ -233,26 +356,42 @@ impl State {
     }
 
     /// Adds an end or a handle of the client, and answers its row.
+    #[inline]
     pub fn add_end(&mut self, place: Place, key: Key, collection: CollectionId) -> u32 {
         let account = self.account(place);
         account.values += 1;
-        account.add(Row::End { key, collection, is_release: false, is_late: false })
+        let has_descriptor = account.news.fd.is_some();
+        let row = account.add(Row::of_end(key, collection));
+        if has_descriptor {
+            self.sit(place, row);
+        }
+        row
     }
 
     pub fn add_handle(&mut self, place: Place, buffer: Buffer, strength: Strength) -> u32 {
         let account = self.account(place);
         account.values += 1;
-        account.add(Row::Handle { buffer, strength, is_late: false })
+        account.add(Row::of_handle(buffer, strength))
+    }
+
+    /// Frees the row.
+    #[inline(always)]
+    fn erase(&mut self, place: Place, row: u32) {
+        let account = self.account(place);
+        if account.news.fd.is_none() {
+            return account.erase(row);
+        }
+        self.stand(place, row);
+        self.account(place).erase(row);
     }
 
     /// Notes that the value in this row was given away, and that a parcel waits for the receiver.
     pub fn given(&mut self, place: Place, row: u32, to: ClientId) {
-        self.account(place).erase(row);
+        self.erase(place, row);
         self.leave(place);
         if let Ok(at) = self.clients.binary_search_by_key(&to, |client| client.0) {
-            let account = self.account(self.clients[at].1);
-            account.parcels += 1;
-            account.given.notify_all();
+            let place = self.clients[at].1;
+            self.account(place).tell_of_parcel();
         }
     }
 
@@ -269,17 +408,34 @@ impl State {
     /// Gives up the end or handle in this row, whose value is dropped. If its client vanished,
     /// there is no event.
     pub fn part(&mut self, place: Place, row: u32) {
-        let account = self.account(place);
-        if account.stage == Stage::Here {
-            let client = account.client;
-            let (call, collection) = account.rows[row as usize].parting().unwrap();
-            if self.step(client, &call, collection) == Err(NO_MEMORY) {
-                self.put_off_row(place, row);
-            } else {
-                self.account(place).erase(row);
-            }
+        if self.account(place).stage == Stage::Here && !self.give_up(place, row) {
+            self.put_off_row(place, row);
         }
         self.leave(place);
+    }
+
+    /// Makes the call that gives up the end or handle in this row, and frees the row; false if memory is
+    /// refused.
+    #[inline(always)]
+    fn give_up(&mut self, place: Place, at: u32) -> bool {
+        let account = self.account(place);
+        let (client, row) = (account.client, account.rows[at as usize]);
+        let (call, collection) = match row.parting() {
+            Some(parting) => parting,
+            None => return true,
+        };
+        match (self.step(client, &call, collection), row) {
+            (Err(NO_MEMORY), _) => return false,
+            (Err(_), _) => self.lost += 1,
+            (Ok(told), Row::Handle { buffer, .. })
+                if told.kind < reply::REFUSED && !self.trees.is_empty() =>
+            {
+                self.dropped(buffer)
+            }
+            _ => {}
+        }
+        self.erase(place, at);
+        true
     }
 
     /// Releases the end in this row. Its value is used up, whatever the answer.
@@ -299,7 +455,8 @@ impl State {
             }
             self.put_off_row(place, row);
         } else if is_here {
-            self.account(place).erase(row);
+            self.lost += u64::from(answer == Err(Error::HistoryFull));
+            self.erase(place, row);
         }
         self.leave(place);
         answer
@@ -308,6 +465,7 @@ impl State {
     #[cold]
     fn put_off_row(&mut self, place: Place, row: u32) {
         self.account(place).rows[row as usize].put_off();
+        self.stand(place, row);
         self.put_off(place);
     }
 
@@ -317,11 +475,12 @@ impl State {
         if !account.is_late {
             account.is_late = true;
             self.late.push(place);
+            self.sleepers.values().for_each(|changed| changed.notify_all()); // they try it again
         }
     }
 
     pub fn is_settled(&self) -> bool {
-        self.late.is_empty()
+        self.late.is_empty() && self.lost == 0
     }
 
     /// Makes the calls that were put off, as far as memory allows.
@@ -348,6 +507,7 @@ impl State {
         account.stage = Stage::Leaving;
         let (client, is_late) = (account.client, account.is_late);
         self.clients.retain(|other| other.0 != client);
+        self.stand_all(place);
         if is_late || !self.settle(place) {
             self.put_off(place);
         }
@@ -366,19 +526,13 @@ impl State {
         for handles in [false, true] {
             for i in 0..count {
                 let at = (own + i) % count;
-                let account = self.account(place);
-                let (client, row) = (account.client, account.rows[at]);
+                let row = self.account(place).rows[at];
                 if matches!(row, Row::Handle { .. }) != handles || (is_here && !row.is_late()) {
                     continue;
                 }
-                let (call, collection) = match row.parting() {
-                    Some(parting) => parting,
-                    None => continue,
-                };
-                if self.step(client, &call, collection) == Err(NO_MEMORY) {
+                if !self.give_up(place, at as u32) {
                     return false;
                 }
-                self.account(place).erase(at as u32);
             }
         }
         if !is_here {
@@ -397,26 +551,25 @@ impl State {
         }
         if stage == Stage::Leaving {
             let told = self.step(client, &of_kind(kind::SHUT), 0);
-            let told = told.map_err(|code| code != NO_MEMORY)?;
+            let told = told.map_err(|code| self.is_lost(code))?;
             let account = self.account(place);
             account.parcels = told.id;
             account.stage = Stage::Shut(account.rows.len());
         }
         while self.account(place).parcels > 0 {
             let told = self.step(client, &of_kind(kind::COLLECT), 0);
-            let told = told.map_err(|code| code != NO_MEMORY)?;
+            let told = told.map_err(|code| self.is_lost(code))?;
             let account = self.account(place);
             account.parcels -= 1;
             match told.kind {
                 reply::COLLECTED => {
                     let key = Key { slot: told.slot, generation: told.generation };
-                    let (collection, is_release, is_late) = (told.id, false, false);
-                    account.rows.push(Row::End { key, collection, is_release, is_late });
+                    account.rows.push(Row::of_end(key, told.id));
                 }
                 reply::COLLECTED_HANDLE => {
                     let buffer = Buffer { collection: told.id, index: told.index };
                     let strength = Strength::of(told.detail);
-                    account.rows.push(Row::Handle { buffer, strength, is_late: false });
+                    account.rows.push(Row::of_handle(buffer, strength));
                 }
                 _ => {}
             }
@@ -425,6 +578,13 @@ impl State {
             Stage::Shut(own) => Ok(own),
             _ => Err(true),
         }
+    }
+
+    /// Whether the call of a drop was refused for good, and not for want of memory.
+    #[cold]
+    fn is_lost(&mut self, code: u32) -> bool {
+        self.lost += u64::from(code != NO_MEMORY);
+        code != NO_MEMORY
     }
 
     /// Adds a thread that waits for a change of a collection, and answers its number.
@@ -441,7 +601,7 @@ impl State {
 
     pub fn end_wait(&mut self, number: u64) {
         self.waits.remove(&number);
-        self.is_watched = self.recorder.is_some() || !self.waits.is_empty();
+        self.see_who_watches();
     }
 
     /// The callbacks of new firings, with their events. Wakes the threads that wait for them.
@@ -453,17 +613,26 @@ impl State {
                 break;
             }
             self.seen += 1;
-            if let Some(Waiter { watch, then }) = self.waiting.remove(&fired.tracker) {
+            if let Some(Waiter { watch, owner, then, fd }) = self.waiting.remove(&fired.tracker) {
                 watch.event.store(fired.event, Ordering::Release);
                 watch.changed.notify_all();
+                if let Some(fd) = fd {
+                    fd.light();
+                }
+                self.tell_of_firing(owner, fired.tracker);
                 ready.extend(then.map(|then| (then, fired.event)));
             }
+        }
+        if self.seen >= 4096 {
+            self.core.forget_fired();
+            self.forgotten += std::mem::take(&mut self.seen);
         }
         ready
     }
 }
 
 const DONE: u32 = 0;
+const BAD_CALL: u32 = 4;
 const NO_MEMORY: u32 = 6;
 
 /// The owner of a value.
@@ -476,7 +645,58 @@ pub(crate) struct Owner {
 
 pub(crate) struct Shared(pub Mutex<State>);
 
+impl std::fmt::Debug for Shared {
+    fn fmt(&self, f: &mut std::fmt::Formatter<'_>) -> std::fmt::Result {
+        f.write_str("Shared")
+    }
+}
+
 impl Shared {
+    /// Sleeps until this is so, or the time is over: then false. Meanwhile calls that were put off are
+    /// tried again, and callbacks that fall due by that run here. The lock is held, but not all the time.
+    pub fn sleep<'a>(
+        &'a self,
+        mut state: MutexGuard<'a, State>,
+        changed: &Arc<Condvar>,
+        until: Instant,
+        mut is_so: impl FnMut(&mut State) -> bool,
+    ) -> (MutexGuard<'a, State>, bool) {
+        let number = state.sleepers.keys().last().map_or(0, |last| last + 1);
+        state.sleepers.insert(number, changed.clone());
+        loop {
+            let mut is_now = is_so(&mut state);
+            if !is_now && !state.late.is_empty() {
+                drop(state);
+                drop(self.lock());
+                state = self.raw();
+                is_now = is_so(&mut state);
+            }
+            let left = until.saturating_duration_since(Instant::now());
+            if is_now || left == Duration::from_secs(0) {
+                state.sleepers.remove(&number);
+                return (state, is_now);
+            }
+            let retry = Duration::from_millis(10);
+            let time = if state.late.is_empty() { left } else { left.min(retry) };
+            state = changed.wait_timeout(state, time).unwrap_or_else(PoisonError::into_inner).0;
+        }
+    }
+
+    /// Waits until this is so, or the wait ends.
+    pub fn wait_until(
+        &self,
+        waiting: &Waiting<'_>,
+        changed: &Arc<Condvar>,
+        mut is_so: impl FnMut(&mut State) -> bool,
+    ) -> (MutexGuard<'_, State>, bool) {
+        let mut is_now = false;
+        let sleeps = self.sleep(self.raw(), changed, waiting.until, |state| {
+            is_now = is_so(state);
+            is_now || waiting.is_cancelled()
+        });
+        (sleeps.0, is_now)
+    }
+
     pub fn raw(&self) -> MutexGuard<'_, State> {
         self.0.lock().unwrap_or_else(PoisonError::into_inner)
     }
@@ -510,17 +730,17 @@ impl DerefMut for Guard<'_> {
 impl Guard<'_> {
     #[cold]
     fn tell(&mut self) {
+        let idle = std::mem::take(&mut self.due);
         let ready = self.take_fired();
         self.0 = None;
-        for (then, event) in ready {
-            then(event);
-        }
+        let fired = ready.into_iter().map(|(then, event)| Box::new(move || then(event)) as Due);
+        run(idle.into_iter().map(|then| then as Due).chain(fired));
     }
 }
 
 impl Drop for Guard<'_> {
     fn drop(&mut self) {
-        if !self.waiting.is_empty() {
+        if !self.waiting.is_empty() || !self.due.is_empty() {
             self.tell();
         }
     }

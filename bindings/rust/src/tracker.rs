@@ -1,9 +1,9 @@
 //! Trackers.
 use crate::state::{Shared, Watch};
-use crate::{Event, TrackerId};
+use crate::{Event, Patience, TrackerId};
+use std::fmt;
 use std::sync::atomic::Ordering;
-use std::sync::{Arc, PoisonError};
-use std::time::Duration;
+use std::sync::Arc;
 
 /// A tracker, which fires once.
 #[derive(Clone)]
@@ -29,18 +29,33 @@ impl Tracker {
 
     /// Waits until the tracker fires.
     pub fn wait(&self) -> Event {
-        let state = self.shared.raw();
-        let wait = self.watch.changed.wait_while(state, |_| self.poll().is_none());
-        drop(wait.unwrap_or_else(PoisonError::into_inner));
-        self.poll().unwrap()
+        self.wait_for(Patience::forever()).expect("the wait does not end before the firing")
     }
 
-    /// Waits until the tracker fires; `None` if the time is over first.
-    pub fn wait_for(&self, time: Duration) -> Option<Event> {
-        let state = self.shared.raw();
-        let wait = self.watch.changed.wait_timeout_while(state, time, |_| self.poll().is_none());
-        drop(wait.unwrap_or_else(PoisonError::into_inner));
+    /// Waits until the tracker fires; `None` if the wait ends first.
+    pub fn wait_for<'a>(&self, time: impl Into<Patience<'a>>) -> Option<Event> {
+        let waiting = time.into().begin(&self.shared, &self.watch.changed);
+        let is_so = |_: &mut _| self.poll().is_some();
+        drop(self.shared.wait_until(&waiting, &self.watch.changed, is_so));
         self.poll()
+    }
+
+    /// A file descriptor for `poll` or `epoll`, which becomes readable when the tracker fires. Each call
+    /// answers a clone of one descriptor.
+    #[cfg(target_os = "linux")]
+    pub fn fd(&self) -> std::io::Result<crate::Descriptor> {
+        let mut state = self.shared.raw();
+        let mut fd = self.watch.fd.lock().unwrap_or_else(std::sync::PoisonError::into_inner);
+        if let Some(fd) = &*fd {
+            return Ok(fd.clone());
+        }
+        let made = crate::Descriptor::new()?;
+        match state.waiting.get_mut(&self.id) {
+            Some(waiter) => waiter.fd = Some(made.clone()),
+            None => made.light(),
+        }
+        *fd = Some(made.clone());
+        Ok(made)
     }
 
     /// Sets the callback, in place of an earlier one. It is called once, with the event, without
@@ -53,10 +68,18 @@ impl Tracker {
             Some(waiter) => waiter.then.replace(Box::new(then)),
             None => {
                 drop(state);
-                return then(self.poll().unwrap());
+                let event = self.poll().unwrap();
+                let due: Box<dyn FnOnce()> = Box::new(move || then(event));
+                return crate::callbacks::run(std::iter::once(due));
             }
         };
         drop(state);
         drop(earlier);
+    }
+}
+
+impl fmt::Debug for Tracker {
+    fn fmt(&self, f: &mut fmt::Formatter<'_>) -> fmt::Result {
+        write!(f, "Tracker({})", self.id)
     }
 }

@@ -2,18 +2,24 @@
 use crate::ffi::{name, KeyWords};
 use std::fmt;
 use std::fs::File;
-use std::io::Write;
-use std::sync::Arc;
+use std::io::{BufWriter, Write};
+use std::sync::{Arc, Mutex};
+use std::time::Duration;
 
+/// The number of a client.
 pub type ClientId = u64;
+/// The number of a collection.
 pub type CollectionId = u64;
+/// The number of a tracker.
 pub type TrackerId = u64;
+/// The number of an event, from 1 on.
 pub type Event = u64;
 
 macro_rules! numbers {
     ($(#[$doc:meta])* $kind:ident, $about:expr, $($name:ident = $number:expr),+) => {
         $(#[$doc])*
-        #[derive(Clone, Copy, Debug, PartialEq, Eq, Hash)]
+        #[derive(Clone, Copy, Debug, PartialEq, Eq, PartialOrd, Ord, Hash)]
+        #[allow(missing_docs)] // docs/MODEL.md says what each means
         #[repr(u32)]
         pub enum $kind { $($name = $number),+ }
 
@@ -57,11 +63,19 @@ numbers!(
 );
 
 /// Whether a node or a handle keeps buffers alive.
-#[derive(Clone, Copy, Debug, PartialEq, Eq, Hash)]
+#[derive(Clone, Copy, Debug, PartialEq, Eq, PartialOrd, Ord, Hash)]
 #[repr(u32)]
 pub enum Strength {
+    /// It does.
     Strong = 0,
+    /// It does not.
     Weak = 1,
+}
+
+impl fmt::Display for Strength {
+    fn fmt(&self, f: &mut fmt::Formatter<'_>) -> fmt::Result {
+        f.write_str(if *self == Strength::Strong { "strong" } else { "weak" })
+    }
 }
 
 impl Strength {
@@ -77,7 +91,9 @@ impl Strength {
 /// The name of a node. No two nodes of a service ever have the same key.
 #[derive(Clone, Copy, Debug, PartialEq, Eq, PartialOrd, Ord, Hash)]
 pub struct Key {
+    /// The node's place in the core's table, which later nodes have too.
     pub slot: u32,
+    /// How many nodes had the place before.
     pub generation: u32,
 }
 
@@ -102,68 +118,232 @@ impl From<KeyWords> for Key {
 /// One of a collection's buffers.
 #[derive(Clone, Copy, Debug, PartialEq, Eq, PartialOrd, Ord, Hash)]
 pub struct Buffer {
+    /// Its collection.
     pub collection: CollectionId,
+    /// Its index in the collection, from 0 on.
     pub index: u8,
 }
 
+impl fmt::Display for Buffer {
+    fn fmt(&self, f: &mut fmt::Formatter<'_>) -> fmt::Result {
+        write!(f, "{}.{}", self.collection, self.index)
+    }
+}
+
 /// The number of a collection's buffers, and the size of each in bytes.
-#[derive(Clone, Copy, Debug, PartialEq, Eq)]
+#[derive(Clone, Copy, Debug, PartialEq, Eq, Hash)]
 pub struct Allocation {
+    /// How many buffers.
     pub count: u32,
+    /// Bytes of each.
     pub size: u32,
 }
 
 /// What a participant asks for: the buffers that it camps on, the least number of buffers (each 0
 /// to 64), and their size in bytes (1 to 1 << 30).
-#[derive(Clone, Copy, Debug, PartialEq, Eq)]
+#[derive(Clone, Copy, Debug, PartialEq, Eq, Hash)]
 pub struct Constraints {
+    /// The buffers that it camps on.
     pub camping: u8,
+    /// The least number of buffers.
     pub at_least: u8,
+    /// Their size in bytes.
     pub size: u32,
 }
 
 /// A buffer that holds pages of the pool: the first page, and how many.
-#[derive(Clone, Copy, Debug, PartialEq, Eq)]
+#[derive(Clone, Copy, Debug, PartialEq, Eq, Hash)]
 pub struct Held {
+    /// The buffer.
     pub buffer: Buffer,
+    /// Its first page.
     pub start: u32,
+    /// How many pages.
     pub pages: u32,
 }
 
-/// A tracker that fired, and the event at which it fired.
-#[derive(Clone, Copy, Debug, PartialEq, Eq)]
+/// Pages of the pool.
+#[derive(Clone, Copy, Debug, Default, PartialEq, Eq, Hash)]
+pub struct Pages {
+    /// The first page.
+    pub start: u32,
+    /// How many pages.
+    pub count: u32,
+}
+
+/// A tracker that fired.
+#[derive(Clone, Copy, Debug, PartialEq, Eq, Hash)]
 pub struct Fired {
+    /// The tracker.
     pub tracker: TrackerId,
+    /// The event at which it fired.
     pub event: Event,
+}
+
+/// Firings in their order.
+#[derive(Clone, Debug, Default, PartialEq, Eq)]
+pub struct Firings {
+    /// How many firings are left out, which were before these.
+    pub first: u64,
+    /// The firings.
+    pub all: Vec<Fired>,
+}
+
+/// A kept node: one that is not gone, or whose end is not spent.
+#[derive(Clone, Debug, PartialEq, Eq)]
+#[non_exhaustive]
+pub struct Node {
+    /// The node.
+    pub key: Key,
+    /// Its parent; a root is its own.
+    pub parent: Key,
+    /// The head of its unit.
+    pub head: Key,
+    /// Its collection.
+    pub collection: CollectionId,
+    /// The event at which it was born.
+    pub event: Event,
+    /// Who holds its end, or gave it away; 0 if it is spent.
+    pub holder: ClientId,
+    /// Its label, if it has one.
+    pub label: Option<String>,
+    /// The label of its holder, if this has one.
+    pub holder_label: Option<String>,
+    /// Whether it heads an attached unit.
+    pub is_attached: bool,
+    /// Whether its unit is allocated.
+    pub is_allocated: bool,
+    /// Whether it failed or ended.
+    pub is_gone: bool,
+    /// Whether it was released.
+    pub is_released: bool,
+    /// Whether it is dispensable.
+    pub is_dispensable: bool,
+    /// Whether it is weak.
+    pub is_weak: bool,
+    /// Whether it takes weak handles.
+    pub is_weak_ok: bool,
+    /// Whether its end is bound.
+    pub is_bound: bool,
+    /// Whether its end is in a parcel.
+    pub is_in_parcel: bool,
+    /// What it asked for.
+    pub constraints: Option<Constraints>,
+    /// Why it failed, and the node whose loss reached it.
+    pub fault: Option<(Cause, Key)>,
+}
+
+/// A node that an allocation waits for: it has no constraints yet.
+#[derive(Clone, Debug, PartialEq, Eq)]
+pub struct Waits {
+    /// The node.
+    pub node: Key,
+    /// Its label, if it has one.
+    pub label: Option<String>,
+    /// Who holds its end, or gave it away.
+    pub holder: ClientId,
+    /// The label of its holder, if this has one.
+    pub holder_label: Option<String>,
+    /// Whether its end is bound.
+    pub is_bound: bool,
+    /// Whether its end is in a parcel.
+    pub is_in_parcel: bool,
+    /// The event at which it was born.
+    pub event: Event,
+}
+
+impl fmt::Display for Waits {
+    fn fmt(&self, f: &mut fmt::Formatter<'_>) -> fmt::Result {
+        match &self.label {
+            Some(label) => f.write_str(label)?,
+            None => self.node.fmt(f)?,
+        }
+        let how = match (self.is_in_parcel, self.is_bound) {
+            (true, _) => "in a parcel of",
+            (_, true) => "held by",
+            _ => "a token of",
+        };
+        match &self.holder_label {
+            Some(label) => write!(f, " ({how} {label})"),
+            None => write!(f, " ({how} client {})", self.holder),
+        }
+    }
+}
+
+/// What [`Client::pending`](crate::Client::pending) tells.
+#[derive(Clone, Debug, Default, PartialEq, Eq)]
+pub struct Pending {
+    /// How many parcels wait.
+    pub parcels: u64,
+    /// The nodes whose units were allocated.
+    pub allocated: Vec<Key>,
+    /// The nodes that failed.
+    pub failed: Vec<Key>,
+    /// The trackers that fired.
+    pub fired: Vec<TrackerId>,
+    /// The buffers of `Handle::tell_idle`.
+    pub idle: Vec<Buffer>,
+}
+
+impl Pending {
+    /// Whether there is nothing to tell.
+    pub fn is_empty(&self) -> bool {
+        *self == Pending::default()
+    }
 }
 
 /// A recorder: it is called with each event, as two lines of a transcript (`docs/SCRIPT.md`): the
 /// call, and the reply, indented by two spaces.
 pub type Record = Arc<dyn Fn(&str) + Send + Sync>;
 
-/// A recorder that writes to the file. It leaves out what it can't write.
+/// A recorder that writes to the file, through a buffer: what is not yet written is lost if the program
+/// ends without dropping the service's last value. It leaves out what it can't write.
 pub fn record_to(file: File) -> Record {
+    let to = Mutex::new(BufWriter::new(file));
     Arc::new(move |lines| {
-        let _ = (&file).write_all(lines.as_bytes());
+        if let Ok(mut to) = to.lock() {
+            let _ = to.write_all(lines.as_bytes());
+        }
+    })
+}
+
+/// Writes the events to standard error.
+pub(crate) fn record_to_error() -> Record {
+    Arc::new(|lines| {
+        let _ = std::io::stderr().write_all(lines.as_bytes());
     })
 }
 
 /// The options of a new service: the pool's pages of 4,096 bytes, and the limits of `sysmem_open`.
 #[derive(Clone)]
 pub struct Options {
+    /// The pool's pages, 1 to 1,048,576.
     pub pages: u32,
     /// How many events may be made; without a number as many as `sysmem_open_lasting` allows, which
-    /// at a million a second is 285 years.
+    /// at a million a second is 285 years. With a number, the last 1,048,576 events, but at most half of
+    /// all, are for those who let go: calls that join, bear, take or track answer `HistoryFull` then.
     pub events: Option<u32>,
+    /// How many nodes may be kept, 1 to 1,024.
     pub nodes: u32,
+    /// How many collections may be kept, 1 to 256.
     pub collections: u32,
+    /// How many trackers may wait, 1 to 4,096.
     pub trackers: u32,
+    /// How many handles of one buffer and strength may be open, in parcels too, from 1 on. A client that
+    /// does not collect keeps a core from more.
     pub handles: u32,
     /// 16 random bytes, if clients may be hostile: see `sysmem_open_seeded`.
     pub seed: Option<[u8; 16]>,
-    /// Called under the lock, in the order of the events: it must be quick, and must neither call
-    /// the service nor panic. [`record_to`] makes a recorder.
+    /// Called under the lock, in the order of the events: it must be quick, and must not call the
+    /// service. Where it panics, the transcript ends. [`record_to`] makes a recorder. Without one, and
+    /// with SYSMEM_DEBUG=1 in the environment, the events are written to standard error.
     pub record: Option<Record>,
+    /// The pool's memory. It has at least as many pages as the pool.
+    #[cfg(target_os = "linux")]
+    pub memory: Option<Arc<crate::Memory>>,
+    /// After so long in `Collection::wait_allocated`, a line on standard error says for whom it waits.
+    /// With 0 none does.
+    pub slow: Duration,
 }
 
 impl fmt::Debug for Options {
@@ -177,7 +357,8 @@ impl fmt::Debug for Options {
             .field("handles", &self.handles)
             .field("seed", &self.seed.is_some())
             .field("record", &self.record.is_some())
-            .finish()
+            .field("slow", &self.slow)
+            .finish_non_exhaustive()
     }
 }
 
@@ -189,27 +370,87 @@ impl Default for Options {
             nodes: 1024,
             collections: 256,
             trackers: 4096,
-            handles: u32::MAX,
+            handles: 65_536,
             seed: None,
             record: None,
+            #[cfg(target_os = "linux")]
+            memory: None,
+            slow: Duration::from_secs(5),
         }
     }
 }
 
+impl Options {
+    /// Which limit is out of its range.
+    pub(crate) fn outside(&self) -> OutOfRange {
+        let events = self.events.unwrap_or(1);
+        let all = [
+            ("pages", self.pages, 1 << 20),
+            ("events", events, u32::MAX),
+            ("nodes", self.nodes, 1024),
+            ("collections", self.collections, 256),
+            ("trackers", self.trackers, 4096),
+        ];
+        let one = all.iter().find(|(_, is, most)| *is < 1 || is > most);
+        let (what, is, most) = one.copied().unwrap_or(("handles", self.handles, u32::MAX));
+        OutOfRange { what, is: is.into(), least: 1, most: most.into() }
+    }
+}
+
+/// A number that is out of its range.
+#[derive(Clone, Copy, Debug, PartialEq, Eq, Hash)]
+pub struct OutOfRange {
+    /// Which number.
+    pub what: &'static str,
+    /// What it is.
+    pub is: u64,
+    /// The least that it may be.
+    pub least: u64,
+    /// The most that it may be.
+    pub most: u64,
+}
+
+impl OutOfRange {
+    /// Which of the constraints it is.
+    pub(crate) fn of_constraints(camping: u8, at_least: u8, size: u32) -> OutOfRange {
+        let few = |what, is: u8| OutOfRange { what, is: is.into(), least: 0, most: 64 };
+        match (camping, at_least) {
+            (65..=u8::MAX, _) => few("camping", camping),
+            (_, 65..=u8::MAX) => few("at_least", at_least),
+            _ => OutOfRange { what: "size", is: size.into(), least: 1, most: 1 << 30 },
+        }
+    }
+}
+
+impl fmt::Display for OutOfRange {
+    fn fmt(&self, f: &mut fmt::Formatter<'_>) -> fmt::Result {
+        let OutOfRange { what, is, least, most } = self;
+        write!(f, "{what} is {is}, and must be {least} to {most}")
+    }
+}
+
 /// Why a call did not succeed.
-#[derive(Clone, Debug, PartialEq, Eq)]
+#[derive(Clone, Debug, PartialEq, Eq, Hash)]
 pub enum Error {
     /// The call was refused, and nothing changed.
     Refused(Refusal),
     /// The caller's own node failed by this call.
     Misused(Misuse),
-    /// The node had failed: why, and the origin, whose loss reached it, with its label if it has
-    /// one.
-    PeerClosed { cause: Cause, origin: Key, label: Option<String> },
-    /// A number is out of its range.
-    BadLimits,
+    /// The node had failed.
+    PeerClosed {
+        /// Why.
+        cause: Cause,
+        /// The node whose loss reached it.
+        origin: Key,
+        /// The label of the origin, if it has one.
+        label: Option<String>,
+    },
+    /// A limit is out of its range.
+    BadLimits(OutOfRange),
     /// Constraints are out of range.
-    BadCall,
+    BadCall(OutOfRange),
+    /// The memory is of another service.
+    MemoryInUse,
     /// The limit allows no further event.
     HistoryFull,
     /// Memory was refused; the same call may succeed later.
@@ -219,8 +460,6 @@ pub enum Error {
 impl Error {
     pub(crate) fn of(code: u32) -> Error {
         match code {
-            3 => Error::BadLimits,
-            4 => Error::BadCall,
             5 => Error::HistoryFull,
             6 => Error::NoMemory,
             _ => unreachable!("the core is open: {}", name(0, code)),
@@ -237,8 +476,9 @@ impl fmt::Display for Error {
                 write!(f, "closed: {cause}, by node {origin}")?;
                 label.as_ref().map_or(Ok(()), |label| write!(f, " ({label})"))
             }
-            Error::BadLimits => f.write_str(&name(0, 3)),
-            Error::BadCall => f.write_str(&name(0, 4)),
+            Error::BadLimits(range) => write!(f, "{}: {range}", name(0, 3)),
+            Error::BadCall(range) => write!(f, "{}: {range}", name(0, 4)),
+            Error::MemoryInUse => f.write_str("the memory is of another service"),
             Error::HistoryFull => f.write_str(&name(0, 5)),
             Error::NoMemory => f.write_str(&name(0, 6)),
         }
@@ -251,7 +491,9 @@ impl std::error::Error for Error {}
 /// [`Error`] and drops the value: a token or a collection is then closed, and its node fails.
 #[derive(Debug)]
 pub struct Back<T> {
+    /// Why the call was refused.
     pub error: Error,
+    /// What it would have spent.
     pub value: T,
 }
 

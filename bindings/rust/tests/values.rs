@@ -109,8 +109,8 @@ fn given_values_are_not_closed_again() {
     let before = service.events();
     drop(a);
     assert_eq!((service.events(), service.free_pages()), (before + 1, 15));
-    assert!(b.collect().unwrap().unwrap().handle().is_some());
-    assert!(b.collect().unwrap().unwrap().collection().is_some());
+    assert!(b.collect().unwrap().unwrap().handle().is_ok());
+    assert!(b.collect().unwrap().unwrap().collection().is_ok());
     assert_eq!(service.free_pages(), 16);
 }
 
@@ -118,7 +118,7 @@ fn given_values_are_not_closed_again() {
 fn refusals_misuses_and_faults() {
     assert_eq!(
         Service::open(Options { pages: 0, ..Options::default() }).err(),
-        Some(Error::BadLimits)
+        Some(Error::BadLimits(OutOfRange { what: "pages", is: 0, least: 1, most: 1 << 20 }))
     );
     let few = Options { nodes: 1, events: Some(40), ..Options::default() };
     let service = Service::open(few).unwrap();
@@ -126,7 +126,8 @@ fn refusals_misuses_and_faults() {
     let root = a.open_root("").unwrap();
     assert_eq!(root.duplicate("").err(), Some(Error::Refused(Refusal::TooManyNodes)));
     let collection = root.bind().unwrap();
-    assert_eq!(collection.set_constraints(asks(65, 1)), Err(Error::BadCall));
+    let bad = collection.set_constraints(asks(65, 1)).unwrap_err();
+    assert_eq!(bad.to_string(), "bad call: camping is 65, and must be 0 to 64");
     collection.set_constraints(asks(1, 1)).unwrap();
     let again = collection.set_constraints(asks(1, 1));
     assert_eq!(again, Err(Error::Misused(Misuse::SecondConstraints)));
@@ -195,7 +196,7 @@ fn gift_wakes_who_waits() {
         let waits = scope.spawn(|| {
             let token = b.collect_for(2 * LONG).unwrap().unwrap().token();
             let handle = b.collect_for(2 * LONG).unwrap().unwrap().handle();
-            token.is_some() && handle.is_some()
+            token.is_ok() && handle.is_ok()
         });
         thread::sleep(Duration::from_millis(20));
         a.open_root("").unwrap().give(b.id()).unwrap();

@@ -6,6 +6,9 @@ use sysmem::*;
 /// How many callbacks ran.
 pub static TOLD: AtomicU64 = AtomicU64::new(0);
 
+/// How many callbacks of idle buffers ran.
+pub static TOLD_IDLE: AtomicU64 = AtomicU64::new(0);
+
 /// Pseudo-random numbers.
 pub struct Dice(pub u64);
 
@@ -32,6 +35,7 @@ pub struct Things {
     collections: Vec<Collection>,
     handles: Vec<Handle>,
     pub trackers: u64,
+    pub watched: u64,
 }
 
 impl Things {
@@ -45,7 +49,7 @@ impl Things {
 
     /// Makes one call.
     pub fn step(&mut self, client: &Client, other: ClientId, dice: &mut Dice) -> Result<(), Error> {
-        match dice.upto(17) {
+        match dice.upto(21) {
             0 => self.tokens.push(client.open_root("root")?),
             1 | 2 => client.collect()?.into_iter().for_each(|parcel| self.keep(parcel)),
             3 => {
@@ -79,6 +83,24 @@ impl Things {
                 self.handles.extend(more);
             }
             14 => drop(dice.take_out(&mut self.handles)),
+            #[cfg(target_os = "linux")]
+            16 => drop(client.fd()),
+            17 => drop(client.pending()),
+            18 => {
+                if let Some(handle) = self.handles.last() {
+                    handle.tell_idle(dice.upto(3) as u32)?;
+                    handle.on_idle(dice.upto(3) as u32, |_| {
+                        TOLD_IDLE.fetch_add(1, Ordering::SeqCst);
+                    })?;
+                    self.watched += 1;
+                    handle.wait_idle(dice.upto(2) as u32, Duration::from_micros(20))?;
+                }
+            }
+            19 => {
+                if let Some(collection) = self.collections.last() {
+                    collection.waits_for()?;
+                }
+            }
             15 => dice.take_out(&mut self.collections).map_or(Ok(()), |c| c.release())?,
             _ => {
                 let collection = match self.collections.last() {

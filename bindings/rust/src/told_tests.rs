@@ -1,0 +1,100 @@
+//! After each call of four clients that make what calls they like, the descriptors, what they tell of each
+//! end, and the counts of handles are compared with the core.
+use crate::account::Row;
+use crate::descriptors::state_of;
+use crate::record_tests::things::{Dice, Things};
+use crate::state::State;
+use crate::*;
+use std::os::raw::{c_int, c_short, c_ulong};
+use std::os::unix::io::AsRawFd;
+
+#[repr(C)]
+struct PollFd(c_int, c_short, c_short);
+
+extern "C" {
+    fn poll(all: *mut PollFd, count: c_ulong, time: c_int) -> c_int;
+}
+
+fn is_readable(fd: &impl AsRawFd) -> bool {
+    let mut one = PollFd(fd.as_raw_fd(), 1, 0);
+    // SAFETY: there is one.
+    unsafe { poll(&mut one, 1, 0) == 1 }
+}
+
+/// How many descriptors are lit, of how many.
+fn compare_descriptors(state: &mut State) -> (u64, u64) {
+    let (mut lit, mut all) = (0, 0);
+    for (client, place) in state.clients.clone() {
+        let account = state.account(place);
+        let fd = match account.news.fd.clone() {
+            Some(fd) => fd,
+            None => continue,
+        };
+        let (rows, mut has) = (account.rows.clone(), account.parcels > 0);
+        has |= account.news.has_more();
+        for row in rows {
+            if let Row::End { key, is, told, is_late: false, .. } = row {
+                has |= is != told;
+                let node = state.core.node(key.words());
+                assert!(node.map_or(true, |node| state_of(node.flags) == is), "the state of {key}");
+            }
+        }
+        assert_eq!(is_readable(&fd), has, "the descriptor of client {client}");
+        lit += u64::from(has);
+        all += 1;
+    }
+    (lit, all)
+}
+
+fn compare_counts(state: &mut State) {
+    let clients = state.clients.clone();
+    let State { trees, core, .. } = state;
+    for (&id, tree) in trees.iter() {
+        for (index, cell) in (0..).zip(&tree.cells) {
+            let mut open = 0;
+            for strength in [0, 1] {
+                open += core.handles_in_parcels(id, index, strength);
+                for (client, _) in &clients {
+                    open += core.open_handles(*client, id, index, strength);
+                }
+            }
+            assert_eq!(cell.open, open, "buffer {id}.{index}");
+        }
+        for held in core.held_of(id) {
+            let pages = Pages { start: held.start, count: held.pages };
+            assert_eq!(tree.cells[held.index as usize].pages, pages);
+        }
+        assert_eq!(tree.open, tree.cells.iter().map(|cell| u64::from(cell.open)).sum::<u64>());
+        assert!(tree.open > 0);
+    }
+}
+
+#[test]
+fn binding_tells_what_the_core_has() {
+    let service = Service::open(Options { pages: 256, ..Options::default() }).unwrap();
+    let (mut lit, mut all) = (0, 0);
+    for seed in 1.. {
+        let mut dice = Dice(0x9e37_79b9_7f4a_7c15u64.wrapping_mul(seed));
+        let mut clients: Vec<(Client, Things)> =
+            (0..4).map(|_| (service.join().unwrap(), Things::default())).collect();
+        for _ in 0..1500 {
+            let (who, other) = (dice.upto(4), dice.upto(4));
+            let other = clients[other].0.id();
+            let (client, things) = &mut clients[who];
+            let _ = things.step(client, other, &mut dice);
+            let mut state = service.0.lock();
+            let seen = compare_descriptors(&mut state);
+            compare_counts(&mut state);
+            (lit, all) = (lit + seen.0, all + seen.1);
+        }
+        drop(clients);
+        let state = service.0.lock();
+        assert!(state.trees.is_empty() && state.seats.is_empty());
+        drop(state);
+        if service.events() > 30_000 {
+            break;
+        }
+    }
+    assert!(lit > 1000 && all - lit > 1000);
+    assert_eq!((service.live(), service.free_pages()), (Ok(vec![]), 256));
+}
