@@ -13,7 +13,7 @@ trap 'rm -f "$log"' EXIT
 tail -n 1 "$log"
 make -C bindings -k -j "$lanes" check >"$log" 2>&1 || { grep -v '^touch' "$log" | tail -n 60; exit 1; }
 echo "$(find bindings/build/ran -type f | wc -l) tests of the bindings passed"
-tools/soak.sh 5000000 bindings/build/libsysmem.a 100 >"$log" || { cat "$log"; exit 1; }
+tools/soak.sh 5000000 >"$log" 2>&1 || { cat "$log"; exit 1; }
 tail -n 1 "$log"
 for program in cmake pkg-config; do
   command -v "$program" >/dev/null || { echo "no $program: tools/installed.sh was left out"; exit 0; }

@@ -331,9 +331,10 @@ impl Core {
         events
     }
 
-    pub fn forget_fired(&mut self) {
+    /// False if memory was refused.
+    pub fn forget_fired(&mut self) -> bool {
         // SAFETY: the pointer is of this handle.
-        unsafe { sysmem_forget_fired(&mut self.0) };
+        unsafe { sysmem_forget_fired(&mut self.0) == 0 }
     }
 
     /// The firings after the first `from`.

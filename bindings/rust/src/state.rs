@@ -623,8 +623,7 @@ impl State {
                 ready.extend(then.map(|then| (then, fired.event)));
             }
         }
-        if self.seen >= 4096 {
-            self.core.forget_fired();
+        if self.seen >= 4096 && self.core.forget_fired() {
             self.forgotten += std::mem::take(&mut self.seen);
         }
         ready
