@@ -11,10 +11,14 @@ use Rattle.script_faults.specs.IndentedLines.{behind_indent, indented, is_indent
 use Rattle.script_faults.specs.Streams.{IsUnread}
 use Rattle.sm_script.proofs.Settings.{legal-in, over-in}
 use Rattle.script_faults.proofs.Unindented.{unindented-more, unindented-skip}
-use Rattle.sm_script.specs.declared.session.Session.{Session}
 use Rattle.script_labels.specs.declared.stop.Stop.{Stop}
-use Rattle.sm_script.specs.Scenes.{Answers, Plays as PlaysLines, Rests, Scene, Setting, as_line, first_scene}
-use Rattle.sm_script.specs.Sessions.{Advances, IsAt, IsStopped}
+use Rattle.sm_script.specs.Scenes.{Plays as PlaysLines, Rests, Scene, Setting, as_line, first_scene}
+use Rattle.sm_script.specs.Sessions.{IsAt, IsStopped}
+use Rattle.script_tales.specs.declared.teller.Teller.{Teller}
+use Rattle.script_tales.specs.Called.{Knows}
+use Rattle.script_tales.specs.LostLines.{LossLines, Recalls}
+use Rattle.script_tales.specs.Tellings.{TellsLine}
+use Rattle.script_explain.proofs.LineTold.{answers-in, tells-in}
 use Rattle.sm_script.proofs.Playing.{plays-more}
 use Rattle.script_explain.specs.declared.check.Comparison.{Comparison}
 use Rattle.script_explain.specs.declared.check.Verdict.{Verdict}
@@ -37,7 +41,7 @@ agrees-plays pool lines at (Replies before line reply there so_far records same)
       subst (λ (ls : List (List ℕ)). PlaysLines pool first_scene ls rest.0 there.scene)
           (sym (unindented-skip before line records.0)) rest.1,
     )
-agrees-plays pool lines at (Plays before line reply there next so_far whole answers) =
+agrees-plays pool lines at (Plays before line reply facts there next later so_far whole answers tells) =
     let rest = agrees-plays pool before there so_far in (
       rest.0 ++ reply,
       subst (λ (ls : List (List ℕ)). PlaysLines pool first_scene ls (rest.0 ++ reply) next)
@@ -61,7 +65,7 @@ agrees-few pool lines at (Replies before line reply there so_far records same) =
     let few = agrees-few pool before there so_far in
     let count = length-append before (line ∷ []) in
     record { lines_few = omega (arith, few.lines_few, count); replies_few = omega (arith, few.replies_few, count) }
-agrees-few pool lines at (Plays before line reply there next so_far whole answers) =
+agrees-few pool lines at (Plays before line reply facts there next later so_far whole answers tells) =
     let few = agrees-few pool before there so_far in
     let count = length-append before (line ∷ []) in
     record { lines_few = omega (arith, few.lines_few, count); replies_few = omega (arith, few.replies_few, count) }
@@ -71,31 +75,47 @@ count-up : (count most : ℕ) → count ≤ most → most + 1 ≤ MOST_BYTES →
 count-up count most small few next is = omega (arith, is, small, few)
 
 -- the place of these parts
-abbrev place : Scene → ℕ → List ℕ → List ℕ → ℕ → ℕ → TranscriptPlace
-place scene number line reply lines replies =
-    record { scene = scene; number = number; line = line; reply = reply; lines = lines; replies = replies }
+abbrev place : Scene → LossLines → ℕ → List ℕ → List ℕ → List ℕ → ℕ → ℕ → TranscriptPlace
+place scene losses number line reply facts lines replies = record {
+  scene = scene;
+  losses = losses;
+  number = number;
+  line = line;
+  reply = reply;
+  facts = facts;
+  lines = lines;
+  replies = replies;
+}
 
 -- two places whose parts are the same
-same-place : (scene : Scene) (n m : ℕ) (l k r s : List ℕ) (a b c d : ℕ) → n ≡ m → l ≡ k → r ≡ s → a ≡ b → c ≡ d →
-    place scene n l r a c ≡ place scene m k s b d
-same-place scene n m l k r s a b c d p q t u v =
-    λ i. record { scene = scene; number = p i; line = q i; reply = t i; lines = u i; replies = v i }
+same-place : (scene : Scene) (losses : LossLines) (n m : ℕ) (l k r s f g : List ℕ) (a b c d : ℕ) → n ≡ m → l ≡ k → r ≡ s → f ≡ g →
+    a ≡ b → c ≡ d → place scene losses n l r f a c ≡ place scene losses m k s g b d
+same-place scene losses n m l k r s f g a b c d p q t w u v = λ i. record {
+  scene = scene;
+  losses = losses;
+  number = p i;
+  line = q i;
+  reply = t i;
+  facts = w i;
+  lines = u i;
+  replies = v i;
+}
 
 module _ (setting : Setting) (c : Comparison) (lines : List (List ℕ)) (far : Compared setting c lines) where
   -- the lines so far agree
-  abbrev pub far-agreed : Agreement setting lines (comparison_place c far.scene)
+  abbrev pub far-agreed : Agreement setting lines (comparison_place c far.scene far.losses)
   far-agreed = record {
     agrees = far.agrees;
-    texts = (agrees-plays setting.pool lines (comparison_place c far.scene) far.agrees).0;
+    texts = (agrees-plays setting.pool lines (comparison_place c far.scene far.losses) far.agrees).0;
     leads = record {
-      plays = (agrees-plays setting.pool lines (comparison_place c far.scene) far.agrees).1;
-      legal = legal-in setting c.teller.session far.scene far.pool far.limits far.is_at;
+      plays = (agrees-plays setting.pool lines (comparison_place c far.scene far.losses) far.agrees).1;
+      legal = legal-in setting c.teller.session far.scene far.pool far.limits far.knows.is_at;
     };
   }
 
   -- the numbers of played lines and of compared replies are at most the number of compared lines
-  few : AreFew lines (comparison_place c far.scene)
-  few = agrees-few setting.pool lines (comparison_place c far.scene) far.agrees
+  few : AreFew lines (comparison_place c far.scene far.losses)
+  few = agrees-few setting.pool lines (comparison_place c far.scene far.losses) far.agrees
 
   -- a remark is passed over
   pub far-remark : (line : List ℕ) → IsRemark line → Compared setting c (lines ++ line ∷ [])
@@ -103,48 +123,62 @@ module _ (setting : Setting) (c : Comparison) (lines : List (List ℕ)) (far : C
     pool = far.pool;
     limits = far.limits;
     scene = far.scene;
-    agrees = Remarks lines line (comparison_place c far.scene) far.agrees remark;
-    is_at = far.is_at;
+    losses = far.losses;
+    agrees = Remarks lines line (comparison_place c far.scene far.losses) far.agrees remark;
+    knows = far.knows;
+    recalls = far.recalls;
   }
 
   -- one more line was played
   pub far-play : (next : Comparison) (line : List ℕ) (number : ℕ) → is_indented line ≡ false → number ≡ length lines + 1 →
-      number ≤ MOST_BYTES → ((scene : Scene) → IsAt c.teller.session scene →
-      Advances c.teller.session next.teller.session line next.reply.items scene) → next.number ≡ number → next.line.items ≡ line →
-      next.lines ≡ min (c.lines + 1) (2 ^ 64 - 1) → next.replies ≡ c.replies → Compared setting next (lines ++ line ∷ [])
-  far-play next line number whole numbered small advances its_number its_line its_lines its_replies =
-      let step = advances far.scene far.is_at in
+      number ≤ MOST_BYTES → ((scene : Scene) (losses : LossLines) → Knows c.teller scene → Recalls c.teller losses →
+      TellsLine c.teller next.teller number line next.reply.items next.facts.items scene losses) → next.number ≡ number →
+      next.line.items ≡ line → next.lines ≡ min (c.lines + 1) (2 ^ 64 - 1) → next.replies ≡ c.replies →
+      Compared setting next (lines ++ line ∷ [])
+  far-play next line number whole numbered small tells its_number its_line its_lines its_replies =
+      let told = tells far.scene far.losses far.knows far.recalls in
+      let step = told.advances in
+      let reply = next.reply.items in
+      let facts = next.facts.items in
       let count : next.lines ≡ c.lines + 1 =
       count-up c.lines (length lines) few.lines_few (omega (arith, numbered, small)) next.lines its_lines in
       record {
         pool = step.setting.pool ∙ far.pool;
         limits = step.setting.limits ∙ far.limits;
         scene = step.next;
+        losses = told.later;
         agrees = subst (Agrees setting.pool (lines ++ line ∷ []))
-            (sym (same-place step.next next.number (length lines + 1) next.line.items line next.reply.items next.reply.items
-            next.lines (c.lines + 1) next.replies c.replies (its_number ∙ numbered) its_line refl count its_replies))
-            (Plays lines line next.reply.items (comparison_place c far.scene) step.next far.agrees whole
-            (subst (λ (pool : ℕ). Answers pool far.scene line next.reply.items step.next) far.pool step.answers));
-        is_at = step.is_at;
+            (sym (same-place step.next told.later next.number (length lines + 1) next.line.items line reply reply facts facts
+            next.lines (c.lines + 1) next.replies c.replies (its_number ∙ numbered) its_line refl refl count its_replies))
+            (Plays lines line reply facts (comparison_place c far.scene far.losses) step.next told.later far.agrees whole
+            (answers-in setting.pool c.teller next.teller line reply far.scene far.pool step)
+            (tells-in setting.pool c.teller next.teller number line reply facts far.scene far.losses (length lines + 1) far.pool
+            far.knows.is_at numbered told));
+        knows = record { is_at = step.is_at; calls = told.calls };
+        recalls = told.recalls;
       }
 
   -- one more reply was compared, and is the machine's
   pub far-reply : (next : Comparison) (line reply : List ℕ) (number : ℕ) → Records line reply → number ≡ length lines + 1 →
-      number ≤ MOST_BYTES → c.reply.items ≡ as_line reply → next.teller.session ≡ c.teller.session → next.number ≡ c.number →
-      next.line.items ≡ c.line.items → next.reply.items ≡ c.reply.items → next.lines ≡ c.lines →
-      next.replies ≡ min (c.replies + 1) (2 ^ 64 - 1) → Compared setting next (lines ++ line ∷ [])
-  far-reply next line reply number records numbered small same its_session its_number its_line its_reply its_lines its_replies =
+      number ≤ MOST_BYTES → c.reply.items ≡ as_line reply → next.teller ≡ c.teller → next.number ≡ c.number →
+      next.line.items ≡ c.line.items → next.reply.items ≡ c.reply.items → next.facts.items ≡ c.facts.items →
+      next.lines ≡ c.lines → next.replies ≡ min (c.replies + 1) (2 ^ 64 - 1) → Compared setting next (lines ++ line ∷ [])
+  far-reply next line reply number records numbered small same its_teller its_number its_line its_reply its_facts its_lines
+      its_replies =
       let count : next.replies ≡ c.replies + 1 =
       count-up c.replies (length lines) few.replies_few (omega (arith, numbered, small)) next.replies its_replies in
       record {
-        pool = ap (λ (s : Session). s.core.pool) its_session ∙ far.pool;
-        limits = ap (λ (s : Session). s.core.limits) its_session ∙ far.limits;
+        pool = ap (λ (t : Teller). t.session.core.pool) its_teller ∙ far.pool;
+        limits = ap (λ (t : Teller). t.session.core.limits) its_teller ∙ far.limits;
         scene = far.scene;
+        losses = far.losses;
         agrees = subst (Agrees setting.pool (lines ++ line ∷ []))
-            (sym (same-place far.scene next.number c.number next.line.items c.line.items next.reply.items c.reply.items
-            next.lines c.lines next.replies (c.replies + 1) its_number its_line its_reply its_lines count))
-            (Replies lines line reply (comparison_place c far.scene) far.agrees records same);
-        is_at = subst (λ (s : Session). IsAt s far.scene) (sym its_session) far.is_at;
+            (sym (same-place far.scene far.losses next.number c.number next.line.items c.line.items next.reply.items c.reply.items
+            next.facts.items c.facts.items next.lines c.lines next.replies (c.replies + 1) its_number its_line its_reply its_facts
+            its_lines count))
+            (Replies lines line reply (comparison_place c far.scene far.losses) far.agrees records same);
+        knows = subst (λ (t : Teller). Knows t far.scene) (sym its_teller) far.knows;
+        recalls = subst (λ (t : Teller). Recalls t far.losses) (sym its_teller) far.recalls;
       }
 
   -- one more reply was compared, and is another
@@ -155,13 +189,12 @@ module _ (setting : Setting) (c : Comparison) (lines : List (List ℕ)) (far : C
     line = line;
     after = [];
     split = refl;
-    at = comparison_place c far.scene;
+    at = comparison_place c far.scene far.losses;
     agreed = far-agreed;
     some_played = some;
     reply = reply;
     records = records;
     differs = other;
-    facts = c.facts.items;
     said = said;
   }
 
@@ -178,21 +211,21 @@ module _ (setting : Setting) (c : Comparison) (lines : List (List ℕ)) (far : C
     line = line;
     after = [];
     split = refl;
-    at = comparison_place c far.scene;
+    at = comparison_place c far.scene far.losses;
     agreed = far-agreed;
-    why = (is.1 ∙ numbered, inl (whole, subst (IsStopped c.teller.session line far.scene) is.0 (why far.scene far.is_at)));
+    why = (is.1 ∙ numbered, inl (whole, subst (IsStopped c.teller.session line far.scene) is.0 (why far.scene far.knows.is_at)));
   }
   far-unplayed line stop number ReportFault.HistoryFull whole why is numbered = record {
     before = lines;
     line = line;
     after = [];
     split = refl;
-    at = comparison_place c far.scene;
+    at = comparison_place c far.scene far.losses;
     agreed = far-agreed;
     why = (
       whole,
       over-in setting c.teller.session far.scene line far.pool far.limits
-          (subst (IsStopped c.teller.session line far.scene) is (why far.scene far.is_at)),
+          (subst (IsStopped c.teller.session line far.scene) is (why far.scene far.knows.is_at)),
     );
   }
   far-unplayed line stop number ReportFault.NoMemory whole why is numbered = tt
@@ -210,7 +243,7 @@ module _ (setting : Setting) (c : Comparison) (lines : List (List ℕ)) (far : C
     line = line;
     after = [];
     split = refl;
-    at = comparison_place c far.scene;
+    at = comparison_place c far.scene far.losses;
     agreed = far-agreed;
     why = (is ∙ numbered, inr (reply, records, none));
   }
@@ -252,7 +285,6 @@ module _ (setting : Setting) (lines all more : List (List ℕ)) (is : all ≡ li
     reply = other.reply;
     records = other.records;
     differs = other.differs;
-    facts = other.facts;
     said = other.said;
   }
 
@@ -279,7 +311,7 @@ unchecked-at-end setting c script number (ReportFault.NoEvent event) far some nu
 unchecked-at-end setting c script number (ReportFault.BadLine n reason) far some numbered is = inr (record {
   unended = some;
   numbered = is ∙ numbered;
-  at = comparison_place c far.scene;
+  at = comparison_place c far.scene far.losses;
   agreed = far-agreed setting c (whole_lines script) far;
 })
 unchecked-at-end setting c script number ReportFault.NoMemory far some numbered is = tt
@@ -342,26 +374,30 @@ ends_checked setting left_before left old new told_before told outcome status ch
 
 -- no line was compared
 pub compared-none : (setting : Setting) (c : Comparison) → c.teller.session.core.pool ≡ setting.pool →
-    c.teller.session.core.limits ≡ setting.limits → IsAt c.teller.session first_scene → c.number ≡ 0 → c.line.items ≡ [] →
-    c.reply.items ≡ [] → c.lines ≡ 0 → c.replies ≡ 0 → Compared setting c []
-compared-none setting c pool limits at its_number its_line its_reply its_lines its_replies = record {
+    c.teller.session.core.limits ≡ setting.limits → Knows c.teller first_scene → Recalls c.teller [] → c.number ≡ 0 →
+    c.line.items ≡ [] → c.reply.items ≡ [] → c.facts.items ≡ [] → c.lines ≡ 0 → c.replies ≡ 0 → Compared setting c []
+compared-none setting c pool limits knows recalls its_number its_line its_reply its_facts its_lines its_replies = record {
   pool = pool;
   limits = limits;
   scene = first_scene;
+  losses = [];
   agrees = subst (Agrees setting.pool [])
-      (sym (same-place first_scene c.number 0 c.line.items [] c.reply.items [] c.lines 0 c.replies 0 its_number its_line its_reply
-      its_lines its_replies)) Begins;
-  is_at = at;
+      (sym (same-place first_scene [] c.number 0 c.line.items [] c.reply.items [] c.facts.items [] c.lines 0 c.replies 0 its_number
+      its_line its_reply its_facts its_lines its_replies)) Begins;
+  knows = knows;
+  recalls = recalls;
 }
 
 -- all agrees, and the text of that was put
 pub agreed-fully : (setting : Setting) (c : Comparison) (script text : List ℕ) → Ended setting c script Verdict.Agrees →
-    ((scene : Scene) → text ≡ c.text.items ++ agreement_text (comparison_place c scene)) → FullAgreement setting script text
+    ((scene : Scene) (losses : LossLines) → text ≡ c.text.items ++ agreement_text (comparison_place c scene losses)) →
+    FullAgreement setting script text
 agreed-fully setting c script text ended said = record {
   ended = ended.1;
-  at = comparison_place c ended.0.scene;
+  at = comparison_place c ended.0.scene ended.0.losses;
   agreed = far-agreed setting c (whole_lines script) ended.0;
-  said = said ended.0.scene ∙ ap (λ front. front ++ agreement_text (comparison_place c ended.0.scene)) ended.2;
+  said = said ended.0.scene ended.0.losses
+      ∙ ap (λ front. front ++ agreement_text (comparison_place c ended.0.scene ended.0.losses)) ended.2;
 }
 
 -- a line that nothing is behind two spaces of

@@ -1,5 +1,5 @@
 -- Loops over the lines of a script.
-use Rattle.std.proofs.Common.{◌≡◌, ℕ, ◌+◌, ◌-◌, ◌^◌, ◌<◌, ◌≤◌, min, ◌==◌, true, false, List, [], ◌∷◌, ◌++◌, length, length-append, take, drop, append_assoc, append-nil, refl, sym, ◌∙◌, subst, Option, Some, None, arith}
+use Rattle.std.proofs.Common.{◌≡◌, ℕ, ◌+◌, ◌-◌, ◌^◌, ◌<◌, ◌≤◌, min, ◌==◌, true, false, List, [], ◌∷◌, ◌++◌, length, length-append, take, drop, refl, sym, ◌∙◌, subst, Option, Some, None, arith}
 use Rattle.std.specs.List.{position}
 use Rattle.script_lines.specs.declared.TheConstants.{MOST_BYTES}
 use Rattle.script_lines.specs.Pieces.{whole_lines, last_part}
@@ -7,9 +7,9 @@ use Rattle.script_lines.proofs.Piecing.{is_end}
 use Rattle.script_faults.specs.declared.fault.ReportFault.{ReportFault}
 use Rattle.script_faults.specs.Faults.{IsBadLine}
 use Rattle.script_faults.proofs.LinesTaken.{AreTaken, last-number, next-number, none-left, rest-all, taken-all, taken-at, taken-more, taken-none, taken-room}
-use Rattle.sm_script.specs.declared.session.Session.{Session}
 use Rattle.sm_script.specs.Scenes.{Setting}
 use Rattle.sm_script.proofs.Taking.{some_behind}
+use Rattle.script_tales.specs.declared.teller.Teller.{Teller}
 use Rattle.script_explain.specs.declared.check.Comparison.{Comparison}
 use Rattle.script_explain.specs.declared.check.Verdict.{Verdict}
 use Rattle.script_explain.specs.Comparisons.{Difference, ComparisonLinesStop}
@@ -18,24 +18,24 @@ use Rattle.script_explain.proofs.Comparing.{difference-more, unchecked-at-end, u
 use Rattle.script_explain.proofs.Outcomes.{halted-at-end, halted-lines, halted-more}
 
 -- some lines were explained, and their number is this
-pub record Along (script rest : List ℕ) (number : ℕ) (first : Session) (mid : Option (List ℕ)) (before : List ℕ) (now : Session)
+pub record Along (script rest : List ℕ) (number : ℕ) (first : Teller) (mid : Option (List ℕ)) (before : List ℕ) (now : Teller)
     (new : Option (List ℕ)) (after : List ℕ) : Type 0 where
   pub taken : List (List ℕ)
   pub takes : AreTaken script rest taken
   pub numbered : number ≡ length taken
-  pub explained : Explained first mid before now new after taken
+  pub explained : Explained first mid before now new after [] taken
 
 -- none was
-pub along-none : (script : List ℕ) (first : Session) (mid : Option (List ℕ)) (before : List ℕ) →
+pub along-none : (script : List ℕ) (first : Teller) (mid : Option (List ℕ)) (before : List ℕ) →
     Along script script 0 first mid before first mid before
 along-none script first mid before = record {
   taken = [];
   takes = taken-none script;
   numbered = refl;
-  explained = λ setting old lines far. subst (ExplainedSoFar setting first old mid before) (sym (append-nil lines)) far;
+  explained = λ setting old far. far;
 }
 
-module _ (script rest : List ℕ) (number : ℕ) (first : Session) (mid : Option (List ℕ)) (before : List ℕ) (now : Session)
+module _ (script rest : List ℕ) (number : ℕ) (first : Teller) (mid : Option (List ℕ)) (before : List ℕ) (now : Teller)
     (new : Option (List ℕ)) (after : List ℕ) (along : Along script rest number first mid before now new after)
     (small : length script ≤ MOST_BYTES) where
   module _ (at : ℕ) (found : position is_end rest ≡ Some at) (within : at < length rest) (count : ℕ)
@@ -46,16 +46,14 @@ module _ (script rest : List ℕ) (number : ℕ) (first : Session) (mid : Option
         (taken-room script rest along.taken along.takes at within) small counted
 
     -- one more was
-    pub along-more : (next : Session) (newer : Option (List ℕ)) (later left : List ℕ) → left ≡ drop (at + 1) rest →
-        Explained now new after next newer later (take at rest ∷ []) → Along script left count first mid before next newer later
+    pub along-more : (next : Teller) (newer : Option (List ℕ)) (later left : List ℕ) → left ≡ drop (at + 1) rest →
+        ((lines : List (List ℕ)) → count ≡ length lines + 1 → Explained now new after next newer later lines (take at rest ∷ [])) → Along script left count first mid before next newer later
     along-more next newer later left is step = record {
       taken = along.taken ++ take at rest ∷ [];
       takes = subst (λ (r : List ℕ). AreTaken script r (along.taken ++ take at rest ∷ [])) (sym is)
           (taken-more script rest along.taken along.takes at found within);
       numbered = let more = length-append along.taken (take at rest ∷ []) in omega (arith, along-number, more);
-      explained = λ setting old lines far.
-          subst (ExplainedSoFar setting next old newer later) (append_assoc lines along.taken (take at rest ∷ []))
-          (step setting old (lines ++ along.taken) (along.explained setting old lines far));
+      explained = λ setting old far. step along.taken along-number setting old (along.explained setting old far);
     }
 
     -- the next was not
@@ -68,12 +66,12 @@ module _ (script rest : List ℕ) (number : ℕ) (first : Session) (mid : Option
         halted-lines setting old newer later script fault
         (halted-more setting old newer later (along.taken ++ take at rest ∷ []) (whole_lines script) (whole_lines (drop (at + 1) rest))
         (taken-at script rest along.taken along.takes at found) fault
-        (stops setting old along.taken (along.explained setting old [] far) along-number))
+        (stops setting old along.taken (along.explained setting old far) along-number))
 
   module _ (none : position is_end rest ≡ None) where
     -- no line is left
-    pub along-all : Explained first mid before now new after (whole_lines script)
-    along-all = subst (Explained first mid before now new after) (sym (taken-all script rest along.taken along.takes none))
+    pub along-all : Explained first mid before now new after [] (whole_lines script)
+    along-all = subst (Explained first mid before now new after []) (sym (taken-all script rest along.taken along.takes none))
         along.explained
 
     -- the last line has an end
@@ -85,7 +83,7 @@ module _ (script rest : List ℕ) (number : ℕ) (first : Session) (mid : Option
         (fault : ReportFault) → IsBadLine count fault → (setting : Setting) (old : Option (List ℕ)) →
         ExplainedSoFar setting first old mid before [] → LinesHalted setting old new after script fault
     along-unended some count counted fault is setting old far =
-        halted-at-end setting now old new after script count fault (along-all setting old [] far)
+        halted-at-end setting now old new after script count fault (along-all setting old far)
         (λ e. some_behind [] rest some (sym (rest-all script rest along.taken along.takes none) ∙ e))
         (last-number script rest along.taken along.takes small none number count along.numbered counted) is
 

@@ -3,6 +3,7 @@ pub mod CleanLabels
 pub mod CleanScenes
 pub mod Comparing
 pub mod Going
+pub mod LineTold
 pub mod Outcomes
 pub mod Telling
 pub mod ToldLines

@@ -9,7 +9,7 @@ use Rattle.script_lines.specs.Written.{WritesPart}
 use Rattle.script_faults.specs.declared.fault.ReportFault.{ReportFault}
 use Rattle.script_faults.specs.Faults.{IsBadLine, IsReported}
 use Rattle.script_faults.specs.Streams.{IsUnread}
-use Rattle.sm_script.specs.declared.session.Session.{Session}
+use Rattle.script_tales.specs.declared.teller.Teller.{Teller}
 use Rattle.sm_script.specs.Scenes.{Rests, Setting, first_scene}
 use Rattle.script_explain.specs.Explanations.{EndsExplained, Explains, ExplanationCutOff, IsExplained, IsUnexplained, ExplanationLinesStop, LinesTold, explaining_status}
 use Rattle.script_explain.specs.Progress.{Halted, IsHalted, LinesHalted, ExplainedSoFar}
@@ -96,24 +96,24 @@ halted-lines setting old new pending script ReportFault.HistoryFull stop = stop
 halted-lines setting old new pending script ReportFault.NoMemory stop = stop
 
 -- the last line has no end
-pub halted-at-end : (setting : Setting) (session : Session) (old new : Option (List ℕ)) (pending script : List ℕ) (number : ℕ)
-    (fault : ReportFault) → ExplainedSoFar setting session old new pending (whole_lines script) → last_part script ≢ [] →
+pub halted-at-end : (setting : Setting) (teller : Teller) (old new : Option (List ℕ)) (pending script : List ℕ) (number : ℕ)
+    (fault : ReportFault) → ExplainedSoFar setting teller old new pending (whole_lines script) → last_part script ≢ [] →
     number ≡ length (whole_lines script) + 1 → IsBadLine number fault → LinesHalted setting old new pending script fault
-halted-at-end setting session old new pending script number ReportFault.ReadFault far some numbered is = absurd is
-halted-at-end setting session old new pending script number ReportFault.TooLong far some numbered is = absurd is
-halted-at-end setting session old new pending script number ReportFault.WriteFault far some numbered is = absurd is
-halted-at-end setting session old new pending script number ReportFault.HistoryFull far some numbered is = absurd is
-halted-at-end setting session old new pending script number (ReportFault.NoEvent event) far some numbered is = absurd is
-halted-at-end setting session old new pending script number (ReportFault.BadLine n reason) far some numbered is = inr (record {
+halted-at-end setting teller old new pending script number ReportFault.ReadFault far some numbered is = absurd is
+halted-at-end setting teller old new pending script number ReportFault.TooLong far some numbered is = absurd is
+halted-at-end setting teller old new pending script number ReportFault.WriteFault far some numbered is = absurd is
+halted-at-end setting teller old new pending script number ReportFault.HistoryFull far some numbered is = absurd is
+halted-at-end setting teller old new pending script number (ReportFault.NoEvent event) far some numbered is = absurd is
+halted-at-end setting teller old new pending script number (ReportFault.BadLine n reason) far some numbered is = inr (record {
   unended = some;
   numbered = is ∙ numbered;
-  so_far = far-pending setting session old new pending (whole_lines script) far;
+  so_far = far-pending setting teller old new pending (whole_lines script) far;
 })
-halted-at-end setting session old new pending script number ReportFault.NoMemory far some numbered is = record {
+halted-at-end setting teller old new pending script number ReportFault.NoMemory far some numbered is = record {
   before = whole_lines script;
   after = [];
   split = sym (append-nil (whole_lines script));
-  so_far = far-pending setting session old new pending (whole_lines script) far;
+  so_far = far-pending setting teller old new pending (whole_lines script) far;
 }
 
 module _ (setting : Setting) (old mid new : Option (List ℕ)) (pending script : List ℕ) where
@@ -173,20 +173,20 @@ module _ (setting : Setting) (old mid new : Option (List ℕ)) (pending script :
   lines-cut ReportFault.NoMemory stop part = subst (ExplanationCutOff setting old new) (sym stop.split)
       (pending-cut setting old mid pending stop.before stop.so_far new stop.after part)
 
-  module _ (session : Session) (result : Result (Unit {0}) ReportFault)
-      (ok : OnOk result (ExplainedSoFar setting session old mid pending (whole_lines script)))
+  module _ (teller : Teller) (result : Result (Unit {0}) ReportFault)
+      (ok : OnOk result (ExplainedSoFar setting teller old mid pending (whole_lines script)))
       (whole : OnOk result (last_part script ≡ [])) (err : IfErr result (LinesHalted setting old mid pending script)) where
     -- all of the text went out
     pub told-out : Appends mid new pending → LinesTold setting old new script result
     told-out out = by result ok whole err
       where
         -- a success explains all whole lines, and a fault explains those before its stop
-        by : (r : Result (Unit {0}) ReportFault) → OnOk r (ExplainedSoFar setting session old mid pending (whole_lines script)) →
+        by : (r : Result (Unit {0}) ReportFault) → OnOk r (ExplainedSoFar setting teller old mid pending (whole_lines script)) →
             OnOk r (last_part script ≡ []) → IfErr r (LinesHalted setting old mid pending script) → LinesTold setting old new script r
         by (Ok done) far end stop = (
           end,
           pending-told setting old mid pending (whole_lines script)
-              (far-pending setting session old mid pending (whole_lines script) far) new out,
+              (far-pending setting teller old mid pending (whole_lines script) far) new out,
         )
         by (Err fault) far end stop = lines-stop fault stop out
 
@@ -194,11 +194,11 @@ module _ (setting : Setting) (old mid new : Option (List ℕ)) (pending script :
     pub told-cut : WritesPart mid new pending → ExplanationCutOff setting old new (whole_lines script)
     told-cut part = by result ok err
       where
-        by : (r : Result (Unit {0}) ReportFault) → OnOk r (ExplainedSoFar setting session old mid pending (whole_lines script)) →
+        by : (r : Result (Unit {0}) ReportFault) → OnOk r (ExplainedSoFar setting teller old mid pending (whole_lines script)) →
             IfErr r (LinesHalted setting old mid pending script) → ExplanationCutOff setting old new (whole_lines script)
         by (Ok done) far stop = subst (ExplanationCutOff setting old new) (append-nil (whole_lines script))
             (pending-cut setting old mid pending (whole_lines script)
-            (far-pending setting session old mid pending (whole_lines script) far) new [] part)
+            (far-pending setting teller old mid pending (whole_lines script) far) new [] part)
         by (Err fault) far stop = lines-cut fault stop part
 
 -- nothing is explained by nothing
@@ -208,6 +208,7 @@ told-none setting old = record {
   explains = record {
     replies = [];
     scene = first_scene;
+    losses = [];
     tells = Begins;
     leads = record { plays = Rests first_scene; legal = record { answers = tt; within = omega arith } };
   };

@@ -9,6 +9,7 @@ use Rattle.script_lines.specs.Pieces.{lines_from, rest_from, whole_lines, last_p
 use Rattle.script_lines.proofs.Piecing.{lines-append, rest-append}
 use Rattle.script_faults.specs.IndentedLines.{fact_line, indented, is_indented, unindented}
 use Rattle.sm_script.specs.Scenes.{Scene, as_line, first_scene}
+use Rattle.script_tales.specs.LostLines.{LossLines}
 use Rattle.script_explain.specs.Tales.{ExplainsLines, Begins, Passes, Goes, indent, replies_in, told_line}
 use Rattle.script_explain.proofs.CleanLabels.{and-left, and-right, inner-append, is_inner}
 use Rattle.script_explain.proofs.CleanScenes.{AreClean, IsReply, NoReply, OneReply, answers-clean}
@@ -161,13 +162,13 @@ replies-append a b =
     flat_map-append (λ line. if is_indented line && not (is_indented (drop 2 line)) then as_line (drop 2 line) else []) a b
 
 -- each line that is not indented adds itself, its reply and its facts, by induction on the lines
-told-has : (pool : ℕ) (lines : List (List ℕ)) (text replies : List ℕ) (scene : Scene) → ExplainsLines pool first_scene lines text replies scene →
-    list_all is_inner lines ≡ true → Has lines text replies scene
-told-has pool lines text replies scene Begins inner =
+told-has : (pool : ℕ) (lines : List (List ℕ)) (text replies : List ℕ) (scene : Scene) (losses : LossLines) →
+    ExplainsLines pool first_scene lines text replies scene losses → list_all is_inner lines ≡ true → Has lines text replies scene
+told-has pool lines text replies scene losses Begins inner =
     record { all = []; whole = whole-nil; script = refl; answers = refl; clean = record { nodes = refl; trackers = refl } }
-told-has pool lines text replies scene (Passes before line said given there so_far skip) inner =
+told-has pool lines text replies scene losses (Passes before line said given there known so_far skip) inner =
     let both : (list_all is_inner before && list_all is_inner (line ∷ [])) ≡ true = sym (list_all-append is_inner before (line ∷ [])) ∙ inner in
-    let rest = told-has pool before said given there so_far (and-left (list_all is_inner before) (list_all is_inner (line ∷ [])) both) in
+    let rest = told-has pool before said given there known so_far (and-left (list_all is_inner before) (list_all is_inner (line ∷ [])) both) in
     record {
       all = rest.all;
       whole = rest.whole;
@@ -175,9 +176,10 @@ told-has pool lines text replies scene (Passes before line said given there so_f
       answers = rest.answers;
       clean = rest.clean;
     }
-told-has pool lines text replies scene (Goes before line said given reply facts there next so_far bare answers) inner =
+told-has pool lines text replies scene losses
+    (Goes before line said given reply facts there next known later so_far bare answers tells) inner =
     let both : (list_all is_inner before && list_all is_inner (line ∷ [])) ≡ true = sym (list_all-append is_inner before (line ∷ [])) ∙ inner in
-    let rest = told-has pool before said given there so_far (and-left (list_all is_inner before) (list_all is_inner (line ∷ [])) both) in
+    let rest = told-has pool before said given there known so_far (and-left (list_all is_inner before) (list_all is_inner (line ∷ [])) both) in
     let last : is_inner line ≡ true = and-left (is_inner line) true
     (and-right (list_all is_inner before) (list_all is_inner (line ∷ [])) both) in
     let cleanly = answers-clean pool there rest.clean line reply next answers in
@@ -208,21 +210,21 @@ told-has pool lines text replies scene (Goes before line said given reply facts 
     }
 
 -- the lines of the script are those that are not indented, and the replies those that are indented by two spaces
-pub script-told : (pool : ℕ) (script text replies : List ℕ) (scene : Scene) →
-    ExplainsLines pool first_scene (whole_lines script) text replies scene → unindented (whole_lines text) ≡ unindented (whole_lines script)
-script-told pool script text replies scene tells =
-    let has = told-has pool (whole_lines script) text replies scene tells (lines-inner [] script refl) in
+pub script-told : (pool : ℕ) (script text replies : List ℕ) (scene : Scene) (losses : LossLines) →
+    ExplainsLines pool first_scene (whole_lines script) text replies scene losses → unindented (whole_lines text) ≡ unindented (whole_lines script)
+script-told pool script text replies scene losses tells =
+    let has = told-has pool (whole_lines script) text replies scene losses tells (lines-inner [] script refl) in
     ap unindented has.whole.lines_are ∙ has.script
 
 -- the lines of an explanation that begin with two spaces, but not with four, are the replies
-pub replies-told : (pool : ℕ) (script text replies : List ℕ) (scene : Scene) →
-    ExplainsLines pool first_scene (whole_lines script) text replies scene → replies_in (whole_lines text) ≡ replies
-replies-told pool script text replies scene tells =
-    let has = told-has pool (whole_lines script) text replies scene tells (lines-inner [] script refl) in
+pub replies-told : (pool : ℕ) (script text replies : List ℕ) (scene : Scene) (losses : LossLines) →
+    ExplainsLines pool first_scene (whole_lines script) text replies scene losses → replies_in (whole_lines text) ≡ replies
+replies-told pool script text replies scene losses tells =
+    let has = told-has pool (whole_lines script) text replies scene losses tells (lines-inner [] script refl) in
     ap replies_in has.whole.lines_are ∙ has.answers
 
 -- the text of an explanation consists of whole lines: nothing stands behind the last of them
-pub text-whole : (pool : ℕ) (script text replies : List ℕ) (scene : Scene) →
-    ExplainsLines pool first_scene (whole_lines script) text replies scene → last_part text ≡ []
-text-whole pool script text replies scene tells =
-    (told-has pool (whole_lines script) text replies scene tells (lines-inner [] script refl)).whole.ends
+pub text-whole : (pool : ℕ) (script text replies : List ℕ) (scene : Scene) (losses : LossLines) →
+    ExplainsLines pool first_scene (whole_lines script) text replies scene losses → last_part text ≡ []
+text-whole pool script text replies scene losses tells =
+    (told-has pool (whole_lines script) text replies scene losses tells (lines-inner [] script refl)).whole.ends

@@ -10,6 +10,8 @@ use Rattle.script_faults.specs.IndentedLines.{indented, is_indented, unindented}
 use Rattle.script_labels.specs.Names.{act_in}
 use Rattle.sm_script.specs.Runs.{IsOver}
 use Rattle.sm_script.specs.Scenes.{Answers, LeadsTo, Scene, Setting, as_line, first_scene}
+use Rattle.script_tales.specs.LostLines.{LossLines}
+use Rattle.script_tales.specs.Tellings.{Tells}
 use Rattle.script_explain.specs.declared.check.Verdict.{Verdict}
 
 -- the line says nothing: it begins with four spaces
@@ -20,24 +22,36 @@ IsRemark line = (is_indented line ≡ true) × (is_indented (drop 2 line) ≡ tr
 abbrev pub Records : List ℕ → List ℕ → Type 0
 Records line reply = (is_indented line ≡ true) × (is_indented (drop 2 line) ≡ false) × (reply ≡ drop 2 line)
 
--- where the comparison of a transcript is: what happened so far; the last line that was played, with its number and what it was
--- answered, which is nothing or a line; how many lines were played, and how many replies compared
+-- where the comparison of a transcript is: what happened so far, and the lines that made nodes fail; the last line that was played,
+-- with its number, what it was answered, which is nothing or a line, and the facts of its event; how many lines were played, and
+-- how many replies compared
 pub record TranscriptPlace : Type 0 where
   pub scene : Scene
+  pub losses : LossLines
   pub number : ℕ
   pub line : List ℕ
   pub reply : List ℕ
+  pub facts : List ℕ
   pub lines : ℕ
   pub replies : ℕ
 
 -- no line was played
 abbrev pub start : TranscriptPlace
-start = record { scene = first_scene; number = 0; line = []; reply = []; lines = 0; replies = 0 }
+start =
+    record { scene = first_scene; losses = []; number = 0; line = []; reply = []; facts = []; lines = 0; replies = 0 }
 
--- one more line was played, that of this number
-abbrev pub played : TranscriptPlace → ℕ → List ℕ → List ℕ → Scene → TranscriptPlace
-played at number line reply next =
-    record { scene = next; number = number; line = line; reply = reply; lines = at.lines + 1; replies = at.replies }
+-- one more line was played, that of this number, with this reply and these facts
+abbrev pub played : TranscriptPlace → ℕ → List ℕ → List ℕ → List ℕ → Scene → LossLines → TranscriptPlace
+played at number line reply facts next losses = record {
+  scene = next;
+  losses = losses;
+  number = number;
+  line = line;
+  reply = reply;
+  facts = facts;
+  lines = at.lines + 1;
+  replies = at.replies;
+}
 
 -- one more reply was compared
 abbrev pub compared : TranscriptPlace → TranscriptPlace
@@ -51,9 +65,10 @@ pub data Agrees (pool : ℕ) : List (List ℕ) → TranscriptPlace → Type 0 wh
       Agrees pool (lines ++ line ∷ []) at
   Replies : (lines : List (List ℕ)) (line reply : List ℕ) (at : TranscriptPlace) → Agrees pool lines at → Records line reply →
       at.reply ≡ as_line reply → Agrees pool (lines ++ line ∷ []) (compared at)
-  Plays : (lines : List (List ℕ)) (line reply : List ℕ) (at : TranscriptPlace) (next : Scene) → Agrees pool lines at →
-      is_indented line ≡ false → Answers pool at.scene line reply next →
-      Agrees pool (lines ++ line ∷ []) (played at (length lines + 1) line reply next)
+  Plays : (lines : List (List ℕ)) (line reply facts : List ℕ) (at : TranscriptPlace) (next : Scene) (later : LossLines) →
+      Agrees pool lines at → is_indented line ≡ false → (answers : Answers pool at.scene line reply next) →
+      Tells pool at.scene next (length lines + 1) line answers.act at.losses later facts →
+      Agrees pool (lines ++ line ∷ []) (played at (length lines + 1) line reply facts next later)
 
 -- the lines agree with a machine whose history is legal, and whose calls are those of the lines that are not indented
 pub record Agreement (setting : Setting) (lines : List (List ℕ)) (at : TranscriptPlace) : Type 0 where
@@ -76,7 +91,8 @@ abbrev pub told_difference : ℕ → List ℕ → List ℕ → List ℕ → List
 told_difference number line reply recorded = codes "line " ++ decimal number ++ codes ": " ++ line ++ codes "\n  recorded  "
     ++ recorded ++ codes "\n  legal     " ++ legal_text reply
 
--- a reply is recorded that is not the legal one, and all before it agrees; the text tells so, and then facts
+-- a reply is recorded that is not the legal one, and all before it agrees; the text tells so, and then the facts of the event of
+-- the line that was played last
 pub record Difference (setting : Setting) (lines : List (List ℕ)) (text : List ℕ) : Type 0 where
   pub before : List (List ℕ)
   pub line : List ℕ
@@ -88,8 +104,7 @@ pub record Difference (setting : Setting) (lines : List (List ℕ)) (text : List
   pub reply : List ℕ
   pub records : Records line reply
   pub differs : at.reply ≢ as_line reply
-  pub facts : List ℕ
-  pub said : text ≡ told_difference at.number at.line at.reply reply ++ indented facts
+  pub said : text ≡ told_difference at.number at.line at.reply reply ++ indented at.facts
 
 -- all agrees, and the text tells so
 pub record FullAgreement (setting : Setting) (script : List ℕ) (text : List ℕ) : Type 0 where

@@ -10,14 +10,16 @@ use Rattle.script_faults.specs.IndentedLines.{is_indented, unindented}
 use Rattle.script_labels.specs.Names.{act_in}
 use Rattle.sm_script.specs.Runs.{IsOver}
 use Rattle.sm_script.specs.Scenes.{LeadsTo, Scene, Setting, first_scene}
+use Rattle.script_tales.specs.LostLines.{LossLines}
 use Rattle.script_explain.specs.Tales.{ExplainsLines}
 
 -- the text explains these lines: their replies are those of a legal history whose calls are those of the lines that are not
--- indented
+-- indented, and their facts those of its events
 pub record Explanation (setting : Setting) (lines : List (List ℕ)) (text : List ℕ) : Type 0 where
   pub replies : List ℕ
   pub scene : Scene
-  pub tells : ExplainsLines setting.pool first_scene lines text replies scene
+  pub losses : LossLines
+  pub tells : ExplainsLines setting.pool first_scene lines text replies scene losses
   pub leads : LeadsTo setting (unindented lines) replies scene
 
 -- what was written explains exactly these lines

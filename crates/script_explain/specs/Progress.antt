@@ -4,9 +4,10 @@ use Rattle.std.specs.Io.KnownBytes.{Appends}
 use Rattle.script_lines.specs.Pieces.{whole_lines, last_part}
 use Rattle.script_faults.specs.declared.fault.ReportFault.{ReportFault}
 use Rattle.script_faults.specs.IndentedLines.{is_indented}
-use Rattle.sm_script.specs.declared.session.Session.{Session}
 use Rattle.sm_script.specs.Scenes.{Scene, Setting, first_scene}
-use Rattle.sm_script.specs.Sessions.{IsAt}
+use Rattle.script_tales.specs.declared.teller.Teller.{Teller}
+use Rattle.script_tales.specs.Called.{Knows}
+use Rattle.script_tales.specs.LostLines.{LossLines, Recalls}
 use Rattle.script_explain.specs.declared.check.Comparison.{Comparison}
 use Rattle.script_explain.specs.declared.check.Verdict.{Verdict}
 use Rattle.script_explain.specs.Comparisons.{Agrees, Difference, IsUnchecked, TranscriptPlace}
@@ -16,23 +17,25 @@ use Rattle.script_explain.specs.Tales.{ExplainsLines}
 -- ---- explanations
 
 -- these lines were explained; their text was written, but for what is pending
-pub record ExplainedSoFar (setting : Setting) (session : Session) (old new : Option (List ℕ)) (pending : List ℕ)
+pub record ExplainedSoFar (setting : Setting) (teller : Teller) (old new : Option (List ℕ)) (pending : List ℕ)
     (lines : List (List ℕ)) : Type 0 where
-  pub pool : session.core.pool ≡ setting.pool
-  pub limits : session.core.limits ≡ setting.limits
+  pub pool : teller.session.core.pool ≡ setting.pool
+  pub limits : teller.session.core.limits ≡ setting.limits
   pub text : List ℕ
   pub replies : List ℕ
   pub scene : Scene
-  pub tells : ExplainsLines setting.pool first_scene lines text replies scene
-  pub is_at : IsAt session scene
+  pub losses : LossLines
+  pub tells : ExplainsLines setting.pool first_scene lines text replies scene losses
+  pub knows : Knows teller scene
+  pub recalls : Recalls teller losses
   pub done : List ℕ
   pub split : text ≡ done ++ pending
   pub written : Appends old new done
 
--- these lines more were explained between the two moments
-abbrev pub Explained : Session → Option (List ℕ) → List ℕ → Session → Option (List ℕ) → List ℕ → List (List ℕ) → Type 0
-Explained session mid before next new after more = (setting : Setting) (old : Option (List ℕ)) (lines : List (List ℕ)) →
-    ExplainedSoFar setting session old mid before lines → ExplainedSoFar setting next old new after (lines ++ more)
+-- these lines more were explained between the two moments, where those were before
+abbrev pub Explained : Teller → Option (List ℕ) → List ℕ → Teller → Option (List ℕ) → List ℕ → List (List ℕ) → List (List ℕ) → Type 0
+Explained teller mid before next new after lines more = (setting : Setting) (old : Option (List ℕ)) →
+    ExplainedSoFar setting teller old mid before lines → ExplainedSoFar setting next old new after (lines ++ more)
 
 -- the lines are explained; what is not pending was written
 pub record IsPending (setting : Setting) (old new : Option (List ℕ)) (pending : List ℕ) (lines : List (List ℕ)) : Type 0 where
@@ -85,12 +88,14 @@ LinesHalted setting old new pending script fault = Halted setting old new pendin
 -- ---- comparisons
 
 -- the place where the comparison is
-abbrev pub comparison_place : Comparison → Scene → TranscriptPlace
-comparison_place c scene = record {
+abbrev pub comparison_place : Comparison → Scene → LossLines → TranscriptPlace
+comparison_place c scene losses = record {
   scene = scene;
+  losses = losses;
   number = c.number;
   line = c.line.items;
   reply = c.reply.items;
+  facts = c.facts.items;
   lines = c.lines;
   replies = c.replies;
 }
@@ -100,8 +105,10 @@ pub record Compared (setting : Setting) (c : Comparison) (lines : List (List ℕ
   pub pool : c.teller.session.core.pool ≡ setting.pool
   pub limits : c.teller.session.core.limits ≡ setting.limits
   pub scene : Scene
-  pub agrees : Agrees setting.pool lines (comparison_place c scene)
-  pub is_at : IsAt c.teller.session scene
+  pub losses : LossLines
+  pub agrees : Agrees setting.pool lines (comparison_place c scene losses)
+  pub knows : Knows c.teller scene
+  pub recalls : Recalls c.teller losses
 
 -- the verdict on one more line, where this many were compared before it: it agrees, or is the first that does not
 abbrev pub Judges : Setting → Comparison → Comparison → List (List ℕ) → List ℕ → Verdict → Type 0

@@ -1,8 +1,10 @@
 -- The text of a script that is explained.
-use Rattle.std.specs.Prelude.{◌≡◌, ℕ, true, false, ◌&&◌, not, if◌then◌else◌, List, [], ◌∷◌, ◌++◌, codes, drop}
+use Rattle.std.specs.Prelude.{◌≡◌, ℕ, ◌+◌, true, false, ◌&&◌, not, if◌then◌else◌, List, [], ◌∷◌, ◌++◌, codes, drop, length}
 use Rattle.std.specs.List.{flat_map}
 use Rattle.script_faults.specs.IndentedLines.{indented, is_indented}
 use Rattle.sm_script.specs.Scenes.{Answers, Scene, as_line}
+use Rattle.script_tales.specs.LostLines.{LossLines}
+use Rattle.script_tales.specs.Tellings.{Tells}
 
 -- what stands before a reply: two spaces, if there is one
 abbrev pub indent : List ℕ → List ℕ
@@ -22,13 +24,16 @@ abbrev pub replies_in : List (List ℕ) → List ℕ
 replies_in lines = flat_map
     (λ line. if is_indented line && not (is_indented (drop 2 line)) then as_line (drop 2 line) else []) lines
 
--- these lines, one after another, are explained by this text, give these replies and lead to the last scene. An indented line is
--- passed over; any other is answered as a line of a script is
-pub data ExplainsLines (pool : ℕ) (first : Scene) : List (List ℕ) → List ℕ → List ℕ → Scene → Type 0 where
-  Begins : ExplainsLines pool first [] [] [] first
-  Passes : (lines : List (List ℕ)) (line text replies : List ℕ) (scene : Scene) →
-      ExplainsLines pool first lines text replies scene → is_indented line ≡ true →
-      ExplainsLines pool first (lines ++ line ∷ []) text replies scene
-  Goes : (lines : List (List ℕ)) (line text replies reply facts : List ℕ) (scene next : Scene) →
-      ExplainsLines pool first lines text replies scene → is_indented line ≡ false → Answers pool scene line reply next →
-      ExplainsLines pool first (lines ++ line ∷ []) (text ++ told_line line reply facts) (replies ++ reply) next
+-- these lines, one after another, are explained by this text, give these replies, and lead to the last scene, where these lines
+-- made nodes fail. An indented line is passed over; any other is answered as a line of a script is, and the facts of its event are
+-- told
+pub data ExplainsLines (pool : ℕ) (first : Scene) : List (List ℕ) → List ℕ → List ℕ → Scene → LossLines → Type 0 where
+  Begins : ExplainsLines pool first [] [] [] first []
+  Passes : (lines : List (List ℕ)) (line text replies : List ℕ) (scene : Scene) (losses : LossLines) →
+      ExplainsLines pool first lines text replies scene losses → is_indented line ≡ true →
+      ExplainsLines pool first (lines ++ line ∷ []) text replies scene losses
+  Goes : (lines : List (List ℕ)) (line text replies reply facts : List ℕ) (scene next : Scene) (losses later : LossLines) →
+      ExplainsLines pool first lines text replies scene losses → is_indented line ≡ false →
+      (answers : Answers pool scene line reply next) →
+      Tells pool scene next (length lines + 1) line answers.act losses later facts →
+      ExplainsLines pool first (lines ++ line ∷ []) (text ++ told_line line reply facts) (replies ++ reply) next later

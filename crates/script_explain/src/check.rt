@@ -4,6 +4,7 @@ ghost use Rattle.script_faults.specs.IndentedLines.{indented, is_indented as is_
 ghost use Rattle.script_lines.specs.Pieces.{last_part, whole_lines};
 ghost use Rattle.sm_script.specs.Scenes.{Scene, Setting, as_line};
 ghost use Rattle.sm_script.specs.Sessions.{Advances, IsAt, IsStopped};
+ghost use Rattle.script_tales.specs.LostLines.{LossLines};
 ghost use Rattle.script_explain.specs.Comparisons.{Checks, IsJudged, IsVerdict, ComparisonLinesStop, Records, ComparisonStopped, agreement_text, legal_text, told_difference};
 ghost use Rattle.script_explain.specs.Progress.{CheckHalted, Compared, Ended, Judges, comparison_place};
 
@@ -116,12 +117,13 @@ impl Comparison {
         let teller = Teller::new(alloc, seed, pages, limits)?;
         let line = Vec::new(alloc);
         let reply = Vec::new(alloc);
+        let facts = Vec::new(alloc);
         Ok(Comparison {
             teller,
             number: 0,
             line,
             reply,
-            facts: Vec::new(alloc),
+            facts,
             lines: 0,
             replies: 0,
             text: Vec::new(alloc),
@@ -258,8 +260,8 @@ impl Comparison {
 
     // Appends that all replies agree.
     fn push_agreement(&mut self) -> Result<(), AllocError>
-        ensures { OnOk result ((scene : Scene) → self.new.text.items
-            ≡ self.old.text.items ++ agreement_text (comparison_place self.old scene)) }
+        ensures { OnOk result ((scene : Scene) (losses : LossLines) → self.new.text.items
+            ≡ self.old.text.items ++ agreement_text (comparison_place self.old scene losses)) }
     {
         push_parts(
             &mut self.text,

@@ -6,7 +6,10 @@ ghost use Rattle.std.specs.Io.KnownBytes.{Appends};
 ghost use Rattle.script_lines.specs.Pieces.{last_part, whole_lines};
 ghost use Rattle.script_lines.specs.Written.{WritesPart};
 ghost use Rattle.sm_script.specs.Scenes.{Scene, Setting, first_scene};
-ghost use Rattle.sm_script.specs.Sessions.{Advances, IsAt, IsStopped};
+ghost use Rattle.sm_script.specs.Sessions.{IsAt, IsStopped};
+ghost use Rattle.script_tales.specs.Called.{Knows};
+ghost use Rattle.script_tales.specs.LostLines.{LossLines, Recalls};
+ghost use Rattle.script_tales.specs.Tellings.{TellsLine};
 ghost use Rattle.script_explain.specs.Explanations.{Explains, LinesTold};
 ghost use Rattle.script_explain.specs.Progress.{Explained, Halted, LinesHalted, ExplainedSoFar};
 ghost use Rattle.script_explain.specs.Tales.{indent, line_with_reply, told_line};
@@ -85,7 +88,7 @@ fn explain_all<W: Write>(
     script: &[u8],
 ) -> Result<(), ReportFault>
     requires { length script.now ≤ MOST_BYTES }
-    ensures { (setting : Setting) → ExplainedSoFar setting explainer.old.teller.session
+    ensures { (setting : Setting) → ExplainedSoFar setting explainer.old.teller
         (W.contents writer.old) (W.contents writer.old) explainer.old.text.items [] →
         LinesTold setting (W.contents writer.old) (W.contents writer.new) script.now result }
 {
@@ -105,12 +108,12 @@ fn explain_lines<W: Write>(
 ) -> Result<(), ReportFault>
     requires { length script.now ≤ MOST_BYTES }
     ensures ok { OnOk result (Explained
-        explainer.old.teller.session (W.contents writer.old) explainer.old.text.items
-        explainer.new.teller.session (W.contents writer.new) explainer.new.text.items
-        (whole_lines script.now)) }
+        explainer.old.teller (W.contents writer.old) explainer.old.text.items
+        explainer.new.teller (W.contents writer.new) explainer.new.text.items
+        [] (whole_lines script.now)) }
     ensures whole { OnOk result (last_part script.now ≡ []) }
     ensures err { IfErr result (λ fault. (setting : Setting) (old : Option (List ℕ)) →
-        ExplainedSoFar setting explainer.old.teller.session
+        ExplainedSoFar setting explainer.old.teller
         old (W.contents writer.old) explainer.old.text.items [] →
         LinesHalted setting old (W.contents writer.new) explainer.new.text.items script.now fault) }
 {
@@ -135,7 +138,7 @@ impl Explainer {
     fn new(alloc: Global, seed: [u8; 16], pages: u32, limits: Limits) -> Result<Explainer, NoMemory>
         requires { (1 ≤ pages) × (pages ≤ MAX_PAGES) }
         ensures { IfOk result (λ explainer. (old : Option (List ℕ)) →
-            ExplainedSoFar (record { pool = pages; limits = limits }) explainer.teller.session
+            ExplainedSoFar (record { pool = pages; limits = limits }) explainer.teller
             old old explainer.text.items []) }
     {
         let teller = Teller::new(alloc, seed, pages, limits)?;
@@ -157,13 +160,13 @@ impl Explainer {
         number: u64,
         line: &[u8],
     ) -> Result<(), ReportFault>
-        ensures ok { OnOk result (Explained
-            self.old.teller.session (W.contents writer.old) self.old.text.items
-            self.new.teller.session (W.contents writer.new) self.new.text.items
-            (line.now ∷ [])) }
+        ensures ok { OnOk result ((lines : List (List ℕ)) → number ≡ length lines + 1 → Explained
+            self.old.teller (W.contents writer.old) self.old.text.items
+            self.new.teller (W.contents writer.new) self.new.text.items
+            lines (line.now ∷ [])) }
         ensures err { IfErr result (λ fault. (setting : Setting) (old : Option (List ℕ))
             (lines : List (List ℕ)) →
-            ExplainedSoFar setting self.old.teller.session
+            ExplainedSoFar setting self.old.teller
             old (W.contents writer.old) self.old.text.items lines → number ≡ length lines + 1 →
             Halted setting old (W.contents writer.new) self.new.text.items
             (lines ++ line.now ∷ []) fault) }
@@ -187,9 +190,10 @@ impl Explainer {
     fn explain(&mut self, alloc: Global, number: u64, line: &[u8]) -> Result<(), Stop>
         ensures text { OnOk result (self.new.text.items ≡ self.old.text.items
             ++ told_line line.now self.new.reply.items self.new.facts.items) }
-        ensures ok { OnOk result ((scene : Scene) → IsAt self.old.teller.session scene →
-            Advances self.old.teller.session self.new.teller.session
-            line.now self.new.reply.items scene) }
+        ensures tells { OnOk result ((scene : Scene) (losses : LossLines) →
+            Knows self.old.teller scene → Recalls self.old.teller losses → TellsLine
+            self.old.teller self.new.teller number line.now self.new.reply.items
+            self.new.facts.items scene losses) }
         ensures kept { OnErr result (self.new.text.items ≡ self.old.text.items) }
         ensures err { IfErr result (λ stop. (scene : Scene) →
             IsAt self.old.teller.session scene →

@@ -35,3 +35,14 @@ pair-and old a b t w rest is more =
     one-more old (a ++ (b ++ [])) t w is rest more
     ∙ ap (λ (back : List ℕ). old ++ back) (append_assoc a (b ++ []) rest
     ∙ ap (λ (back : List ℕ). a ++ back) (append_assoc b [] rest))
+
+-- five texts
+pub five : (old a b c d e t u v w x : List ℕ) → t ≡ old ++ a → u ≡ t ++ b → v ≡ u ++ c → w ≡ v ++ d → x ≡ w ++ e →
+    x ≡ old ++ (a ++ (b ++ (c ++ (d ++ (e ++ [])))))
+five old a b c d e t u v w x one next then more last =
+    last ∙ ap (λ (front : List ℕ). front ++ e) (four old a b c d t u v w one next then more)
+    ∙ (append_assoc old (a ++ (b ++ (c ++ (d ++ [])))) e ∙ ap (λ (back : List ℕ). old ++ back) (flat a b c d e))
+  where
+    -- the last text stands in the place of nothing
+    flat : (a b c d e : List ℕ) → (a ++ (b ++ (c ++ (d ++ [])))) ++ e ≡ a ++ (b ++ (c ++ (d ++ (e ++ []))))
+    flat a b c d e = simp (append_assoc, append-nil)

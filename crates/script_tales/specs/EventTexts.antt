@@ -1,5 +1,6 @@
 -- The texts of allocations, and of what an event left, as functions of what labels stand for.
 use Rattle.std.specs.Prelude.{ℕ, ◌+◌, ◌-◌, ◌^◌, min, fold, not, ◌&&◌, ◌==◌, nat_lt, if◌then◌else◌, List, [], ◌∷◌, ◌++◌, codes, decimal, length}
+use Rattle.std.specs.Cmp.Lexicographic.{pointwise}
 use Rattle.std.specs.List.{flat_map}
 use Rattle.std.specs.Option.{option_map_or}
 use Rattle.sm_names.specs.declared.rules.TheConstants.{MAX_BUFFERS}
@@ -121,6 +122,10 @@ abbrev pub waits_text : Names → List Node → List ℕ
 waits_text names [] = []
 waits_text names (first ∷ others) = listed_text names first others
 
+-- that the unit with this head is waited for
+abbrev pub unit_text : Names → NodeKey → List ℕ
+unit_text names above = concat (codes "waits   for the unit of " ∷ name_text names above ∷ codes "\n" ∷ [])
+
 -- the buffers of the set, as doomed
 unfoldable pub some_doomed : Names → ℕ → ℕ → List ℕ
 some_doomed names collection set =
@@ -158,3 +163,31 @@ kept_by_nodes names buffer nodes = concat
 -- the line whose event made the loss
 abbrev pub since_text : ℕ → List ℕ → List ℕ
 since_text number line = concat (codes "since   line " ∷ decimal number ∷ codes ": " ∷ line ∷ codes "\n" ∷ [])
+
+-- ---- the holders of a buffer whose pages were not given back
+
+-- that these are the holders of the buffers before it
+abbrev pub by_text : List ℕ → List ℕ
+by_text who = concat (codes " by " ∷ who ∷ codes "\n" ∷ [])
+
+-- what stands between two buffers with these holders: nothing if they are the same, or else the end of one line and the beginning
+-- of the next
+abbrev pub between_buffers : List ℕ → List ℕ → List ℕ
+between_buffers before who =
+    let next = concat (codes " by " ∷ before ∷ codes "\nkept   " ∷ []) in
+    if pointwise (λ a b. a == b) who before then [] else next
+
+-- the buffers behind one with these holders, and the end of the last line
+abbrev pub kept_behind : Names → (HeldBuffer → List ℕ) → List ℕ → List HeldBuffer → List ℕ
+kept_behind names who before [] = by_text before
+kept_behind names who before (h ∷ later) =
+    between_buffers before (who h) ++ (buffer_text names h.buffer ++ kept_behind names who (who h) later)
+
+-- this buffer and others, and their holders
+abbrev pub kept_from : Names → (HeldBuffer → List ℕ) → HeldBuffer → List HeldBuffer → List ℕ
+kept_from names who h later = codes "kept   " ++ (buffer_text names h.buffer ++ kept_behind names who (who h) later)
+
+-- the buffers and their holders: consecutive buffers with the same holders in one line
+abbrev pub kept_text : Names → (HeldBuffer → List ℕ) → List HeldBuffer → List ℕ
+kept_text names who [] = []
+kept_text names who (h ∷ later) = kept_from names who h later

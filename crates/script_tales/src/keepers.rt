@@ -1,12 +1,14 @@
 //! The text of the holders that keep the pages of a buffer.
-ghost use Rattle.std.specs.Prelude.{◌≡◌, ◌++◌, [], OnOk};
+ghost use Rattle.std.specs.Prelude.{◌≡◌, ◌++◌, IfOk, OnOk};
 ghost use Rattle.std.specs.List.{flat_map};
 ghost use Rattle.event_facts.specs.Facts.{holders_in};
 ghost use Rattle.script_labels.specs.Names.{Names};
 ghost use Rattle.script_tales.specs.Called.{Calls};
 ghost use Rattle.script_labels.specs.Tables.{Keeps};
-ghost use Rattle.script_tales.specs.EventTexts.{kept_by_nodes, live_words as words_for_live};
+ghost use Rattle.script_labels.specs.Texts.{buffer_text};
+ghost use Rattle.script_tales.specs.EventTexts.{between_buffers, by_text, kept_behind, kept_by_nodes, kept_from, kept_text, live_words as words_for_live};
 ghost use Rattle.script_tales.specs.FactTexts.{holder_text, holders_text, next_holder};
+ghost use Rattle.script_tales.specs.Tellings.{who_has, who_keeps};
 
 use crate::labels::Labels;
 use crate::words::push_nodes;
@@ -15,7 +17,7 @@ use lifetime_core::Core;
 use script_labels::{Stop, Tables, push_buffer};
 use script_lines::{push, strength_name};
 use sm_names::{BufferName, ClientId, HeldBuffer, NodeKey};
-use std::alloc::AllocError;
+use std::alloc::{AllocError, Global};
 use text_parts::{Part, push_parts};
 
 // Appends that these live nodes keep the buffer.
@@ -46,45 +48,143 @@ fn live_words(nodes: &[NodeKey]) -> &'static str
     }
 }
 
-// Appends the holders of the buffers: consecutive buffers with the same holders in one line.
+// What holders are found by, and what they are called.
+#[derive(Drop)]
+struct Register<'a> {
+    core: &'a Core,
+    tables: &'a Tables,
+    labels: &'a Labels,
+    // The clients that joined.
+    clients: &'a Vec<ClientId>,
+}
+
+// Appends the buffers and their holders: consecutive buffers with the same holders in one line.
 pub(crate) fn push_kept(
     text: &mut Vec<u8>,
     core: &Core,
     tables: &Tables,
     labels: &Labels,
     held: &[HeldBuffer],
-) -> Result<(), Stop> {
+) -> Result<(), Stop>
+    ensures { OnOk result ((names : Names) → Keeps tables.now names → Calls labels.now names →
+        text.new.items
+        ≡ text.old.items ++ kept_text names (who_keeps names core.now) held.now) }
+{
     let clients = core.clients()?;
-    let mut row = Vec::new(*text.allocator());
-    let mut some = false;
-    for buffer in held {
-        let mut who = Vec::new(*text.allocator());
-        push_holders(&mut who, core, labels, &clients, buffer.buffer, "")?;
-        begin_row(text, some, &row, &who)?;
-        some = true;
-        row = who;
-        push_buffer(text, tables, buffer.buffer)?;
-    }
-    if some {
-        push_by(text, &row)?;
-    }
+    let register = Register {
+        core,
+        tables,
+        labels,
+        clients: &clients,
+    };
+    push_rows(text, &register, held)?;
     Ok(())
 }
 
-// Ends the row before, if there is one and others keep the next buffer, and begins one for it, if it has
-// none.
-fn begin_row(text: &mut Vec<u8>, some: bool, row: &[u8], who: &[u8]) -> Result<(), AllocError> {
-    if some && who == row {
-        return Ok(());
+// The same, where these clients have joined.
+fn push_rows(text: &mut Vec<u8>, register: &Register, held: &[HeldBuffer]) -> Result<(), AllocError>
+    ensures { OnOk result ((names : Names) → Keeps register.now.tables.now names →
+        Calls register.now.labels.now names → text.new.items ≡ text.old.items ++ kept_text names
+        (who_has names register.now.core.now register.now.clients.now.items) held.now) }
+{
+    match held.split_first() {
+        Some((first, later)) => push_from(text, register, first, later),
+        None => Ok(()),
     }
-    if some {
-        push_by(text, row)?;
-    }
-    push(text, "kept   ")
 }
 
-// Appends the end of a row.
-fn push_by(text: &mut Vec<u8>, row: &[u8]) -> Result<(), AllocError> {
+// The same, where there is a first buffer.
+fn push_from(
+    text: &mut Vec<u8>,
+    register: &Register,
+    first: &HeldBuffer,
+    later: &[HeldBuffer],
+) -> Result<(), AllocError>
+    ensures { OnOk result ((names : Names) → Keeps register.now.tables.now names →
+        Calls register.now.labels.now names → text.new.items ≡ text.old.items ++ kept_from names
+        (who_has names register.now.core.now register.now.clients.now.items) first.now later.now) }
+{
+    let row = holders_of(*text.allocator(), register, first)?;
+    push(text, "kept   ")?;
+    push_buffer(text, register.tables, first.buffer)?;
+    push_later(text, register, row, later)
+}
+
+// The text of the holders of handles on the buffer.
+fn holders_of(alloc: Global, register: &Register, held: &HeldBuffer) -> Result<Vec<u8>, AllocError>
+    ensures { IfOk result (λ row. (names : Names) → Calls register.now.labels.now names →
+        row.items ≡ who_has names register.now.core.now register.now.clients.now.items held.now) }
+{
+    let mut row = Vec::new(alloc);
+    push_holders(
+        &mut row,
+        register.core,
+        register.labels,
+        register.clients,
+        held.buffer,
+        "",
+    )?;
+    Ok(row)
+}
+
+// Appends the buffers behind one with these holders, and ends the last line.
+fn push_later(
+    text: &mut Vec<u8>,
+    register: &Register,
+    first: Vec<u8>,
+    later: &[HeldBuffer],
+) -> Result<(), AllocError>
+    ensures { OnOk result ((names : Names) → Keeps register.now.tables.now names →
+        Calls register.now.labels.now names → text.new.items ≡ text.old.items ++ kept_behind names
+        (who_has names register.now.core.now register.now.clients.now.items) first.items later.now) }
+{
+    let mut row = first;
+    let mut rest = later;
+    'buffers: while let Some((held, more)) = rest.split_first() {
+        let next = holders_of(*text.allocator(), register, held)?;
+        push_next_kept(text, register.tables, &row, &next, held.buffer)?;
+        row = next;
+        rest = more;
+    }
+    push_by(text, &row)
+}
+
+// Appends a buffer with these holders behind one with those.
+fn push_next_kept(
+    text: &mut Vec<u8>,
+    tables: &Tables,
+    row: &[u8],
+    next: &[u8],
+    buffer: BufferName,
+) -> Result<(), AllocError>
+    ensures { OnOk result ((names : Names) → Keeps tables.now names → text.new.items
+        ≡ text.old.items ++ (between_buffers row.now next.now ++ buffer_text names buffer)) }
+{
+    push_between(text, row, next)?;
+    push_buffer(text, tables, buffer)
+}
+
+// Appends what stands between two buffers with these holders.
+fn push_between(text: &mut Vec<u8>, row: &[u8], next: &[u8]) -> Result<(), AllocError>
+    ensures { OnOk result (text.new.items ≡ text.old.items ++ between_buffers row.now next.now) }
+{
+    if next == row {
+        return Ok(());
+    }
+    push_parts(
+        text,
+        &[
+            Part::Word(" by "),
+            Part::Bytes(row),
+            Part::Word("\nkept   "),
+        ],
+    )
+}
+
+// Appends the end of a line.
+fn push_by(text: &mut Vec<u8>, row: &[u8]) -> Result<(), AllocError>
+    ensures { OnOk result (text.new.items ≡ text.old.items ++ by_text row.now) }
+{
     push_parts(
         text,
         &[Part::Word(" by "), Part::Bytes(row), Part::Word("\n")],

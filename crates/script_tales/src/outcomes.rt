@@ -1,10 +1,12 @@
 //! The text of what an event left: for whom an allocation waits, and what became of buffers.
-ghost use Rattle.std.specs.Prelude.{◌≡◌, ◌++◌, OnOk};
+ghost use Rattle.std.specs.Prelude.{◌≡◌, ◌++◌, [], OnOk};
 ghost use Rattle.std.specs.List.{flat_map};
+ghost use Rattle.std.specs.Option.{option_map_or};
 ghost use Rattle.script_labels.specs.Names.{Names};
 ghost use Rattle.script_labels.specs.Tables.{Keeps};
 ghost use Rattle.script_tales.specs.Called.{Calls};
-ghost use Rattle.script_tales.specs.EventTexts.{doomed_text, end_holder, fires_text, freed_text, listed_text, next_waited, some_doomed, tracker_text, waited_text, waits_text, want_text};
+ghost use Rattle.script_tales.specs.EventTexts.{doomed_text, end_holder, fires_text, freed_text, listed_text, next_waited, some_doomed, tracker_text, unit_text, waited_text, waits_text, want_text};
+ghost use Rattle.script_tales.specs.Tellings.{awaited_text, head_above as head_over, waiting_text};
 
 use crate::allocations::push_each_held;
 use crate::labels::Labels;
@@ -25,7 +27,10 @@ pub(crate) fn push_waits(
     labels: &Labels,
     nodes: &Vec<Node>,
     key: NodeKey,
-) -> Result<(), AllocError> {
+) -> Result<(), AllocError>
+    ensures { OnOk result ((names : Names) → Keeps tables.now names → Calls labels.now names →
+        text.new.items ≡ text.old.items ++ waiting_text names nodes.now.items key) }
+{
     match find(nodes, key) {
         Some(asked) => push_awaited(text, tables, labels, nodes, asked.head),
         None => Ok(()),
@@ -39,7 +44,10 @@ fn push_awaited(
     labels: &Labels,
     nodes: &Vec<Node>,
     head: NodeKey,
-) -> Result<(), AllocError> {
+) -> Result<(), AllocError>
+    ensures { OnOk result ((names : Names) → Keeps tables.now names → Calls labels.now names →
+        text.new.items ≡ text.old.items ++ awaited_text names nodes.now.items head) }
+{
     let found = awaited(nodes, head)?;
     if found.is_empty() {
         return push_unit_above(text, tables, nodes, head);
@@ -156,7 +164,9 @@ fn push_end_holder(text: &mut Vec<u8>, labels: &Labels, end: End) -> Result<(), 
 }
 
 // The head of the unit above the one with this head.
-fn head_above(nodes: &[Node], head: NodeKey) -> Option<NodeKey> {
+fn head_above(nodes: &[Node], head: NodeKey) -> Option<NodeKey>
+    ensures { result ≡ head_over nodes.now head }
+{
     let node = find(nodes, head)?;
     let above = find(nodes, node.parent?)?;
     Some(above.head)
@@ -168,18 +178,30 @@ fn push_unit_above(
     tables: &Tables,
     nodes: &[Node],
     head: NodeKey,
-) -> Result<(), AllocError> {
+) -> Result<(), AllocError>
+    ensures { OnOk result ((names : Names) → Keeps tables.now names →
+        text.new.items ≡ text.old.items
+        ++ option_map_or (unit_text names) (head_over nodes.now head) []) }
+{
     match head_above(nodes, head) {
-        Some(above) => push_parts(
-            text,
-            &[
-                Part::Word("waits   for the unit of "),
-                Part::Name(tables.birth_label(above)),
-                Part::Word("\n"),
-            ],
-        ),
+        Some(above) => push_unit(text, tables, above),
         None => Ok(()),
     }
+}
+
+// Appends that the unit with this head is waited for.
+fn push_unit(text: &mut Vec<u8>, tables: &Tables, above: NodeKey) -> Result<(), AllocError>
+    ensures { OnOk result ((names : Names) → Keeps tables.now names →
+        text.new.items ≡ text.old.items ++ unit_text names above) }
+{
+    push_parts(
+        text,
+        &[
+            Part::Word("waits   for the unit of "),
+            Part::Name(tables.birth_label(above)),
+            Part::Word("\n"),
+        ],
+    )
 }
 
 // Appends the buffers of the set, as doomed, if there are some.

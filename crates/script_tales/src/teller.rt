@@ -1,29 +1,24 @@
 //! A session that also writes the facts of its events.
-ghost use Rattle.std.specs.Prelude.{◌≡◌, ◌≢◌, ◌≤◌, ◌++◌, [], IfErr, IfOk, OnOk, option_map};
-ghost use Rattle.core_state.specs.Reads.{views_of};
+ghost use Rattle.std.specs.Prelude.{◌≡◌, ◌≢◌, ◌≤◌, ◌++◌, [], ◌∷◌, IfErr, IfOk, OnOk};
 ghost use Rattle.script_labels.specs.Names.{Names, label_of_node};
-ghost use Rattle.sm_script.specs.Scenes.{Scene, first_scene, next_scene};
+ghost use Rattle.sm_script.specs.Scenes.{Scene, as_line, first_scene, next_scene};
 ghost use Rattle.sm_script.specs.Sessions.{Advances, Gains, IsAt, IsStopped};
 ghost use Rattle.script_labels.specs.Tables.{Keeps};
+ghost use Rattle.script_labels.specs.Texts.{reply_text};
 ghost use Rattle.script_tales.specs.Called.{Calls, Knows, Notes, last_label, other_text};
 ghost use Rattle.script_tales.specs.FactTexts.{buffer_name};
-ghost use Rattle.script_tales.specs.MarkTexts.{allocated_text, mark_text, marks_text};
+ghost use Rattle.script_tales.specs.LostLines.{LossLines, Recalls, kept_line, with_loss, with_losses};
+ghost use Rattle.script_tales.specs.Tellings.{IsEventOf, TellsFacts, TellsLine};
 
-use crate::allocations::{push_initial, push_logical};
-use crate::keepers::{push_kept, push_kept_by_nodes};
+mod facts;
+
 use crate::labels::Labels;
-use crate::losses::{push_end, push_loss};
-use crate::outcomes::{push_doomed, push_fires, push_free, push_waits};
-use event_facts::keepers::strong_live;
-use event_facts::pages::given_back;
-use event_facts::{Before, Event, fired_since, placed_by, take_event};
+use event_facts::{Event, take_event};
 use event_marks::{Forced, Moment};
-use forest_store::Snapshot;
 use script_labels::{Act, Binds, Stop};
 use script_lines::{Label, push_label};
 use sm_names::{
-    BufferName, Buffers, Call, ClientId, HeldBuffer, Limits, MAX_PAGES, NoMemory, NodeKey, Reply,
-    StepFault, object_key, parts_of,
+    BufferName, Call, ClientId, Limits, MAX_PAGES, NoMemory, NodeKey, Reply, StepFault,
 };
 use sm_script::Session;
 use std::alloc::{AllocError, Global};
@@ -63,6 +58,7 @@ impl Teller {
         ensures limits { IfOk result (λ teller. teller.session.core.limits ≡ limits) }
         ensures start { IfOk result (λ teller. IsAt teller.session first_scene) }
         ensures knows { IfOk result (λ teller. Knows teller first_scene) }
+        ensures recalls { IfOk result (λ teller. Recalls teller []) }
     {
         Ok(Teller {
             session: Session::new(alloc, seed, pages, limits)?,
@@ -72,7 +68,9 @@ impl Teller {
     }
 
     /// Answers the line of this number, without its end, as `Session::answer` does: what it is answered
-    /// is written into `reply`, and the facts of its event into `facts`; both are emptied first.
+    /// is written into `reply`, and the facts of its event into `facts`; both are emptied first. The facts
+    /// are all marks of the event, for whom a pending allocation waits or which line made the loss that an
+    /// answer tells of, what became of buffers, who keeps pages, and which trackers fired.
     ///
     /// On an error neither is to be read. Where memory was refused its call may have been made. Costs what
     /// the session's answer costs, and where a collection changes what `take_event` costs.
@@ -86,6 +84,9 @@ impl Teller {
     ) -> Result<(), Stop>
         ensures ok { OnOk result ((scene : Scene) → IsAt self.old.session scene →
             Advances self.old.session self.new.session line.now reply.new.items scene) }
+        ensures tells { OnOk result ((scene : Scene) (lines : LossLines) →
+            Knows self.old scene → Recalls self.old lines →
+            TellsLine self.old self.new number line.now reply.new.items facts.new.items scene lines) }
         ensures err { IfErr result (λ stop. (scene : Scene) → IsAt self.old.session scene →
             IsStopped self.old.session line.now scene stop) }
     {
@@ -104,7 +105,10 @@ impl Teller {
                 },
                 Err(stop) => Err(stop),
             },
-            _ => self.session.answer(line, reply),
+            Some(Act::Nothing) => self.session.answer(line, reply),
+            Some(Act::Poll(_)) => self.session.answer(line, reply),
+            Some(Act::Show(_)) => self.session.answer(line, reply),
+            None => Err(Stop::BadLine),
         }
     }
 
@@ -118,7 +122,15 @@ impl Teller {
         event: &Event,
         facts: &mut Vec<u8>,
     ) -> Result<(), Stop>
-        ensures { self.new.session ≡ self.old.session }
+        ensures session { self.new.session ≡ self.old.session }
+        ensures labels { self.new.labels ≡ self.old.labels }
+        ensures recalls { OnOk result ((lines : LossLines) → Recalls self.old lines →
+            Recalls self.new (with_losses (number, line.now) event.now.moments.items lines)) }
+        ensures facts { OnOk result ((names : Names) (lines : LossLines) →
+            Keeps self.old.session.tables names → Calls self.old.labels names →
+            Recalls self.old lines → facts.old.items ≡ [] → TellsFacts names
+            (with_losses (number, line.now) event.now.moments.items lines)
+            self.old.session.core event.now facts.new.items) }
     {
         self.note_losses(alloc, number, line, &event.moments)?;
         self.push_facts(event, facts)
@@ -141,6 +153,11 @@ impl Teller {
             [] reply.new.items scene) }
         ensures knows { IfOk result (λ event. (scene : Scene) → Knows self.old scene →
             Knows self.new (next_scene scene client call binds event.reply)) }
+        ensures text { IfOk result (λ event. (names : Names) →
+            Keeps self.old.session.tables names →
+            reply.new.items ≡ as_line (reply_text names binds event.reply)) }
+        ensures event { IfOk result (λ event. IsEventOf self.old.session.core client call event) }
+        ensures losses { self.new.losses ≡ self.old.losses }
         ensures err { IfErr result (λ stop. (stop ≢ Stop.BadLine) × (stop ≡ Stop.HistoryFull →
             self.old.session.core.limits.events ≤ self.old.session.core.events)) }
     {
@@ -152,6 +169,7 @@ impl Teller {
 
     // Takes note of the event's reply, and gives the event back.
     fn noted(&mut self, binds: Binds, event: Event, text: &mut Vec<u8>) -> Result<Event, AllocError>
+        ensures losses { self.new.losses ≡ self.old.losses }
         ensures same { IfOk result (λ made. made ≡ event) }
         ensures notes { IfOk result (λ made.
             Notes self.old self.new binds made.reply text.old.items text.new.items) }
@@ -164,7 +182,8 @@ impl Teller {
 
     // Appends the text of the reply, and takes note of what it made or brought.
     fn note(&mut self, binds: Binds, reply: Reply, text: &mut Vec<u8>) -> Result<(), AllocError>
-        ensures { OnOk result
+        ensures losses { self.new.losses ≡ self.old.losses }
+        ensures notes { OnOk result
             (Notes self.old self.new binds reply text.old.items text.new.items) }
     {
         self.session.note(binds, reply, text)?;
@@ -180,186 +199,54 @@ impl Teller {
         line: &[u8],
         moments: &[Moment],
     ) -> Result<(), AllocError>
-        ensures { self.new.session ≡ self.old.session }
+        ensures session { self.new.session ≡ self.old.session }
+        ensures labels { self.new.labels ≡ self.old.labels }
+        ensures recalls { OnOk result ((lines : LossLines) → Recalls self.old lines →
+            Recalls self.new (with_losses (number, line.now) moments.now lines)) }
     {
-        for moment in moments {
-            if let Forced::Loss(fault) = moment.mark {
-                let told = loss_line(alloc, number, line)?;
-                self.losses.insert(fault.origin, told)?;
-            }
-        }
-        Ok(())
-    }
-
-    // Appends the facts of the event.
-    fn push_facts(&self, event: &Event, facts: &mut Vec<u8>) -> Result<(), Stop> {
-        self.push_marks(event, facts)?;
-        self.push_reasons(event, facts)?;
-        if let Some(before) = &event.before {
-            self.push_buffers(event, before, facts)?;
-        }
-        self.push_keepers(event, facts)?;
-        let core = &self.session.core;
-        push_fires(facts, &self.session.tables, fired_since(core, event.fired))?;
-        Ok(())
-    }
-
-    // Appends the marks of the event.
-    fn push_marks(&self, event: &Event, facts: &mut Vec<u8>) -> Result<(), AllocError>
-        ensures { OnOk result ((names : Names) → Keeps self.now.session.tables names →
-            facts.new.items ≡ facts.old.items ++ marks_text names
-            (views_of self.now.session.core).free event.now.after event.now.moments.items) }
-    {
-        let mut rest = event.moments.as_slice();
+        let mut rest = moments;
         'marks: while let Some((moment, later)) = rest.split_first() {
-            self.push_mark(moment, placed_by(later, event), facts)?;
+            self.note_mark(alloc, number, line, moment.mark)?;
             rest = later;
         }
         Ok(())
     }
 
-    // Appends which buffers are doomed since the event, and which gave their pages back.
-    fn push_buffers(
-        &self,
-        event: &Event,
-        before: &Before,
-        facts: &mut Vec<u8>,
-    ) -> Result<(), AllocError> {
-        let tables = &self.session.tables;
-        let doomed = event.newly_doomed(&self.session.core);
-        push_doomed(facts, tables, before.copied.id, doomed)?;
-        let freed = given_back(&before.copied.held, event.held_after())?;
-        push_free(facts, tables, &freed)
-    }
-
-    /// Appends a mark, in lines: what failed, ended or was allocated, and below it the ways of the
-    /// failure, or the buffers; these are the collection's buffers after it. Costs O(n log n) for n
-    /// nodes, and the text.
-    pub fn push_mark(
-        &self,
-        moment: &Moment,
-        placed: Option<(Buffers, &[HeldBuffer])>,
-        facts: &mut Vec<u8>,
+    // Keeps the line with the mark, if that is a loss.
+    fn note_mark(
+        &mut self,
+        alloc: Global,
+        number: u64,
+        line: &[u8],
+        mark: Forced,
     ) -> Result<(), AllocError>
-        ensures { OnOk result ((names : Names) → Keeps self.now.session.tables names →
-            facts.new.items ≡ facts.old.items ++ mark_text names
-            (views_of self.now.session.core).free
-            (option_map (λ p. (p.0, p.1.now)) placed.entry) moment.now) }
+        ensures session { self.new.session ≡ self.old.session }
+        ensures labels { self.new.labels ≡ self.old.labels }
+        ensures recalls { OnOk result ((lines : LossLines) → Recalls self.old lines →
+            Recalls self.new (with_loss (number, line.now) mark lines)) }
     {
-        let tables = &self.session.tables;
-        let scene = &moment.before;
-        match moment.mark {
-            Forced::Loss(fault) => {
-                push_loss(facts, tables, scene, self.session.core.free_pages(), fault)
-            }
-            Forced::Ended(top) => push_end(facts, tables, scene, top),
-            Forced::Allocated(head) => self.push_allocated(scene, head, placed, facts),
+        match mark {
+            Forced::Loss(fault) => self.note_loss(alloc, number, line, fault.origin),
+            Forced::Allocated(_) => Ok(()),
+            Forced::Ended(_) => Ok(()),
         }
     }
 
-    // Appends that the unit with this head was allocated.
-    fn push_allocated(
-        &self,
-        scene: &Snapshot,
-        head: NodeKey,
-        placed: Option<(Buffers, &[HeldBuffer])>,
-        facts: &mut Vec<u8>,
+    // Keeps the line with the loss that began at the node, in the place of an earlier one.
+    fn note_loss(
+        &mut self,
+        alloc: Global,
+        number: u64,
+        line: &[u8],
+        origin: NodeKey,
     ) -> Result<(), AllocError>
-        ensures { OnOk result ((names : Names) → Keeps self.now.session.tables names →
-            facts.new.items ≡ facts.old.items
-            ++ allocated_text names scene.now head
-            (option_map (λ p. (p.0, p.1.now)) placed.entry)) }
+        ensures session { self.new.session ≡ self.old.session }
+        ensures labels { self.new.labels ≡ self.old.labels }
+        ensures recalls { OnOk result ((lines : LossLines) → Recalls self.old lines →
+            Recalls self.new ((origin, (number, line.now)) ∷ lines)) }
     {
-        let tables = &self.session.tables;
-        match (scene.buffers, placed) {
-            (Some(given), _) => push_logical(facts, tables, scene, head, given),
-            (None, Some((given, held))) => push_initial(facts, tables, scene, head, given, held),
-            (None, None) => Ok(()),
-        }
-    }
-
-    // Appends why a node is waited for or closed.
-    fn push_reasons(&self, event: &Event, facts: &mut Vec<u8>) -> Result<(), Stop> {
-        match event.reply {
-            Reply::Pending => self.push_pending(&event.call, facts),
-            Reply::PeerClosed { origin, .. } => {
-                self.push_since(origin, facts)?;
-                Ok(())
-            }
-            _ => Ok(()),
-        }
-    }
-
-    // Appends for whom the node that is asked about waits.
-    fn push_pending(&self, call: &Call, facts: &mut Vec<u8>) -> Result<(), Stop> {
-        let Some(key) = object_key(parts_of(*call).object) else {
-            return Ok(());
-        };
-        let Some(node) = self.session.core.node(key) else {
-            return Ok(());
-        };
-        let Some(copied) = self.session.core.collection(node.collection)? else {
-            return Ok(());
-        };
-        push_waits(
-            facts,
-            &self.session.tables,
-            &self.labels,
-            &copied.nodes,
-            key,
-        )?;
-        Ok(())
-    }
-
-    // Appends the line whose event made the loss that began at the node.
-    fn push_since(&self, origin: NodeKey, facts: &mut Vec<u8>) -> Result<(), AllocError> {
-        match self.losses.get(&origin) {
-            Some(told) => push_parts(
-                facts,
-                &[
-                    Part::Word("since   line "),
-                    Part::Number(told.number),
-                    Part::Word(": "),
-                    Part::Bytes(&told.line),
-                    Part::Word("\n"),
-                ],
-            ),
-            None => Ok(()),
-        }
-    }
-
-    // Appends the holders of pages that were not given back, where a handle was dropped or a live node left.
-    fn push_keepers(&self, event: &Event, facts: &mut Vec<u8>) -> Result<(), Stop> {
-        let Some(after) = &event.after else {
-            return Ok(());
-        };
-        match (event.call, event.reply) {
-            (Call::DropHandle(buffer, _), Reply::Done) => self.push_kept_one(after, buffer, facts),
-            _ => {
-                if event.some_left(&self.session.core) && strong_live(&after.nodes)?.is_empty() {
-                    self.push_kept_all(&after.held, facts)
-                } else {
-                    Ok(())
-                }
-            }
-        }
-    }
-
-    // Appends the holders of the buffer, if its pages were not given back.
-    fn push_kept_one(
-        &self,
-        after: &Snapshot,
-        buffer: BufferName,
-        facts: &mut Vec<u8>,
-    ) -> Result<(), Stop> {
-        let Some(held) = after.held.iter().find(|held| held.buffer == buffer) else {
-            return Ok(());
-        };
-        let strong = strong_live(&after.nodes)?;
-        if strong.is_empty() {
-            return self.push_kept_all(&[*held], facts);
-        }
-        push_kept_by_nodes(facts, &self.session.tables, buffer, &strong)?;
+        let told = loss_line(alloc, number, line)?;
+        self.losses.insert(origin, told)?;
         Ok(())
     }
 
@@ -391,12 +278,6 @@ impl Teller {
             ],
         )
     }
-
-    // Appends the holders of handles on the buffers.
-    fn push_kept_all(&self, held: &[HeldBuffer], facts: &mut Vec<u8>) -> Result<(), Stop> {
-        let session = &self.session;
-        push_kept(facts, &session.core, &session.tables, &self.labels, held)
-    }
 }
 
 // Appends the last label, where it is another than the first.
@@ -421,7 +302,9 @@ fn push_other(
 }
 
 // The line, kept with its number.
-fn loss_line(alloc: Global, number: u64, line: &[u8]) -> Result<LossLine, AllocError> {
+fn loss_line(alloc: Global, number: u64, line: &[u8]) -> Result<LossLine, AllocError>
+    ensures { IfOk result (λ kept. kept_line kept ≡ (number, line.now)) }
+{
     let mut kept = Vec::new(alloc);
     kept.extend_from_slice(line)?;
     Ok(LossLine { number, line: kept })

@@ -10,8 +10,8 @@ returns-in-Ok g c = λ setting start.
     let mid = g.W.Write.contents c.explain_lines-told.new.writer in
     let pending = c.explain_lines-told.new.explainer.text.items in
     told-out setting before mid (g.W.Write.contents c.put_out.new.writer) pending c.args.script.now
-    c.explain_lines-told.new.explainer.teller.session c.explain_lines-told.result
-    (on_ok_weaker c.explain_lines-told.result (λ explained. explained setting before [] start) c.explain_lines-told.ensures.ok)
+    c.explain_lines-told.new.explainer.teller c.explain_lines-told.result
+    (on_ok_weaker c.explain_lines-told.result (λ explained. explained setting before start) c.explain_lines-told.ensures.ok)
     c.explain_lines-told.ensures.whole
     (IfErr-weaker c.explain_lines-told.result _ (LinesHalted setting before mid pending c.args.script.now)
     (λ fault halted. halted setting before start) c.explain_lines-told.ensures.err)
@@ -23,8 +23,8 @@ returns-in-Err g c = λ setting start.
     let mid = g.W.Write.contents c.explain_lines-told.new.writer in
     let pending = c.explain_lines-told.new.explainer.text.items in
     rw c.in-Err.ensures.err.0 (told-cut setting before mid (g.W.Write.contents c.put_out.new.writer) pending c.args.script.now
-    c.explain_lines-told.new.explainer.teller.session c.explain_lines-told.result
-    (on_ok_weaker c.explain_lines-told.result (λ explained. explained setting before [] start) c.explain_lines-told.ensures.ok)
+    c.explain_lines-told.new.explainer.teller c.explain_lines-told.result
+    (on_ok_weaker c.explain_lines-told.result (λ explained. explained setting before start) c.explain_lines-told.ensures.ok)
     c.explain_lines-told.ensures.whole
     (IfErr-weaker c.explain_lines-told.result _ (LinesHalted setting before mid pending c.args.script.now)
     (λ fault halted. halted setting before start) c.explain_lines-told.ensures.err)

@@ -7,7 +7,7 @@ use Rattle.script_explain.proofs.check.Comparison.compare.Goals as goal
 pub returns-then-is_line_of-clause-ok : goal.returns-then-is_line_of-clause-ok
 returns-then-is_line_of-clause-ok c = λ setting lines line records far numbered. (
   far-reply setting c.args.self.now lines far _ line c.args.recorded.now c.args.number records numbered c.requires
-      (sym c.deref.ensures.value ∙ c.is_line_of.ensures.0 c.if-is_line_of.true) refl refl refl refl refl c.saturating_add-self.ensures,
+      (sym c.deref.ensures.value ∙ c.is_line_of.ensures.0 c.if-is_line_of.true) refl refl refl refl refl refl c.saturating_add-self.ensures,
   refl,
 )
 

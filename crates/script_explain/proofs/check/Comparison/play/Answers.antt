@@ -4,7 +4,7 @@ use Rattle.script_explain.proofs.check.Comparison.play.Goals as goal
 
 pub returns-in-Ok-answer-clause-ok : goal.returns-in-Ok-answer-clause-ok
 returns-in-Ok-answer-clause-ok c = λ setting lines whole far numbered.
-    far-play setting c.args.self.now lines far _ c.args.line.now c.args.number whole numbered c.requires c.in-Ok-answer.ensures.ok
+    far-play setting c.args.self.now lines far _ c.args.line.now c.args.number whole numbered c.requires c.in-Ok-answer.ensures.tells
     refl (c.in-Ok.ensures.items ∙ ap (λ front. front ++ c.args.line.now) c.clear.ensures.items) c.saturating_add-self.ensures refl
 
 pub returns-in-Err-answer-clause-err : goal.returns-in-Err-answer-clause-err

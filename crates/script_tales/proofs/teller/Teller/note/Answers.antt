@@ -1,8 +1,8 @@
 use Rattle.script_tales.proofs.teller.Teller.note.Goals as goal
 
 -- the session takes note, and then the labels
-pub returns : goal.returns
-returns c = record {
+pub returns-clause-notes : goal.returns-clause-notes
+returns-clause-notes c = record {
   pool = c.in_ok-note.ensures.pool;
   limits = c.in_ok-note.ensures.limits;
   shows = c.in_ok-note.ensures.shows;

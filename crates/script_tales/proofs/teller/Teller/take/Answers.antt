@@ -1,5 +1,14 @@
-use Rattle.std.proofs.Common.{◌++◌, refl, ap, sym, ◌∙◌, subst}
+use Rattle.std.proofs.Common.{◌≡◌, ◌++◌, ◌∷◌, refl, ap, sym, ◌∙◌, subst, List, length, map}
 use Rattle.std.specs.Prelude.{Ok, Result, IfOk}
+use Rattle.std.specs.Option.{IfSome}
+use Rattle.sm_names.specs.Marks.{Called, Mark}
+use Rattle.sm_names.specs.Timelines.{timeline}
+use Rattle.core_state.specs.State.{State}
+use Rattle.event_marks.specs.Marks.{AreStages, laid_on}
+use Rattle.event_marks.specs.Moments.{stage_of}
+use Rattle.event_marks.proofs.EventTold.{told_of_stages}
+use Rattle.event_marks.proofs.Staged.{marks_of_moments}
+use Rattle.event_facts.specs.Events.{IsCopiedAfter, IsSetOf, IsSnapshot, concerned_by, is_doomed_in}
 use Rattle.sm_names.specs.declared.outcomes.StepFault.{StepFault}
 use Rattle.core_state.specs.Theorem.{Stepped}
 use Rattle.event_facts.specs.declared.event.Event.{Event}
@@ -49,4 +58,42 @@ returns-clause-knows c = λ scene knows.
         keeps = notes.keeps scene.names knows.is_at.keeps;
       };
       calls = notes.calls scene.names knows.calls;
+    }
+
+pub returns-clause-text : goal.returns-clause-text
+returns-clause-text c = λ names keeps.
+    c.in_ok-made.ensures.notes.text names keeps
+    ∙ ap (λ front. front ++ as_line (reply_text names c.args.binds c.in_ok-made.made.reply)) c.clear.ensures.items
+
+-- it is the event that was taken, whose stages have its marks
+pub returns-clause-event : goal.returns-clause-event
+returns-clause-event c =
+    let made : Event = c.in_ok-made.made in
+    let old : State = c.args.self.now.session.core in
+    let is : c.take_event.result ≡ whole made = c.in_ok-event.ensures.ok ∙ ap whole (sym c.in_ok-made.ensures.same) in
+    let step : Stepped old c.take_event.new.core c.args.client c.args.call (Ok made.reply) =
+    subst (λ (r : Result Event StepFault). IfOk r (λ e. Stepped old c.take_event.new.core c.args.client c.args.call (Ok e.reply))) is
+    c.take_event.ensures.stepped in
+    let stages : AreStages old c.take_event.new.core c.args.client c.args.call made.reply (map stage_of made.moments.items) =
+    subst (λ (r : Result Event StepFault). IfOk r (λ e. AreStages old c.take_event.new.core c.args.client c.args.call e.reply
+    (map stage_of e.moments.items))) is c.take_event.ensures.stages in
+    record {
+      stepped = c.take_event.new.core;
+      step = step;
+      asked = subst (λ (r : Result Event StepFault). IfOk r (λ e. e.call ≡ c.args.call)) is c.take_event.ensures.call;
+      stages = stages;
+      marks = λ history shows.
+          told_of_stages old c.take_event.new.core history c.args.client c.args.call made.reply shows step.answer step.after
+          (map stage_of made.moments.items) stages
+          ∙ ap (λ (l : List Mark). laid_on l (Called c.args.client made.reply c.args.call ∷ timeline old.pool history))
+          (marks_of_moments made.moments.items);
+      before = subst
+          (λ (r : Result Event StepFault). IfOk r (λ e. IsSnapshot old (concerned_by old c.args.client c.args.call e.reply) e.before))
+          is c.take_event.ensures.before;
+      doomed = subst (λ (r : Result Event StepFault). IfOk r (λ e. IfSome e.before (λ b. IsSetOf
+          (is_doomed_in old.holds b.copied.id b.copied.nodes.items b.copied.buffers) b.doomed)))
+          is c.take_event.ensures.doomed;
+      copied = subst (λ (r : Result Event StepFault). IfOk r (λ e. IsCopiedAfter c.take_event.new.core e.before e.after))
+          is c.take_event.ensures.after;
+      fired = subst (λ (r : Result Event StepFault). IfOk r (λ e. e.fired ≡ length old.trackers.fired)) is c.take_event.ensures.fired;
     }

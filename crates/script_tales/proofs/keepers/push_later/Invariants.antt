@@ -1,0 +1,17 @@
+use Rattle.std.proofs.Common.{◌≡◌, ◌++◌, length}
+use Rattle.script_labels.specs.Names.{Names}
+use Rattle.script_labels.specs.Tables.{Keeps}
+use Rattle.script_tales.specs.Called.{Calls}
+use Rattle.script_tales.specs.EventTexts.{kept_behind}
+use Rattle.script_tales.specs.Tellings.{who_has}
+use Rattle.script_tales.proofs.keepers.push_later.Given as goal
+
+-- the text so far, with that of the buffers that are left, is that of all
+abbrev pub invariant-buffers : goal.invariant-buffers
+invariant-buffers l = (names : Names) → Keeps l.register.tables.now names → Calls l.register.labels.now names →
+    l.text.items ++ kept_behind names (who_has names l.register.core.now l.register.clients.now.items) l.row.items l.rest
+    ≡ l.initial.text.items
+    ++ kept_behind names (who_has names l.register.core.now l.register.clients.now.items) l.initial.row.items l.initial.rest
+
+abbrev pub decreases-buffers : goal.decreases-buffers
+decreases-buffers l = length l.rest
