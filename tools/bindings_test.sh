@@ -11,6 +11,7 @@ log=$(mktemp)
 trap 'rm -f "$log"' EXIT
 (cd crates/sysmem && rt lib --jobs "$lanes") >"$log" 2>&1 || { tail -n 40 "$log"; exit 1; }
 tail -n 1 "$log"
+tools/long_history.sh 1000000
 make -C bindings -k -j "$lanes" check >"$log" 2>&1 || { grep -v '^touch' "$log" | tail -n 60; exit 1; }
 echo "$(find bindings/build/ran -type f | wc -l) tests of the bindings passed"
 tools/soak.sh 5000000 >"$log" 2>&1 || { cat "$log"; exit 1; }

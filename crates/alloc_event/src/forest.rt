@@ -20,9 +20,7 @@ use forest_store::change::Change;
 use forest_store::entry::{entry_of, place_of};
 use forest_store::garbage::{forget_over, list_garbage, take_out};
 use forest_store::insertion::Birth;
-use forest_store::lookup::{
-    copy_out, held_by_page, ids_of, kept_nodes, live_by_birth, pages_beside,
-};
+use forest_store::lookup::{copy_out, held_by_page, kept_nodes, live_by_birth, pages_beside};
 use forest_store::node::{End, Node};
 use forest_store::snapshot::Snapshot;
 use forest_store::store::{NodeStore, Store, put_end};
@@ -271,17 +269,6 @@ impl Forest {
             entry,
         ) {
             Ok(copied) => Ok(Some(copied)),
-            Err(_) => Err(NoMemory),
-        }
-    }
-
-    /// The ids of the collections, rising. `NoMemory` if the list is refused. Costs O(collections).
-    pub fn ids(&self) -> Result<Vec<CollectionId>, NoMemory>
-        ensures { IfOk result (λ ids. ids.items
-            ≡ map (λ (c : Collection). c.id) self.now.collections) }
-    {
-        match ids_of(*self.store.entries.allocator(), &self.store.entries) {
-            Ok(ids) => Ok(ids),
             Err(_) => Err(NoMemory),
         }
     }

@@ -7,6 +7,7 @@ pub mod Follows
 pub mod GoesOn
 pub mod Idle
 pub mod Leads
+pub mod Recalling
 pub mod Runs
 pub mod Sweeping
 pub mod OfHistory

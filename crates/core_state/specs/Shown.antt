@@ -1,5 +1,5 @@
 -- Which history a core's state shows.
-use Rattle.std.specs.Prelude.{ℕ, true, ◌||◌, ◌&&◌, ◌==◌, not, if◌then◌else◌, List, map, reverse, ◌≡◌, is_none}
+use Rattle.std.specs.Prelude.{ℕ, true, ◌++◌, ◌||◌, ◌&&◌, ◌==◌, not, if◌then◌else◌, List, map, reverse, ◌≡◌, is_none}
 use Rattle.std.specs.List.{filter, flat_map, list_any}
 use Rattle.sm_names.specs.declared.keys.NodeKey.{NodeKey}
 use Rattle.sm_names.specs.Births.{Birth, births, head, was_born}
@@ -15,12 +15,13 @@ use Rattle.sm_names.specs.Handles.{buffers_of}
 use Rattle.sm_names.specs.declared.keys.HeldBuffer.{HeldBuffer}
 use Rattle.sm_names.specs.declared.keys.Interval.{Interval}
 use Rattle.sm_names.specs.Timelines.{held, timeline}
+use Rattle.sm_names.specs.declared.tracking.Fired.{Fired}
 use Rattle.sm_names.specs.Trackers.{Tracked, tracked, fired}
 use Rattle.sm_names.specs.Weakness.{weak, weak_ok, covered, covers_children}
 use Rattle.sm_names.specs.Words.{times}
 use Rattle.event_laws.specs.Waiting.{unfired_trackers}
 use Rattle.trackers.specs.declared.waiting.Waiting.{Waiting}
-use Rattle.trackers.specs.Table.{TrackerTable, is_untaken}
+use Rattle.trackers.specs.Table.{TrackerTable, forgetful, is_untaken}
 use Rattle.forest_store.specs.declared.node.End.{End}
 use Rattle.forest_store.specs.declared.node.Node.{Node}
 use Rattle.forest_store.specs.Forest.{Collection, given}
@@ -119,3 +120,17 @@ pub record IsAfter (s : State) (marks : Timeline) : Type 0 where
 pub record Shows (s : State) (history : List Entry) : Type 0 where
   pub legal : IsLegal s.pool s.limits history
   pub shown : IsAfter s (timeline s.pool history)
+
+-- ---- a core that forgot firings
+
+-- the state with these firings before its own
+abbrev pub recalling : List Fired → State → State
+recalling gone s = record s { trackers = record s.trackers { fired = gone ++ s.trackers.fired } }
+
+-- the state shows the history, which is legal, but for these firings, the first, which it forgot
+abbrev pub ShowsBut : List Fired → State → List Entry → Type 0
+ShowsBut gone s history = Shows (recalling gone s) history
+
+-- the state without its trackers that fired
+abbrev pub forgetting : State → State
+forgetting s = record s { trackers = forgetful s.trackers }

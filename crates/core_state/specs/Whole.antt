@@ -4,6 +4,7 @@ use Rattle.std.specs.List.{All, AllByRecursion}
 use Rattle.sm_names.specs.declared.rules.TheConstants.{MAX_PAGES}
 use Rattle.sm_names.specs.declared.keys.NodeKey.{NodeKey}
 use Rattle.sm_names.specs.declared.keys.HeldBuffer.{HeldBuffer}
+use Rattle.sm_names.specs.declared.tracking.Fired.{Fired}
 use Rattle.sm_names.specs.Isolation.{IsOf}
 use Rattle.sm_names.specs.Marks.{Entry}
 use Rattle.sm_names.specs.Timelines.{timeline}
@@ -17,7 +18,7 @@ use Rattle.trackers.specs.declared.waiting.Waiting.{Waiting}
 use Rattle.trackers.specs.Table.{Cell}
 use Rattle.core_state.specs.declared.task.Place.{Place}
 use Rattle.core_state.specs.declared.task.Task.{Task}
-use Rattle.core_state.specs.Shown.{Shows}
+use Rattle.core_state.specs.Shown.{Shows, recalling}
 use Rattle.core_state.specs.State.{State}
 
 -- each number is below all that follow it
@@ -80,9 +81,9 @@ abbrev pub NoBufferHome : Handles → Forest → Type 0
 NoBufferHome handles f = (c : Collection) → In c f.collections → (h : HeldBuffer) → In h c.held →
     (h.buffer.collection ≡ c.id) × (is_home_in handles c h.buffer ≡ false)
 
--- what holds of each core: it shows a legal history, and each tracker that waits is filed under the collection that it concerns by this
--- history; the rest is bookkeeping that no history tells
-pub record IsCore (pool : Holdings) (s : State) : Type 0 where
+-- what holds of a core that forgot no firing: it shows a legal history, and each tracker that waits is filed under the collection that it
+-- concerns by this history; the rest is bookkeeping that no history tells
+pub record IsWholeCore (pool : Holdings) (s : State) : Type 0 where
   pub sized : (1 ≤ s.pool) × (s.pool ≤ MAX_PAGES)
   pub pages : IsPoolOf pool s.forest
   pub few : s.events < 2 ^ 53
@@ -93,3 +94,8 @@ pub record IsCore (pool : Holdings) (s : State) : Type 0 where
   pub history : List Entry
   pub shows : Shows s history
   pub filed : All (λ (t : Waiting). IsOf (timeline s.pool history) t.collection t.condition) s.trackers.unfired
+
+-- what holds of each core: with the firings that it forgot before its own, it is whole
+pub record IsCore (pool : Holdings) (s : State) : Type 0 where
+  pub gone : List Fired
+  pub whole : IsWholeCore pool (recalling gone s)

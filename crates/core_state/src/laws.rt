@@ -1,5 +1,5 @@
 //! What ties a core's state to each history that it shows.
-ghost use Rattle.std.specs.Prelude.{◌≡◌, ◌<◌, ◌∷◌, ◌++◌, ℕ, List, true};
+ghost use Rattle.std.specs.Prelude.{◌≡◌, ◌<◌, [], ◌∷◌, ◌++◌, ℕ, List, true};
 ghost use Rattle.sm_names.specs.declared.keys.BufferName.{BufferName};
 ghost use Rattle.sm_names.specs.declared.keys.NodeKey.{NodeKey};
 ghost use Rattle.sm_names.specs.declared.keys.Strength.{Strength};
@@ -8,12 +8,16 @@ ghost use Rattle.sm_names.specs.declared.messages.Reply.{Reply};
 ghost use Rattle.sm_names.specs.Answers.{IsAnswer, answer};
 ghost use Rattle.sm_names.specs.Bounds.{Bound};
 ghost use Rattle.sm_names.specs.Handles.{opens};
+ghost use Rattle.sm_names.specs.Legality.{IsLegal};
 ghost use Rattle.sm_names.specs.Marks.{Called, Entry};
 ghost use Rattle.sm_names.specs.Reading.{readings};
+ghost use Rattle.sm_names.specs.declared.tracking.Fired.{Fired};
 ghost use Rattle.sm_names.specs.Timelines.{timeline};
+ghost use Rattle.sm_names.specs.Trackers.{fired};
 ghost use Rattle.core_state.specs.Reads.{readings_of};
-ghost use Rattle.core_state.specs.Shown.{Shows};
+ghost use Rattle.core_state.specs.Shown.{Shows, ShowsBut, forgetting};
 ghost use Rattle.core_state.specs.State.{State};
+ghost use Rattle.core_state.specs.Theorem.{Leads};
 
 /// A core's readings are those of each history that it shows, except that a core may count more
 /// keys as used than the history used: keys of no node, which it never uses again.
@@ -24,6 +28,13 @@ pub fn a_core_reads_as_its_history()
     ensures given { (s : State) (history : List Entry) → Shows s history → (key : NodeKey) →
         (readings (timeline s.pool history)).was_given key ≡ true →
         (readings_of s).was_given key ≡ true }
+{}
+
+/// A history that a core shows is legal: it has an answer for each call, and no more events than the
+/// limits allow.
+pub fn a_shown_history_is_legal()
+    ensures { (s : State) (history : List Entry) → Shows s history →
+        IsLegal s.pool s.limits history }
 {}
 
 /// So a core answers every call as each history that it shows does, also under other limits.
@@ -55,4 +66,18 @@ pub fn a_take_is_never_empty()
         (limits : Bound) (client collection : ℕ) (strength : Strength) (set : ℕ) (key : NodeKey) →
         IsAnswer limits (readings_of s) client (Call.Take key)
         (Reply.Taken collection strength set) → 0 < set }
+{}
+
+/// A core that forgot firings shows its history but for these. Events lead on as if it had forgotten
+/// nothing: no answer reads a firing. The firings that were forgotten, and then its own, are those of the
+/// history.
+pub fn a_core_that_forgot_goes_on()
+    ensures whole { (s : State) (history : List Entry) → Shows s history → ShowsBut [] s history }
+    ensures forgets { (gone : List Fired) (s : State) (history : List Entry) →
+        ShowsBut gone s history → ShowsBut (gone ++ s.trackers.fired) (forgetting s) history }
+    ensures events { (gone : List Fired) (old new : State) (entries history : List Entry) →
+        Leads old entries new → ShowsBut gone old history →
+        ShowsBut gone new (history ++ entries) }
+    ensures fired { (gone : List Fired) (s : State) (history : List Entry) →
+        ShowsBut gone s history → gone ++ s.trackers.fired ≡ fired (timeline s.pool history) }
 {}

@@ -13,7 +13,7 @@ use crate::entry::Entry;
 use crate::node::{End, Node};
 use crate::snapshot::Snapshot;
 use node_table::NodeTable;
-use sm_names::{CollectionId, HeldBuffer, Interval, NodeKey};
+use sm_names::{HeldBuffer, Interval, NodeKey};
 use std::alloc::{AllocError, Global};
 
 /// Whether the node is live and strong.
@@ -117,17 +117,6 @@ pub fn held_by_page(alloc: Global, entries: &[Entry]) -> Result<Vec<HeldBuffer>,
     }
     held.sort_by_key(|buffer| buffer.pages.start)?;
     Ok(held)
-}
-
-/// The ids of the entries, in order.
-pub fn ids_of(alloc: Global, entries: &[Entry]) -> Result<Vec<CollectionId>, AllocError>
-    ensures { IfOk result (λ ids. ids.items ≡ map (λ (e : EntryValue). e.id) entries.now) }
-{
-    let mut ids = Vec::with_capacity(alloc, entries.len())?;
-    for entry in entries {
-        ids.push(entry.id)?;
-    }
-    Ok(ids)
 }
 
 /// The pages of these buffers, behind others.

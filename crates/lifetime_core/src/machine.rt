@@ -1,10 +1,11 @@
 //! Every call on one state.
 ghost use Rattle.std.specs.Prelude.{◌≡◌, ◌+◌, ◌<◌, ◌≤◌, ◌↔◌, ◌∷◌, ◌++◌, ◌==◌, nat_le};
 ghost use Rattle.std.specs.Prelude.{[], List, length, slice_get, option_map, if◌then◌else◌, IfOk, IfErr, IfSome};
-ghost use Rattle.std.specs.Prelude.{OnErr, false, true, None, Some, is_some, option_copied};
+ghost use Rattle.std.specs.Prelude.{OnErr, OnOk, false, true, None, Some, is_some, option_copied};
 ghost use Rattle.sm_names.specs.declared.keys.BufferName.{BufferName as Buffer};
 ghost use Rattle.sm_names.specs.declared.keys.NodeKey.{NodeKey as Key};
 ghost use Rattle.sm_names.specs.declared.keys.Strength.{Strength};
+ghost use Rattle.sm_names.specs.declared.tracking.Fired.{Fired};
 ghost use Rattle.sm_names.specs.declared.messages.Reply.{Reply};
 ghost use Rattle.sm_names.specs.Answers.{IsAnswer, is_at_limit};
 ghost use Rattle.sm_names.specs.Handles.{is_doomed};
@@ -23,7 +24,7 @@ ghost use Rattle.buffer_holds.specs.Counts.{total};
 ghost use Rattle.core_state.specs.Kinds.{fits_call, takes_no_memory};
 ghost use Rattle.core_state.specs.Reads.{buffers_in, end_in, open_end_of};
 ghost use Rattle.core_state.specs.Reads.{readings_of};
-ghost use Rattle.core_state.specs.Shown.{Shows};
+ghost use Rattle.core_state.specs.Shown.{Shows, ShowsBut, forgetting};
 ghost use Rattle.core_state.specs.Steps.{Follows, Work, leaves_tracker_room, work_of};
 ghost use Rattle.core_state.specs.State.{IsSame};
 ghost use Rattle.core_state.specs.Tasks.{IsDecision};
@@ -160,10 +161,19 @@ impl Core {
         ensures value { result ≡ self.now.events }
         ensures shown { (history : List Entry) → Shows self.now history →
             result ≡ length history }
-        // Every core shows a legal history.
-        ensures legal { (history : List Entry) × Shows self.now history }
+        // Every core shows a legal history, but for the firings that it forgot.
+        ensures legal { (gone : List Fired) × (history : List Entry)
+            × ShowsBut gone self.now history }
     {
         self.events
+    }
+
+    /// How many more events the core takes: its limit, less those that were made. A call at 0 is answered
+    /// `HistoryFull`. Costs O(1).
+    pub fn remaining(&self) -> u64
+        ensures { result + self.now.events ≡ self.now.limits.events }
+    {
+        self.limits.events() - self.events
     }
 
     // The number of the event that is made now.
@@ -525,6 +535,22 @@ impl Core {
             (tracked (timeline self.old.pool history)) ≡ true) }
     {
         self.contents.trackers.take_tracker(id)
+    }
+
+    /// Forgets the trackers that fired: `fired` then lists later firings alone, and a reader that was not
+    /// taken can't be taken any more. A reader that was taken still reads its firing. This is no event, and
+    /// changes no answer.
+    ///
+    /// `NoMemory` if a new index of the waiting trackers is refused; then nothing changed. Costs O(t +
+    /// w log w) for t trackers made since the last time, of which w wait.
+    pub fn forget_fired(&mut self) -> Result<(), NoMemory>
+        ensures forgot { OnOk result (self.new ≡ forgetting self.old) }
+        ensures kept { OnErr result (self.new ≡ self.old) }
+        ensures shows { OnOk result ((gone : List Fired) (history : List Entry) →
+            ShowsBut gone self.old history →
+            ShowsBut (gone ++ self.old.trackers.fired) self.new history) }
+    {
+        self.contents.trackers.forget_fired()
     }
 
     /// The change that the call would make to a collection if it were made now, without what the change

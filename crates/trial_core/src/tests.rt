@@ -9,6 +9,7 @@ mod forgetting;
 mod giving;
 mod holding;
 mod holdings;
+mod lasting;
 mod lending;
 mod limits;
 mod placing;

@@ -12,6 +12,7 @@ use Rattle.trackers.specs.Table.{Cell, is_due}
 use Rattle.core_state.specs.declared.task.Task.{Task}
 use Rattle.core_state.specs.Hands.{MayMove}
 use Rattle.core_state.specs.Reads.{world_in}
+use Rattle.core_state.specs.Shown.{recalling}
 use Rattle.core_state.specs.State.{HandleCounts, State, counts_of}
 use Rattle.core_state.specs.Steps.{GainsTracker, Work, handles_by, Worked, tracker_by, work_of}
 use Rattle.core_state.specs.Tasks.{Parts, TakesEffect, looked_in, work_in}
@@ -23,6 +24,7 @@ use Rattle.core_state.proofs.handles.Moves.{moved}
 use Rattle.core_state.proofs.theorem.Event.{same_handles, same_tracker, same_work, worked_is}
 use Rattle.core_state.proofs.handles.Counts.{handles_called}
 use Rattle.core_state.proofs.theorem.Follows.{Counts}
+use Rattle.core_state.proofs.theorem.Recalling.{behind, gains_recall, work_recalls, worked_recalls}
 use Rattle.core_state.proofs.theorem.Sweeping.{elsewhere}
 use Rattle.core_state.proofs.views.SameAnswers.{answer_is}
 use Rattle.history_laws.proofs.GrowthLaws.{Grows, legal_grows}
@@ -52,17 +54,21 @@ module _ (s : State) (client : ℕ) (call : Call) (asked reply : Reply) (task : 
   module _ (before : Holdings) (core : IsCore before s) (parts : Parts) (takes : TakesEffect s.pool
       (record { clients = s.clients; forest = s.forest; holds = s.holds; trackers = s.trackers }) parts client call asked task tracking
       reply) where
-    -- the marks of the history that the state shows
+    -- the state with the firings that it forgot
+    abbrev all : State
+    all = recalling core.gone s
+
+    -- the marks of the history that it shows
     abbrev marks : Timeline
-    marks = timeline s.pool core.history
+    marks = timeline s.pool core.whole.history
 
     -- they grew from nothing
     grown : Grows s.pool s.limits [] marks
-    grown = legal_grows s.pool s.limits core.history core.shows.legal
+    grown = legal_grows s.pool s.limits core.whole.history core.whole.shows.legal
 
     -- the reply is an answer to them
     answer : IsAnswer s.limits (readings marks) client call reply
-    answer = answer_is s marks core.shows.shown s.limits grown s.limits client call reply
+    answer = answer_is all marks core.whole.shows.shown s.limits grown s.limits client call reply
         (step_answers s client call asked reply task tracking b parts takes)
 
     -- the handles are those that are open after the call
@@ -71,7 +77,7 @@ module _ (s : State) (client : ℕ) (call : Call) (asked reply : Reply) (task : 
         (moved s.holds parts.holds (Called client asked call) takes.handles
         ∙ (sym (same_handles client call asked takes.key (counts_of s.holds))
         ∙ (ap (λ (r : Reply). handles_by (Called client r call) (counts_of s.holds)) (sym takes.told)
-        ∙ (ap (handles_by (Called client reply call)) core.shows.shown.handles
+        ∙ (ap (handles_by (Called client reply call)) core.whole.shows.shown.handles
         ∙ sym (handles_called s.pool s.limits marks grown client reply call answer)))))
 
     -- no tracker elsewhere is due
@@ -81,13 +87,18 @@ module _ (s : State) (client : ℕ) (call : Call) (asked reply : Reply) (task : 
     none_elsewhere = all-In (λ (t : Waiting).
         (looked_in (world_in parts.forest (total parts.holds)) (changed_by task) tracking ≡ Some t.collection → ⊥) →
         is_due (world_in parts.forest (total parts.holds)) t ≡ false) parts.trackers.unfired (λ t on other.
-        elsewhere s marks core.shows.shown s.limits grown core.filed client reply call parts.trackers gains answer
-        (every_rests s.pool s.limits core.history core.shows.legal.answers) (total parts.holds) counts parts.forest work t on
+        elsewhere all marks core.whole.shows.shown s.limits grown core.whole.filed client reply call (behind core.gone parts.trackers)
+        (gains_recall core.gone s.trackers parts.trackers (tracker_by s.forest call reply) gains) answer
+        (every_rests s.pool s.limits core.whole.history core.whole.shows.legal.answers) (total parts.holds) counts parts.forest work_of_all t on
         (λ is. other ((λ i. looked_in (world_in parts.forest (total parts.holds)) (changed i) (tracks i)) ∙ is)))
       where
         work : Worked s (total parts.holds) (work_of s client call reply) (new_key reply) parts.forest
         work = rw takes.told (worked_is (total parts.holds) s client call asked task takes.key parts.forest b.work
             (made s client call asked reply task tracking b parts takes) takes.work)
+
+        work_of_all : Worked all (total parts.holds) (work_of all client call reply) (new_key reply) parts.forest
+        work_of_all = rw (work_recalls core.gone s client call reply)
+            (worked_recalls core.gone s (total parts.holds) (work_of s client call reply) (new_key reply) parts.forest work)
 
         tracks : tracking ≡ tracker_by s.forest call reply
         tracks = rw takes.told (b.tracks ∙ sym (same_tracker s.forest call asked takes.key))
@@ -95,5 +106,8 @@ module _ (s : State) (client : ℕ) (call : Call) (asked reply : Reply) (task : 
         gains : GainsTracker s.trackers (tracker_by s.forest call reply) parts.trackers
         gains = subst (λ (o : Option Waiting). GainsTracker s.trackers o parts.trackers) tracks takes.trackers
 
-        changed : changed_by task ≡ option_map (λ (w : Work). w.collection) (work_of s client call reply)
-        changed = rw takes.told (ap (option_map (λ (w : Work). w.collection)) (b.work ∙ sym (same_work s client call asked takes.key)))
+        changed_by_call : changed_by task ≡ option_map (λ (w : Work). w.collection) (work_of s client call reply)
+        changed_by_call = rw takes.told (ap (option_map (λ (w : Work). w.collection)) (b.work ∙ sym (same_work s client call asked takes.key)))
+
+        changed : changed_by task ≡ option_map (λ (w : Work). w.collection) (work_of all client call reply)
+        changed = changed_by_call ∙ ap (option_map (λ (w : Work). w.collection)) (sym (work_recalls core.gone s client call reply))

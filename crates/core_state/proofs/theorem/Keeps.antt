@@ -1,11 +1,12 @@
--- A core shows a legal history, and an event keeps it so.
+-- A core shows a legal history, but for the firings that it forgot, and an event keeps it so.
 use Rattle.std.proofs.lemmas.Bool.{false≢true}
-use Rattle.std.proofs.Common.{ℕ, ◌≡◌, ◌<◌, ◌≤◌, ◌+◌, ◌^◌, refl, ap, sym, ◌∙◌, subst, not, inl, inr, ◌∷◌, ◌++◌, Option, Some, None, is_some, arith, []}
+use Rattle.std.proofs.Common.{ℕ, ◌≡◌, ◌<◌, ◌≤◌, ◌+◌, ◌^◌, refl, ap, sym, ◌∙◌, subst, not, inl, inr, List, ◌∷◌, ◌++◌, Option, Some, None, is_some, arith, []}
 use Rattle.std.specs.List.{All}
 use Rattle.std.proofs.lemmas.List.Elements.{All-nil}
 use Rattle.sm_names.specs.declared.messages.Call.{Call}
 use Rattle.sm_names.specs.declared.messages.Reply.{Reply}
 use Rattle.sm_names.specs.declared.keys.NodeKey.{NodeKey}
+use Rattle.sm_names.specs.declared.tracking.Fired.{Fired}
 use Rattle.sm_names.specs.Answers.{IsAnswer, answer, key_told}
 use Rattle.sm_names.specs.declared.rules.TheConstants.{MAX_PAGES}
 use Rattle.sm_names.specs.Bounds.{Bound}
@@ -20,24 +21,26 @@ use Rattle.event_laws.proofs.NumberLaws.{In-all, all-In}
 use Rattle.buffer_holds.specs.Counts.{total}
 use Rattle.buffer_pool.specs.Holdings.{Holdings}
 use Rattle.trackers.specs.declared.waiting.Waiting.{Waiting}
-use Rattle.trackers.specs.Table.{Cell, TrackerTable, is_due, without_id}
+use Rattle.trackers.specs.Table.{Cell, TrackerTable, forgetful, is_due, is_unfired, without_id}
 use Rattle.forest_store.specs.Forest.{Forest, IsPoolOf}
 use Rattle.forest_store.specs.Settling.{Handles}
 use Rattle.core_state.specs.Reads.{readings_of, world_in}
-use Rattle.core_state.specs.Shown.{IsAfter}
+use Rattle.core_state.specs.Shown.{IsAfter, forgetting, recalling}
 use Rattle.core_state.specs.State.{IsSame, State}
 use Rattle.core_state.specs.Steps.{Follows, GainsTracker, Work, Worked, tracker_by, work_of}
-use Rattle.core_state.specs.Whole.{IsCore}
+use Rattle.core_state.specs.Whole.{IsCore, IsWholeCore}
 use Rattle.core_state.proofs.forced.Known.{IsKnown}
 use Rattle.core_state.proofs.firing.Fields.{is_made}
 use Rattle.core_state.proofs.theorem.GoesOn.{empty_state, goes_on, shows_nothing, take_shows}
 use Rattle.core_state.proofs.theorem.OfHistory.{opened_of, out_of, rising_of, sent_of, sound_of, undue_of}
+use Rattle.core_state.proofs.theorem.Recalling.{follows_recalls, forgetting_shows}
 use Rattle.core_state.proofs.theorem.Sweeping.{filed_now}
 use Rattle.core_state.proofs.views.SameAnswers.{answer_is}
+use Rattle.core_state.proofs.views.Shown.{events_shown}
 
--- what a core shows tells all that its parts need
-pub core_known : (pool : Holdings) (s : State) → IsCore pool s → IsKnown s.limits s
-core_known pool s core =
+-- what a whole core shows tells all that its parts need
+whole_known : (pool : Holdings) (s : State) → IsWholeCore pool s → IsKnown s.limits s
+whole_known pool s core =
     let marks : Timeline = timeline s.pool core.history in
     let grown : Grows s.pool s.limits [] marks = legal_grows s.pool s.limits core.history core.shows.legal in
     let shown : IsAfter s marks = core.shows.shown in
@@ -55,9 +58,9 @@ core_known pool s core =
     }
 
 -- a core that saw nothing
-pub core_empty : (pages : ℕ) (limits : Bound) → (1 ≤ pages) × (pages ≤ MAX_PAGES) →
-    IsCore (record { size = pages; held = [] }) (empty_state pages limits)
-core_empty pages limits sized = record {
+whole_empty : (pages : ℕ) (limits : Bound) → (1 ≤ pages) × (pages ≤ MAX_PAGES) →
+    IsWholeCore (record { size = pages; held = [] }) (empty_state pages limits)
+whole_empty pages limits sized = record {
   sized = sized;
   pages = refl;
   few = omega arith;
@@ -84,7 +87,7 @@ attached_limit old new None gains = ap (λ (t : TrackerTable). t.limit) gains
 attached_limit old new (Some t) gains = ap (λ (x : TrackerTable). x.limit) gains.next
 
 module _ (before : Holdings) (old new : State) (client : ℕ) (call : Call) (reply : Reply)
-    (answers : IsAnswer old.limits (readings_of old) client call reply) (f : Follows old new client call reply) (core : IsCore before old) where
+    (answers : IsAnswer old.limits (readings_of old) client call reply) (f : Follows old new client call reply) (core : IsWholeCore before old) where
   -- the marks of the history that the old state shows
   abbrev marks : Timeline
   marks = timeline old.pool core.history
@@ -139,9 +142,9 @@ module _ (before : Holdings) (old new : State) (client : ℕ) (call : Call) (rep
       (answer_is old marks core.shows.shown old.limits grown old.limits client call reply answers) its)
 
   -- the core shows the history with one more event
-  pub core_goes_on : (pool : Holdings) → old.events < old.limits.events → old.events + 1 < 2 ^ 53 → IsPoolOf pool new.forest →
-      new.holds.limit ≡ old.holds.limit → IsCore pool new
-  core_goes_on pool room short pages limit =
+  whole_goes_on : (pool : Holdings) → old.events < old.limits.events → old.events + 1 < 2 ^ 53 → IsPoolOf pool new.forest →
+      new.holds.limit ≡ old.holds.limit → IsWholeCore pool new
+  whole_goes_on pool room short pages limit =
       let there : timeline new.pool (core.history ++ (client, call, reply) ∷ []) ≡ after old.pool marks (client, call, reply) =
       ap (λ (p : ℕ). timeline p (core.history ++ (client, call, reply) ∷ [])) f.pool
       ∙ timeline-push old.pool core.history (client, call, reply) in
@@ -164,9 +167,9 @@ module _ (before : Holdings) (old new : State) (client : ℕ) (call : Call) (rep
 -- ---- no event
 
 -- the same state, but for the order of the rows of handles
-pub core_same : (before pool : Holdings) (old new : State) → IsSame old new → new.holds.limit ≡ old.holds.limit → IsPoolOf pool old.forest →
-    IsCore before old → IsCore pool new
-core_same before pool old new same limit pages core =
+whole_same : (before pool : Holdings) (old new : State) → IsSame old new → new.holds.limit ≡ old.holds.limit → IsPoolOf pool old.forest →
+    IsWholeCore before old → IsWholeCore pool new
+whole_same before pool old new same limit pages core =
     rw same.rest (record {
       sized = core.sized;
       pages = pages;
@@ -191,9 +194,9 @@ core_same before pool old new same limit pages core =
     })
 
 -- a state of which a tracker was taken
-pub core_took : (pool : Holdings) (s : State) (id : ℕ) → IsCore pool s →
-    IsCore pool (record s { trackers = record s.trackers { untaken = without_id s.trackers.untaken id } })
-core_took pool s id core = record {
+whole_took : (pool : Holdings) (s : State) (id : ℕ) → IsWholeCore pool s →
+    IsWholeCore pool (record s { trackers = record s.trackers { untaken = without_id s.trackers.untaken id } })
+whole_took pool s id core = record {
   sized = core.sized;
   pages = core.pages;
   few = core.few;
@@ -205,3 +208,80 @@ core_took pool s id core = record {
   shows = take_shows s id core.history core.shows;
   filed = core.filed;
 }
+
+-- a state without its trackers that fired, with the firings that it had
+whole_forgot : (pool : Holdings) (gone : List Fired) (s : State) → IsWholeCore pool (recalling gone s) →
+    IsWholeCore pool (recalling (gone ++ s.trackers.fired) (forgetting s))
+whole_forgot pool gone s core = record {
+  sized = core.sized;
+  pages = core.pages;
+  few = core.few;
+  limit = core.limit;
+  handle_limit = core.handle_limit;
+  tracker_limit = core.tracker_limit;
+  numbered = all-In (λ (c : Cell). c.id ≤ s.events) (forgetful s.trackers).cells (λ c on.
+      In-all (λ (d : Cell). d.id ≤ s.events) s.trackers.cells core.numbered c
+      (In-filter (λ (d : Cell). is_unfired s.trackers.unfired d.id) s.trackers.cells c on).0);
+  history = core.history;
+  shows = forgetting_shows gone s core.history core.shows;
+  filed = core.filed;
+}
+
+-- ---- a core that forgot firings: no part of it but the firings differs from the whole one
+
+-- what it shows tells all that its parts need
+pub core_known : (pool : Holdings) (s : State) → IsCore pool s → IsKnown s.limits s
+core_known pool s core =
+    let known : IsKnown s.limits (recalling core.gone s) = whole_known pool (recalling core.gone s) core.whole in
+    record {
+      rising = known.rising;
+      limit = known.limit;
+      opened = known.opened;
+      sound = known.sound;
+      handle_limit = known.handle_limit;
+      sent = known.sent;
+      tracker_limit = known.tracker_limit;
+      numbered = known.numbered;
+      undue = known.undue;
+      out = known.out;
+    }
+
+-- a core that saw nothing forgot nothing
+pub core_empty : (pages : ℕ) (limits : Bound) → (1 ≤ pages) × (pages ≤ MAX_PAGES) →
+    IsCore (record { size = pages; held = [] }) (empty_state pages limits)
+core_empty pages limits sized = record { gone = []; whole = whole_empty pages limits sized }
+
+-- after an event the core shows the history with that event
+pub core_goes_on : (before : Holdings) (old new : State) (client : ℕ) (call : Call) (reply : Reply) →
+    IsAnswer old.limits (readings_of old) client call reply → Follows old new client call reply → IsCore before old →
+    (pool : Holdings) → old.events < old.limits.events → old.events + 1 < 2 ^ 53 → IsPoolOf pool new.forest →
+    new.holds.limit ≡ old.holds.limit → IsCore pool new
+core_goes_on before old new client call reply answers follows core pool room short pages limit = record {
+  gone = core.gone;
+  whole = whole_goes_on before (recalling core.gone old) (recalling core.gone new) client call reply answers
+      (follows_recalls core.gone old new client call reply follows) core.whole pool room short pages limit;
+}
+
+-- the same state, but for the order of the rows of handles
+pub core_same : (before pool : Holdings) (old new : State) → IsSame old new → new.holds.limit ≡ old.holds.limit → IsPoolOf pool old.forest →
+    IsCore before old → IsCore pool new
+core_same before pool old new same limit pages core = record {
+  gone = core.gone;
+  whole = whole_same before pool (recalling core.gone old) (recalling core.gone new)
+      (record { rest = ap (recalling core.gone) same.rest; counts = same.counts }) limit pages core.whole;
+}
+
+-- a core of which a tracker was taken
+pub core_took : (pool : Holdings) (s : State) (id : ℕ) → IsCore pool s →
+    IsCore pool (record s { trackers = record s.trackers { untaken = without_id s.trackers.untaken id } })
+core_took pool s id core = record { gone = core.gone; whole = whole_took pool (recalling core.gone s) id core.whole }
+
+-- a core that forgets its firings
+pub core_forgot : (pool : Holdings) (s : State) → IsCore pool s → IsCore pool (forgetting s)
+core_forgot pool s core = record { gone = core.gone ++ s.trackers.fired; whole = whole_forgot pool core.gone s core.whole }
+
+-- it took no more events than its limit
+pub core_within : (pool : Holdings) (s : State) → IsCore pool s → s.events ≤ s.limits.events
+core_within pool s core =
+    let counted = events_shown (recalling core.gone s) core.whole.history core.whole.shows in
+    omega (arith, counted, core.whole.shows.legal.within)

@@ -15,12 +15,12 @@ ghost use Rattle.sm_names.specs.Trackers.{fired as fired_after};
 ghost use Rattle.sm_names.specs.Views.{live_nodes, held_by_page as held_after};
 ghost use Rattle.sm_names.specs.Views.{free_pages as free_after};
 ghost use Rattle.forest_store.specs.Forest.{all_nodes, beside, live_keys, node_at, held_by_page};
-ghost use Rattle.forest_store.specs.Forest.{Collection as CollectionValue, collection_at as collection_told};
+ghost use Rattle.forest_store.specs.Forest.{collection_at as collection_told};
 ghost use Rattle.forest_store.specs.Scenes.{IsSound as IsSoundCollection};
 ghost use Rattle.forest_store.specs.Snapshots.{collection_of};
 ghost use Rattle.buffer_holds.specs.Counts.{moving_count, of, total};
 ghost use Rattle.core_state.specs.Reads.{buffers_in, fault_in, is_live_in, views_of};
-ghost use Rattle.core_state.specs.Shown.{Shows, collection_after, kept_ids, all_kept_nodes, node_after, pages_beside_after};
+ghost use Rattle.core_state.specs.Shown.{Shows, collection_after, all_kept_nodes, node_after, pages_beside_after};
 ghost use Rattle.core_state.specs.State.{Client as ClientRow};
 
 use super::Core;
@@ -130,19 +130,6 @@ impl Core {
             nodes.items ≡ all_kept_nodes (timeline self.now.pool history)) }
     {
         self.contents.forest.nodes()
-    }
-
-    /// The ids of the kept collections, rising, which is the order in which their roots were born. Each
-    /// has a kept node, or a buffer that is not home.
-    ///
-    /// `NoMemory` if the list is refused. Costs O(collections).
-    pub fn kept_collections(&self) -> Result<Vec<CollectionId>, NoMemory>
-        ensures value { IfOk result (λ ids. ids.items
-            ≡ map (λ (c : CollectionValue). c.id) self.now.forest.collections) }
-        ensures shown { IfOk result (λ ids. (history : List Entry) → Shows self.now history →
-            ids.items ≡ kept_ids (timeline self.now.pool history)) }
-    {
-        self.contents.forest.ids()
     }
 
     /// The pages of the buffers of all kept collections except this one: collection by collection, by

@@ -3,6 +3,7 @@ use super::dropping::drops;
 use super::exit::come_and_go;
 use super::first::is_told;
 use super::forgetting::{Leaving, leave_beside};
+use super::lasting::{collects, forgets_firings, lasts};
 use super::lending::on_core;
 use super::limits::{has_children, has_collections, has_rounds, has_trackers, stops};
 use super::strangers::knows_nobody;
@@ -20,6 +21,9 @@ pub enum Play {
     Trackers,
     Keys,
     LastEvent,
+    Lasting,
+    Forgotten,
+    Collected,
     LastDrop,
     Exit,
     /// Units of this many nodes come and go.
@@ -37,6 +41,9 @@ impl Play {
             Play::Trackers => has_trackers(core),
             Play::Keys => has_rounds(alloc, core),
             Play::LastEvent => stops(alloc, core),
+            Play::Lasting => lasts(core),
+            Play::Forgotten => forgets_firings(core),
+            Play::Collected => collects(core),
             Play::LastDrop => drops(core),
             Play::Exit => come_and_go(alloc, core),
             Play::Units(nodes, leaving) => leave_beside(alloc, core, nodes, leaving),

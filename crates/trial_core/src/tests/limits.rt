@@ -90,9 +90,11 @@ fn is_stopped(alloc: Global, core: &mut Core) -> bool {
 
 /// Whether nothing is taken after the third event.
 pub fn stops(alloc: Global, core: &mut Core) -> bool {
-    joins(core)
+    core.remaining() == 3
+        && joins(core)
         && is_stopped(alloc, core)
         && core.events() == 3
+        && core.remaining() == 0
         && core.step(1, Call::Shut) == Err(StepFault::HistoryFull)
         && core.step(99, Call::Collect) == Err(StepFault::HistoryFull)
 }

@@ -34,9 +34,13 @@ pub struct Player {
     clients: ClientId,
 }
 
-/// Limits of these numbers.
+/// Limits of these numbers. The first is 0 for lasting ones.
 pub fn limits_of(numbers: [u32; 5]) -> Option<Limits> {
     let [events, nodes, collections, trackers, handles] = numbers;
+    if events == 0 {
+        let limits = Limits::new(1, nodes, collections, trackers, handles)?;
+        return Some(limits.lasting());
+    }
     Limits::new(events, nodes, collections, trackers, handles)
 }
 

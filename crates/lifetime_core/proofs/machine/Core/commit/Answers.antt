@@ -29,7 +29,7 @@ take_effect-requires c =
       may = b.may;
       asks = asks_only s c.args.client _ _ _ b.work;
       out = (known (goal.at.take_effect-requires c).After-changes_nothing).out;
-      pool = c.self.invariant.pages;
+      pool = c.self.invariant.whole.pages;
       rising = above _ _ _ _ c.args.decision.now.reply _ _ b;
       room = fits _ _ _ _ c.args.decision.now.reply _ _ b;
       alone = alone _ _ _ _ c.args.decision.now.reply _ _ b;
@@ -45,7 +45,7 @@ invariant_of-self c =
     c.next_event-self-inside.ensures ∙ ap (λ (x : State). x.events + 1) (sym c.self.view_is) in
     rw next (core_goes_on c.self.inside.contents.pool s (further _ _ _ _ i) c.args.client c.args.call.now c.args.decision.now.reply
     (step_answers _ _ _ _ _ None None i.begins (parts_of s) i.takes) (idle_follows _ _ _ _ i) c.self.invariant c.self.inside.contents.pool
-    (omega arith) (omega arith) c.self.invariant.pages refl)
+    (omega arith) (omega arith) c.self.invariant.whole.pages refl)
 
 -- memory was refused, and the fields are as they were
 pub invariant_of-self-in_default : goal.invariant_of-self-in_default
@@ -74,7 +74,7 @@ invariant_of-self-in_default c =
       counts = kept.3;
     } in
     core_same c.self.inside.contents.pool c.take_effect.new.contents.pool s now same c.take_effect.ensures.limit
-    (subst (λ (p : Holdings). IsPoolOf p s.forest) (sym kept.2) c.self.invariant.pages) c.self.invariant
+    (subst (λ (p : Holdings). IsPoolOf p s.forest) (sym kept.2) c.self.invariant.whole.pages) c.self.invariant
 
 -- trackers elsewhere are not due
 pub sweep-requires : goal.sweep-requires

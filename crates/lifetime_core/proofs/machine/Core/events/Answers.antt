@@ -1,7 +1,5 @@
-use Rattle.std.proofs.Common.{subst}
-use Rattle.core_state.specs.Shown.{Shows}
-use Rattle.core_state.specs.State.{State}
-use Rattle.std.proofs.Common.{ap, ◌∙◌}
+use Rattle.std.proofs.Common.{ap, ◌∙◌, subst}
+use Rattle.core_state.specs.Shown.{ShowsBut}
 use Rattle.core_state.specs.State.{State}
 use Rattle.core_state.proofs.views.Shown.{events_shown}
 use Rattle.lifetime_core.proofs.machine.Core.events.Goals as goal
@@ -10,4 +8,9 @@ pub returns-clause-shown : goal.returns-clause-shown
 returns-clause-shown c history shows = ap (λ (s : State). s.events) c.self.view_is ∙ events_shown c.args.self.now history shows
 
 pub returns-clause-legal : goal.returns-clause-legal
-returns-clause-legal c = (c.self.invariant.history, subst (λ (s : State). Shows s c.self.invariant.history) c.self.view_is c.self.invariant.shows)
+returns-clause-legal c =
+    let core = c.self.invariant in (
+      core.gone,
+      core.whole.history,
+      subst (λ (s : State). ShowsBut core.gone s core.whole.history) c.self.view_is core.whole.shows,
+    )

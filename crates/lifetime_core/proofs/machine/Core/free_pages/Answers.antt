@@ -13,7 +13,7 @@ pub returns : goal.returns
 returns c =
     let all : sum_by (λ (i : Interval). i.pages) c.self.inside.contents.pool.held ≡ sum_by (λ (h : HeldBuffer).
     h.pages.pages) (all_held c.self.inside.contents.forest) =
-    ap (sum_by (λ (i : Interval). i.pages)) c.self.invariant.pages
+    ap (sum_by (λ (i : Interval). i.pages)) c.self.invariant.whole.pages
     ∙ (sum-sorted (λ (i : Interval). i.pages) (λ (i : Interval). i.start)
     (map (λ (h : HeldBuffer). h.pages) (all_held c.self.inside.contents.forest))
     ∙ sum-map (λ (i : Interval). i.pages) (λ (h : HeldBuffer). h.pages) (all_held c.self.inside.contents.forest)) in

@@ -9,4 +9,4 @@ use Rattle.lifetime_core.proofs.machine.Core.have_room.Goals as goal
 pub returns : goal.returns
 returns c = λ known buffer strength.
     subst (λ (s : State). is_at_limit s.limits (readings_of s) strength buffer ≡ false) c.self.view_is
-    (lt-leb _ _ (omega (arith, c.have_room.ensures known buffer strength, c.self.invariant.handle_limit)))
+    (lt-leb _ _ (omega (arith, c.have_room.ensures known buffer strength, c.self.invariant.whole.handle_limit)))

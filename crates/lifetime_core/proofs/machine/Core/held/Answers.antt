@@ -11,7 +11,7 @@ pub returns-clause-shown : goal.returns-clause-shown
 returns-clause-shown c =
     let paged : HavePages c.args.self.now.forest =
     subst (λ (s : State). HavePages s.forest) c.self.view_is
-    (have_pages c.self.inside.contents.pool c.self.inside.contents.forest c.self.invariant.pages
+    (have_pages c.self.inside.contents.pool c.self.inside.contents.forest c.self.invariant.whole.pages
     c.free_pages-free.ensures.sound) in
     IfOk-weaker c.held.result _ _
     (λ held is history shows. is ∙ (ap (λ (s : State). held_by_page s.forest) c.self.view_is
@@ -22,6 +22,6 @@ pub returns-clause-apart : goal.returns-clause-apart
 returns-clause-apart c =
     IfOk-weaker c.held.result _ _
     (λ held is. subst (AllPairs EndsBefore) (sym is)
-    (held_in_order c.self.inside.contents.pool c.self.inside.contents.forest c.self.invariant.pages
+    (held_in_order c.self.inside.contents.pool c.self.inside.contents.forest c.self.invariant.whole.pages
     c.free_pages-free.ensures.sound))
     c.held.ensures
