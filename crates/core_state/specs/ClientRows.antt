@@ -1,5 +1,7 @@
 -- What an event does to the row of one client. No public clause cites this module.
-use Rattle.std.specs.Prelude.{ℕ, true, ◌==◌, if◌then◌else◌, List, [], ◌∷◌, ◌++◌, map, drop}
+use Rattle.std.specs.Prelude.{ℕ, true, ◌==◌, if◌then◌else◌, List, [], ◌∷◌, ◌++◌, map, drop, Option, Some, None, Box}
+use Rattle.std.specs.declared.alloc.Global.{Global}
+use Rattle.std.specs.declared.collections.VecDeque.{VecDeque}
 use Rattle.sm_names.specs.declared.messages.Parcel.{Parcel}
 use Rattle.core_state.specs.State.{Client}
 
@@ -18,3 +20,8 @@ with_parcel parcel c = record c { waiting = c.waiting ++ parcel ∷ [] }
 -- the client, without the first parcel that waited
 abbrev pub without_first : Client → Client
 without_first c = record c { waiting = drop 1 c.waiting }
+
+-- the parcels in a queue, if there is one
+abbrev pub parcels_in : Option (Box (VecDeque Parcel Global) Global) → List Parcel
+parcels_in None = []
+parcels_in (Some parcels) = parcels.value.items

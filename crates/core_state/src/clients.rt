@@ -14,13 +14,17 @@ use std::alloc::{AllocError, Global};
 use std::collections::VecDeque;
 use std::marker::Model;
 
-/// A client that joined.
+/// A queue with room for more parcels than this gives its memory back once it is empty.
+const KEPT_ROOM: usize = 64;
+
+/// A client that joined. Once it is shut and no parcel waits for it, its row of 24 bytes is all that is
+/// kept of it.
 #[derive(Drop)]
 pub struct Client {
     id: ClientId,
     shut: bool,
-    // The first one first.
-    waiting: VecDeque<Parcel>,
+    // The first one first. None before the first parcel, and after `tidy`.
+    waiting: Option<Box<VecDeque<Parcel>>>,
 }
 
 impl Model for Client {
@@ -28,7 +32,94 @@ impl Model for Client {
 
     ghost Value = { Client };
 
-    ghost view = { λ c. record { id = c.id; shut = c.shut; waiting = c.waiting.items } };
+    ghost use Rattle.core_state.specs.ClientRows.{parcels_in};
+
+    ghost view = { λ c. record { id = c.id; shut = c.shut; waiting = parcels_in c.waiting } };
+}
+
+impl Client {
+    // How many parcels wait.
+    #[inline(always)]
+    fn count_waiting(&self) -> usize
+        ensures { result ≡ length self.now.waiting }
+    {
+        match &self.waiting {
+            Some(parcels) => {
+                let (front, back) = parcels.as_slices();
+                front.len() + back.len()
+            }
+            None => 0,
+        }
+    }
+
+    // The parcel that is collected next.
+    #[inline(always)]
+    fn first_waiting(&self) -> Option<Parcel>
+        ensures { result ≡ slice_get self.now.waiting 0 }
+    {
+        match &self.waiting {
+            Some(parcels) => parcels.front().copied(),
+            None => None,
+        }
+    }
+
+    // Shuts the client.
+    fn shut(&mut self)
+        ensures { self.new ≡ now_shut self.old }
+    {
+        self.shut = true;
+        self.tidy();
+    }
+
+    // Puts the parcel behind those that wait.
+    #[inline(always)]
+    fn push(&mut self, alloc: Global, parcel: Parcel) -> Result<(), NoMemory>
+        ensures ok { OnOk result (self.new ≡ with_parcel parcel self.old) }
+        ensures err { OnErr result (self.new ≡ self.old) }
+    {
+        if let Some(parcels) = &mut self.waiting {
+            return match parcels.push_back(parcel) {
+                Ok(()) => Ok(()),
+                Err(_) => Err(NoMemory),
+            };
+        }
+        let Ok(mut parcels) = Box::new(alloc, VecDeque::new(alloc)) else {
+            return Err(NoMemory);
+        };
+        if parcels.push_back(parcel).is_err() {
+            return Err(NoMemory);
+        }
+        self.waiting = Some(parcels);
+        Ok(())
+    }
+
+    // Takes the first parcel that waits.
+    #[inline(always)]
+    fn pop(&mut self)
+        ensures { self.new ≡ without_first self.old }
+    {
+        if let Some(parcels) = &mut self.waiting {
+            parcels.pop_front();
+        }
+        self.tidy();
+    }
+
+    // Gives the memory of an empty queue back if no parcel can come any more, or if it has room for many.
+    #[inline(always)]
+    fn tidy(&mut self)
+        ensures { self.new ≡ self.old }
+    {
+        if self.count_waiting() > 0 {
+            return;
+        }
+        let mut is_over = false;
+        if let Some(parcels) = &self.waiting {
+            is_over = self.shut || parcels.capacity() > KEPT_ROOM;
+        }
+        if is_over {
+            self.waiting = None;
+        }
+    }
 }
 
 /// Whether the client joined. Costs O(log clients): clients are numbered as they join.
@@ -64,11 +155,7 @@ pub fn count_waiting(clients: &[Client], client: ClientId) -> usize
         (find (λ (c : Row). c.id == client) clients.now) []) }
 {
     match place_of(clients, client) {
-        Some(at) => {
-            let row = &clients[at];
-            let (front, back) = row.waiting.as_slices();
-            front.len() + back.len()
-        }
+        Some(at) => clients[at].count_waiting(),
         None => 0,
     }
 }
@@ -80,8 +167,7 @@ pub fn first_waiting(clients: &[Client], client: ClientId) -> Option<Parcel>
     ensures { result ≡ slice_get (option_map_or (λ (c : Row). c.waiting)
         (find (λ (c : Row). c.id == client) clients.now) []) 0 }
 {
-    let row = &clients[place_of(clients, client)?];
-    row.waiting.front().copied()
+    clients[place_of(clients, client)?].first_waiting()
 }
 
 /// Changes the clients as the event does: a client joins or is shut, or a parcel is given or
@@ -163,11 +249,10 @@ fn admit(clients: &mut Vec<Client>, made: ClientId) -> Result<(), NoMemory>
     ensures ok { OnOk result (clients.new.items ≡ clients.old.items ++ new_client made ∷ []) }
     ensures err { OnErr result (clients.new.items ≡ clients.old.items) }
 {
-    let alloc = *clients.allocator();
     match clients.push(Client {
         id: made,
         shut: false,
-        waiting: VecDeque::new(alloc),
+        waiting: None,
     }) {
         Ok(()) => Ok(()),
         Err(_) => Err(NoMemory),
@@ -181,8 +266,7 @@ fn shut(clients: &mut Vec<Client>, client: ClientId)
     ensures { clients.new.items ≡ with_client client now_shut clients.old.items }
 {
     if let Some(at) = place_of(clients, client) {
-        let row = &mut clients[at];
-        row.shut = true;
+        clients[at].shut();
     }
 }
 
@@ -197,11 +281,8 @@ fn send(clients: &mut Vec<Client>, to: ClientId, parcel: Parcel) -> Result<(), N
     let Some(at) = place_of(clients, to) else {
         return Ok(());
     };
-    let row = &mut clients[at];
-    match row.waiting.push_back(parcel) {
-        Ok(()) => Ok(()),
-        Err(_) => Err(NoMemory),
-    }
+    let alloc = *clients.allocator();
+    clients[at].push(alloc, parcel)
 }
 
 // Takes the first parcel that waits for the client.
@@ -211,8 +292,7 @@ fn collect(clients: &mut Vec<Client>, client: ClientId)
     ensures { clients.new.items ≡ with_client client without_first clients.old.items }
 {
     if let Some(at) = place_of(clients, client) {
-        let row = &mut clients[at];
-        row.waiting.pop_front();
+        clients[at].pop();
     }
 }
 

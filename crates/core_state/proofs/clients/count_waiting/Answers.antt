@@ -1,4 +1,4 @@
-use Rattle.std.proofs.Common.{◌∙◌, ap, sym, refl, length, length-append}
+use Rattle.std.proofs.Common.{◌∙◌, ap, sym, refl, length}
 use Rattle.core_state.specs.State.{Client}
 use Rattle.core_state.proofs.joined.Rows.{finds, finds_none}
 use Rattle.core_state.proofs.clients.count_waiting.Goals as goal
@@ -6,10 +6,9 @@ use Rattle.core_state.proofs.clients.count_waiting.Goals as goal
 -- the row of the client
 pub returns-in-Some : goal.returns-in-Some
 returns-in-Some c =
-    let found = finds c.args.client c.args.clients.now c.in-Some.at c.index-clients-at.result (sym c.place_of.ensures
-    ∙ c.in-Some.is) c.index-clients-at.is in
-    rw found (sym (length-append c.as_slices.result.0.now c.as_slices.result.1.now) ∙ ap length c.as_slices.ensures.items
-    ∙ ap (λ (r : Client). length r.waiting) c.row.view_is)
+    let found = finds c.args.client c.args.clients.now c.in-Some.at c.index-clients-at.result (sym c.place_of.ensures ∙ c.in-Some.is)
+    c.index-clients-at.is in
+    rw found c.count_waiting.ensures
 
 pub returns-in-None : goal.returns-in-None
 returns-in-None c = rw (finds_none c.args.client c.args.clients.now (sym c.place_of.ensures ∙ c.in-None.is)) refl

@@ -9,8 +9,8 @@ pub returns-in-Some : goal.returns-in-Some
 returns-in-Some c =
     let rows = c.args.clients.now.items in
     let place = sym (rw c.deref.ensures.value at c.place_of.ensures) ∙ c.in-Some.is in
-    ap (λ (r : Client). set rows c.in-Some.at (now_shut r)) c.row.view_is
-    ∙ one_changed c.args.client now_shut rows c.in-Some.at c.index_mut-row.result.now c.requires place c.index_mut-row.ensures.value
+    ap (λ (r : Client). set rows c.in-Some.at r) c.shut.ensures
+    ∙ one_changed c.args.client now_shut rows c.in-Some.at c.index_mut.result.now c.requires place c.index_mut.ensures.value
 
 pub returns-in_default : goal.returns-in_default
 returns-in_default c =
