@@ -1,7 +1,18 @@
--- The arguments of the functions that run a script.
-use Rattle.std.specs.Prelude.{Bool, true, false}
+-- What the program does with a script, and what it then leaves.
+use Rattle.std.specs.Prelude.{◌≡◌, ◌⊎◌, ℕ, Bool, true, false, List, Option, Some, None, codes, option_map}
+use Rattle.clap.specs.Matches.{subcommand_name_of}
+use Rattle.clap.specs.declared.parser.matches.ArgMatches.{ArgMatches}
+use Rattle.command_line.specs.Asked.{AreAsked, HasEvent, HasFormat, HasRecord, IsTask, subcommand_text, value_text}
+use Rattle.command_line.specs.declared.request.Request.{Request}
 use Rattle.command_line.specs.declared.task.Format.{Format as AskedFormat}
+use Rattle.command_line.specs.declared.task.Task.{Task}
+use Rattle.script_draw.specs.Draws.{EndsDrawn}
 use Rattle.script_draw.specs.declared.draw.Format.{Format}
+use Rattle.script_explain.specs.Comparisons.{EndsChecked}
+use Rattle.script_explain.specs.Explanations.{EndsExplained}
+use Rattle.sm_script.specs.Endings.{Ends}
+use Rattle.sm_script.specs.Scenes.{Setting}
+use Rattle.thread_runs.specs.Endings.{EndsThreads, program_limits}
 use Rattle.thread_runs.specs.declared.job.Output.{Output}
 
 -- what a run of actors writes: its record too, if that is asked for
@@ -14,3 +25,64 @@ abbrev pub format_for : AskedFormat → Format
 format_for AskedFormat.Text = Format.Text
 format_for AskedFormat.Dot = Format.Dot
 format_for AskedFormat.Svg = Format.Svg
+
+-- a pool of this many pages, and the greatest limits
+abbrev pub setting_of : ℕ → Setting
+setting_of pages = record { pool = pages; limits = program_limits }
+
+-- what is left of the input, what the output has, and what was told of faults, as far as the streams tell their bytes
+pub record Streams : Type 0 where
+  pub left : Option (List ℕ)
+  pub written : Option (List ℕ)
+  pub told : Option (List ℕ)
+
+abbrev pub streams : Option (List ℕ) → Option (List ℕ) → Option (List ℕ) → Streams
+streams left written told = record { left = left; written = written; told = told }
+
+-- the task was done with the script in the input and a pool of this many pages, and the program ends with this status
+abbrev pub IsPlayed : Task → ℕ → Streams → Streams → ℕ → Type 0
+IsPlayed Task.Run pages before after status =
+    Ends (setting_of pages) before.left after.left before.written after.written before.told after.told status
+IsPlayed (Task.Threads has_record) pages before after status =
+    EndsThreads (output_for has_record) pages before.left after.left before.written after.written before.told after.told status
+IsPlayed Task.Explain pages before after status =
+    EndsExplained (setting_of pages) before.left after.left before.written after.written before.told after.told status
+IsPlayed (Task.Draw view) pages before after status =
+    EndsDrawn (setting_of pages) (record { format = format_for view.format; at = view.at })
+    before.left after.left before.written after.written before.told after.told status
+IsPlayed Task.Check pages before after status =
+    EndsChecked (setting_of pages) before.left after.left before.written after.written before.told after.told status
+
+-- the script was in a file, whose bytes are these: the input is as before
+pub record PlaysFile (task : Task) (pages : ℕ) (before after : Streams) (status : ℕ) : Type 0 where
+  pub left_before : Option (List ℕ)
+  pub left : Option (List ℕ)
+  pub input : after.left ≡ before.left
+  pub played : IsPlayed task pages (streams left_before before.written before.told) (streams left after.written after.told) status
+
+-- the script is in the input if no file is named; else it is in that file, or the file can't be opened
+abbrev pub IsRead : Option (List ℕ) → Task → ℕ → Streams → Streams → ℕ → Type 0
+IsRead None task pages before after status = IsPlayed task pages before after status
+IsRead (Some name) task pages before after status =
+    ((after ≡ before) × (status ≡ 1)) ⊎ PlaysFile task pages before after status
+
+-- what the matches of a parse ask for
+pub record IsAsked (matches : ArgMatches) (request : Request) : Type 0 where
+  pub pages : AreAsked (value_text (codes "pages") matches) (Some request.pages.count)
+  pub task : IsTask (subcommand_name_of matches) request.task
+  pub format : HasFormat (subcommand_text (codes "format") matches) request.task
+  pub event : HasEvent (value_text (codes "at") matches) request.task
+  pub record_asked : HasRecord (value_text (codes "record") matches) request.task
+  pub file : option_map (λ name. name.now) request.file ≡ subcommand_text (codes "file") matches
+
+-- what the matches ask for was done
+pub record IsDone (matches : ArgMatches) (before after : Streams) (status : ℕ) : Type 0 where
+  pub request : Request
+  pub asked : IsAsked matches request
+  pub read : IsRead (option_map (λ name. name.now) request.file) request.task request.pages.count before after status
+
+-- the matches are answered: by status 2 and nothing else if they ask for no number of pages that a pool has
+abbrev pub IsAnswered : ArgMatches → Streams → Streams → ℕ → Type 0
+IsAnswered matches before after status =
+    (AreAsked (value_text (codes "pages") matches) None × ((after ≡ before) × (status ≡ 2)))
+    ⊎ IsDone matches before after status

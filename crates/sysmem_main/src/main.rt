@@ -4,22 +4,23 @@
 
 mod messages;
 
-ghost use Rattle.std.specs.Prelude.{◌≡◌};
+ghost use Rattle.std.specs.Prelude.{◌≡◌, MatchResult, option_map};
 ghost use Rattle.std.specs.Process.{exit_status};
 ghost use Rattle.std.specs.IoError.{error_kind};
 ghost use Rattle.clap.specs.Words.{kind_of};
-ghost use Rattle.sysmem_main.specs.Jobs.{format_for, output_for};
+ghost use Rattle.sysmem_main.specs.Jobs.{IsAnswered, IsPlayed, IsRead, format_for, output_for, streams};
 ghost use Rattle.sysmem_main.specs.Statuses.{refusal_status, unread_status};
 
 use clap::error::ErrorKind;
-use clap::{ArgMatches, Command, Error};
+use clap::{ArgMatches, Error};
 use command_line::{Format, Request, Task, View, command, request_of};
 use messages::{Misplaced, NO_COMMAND, Unopened, misplaced_file, reason_of};
 use script_draw::draw_to_exit;
 use script_explain::{check_to_exit, explain_to_exit};
 use sm_script::run_to_exit;
+use std::alloc::Global;
 use std::fs::{Files, OpenFile};
-use std::io::Read;
+use std::io::{Read, Write};
 use std::process::ExitCode;
 use std::random::RandomSource;
 use std::sync::Wait;
@@ -104,63 +105,84 @@ fn words_of(rt: &HostRuntime) -> Result<Vec<String>, ExitCode> {
     }
 }
 
-// What the matches of a parse ask for, or the status where no pool has as many pages.
-fn asked<'a>(rt: &HostRuntime, matches: &ArgMatches<'a>) -> Result<Request<'a>, ExitCode> {
-    match request_of(matches) {
-        Some(request) => Ok(request),
-        None => {
-            let _ = rt.eprintln("the pool has from 1 to 1048576 pages");
-            Err(ExitCode::from(2))
-        }
+fn main(rt: HostRuntime) -> ExitCode {
+    match words_of(&rt) {
+        Ok(words) => start(&rt, &rt, words.as_slice()),
+        Err(status) => status,
     }
 }
 
-// What the words ask this command for, or the status where it is help, or nothing that is run.
-fn parsed<'a>(
-    rt: &HostRuntime,
-    command: Command<'a>,
-    words: &'a [String],
-) -> Result<Request<'a>, ExitCode> {
-    match command.try_get_matches_from(words) {
-        Ok(matches) => asked(rt, &matches),
-        Err(error) => Err(refuse(rt, error, words)),
-    }
-}
-
-// Does what the words ask for.
-fn serve<H: Threads + Wait + Clock + Sync>(
+// Parses the words, and does what they ask for with the program's own streams.
+fn start<H: Threads + Wait + Clock + Sync>(
     rt: &HostRuntime,
     host: &H,
     words: &[String],
 ) -> ExitCode {
-    let request = match command(rt.alloc()) {
-        Ok(command) => parsed(rt, command, words),
-        Err(_) => Err(no_memory(rt)),
+    let Ok(command) = command(rt.alloc()) else {
+        return no_memory(rt);
     };
-    match request {
-        Ok(request) => read(rt, host, random_seed(rt), request),
-        Err(status) => status,
+    let parse = command.try_get_matches_from(words);
+    let reader = &mut rt.reader();
+    let writer = &mut io::writer(rt);
+    let stderr = rt.stderr();
+    let faults = &mut io::writer(&stderr);
+    serve(rt, host, words, parse, reader, writer, faults)
+}
+
+// Does what the parse of the words asks for: with the script that is named, or that the reader holds.
+fn serve<H: Threads + Wait + Clock + Sync, R: Read, W: Write, F: Write>(
+    rt: &HostRuntime,
+    host: &H,
+    words: &[String],
+    parse: Result<ArgMatches<'_>, Error>,
+    reader: &mut R,
+    writer: &mut W,
+    faults: &mut F,
+) -> ExitCode
+    ensures { MatchResult parse.entry
+        (λ matches. IsAnswered matches
+        (streams (R.remaining reader.old) (W.contents writer.old) (F.contents faults.old))
+        (streams (R.remaining reader.new) (W.contents writer.new) (F.contents faults.new))
+        (exit_status result))
+        (λ e. exit_status result ≡ refusal_status (kind_of e)) }
+{
+    match parse {
+        Ok(matches) => match request_of(&matches) {
+            Some(request) => read(rt, host, random_seed(rt), reader, writer, faults, request),
+            None => no_such_pool(rt),
+        },
+        Err(error) => refuse(rt, error, words),
     }
 }
 
-fn main(rt: HostRuntime) -> ExitCode {
-    match words_of(&rt) {
-        Ok(words) => serve(&rt, &rt, words.as_slice()),
-        Err(status) => status,
-    }
+// No pool has as many pages as are asked for.
+fn no_such_pool(rt: &impl Eprint) -> ExitCode
+    ensures { exit_status result ≡ 2 }
+{
+    let _ = rt.eprintln("the pool has from 1 to 1048576 pages");
+    ExitCode::from(2)
 }
 
-// Does with the script that is named, or stands on standard input, what is asked for.
-fn read<H: Threads + Wait + Clock + Sync>(
+// Does what is asked for with the script that is named, or that the reader holds.
+fn read<H: Threads + Wait + Clock + Sync, R: Read, W: Write, F: Write>(
     rt: &HostRuntime,
     host: &H,
     seed: [u8; 16],
+    reader: &mut R,
+    writer: &mut W,
+    faults: &mut F,
     request: Request<'_>,
-) -> ExitCode {
+) -> ExitCode
+    ensures { IsRead (option_map (λ name. name.now) request.entry.file) request.entry.task
+        request.entry.pages.count
+        (streams (R.remaining reader.old) (W.contents writer.old) (F.contents faults.old))
+        (streams (R.remaining reader.new) (W.contents writer.new) (F.contents faults.new))
+        (exit_status result) }
+{
     match request.file {
-        None => play(rt, host, seed, &mut rt.reader(), request),
+        None => play(rt.alloc(), host, seed, reader, writer, faults, request),
         Some(name) => match opened(rt, name) {
-            Ok(mut file) => play(rt, host, seed, &mut file, request),
+            Ok(mut file) => play(rt.alloc(), host, seed, &mut file, writer, faults, request),
             Err(kind) => unopened(rt, name, kind),
         },
     }
@@ -192,18 +214,22 @@ fn unopened(rt: &impl Eprint, name: &str, kind: io::ErrorKind) -> ExitCode
     ExitCode::from(1)
 }
 
-// Does with the script that the reader holds what is asked for. Actors get their threads from the host.
-fn play<R: Read, H: Threads + Wait + Clock + Sync>(
-    rt: &HostRuntime,
+// Does with the script that the reader holds what is asked for, with a pool of the pages that are
+// asked for. Actors get their threads from the host.
+fn play<H: Threads + Wait + Clock + Sync, R: Read, W: Write, F: Write>(
+    alloc: Global,
     host: &H,
     seed: [u8; 16],
     reader: &mut R,
+    writer: &mut W,
+    faults: &mut F,
     request: Request<'_>,
-) -> ExitCode {
-    let alloc = rt.alloc();
-    let writer = &mut io::writer(rt);
-    let stderr = rt.stderr();
-    let faults = &mut io::writer(&stderr);
+) -> ExitCode
+    ensures { IsPlayed request.entry.task request.entry.pages.count
+        (streams (R.remaining reader.old) (W.contents writer.old) (F.contents faults.old))
+        (streams (R.remaining reader.new) (W.contents writer.new) (F.contents faults.new))
+        (exit_status result) }
+{
     let pages = request.pages;
     match request.task {
         Task::Run => run_to_exit(alloc, seed, reader, writer, faults, pages),

@@ -1,0 +1,18 @@
+use Rattle.std.proofs.Common.{inr}
+use Rattle.sysmem_main.proofs.serve.Goals as goal
+
+-- the request that was read is the one that the matches ask for
+pub returns-in-Some : goal.returns-in-Some
+returns-in-Some g c =
+    rw c.in-Ok.is (inr (record {
+      request = c.in-Some.request;
+      asked = record {
+        pages = c.in-Some.ensures.pages;
+        task = c.in-Some.ensures.task;
+        format = c.in-Some.ensures.format;
+        event = c.in-Some.ensures.event;
+        record_asked = c.in-Some.ensures.«record»;
+        file = c.in-Some.ensures.file;
+      };
+      read = c.read.ensures;
+    }))
