@@ -1,8 +1,8 @@
 -- What an event does to the row of one client. No public clause cites this module.
-use Rattle.std.specs.Prelude.{ℕ, true, ◌==◌, if◌then◌else◌, List, [], ◌∷◌, ◌++◌, map, drop, Option, Some, None, Box}
-use Rattle.std.specs.declared.alloc.Global.{Global}
-use Rattle.std.specs.declared.collections.VecDeque.{VecDeque}
+use Rattle.std.specs.Prelude.{ℕ, Bool, true, false, ◌==◌, if◌then◌else◌, List, [], ◌∷◌, ◌++◌, map, drop}
 use Rattle.sm_names.specs.declared.messages.Parcel.{Parcel}
+use Rattle.core_state.specs.declared.clients.Standing.{Standing}
+use Rattle.core_state.specs.declared.clients.Standing.TheVariants.{Open, OpenWith, Shut, ShutWith}
 use Rattle.core_state.specs.State.{Client}
 
 -- the rows, where that of this client was changed so
@@ -21,7 +21,16 @@ with_parcel parcel c = record c { waiting = c.waiting ++ parcel ∷ [] }
 abbrev pub without_first : Client → Client
 without_first c = record c { waiting = drop 1 c.waiting }
 
--- the parcels in a queue, if there is one
-abbrev pub parcels_in : Option (Box (VecDeque Parcel Global) Global) → List Parcel
-parcels_in None = []
-parcels_in (Some parcels) = parcels.value.items
+-- a client that stands so is shut
+abbrev pub is_shut_so : Standing → Bool
+is_shut_so Open = false
+is_shut_so (OpenWith parcels) = false
+is_shut_so Shut = true
+is_shut_so (ShutWith parcels) = true
+
+-- the parcels that wait for it
+abbrev pub parcels_in : Standing → List Parcel
+parcels_in Open = []
+parcels_in (OpenWith parcels) = parcels.value.items
+parcels_in Shut = []
+parcels_in (ShutWith parcels) = parcels.value.items

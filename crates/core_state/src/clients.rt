@@ -13,18 +13,27 @@ use sm_names::{Call, ClientId, NoMemory, Parcel, Reply};
 use std::alloc::{AllocError, Global};
 use std::collections::VecDeque;
 use std::marker::Model;
+use std::mem;
 
 /// A queue with room for more parcels than this gives its memory back once it is empty.
 const KEPT_ROOM: usize = 64;
+
+/// Whether a client is shut, and the parcels that wait for it, the first one first. There is no queue before the
+/// first parcel, and after `tidy`.
+#[derive(Drop)]
+enum Standing {
+    Open,
+    OpenWith(Box<VecDeque<Parcel>>),
+    Shut,
+    ShutWith(Box<VecDeque<Parcel>>),
+}
 
 /// A client that joined. Once it is shut and no parcel waits for it, its row of 24 bytes is all that is
 /// kept of it.
 #[derive(Drop)]
 pub struct Client {
     id: ClientId,
-    shut: bool,
-    // The first one first. None before the first parcel, and after `tidy`.
-    waiting: Option<Box<VecDeque<Parcel>>>,
+    standing: Standing,
 }
 
 impl Model for Client {
@@ -32,23 +41,33 @@ impl Model for Client {
 
     ghost Value = { Client };
 
-    ghost use Rattle.core_state.specs.ClientRows.{parcels_in};
+    ghost use Rattle.core_state.specs.ClientRows.{is_shut_so, parcels_in};
 
-    ghost view = { λ c. record { id = c.id; shut = c.shut; waiting = parcels_in c.waiting } };
+    ghost view = { λ c.
+        record { id = c.id; shut = is_shut_so c.standing; waiting = parcels_in c.standing } };
 }
 
 impl Client {
+    // Whether the client is shut.
+    #[inline(always)]
+    fn is_shut(&self) -> bool
+        ensures { result ≡ self.now.shut }
+    {
+        match &self.standing {
+            Standing::Open | Standing::OpenWith(_) => false,
+            Standing::Shut | Standing::ShutWith(_) => true,
+        }
+    }
+
     // How many parcels wait.
     #[inline(always)]
     fn count_waiting(&self) -> usize
         ensures { result ≡ length self.now.waiting }
     {
-        match &self.waiting {
-            Some(parcels) => {
-                let (front, back) = parcels.as_slices();
-                front.len() + back.len()
-            }
-            None => 0,
+        match &self.standing {
+            Standing::OpenWith(parcels) => count_of(parcels),
+            Standing::ShutWith(parcels) => count_of(parcels),
+            Standing::Open | Standing::Shut => 0,
         }
     }
 
@@ -57,9 +76,10 @@ impl Client {
     fn first_waiting(&self) -> Option<Parcel>
         ensures { result ≡ slice_get self.now.waiting 0 }
     {
-        match &self.waiting {
-            Some(parcels) => parcels.front().copied(),
-            None => None,
+        match &self.standing {
+            Standing::OpenWith(parcels) => parcels.front().copied(),
+            Standing::ShutWith(parcels) => parcels.front().copied(),
+            Standing::Open | Standing::Shut => None,
         }
     }
 
@@ -67,7 +87,11 @@ impl Client {
     fn shut(&mut self)
         ensures { self.new ≡ now_shut self.old }
     {
-        self.shut = true;
+        match mem::replace(&mut self.standing, Standing::Shut) {
+            Standing::OpenWith(parcels) => self.standing = Standing::ShutWith(parcels),
+            Standing::ShutWith(parcels) => self.standing = Standing::ShutWith(parcels),
+            Standing::Open | Standing::Shut => {}
+        }
         self.tidy();
     }
 
@@ -77,20 +101,18 @@ impl Client {
         ensures ok { OnOk result (self.new ≡ with_parcel parcel self.old) }
         ensures err { OnErr result (self.new ≡ self.old) }
     {
-        if let Some(parcels) = &mut self.waiting {
-            return match parcels.push_back(parcel) {
-                Ok(()) => Ok(()),
-                Err(_) => Err(NoMemory),
-            };
+        match &mut self.standing {
+            Standing::OpenWith(parcels) => add(parcels, parcel),
+            Standing::ShutWith(parcels) => add(parcels, parcel),
+            Standing::Open => {
+                self.standing = Standing::OpenWith(queue_of(alloc, parcel)?);
+                Ok(())
+            }
+            Standing::Shut => {
+                self.standing = Standing::ShutWith(queue_of(alloc, parcel)?);
+                Ok(())
+            }
         }
-        let Ok(mut parcels) = Box::new(alloc, VecDeque::new(alloc)) else {
-            return Err(NoMemory);
-        };
-        if parcels.push_back(parcel).is_err() {
-            return Err(NoMemory);
-        }
-        self.waiting = Some(parcels);
-        Ok(())
     }
 
     // Takes the first parcel that waits.
@@ -98,8 +120,14 @@ impl Client {
     fn pop(&mut self)
         ensures { self.new ≡ without_first self.old }
     {
-        if let Some(parcels) = &mut self.waiting {
-            parcels.pop_front();
+        match &mut self.standing {
+            Standing::OpenWith(parcels) => {
+                parcels.pop_front();
+            }
+            Standing::ShutWith(parcels) => {
+                parcels.pop_front();
+            }
+            Standing::Open | Standing::Shut => {}
         }
         self.tidy();
     }
@@ -112,14 +140,50 @@ impl Client {
         if self.count_waiting() > 0 {
             return;
         }
-        let mut is_over = false;
-        if let Some(parcels) = &self.waiting {
-            is_over = self.shut || parcels.capacity() > KEPT_ROOM;
-        }
-        if is_over {
-            self.waiting = None;
+        match &self.standing {
+            Standing::OpenWith(parcels) => {
+                if parcels.capacity() > KEPT_ROOM {
+                    self.standing = Standing::Open;
+                }
+            }
+            Standing::ShutWith(_) => self.standing = Standing::Shut,
+            Standing::Open | Standing::Shut => {}
         }
     }
+}
+
+// How many parcels are in the queue.
+#[inline(always)]
+fn count_of(parcels: &VecDeque<Parcel>) -> usize
+    ensures { result ≡ length parcels.now.items }
+{
+    let (front, back) = parcels.as_slices();
+    front.len() + back.len()
+}
+
+// Puts the parcel behind the others.
+#[inline(always)]
+fn add(parcels: &mut VecDeque<Parcel>, parcel: Parcel) -> Result<(), NoMemory>
+    ensures ok { OnOk result (parcels.new.items ≡ parcels.old.items ++ parcel ∷ []) }
+    ensures err { OnErr result (parcels.new.items ≡ parcels.old.items) }
+{
+    match parcels.push_back(parcel) {
+        Ok(()) => Ok(()),
+        Err(_) => Err(NoMemory),
+    }
+}
+
+// A queue of this parcel.
+fn queue_of(alloc: Global, parcel: Parcel) -> Result<Box<VecDeque<Parcel>>, NoMemory>
+    ensures { IfOk result (λ queue. queue.value.items ≡ parcel ∷ []) }
+{
+    let Ok(mut parcels) = Box::new(alloc, VecDeque::new(alloc)) else {
+        return Err(NoMemory);
+    };
+    if parcels.push_back(parcel).is_err() {
+        return Err(NoMemory);
+    }
+    Ok(parcels)
 }
 
 /// Whether the client joined. Costs O(log clients): clients are numbered as they join.
@@ -139,10 +203,7 @@ pub fn is_shut(clients: &[Client], client: ClientId) -> bool
         (find (λ (c : Row). c.id == client) clients.now) false }
 {
     match place_of(clients, client) {
-        Some(at) => {
-            let row = &clients[at];
-            row.shut
-        }
+        Some(at) => clients[at].is_shut(),
         None => false,
     }
 }
@@ -251,8 +312,7 @@ fn admit(clients: &mut Vec<Client>, made: ClientId) -> Result<(), NoMemory>
 {
     match clients.push(Client {
         id: made,
-        shut: false,
-        waiting: None,
+        standing: Standing::Open,
     }) {
         Ok(()) => Ok(()),
         Err(_) => Err(NoMemory),

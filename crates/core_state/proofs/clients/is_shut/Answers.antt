@@ -1,5 +1,4 @@
-use Rattle.std.proofs.Common.{◌∙◌, ap, sym, refl}
-use Rattle.core_state.specs.State.{Client}
+use Rattle.std.proofs.Common.{◌∙◌, sym, refl}
 use Rattle.core_state.proofs.joined.Rows.{finds, finds_none}
 use Rattle.core_state.proofs.clients.is_shut.Goals as goal
 
@@ -8,7 +7,7 @@ pub returns-in-Some : goal.returns-in-Some
 returns-in-Some c =
     let found = finds c.args.client c.args.clients.now c.in-Some.at c.index-clients-at.result (sym c.place_of.ensures
     ∙ c.in-Some.is) c.index-clients-at.is in
-    rw found (ap (λ (r : Client). r.shut) c.row.view_is)
+    rw found c.is_shut.ensures
 
 pub returns-in-None : goal.returns-in-None
 returns-in-None c = rw (finds_none c.args.client c.args.clients.now (sym c.place_of.ensures ∙ c.in-None.is)) refl
