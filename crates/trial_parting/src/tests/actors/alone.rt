@@ -1,16 +1,45 @@
 //! One client that runs a script.
-use super::asking::{Silent, ask, open};
+use super::asking::{ask, open};
 use crate::tests::asking::{made, put};
 use actor_scripts::ActorScript;
-use client_actors::{ActorEnd, run_actor};
+use client_actors::{ActorEnd, Gate, run_actor};
 use client_ends::join;
 use client_parting::{Holding, Wreck, end_service};
 use service_lock::{Service, Setup};
-use sm_names::{Argument, Call, CallKind};
+use sm_names::{Argument, Call, CallKind, ClientId, Reply};
 use std::alloc::Global;
 use std::process::Abort;
 use std::sync::Wait;
+use std::sync::atomic::{AtomicU64, Ordering};
 use std::sync::ledger::Ledger;
+
+// A gate that notes what it hears, as digits: before a step its number, and after it the number and whether it
+// made a call.
+struct Heard {
+    digits: AtomicU64,
+}
+
+impl Heard {
+    fn note(&self, digit: u64) {
+        let before = self.digits.load(Ordering::SeqCst);
+        let now = before.wrapping_mul(10).wrapping_add(digit);
+        self.digits.store(now, Ordering::SeqCst);
+    }
+}
+
+impl Gate for Heard {
+    fn before(&self, _client: ClientId, step: u64) {
+        self.note(step);
+    }
+
+    fn after(&self, _client: ClientId, step: u64, reply: &Option<Reply>) {
+        self.note(step);
+        self.note(u64::from(reply.is_some()));
+    }
+}
+
+// It is told of the steps that are left out too.
+const ALL_HEARD: u64 = 110_221_330_441_550;
 
 // A token that is bound, between steps that are left out.
 fn script<R: Abort>(rt: &R, alloc: Global) -> ActorScript {
@@ -46,11 +75,15 @@ pub fn alone<E: Setup, S: Ledger, W: Ledger, R: Wait + Abort>(
     let client = made(rt, join(rt, alloc, &service));
     let ids = [client.id()];
     let script = script(rt, alloc);
-    let wreck = match run_actor(rt, alloc, &service, &Silent, &ids, client, &script) {
+    let gate = Heard {
+        digits: AtomicU64::new(0),
+    };
+    let wreck = match run_actor(rt, alloc, &service, &gate, &ids, client, &script) {
         ActorEnd::Wrecked(wreck) => wreck,
         _ => panic!(rt; "not played"),
     };
-    assert!(rt; is_played(&wreck));
+    let Heard { digits } = gate;
+    assert!(rt; is_played(&wreck) && digits.load(Ordering::SeqCst) == ALL_HEARD);
     let mut parts = Vec::new(alloc);
     put(rt, &mut parts, Holding::Wrecked(wreck));
     end_service(service, parts);
