@@ -5,12 +5,12 @@ use Rattle.sm_names.specs.declared.keys.Strength.{Strength}
 use Rattle.buffer_holds.specs.declared.kinds.HandleKind.{HandleKind}
 use Rattle.buffer_holds.specs.declared.kinds.Hold.{Hold}
 use Rattle.buffer_holds.specs.declared.tally.Tally.{Tally}
-use Rattle.buffer_holds.specs.Counts.{Counts, moving_count}
+use Rattle.buffer_holds.specs.Counts.{Counts, HasPlaces, moving_count, sent}
 use Rattle.buffer_holds.specs.Kinds.{hold_of, kind_of, same_handle_kind}
 use Rattle.buffer_holds.specs.Rows.{Raises, Resets, count_at}
-use Rattle.buffer_holds.specs.Sound.{CountsInvariant, HasPlaces, tally_at, tally_row}
-use Rattle.buffer_holds.proofs.Places.{moving-le-sent_in}
-use Rattle.buffer_holds.proofs.SoundLemmas.{counts_of, count_at-le-total, moving_is}
+use Rattle.buffer_holds.specs.Sound.{CountsInvariant, tally_at, tally_row}
+use Rattle.buffer_holds.proofs.Places.{moving-le-sent}
+use Rattle.buffer_holds.proofs.SoundLemmas.{counts_with, count_at-le-total, moving_is}
 use Rattle.buffer_holds.proofs.Steps.{Step, Step-raised}
 
 -- the tally, where a handle leaves its parcel and this many clients more have a row
@@ -18,17 +18,22 @@ abbrev pub landed : Tally → ℕ → Tally
 landed tally more = record { total = tally.total; moving = tally.moving - 1; clients = tally.clients + more }
 
 module _ (limit : ℕ) (rows : List (Hold × ℕ)) (tallies : List (HandleKind × Tally)) (sound : CountsInvariant limit rows tallies) (client : ℕ)
-    (buffer : BufferName) (strength : Strength) {old : Counts} (view : counts_of limit rows tallies ≡ old)
+    (buffer : BufferName) (strength : Strength) {places : ℕ} {old : Counts} (view : counts_with limit places rows tallies ≡ old)
     (some : 0 < moving_count old buffer strength) where
   -- the tally says that one of these handles is in a parcel
   pub lies : 0 < (tally_at tallies (kind_of buffer strength)).moving
   lies = omega (arith, some, ap (λ counts. moving_count counts buffer strength) view, moving_is limit rows tallies buffer strength)
 
-  -- so one of all is, and a place is free for its receiver's row
-  pub has_place : (sent free : ℕ) → HasPlaces sent free tallies → (0 < sent) × (sent - 1 < free)
-  has_place sent free places =
-      let among = moving-le-sent_in tallies (kind_of buffer strength) in
-      (omega (arith, lies, among, places.counted), omega (arith, lies, among, places.counted, places.enough))
+  -- so one of all is, and where each has a place there is one
+  pub has_place : HasPlaces old → 0 < old.places
+  has_place each =
+      omega (
+        arith,
+        lies,
+        moving-le-sent tallies (kind_of buffer strength),
+        each,
+        ap sent view,
+      )
 
   -- the client has fewer than may be open, since it does not have the one in the parcel
   pub has_fewer : count_at rows (hold_of client buffer strength) < limit

@@ -37,8 +37,12 @@ weight_at-one_of kind hold None false e = refl
 weight_at-one_of kind hold (Some count) b e = ap (λ v. cond v 1 0) e
 
 -- the contents as contracts see them
+abbrev pub counts_with : (limit places : ℕ) → List (Hold × ℕ) → List (HandleKind × Tally) → Counts
+counts_with limit places rows tallies = record { limit = limit; places = places; rows = rows; parcels = parcels_in tallies }
+
+-- the same without places, which no count depends on
 abbrev pub counts_of : ℕ → List (Hold × ℕ) → List (HandleKind × Tally) → Counts
-counts_of limit rows tallies = record { limit = limit; rows = rows; parcels = parcels_in tallies }
+counts_of limit rows tallies = counts_with limit 0 rows tallies
 
 -- how many are in parcels, by the tally
 pub moving_is : (limit : ℕ) (rows : List (Hold × ℕ)) (tallies : List (HandleKind × Tally)) (buffer : BufferName) (strength : Strength)

@@ -13,7 +13,8 @@ use Rattle.buffer_holds.specs.Kinds.{kind_of, hold_of, same_handle_kind, same_ho
 use Rattle.buffer_holds.specs.Rows.{Resets, Raises, row_at, count_at}
 use Rattle.buffer_holds.specs.Sound.{Tallies, CountsInvariant, tally_at, tally_row, no_tally, one_of, is_idle, without_client}
 use Rattle.buffer_holds.proofs.KindLemmas.{same_kind-one, same_hold-one, same_kind-refl}
-use Rattle.buffer_holds.proofs.SoundLemmas.{one_row, one_row-some, one_row-added, one_row-le-clients, weight_at-share, weight_at-one_of, sum_by-share-none, counts_of, moving_is, total_is}
+use Rattle.buffer_holds.proofs.Places.{sent_after}
+use Rattle.buffer_holds.proofs.SoundLemmas.{one_row, one_row-some, one_row-added, one_row-le-clients, weight_at-share, weight_at-one_of, sum_by-share-none, counts_of, counts_with, moving_is, total_is}
 
 -- the tally keeps up with the row
 pub record KeepsUp (limit : ℕ) (row row' : Option ℕ) (tally tally' : Tally) : Type 0 where
@@ -321,17 +322,17 @@ module _ {limit : ℕ} {rows rows' : List (Hold × ℕ)} {tallies tallies' : Lis
 -- what contracts see of a step
 module _ {limit : ℕ} {rows rows' : List (Hold × ℕ)} {tallies tallies' : List (HandleKind × Tally)} {row' : Option ℕ} {tally' : Option Tally}
     (client : ℕ) (buffer : BufferName) (strength : Strength)
-    (step : Step limit rows rows' tallies tallies' (hold_of client buffer strength) row' tally') (old : Counts)
-    (view : counts_of limit rows tallies ≡ old) where
+    (step : Step limit rows rows' tallies tallies' (hold_of client buffer strength) row' tally') (old : Counts) {places : ℕ}
+    (view : counts_with limit places rows tallies ≡ old) where
   -- a row with a new count, each number by a function of the old
-  pub sets_by : (held in_parcels in_all : ℕ → ℕ) → row' ≡ Some (held (count_at rows (hold_of client buffer strength)))
+  pub sets_by : {places' : ℕ} (held in_parcels in_all : ℕ → ℕ) → row' ≡ Some (held (count_at rows (hold_of client buffer strength)))
       → (unwrap_or tally' no_tally).moving ≡ in_parcels (tally_at tallies (kind_of buffer strength)).moving →
       (unwrap_or tally' no_tally).total ≡ in_all (tally_at tallies (kind_of buffer strength)).total
-      → Sets old (counts_of limit rows' tallies') client buffer strength (held (of old client buffer strength))
+      → Sets old (counts_with limit places' rows' tallies') client buffer strength (held (of old client buffer strength))
       (in_parcels (moving_count old buffer strength)) (in_all (total old buffer strength))
-  sets_by held in_parcels in_all is_held is_moving is_total =
-      let before = counts_of limit rows tallies in
-      subst (λ counts. Sets counts (counts_of limit rows' tallies') client buffer strength (held (of counts client buffer strength))
+  sets_by {places'} held in_parcels in_all is_held is_moving is_total =
+      let before = counts_with limit places rows tallies in
+      subst (λ counts. Sets counts (counts_with limit places' rows' tallies') client buffer strength (held (of counts client buffer strength))
       (in_parcels (moving_count counts buffer strength)) (in_all (total counts buffer strength))) view (record {
         limit = refl;
         counts = λ c b s. of_after step c b s
@@ -340,6 +341,13 @@ module _ {limit : ℕ} {rows rows' : List (Hold × ℕ)} {tallies tallies' : Lis
             (is_moving ∙ ap in_parcels (sym (moving_is limit rows tallies buffer strength)));
         totals = λ b s. total_after step b s ∙ ap (λ n. cond (same_handle_kind (kind_of buffer strength) (kind_of b s)) n (total before b s))
             (is_total ∙ ap in_all (sym (total_is limit rows tallies step.sound buffer strength)));
+        sent = omega (
+          arith,
+          sent_after tallies tallies' (kind_of buffer strength) _ tally' step.retallies,
+          moving_is limit rows tallies buffer strength,
+          ap in_parcels (moving_is limit rows tallies buffer strength),
+          is_moving,
+        );
         rooms = λ c b s. has_room_after step c b s
             ∙ ap (λ o. cond (same_hold (hold_of client buffer strength) (hold_of c b s)) (is_some o) (has_handle_room before c b s)) is_held
             ∙ gains (same_hold (hold_of client buffer strength) (hold_of c b s)) (has_handle_room before c b s);
@@ -381,14 +389,20 @@ module _ {limit : ℕ} {rows rows' : List (Hold × ℕ)} {tallies tallies' : Lis
     room_left other false e = refl
 
     -- a row of 0 that is removed
-    pub tidies_after : Tidies old (counts_of limit rows' tallies') client buffer strength
-    tidies_after = subst (λ counts. Tidies counts (counts_of limit rows' tallies') client buffer strength) view (record {
+    pub tidies_after : Tidies old (counts_with limit places rows' tallies') client buffer strength
+    tidies_after = subst (λ counts. Tidies counts (counts_with limit places rows' tallies') client buffer strength) view (record {
       limit = refl;
       counts = λ c b s. of_after step c b s ∙ same_count (hold_of c b s) (same_hold (hold_of client buffer strength) (hold_of c b s)) refl;
       parcels = λ b s. moving_is limit rows' tallies' b s ∙ same_number (λ t. t.moving) same_moving (kind_of b s)
           ∙ sym (moving_is limit rows tallies b s);
       totals = λ b s. total_is limit rows' tallies' (sound_after step) b s ∙ same_number (λ t. t.total) same_total (kind_of b s)
           ∙ sym (total_is limit rows tallies step.sound b s);
+      sent = omega (
+        arith,
+        sent_after tallies tallies' (kind_of buffer strength) _ tally' step.retallies,
+        same_moving,
+      );
+      places = refl;
       rooms = λ c b s. has_room_after step c b s ∙ room_left (hold_of c b s) (same_hold (hold_of client buffer strength) (hold_of c b s))
           refl;
     })

@@ -59,11 +59,6 @@ in_parcels entry = entry.1.moving
 abbrev pub sent_in : List (HandleKind × Tally) → ℕ
 sent_in tallies = sum_by in_parcels tallies
 
--- this many handles are in parcels, and for each of them a place is free, where a row of its receiver takes no memory
-pub record HasPlaces (sent free : ℕ) (tallies : List (HandleKind × Tally)) : Type 0 where
-  pub counted : sent ≡ sent_in tallies
-  pub enough : sent ≤ free
-
 -- no more than this many of one kind are open
 abbrev pub TotalsAreUpTo : ℕ → List (HandleKind × Tally) → Type 0
 TotalsAreUpTo most tallies = (kind : HandleKind) → (tally_at tallies kind).total ≤ most

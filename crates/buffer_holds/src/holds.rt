@@ -1,10 +1,10 @@
 //! The counts of open handles.
-ghost use Rattle.std.specs.Prelude.{[], ◌≡◌, ◌+◌, ◌-◌, ◌<◌, ◌≤◌, ◌↔◌, true, IsTrue, IfOk, OnOk, OnErr, IsErrOf, IsOkUnless};
+ghost use Rattle.std.specs.Prelude.{[], ◌≡◌, ◌+◌, ◌-◌, ◌<◌, ◌≤◌, ◌↔◌, true, IsOk, IsTrue, OnOk, OnErr, IsErrOf, IsOkUnless};
 ghost use Rattle.std.specs.Bool.{OnTrue, OnFalse};
 ghost use Rattle.std.specs.List.{IsDistinct};
 ghost use Rattle.std.specs.Map.{keys_of};
 ghost use Rattle.sm_names.specs.Handles.{is_doomed, is_home};
-ghost use Rattle.buffer_holds.specs.Counts.{of, moving_count, total, has_handle_room};
+ghost use Rattle.buffer_holds.specs.Counts.{HasPlaces, of, moving_count, total, has_handle_room};
 ghost use Rattle.buffer_holds.specs.Kinds.{same_hold};
 ghost use Rattle.buffer_holds.specs.Changes.{Sets, Tidies};
 
@@ -22,14 +22,15 @@ use std::marker::Model;
 
 /// How many handles are open, by client, buffer and strength, and how many are in parcels.
 ///
-/// A contract sees the counts of clients and of parcels (`of`, `moving` and their sum, `total`), and
-/// for which of them one more handle takes no memory (`has_handle_room`). A client gains room with the
-/// first handle that it opens or lands, and keeps it when the last one is closed or given, so that
-/// `sub` is undone by `add` without memory. `tidy` takes the room back: call it once a `sub` or a
-/// `lift` need not be undone any more; otherwise the client keeps the room. `lift` makes room for the
-/// client that lands the handle, so that `land` takes no memory. A room that was taken back is used
-/// again; the memory is as much as was needed at once, with room for a row more for each handle in a
-/// parcel.
+/// A contract sees the counts of clients and of parcels (`of`, `moving` and their sum, `total`), the
+/// places for handles that land, and for which of the counts one more handle takes no memory
+/// (`has_handle_room`). A client gains room with the first handle that it opens or lands, and keeps it
+/// when the last one is closed or given, so that `sub` is undone by `add` without memory. `tidy` takes
+/// the room back: call it once a `sub` or a `lift` need not be undone any more; otherwise the client
+/// keeps the room. `reserve_landing` makes a place for a handle that lands with any client, and `land`
+/// takes one. Where there are as many places as handles in parcels (`HasPlaces`), `land` takes no
+/// memory. A room that was taken back is used again; the memory is as much as was needed at once, with
+/// a row more for each place.
 ///
 /// Each call looks for one client's row, for the tally of one kind of handle, or for both, and never
 /// looks at all clients: a look-up is one at the place where the last one ended and at the one behind
@@ -45,8 +46,8 @@ pub struct Holds {
     most: u32,
     // No handle was ever opened on a buffer of a collection with a greater id.
     newest: CollectionId,
-    // How many handles are in parcels. As many places are free among the rows.
-    sent: u32,
+    // As many places are free among the rows.
+    places: u32,
     rows: Rows,
     tallies: Tallies,
     last: Last,
@@ -58,18 +59,19 @@ impl Model for Holds {
     ghost Value = { Counts };
 
     ghost use Rattle.std.specs.Prelude.{◌≤◌};
-    ghost use Rattle.buffer_holds.specs.Sound.{NoneIsNewer, TotalsAreUpTo, HasPlaces, CountsInvariant, parcels_in};
+    ghost use Rattle.buffer_holds.specs.Sound.{NoneIsNewer, TotalsAreUpTo, CountsInvariant, parcels_in};
     ghost use Rattle.indexmap.specs.IndexMap.{spare};
 
     ghost view = { λ h. record {
       limit = h.limit;
+      places = h.places;
       rows = h.rows.entries;
       parcels = parcels_in h.tallies.entries;
     } };
 
     ghost invariant = { λ h. CountsInvariant h.limit h.rows.entries h.tallies.entries
         × TotalsAreUpTo h.most h.tallies.entries
-        × HasPlaces h.sent (spare h.rows) h.tallies.entries
+        × (h.places ≤ spare h.rows)
         × NoneIsNewer h.newest h.tallies.entries
         × (h.most ≤ h.limit) };
 }
@@ -79,7 +81,7 @@ impl Holds {
     /// time, those in parcels among them; with a limit of 0 none can be opened. The tables hash from
     /// a seed that everybody knows. Takes O(1) time and no memory from the allocator.
     pub fn new(alloc: Global, limit: u32) -> Self
-        ensures { result ≡ record { limit = limit; rows = []; parcels = [] } }
+        ensures { result ≡ record { limit = limit; places = 0; rows = []; parcels = [] } }
     {
         Self::with_seed(alloc, limit, [0; 16])
     }
@@ -87,14 +89,14 @@ impl Holds {
     /// Does what `new` does. The tables hash from this seed: with random bytes, a caller can't pick
     /// clients and buffers whose counts collide. No count depends on it.
     pub fn with_seed(alloc: Global, limit: u32, seed: [u8; 16]) -> Self
-        ensures { result ≡ record { limit = limit; rows = []; parcels = [] } }
+        ensures { result ≡ record { limit = limit; places = 0; rows = []; parcels = [] } }
     {
         let hash = CountHash::new(seed);
         Holds {
             limit,
             most: 0,
             newest: 0,
-            sent: 0,
+            places: 0,
             rows: IndexMap::with_hasher(alloc, hash),
             tallies: IndexMap::with_hasher(alloc, hash),
             last: Last::new(),
@@ -112,7 +114,7 @@ impl Holds {
     }
 
     /// How many of these handles are in parcels. One look-up.
-    pub fn moving_count(&self, buffer: BufferName, strength: Strength) -> u32
+    pub fn moving(&self, buffer: BufferName, strength: Strength) -> u32
         ensures { result ≡ moving_count self.now buffer strength }
     {
         let kind = HandleKind { buffer, strength };
@@ -231,6 +233,7 @@ impl Holds {
             ↔ (total self.old buffer strength ≡ self.old.limit) }
         ensures room { IsTrue (has_handle_room self.old client buffer strength) →
             IsOkUnless result HoldFault.TooMany }
+        ensures places { self.new.places ≡ self.old.places }
         ensures err { OnErr result (self.new ≡ self.old) }
     {
         let mut near = self.last.spot(strength);
@@ -254,6 +257,7 @@ impl Holds {
             ↔ (total self.old buffer strength ≡ self.old.limit) }
         ensures room { IsTrue (has_handle_room self.old client buffer strength) →
             IsOkUnless result HoldFault.TooMany }
+        ensures places { self.new.places ≡ self.old.places }
         ensures err { OnErr result (self.new ≡ self.old) }
     {
         if self.add_at_spot(client, buffer, strength, near) {
@@ -277,6 +281,7 @@ impl Holds {
             (of self.old client buffer strength + 1) (moving_count self.old buffer strength)
             (total self.old buffer strength + 1)) }
         ensures fewer { result ≡ true → total self.old buffer strength < self.old.limit }
+        ensures places { self.new.places ≡ self.old.places }
         ensures unchanged { OnFalse result (self.new ≡ self.old) }
     {
         let kind = HandleKind { buffer, strength };
@@ -308,6 +313,7 @@ impl Holds {
             ↔ (total self.old buffer strength ≡ self.old.limit) }
         ensures room { IsTrue (has_handle_room self.old client buffer strength) →
             IsOkUnless result HoldFault.TooMany }
+        ensures places { self.new.places ≡ self.old.places }
         ensures err { OnErr result (self.new ≡ self.old) }
     {
         self.newest = self.newest.max(buffer.collection);
@@ -321,7 +327,7 @@ impl Holds {
             near,
             &self.last,
             &mut self.most,
-            self.sent,
+            self.places,
         )
     }
 
@@ -334,6 +340,7 @@ impl Holds {
         ensures closed { OnTrue result (Sets self.old self.new client buffer strength
             (of self.old client buffer strength - 1) (moving_count self.old buffer strength)
             (total self.old buffer strength - 1)) }
+        ensures places { self.new.places ≡ self.old.places }
         ensures unchanged { OnFalse result (self.new ≡ self.old) }
     {
         let kind = HandleKind { buffer, strength };
@@ -358,69 +365,84 @@ impl Holds {
         }
     }
 
-    /// Puts one of the client's handles into a parcel, where it is open and belongs to nobody, and
-    /// answers whether it had one. Without one nothing changes. The client keeps its room until
-    /// `tidy`.
-    ///
-    /// It makes room for the handle's receiver, which is not known yet, so that `land` takes no
-    /// memory: a place for one row more for each handle in a parcel. `NoMemory` comes only where
-    /// there is no such place and memory was refused, and changes nothing. Two look-ups.
-    pub fn lift(
-        &mut self,
-        client: ClientId,
-        buffer: BufferName,
-        strength: Strength,
-    ) -> Result<bool, NoMemory>
-        ensures had { IfOk result (λ had. IsTrue had ↔ (0 < of self.old client buffer strength)) }
-        ensures lifted { IfOk result
-            (λ had. OnTrue had (Sets self.old self.new client buffer strength
-            (of self.old client buffer strength - 1) (moving_count self.old buffer strength + 1)
-            (total self.old buffer strength))) }
-        ensures unchanged { IfOk result (λ had. OnFalse had (self.new ≡ self.old)) }
+    /// Makes a place for a handle that lands, of whatever client, buffer and strength: `places` is one
+    /// more. `NoMemory` changes nothing. O(1), unless the table of rows grows.
+    pub fn reserve_landing(&mut self) -> Result<(), NoMemory>
+        ensures ok { OnOk result (self.new ≡ record self.old {
+          places = self.old.places + 1;
+        }) }
         ensures err { OnErr result (self.new ≡ self.old) }
     {
+        let Some(places) = self.places.checked_add(1) else {
+            return Err(NoMemory);
+        };
+        let Ok(()) = self.rows.reserve(places as usize) else {
+            return Err(NoMemory);
+        };
+        self.places = places;
+        Ok(())
+    }
+
+    /// Puts one of the client's handles into a parcel, where it is open and belongs to nobody, and
+    /// answers whether it had one. Without one nothing changes. The client keeps its room until
+    /// `tidy`. It takes no memory. Two look-ups.
+    ///
+    /// It makes no place for the handle where it lands: `reserve_landing` does.
+    pub fn lift(&mut self, client: ClientId, buffer: BufferName, strength: Strength) -> bool
+        ensures had { IsTrue result ↔ (0 < of self.old client buffer strength) }
+        ensures lifted { OnTrue result (Sets self.old self.new client buffer strength
+            (of self.old client buffer strength - 1) (moving_count self.old buffer strength + 1)
+            (total self.old buffer strength)) }
+        ensures places { self.new.places ≡ self.old.places }
+        ensures unchanged { OnFalse result (self.new ≡ self.old) }
+    {
         let kind = HandleKind { buffer, strength };
-        let Some(sent) = self.sent.checked_add(1) else {
-            return Err(NoMemory);
-        };
-        let Ok(()) = self.rows.reserve(sent as usize) else {
-            return Err(NoMemory);
-        };
         if !lower(&mut self.rows, Hold { client, kind }, &self.last.row) {
-            return Ok(false);
+            return false;
         }
         let place = tally_place(&self.tallies, kind, self.last.tally(strength)).unwrap();
         let tally = self.tallies.get_index_mut(place).unwrap();
         tally.moving += 1;
-        self.sent = sent;
-        Ok(true)
+        true
     }
 
     /// Takes one of these handles out of a parcel, for the client. At least one has to be in a
-    /// parcel; the limit is not looked at, since the handle is open already. It takes no memory: the
-    /// `lift` took what it needs. Two look-ups.
-    pub fn land(&mut self, client: ClientId, buffer: BufferName, strength: Strength)
+    /// parcel; the limit is not looked at, since the handle is open already.
+    ///
+    /// It takes a place, if there is one. `NoMemory` comes only without a place, where memory was
+    /// refused, and changes nothing. Two look-ups.
+    pub fn land(
+        &mut self,
+        client: ClientId,
+        buffer: BufferName,
+        strength: Strength,
+    ) -> Result<(), NoMemory>
         requires { 0 < moving_count self.old buffer strength }
-        ensures { Sets self.old self.new client buffer strength
+        ensures landed { OnOk result (Sets self.old self.new client buffer strength
             (of self.old client buffer strength + 1) (moving_count self.old buffer strength - 1)
-            (total self.old buffer strength) }
+            (total self.old buffer strength)) }
+        ensures places { OnOk result (self.new.places ≡ self.old.places - 1) }
+        ensures room { 0 < self.old.places → IsOk result }
+        ensures each { HasPlaces self.old → IsOk result }
+        ensures err { OnErr result (self.new ≡ self.old) }
     {
         let kind = HandleKind { buffer, strength };
-        let sent = self.sent - 1;
+        let places = self.places.saturating_sub(1);
         let before = self.rows.len();
         let Ok(()) = raise(
             &mut self.rows,
             Hold { client, kind },
             &mut 0,
             &self.last.row,
-            sent,
+            places,
         ) else {
-            unreachable!();
+            return Err(NoMemory);
         };
         let place = tally_place(&self.tallies, kind, self.last.tally(strength)).unwrap();
         let tally = self.tallies.get_index_mut(place).unwrap();
         tally.moving -= 1;
         tally.clients += self.rows.len() - before;
-        self.sent = sent;
+        self.places = places;
+        Ok(())
     }
 }

@@ -131,6 +131,7 @@ pub(crate) fn raise(
     ensures room { IsSome (row_at rows.old.entries hold) → IsOk result }
     ensures roomy { free < spare rows.old → IsOk result }
     ensures err { OnErr result (rows.new.entries ≡ rows.old.entries) }
+    ensures kept { OnErr result (spare rows.old ≤ spare rows.new) }
 {
     let Some(found) = row_place_near(rows, hold, *place, last) else {
         return add_row(rows, hold, place, free);

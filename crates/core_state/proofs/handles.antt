@@ -4,6 +4,7 @@ pub mod HeldNames
 pub mod Movable
 pub mod Moves
 pub mod Opening
+pub mod Places
 pub mod Standing
 pub mod Taken
 pub mod ToOpen

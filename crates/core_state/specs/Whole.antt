@@ -9,6 +9,7 @@ use Rattle.sm_names.specs.Isolation.{IsOf}
 use Rattle.sm_names.specs.Marks.{Entry}
 use Rattle.sm_names.specs.Timelines.{timeline}
 use Rattle.sm_names.specs.Elements.{In}
+use Rattle.buffer_holds.specs.Counts.{HasPlaces}
 use Rattle.buffer_pool.specs.Holdings.{Holdings}
 use Rattle.forest_store.specs.declared.node.Node.{Node}
 use Rattle.forest_store.specs.Forest.{Collection, Forest, IsPoolOf, given, node_at, is_left, tidied}
@@ -89,6 +90,7 @@ pub record IsWholeCore (pool : Holdings) (s : State) : Type 0 where
   pub few : s.events < 2 ^ 53
   pub limit : s.forest.limit ≡ s.limits.nodes
   pub handle_limit : s.holds.limit ≡ s.limits.handles
+  pub places : HasPlaces s.holds
   pub tracker_limit : s.trackers.limit ≡ s.limits.trackers
   pub numbered : All (λ (c : Cell). c.id ≤ s.events) s.trackers.cells
   pub history : List Entry

@@ -2,7 +2,7 @@
 ghost use Rattle.std.specs.Prelude.{◌≡◌, ◌+◌, ◌/◌, ◌%◌, ◌^◌, ◌<◌, ◌≤◌, ℕ, OnOk, OnErr, true, false};
 ghost use Rattle.std.specs.Int.{bit_at};
 ghost use Rattle.sm_names.specs.Marks.{Called};
-ghost use Rattle.buffer_holds.specs.Counts.{Counts, of, total};
+ghost use Rattle.buffer_holds.specs.Counts.{Counts, HasPlaces, of, total};
 ghost use Rattle.core_state.specs.Hands.{MayMove, MovesHandles, CanUndo, Opens, CanOpen, TidiesAfter, collects_handle, is_the, is_in_set_below, takes_handle_room};
 ghost use Rattle.core_state.specs.State.{counts_of};
 
@@ -24,11 +24,13 @@ pub fn apply_handles(
     call: &Call,
     reply: &Reply,
 ) -> Result<(), NoMemory>
-    requires { MayMove holds.old client call.now reply.now }
+    requires may { MayMove holds.old client call.now reply.now }
+    requires places { HasPlaces holds.old }
     ensures ok { OnOk result (MovesHandles holds.old holds.new (Called client reply.now call.now)) }
     ensures room { OnOk result (CanUndo holds.new client call.now reply.now) }
     ensures err { OnErr result (counts_of holds.new ≡ counts_of holds.old) }
     ensures why { OnErr result (takes_handle_room call.now reply.now ≡ true) }
+    ensures places { HasPlaces holds.new }
     ensures limit { holds.new.limit ≡ holds.old.limit }
 {
     match *call {
@@ -55,12 +57,15 @@ pub fn apply_handles(
         }
         Call::GiveHandle(buffer, strength, _) => {
             if let Reply::Done = *reply {
-                holds.lift(client, buffer, strength)?;
+                holds.reserve_landing()?;
+                holds.lift(client, buffer, strength);
             }
         }
         Call::Collect => {
             if let Reply::CollectedHandle { buffer, strength } = *reply {
-                holds.land(client, buffer, strength);
+                let Ok(()) = holds.land(client, buffer, strength) else {
+                    unreachable!();
+                };
             }
         }
         _ => {}
@@ -73,9 +78,11 @@ pub fn apply_handles(
 pub fn undo_handles(holds: &mut Holds, client: ClientId, call: Call, reply: Reply)
     requires undo { CanUndo holds.old client call reply }
     requires stands { collects_handle call reply ≡ false }
+    requires places { HasPlaces holds.old }
     ensures counts { (before : Counts) →
         MovesHandles before holds.old (Called client reply call) →
         counts_of holds.new ≡ counts_of before }
+    ensures places { HasPlaces holds.new }
     ensures limit { holds.new.limit ≡ holds.old.limit }
 {
     match call {
@@ -101,7 +108,9 @@ pub fn undo_handles(holds: &mut Holds, client: ClientId, call: Call, reply: Repl
         }
         Call::GiveHandle(buffer, strength, _) => {
             if let Reply::Done = reply {
-                holds.land(client, buffer, strength);
+                let Ok(()) = holds.land(client, buffer, strength) else {
+                    unreachable!();
+                };
             }
         }
         _ => {}
@@ -114,6 +123,7 @@ pub fn undo_handles(holds: &mut Holds, client: ClientId, call: Call, reply: Repl
 pub fn tidy_up(holds: &mut Holds, client: ClientId, call: &Call)
     ensures tidied { TidiesAfter holds.old holds.new client call.now }
     ensures counts { counts_of holds.new ≡ counts_of holds.old }
+    ensures places { HasPlaces holds.old → HasPlaces holds.new }
     ensures limit { holds.new.limit ≡ holds.old.limit }
 {
     match *call {
@@ -135,6 +145,7 @@ fn open_all(
     requires { CanOpen holds.old collection strength set }
     ensures ok { OnOk result (Opens holds.old holds.new client
         (is_in_set_below collection strength set SET_BITS)) }
+    ensures places { HasPlaces holds.old → HasPlaces holds.new }
     ensures err { OnErr result (counts_of holds.new ≡ counts_of holds.old) }
     ensures limit { holds.new.limit ≡ holds.old.limit }
 {
@@ -168,6 +179,7 @@ fn close_below(
     ensures counts { (before : Counts) →
         Opens before holds.old client (is_in_set_below collection strength set end) →
         counts_of holds.new ≡ counts_of before }
+    ensures places { HasPlaces holds.old → HasPlaces holds.new }
     ensures limit { holds.new.limit ≡ holds.old.limit }
 {
     while end > 0 {
@@ -192,6 +204,7 @@ fn open_at(
     ensures ok { OnOk result ((before : Counts) (set : ℕ) → set / 2 ^ index ≡ rest →
         Opens before holds.old client (is_in_set_below collection strength set index) →
         Opens before holds.new client (is_in_set_below collection strength set (index + 1))) }
+    ensures places { HasPlaces holds.old → HasPlaces holds.new }
     ensures err { OnErr result (holds.new ≡ holds.old) }
     ensures limit { holds.new.limit ≡ holds.old.limit }
 {
@@ -220,6 +233,7 @@ fn close_at(
     ensures counts { (before : Counts) →
         Opens before holds.old client (is_in_set_below collection strength set (index + 1)) →
         Opens before holds.new client (is_in_set_below collection strength set index) }
+    ensures places { HasPlaces holds.old → HasPlaces holds.new }
     ensures limit { holds.new.limit ≡ holds.old.limit }
 {
     if has_buffer(set, index) {
@@ -237,6 +251,7 @@ fn open(
 ) -> Result<(), NoMemory>
     requires { total holds.old buffer strength < holds.old.limit }
     ensures ok { OnOk result (Opens holds.old holds.new client (is_the buffer strength)) }
+    ensures places { HasPlaces holds.old → HasPlaces holds.new }
     ensures err { OnErr result (holds.new ≡ holds.old) }
     ensures limit { holds.new.limit ≡ holds.old.limit }
 {
@@ -257,6 +272,7 @@ fn open_one(
 ) -> Result<(), NoMemory>
     requires { total holds.old buffer strength < holds.old.limit }
     ensures ok { OnOk result (Opens holds.old holds.new client (is_the buffer strength)) }
+    ensures places { HasPlaces holds.old → HasPlaces holds.new }
     ensures err { OnErr result (holds.new ≡ holds.old) }
     ensures limit { holds.new.limit ≡ holds.old.limit }
 {
@@ -271,6 +287,7 @@ fn open_one(
 fn close(holds: &mut Holds, client: ClientId, buffer: BufferName, strength: Strength)
     ensures closed { 0 < of holds.old client buffer strength →
         Opens holds.new holds.old client (is_the buffer strength) }
+    ensures places { HasPlaces holds.old → HasPlaces holds.new }
     ensures limit { holds.new.limit ≡ holds.old.limit }
 {
     holds.sub(client, buffer, strength);

@@ -3,7 +3,7 @@ ghost use Rattle.std.specs.Prelude.{◌≡◌, ◌<◌, IfOk, IfSome, OnErr, Non
 ghost use Rattle.std.specs.List.{All};
 ghost use Rattle.trackers.specs.Table.{Cell};
 ghost use Rattle.forest_store.specs.Forest.{IsPoolOf};
-ghost use Rattle.buffer_holds.specs.Counts.{total};
+ghost use Rattle.buffer_holds.specs.Counts.{HasPlaces, total};
 ghost use Rattle.core_state.specs.Hands.{MayMove, collects_handle};
 ghost use Rattle.core_state.specs.State.{Client as Row, counts_of};
 ghost use Rattle.core_state.specs.Tasks.{AsksOnly, MayDo, TakesEffect, may_take_memory, takes_room};
@@ -51,6 +51,7 @@ pub(crate) fn take_effect(
 ) -> Result<Option<NodeKey>, NoMemory>
     requires clients { Rise (map (λ (c : Row). c.id) contents.old.clients.items) }
     requires handles { MayMove contents.old.holds client call.now asked.now }
+    requires places { HasPlaces contents.old.holds }
     requires may { IfSome task.now (MayDo contents.old.forest) }
     requires asks { AsksOnly call.now task.now }
     requires out { NoBufferHome (total contents.old.holds) contents.old.forest }
@@ -84,6 +85,7 @@ pub(crate) fn take_effect(
     ensures pool { IsPoolOf contents.new.pool contents.new.forest }
     ensures size { contents.new.pool.size ≡ contents.old.pool.size }
     ensures limit { contents.new.holds.limit ≡ contents.old.holds.limit }
+    ensures places { HasPlaces contents.new.holds }
 {
     apply_handles(&mut contents.holds, client, call, asked)?;
     let Ok(()) = attach(&mut contents.trackers, tracking) else {

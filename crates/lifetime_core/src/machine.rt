@@ -113,7 +113,7 @@ impl Core {
           events = 0;
           clients = [];
           forest = empty_forest limits.nodes;
-          holds = record { limit = limits.handles; rows = []; parcels = [] };
+          holds = record { limit = limits.handles; places = 0; rows = []; parcels = [] };
           trackers = empty limits.trackers;
         }) }
         ensures shows { IfOk result (λ core. Shows core []) }
@@ -137,7 +137,7 @@ impl Core {
           events = 0;
           clients = [];
           forest = empty_forest limits.nodes;
-          holds = record { limit = limits.handles; rows = []; parcels = [] };
+          holds = record { limit = limits.handles; places = 0; rows = []; parcels = [] };
           trackers = empty limits.trackers;
         }) }
         ensures shows { IfOk result (λ core. Shows core []) }

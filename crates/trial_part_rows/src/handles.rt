@@ -139,18 +139,20 @@ impl Handles {
     }
 
     // Lands a handle of a parcel with the client, if one is there.
-    fn land(&mut self, client: ClientId, buffer: BufferName, strength: Strength) -> bool {
-        if self.holds.moving_count(buffer, strength) == 0 {
-            return false;
+    fn land(&mut self, client: ClientId, buffer: BufferName, strength: Strength) -> &'static str {
+        if self.holds.moving(buffer, strength) == 0 {
+            return found(false);
         }
-        self.holds.land(client, buffer, strength);
-        true
+        match self.holds.land(client, buffer, strength) {
+            Ok(()) => found(true),
+            Err(_) => ": no memory",
+        }
     }
 
-    // Takes a handle of a client into a parcel.
+    // Takes a handle of a client into a parcel, with a place for the handle where it lands.
     fn lift(&mut self, client: ClientId, buffer: BufferName, strength: Strength) -> &'static str {
-        match self.holds.lift(client, buffer, strength) {
-            Ok(is_there) => found(is_there),
+        match self.holds.reserve_landing() {
+            Ok(()) => found(self.holds.lift(client, buffer, strength)),
             Err(_) => ": no memory",
         }
     }
@@ -167,7 +169,7 @@ impl Handles {
             ),
             Verb::Close => found(self.holds.sub(client, buffer, strength)),
             Verb::Lift => self.lift(client, buffer, strength),
-            Verb::Land => found(self.land(client, buffer, strength)),
+            Verb::Land => self.land(client, buffer, strength),
             Verb::Tidy => {
                 self.holds.tidy(client, buffer, strength);
                 ""
@@ -188,7 +190,7 @@ impl Handles {
             let own = u64::from(self.holds.of(client, buffer, strength));
             text.push(&[Part::Word(" "), Part::Number(own)]);
         }
-        let moving = u64::from(self.holds.moving_count(buffer, strength));
+        let moving = u64::from(self.holds.moving(buffer, strength));
         let total = u64::from(self.holds.total(buffer, strength));
         let near = u64::from(self.holds.total_near(buffer, strength, &mut self.near));
         text.push(&[

@@ -183,7 +183,7 @@ empty_state pool limits = record {
   events = 0;
   clients = [];
   forest = empty_forest limits.nodes;
-  holds = record { limit = limits.handles; rows = []; parcels = [] };
+  holds = record { limit = limits.handles; places = 0; rows = []; parcels = [] };
   trackers = empty limits.trackers;
 }
 

@@ -24,6 +24,7 @@ use Rattle.trackers.specs.declared.waiting.Waiting.{Waiting}
 use Rattle.trackers.specs.Table.{Cell, TrackerTable, forgetful, is_due, is_unfired, without_id}
 use Rattle.forest_store.specs.Forest.{Forest, IsPoolOf}
 use Rattle.forest_store.specs.Settling.{Handles}
+use Rattle.buffer_holds.specs.Counts.{HasPlaces}
 use Rattle.core_state.specs.Reads.{readings_of, world_in}
 use Rattle.core_state.specs.Shown.{IsAfter, forgetting, recalling}
 use Rattle.core_state.specs.State.{IsSame, State}
@@ -66,6 +67,7 @@ whole_empty pages limits sized = record {
   few = omega arith;
   limit = refl;
   handle_limit = refl;
+  places = omega arith;
   tracker_limit = refl;
   numbered = All-nil (λ (c : Cell). c.id ≤ 0);
   history = [];
@@ -143,8 +145,8 @@ module _ (before : Holdings) (old new : State) (client : ℕ) (call : Call) (rep
 
   -- the core shows the history with one more event
   whole_goes_on : (pool : Holdings) → old.events < old.limits.events → old.events + 1 < 2 ^ 53 → IsPoolOf pool new.forest →
-      new.holds.limit ≡ old.holds.limit → IsWholeCore pool new
-  whole_goes_on pool room short pages limit =
+      new.holds.limit ≡ old.holds.limit → HasPlaces new.holds → IsWholeCore pool new
+  whole_goes_on pool room short pages limit places =
       let there : timeline new.pool (core.history ++ (client, call, reply) ∷ []) ≡ after old.pool marks (client, call, reply) =
       ap (λ (p : ℕ). timeline p (core.history ++ (client, call, reply) ∷ [])) f.pool
       ∙ timeline-push old.pool core.history (client, call, reply) in
@@ -155,6 +157,7 @@ module _ (before : Holdings) (old new : State) (client : ℕ) (call : Call) (rep
         limit = f.keys.limit ∙ (same_limit old (total new.holds) (work_of old client call reply) _ f.worked f.work ∙ (core.limit
             ∙ ap (λ l. l.nodes) (sym f.limits)));
         handle_limit = limit ∙ (core.handle_limit ∙ ap (λ l. l.handles) (sym f.limits));
+        places = places;
         tracker_limit = ap (λ (t : TrackerTable). t.limit) f.trackers
             ∙ (attached_limit old.trackers f.attached (tracker_by old.forest call reply) f.gains ∙ (core.tracker_limit
             ∙ ap (λ l. l.trackers) (sym f.limits)));
@@ -167,15 +170,16 @@ module _ (before : Holdings) (old new : State) (client : ℕ) (call : Call) (rep
 -- ---- no event
 
 -- the same state, but for the order of the rows of handles
-whole_same : (before pool : Holdings) (old new : State) → IsSame old new → new.holds.limit ≡ old.holds.limit → IsPoolOf pool old.forest →
-    IsWholeCore before old → IsWholeCore pool new
-whole_same before pool old new same limit pages core =
+whole_same : (before pool : Holdings) (old new : State) → IsSame old new → new.holds.limit ≡ old.holds.limit → HasPlaces new.holds →
+    IsPoolOf pool old.forest → IsWholeCore before old → IsWholeCore pool new
+whole_same before pool old new same limit places pages core =
     rw same.rest (record {
       sized = core.sized;
       pages = pages;
       few = core.few;
       limit = core.limit;
       handle_limit = limit ∙ core.handle_limit;
+      places = places;
       tracker_limit = core.tracker_limit;
       numbered = core.numbered;
       history = core.history;
@@ -202,6 +206,7 @@ whole_took pool s id core = record {
   few = core.few;
   limit = core.limit;
   handle_limit = core.handle_limit;
+  places = core.places;
   tracker_limit = core.tracker_limit;
   numbered = core.numbered;
   history = core.history;
@@ -218,6 +223,7 @@ whole_forgot pool gone s core = record {
   few = core.few;
   limit = core.limit;
   handle_limit = core.handle_limit;
+  places = core.places;
   tracker_limit = core.tracker_limit;
   numbered = all-In (λ (c : Cell). c.id ≤ s.events) (forgetful s.trackers).cells (λ c on.
       In-all (λ (d : Cell). d.id ≤ s.events) s.trackers.cells core.numbered c
@@ -255,20 +261,20 @@ core_empty pages limits sized = record { gone = []; whole = whole_empty pages li
 pub core_goes_on : (before : Holdings) (old new : State) (client : ℕ) (call : Call) (reply : Reply) →
     IsAnswer old.limits (readings_of old) client call reply → Follows old new client call reply → IsCore before old →
     (pool : Holdings) → old.events < old.limits.events → old.events + 1 < 2 ^ 53 → IsPoolOf pool new.forest →
-    new.holds.limit ≡ old.holds.limit → IsCore pool new
-core_goes_on before old new client call reply answers follows core pool room short pages limit = record {
+    new.holds.limit ≡ old.holds.limit → HasPlaces new.holds → IsCore pool new
+core_goes_on before old new client call reply answers follows core pool room short pages limit places = record {
   gone = core.gone;
   whole = whole_goes_on before (recalling core.gone old) (recalling core.gone new) client call reply answers
-      (follows_recalls core.gone old new client call reply follows) core.whole pool room short pages limit;
+      (follows_recalls core.gone old new client call reply follows) core.whole pool room short pages limit places;
 }
 
 -- the same state, but for the order of the rows of handles
-pub core_same : (before pool : Holdings) (old new : State) → IsSame old new → new.holds.limit ≡ old.holds.limit → IsPoolOf pool old.forest →
-    IsCore before old → IsCore pool new
-core_same before pool old new same limit pages core = record {
+pub core_same : (before pool : Holdings) (old new : State) → IsSame old new → new.holds.limit ≡ old.holds.limit → HasPlaces new.holds →
+    IsPoolOf pool old.forest → IsCore before old → IsCore pool new
+core_same before pool old new same limit places pages core = record {
   gone = core.gone;
   whole = whole_same before pool (recalling core.gone old) (recalling core.gone new)
-      (record { rest = ap (recalling core.gone) same.rest; counts = same.counts }) limit pages core.whole;
+      (record { rest = ap (recalling core.gone) same.rest; counts = same.counts }) limit places pages core.whole;
 }
 
 -- a core of which a tracker was taken

@@ -194,7 +194,7 @@ impl Core {
         ensures shown { (history : List Entry) → Shows self.now history →
             result ≡ moving_after (timeline self.now.pool history) buffer strength }
     {
-        self.contents.holds.moving_count(buffer, strength)
+        self.contents.holds.moving(buffer, strength)
     }
 
     /// The number of open handles of this buffer and strength, those in parcels included. Costs O(k),

@@ -10,12 +10,15 @@ const BUFFER: BufferName = BufferName {
 
 // Whether a handle of the client goes into a parcel, lands with another client and is closed there.
 fn lands(holds: &mut Holds, client: ClientId) -> bool {
-    if let Err(NoMemory) = holds.lift(client, BUFFER, Strength::Weak) {
+    if let Err(NoMemory) = holds.reserve_landing() {
         return true;
     }
+    holds.lift(client, BUFFER, Strength::Weak);
     let other = client.wrapping_add(40);
-    if holds.moving_count(BUFFER, Strength::Weak) > 0 {
-        holds.land(other, BUFFER, Strength::Weak);
+    if holds.moving(BUFFER, Strength::Weak) > 0
+        && holds.land(other, BUFFER, Strength::Weak).is_err()
+    {
+        return false;
     }
     holds.sub(other, BUFFER, Strength::Weak)
 }
@@ -47,7 +50,7 @@ fn is_all_undone(alloc: Global) -> bool {
 }
 
 // Run with the Nth allocation refused, this shows that undoing asks for no memory, nor does landing
-// what was lifted, whoever lands it.
+// what was lifted, once there is a place for it, whoever lands it.
 #[test]
 fn undoing_a_count_takes_no_memory(rt: HostRuntime) {
     assert!(rt; is_all_undone(rt.alloc()));

@@ -1,5 +1,5 @@
 use Rattle.std.proofs.Common.{◌≡◌, ◌≤◌}
-use Rattle.buffer_holds.specs.Counts.{Counts}
+use Rattle.buffer_holds.specs.Counts.{Counts, HasPlaces}
 use Rattle.core_state.specs.declared.hands.TheConstants.{SET_BITS}
 use Rattle.core_state.specs.Hands.{Opens, is_in_set_below}
 use Rattle.core_state.proofs.hands.close_below.Given as goal
@@ -9,6 +9,7 @@ abbrev pub invariant-loop-end : goal.invariant-loop-end
 invariant-loop-end l = (l.end ≤ SET_BITS) × (l.holds.limit ≡ l.fn.holds.limit)
     × ((before : Counts) → Opens before l.fn.holds l.client (is_in_set_below l.collection l.strength l.set l.fn.end) →
     Opens before l.holds l.client (is_in_set_below l.collection l.strength l.set l.end))
+    × (HasPlaces l.fn.holds → HasPlaces l.holds)
 
 abbrev pub decreases-loop-end : goal.decreases-loop-end
 decreases-loop-end l = l.end

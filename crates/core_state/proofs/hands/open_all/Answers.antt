@@ -10,7 +10,7 @@ pub loop-end-init : goal.loop-end-init
 loop-end-init c =
     let a = c.args in
     let whole : a.set / 2 ^ 0 ≡ a.set = omega arith in
-    (omega arith, refl, whole, opens_none a.collection a.strength a.set a.holds.now a.client)
+    (omega arith, refl, whole, opens_none a.collection a.strength a.set a.holds.now a.client, λ has. has)
 
 -- a buffer at the end has as many handles as before
 pub open_at-requires : goal.open_at-requires
@@ -28,8 +28,13 @@ pub loop-end-preserved : goal.loop-end-preserved
 loop-end-preserved c =
     let a = c.args in
     let inv = c.loop-end.invariant in
-    let next : a.set / 2 ^ (c.loop-end.end + 1) ≡ c.loop-end.rest / 2 = sym (shr-shr a.set c.loop-end.end 1) ∙ ap (λ n. n / 2 ^ 1) inv.2 in
-    (omega arith, c.open_at.ensures.limit ∙ inv.1, next, c.in-Ok.ensures.ok a.holds.now a.set inv.2 inv.3)
+    let next : a.set / 2 ^ (c.loop-end.end + 1) ≡ c.loop-end.rest / 2 = sym (shr-shr a.set c.loop-end.end 1) ∙ ap (λ n. n / 2 ^ 1) inv.2 in (
+      omega arith,
+      c.open_at.ensures.limit ∙ inv.1,
+      next,
+      c.in-Ok.ensures.ok a.holds.now a.set inv.2 inv.3,
+      λ has. c.open_at.ensures.places (inv.4 has),
+    )
 
 -- the set has no buffer behind the last
 pub returns-else-rest-ne0-clause-ok : goal.returns-else-rest-ne0-clause-ok

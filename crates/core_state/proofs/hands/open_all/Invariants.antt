@@ -1,4 +1,5 @@
 use Rattle.std.proofs.Common.{◌≡◌, ◌≤◌, ◌-◌, ◌/◌, ◌^◌}
+use Rattle.buffer_holds.specs.Counts.{HasPlaces}
 use Rattle.core_state.specs.declared.hands.TheConstants.{SET_BITS}
 use Rattle.core_state.specs.Hands.{Opens, is_in_set_below}
 use Rattle.core_state.proofs.hands.open_all.Given as goal
@@ -6,7 +7,7 @@ use Rattle.core_state.proofs.hands.open_all.Given as goal
 -- the handles below the end are open, and the rest of the set is that from there on
 abbrev pub invariant-loop-end : goal.invariant-loop-end
 invariant-loop-end l = (l.end ≤ SET_BITS) × (l.holds.limit ≡ l.fn.holds.limit) × (l.set / 2 ^ l.end ≡ l.rest) ×
-    Opens l.fn.holds l.holds l.client (is_in_set_below l.collection l.strength l.set l.end)
+    Opens l.fn.holds l.holds l.client (is_in_set_below l.collection l.strength l.set l.end) × (HasPlaces l.fn.holds → HasPlaces l.holds)
 
 abbrev pub decreases-loop-end : goal.decreases-loop-end
 decreases-loop-end l = SET_BITS - l.end

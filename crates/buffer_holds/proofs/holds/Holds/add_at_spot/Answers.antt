@@ -1,10 +1,8 @@
 use Rattle.std.proofs.Common.{◌+◌, refl, sym, ap, ◌∙◌, arith}
 use Rattle.buffer_holds.specs.Counts.{total}
 use Rattle.buffer_holds.specs.Kinds.{hold_of}
-use Rattle.indexmap.specs.IndexMap.{spare}
 use Rattle.buffer_holds.proofs.Most.{newer_after, up_to_after}
 use Rattle.buffer_holds.proofs.Opening.{Step-opened}
-use Rattle.buffer_holds.proofs.Places.{places_after}
 use Rattle.buffer_holds.proofs.SoundLemmas.{total_is, count_at-le-total}
 use Rattle.buffer_holds.proofs.Steps.{sound_after, sets_by}
 use Rattle.buffer_holds.proofs.holds.Holds.add_at_spot.Goals as goal
@@ -28,8 +26,7 @@ invariant_of-self c =
           c.open_at.ensures.raised opens (λ full. omega (arith, full, fewer, c.self.invariant.4))),
       up_to_after inside.most inside.most inside.tallies.entries tallies' hold.kind _ _ opens (omega arith) (omega (arith, fewer))
           c.self.invariant.1,
-      places_after inside.sent inside.sent (spare inside.rows) (spare rows') inside.tallies.entries tallies' hold.kind _ _ opens refl
-          (omega (arith, c.self.invariant.2.enough, c.open_at.ensures.places)) c.self.invariant.2,
+      omega (arith, c.self.invariant.2, c.open_at.ensures.places),
       newer_after inside.newest inside.newest inside.tallies.entries tallies' hold.kind _ _ opens (omega arith)
           (λ later. absurd (omega (arith, later))) c.self.invariant.3,
       c.self.invariant.4,

@@ -68,13 +68,13 @@ invariant_of-self c =
     let tallies' = c.open.new.tallies.entries in
     let o = c.open.ensures in
     by_outcome c.open.result
-    (λ ok. agree_after _ _ c.open.new.most _ c.max-self-inside.result _ inside.sent _ (spare rows') _ rows'.entries _ tallies' c.self.invariant
-    o.more o.bounded (omega arith) (o.places c.self.invariant.2.enough) hold _ _ (step (goal.at.invariant_of-self c).After-open ok)
-    (at_ok ((tally_at inside.tallies.entries hold.kind).total + 1 ≤ c.open.new.most) c.open.result ok o.most) refl (λ later. absurd (omega arith)))
-    (λ err. agree_unchanged _ _ c.open.new.most _ c.max-self-inside.result _ inside.sent _ (spare rows') _ rows'.entries _ tallies' c.self.invariant
-    o.more o.bounded (omega arith) (o.places c.self.invariant.2.enough)
+    (λ ok. agree_after _ _ c.open.new.most _ c.max-self-inside.result _ inside.places _ (spare rows') _ rows'.entries _ tallies' c.self.invariant
+    o.more o.bounded (omega arith) (o.places c.self.invariant.2) hold _ _ (step (goal.at.invariant_of-self c).After-open ok)
+    (at_ok ((tally_at inside.tallies.entries hold.kind).total + 1 ≤ c.open.new.most) c.open.result ok o.most) (λ later. absurd (omega arith)))
+    (λ err. agree_unchanged _ _ c.open.new.most _ c.max-self-inside.result _ inside.places _ (spare rows') _ rows'.entries _ tallies' c.self.invariant
+    o.more o.bounded (omega arith) (o.places c.self.invariant.2)
     (at_err (rows'.entries ≡ inside.rows.entries) c.open.result err o.err_rows)
-    (at_err (tallies' ≡ inside.tallies.entries) c.open.result err o.err_tallies) refl)
+    (at_err (tallies' ≡ inside.tallies.entries) c.open.result err o.err_tallies))
 
 pub returns-clause-opened : goal.returns-clause-opened
 returns-clause-opened c = on_ok _ c.open.result (λ ok. sets_by c.args.client c.args.buffer c.args.strength

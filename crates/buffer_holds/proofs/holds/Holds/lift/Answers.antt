@@ -1,9 +1,8 @@
-use Rattle.std.proofs.Common.{◌-◌, ◌+◌, ◌<◌, refl, sym, ap, subst, arith, Some}
+use Rattle.std.proofs.Common.{◌-◌, ◌+◌, refl, sym, ap, arith, Some}
 use Rattle.buffer_holds.specs.declared.tally.Tally.{Tally}
-use Rattle.buffer_holds.specs.Kinds.{hold_of, kind_of, same_hold}
-use Rattle.buffer_holds.specs.Rows.{Resets, count_at, row_at}
+use Rattle.buffer_holds.specs.Kinds.{hold_of, kind_of}
+use Rattle.buffer_holds.specs.Rows.{row_at}
 use Rattle.buffer_holds.proofs.Most.{newer_after, up_to_after}
-use Rattle.buffer_holds.proofs.Places.{places_after}
 use Rattle.buffer_holds.proofs.SoundLemmas.{one_row-some, count_at-le-total, one_row-le-clients}
 use Rattle.buffer_holds.proofs.Steps.{Step-lowered, sound_after, sets_by}
 use Rattle.buffer_holds.proofs.TallyRows.{placed_from_something, lent_there, tally_lent, row_written}
@@ -17,8 +16,7 @@ unwrap-place-requires c =
     placed_from_something inside.tallies hold.kind c.tally_place.result c.tally_place.ensures.none
     (omega (
       arith,
-      one_row-some (row_at inside.rows.entries hold) (subst (λ es. 0 < count_at es hold) c.reserve.ensures.entries
-          (c.if-not-lower.ensures.had.0 refl)),
+      one_row-some (row_at inside.rows.entries hold) (c.if-not-lower.ensures.had.0 refl),
       one_row-le-clients inside.limit inside.rows.entries inside.tallies.entries c.self.invariant.0 hold,
     ))
 
@@ -34,7 +32,7 @@ overflow_add-tally c =
     let hold = hold_of c.args.client c.args.buffer c.args.strength in
     omega (
       arith,
-      subst (λ es. 0 < count_at es hold) c.reserve.ensures.entries (c.if-not-lower.ensures.had.0 refl),
+      c.if-not-lower.ensures.had.0 refl,
       count_at-le-total inside.limit inside.rows.entries inside.tallies.entries c.self.invariant.0 hold,
       ap (λ (t : Tally). t.moving) (tally_lent inside.tallies hold.kind c.tally_place.result c.tally_place.ensures.found c.unwrap-place.result c.unwrap-place.ensures
           c.get_index_mut.result c.get_index_mut.ensures.value c.get_index_mut.ensures.unique c.unwrap-tally.result c.unwrap-tally.ensures),
@@ -49,10 +47,8 @@ invariant_of-self-2 c =
     let left : Tally = record tally { moving = tally.moving + 1 } in
     let kept = tally_lent inside.tallies hold.kind c.tally_place.result c.tally_place.ensures.found c.unwrap-place.result c.unwrap-place.ensures
     c.get_index_mut.result c.get_index_mut.ensures.value c.get_index_mut.ensures.unique c.unwrap-tally.result c.unwrap-tally.ensures in
-    let had = subst (λ es. 0 < count_at es hold) c.reserve.ensures.entries (c.if-not-lower.ensures.had.0 refl) in
-    let lowered = subst (λ es.
-    Resets same_hold es c.lower.new.rows.entries hold (row_at es hold) (Some (count_at es hold - 1))) c.reserve.ensures.entries
-    c.if-not-lower.ensures.lowered in
+    let had = c.if-not-lower.ensures.had.0 refl in
+    let lowered = c.if-not-lower.ensures.lowered in
     let among = count_at-le-total inside.limit inside.rows.entries inside.tallies.entries c.self.invariant.0 hold in
     let after = row_written inside.tallies hold.kind c.tally_place.result c.tally_place.ensures.found c.unwrap-place.result
     c.unwrap-place.ensures c.get_index_mut.result c.get_index_mut.ensures.value c.get_index_mut.ensures.unique left in (
@@ -63,9 +59,7 @@ invariant_of-self-2 c =
           (omega (arith, had, among, ap (λ (t : Tally). t.total) kept, ap (λ (t : Tally). t.moving) kept))),
       up_to_after inside.most inside.most inside.tallies.entries _ hold.kind _ (Some left) after (omega arith)
           (omega (arith, c.self.invariant.1 hold.kind, ap (λ (t : Tally). t.total) kept)) c.self.invariant.1,
-      places_after inside.sent _ _ _ inside.tallies.entries _ hold.kind _ (Some left) after
-          (omega (arith, ap (λ (t : Tally). t.moving) kept))
-          (omega (arith, c.in-Ok.ensures.ok, c.if-not-lower.ensures.places)) c.self.invariant.2,
+      omega (arith, c.self.invariant.2, c.if-not-lower.ensures.places),
       newer_after inside.newest inside.newest inside.tallies.entries _ hold.kind _ (Some left) after (omega arith)
           (λ later. omega (arith, c.self.invariant.3 hold.kind later, ap (λ (t : Tally). t.total) kept)) c.self.invariant.3,
       c.self.invariant.4,
@@ -79,10 +73,8 @@ returns-clause-lifted c =
     let left : Tally = record tally { moving = tally.moving + 1 } in
     let kept = tally_lent inside.tallies hold.kind c.tally_place.result c.tally_place.ensures.found c.unwrap-place.result c.unwrap-place.ensures
     c.get_index_mut.result c.get_index_mut.ensures.value c.get_index_mut.ensures.unique c.unwrap-tally.result c.unwrap-tally.ensures in
-    let had = subst (λ es. 0 < count_at es hold) c.reserve.ensures.entries (c.if-not-lower.ensures.had.0 refl) in
-    let lowered = subst (λ es.
-    Resets same_hold es c.lower.new.rows.entries hold (row_at es hold) (Some (count_at es hold - 1))) c.reserve.ensures.entries
-    c.if-not-lower.ensures.lowered in
+    let had = c.if-not-lower.ensures.had.0 refl in
+    let lowered = c.if-not-lower.ensures.lowered in
     let among = count_at-le-total inside.limit inside.rows.entries inside.tallies.entries c.self.invariant.0 hold in
     let step = Step-lowered inside.limit inside.rows.entries c.lower.new.rows.entries inside.tallies.entries _ c.self.invariant.0 hold left
     (row_written inside.tallies hold.kind c.tally_place.result c.tally_place.ensures.found c.unwrap-place.result c.unwrap-place.ensures

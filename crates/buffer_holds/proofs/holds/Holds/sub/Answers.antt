@@ -3,7 +3,6 @@ use Rattle.buffer_holds.specs.declared.tally.Tally.{Tally}
 use Rattle.buffer_holds.specs.Kinds.{hold_of, kind_of}
 use Rattle.buffer_holds.specs.Rows.{row_at}
 use Rattle.buffer_holds.proofs.Most.{newer_after, up_to_after}
-use Rattle.buffer_holds.proofs.Places.{places_after}
 use Rattle.buffer_holds.proofs.SoundLemmas.{one_row-some, count_at-le-total, one_row-le-clients}
 use Rattle.buffer_holds.proofs.Steps.{Step-lowered, sound_after, sets_by}
 use Rattle.buffer_holds.proofs.TallyRows.{placed_from_something, lent_there, tally_lent, row_written}
@@ -58,9 +57,7 @@ invariant_of-self-2 c =
           (omega (arith, had, among, ap (λ (t : Tally). t.total) kept, ap (λ (t : Tally). t.moving) kept))),
       up_to_after inside.most inside.most inside.tallies.entries _ hold.kind _ (Some left) after (omega arith)
           (omega (arith, c.self.invariant.1 hold.kind, ap (λ (t : Tally). t.total) kept)) c.self.invariant.1,
-      places_after inside.sent inside.sent _ _ inside.tallies.entries _ hold.kind _ (Some left) after
-          (omega (arith, ap (λ (t : Tally). t.moving) kept))
-          (omega (arith, c.self.invariant.2.enough, c.if-not-lower.ensures.places)) c.self.invariant.2,
+      omega (arith, c.self.invariant.2, c.if-not-lower.ensures.places),
       newer_after inside.newest inside.newest inside.tallies.entries _ hold.kind _ (Some left) after (omega arith)
           (λ later. omega (arith, c.self.invariant.3 hold.kind later, ap (λ (t : Tally). t.total) kept)) c.self.invariant.3,
       c.self.invariant.4,

@@ -1,7 +1,6 @@
 use Rattle.std.proofs.Common.{refl, arith}
 use Rattle.buffer_holds.specs.Kinds.{hold_of}
 use Rattle.buffer_holds.proofs.Most.{newer_without, up_to_without}
-use Rattle.buffer_holds.proofs.Places.{places_after}
 use Rattle.buffer_holds.proofs.Steps.{Step-forgotten, forgotten_moving, forgotten_total, sound_after, tidies_after}
 use Rattle.buffer_holds.proofs.holds.Holds.tidy.Goals as goal
 
@@ -12,13 +11,7 @@ invariant_of-self c =
       sound_after (Step-forgotten inside.limit inside.rows.entries c.forget.new.rows.entries inside.tallies.entries
           c.leave.new.tallies.entries c.self.invariant.0 hold (c.if-forget.ensures.idle.0 refl) c.if-forget.ensures.forgotten c.leave.ensures),
       up_to_without inside.most inside.tallies.entries c.leave.new.tallies.entries hold.kind c.leave.ensures c.self.invariant.1,
-      places_after inside.sent inside.sent _ _ inside.tallies.entries c.leave.new.tallies.entries hold.kind _ _ c.leave.ensures
-          (omega (
-            arith,
-            forgotten_moving inside.limit inside.rows.entries c.forget.new.rows.entries inside.tallies.entries c.leave.new.tallies.entries
-                c.self.invariant.0 hold (c.if-forget.ensures.idle.0 refl) c.if-forget.ensures.forgotten c.leave.ensures,
-          ))
-          (omega (arith, c.self.invariant.2.enough, c.if-forget.ensures.places)) c.self.invariant.2,
+      omega (arith, c.self.invariant.2, c.if-forget.ensures.places),
       newer_without inside.newest inside.tallies.entries c.leave.new.tallies.entries hold.kind c.leave.ensures c.self.invariant.3,
       c.self.invariant.4,
     )

@@ -27,6 +27,7 @@ take_effect-requires c =
       clients = (known (goal.at.take_effect-requires c).After-changes_nothing).rising;
       handles = moves _ _ _ _ c.args.decision.now.reply _ _ b;
       may = b.may;
+      places = c.self.invariant.whole.places;
       asks = asks_only s c.args.client _ _ _ b.work;
       out = (known (goal.at.take_effect-requires c).After-changes_nothing).out;
       pool = c.self.invariant.whole.pages;
@@ -45,7 +46,8 @@ invariant_of-self c =
     c.next_event-self-inside.ensures ∙ ap (λ (x : State). x.events + 1) (sym c.self.view_is) in
     rw next (core_goes_on c.self.inside.contents.pool s (further _ _ _ _ i) c.args.client c.args.call.now c.args.decision.now.reply
     (step_answers _ _ _ _ _ None None i.begins (parts_of s) i.takes) (idle_follows _ _ _ _ i) c.self.invariant c.self.inside.contents.pool
-    (omega arith) (omega arith) c.self.invariant.whole.pages refl)
+    (omega arith) (omega arith) c.self.invariant.whole.pages refl
+    c.self.invariant.whole.places)
 
 -- memory was refused, and the fields are as they were
 pub invariant_of-self-in_default : goal.invariant_of-self-in_default
@@ -74,6 +76,7 @@ invariant_of-self-in_default c =
       counts = kept.3;
     } in
     core_same c.self.inside.contents.pool c.take_effect.new.contents.pool s now same c.take_effect.ensures.limit
+    c.take_effect.ensures.places
     (subst (λ (p : Holdings). IsPoolOf p s.forest) (sym kept.2) c.self.invariant.whole.pages) c.self.invariant
 
 -- trackers elsewhere are not due
@@ -114,7 +117,7 @@ invariant_of-self-2 c =
     c.self.invariant c.take_effect.new.contents.pool (omega arith) (omega arith)
     (c.take_effect.ensures.pool ∙ ap (λ (hs : List HeldBuffer). sorted_by (λ (i : Interval). i.start)
     (map (λ (h : HeldBuffer). h.pages) hs)) (sym c.put_end.ensures.held))
-    c.take_effect.ensures.limit)
+    c.take_effect.ensures.limit c.take_effect.ensures.places)
 
 -- each reply is the answer, and the new state follows: also where the call changes nothing, or memory is refused
 pub returns : goal.returns

@@ -6,5 +6,5 @@ use Rattle.lifetime_core.proofs.machine.Core.handles_in_parcels.Goals as goal
 
 pub returns-clause-shown : goal.returns-clause-shown
 returns-clause-shown c history shows =
-    rw c.moving_count.ensures (ap (λ (s : State). moving_count s.holds c.args.buffer c.args.strength) c.self.view_is
+    rw c.moving.ensures (ap (λ (s : State). moving_count s.holds c.args.buffer c.args.strength) c.self.view_is
     ∙ moving_shown c.args.self.now history shows c.args.buffer c.args.strength)

@@ -1,7 +1,7 @@
 use Rattle.std.proofs.Common.{sym, ap, ◌∙◌}
 use Rattle.buffer_holds.specs.Counts.{moving_count}
 use Rattle.buffer_holds.proofs.SoundLemmas.{moving_is}
-use Rattle.buffer_holds.proofs.holds.Holds.moving_count.Goals as goal
+use Rattle.buffer_holds.proofs.holds.Holds.moving.Goals as goal
 
 -- the tally has it
 pub returns : goal.returns
