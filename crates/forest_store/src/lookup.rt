@@ -13,7 +13,7 @@ use crate::entry::Entry;
 use crate::node::{End, Node};
 use crate::snapshot::Snapshot;
 use node_table::NodeTable;
-use sm_names::{HeldBuffer, Interval, NodeKey};
+use sm_names::{CollectionId, HeldBuffer, Interval, NodeKey};
 use std::alloc::{AllocError, Global};
 
 /// Whether the node is live and strong.
