@@ -19,4 +19,5 @@ mod running;
 mod scripts;
 mod strangers;
 mod tracking;
+mod turns;
 mod views;

@@ -1,0 +1,76 @@
+-- What became of nodes.
+use Rattle.std.specs.Prelude.{ℕ, ◌≡◌, Bool, true, false, if◌then◌else◌, List, [], ◌∷◌, ◌++◌, map, Option, Some, None, Vec}
+use Rattle.std.specs.List.{filter, find, flat_map}
+use Rattle.std.specs.Option.{option_map, option_map_or}
+use Rattle.sm_names.specs.declared.keys.NodeKey.{NodeKey}
+use Rattle.sm_names.specs.declared.messages.Call.{Call}
+use Rattle.sm_names.specs.declared.messages.Reply.{Reply}
+use Rattle.sm_names.specs.declared.outcomes.Fault.{Fault}
+use Rattle.sm_names.specs.Marks.{Entry, Mark, Loss, Ended}
+use Rattle.sm_names.specs.Sameness.{same_key}
+use Rattle.forest_store.specs.declared.node.Node.{Node}
+use Rattle.forest_store.specs.Forest.{node_at}
+use Rattle.forest_store.specs.Nodes.{after_loss}
+use Rattle.core_state.specs.Shown.{Shows}
+use Rattle.core_state.specs.State.{State}
+use Rattle.std.specs.declared.alloc.Global.{Global}
+use Rattle.event_marks.specs.declared.moment.Moment.{Moment}
+use Rattle.event_marks.specs.Marks.{AreStages, Stage}
+use Rattle.event_marks.specs.Moments.{stage_of}
+use Rattle.event_facts.specs.Facts.{is_lost_with}
+use Rattle.actor_plays.specs.declared.ending.Fate.{Fate}
+use Rattle.actor_plays.specs.declared.falls.Fall.{Fall}
+use Rattle.actor_plays.specs.Plays.{joins}
+
+-- the node is gone, by its fault if it has one
+abbrev pub fall_told : Node → Fall
+fall_told n = record { key = n.key; fault = n.fault }
+
+-- the node ends
+abbrev pub end_told : Node → Fall
+end_told n = record { key = n.key; fault = None }
+
+-- the nodes of these that are gone behind the mark, a loss, or that it takes, an end
+abbrev pub falls_by : Mark → List Node → List Fall
+falls_by (Loss origin cause) nodes =
+    map fall_told (filter (λ (n : Node). n.gone) (after_loss (record { cause = cause; origin = origin }) nodes))
+falls_by (Ended top) nodes = map end_told (filter (is_lost_with nodes top) nodes)
+falls_by _ nodes = []
+
+-- the same of a mark with the collection before it
+abbrev pub falls_at : Stage → List Fall
+falls_at s = falls_by s.mark s.before.nodes
+
+-- the marks of an event are told, and with the nodes that they take those that fell are these
+abbrev pub AreTold : Option (Vec Moment Global) → List Fall → List Fall → Type 0
+AreTold None before later = ⊥
+AreTold (Some moments) before later = later ≡ before ++ flat_map falls_at (map stage_of moments.items)
+
+-- these nodes fell in the history, as the marks of its events tell
+pub data AreFalls : List Entry → List Fall → Type 0 where
+  Starts : (clients : List ℕ) → AreFalls (joins clients) []
+  Tells : (history : List Entry) (falls : List Fall) (old new : State) (client : ℕ) (call : Call) (reply : Reply) (stages : List Stage) →
+      AreFalls history falls → Shows old history → Shows new (history ++ (client, call, reply) ∷ []) →
+      AreStages old new client call reply stages →
+      AreFalls (history ++ (client, call, reply) ∷ []) (falls ++ flat_map falls_at stages)
+
+-- a node that was released, or is live
+abbrev pub fate_there : Bool → Bool → Fate
+fate_there true allocated = Fate.Released allocated
+fate_there false allocated = Fate.Live allocated
+
+-- a node that failed, or ended
+abbrev pub fate_gone : Option Fault → Fate
+fate_gone fault = option_map_or Fate.Failed fault Fate.Ended
+
+-- what became of a node that is kept
+abbrev pub fate_of : Node → Fate
+fate_of n = if n.gone then fate_gone n.fault else fate_there n.released n.allocated
+
+-- what became of a node that is not: as it fell first
+abbrev pub fate_fallen : List Fall → NodeKey → Option Fate
+fate_fallen falls key = option_map (λ (f : Fall). fate_gone f.fault) (find (λ (f : Fall). same_key f.key key) falls)
+
+-- what became of a node
+abbrev pub fate_in : State → List Fall → NodeKey → Option Fate
+fate_in s falls key = option_map_or (λ (n : Node). Some (fate_of n)) (node_at s.forest key) (fate_fallen falls key)

@@ -1,0 +1,80 @@
+//! An actor in a play.
+ghost use Rattle.std.specs.Prelude.{◌≡◌, ◌≤◌, false, true, OnOk};
+ghost use Rattle.actor_scripts.specs.ActorStates.{step_call};
+ghost use Rattle.actor_scripts.specs.Tables.{known};
+ghost use Rattle.actor_plays.specs.Plays.{first_stage, passed, stage_after, stage_of};
+
+use crate::plan::Planned;
+use actor_scripts::{ActorState, Step, StepCall};
+use sm_names::{ClientId, Reply, StepFault};
+use std::alloc::Global;
+
+/// An actor in a play: its client, how many steps of its plan are behind it, what it knows, and the replies
+/// to its calls, each with the place of its step in the plan.
+#[derive(Drop)]
+pub struct Actor {
+    pub client: ClientId,
+    pub at: usize,
+    pub state: ActorState,
+    pub made: Vec<(usize, Reply)>,
+}
+
+impl Actor {
+    // An actor with no step behind it.
+    pub(crate) fn new(alloc: Global, client: ClientId) -> Actor
+        ensures { stage_of result ≡ first_stage }
+    {
+        let state = ActorState::new(alloc);
+        let made = Vec::new(alloc);
+        Actor {
+            client,
+            at: 0,
+            state,
+            made,
+        }
+    }
+
+    // The call that the step makes.
+    pub(crate) fn asked(&self, clients: &[ClientId], step: Step) -> Option<StepCall>
+        ensures { result ≡ step_call clients.now (known self.now.state) step }
+    {
+        self.state.call(clients, step)
+    }
+
+    // One more step is behind it, unless there are as many as can be counted.
+    pub(crate) fn pass(&mut self) -> bool
+        ensures stage { result ≡ true → stage_of self.new ≡ passed (stage_of self.old) }
+        ensures same { result ≡ false → self.new ≡ self.old }
+    {
+        if self.at == usize::MAX {
+            return false;
+        }
+        self.at += 1;
+        true
+    }
+
+    // Notes the reply to its next step.
+    pub(crate) fn note(
+        &mut self,
+        next: Planned,
+        asked: &StepCall,
+        reply: Reply,
+    ) -> Result<(), StepFault>
+        ensures { OnOk result
+            (stage_of self.new ≡ stage_after (stage_of self.old) next asked.now reply) }
+    {
+        if self.at == usize::MAX {
+            return Err(StepFault::NoMemory);
+        }
+        match self.made.push((self.at, reply)) {
+            Ok(()) => {}
+            Err(_) => return Err(StepFault::NoMemory),
+        }
+        match self.state.note_reply(next.step, asked, &reply) {
+            Ok(()) => {}
+            Err(_) => return Err(StepFault::NoMemory),
+        }
+        self.at += 1;
+        Ok(())
+    }
+}

@@ -1,0 +1,14 @@
+//! Plays of actors: the calls that the clients of a script make on one core, one turn after another.
+#![tactic(auto)]
+
+mod actor;
+mod ending;
+mod falls;
+mod plan;
+mod play;
+
+pub use actor::Actor;
+pub use ending::Fate;
+pub use falls::Fall;
+pub use plan::{Plan, Planned, plan_of};
+pub use play::{Play, Turned};

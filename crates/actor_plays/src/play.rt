@@ -1,0 +1,490 @@
+//! A play on a core, turn by turn.
+ghost use Rattle.std.specs.Prelude.{◌≡◌, ◌+◌, ◌≤◌, ◌&&◌, ◌∷◌, ◌++◌, [], length, option_copied, slice_get, slice_set, false, true, None, IfOk, IfSome, OnOk};
+ghost use Rattle.std.specs.Option.{option_and_then, option_map, option_map_or};
+ghost use Rattle.sm_names.specs.declared.rules.TheConstants.{MAX_PAGES};
+ghost use Rattle.core_state.specs.Shown.{Shows};
+ghost use Rattle.actor_plays.specs.Fates.{AreFalls, fate_in};
+ghost use Rattle.actor_plays.specs.Plays.{AreJoining, Asks, AsksNothing, IsPlay, IsTurn, Stage, first_stage, has_fired as has_fired_among, is_wait as is_waiting, next_step, passed, polls as polls_for, stage_after, stage_of, stages_of};
+ghost use Rattle.actor_scripts.specs.ActorStates.{step_call};
+ghost use Rattle.actor_scripts.specs.Tables.{known};
+
+use crate::actor::Actor;
+use crate::ending::{Fate, fallen, fate_of};
+use crate::falls::{Fall, note_falls};
+use crate::plan::{Plan, Planned};
+use actor_scripts::{ActorState, Step, StepCall};
+use event_facts::take_told;
+use lifetime_core::Core;
+use sm_names::{Call, ClientId, Fired, Limits, NoMemory, NodeKey, Reply, StepFault, TrackerId};
+use std::alloc::Global;
+
+/// What came of an actor's turn.
+#[derive(Clone, Copy, PartialEq, Eq)]
+pub enum Turned {
+    /// It made a call.
+    Made,
+    /// The call for which it waits was answered Empty or Pending. It counts as an event, but is no turn.
+    Waits,
+    /// It has no call to make: it is behind its last step, or waits for a tracker to fire.
+    Rests,
+}
+
+/// A play of actors on a core: the clients, what each actor knows, the turns, the calls with their replies,
+/// and the nodes that fell.
+#[derive(Drop)]
+pub struct Play {
+    pub(crate) core: Core,
+    pub(crate) clients: Vec<ClientId>,
+    pub(crate) actors: Vec<Actor>,
+    pub(crate) turns: Vec<usize>,
+    pub(crate) entries: Vec<(ClientId, Call, Reply)>,
+    pub(crate) falls: Vec<Fall>,
+}
+
+// The next step of an actor, its call, and the client that makes it.
+#[derive(Clone, Copy)]
+pub(crate) struct Asked {
+    pub(crate) next: Planned,
+    pub(crate) asked: StepCall,
+    pub(crate) client: ClientId,
+}
+
+// Whether nothing was there for the call.
+fn is_wait(reply: &Reply) -> bool
+    ensures { result ≡ is_waiting reply.now }
+{
+    matches!(*reply, Reply::Empty | Reply::Pending)
+}
+
+// Whether the step waits, and nothing was there for its call.
+fn must_wait(next: &Planned, reply: &Reply) -> bool
+    ensures { result ≡ (next.now.waits && is_waiting reply.now) }
+{
+    next.waits && is_wait(reply)
+}
+
+// Whether the tracker is among those that fired.
+fn has_fired(fired: &[Fired], tracker: TrackerId) -> bool
+    ensures { result ≡ has_fired_among fired.now tracker }
+{
+    fired.iter().any(|one| one.tracker == tracker)
+}
+
+// Whether the step looks at a tracker that has not fired, and waits for it.
+fn polls(fired: &[Fired], state: &ActorState, next: Planned) -> bool
+    ensures { result ≡ polls_for fired.now (known state.now) next }
+{
+    if !next.waits {
+        return false;
+    }
+    match next.step {
+        Step::Poll { tracker } => match state.tracker(tracker) {
+            Some(id) => !has_fired(fired, id),
+            None => false,
+        },
+        Step::Ask { .. } => false,
+    }
+}
+
+impl Play {
+    /// A play in which no client has joined, on a core with a pool of this many pages, 1 to 1,048,576. Its
+    /// table of handles hashes from the seed, which changes no reply.
+    ///
+    /// `NoMemory` if the pool's first list is refused. Costs O(1).
+    pub fn new(alloc: Global, pages: u32, limits: Limits, seed: [u8; 16]) -> Result<Play, NoMemory>
+        requires { (1 ≤ pages) × (pages ≤ MAX_PAGES) }
+        ensures joining { IfOk result AreJoining }
+        ensures none { IfOk result (λ play. play.clients.items ≡ []) }
+        ensures pages { IfOk result (λ play. play.core.pool ≡ pages) }
+        ensures limits { IfOk result (λ play. play.core.limits ≡ limits) }
+    {
+        let core = Core::with_seed(alloc, pages, limits, seed)?;
+        Ok(Play {
+            core,
+            clients: Vec::new(alloc),
+            actors: Vec::new(alloc),
+            turns: Vec::new(alloc),
+            entries: Vec::new(alloc),
+            falls: Vec::new(alloc),
+        })
+    }
+
+    // Makes a call, and notes it.
+    fn make_call(&mut self, client: ClientId, call: Call) -> Result<Reply, StepFault>
+        requires { Shows self.old.core self.old.entries.items }
+        ensures shows { OnOk result (Shows self.new.core self.new.entries.items) }
+        ensures entries { IfOk result (λ reply. self.new.entries.items
+            ≡ self.old.entries.items ++ (client, call, reply) ∷ []) }
+        ensures rest { OnOk result
+            (self.new ≡ record self.old { core = self.new.core; entries = self.new.entries }) }
+        ensures pool { OnOk result (self.new.core.pool ≡ self.old.core.pool) }
+        ensures limits { OnOk result (self.new.core.limits ≡ self.old.core.limits) }
+    {
+        let made = call;
+        let reply = self.core.step(client, call)?;
+        let answer = reply;
+        match self.entries.push((client, made, reply)) {
+            Ok(()) => Ok(answer),
+            Err(_) => Err(StepFault::NoMemory),
+        }
+    }
+
+    // Does what `make_call` does, and notes the nodes that the call took.
+    fn tell_call(&mut self, alloc: Global, client: ClientId, call: Call) -> Result<Reply, StepFault>
+        requires { Shows self.old.core self.old.entries.items }
+        ensures shows { OnOk result (Shows self.new.core self.new.entries.items) }
+        ensures entries { IfOk result (λ reply. self.new.entries.items
+            ≡ self.old.entries.items ++ (client, call, reply) ∷ []) }
+        ensures told { OnOk result (AreFalls self.old.entries.items self.old.falls.items →
+            AreFalls self.new.entries.items self.new.falls.items) }
+        ensures rest { OnOk result (self.new ≡ record self.old {
+          core = self.new.core;
+          entries = self.new.entries;
+          falls = self.new.falls;
+        }) }
+        ensures pool { OnOk result (self.new.core.pool ≡ self.old.core.pool) }
+        ensures limits { OnOk result (self.new.core.limits ≡ self.old.core.limits) }
+    {
+        let made = call;
+        let told = take_told(&mut self.core, alloc, client, call)?;
+        note_falls(&mut self.falls, alloc, &told.moments)?;
+        let reply = told.reply;
+        let answer = reply;
+        match self.entries.push((client, made, reply)) {
+            Ok(()) => Ok(answer),
+            Err(_) => Err(StepFault::NoMemory),
+        }
+    }
+
+    /// One more client joins, before any turn.
+    ///
+    /// The fault is that of the call: as many events were made as may be, or memory was refused. Then the
+    /// play is of no more use. Costs O(1).
+    pub fn join(&mut self, alloc: Global) -> Result<(), StepFault>
+        requires { AreJoining self.old }
+        ensures joining { OnOk result (AreJoining self.new) }
+        ensures counted { OnOk result
+            (length self.new.clients.items ≡ length self.old.clients.items + 1) }
+        ensures pool { OnOk result (self.new.core.pool ≡ self.old.core.pool) }
+        ensures limits { OnOk result (self.new.core.limits ≡ self.old.core.limits) }
+    {
+        let reply = self.make_call(0, Call::Join)?;
+        let Reply::Joined(client) = reply else {
+            return Err(StepFault::HistoryFull);
+        };
+        self.add_actor(alloc, client)?;
+        Ok(())
+    }
+
+    // Adds an actor, who has made nothing, with this client.
+    fn add_actor(&mut self, alloc: Global, client: ClientId) -> Result<(), StepFault>
+        ensures clients { OnOk result
+            (self.new.clients.items ≡ self.old.clients.items ++ client ∷ []) }
+        ensures stages { OnOk result
+            (stages_of self.new ≡ stages_of self.old ++ first_stage ∷ []) }
+        ensures rest { OnOk result (self.new
+            ≡ record self.old { clients = self.new.clients; actors = self.new.actors }) }
+    {
+        let actor = Actor::new(alloc, client);
+        match self.actors.push(actor) {
+            Ok(()) => {}
+            Err(_) => return Err(StepFault::NoMemory),
+        }
+        match self.clients.push(client) {
+            Ok(()) => Ok(()),
+            Err(_) => Err(StepFault::NoMemory),
+        }
+    }
+
+    /// Whether as many clients have joined as there are plans: then the actors of these plans can make turns.
+    /// Costs O(1).
+    pub fn have_joined(&self, plans: &[Plan]) -> bool
+        ensures count { result ≡ true → length self.now.clients.items ≡ length plans.now }
+        ensures play { AreJoining self.now →
+            length self.now.clients.items ≡ length plans.now → IsPlay plans.now self.now }
+        ensures told { AreJoining self.now → AreFalls self.now.entries.items self.now.falls.items }
+    {
+        self.clients.len() == plans.len()
+    }
+
+    // The next step of the actor.
+    fn next(&self, plans: &[Plan], actor: usize) -> Option<Planned>
+        ensures { result
+            ≡ option_and_then (next_step plans.now actor) (slice_get (stages_of self.now) actor) }
+    {
+        let at = self.actors.get(actor)?.at;
+        plans.get(actor)?.steps.get(at).copied()
+    }
+
+    // The actor of this place.
+    fn actor(&self, actor: usize) -> Option<&Actor>
+        ensures { option_map stage_of (option_copied result) ≡ slice_get (stages_of self.now) actor }
+    {
+        self.actors.get(actor)
+    }
+
+    // The call that the actor's step makes.
+    fn asked(&self, actor: usize, step: Step) -> Option<StepCall>
+        ensures { result ≡ option_and_then
+            (λ (stage : Stage). step_call self.now.clients.items stage.known step)
+            (slice_get (stages_of self.now) actor) }
+    {
+        match self.actor(actor) {
+            Some(one) => one.asked(&self.clients, step),
+            None => None,
+        }
+    }
+
+    // Whether the actor waits for a tracker to fire.
+    fn polls(&self, actor: usize, next: Planned) -> bool
+        ensures { result ≡ option_map_or
+            (λ (stage : Stage). polls_for self.now.core.trackers.fired stage.known next)
+            (slice_get (stages_of self.now) actor) false }
+    {
+        match self.actors.get(actor) {
+            Some(one) => polls(self.core.fired(), &one.state, next),
+            None => false,
+        }
+    }
+
+    // Whether the actor can't pass its next step: it makes a call, or waits for a tracker to fire.
+    fn stays(&self, actor: usize, next: Planned) -> bool
+        ensures none { result ≡ false → option_and_then
+            (λ (stage : Stage). step_call self.now.clients.items stage.known next.step)
+            (slice_get (stages_of self.now) actor) ≡ None }
+        ensures quiet { result ≡ false → option_map_or
+            (λ (stage : Stage). polls_for self.now.core.trackers.fired stage.known next)
+            (slice_get (stages_of self.now) actor) false ≡ false }
+    {
+        match self.asked(actor, next.step) {
+            Some(_) => true,
+            None => self.polls(actor, next),
+        }
+    }
+
+    // One more step of the actor is behind it, unless there are as many as can be counted.
+    fn step_on(&mut self, actor: usize) -> bool
+        ensures stages { result ≡ true → IfSome (slice_get (stages_of self.old) actor) (λ stage.
+            stages_of self.new ≡ slice_set (stages_of self.old) actor (passed stage)) }
+        ensures none { result ≡ false → stages_of self.new ≡ stages_of self.old }
+        ensures rest { self.new ≡ record self.old { actors = self.new.actors } }
+    {
+        if self.actors.len() <= actor {
+            return false;
+        }
+        self.actors[actor].pass()
+    }
+
+    // Passes the next step of the actor, if it makes no call and does not wait.
+    fn pass_one(&mut self, plans: &[Plan], actor: usize) -> bool
+        requires { IsPlay plans.now self.old }
+        ensures play { IsPlay plans.now self.new }
+        ensures rest { self.new ≡ record self.old { actors = self.new.actors } }
+    {
+        let Some(next) = self.next(plans, actor) else {
+            return false;
+        };
+        if self.stays(actor, next) {
+            return false;
+        }
+        self.step_on(actor)
+    }
+
+    // Passes all that the actor can pass.
+    #[tactic(auto, using(crate::proofs::PlayLaws::only_actors))]
+    fn pass(&mut self, plans: &[Plan], actor: usize)
+        requires { IsPlay plans.now self.old }
+        ensures play { IsPlay plans.now self.new }
+        ensures rest { self.new ≡ record self.old { actors = self.new.actors } }
+    {
+        let most = match plans.get(actor) {
+            Some(plan) => plan.steps.len(),
+            None => 0,
+        };
+        'passing: for _ in 0..most {
+            if !self.pass_one(plans, actor) {
+                return;
+            }
+        }
+    }
+
+    /// Each actor passes the steps that it can pass. It makes no turn. Costs a constant number of look-ups
+    /// for each step.
+    #[tactic(auto, using(crate::proofs::PlayLaws::only_actors))]
+    pub fn pass_all(&mut self, plans: &[Plan])
+        requires { IsPlay plans.now self.old }
+        ensures play { IsPlay plans.now self.new }
+        ensures rest { self.new ≡ record self.old { actors = self.new.actors } }
+    {
+        'actors: for actor in 0..plans.len() {
+            self.pass(plans, actor);
+        }
+    }
+
+    // Makes the call, and notes the nodes that it took if the play tells.
+    fn call(
+        &mut self,
+        alloc: Global,
+        client: ClientId,
+        call: Call,
+        tells: bool,
+    ) -> Result<Reply, StepFault>
+        requires { Shows self.old.core self.old.entries.items }
+        ensures shows { OnOk result (Shows self.new.core self.new.entries.items) }
+        ensures entries { IfOk result (λ reply. self.new.entries.items
+            ≡ self.old.entries.items ++ (client, call, reply) ∷ []) }
+        ensures told { tells ≡ true → OnOk result
+            (AreFalls self.old.entries.items self.old.falls.items →
+            AreFalls self.new.entries.items self.new.falls.items) }
+        ensures rest { OnOk result (self.new ≡ record self.old {
+          core = self.new.core;
+          entries = self.new.entries;
+          falls = self.new.falls;
+        }) }
+        ensures pool { OnOk result (self.new.core.pool ≡ self.old.core.pool) }
+        ensures limits { OnOk result (self.new.core.limits ≡ self.old.core.limits) }
+    {
+        if tells {
+            self.tell_call(alloc, client, call)
+        } else {
+            self.make_call(client, call)
+        }
+    }
+
+    // Notes the reply to the actor's next step.
+    fn note(
+        &mut self,
+        actor: usize,
+        next: Planned,
+        asked: &StepCall,
+        reply: Reply,
+    ) -> Result<(), StepFault>
+        ensures stages { OnOk result (IfSome (slice_get (stages_of self.old) actor) (λ stage.
+            stages_of self.new
+            ≡ slice_set (stages_of self.old) actor (stage_after stage next asked.now reply))) }
+        ensures turns { OnOk result (self.new.turns.items ≡ self.old.turns.items ++ actor ∷ []) }
+        ensures rest { OnOk result (self.new
+            ≡ record self.old { actors = self.new.actors; turns = self.new.turns }) }
+    {
+        if self.actors.len() <= actor {
+            return Err(StepFault::NoMemory);
+        }
+        self.actors[actor].note(next, asked, reply)?;
+        match self.turns.push(actor) {
+            Ok(()) => Ok(()),
+            Err(_) => Err(StepFault::NoMemory),
+        }
+    }
+
+    // What the actor asks for by its next step, if it makes a call.
+    fn asks(&self, plans: &[Plan], actor: usize) -> Option<Asked>
+        ensures some { IfSome result (Asks plans.now self.now actor) }
+        ensures none { result ≡ None → AsksNothing plans.now self.now actor }
+    {
+        let Some(next) = self.next(plans, actor) else {
+            return None;
+        };
+        let Some(asked) = self.asked(actor, next.step) else {
+            return None;
+        };
+        let Some(client) = self.clients.get(actor).copied() else {
+            return None;
+        };
+        Some(Asked {
+            next,
+            asked,
+            client,
+        })
+    }
+
+    // The actor makes the call that it asks for.
+    fn make_turn(
+        &mut self,
+        alloc: Global,
+        plans: &[Plan],
+        actor: usize,
+        asks: &Asked,
+        tells: bool,
+    ) -> Result<Turned, StepFault>
+        requires play { IsPlay plans.now self.old }
+        requires asks { Asks plans.now self.old actor asks.now }
+        ensures turn { IfOk result (IsTurn plans.now self.old self.new actor) }
+        ensures told { tells ≡ true → AreFalls self.old.entries.items self.old.falls.items →
+            OnOk result (AreFalls self.new.entries.items self.new.falls.items) }
+        ensures pool { OnOk result (self.new.core.pool ≡ self.old.core.pool) }
+        ensures limits { OnOk result (self.new.core.limits ≡ self.old.core.limits) }
+    {
+        let reply = self.call(alloc, asks.client, asks.asked.call, tells)?;
+        if must_wait(&asks.next, &reply) {
+            return Ok(Turned::Waits);
+        }
+        self.note(actor, asks.next, &asks.asked, reply)?;
+        Ok(Turned::Made)
+    }
+
+    /// A turn of the actor: it passes the steps that it can pass, and makes the call of the next one. If the
+    /// play tells, the nodes that the call took are noted.
+    ///
+    /// The fault is that of the call, or memory was refused. Then the play is of no more use. Costs the call,
+    /// and a constant number of look-ups for each step that is passed; if the play tells, what `take_told`
+    /// costs, and a copy of the collection for each mark of the event.
+    pub fn take_turn(
+        &mut self,
+        alloc: Global,
+        plans: &[Plan],
+        actor: usize,
+        tells: bool,
+    ) -> Result<Turned, StepFault>
+        requires { IsPlay plans.now self.old }
+        ensures turn { IfOk result (IsTurn plans.now self.old self.new actor) }
+        ensures told { tells ≡ true → AreFalls self.old.entries.items self.old.falls.items →
+            OnOk result (AreFalls self.new.entries.items self.new.falls.items) }
+        ensures pool { OnOk result (self.new.core.pool ≡ self.old.core.pool) }
+        ensures limits { OnOk result (self.new.core.limits ≡ self.old.core.limits) }
+    {
+        self.pass(plans, actor);
+        match self.asks(plans, actor) {
+            Some(asks) => self.make_turn(alloc, plans, actor, &asks, tells),
+            None => Ok(Turned::Rests),
+        }
+    }
+
+    /// The core. Costs O(1).
+    pub fn core(&self) -> &Core
+        ensures { result.now ≡ self.now.core }
+    {
+        &self.core
+    }
+
+    /// The actors, in the order of their plans. Costs O(1).
+    pub fn actors(&self) -> &[Actor]
+        ensures { result.now ≡ self.now.actors.items }
+    {
+        &self.actors
+    }
+
+    /// The calls with their replies, joins among them. Costs O(1).
+    pub fn entries(&self) -> &[(ClientId, Call, Reply)]
+        ensures { result.now ≡ self.now.entries.items }
+    {
+        &self.entries
+    }
+
+    /// The nodes that fell in calls that were told. Costs O(1).
+    pub fn falls(&self) -> &[Fall]
+        ensures { result.now ≡ self.now.falls.items }
+    {
+        &self.falls
+    }
+
+    /// What became of the node: what the core has of it, or else how it fell. `None` where it is neither kept
+    /// nor fell. Costs O(n) for the n nodes that fell.
+    pub fn fate(&self, key: NodeKey) -> Option<Fate>
+        ensures { result ≡ fate_in self.now.core self.now.falls.items key }
+    {
+        match self.core.node(key) {
+            Some(node) => Some(fate_of(&node)),
+            None => fallen(&self.falls, key),
+        }
+    }
+}
