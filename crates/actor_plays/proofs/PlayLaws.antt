@@ -154,8 +154,8 @@ module _ (plans : List Plan) (old mid new : Play) (actor client : ℕ) (next : P
   called step call caller waits shows entries same stages turns rest =
       let kept : stages_of mid ≡ stages_of old = ap stages_of same in
       called_by (slice_get (stages_of old) actor) refl step call caller waits shows entries same
-      (subst (λ (ss : List Stage). IfSome (slice_get ss actor) (λ stage. stages_of new ≡ slice_set ss actor (stage_after stage next asked reply)))
-      kept stages) turns rest
+      (subst (λ (ss : List Stage). IfSome (slice_get ss actor)
+      (λ stage. stages_of new ≡ slice_set ss actor (stage_after stage next asked reply))) kept stages) turns rest
 
 -- the actor waits, after it passed what it could
 module _ (plans : List Plan) (first old new : Play) (actor client : ℕ) (next : Planned) (asked : StepCall) (reply : Reply)
