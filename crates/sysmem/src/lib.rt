@@ -31,6 +31,7 @@ pub use opening::{sysmem_close, sysmem_open, sysmem_open_lasting, sysmem_open_se
 pub use stepping::sysmem_step;
 pub use views::{
     FiredWords, HeldWords, KeyWords, sysmem_cause, sysmem_events, sysmem_fired, sysmem_fired_from,
-    sysmem_free_pages, sysmem_held, sysmem_is_live, sysmem_live,
+    sysmem_forget_fired, sysmem_free_pages, sysmem_held, sysmem_is_live, sysmem_live,
+    sysmem_remaining,
 };
 pub use words::{CallWords, ReplyWords};

@@ -1,6 +1,7 @@
 //! Views of a core.
-ghost use Rattle.std.specs.Prelude.{◌≡◌, ◌≢◌, ◌↔◌, None, IsSomeAnd, drop, length, map};
-ghost use Rattle.std.specs.Prelude.{if◌then◌else◌, ◌⊎◌};
+ghost use Rattle.std.specs.Prelude.{◌≡◌, ◌≢◌, ◌↔◌, ◌+◌, None, IsSomeAnd, drop, length, map};
+ghost use Rattle.std.specs.Prelude.{if◌then◌else◌, ◌⊎◌, option_map};
+ghost use Rattle.core_state.specs.Shown.{forgetting};
 ghost use Rattle.core_state.specs.Reads.{views_of, is_live_in, fault_in};
 ghost use Rattle.sysmem.specs.Arrays.{written_over};
 ghost use Rattle.sysmem.specs.Encodings.{fired_words, held_words, key_from_words, key_words};
@@ -211,6 +212,30 @@ pub extern "C" fn sysmem_fired_from(
     DONE
 }
 
+/// Forgets the trackers that fired: `sysmem_fired` then writes later ones alone, and counts those alone.
+/// This is no event, and changes no reply.
+///
+/// `NOT_OPEN` if the handle has no core; `NO_MEMORY` if memory is refused: nothing changed then. Costs what
+/// `Core::forget_fired` costs.
+#[unsafe(no_mangle)]
+pub extern "C" fn sysmem_forget_fired(alloc: Global, handle: &mut Handle) -> u32
+    ensures codes { (result ≡ 0) ⊎ ((result ≡ 1) ⊎ (result ≡ 6)) }
+    ensures not_open { (result ≡ 1) ↔ (handle.old.place.core ≡ None) }
+    ensures done { result ≡ 0 → handle.new.place.core
+        ≡ option_map forgetting handle.old.place.core }
+    ensures failed { result ≢ 0 → handle.new.place.core ≡ handle.old.place.core }
+{
+    let Some(mut core) = take(alloc, handle) else {
+        return NOT_OPEN;
+    };
+    let code = match core.forget_fired() {
+        Ok(()) => DONE,
+        Err(_) => NO_MEMORY,
+    };
+    put(handle, core);
+    code
+}
+
 // The items after the first `from`.
 fn after(items: &[Fired], from: u64) -> &[Fired]
     ensures { result.now ≡ drop from items.now }
@@ -311,6 +336,24 @@ pub extern "C" fn sysmem_events(alloc: Global, handle: &mut Handle, events: &mut
         return NOT_OPEN;
     };
     *events = core.events();
+    put(handle, core);
+    DONE
+}
+
+/// Writes how many more events the core takes: its limit, less those that were made. `NOT_OPEN` if the
+/// handle has no core. Costs O(1).
+#[unsafe(no_mangle)]
+pub extern "C" fn sysmem_remaining(alloc: Global, handle: &mut Handle, events: &mut u64) -> u32
+    ensures same { handle.new.place.core ≡ handle.old.place.core }
+    ensures not_open { (result ≡ 1) ↔ (handle.old.place.core ≡ None) }
+    ensures done { result ≡ 0 → IsSomeAnd handle.old.place.core
+        (λ core. events.new + core.events ≡ core.limits.events) }
+    ensures failed { result ≢ 0 → events.new ≡ events.old }
+{
+    let Some(core) = take(alloc, handle) else {
+        return NOT_OPEN;
+    };
+    *events = core.remaining();
     put(handle, core);
     DONE
 }
