@@ -16,7 +16,8 @@
 #include <time.h>
 #include <unistd.h>
 
-enum { PAGES = 65536, PROGRAMS = 24, FRAMES = 40, KEPT_FIRINGS = 4096 };
+enum { PAGES = 65536, NODES = 1024, COLLECTIONS = 256, TRACKERS = 4096, HANDLES = 65536 };
+enum { PROGRAMS = 24, FRAMES = 40, KEPT_FIRINGS = 4096 };
 /* A client's row, and the room that a list which grows by doubling keeps in advance. */
 enum { CLIENT_BYTES = 48, SLACK_BYTES = 1 << 20 };
 
@@ -223,7 +224,7 @@ int main(int count, char **words) {
         return 2;
     }
     static const uint8_t seed[16] = {1};
-    need(sysmem_open_lasting(&core, PAGES, 4096, 1024, 65536, 65536, seed) == SYSMEM_DONE, "no core opens");
+    need(sysmem_open_lasting(&core, PAGES, NODES, COLLECTIONS, TRACKERS, HANDLES, seed) == SYSMEM_DONE, "no core opens");
     compositor = join();
     uint64_t first_bytes = 0, first_clients = 0;
     double second_time = 0, last_time = 0;
