@@ -15,7 +15,7 @@ ghost use Rattle.sm_names.specs.Trackers.{fired as fired_after};
 ghost use Rattle.sm_names.specs.Views.{live_nodes, held_by_page as held_after};
 ghost use Rattle.sm_names.specs.Views.{free_pages as free_after};
 ghost use Rattle.forest_store.specs.Forest.{all_nodes, beside, live_keys, node_at, held_by_page};
-ghost use Rattle.forest_store.specs.Forest.{collection_at as collection_told};
+ghost use Rattle.forest_store.specs.Forest.{Collection as CollectionValue, collection_at as collection_told};
 ghost use Rattle.forest_store.specs.Scenes.{IsSound as IsSoundCollection};
 ghost use Rattle.forest_store.specs.Snapshots.{collection_of};
 ghost use Rattle.buffer_holds.specs.Counts.{moving_count, of, total};
