@@ -35,6 +35,7 @@
 
 #include "sysmem/state.hpp"
 
+/// Lifetimes of shared buffers: the service as values. Its names stand in an inline namespace of the headers' version.
 namespace sysmem {
 inline namespace SYSMEM_INLINE {
 
@@ -43,6 +44,7 @@ class Tracker {
 public:
     /// A move is a copy, so that a Tracker always has a tracker.
     Tracker(const Tracker &) = default;
+    /// The same tracker as the other.
     Tracker &operator=(const Tracker &) = default;
     /// Its number.
     TrackerId id() const { return watch().id; }
@@ -157,8 +159,9 @@ public:
     }
     /// Whether it is not spent.
     explicit operator bool() const noexcept { return account; }
-    /// Its buffer, and whether it is strong: also once it is spent.
+    /// Its buffer: also once it is spent.
     Buffer buffer() const { return {tree, index}; }
+    /// Whether it is strong: also once it is spent.
     Strength strength() const { return Strength(how); }
     /// The client that has it; 0 if it is spent.
     ClientId client() const { return account ? account->id : 0; }
@@ -321,8 +324,9 @@ class End {
 public:
     /// Whether it is not spent.
     explicit operator bool() const noexcept { return account; }
-    /// Its node and collection: also once it is spent.
+    /// Its node: also once it is spent.
     Key key() const { return node; }
+    /// Its collection: also once it is spent.
     CollectionId collection() const { return tree; }
     /// The client that has it; 0 if it is spent.
     ClientId client() const { return account ? account->id : 0; }
@@ -379,7 +383,8 @@ public:
     }
 
 protected:
-    /// Called under the mutex, with room for a row.
+    /// \cond
+    // Called under the mutex, with room for a row.
     End(detail::Account &a, Key node, CollectionId tree) noexcept
         : account(&a), row(a.add({node, tree})), node(node), tree(tree) {
         a.values++;
@@ -438,6 +443,7 @@ protected:
     std::uint32_t row;
     Key node;
     CollectionId tree;
+    /// \endcond
 };
 
 class Token;
@@ -647,9 +653,11 @@ inline Result<Token> Collection::attach_token(std::string label) const {
 class Parcel : public std::variant<Token, Collection, Handle> {
 public:
     using std::variant<Token, Collection, Handle>::variant;
-    /// Takes the content, if it is of this kind; else it answers the error WrongKind, and the content stays.
+    /// Takes the token; else it answers the error WrongKind, and the content stays.
     Result<Token> token() { return take<Token>(); }
+    /// Takes the collection; else it answers the error WrongKind, and the content stays.
     Result<Collection> collection() { return take<Collection>(); }
+    /// Takes the handle; else it answers the error WrongKind, and the content stays.
     Result<Handle> handle() { return take<Handle>(); }
 
 private:
@@ -822,6 +830,7 @@ class Service {
 public:
     /// A move is a copy, so that a Service always has a core.
     Service(const Service &) = default;
+    /// The same service as the other.
     Service &operator=(const Service &) = default;
     /// Opens a core without an event.
     static Result<Service> open(const Options &o = {}) {

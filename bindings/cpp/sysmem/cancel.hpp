@@ -35,7 +35,9 @@ class Cancel {
 public:
     /// One that has not ended anything.
     Cancel() : shared(std::make_shared<Shared>()) {}
+    /// The same as the other.
     Cancel(const Cancel &) = default;
+    /// From now on the same as the other.
     Cancel &operator=(const Cancel &) = default;
     /// Ends each wait that was given this value, and each that will be: it answers as if its time were over.
     void cancel() const {

@@ -31,15 +31,22 @@ struct State;
 
 /// The bytes of a buffer. Where there is std::span, they are one.
 struct Bytes {
-    std::byte *start = nullptr;
-    std::size_t length = 0;
+    std::byte *start = nullptr; ///< the first byte; null if there is none
+    std::size_t length = 0;     ///< how many bytes
+    /// The first byte; null if there is none.
     std::byte *data() const noexcept { return start; }
+    /// How many bytes.
     std::size_t size() const noexcept { return length; }
+    /// Whether there is none.
     bool empty() const noexcept { return length == 0; }
+    /// The first byte.
     std::byte *begin() const noexcept { return start; }
+    /// Behind the last byte.
     std::byte *end() const noexcept { return start + length; }
+    /// Byte i, which must be less than `length`.
     std::byte &operator[](std::size_t i) const noexcept { return start[i]; }
 #ifdef __cpp_lib_span
+    /// The same bytes.
     operator std::span<std::byte>() const noexcept { return {start, length}; }
 #endif
 };
@@ -76,8 +83,11 @@ public:
         if (guard) made->shut_bytes({0, pages});
         return made;
     }
+    /// Memory is neither copied nor moved.
     Memory(const Memory &) = delete;
+    /// Memory is neither copied nor moved.
     Memory &operator=(const Memory &) = delete;
+    /// Ends the mapping, and closes the descriptor.
     ~Memory() {
 #ifdef SYSMEM_POISONS
         if (start) ASAN_UNPOISON_MEMORY_REGION(start, length()); // for the next mapping there

@@ -22,7 +22,8 @@
 #include <variant>
 #include <vector>
 
-/// The address sanitizer can poison memory.
+/// \cond
+// The address sanitizer can poison memory.
 #if defined(__SANITIZE_ADDRESS__)
 #define SYSMEM_POISONS 1
 #elif defined(__has_feature)
@@ -48,6 +49,7 @@
 #define SYSMEM_INLINE                                                                              \
     SYSMEM_JOIN_ALL(v, SYSMEM_VERSION_MAJOR, SYSMEM_VERSION_MINOR, SYSMEM_WITH_EXCEPTIONS,         \
                     SYSMEM_WITH_POISON)
+/// \endcond
 
 namespace sysmem {
 inline namespace SYSMEM_INLINE {
@@ -62,66 +64,104 @@ using TrackerId = std::uint64_t;
 using Event = std::uint64_t;
 
 /// Whether a node or a handle keeps buffers alive.
-enum class Strength : std::uint32_t { Strong = SYSMEM_STRONG, Weak = SYSMEM_WEAK };
+enum class Strength : std::uint32_t {
+    Strong = SYSMEM_STRONG, ///< it does
+    Weak = SYSMEM_WEAK      ///< it does not
+};
 
 /// Why a call was refused.
 enum class Refusal : std::uint32_t {
+    /// The caller or the receiver never joined.
     NoSuchClient = SYSMEM_NO_SUCH_CLIENT,
+    /// The receiver is shut; or the caller is, and the call makes a node or a tracker.
     ClientShut = SYSMEM_CLIENT_SHUT,
+    /// The end was spent, or another client holds it.
     NoSuchEnd = SYSMEM_NO_SUCH_END,
+    /// The end is in a parcel.
     InTransit = SYSMEM_IN_TRANSIT,
+    /// The call is for the other kind of end, or the parcel has other content.
     WrongKind = SYSMEM_WRONG_KIND,
+    /// The limit allows no more nodes.
     TooManyNodes = SYSMEM_TOO_MANY_NODES,
+    /// The limit allows no more collections.
     TooManyCollections = SYSMEM_TOO_MANY_COLLECTIONS,
+    /// The limit allows no more trackers that wait.
     TrackersFull = SYSMEM_TRACKERS_FULL,
+    /// The caller has no such handle open.
     NoSuchHandle = SYSMEM_NO_SUCH_HANDLE,
+    /// The limit allows no more handles of the buffer and strength.
     TooManyHandles = SYSMEM_TOO_MANY_HANDLES
 };
 
 /// A misuse: a call that fails the caller's own node.
 enum class Misuse : std::uint32_t {
+    /// set_constraints on a node that has constraints.
     SecondConstraints = SYSMEM_SECOND_CONSTRAINTS,
+    /// set_weak on a collection that has constraints.
     LateWeak = SYSMEM_LATE_WEAK,
+    /// set_weak_ok after a take that gave handles.
     LateWeakOk = SYSMEM_LATE_WEAK_OK,
+    /// take on a weak node that does not take weak handles.
     WeakNotOk = SYSMEM_WEAK_NOT_OK,
+    /// track_node on a node that has 64 such trackers.
     TooManyNodeTrackers = SYSMEM_TOO_MANY_NODE_TRACKERS
 };
 
 /// Why a node failed.
 enum class Cause : std::uint32_t {
+    /// An end was closed without a release.
     Lost = SYSMEM_LOST,
+    /// Nothing strong keeps the buffers any more.
     NoStrong = SYSMEM_NO_STRONG,
+    /// The misuse of this name.
     SecondConstraints = SYSMEM_BY_MISUSE + int(SYSMEM_SECOND_CONSTRAINTS),
+    /// The misuse of this name.
     LateWeak = SYSMEM_BY_MISUSE + int(SYSMEM_LATE_WEAK),
+    /// The misuse of this name.
     LateWeakOk = SYSMEM_BY_MISUSE + int(SYSMEM_LATE_WEAK_OK),
+    /// The misuse of this name.
     WeakNotOk = SYSMEM_BY_MISUSE + int(SYSMEM_WEAK_NOT_OK),
+    /// The misuse of this name.
     TooManyNodeTrackers = SYSMEM_BY_MISUSE + int(SYSMEM_TOO_MANY_NODE_TRACKERS),
+    /// At the initial allocation no strong node of the collection was live.
     FailedNoStrong = SYSMEM_FAILED_NO_STRONG,
+    /// Nobody asked for a buffer.
     FailedNoBuffers = SYSMEM_FAILED_NO_BUFFERS,
+    /// More than 64 buffers were asked for.
     FailedTooManyBuffers = SYSMEM_FAILED_TOO_MANY_BUFFERS,
+    /// Some buffer had no place in the pool.
     FailedPoolFull = SYSMEM_FAILED_POOL_FULL,
+    /// The collection has too few buffers for an attached unit.
     FailedTooFew = SYSMEM_FAILED_TOO_FEW,
+    /// The collection's buffers are too small for an attached unit.
     FailedTooSmall = SYSMEM_FAILED_TOO_SMALL
 };
 
-/// The name of a node. No two nodes of a service ever have the same key.
+/// The name of a node. No two nodes of a service ever have the same key. It has a std::hash.
 struct Key {
-    std::uint32_t slot = 0, generation = 0;
+    std::uint32_t slot = 0;       ///< the node's place in the core's table, which later nodes have too
+    std::uint32_t generation = 0; ///< how many nodes had the place before
+    /// Whether the keys are the same.
     friend bool operator==(Key a, Key b) { return a.slot == b.slot && a.generation == b.generation; }
+    /// Whether they are not.
     friend bool operator!=(Key a, Key b) { return !(a == b); }
+    /// By slot, and then by generation.
     friend bool operator<(Key a, Key b) {
         return a.slot != b.slot ? a.slot < b.slot : a.generation < b.generation;
     }
 };
 
-/// One buffer of a collection.
+/// One buffer of a collection. It has a std::hash.
 struct Buffer {
-    CollectionId collection = 0;
-    std::uint8_t index = 0;
+    CollectionId collection = 0; ///< its collection
+    std::uint8_t index = 0;      ///< its index in the collection, from 0 on
+    /// Whether they are the same buffer.
     friend bool operator==(Buffer a, Buffer b) {
         return a.collection == b.collection && a.index == b.index;
     }
+    /// Whether they are not.
     friend bool operator!=(Buffer a, Buffer b) { return !(a == b); }
+    /// By collection, and then by index.
     friend bool operator<(Buffer a, Buffer b) {
         return a.collection != b.collection ? a.collection < b.collection : a.index < b.index;
     }
@@ -129,39 +169,45 @@ struct Buffer {
 
 /// The number of a collection's buffers, and the size of each in bytes.
 struct Allocation {
-    std::uint32_t count = 0, size = 0; ///< how many buffers, and of how many bytes
+    std::uint32_t count = 0; ///< how many buffers
+    std::uint32_t size = 0;  ///< bytes of each
 };
 
 /// What a participant asks for: the buffers that it camps on, the least number of buffers (each 0 to
 /// 64), and their size in bytes (1 to 1 << 30).
 struct Constraints {
-    std::uint8_t camping = 0, at_least = 0;
-    std::uint32_t size = 1;
+    std::uint8_t camping = 0;  ///< the buffers that it camps on
+    std::uint8_t at_least = 0; ///< the least number of buffers
+    std::uint32_t size = 1;    ///< their size in bytes
 };
 
 /// A buffer that holds pages of the pool: the first page, and how many.
 struct Held {
-    Buffer buffer;
-    std::uint32_t start = 0, pages = 0;
+    Buffer buffer;           ///< the buffer
+    std::uint32_t start = 0; ///< its first page
+    std::uint32_t pages = 0; ///< how many pages
 };
 
 /// Pages of the pool: the first one, and how many.
 struct Pages {
-    std::uint32_t start = 0, count = 0;
+    std::uint32_t start = 0; ///< the first page
+    std::uint32_t count = 0; ///< how many pages
+    /// Whether they are the same pages.
     friend bool operator==(Pages a, Pages b) { return a.start == b.start && a.count == b.count; }
+    /// Whether they are not.
     friend bool operator!=(Pages a, Pages b) { return !(a == b); }
 };
 
 /// A tracker that fired, and the event at which it fired.
 struct Fired {
-    TrackerId tracker = 0;
-    Event event = 0;
+    TrackerId tracker = 0; ///< the tracker
+    Event event = 0;       ///< the event at which it fired
 };
 
-/// Firings in their order: the first `first` ones of all are left out.
+/// Firings in their order.
 struct Firings {
-    std::uint64_t first = 0;
-    std::vector<Fired> all;
+    std::uint64_t first = 0; ///< how many firings are left out, which were before these
+    std::vector<Fired> all;  ///< the firings
 };
 
 /// A recorder: it is called with each event, as two lines of a transcript (docs/SCRIPT.md): the
@@ -170,37 +216,45 @@ using Record = std::function<void(std::string_view)>;
 
 /// A node that an allocation waits for: it has no constraints yet.
 struct Waits {
-    /// The node, and its label, which may be empty.
-    Key node;
-    std::string label;
-    ClientId holder = 0; ///< who holds its end, or gave it away
-    std::string holder_label; ///< may be empty
-    bool is_bound = false, is_in_parcel = false; ///< its end
-    Event event = 0; ///< at which the node was born
+    Key node;                  ///< the node
+    std::string label;         ///< its label; it may be empty
+    ClientId holder = 0;       ///< who holds its end, or gave it away
+    std::string holder_label;  ///< the label of its holder; it may be empty
+    bool is_bound = false;     ///< whether its end is bound
+    bool is_in_parcel = false; ///< whether its end is in a parcel
+    Event event = 0;           ///< the event at which it was born
 };
 
 /// A kept node: one that is not gone, or whose end is not spent.
 struct Node {
-    Key key, parent, head; ///< a root is its own parent; the head of the node's unit
-    CollectionId collection = 0;
-    Event event = 0;     ///< at which the node was born
-    ClientId holder = 0; ///< who holds its end, or gave it away; 0 if it is spent
-    std::string label, holder_label;
-    bool is_attached = false, is_allocated = false, is_gone = false, is_released = false,
-         is_dispensable = false, is_weak = false, is_weak_ok = false, is_bound = false,
-         is_in_parcel = false;
-    std::optional<Constraints> constraints;
+    Key key;                     ///< the node
+    Key parent;                  ///< its parent; a root is its own
+    Key head;                    ///< the head of its unit
+    CollectionId collection = 0; ///< its collection
+    Event event = 0;             ///< the event at which it was born
+    ClientId holder = 0;         ///< who holds its end, or gave it away; 0 if it is spent
+    std::string label;           ///< its label; it may be empty
+    std::string holder_label;    ///< the label of its holder; it may be empty
+    bool is_attached = false;    ///< whether it heads an attached unit
+    bool is_allocated = false;   ///< whether its unit is allocated
+    bool is_gone = false;        ///< whether it failed or ended
+    bool is_released = false;    ///< whether it was released
+    bool is_dispensable = false; ///< whether it is dispensable
+    bool is_weak = false;        ///< whether it is weak
+    bool is_weak_ok = false;     ///< whether it takes weak handles
+    bool is_bound = false;       ///< whether its end is bound
+    bool is_in_parcel = false;   ///< whether its end is in a parcel
+    std::optional<Constraints> constraints;     ///< what it asked for, if it did
     std::optional<std::pair<Cause, Key>> fault; ///< why it failed, and the node whose loss reached it
 };
 
 /// What Client::pending tells.
 struct Pending {
-    /// How many parcels wait; the nodes whose units were allocated, and that failed; the trackers that fired; the
-    /// buffers that fell idle.
-    std::uint64_t parcels = 0;
-    std::vector<Key> allocated, failed;
-    std::vector<TrackerId> fired;
-    std::vector<Buffer> idle;
+    std::uint64_t parcels = 0;    ///< how many parcels wait
+    std::vector<Key> allocated;   ///< the nodes whose units were allocated
+    std::vector<Key> failed;      ///< the nodes that failed
+    std::vector<TrackerId> fired; ///< the trackers that fired
+    std::vector<Buffer> idle;     ///< the buffers of Handle::on_idle without a callback
     /// Whether there is nothing to tell.
     bool empty() const {
         return parcels == 0 && allocated.empty() && failed.empty() && fired.empty() && idle.empty();
@@ -217,10 +271,11 @@ struct Options {
     /// million a second is 285 years. With a number, the last 1,048,576 events, but at most half of all,
     /// are for those who let go: calls that join, bear, take or track answer SYSMEM_HISTORY_FULL then.
     std::optional<std::uint32_t> events = std::nullopt;
-    /// How many nodes and collections may be kept, and how many trackers may wait.
-    std::uint32_t nodes = 1024, collections = 256, trackers = 4096;
-    /// How many handles of one buffer and strength may be open, in parcels too. A client that does not
-    /// collect keeps a core from more.
+    std::uint32_t nodes = 1024;      ///< how many nodes may be kept, 1 to 1,024
+    std::uint32_t collections = 256; ///< how many collections may be kept, 1 to 256
+    std::uint32_t trackers = 4096;   ///< how many trackers may wait, 1 to 4,096
+    /// How many handles of one buffer and strength may be open, in parcels too, from 1 on. A client that
+    /// does not collect keeps a core from more.
     std::uint32_t handles = 65536;
     /// 16 random bytes, if clients may be hostile: see sysmem_open_seeded.
     std::optional<std::array<std::uint8_t, 16>> seed = std::nullopt;
@@ -278,17 +333,23 @@ struct Error {
     bool is_spent = false; ///< the value was moved from, given, released, closed or dropped: no event
     std::string note;      ///< of a number that is out of its range: which one, and the range
 
-    /// The number as what it is.
+    /// Why the call was refused, if the kind is Refused.
     Refusal refusal() const { return Refusal(detail); }
+    /// What the misuse was, if the kind is Misused.
     Misuse misuse() const { return Misuse(detail); }
+    /// Why the node had failed, if the kind is PeerClosed.
     Cause cause() const { return Cause(detail); }
-    /// Whether it is this one.
+    /// Whether the call was refused for this reason.
     bool is(Refusal r) const { return kind == Kind::Refused && refusal() == r; }
+    /// Whether it is this misuse.
     bool is(Misuse m) const { return kind == Kind::Misused && misuse() == m; }
+    /// Whether the node had failed for this reason.
     bool is(Cause c) const { return kind == Kind::PeerClosed && cause() == c; }
-    /// Whether it is this fault.
+    /// Whether memory was refused; the same call may succeed later.
     bool is_no_memory() const { return kind == Kind::Fault && detail == SYSMEM_NO_MEMORY; }
+    /// Whether a number is out of its range; `note` says which.
     bool is_bad_call() const { return kind == Kind::Fault && detail == SYSMEM_BAD_CALL; }
+    /// Whether the limit allows no further event.
     bool is_history_full() const { return kind == Kind::Fault && detail == SYSMEM_HISTORY_FULL; }
 
     /// The error in words.
@@ -306,11 +367,12 @@ struct Error {
     }
     /// The error of a code.
     static Error fault(std::uint32_t code) { return {Kind::Fault, code, {}, {}, false, {}}; }
+    /// The refusal of a call on a spent value.
 #ifdef __GNUC__
     __attribute__((noinline, cold))
 #endif
     static Error spent(Refusal r) { return {Kind::Refused, std::uint32_t(r), {}, {}, true, {}}; }
-    /// A number that is out of its range.
+    /// The error of a number that is out of its range: it `is` so much, and must be `least` to `most`.
 #ifdef __GNUC__
     __attribute__((noinline, cold))
 #endif
@@ -323,18 +385,25 @@ struct Error {
     }
 };
 
-/// As text: a key as "2.0", a buffer as its collection's number and its index, pages as "3+2".
+/// Writes slot and generation, as "2.0".
 inline std::ostream &operator<<(std::ostream &out, Key k) { return out << k.slot << '.' << k.generation; }
+/// Writes the collection's number and the index, as "2.0".
 inline std::ostream &operator<<(std::ostream &out, Buffer b) {
     return out << b.collection << '.' << unsigned(b.index);
 }
+/// Writes the first page and how many there are, as "3+2".
 inline std::ostream &operator<<(std::ostream &out, Pages p) { return out << p.start << '+' << p.count; }
+/// Writes "strong" or "weak".
 inline std::ostream &operator<<(std::ostream &out, Strength s) {
     return out << (s == Strength::Strong ? "strong" : "weak");
 }
+/// Writes its name.
 inline std::ostream &operator<<(std::ostream &out, Refusal r) { return out << name(r); }
+/// Writes its name.
 inline std::ostream &operator<<(std::ostream &out, Misuse m) { return out << name(m); }
+/// Writes its name.
 inline std::ostream &operator<<(std::ostream &out, Cause c) { return out << name(c); }
+/// Writes its message.
 inline std::ostream &operator<<(std::ostream &out, const Error &e) { return out << e.message(); }
 
 namespace detail {
@@ -360,8 +429,9 @@ inline Error outside(const Options &o) {
 
 /// The exception that value() throws. A program without exceptions aborts instead.
 struct Failure : std::runtime_error {
+    /// With this error, and its message.
     explicit Failure(Error e) : std::runtime_error(e.message()), error(std::move(e)) {}
-    Error error;
+    Error error; ///< why the call did not succeed
 };
 
 namespace detail {
@@ -378,47 +448,67 @@ namespace detail {
 /// A value or an Error, with members of std::expected.
 template <class T> class [[nodiscard]] Result {
 public:
-    using value_type = T;
-    using error_type = Error;
+    using value_type = T;     ///< the type of the value
+    using error_type = Error; ///< the type of the error
 
+    /// With this value.
     Result(T value) : held(std::in_place_index<0>, std::move(value)) {}
+    /// With this error.
     Result(Error error) : held(std::in_place_index<1>, std::move(error)) {}
+    /// Whether there is a value.
     bool has_value() const noexcept { return held.index() == 0; }
+    /// Whether there is a value.
     explicit operator bool() const noexcept { return has_value(); }
 
+    /// The value. Undefined behaviour if there is none.
     T &operator*() & { return *std::get_if<0>(&held); }
+    /// The value. Undefined behaviour if there is none.
     const T &operator*() const & { return *std::get_if<0>(&held); }
+    /// The value. Undefined behaviour if there is none.
     T &&operator*() && { return std::move(*std::get_if<0>(&held)); }
+    /// The value. Undefined behaviour if there is none.
     T *operator->() { return std::get_if<0>(&held); }
+    /// The value. Undefined behaviour if there is none.
     const T *operator->() const { return std::get_if<0>(&held); }
+    /// The error. Undefined behaviour if there is none.
     Error &error() & { return *std::get_if<1>(&held); }
+    /// The error. Undefined behaviour if there is none.
     const Error &error() const & { return *std::get_if<1>(&held); }
+    /// The error. Undefined behaviour if there is none.
     Error &&error() && { return std::move(*std::get_if<1>(&held)); }
 
+    /// The value. Throws Failure if there is none; without exceptions it ends the program.
     T &value() & { return check(), **this; }
+    /// The value. Throws Failure if there is none; without exceptions it ends the program.
     const T &value() const & { return check(), **this; }
-    /// By value, so that the value may outlive a temporary Result.
+    /// The same, by value, so that the value may outlive a temporary Result.
     T value() && { return check(), std::move(**this); }
+    /// The value, or the other one if there is none.
     template <class U> T value_or(U &&other) const & {
         return has_value() ? **this : static_cast<T>(std::forward<U>(other));
     }
+    /// The value, or the other one if there is none.
     template <class U> T value_or(U &&other) && {
         return has_value() ? std::move(**this) : static_cast<T>(std::forward<U>(other));
     }
 
     /// f of the value, which is a Result; or the error.
     template <class F> auto and_then(F &&f) & { return after<T &>(*this, std::forward<F>(f)); }
+    /// f of the value, which is a Result; or the error.
     template <class F> auto and_then(F &&f) const & {
         return after<const T &>(*this, std::forward<F>(f));
     }
+    /// f of the value, which is a Result; or the error.
     template <class F> auto and_then(F &&f) && {
         return after<T &&>(std::move(*this), std::forward<F>(f));
     }
     /// A Result with f of the value; or the error.
     template <class F> auto transform(F &&f) & { return mapped<T &>(*this, std::forward<F>(f)); }
+    /// A Result with f of the value; or the error.
     template <class F> auto transform(F &&f) const & {
         return mapped<const T &>(*this, std::forward<F>(f));
     }
+    /// A Result with f of the value; or the error.
     template <class F> auto transform(F &&f) && {
         return mapped<T &&>(std::move(*this), std::forward<F>(f));
     }
@@ -437,27 +527,39 @@ private:
     std::variant<T, Error> held;
 };
 
+/// Nothing, or an Error: what a call answers that has no value.
 template <> class [[nodiscard]] Result<void> {
 public:
-    using value_type = void;
-    using error_type = Error;
+    using value_type = void;  ///< there is no value
+    using error_type = Error; ///< the type of the error
 
+    /// Without an error.
     Result() = default;
+    /// With this error.
     Result(Error error) : held(std::move(error)) {}
+    /// Whether there is no error.
     bool has_value() const noexcept { return !held; }
+    /// Whether there is no error.
     explicit operator bool() const noexcept { return has_value(); }
+    /// Does nothing.
     void operator*() const noexcept {}
+    /// The error. Undefined behaviour if there is none.
     Error &error() & { return *held; }
+    /// The error. Undefined behaviour if there is none.
     const Error &error() const & { return *held; }
+    /// The error. Undefined behaviour if there is none.
     Error &&error() && { return std::move(*held); }
+    /// Throws Failure if there is an error; without exceptions it ends the program.
     void value() const {
         if (held) detail::fail(*held);
     }
+    /// f of nothing, which is a Result; or the error.
     template <class F> auto and_then(F &&f) const {
         using Made = std::decay_t<std::invoke_result_t<F>>;
         if (held) return Made(*held);
         return std::invoke(std::forward<F>(f));
     }
+    /// A Result with f of nothing; or the error.
     template <class F> auto transform(F &&f) const {
         using Made = Result<std::remove_cv_t<std::invoke_result_t<F>>>;
         if (held) return Made(*held);
@@ -489,6 +591,7 @@ auto Result<T>::mapped(Self &&self, F &&f) {
 } // namespace SYSMEM_INLINE
 } // namespace sysmem
 
+/// \cond
 template <> struct std::hash<sysmem::Key> {
     std::size_t operator()(sysmem::Key k) const noexcept {
         return std::hash<std::uint64_t>()(std::uint64_t(k.generation) << 32 | k.slot);
@@ -499,5 +602,6 @@ template <> struct std::hash<sysmem::Buffer> {
         return std::hash<std::uint64_t>()(b.collection * 64 + b.index);
     }
 };
+/// \endcond
 
 #endif

@@ -16,12 +16,11 @@ pub type TrackerId = u64;
 pub type Event = u64;
 
 macro_rules! numbers {
-    ($(#[$doc:meta])* $kind:ident, $about:expr, $($name:ident = $number:expr),+) => {
+    ($(#[$doc:meta])* $kind:ident, $about:expr, $($(#[$of:meta])* $name:ident = $number:expr),+) => {
         $(#[$doc])*
         #[derive(Clone, Copy, Debug, PartialEq, Eq, PartialOrd, Ord, Hash)]
-        #[allow(missing_docs)] // docs/MODEL.md says what each means
         #[repr(u32)]
-        pub enum $kind { $($name = $number),+ }
+        pub enum $kind { $($(#[$of])* $name = $number),+ }
 
         impl $kind {
             pub(crate) fn of(number: u32) -> $kind {
@@ -43,23 +42,72 @@ macro_rules! numbers {
 numbers!(
     /// Why a call was refused. A refused call changes nothing but the number of events.
     Refusal, 1,
-    NoSuchClient = 1, ClientShut = 2, NoSuchEnd = 3, InTransit = 4, WrongKind = 5,
-    TooManyNodes = 6, TooManyCollections = 7, TrackersFull = 8, NoSuchHandle = 9,
+    /// The caller or the receiver never joined.
+    NoSuchClient = 1,
+    /// The receiver is shut; or the caller is, and the call makes a node or a tracker.
+    ClientShut = 2,
+    /// The end was spent, or another client holds it.
+    NoSuchEnd = 3,
+    /// The end is in a parcel.
+    InTransit = 4,
+    /// The call is for the other kind of end.
+    WrongKind = 5,
+    /// The limit allows no more nodes.
+    TooManyNodes = 6,
+    /// The limit allows no more collections.
+    TooManyCollections = 7,
+    /// The limit allows no more trackers that wait.
+    TrackersFull = 8,
+    /// The caller has no such handle open.
+    NoSuchHandle = 9,
+    /// The limit allows no more handles of the buffer and strength.
     TooManyHandles = 10
 );
 
 numbers!(
     /// The misuses: calls that fail the caller's own node.
     Misuse, 2,
-    SecondConstraints = 1, LateWeak = 2, LateWeakOk = 3, WeakNotOk = 4, TooManyNodeTrackers = 5
+    /// `set_constraints` on a node that has constraints.
+    SecondConstraints = 1,
+    /// `set_weak` on a collection that has constraints.
+    LateWeak = 2,
+    /// `set_weak_ok` after a `take` that gave handles.
+    LateWeakOk = 3,
+    /// `take` on a weak node that does not take weak handles.
+    WeakNotOk = 4,
+    /// `track_node` on a node that has 64 such trackers.
+    TooManyNodeTrackers = 5
 );
 
 numbers!(
     /// Why a node failed.
     Cause, 3,
-    Lost = 0, NoStrong = 1, SecondConstraints = 11, LateWeak = 12, LateWeakOk = 13,
-    WeakNotOk = 14, TooManyNodeTrackers = 15, FailedNoStrong = 20, FailedNoBuffers = 21,
-    FailedTooManyBuffers = 22, FailedPoolFull = 23, FailedTooFew = 24, FailedTooSmall = 25
+    /// An end was closed without a release.
+    Lost = 0,
+    /// Nothing strong keeps the buffers any more.
+    NoStrong = 1,
+    /// The misuse of this name.
+    SecondConstraints = 11,
+    /// The misuse of this name.
+    LateWeak = 12,
+    /// The misuse of this name.
+    LateWeakOk = 13,
+    /// The misuse of this name.
+    WeakNotOk = 14,
+    /// The misuse of this name.
+    TooManyNodeTrackers = 15,
+    /// At the initial allocation no strong node of the collection was live.
+    FailedNoStrong = 20,
+    /// Nobody asked for a buffer.
+    FailedNoBuffers = 21,
+    /// More than 64 buffers were asked for.
+    FailedTooManyBuffers = 22,
+    /// Some buffer had no place in the pool.
+    FailedPoolFull = 23,
+    /// The collection has too few buffers for an attached unit.
+    FailedTooFew = 24,
+    /// The collection's buffers are too small for an attached unit.
+    FailedTooSmall = 25
 );
 
 /// Whether a node or a handle keeps buffers alive.
