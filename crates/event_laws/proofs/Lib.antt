@@ -22,3 +22,4 @@ pub mod SameLaws
 pub mod SetLaws
 pub mod TransitLaws
 pub mod WaitingLaws
+pub mod WaitingParcelLaws

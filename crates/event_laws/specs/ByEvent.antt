@@ -28,6 +28,11 @@ anyone client = true
 abbrev pub only : ℕ → ℕ → Bool
 only client c = c == client
 
+-- the parcel is the end of some node: every other is a handle
+abbrev pub is_end : Parcel → Bool
+is_end (Parcel.End key) = true
+is_end (Parcel.Handle buffer strength) = false
+
 -- ---- handles
 
 -- the mark brings such a client such a handle: it opens one, or takes one out of a parcel

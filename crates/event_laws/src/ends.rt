@@ -1,14 +1,18 @@
 //! What one event does to clients, parcels and ends.
-ghost use Rattle.std.specs.Prelude.{◌≡◌, if◌then◌else◌, ◌&&◌, ◌||◌, ◌+◌, ◌∷◌, ◌++◌, ℕ, List, [], Some, None, not, true, false};
+ghost use Rattle.std.specs.Prelude.{◌≡◌, ◌≤◌, if◌then◌else◌, ◌&&◌, ◌||◌, ◌+◌, ◌∷◌, ◌++◌, ℕ, List, [], Some, None, not, true, false};
 ghost use Rattle.std.specs.List.{cons_option, list_any, sum_by};
 ghost use Rattle.std.specs.Option.{option_map_or};
 ghost use Rattle.sm_names.specs.declared.keys.Kind.{Kind};
 ghost use Rattle.sm_names.specs.declared.keys.NodeKey.{NodeKey};
+ghost use Rattle.sm_names.specs.declared.keys.BufferName.{BufferName};
+ghost use Rattle.sm_names.specs.declared.keys.Strength.{Strength};
 ghost use Rattle.sm_names.specs.declared.messages.Parcel.{Parcel};
 ghost use Rattle.sm_names.specs.Births.{Birth, birth_at, births, was_born};
 ghost use Rattle.sm_names.specs.Bounds.{Bound};
-ghost use Rattle.event_laws.specs.ByEvent.{collected_at, delivers, entry_mark, one_if, sends};
-ghost use Rattle.sm_names.specs.Ends.{binds, clients, collector_at, given_at, has_joined, holder, in_transit, is_end_of, is_shut, joined_at, kind, parcels, shuts, spends, spent};
+ghost use Rattle.event_laws.specs.ByEvent.{collected_at, delivers, entry_mark, is_end, one_if, sends};
+ghost use Rattle.sm_names.specs.Ends.{binds, clients, collector_at, given_at, has_joined, holder, in_transit, is_end_of, is_handle_of, is_shut, joined_at, kind, parcels, shuts, spends, spent};
+ghost use Rattle.sm_names.specs.Handles.{moving};
+ghost use Rattle.sm_names.specs.Kept.{kept_nodes};
 ghost use Rattle.sm_names.specs.Legality.{IsLegal};
 ghost use Rattle.sm_names.specs.Marks.{Entry, events};
 ghost use Rattle.sm_names.specs.Timelines.{timeline};
@@ -78,6 +82,19 @@ pub fn ends_are_in_one_parcel()
         IsLegal pool limits history →
         (node : NodeKey) → in_transit (timeline pool history) node ≡ true →
         spent (timeline pool history) node ≡ false }
+{}
+
+/// In a legal history, no more ends wait for a client than nodes are kept, and no more handles of a
+/// buffer and strength than are in parcels. So the limits of nodes and of handles bound what waits.
+pub fn waiting_parcels_are_bounded()
+    ensures ends { (pool : ℕ) (limits : Bound) (history : List Entry) →
+        IsLegal pool limits history → (client : ℕ) →
+        times is_end (parcels (timeline pool history) client)
+        ≤ kept_nodes (timeline pool history) }
+    ensures handles { (pool : ℕ) (limits : Bound) (history : List Entry) →
+        IsLegal pool limits history → (client : ℕ) (buffer : BufferName) (strength : Strength) →
+        times (is_handle_of buffer strength) (parcels (timeline pool history) client)
+        ≤ moving (timeline pool history) buffer strength }
 {}
 
 /// A Close or a Release spends an end, a Give puts one into a parcel and leaves its holder, and a
