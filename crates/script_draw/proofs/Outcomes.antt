@@ -18,18 +18,24 @@ use Rattle.script_draw.specs.declared.draw.View.{View}
 use Rattle.script_draw.specs.Draws.{AreAll, Draws, EndsDrawn, PictureBefore, IsNoEvent, IsPicture, IsPictured, IsUnplayed, IsUnwritten, LinesDrawn, PictureLinesStop, Pictures, drawing_status}
 use Rattle.script_draw.specs.Played.{ComesBefore, LeadsToScene, is_reached}
 use Rattle.script_draw.specs.Reached.{PlayHalted, IsPlayedOn, PlayLinesHalt, Reached, stops_at_line}
+use Rattle.sm_names.specs.Marks.{Entry}
+use Rattle.core_state.specs.Shown.{Shows}
+use Rattle.script_pictures.specs.Albums.{KnowsKept}
 use Rattle.script_draw.proofs.Playing.{far-reaches, reached-is}
 
 -- a picture of the core is one of what happened so far
 pub pictures-so-far : (format : Format) (setting : Setting) (until : Option ℕ) (scroll : Scroll) (lines : List (List ℕ))
     (far : Reached setting until scroll lines) (blank text : List ℕ) → blank ≡ [] →
     ((names : Names) → KeepsNames scroll.teller.session.tables names → Calls scroll.teller.labels names → blank ≡ [] →
-    IsPicture format scroll.teller.session.core names scroll.line.items text) → Pictures format setting far.scene scroll.line.items text
+    (history : List Entry) → Shows scroll.teller.session.core history → KnowsKept scroll.teller.session.core scroll.album →
+    IsPicture format scroll.teller.session.core names scroll.line.items scroll.event text) → Pictures format setting far.scene scroll.line.items text
 pictures-so-far format setting until scroll lines far blank text none on = record {
   core = scroll.teller.session.core;
   shows = far.knows.is_at.shows;
   pool = far.pool;
-  picture = on far.scene.names far.knows.is_at.keeps far.knows.calls none;
+  event = scroll.event;
+  behind = far.last;
+  picture = on far.scene.names far.knows.is_at.keeps far.knows.calls none far.scene.history far.knows.is_at.shows far.kept;
 }
 
 -- what was written of the lines that were played, and why it was not

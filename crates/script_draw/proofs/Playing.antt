@@ -19,6 +19,8 @@ use Rattle.sm_script.specs.Scenes.{Answers, Plays, Rests, Scene, Setting, as_lin
 use Rattle.script_labels.specs.Texts.{reply_text, view_text}
 use Rattle.sm_script.proofs.Playing.{plays-more}
 use Rattle.script_tales.specs.Called.{Knows}
+use Rattle.script_pictures.proofs.Showing.{knows-none}
+use Rattle.script_draw.specs.Draws.{IsLast}
 use Rattle.script_draw.specs.declared.draw.Scroll.{Scroll}
 use Rattle.script_draw.specs.Played.{ComesBefore, IsWithin, Played, Begins, Passes, Looks, Makes, LeadsToScene, is_call, is_reached}
 use Rattle.script_draw.specs.Reached.{AsksFor, PlayHalts, PlayHalted, IsHeldUp, LineMakesCall, Reached}
@@ -85,14 +87,16 @@ reached-is at n test = grind (arith, nat_tests)
 -- no line was played
 pub far-none : (setting : Setting) (until : Option ℕ) (scroll : Scroll) → scroll.teller.session.core.pool ≡ setting.pool →
     scroll.teller.session.core.limits ≡ setting.limits → scroll.limits ≡ setting.limits → Knows scroll.teller first_scene →
-    scroll.line.items ≡ [] → Reached setting until scroll []
-far-none setting until scroll pool limits bound knows none = record {
+    scroll.line.items ≡ [] → scroll.event ≡ None → Reached setting until scroll []
+far-none setting until scroll pool limits bound knows none quiet = record {
   pool = pool;
   limits = limits;
   bound = bound;
   scene = first_scene;
   played = subst (Played [] first_scene) (sym none) Begins;
   knows = knows;
+  kept = knows-none scroll.teller.session.core scroll.album knows.is_at.shows;
+  last = subst (IsLast setting.pool []) (sym quiet) refl;
   within = within-none until;
 }
 
@@ -117,6 +121,8 @@ module _ (setting : Setting) (until : Option ℕ) (scroll : Scroll) (lines : Lis
     scene = far.scene;
     played = Passes lines line scroll.line.items far.scene far.played skip;
     knows = far.knows;
+    kept = far.kept;
+    last = far.last;
     within = far.within;
   }
 
@@ -130,6 +136,8 @@ module _ (setting : Setting) (until : Option ℕ) (scroll : Scroll) (lines : Lis
     scene = far.scene;
     played = Looks lines line scroll.line.items far.scene act far.played whole good is;
     knows = far.knows;
+    kept = far.kept;
+    last = far.last;
     within = far.within;
   }
 
@@ -138,8 +146,8 @@ module _ (setting : Setting) (until : Option ℕ) (scroll : Scroll) (lines : Lis
       act_in far.scene.names line ≡ Some (Act.Ask client call binds) → LineMakesCall scroll next client call binds line →
       ComesBefore until (length far.scene.history) → Reached setting until next (lines ++ line ∷ [])
   far-make next line client call binds whole good made before =
-      let told = made.knows far.scene far.knows in
-      let scene = next_scene far.scene client call binds told.0 in
+      let event = made.made.event in
+      let scene = next_scene far.scene client call binds event.reply in
       let same = made.setting far.scene far.knows.is_at in
       record {
         pool = same.pool ∙ far.pool;
@@ -147,10 +155,21 @@ module _ (setting : Setting) (until : Option ℕ) (scroll : Scroll) (lines : Lis
         bound = made.limits ∙ far.bound;
         scene = scene;
         played = subst (Played (lines ++ line ∷ []) scene) (sym made.line_is)
-            (Makes lines line scroll.line.items far.scene client call binds told.0 far.played whole good);
-        knows = told.1;
+            (Makes lines line scroll.line.items far.scene client call binds event.reply far.played whole good);
+        knows = made.made.knows far.scene far.knows;
+        kept = made.kept far.scene far.knows far.kept;
+        last = subst (IsLast setting.pool scene.history) (sym made.made.kept) (record {
+          before = scroll.teller.session.core;
+          pool_is = far.pool;
+          earlier = far.scene.history;
+          shows = far.knows.is_at.shows;
+          client = client;
+          call = call;
+          is = made.made.is;
+          whole = refl;
+        });
         within = within-more until (length far.scene.history) (length scene.history)
-            (length-append far.scene.history ((client, call, told.0) ∷ [])) before;
+            (length-append far.scene.history ((client, call, event.reply) ∷ [])) before;
       }
 
 -- a bad line and a refusal of memory are different reasons to stop

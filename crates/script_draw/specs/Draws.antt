@@ -1,8 +1,11 @@
 -- What comes of drawing a script.
-use Rattle.std.specs.Prelude.{ℕ, ◌≡◌, ◌≢◌, ◌⊎◌, ◌+◌, ◌<◌, ◌≤◌, All, false, List, [], ◌∷◌, ◌++◌, length, Option, Some, None, Result, Ok, Err, MatchResult}
+use Rattle.std.specs.Prelude.{ℕ, ◌≡◌, ◌≢◌, ◌⊎◌, ◌+◌, ◌<◌, ◌≤◌, false, List, [], ◌∷◌, ◌++◌, length, Option, Some, None, Result, Ok, Err, MatchResult}
 use Rattle.std.specs.Io.KnownBytes.{Appends, Consumes, IsAtEnd, Keeps}
+use Rattle.sm_names.specs.declared.messages.Call.{Call}
+use Rattle.sm_names.specs.Marks.{Entry}
 use Rattle.core_state.specs.Shown.{Shows}
 use Rattle.core_state.specs.State.{State}
+use Rattle.event_facts.specs.declared.event.Event.{Event}
 use Rattle.script_lines.specs.declared.TheConstants.{MOST_BYTES}
 use Rattle.script_lines.specs.Pieces.{whole_lines, last_part}
 use Rattle.script_lines.specs.Written.{WritesPart}
@@ -12,10 +15,11 @@ use Rattle.script_faults.specs.IndentedLines.{is_indented}
 use Rattle.script_labels.specs.Names.{Names, act_in}
 use Rattle.sm_script.specs.Runs.{IsOver}
 use Rattle.sm_script.specs.Scenes.{Scene, Setting}
+use Rattle.script_tales.specs.Tellings.{IsEventOf}
+use Rattle.script_pictures.specs.declared.album.Album.{Album}
 use Rattle.script_pictures.specs.declared.picture.Picture.{Picture}
-use Rattle.script_pictures.specs.declared.picture.Tree.{Tree}
-use Rattle.script_pictures.specs.declared.travel.Travel.{Travel}
-use Rattle.script_pictures.specs.Seen.{IsTree}
+use Rattle.script_pictures.specs.Albums.{KnowsKept}
+use Rattle.script_pictures.specs.Shown.{ShowsEvent, ShowsKept}
 use Rattle.script_draw.specs.declared.draw.Format.{Format}
 use Rattle.script_draw.specs.declared.draw.View.{View}
 use Rattle.script_draw.specs.Played.{LeadsToScene}
@@ -23,21 +27,46 @@ use Rattle.picture_dot.specs.DotPictures.{dot_text}
 use Rattle.picture_svg.specs.SvgPictures.{svg_text}
 use Rattle.picture_text.specs.TextPictures.{picture_text}
 
--- the text is a picture, in this format, of a core in this state, where labels stand for this and the last event has this line: that of
--- some trees, each of which shows what the core has, of some links along which failures went, and of some words for what the event did
-abbrev pub IsPicture : Format → State → Names → List ℕ → List ℕ → Type 0
-IsPicture Format.Text s names last text = (trees : List Tree) × All (IsTree s) trees × (text ≡ picture_text s names last trees)
-IsPicture Format.Dot s names last text =
-    (trees : List Tree) × (travels : List Travel) × All (IsTree s) trees × (text ≡ dot_text s names last trees travels)
-IsPicture Format.Svg s names last text =
-    (picture : Picture) × All (IsTree s) picture.trees.items × (text ≡ svg_text s names last picture)
+-- the picture in this format, where the last event has this line
+abbrev pub picture_in : Format → State → Names → List ℕ → Picture → List ℕ
+picture_in Format.Text s names last p = picture_text s names last p.trees.items
+picture_in Format.Dot s names last p = dot_text s names last p.trees.items p.travels.items
+picture_in Format.Svg s names last p = svg_text s names last p
 
--- the text is a picture of what happened so far: that of a core that shows this history
+-- the text is the picture, in this format, of a core in this state behind this event, where labels stand for this: it shows what an
+-- album knows that knows each node that the core keeps, and no such node is missing
+pub record IsPicture (format : Format) (s : State) (names : Names) (last : List ℕ) (event : Option Event) (text : List ℕ) : Type 0 where
+  pub album : Album
+  pub knows : KnowsKept s album
+  pub picture : Picture
+  pub shows : ShowsEvent s names album event picture
+  pub kept : ShowsKept s picture.trees.items
+  pub text_is : text ≡ picture_in format s names last picture
+
+-- the event is that of the last call of the history
+pub record IsOfLast (pool : ℕ) (history : List Entry) (event : Event) : Type 0 where
+  pub before : State
+  pub pool_is : before.pool ≡ pool
+  pub earlier : List Entry
+  pub shows : Shows before earlier
+  pub client : ℕ
+  pub call : Call
+  pub is : IsEventOf before client call event
+  pub whole : history ≡ earlier ++ (client, call, event.reply) ∷ []
+
+-- there is one, if something happened
+abbrev pub IsLast : ℕ → List Entry → Option Event → Type 0
+IsLast pool history None = history ≡ []
+IsLast pool history (Some event) = IsOfLast pool history event
+
+-- the text is a picture of what happened so far: that of a core that shows this history, behind its last event
 pub record Pictures (format : Format) (setting : Setting) (scene : Scene) (last text : List ℕ) : Type 0 where
   pub core : State
   pub shows : Shows core scene.history
   pub pool : core.pool ≡ setting.pool
-  pub picture : IsPicture format core scene.names last text
+  pub event : Option Event
+  pub behind : IsLast setting.pool scene.history event
+  pub picture : IsPicture format core scene.names last event text
 
 -- a picture of what happened so far was written
 pub record IsPictured (format : Format) (setting : Setting) (scene : Scene) (last : List ℕ) (old new : Option (List ℕ)) : Type 0 where

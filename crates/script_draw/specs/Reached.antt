@@ -4,7 +4,6 @@ use Rattle.script_lines.specs.Pieces.{whole_lines, last_part}
 use Rattle.script_faults.specs.declared.fault.ReportFault.{ReportFault}
 use Rattle.script_faults.specs.IndentedLines.{is_indented}
 use Rattle.sm_names.specs.declared.messages.Call.{Call}
-use Rattle.sm_names.specs.declared.messages.Reply.{Reply}
 use Rattle.script_labels.specs.declared.act.Act.{Act}
 use Rattle.script_labels.specs.declared.act.Binds.{Binds}
 use Rattle.script_labels.specs.declared.stop.Stop.{Stop}
@@ -12,9 +11,13 @@ use Rattle.script_labels.specs.Names.{act_in}
 use Rattle.sm_script.specs.Runs.{IsOver}
 use Rattle.sm_script.specs.Scenes.{Scene, Setting, next_scene}
 use Rattle.sm_script.specs.Sessions.{IsAt, IsSameSetting}
+use Rattle.event_facts.specs.declared.event.Event.{Event}
+use Rattle.script_tales.specs.declared.teller.Teller.{Teller}
 use Rattle.script_tales.specs.Called.{Knows}
+use Rattle.script_tales.specs.Tellings.{IsEventOf}
+use Rattle.script_pictures.specs.Albums.{KnowsKept}
 use Rattle.script_draw.specs.declared.draw.Scroll.{Scroll}
-use Rattle.script_draw.specs.Draws.{PictureFault}
+use Rattle.script_draw.specs.Draws.{IsLast, PictureFault}
 use Rattle.script_draw.specs.Played.{ComesBefore, IsWithin, Played, is_reached}
 
 -- these lines were played, which made no more events than are asked for
@@ -25,6 +28,8 @@ pub record Reached (setting : Setting) (until : Option ℕ) (scroll : Scroll) (l
   pub scene : Scene
   pub played : Played lines scene scroll.line.items
   pub knows : Knows scroll.teller scene
+  pub kept : KnowsKept scroll.teller.session.core scroll.album
+  pub last : IsLast setting.pool scene.history scroll.event
   pub within : IsWithin until (length scene.history)
 
 -- one more line was played between the two moments, where fewer events were made than are asked for
@@ -32,13 +37,21 @@ abbrev pub PlaysLine : Scroll → Scroll → List ℕ → Type 0
 PlaysLine old new line = (setting : Setting) (until : Option ℕ) (lines : List (List ℕ)) (far : Reached setting until old lines) →
     ComesBefore until (length far.scene.history) → Reached setting until new (lines ++ line ∷ [])
 
+-- the call was made between the two moments, and its event is the last
+pub record MakesEvent (old new : Teller) (last : Option Event) (client : ℕ) (call : Call) (binds : Binds) : Type 0 where
+  pub event : Event
+  pub is : IsEventOf old.session.core client call event
+  pub kept : last ≡ Some event
+  pub knows : (scene : Scene) → Knows old scene → Knows new (next_scene scene client call binds event.reply)
+
 -- the line made this call between the two moments
 pub record LineMakesCall (old new : Scroll) (client : ℕ) (call : Call) (binds : Binds) (line : List ℕ) : Type 0 where
   pub setting : (scene : Scene) → IsAt old.teller.session scene → IsSameSetting old.teller.session new.teller.session
   pub limits : new.limits ≡ old.limits
   pub line_is : new.line.items ≡ line
-  pub knows : (scene : Scene) → Knows old.teller scene →
-      (reply : Reply) × Knows new.teller (next_scene scene client call binds reply)
+  pub made : MakesEvent old.teller new.teller new.event client call binds
+  pub kept : (scene : Scene) → Knows old.teller scene → KnowsKept old.teller.session.core old.album →
+      KnowsKept new.teller.session.core new.album
 
 -- the line is not indented, and asks for this act
 pub record AsksFor (scene : Scene) (line : List ℕ) (act : Act) : Type 0 where

@@ -1,15 +1,19 @@
 //! The trees of a script behind an event, drawn.
-ghost use Rattle.std.specs.Prelude.{◌≡◌, ◌≢◌, ◌≤◌, ◌+◌, [], ◌∷◌, ◌++◌, All, List, ℕ, Option, None, true, IfErr, IfOk, OnOk, length, nat_le};
-ghost use Rattle.sm_names.specs.declared.messages.Reply.{Reply};
+ghost use Rattle.std.specs.Prelude.{◌≡◌, ◌≢◌, ◌≤◌, ◌+◌, [], ◌∷◌, ◌++◌, List, ℕ, Option, None, true, IfErr, IfOk, OnOk, length, nat_le};
+ghost use Rattle.sm_names.specs.declared.messages.Call.{Call as CallMade};
+ghost use Rattle.sm_names.specs.Marks.{Entry};
+ghost use Rattle.core_state.specs.Shown.{Shows};
+ghost use Rattle.core_state.specs.State.{State};
 ghost use Rattle.script_labels.specs.Names.{Names};
-ghost use Rattle.sm_script.specs.Scenes.{Scene, Setting, next_scene};
+ghost use Rattle.sm_script.specs.Scenes.{Scene, Setting};
 ghost use Rattle.sm_script.specs.Sessions.{IsAt, IsSameSetting};
 ghost use Rattle.script_labels.specs.Tables.{Keeps};
 ghost use Rattle.script_tales.specs.Called.{Calls, Knows};
-ghost use Rattle.script_pictures.specs.Seen.{IsTree};
-ghost use Rattle.script_draw.specs.Draws.{Draws, IsPicture, IsPictured, IsUnwritten, LinesDrawn};
+ghost use Rattle.script_tales.specs.Tellings.{IsEventOf};
+ghost use Rattle.script_pictures.specs.Albums.{KnowsKept};
+ghost use Rattle.script_draw.specs.Draws.{Draws, IsPicture, IsPictured, IsUnwritten, LinesDrawn, picture_in};
 ghost use Rattle.script_draw.specs.Played.{ComesBefore, is_reached};
-ghost use Rattle.script_draw.specs.Reached.{AsksFor, PlaysLine, PlayHalts, IsHeldUp, IsPlayedOn, PlayLinesHalt, LineMakesCall, Reached, stops_at_line};
+ghost use Rattle.script_draw.specs.Reached.{AsksFor, PlaysLine, PlayHalts, IsHeldUp, IsPlayedOn, PlayLinesHalt, LineMakesCall, MakesEvent, Reached, stops_at_line};
 
 use event_facts::Event;
 use picture_dot::push_dot;
@@ -235,15 +239,17 @@ fn push_picture(
 ) -> Result<(), Stop>
     ensures { OnOk result ((names : Names) → Keeps scroll.now.teller.session.tables names →
         Calls scroll.now.teller.labels names → text.old.items ≡ [] →
+        (history : List Entry) → Shows scroll.now.teller.session.core history →
+        KnowsKept scroll.now.teller.session.core scroll.now.album →
         IsPicture format scroll.now.teller.session.core names scroll.now.line.items
-        text.new.items) }
+        scroll.now.event text.new.items) }
 {
     let event = scroll.event.as_ref();
     let picture = picture_of(alloc, &scroll.teller, &scroll.album, event)?;
     push_format(text, &scroll.teller, &picture, &scroll.line, format)
 }
 
-// Puts the picture into the empty text, where the last event has this line.
+// Appends the picture, where the last event has this line.
 fn push_format(
     text: &mut Vec<u8>,
     teller: &Teller,
@@ -252,9 +258,8 @@ fn push_format(
     format: Format,
 ) -> Result<(), Stop>
     ensures { OnOk result ((names : Names) → Keeps teller.now.session.tables names →
-        Calls teller.now.labels names → text.old.items ≡ [] →
-        All (IsTree teller.now.session.core) picture.now.trees.items →
-        IsPicture format teller.now.session.core names line.now text.new.items) }
+        Calls teller.now.labels names → text.new.items ≡ text.old.items
+        ++ picture_in format teller.now.session.core names line.now picture.now) }
 {
     match format {
         Format::Text => push_text(text, teller, picture, line),
@@ -429,8 +434,11 @@ impl Scroll {
         ensures setting { OnOk result ((scene : Scene) → IsAt self.old.teller.session scene →
             IsSameSetting self.old.teller.session self.new.teller.session) }
         ensures limits { OnOk result (self.new.limits ≡ self.old.limits) }
-        ensures knows { OnOk result ((scene : Scene) → Knows self.old.teller scene → (reply : Reply)
-            × Knows self.new.teller (next_scene scene client call binds reply)) }
+        ensures made { OnOk result
+            (MakesEvent self.old.teller self.new.teller self.new.event client call binds) }
+        ensures kept { OnOk result ((scene : Scene) → Knows self.old.teller scene →
+            KnowsKept self.old.teller.session.core self.old.album →
+            KnowsKept self.new.teller.session.core self.new.album) }
     {
         let named = named_collection(&self.teller.session.core, &call);
         let event = self
@@ -456,7 +464,14 @@ fn keep(
     last: &mut Option<Event>,
     named: Option<CollectionId>,
     event: Event,
-) -> Result<(), Stop> {
+) -> Result<(), Stop>
+    ensures last { OnOk result (last.new ≡ Some event) }
+    ensures kept { OnOk result ((old : State) (client : ℕ) (call : CallMade) (history : List Entry) →
+        Shows old history → IsEventOf old client call event →
+        teller.now.session.core.pool ≡ old.pool →
+        Shows teller.now.session.core (history ++ (client, call, event.reply) ∷ []) →
+        KnowsKept old album.old → KnowsKept teller.now.session.core album.new) }
+{
     let updated = album.update(alloc, &teller.session.core, named, &event);
     *last = Some(event);
     updated

@@ -1,5 +1,5 @@
 -- All nodes that were ever born, as they were last seen, collection by collection.
-use Rattle.std.specs.Prelude.{ℕ, ◌==◌, ◌&&◌, not, Bool, true, false, if◌then◌else◌, List, [], ◌∷◌, ◌++◌, map, reverse, Option, Some, None, Vec}
+use Rattle.std.specs.Prelude.{ℕ, ◌≡◌, ◌==◌, ◌&&◌, not, Bool, true, false, if◌then◌else◌, List, [], ◌∷◌, ◌++◌, map, reverse, Option, Some, None, Vec}
 use Rattle.std.specs.declared.alloc.Global.{Global}
 use Rattle.std.specs.BTreeMap.{get}
 use Rattle.std.specs.List.{list_any}
@@ -11,7 +11,7 @@ use Rattle.sm_names.specs.declared.outcomes.Fault.{Fault}
 use Rattle.forest_store.specs.declared.node.End.{End}
 use Rattle.forest_store.specs.declared.node.Node.{Node}
 use Rattle.forest_store.specs.Forest.{node_at}
-use Rattle.forest_store.specs.Nodes.{above_among, is_spent, node_of}
+use Rattle.forest_store.specs.Nodes.{above_among, is_of, is_spent, node_of}
 use Rattle.forest_store.specs.Questions.{blocks_here, is_below}
 use Rattle.core_state.specs.State.{State}
 use Rattle.event_marks.specs.declared.decision.Forced.{Forced}
@@ -77,15 +77,12 @@ abbrev pub refreshed : State → Option ℕ → List Moment → ℕ → List Nod
 refreshed s named moments id nodes =
     if option_map_or (λ other. other == id) named false then map (seen_again s (walked moments)) nodes else nodes
 
--- the node in the place of those that were born at its event, or behind all
-abbrev pub is_born_with : Node → Node → Bool
-is_born_with n other = other.event == n.event
-
+-- the node in the place of the one with its key, or behind all
 abbrev pub seen_for : Node → Node → Node
-seen_for n other = if is_born_with n other then n else other
+seen_for n other = if is_of n.key other then n else other
 
 abbrev pub with_seen : Node → List Node → List Node
-with_seen n nodes = if list_any (is_born_with n) nodes then map (seen_for n) nodes else nodes ++ n ∷ []
+with_seen n nodes = if list_any (is_of n.key) nodes then map (seen_for n) nodes else nodes ++ n ∷ []
 
 -- the nodes of this collection, with the one of this key, if that is of it, and kept
 abbrev pub with_named : State → NodeKey → ℕ → ℕ → List Node → List Node
@@ -101,3 +98,7 @@ with_told s _ id nodes = nodes
 -- the nodes of this collection behind the event, whose call named that one
 abbrev pub known_after : State → Option ℕ → Event → ℕ → List Node → List Node
 known_after s named event id nodes = with_told s event.reply id (refreshed s named event.moments.items id nodes)
+
+-- the album knows each node that the core keeps, in the node's collection
+pub record KnowsKept (s : State) (album : Album) : Type 0 where
+  pub known : (key : NodeKey) (n : Node) → node_at s.forest key ≡ Some n → list_any (is_of key) (known_in album n.collection) ≡ true

@@ -4,4 +4,5 @@ pub mod Colors
 pub mod Features
 pub mod Kin
 pub mod Seen
+pub mod Shown
 pub mod Travels

@@ -1,14 +1,19 @@
 //! All nodes that were ever born, as they were last seen, collection by collection.
-ghost use Rattle.std.specs.Prelude.{◌≡◌, ◌==◌, ◌&&◌, [], Bool, IfOk, List, OnOk, Some, if◌then◌else◌, map, ℕ};
+ghost use Rattle.std.specs.Prelude.{◌≡◌, ◌==◌, ◌&&◌, ◌++◌, ◌∷◌, [], Bool, IfOk, List, OnOk, Some, if◌then◌else◌, map, ℕ};
 ghost use Rattle.std.specs.List.{list_any};
 ghost use Rattle.std.specs.Option.{option_map};
 ghost use Rattle.sm_names.specs.declared.keys.NodeKey.{NodeKey as Key};
+ghost use Rattle.sm_names.specs.declared.messages.Call.{Call as CallMade};
+ghost use Rattle.sm_names.specs.Marks.{Entry};
+ghost use Rattle.core_state.specs.Shown.{Shows};
+ghost use Rattle.core_state.specs.State.{State};
 ghost use Rattle.forest_store.specs.declared.node.Node.{Node as NodeValue};
 ghost use Rattle.forest_store.specs.Forest.{node_at};
-ghost use Rattle.forest_store.specs.Nodes.{is_spent};
+ghost use Rattle.forest_store.specs.Nodes.{is_of, is_spent};
 ghost use Rattle.event_marks.specs.declared.decision.Forced.{Forced};
 ghost use Rattle.event_marks.specs.KeySets.{has};
-ghost use Rattle.script_pictures.specs.Albums.{after_mark, forgotten, is_born_with, known_after, known_in, left_below, left_if as left_as, marked, refreshed, seen_again, seen_for, top_of, walked, with_named, with_seen, with_told};
+ghost use Rattle.script_tales.specs.Tellings.{IsEventOf};
+ghost use Rattle.script_pictures.specs.Albums.{KnowsKept, after_mark, forgotten, known_after, known_in, left_below, left_if as left_as, marked, refreshed, seen_again, seen_for, top_of, walked, with_named, with_seen, with_told};
 ghost use Rattle.script_pictures.specs.Kin.{FindsNodes};
 ghost use Rattle.script_pictures.specs.Seen.{named_in};
 
@@ -66,7 +71,8 @@ impl Album {
     /// Takes in what an event changed, whose call named this collection: its nodes are brought to their
     /// present state, those among them that the core forgot to the state that the walk of the event gave them
     /// last; and the node in the reply is added, or brought to its present state. Costs O(n log n) for the n
-    /// nodes that were ever born in these collections, and O(log m) for m collections.
+    /// nodes that were ever born in these collections, and O(log m) for m collections. So the album knows each
+    /// node that the core keeps, if it did before.
     ///
     /// `NoMemory` where memory is refused: then some of this may be left out.
     pub fn update(
@@ -76,8 +82,13 @@ impl Album {
         named: Option<CollectionId>,
         event: &Event,
     ) -> Result<(), Stop>
-        ensures { OnOk result ((id : ℕ) →
+        ensures known { OnOk result ((id : ℕ) →
             known_in self.new id ≡ known_after core.now named event.now id (known_in self.old id)) }
+        // The event leads from a core, each of whose nodes is known, to this core.
+        ensures kept { OnOk result ((old : State) (client : ℕ) (call : CallMade) (history : List Entry) →
+            Shows old history → IsEventOf old client call event.now → core.now.pool ≡ old.pool →
+            Shows core.now (history ++ (client, call, event.now.reply) ∷ []) →
+            KnowsKept old self.old → KnowsKept core.now self.new) }
     {
         self.refresh_named(alloc, core, named, &event.moments)?;
         self.add_told(alloc, core, event.reply)?;
@@ -187,7 +198,7 @@ impl Album {
     }
 }
 
-// The nodes, where this one replaces the one of the same birth, or is appended if there is none.
+// The nodes, where this one replaces the one with its key, or is appended if there is none.
 fn with_node(nodes: Vec<Node>, node: &Node) -> Result<Vec<Node>, AllocError>
     ensures { IfOk result (λ more. more.items ≡ with_seen node.now nodes.items) }
 {
@@ -199,21 +210,21 @@ fn with_node(nodes: Vec<Node>, node: &Node) -> Result<Vec<Node>, AllocError>
     Ok(more)
 }
 
-// Whether one of the nodes was born at this one's event.
+// Whether one of the nodes has this one's key.
 fn is_there(nodes: &[Node], node: &Node) -> bool
-    ensures { result ≡ list_any (is_born_with node.now) nodes.now }
+    ensures { result ≡ list_any (is_of node.now.key) nodes.now }
 {
     nodes.iter().any(|other| is_same(node, other))
 }
 
-// Whether the nodes were born at one event.
+// Whether the nodes have one key.
 fn is_same(node: &Node, other: &Node) -> bool
-    ensures { result ≡ is_born_with node.now other.now }
+    ensures { result ≡ is_of node.now.key other.now }
 {
-    other.event == node.event
+    other.key == node.key
 }
 
-// The nodes with this one in the place of each that was born at its event.
+// The nodes with this one in the place of each with its key.
 fn replaced(nodes: &Vec<Node>, node: &Node) -> Result<Vec<Node>, AllocError>
     ensures { IfOk result (λ more. more.items
         ≡ map (seen_for node.now) nodes.now.items) }
@@ -225,7 +236,7 @@ fn replaced(nodes: &Vec<Node>, node: &Node) -> Result<Vec<Node>, AllocError>
     Ok(more)
 }
 
-// The first node, if the second was born at its event, and else that one.
+// The first node, if the second has its key, and else that one.
 fn either(node: &Node, other: &Node) -> Node
     ensures { result ≡ seen_for node.now other.now }
 {
@@ -264,7 +275,7 @@ fn lost_under(nodes: &Vec<Node>, fault: Fault) -> Result<Vec<Node>, AllocError>
 }
 
 // The last of these keys, or this one.
-fn last_key(keys: &[NodeKey], origin: NodeKey) -> NodeKey
+pub(crate) fn last_key(keys: &[NodeKey], origin: NodeKey) -> NodeKey
     ensures { result ≡ top_of origin keys.now }
 {
     match keys.split_last() {

@@ -1,16 +1,28 @@
 //! What a picture shows: the trees behind an event, and what that event did.
-ghost use Rattle.std.specs.Prelude.{◌≡◌, [], All, IfOk, OnOk, map, option_map};
+ghost use Rattle.std.specs.Prelude.{◌≡◌, ◌++◌, [], ◌∷◌, All, IfOk, List, OnOk, is_some, map, option_map};
+ghost use Rattle.std.specs.List.{filter};
 ghost use Rattle.std.specs.Option.{option_map_or};
-ghost use Rattle.forest_store.specs.Forest.{Collection};
+ghost use Rattle.sm_names.specs.Marks.{Entry};
+ghost use Rattle.forest_store.specs.declared.node.Node.{Node as NodeValue};
+ghost use Rattle.forest_store.specs.Forest.{Collection, collection_at};
 ghost use Rattle.forest_store.specs.Snapshots.{collection_of};
+ghost use Rattle.core_state.specs.Reads.{views_of};
+ghost use Rattle.core_state.specs.Shown.{Shows};
 ghost use Rattle.core_state.specs.State.{State};
+ghost use Rattle.script_labels.specs.Names.{Names};
+ghost use Rattle.script_labels.specs.Tables.{Keeps};
+ghost use Rattle.script_tales.specs.MarkTexts.{mark_text};
+ghost use Rattle.script_pictures.specs.Albums.{KnowsKept};
+ghost use Rattle.script_pictures.specs.Kin.{FindsNodes};
 ghost use Rattle.script_pictures.specs.Seen.{IsTree, held_of_collection, seen_in};
+ghost use Rattle.script_pictures.specs.Shown.{ShowsEvent, ShowsKept, before_in, first_line, freed_since, has_gone, is_failure, is_shown, left_since, lists_of, told_in, tree_in, trees_of as trees_in, words_of};
 
 use crate::album::Album;
+use crate::kin::nodes_by_key;
 use crate::travel::{Travel, travels};
 use event_facts::keepers::strong_live;
 use event_facts::pages::given_back;
-use event_facts::{Before, Event, placed_by};
+use event_facts::{Before, Event, KeyMap, placed_by};
 use event_marks::{Forced, Moment};
 use forest_store::{End, Node, Snapshot};
 use lifetime_core::Core;
@@ -53,8 +65,11 @@ pub struct Picture {
     pub fired: usize,
 }
 
-/// What is to be shown behind the last event, if there was one. Costs O(n log n) for the n nodes that were
-/// ever born in each collection, and the text of each mark.
+/// What is to be shown behind the last event, if there was one: a tree for each collection that is kept, or
+/// of which the event took a node or gave pages back, in the order of their ids, with each node that the
+/// album knows of it; each mark of the event, in the first line of its text; the links that its failures
+/// followed; and how many trackers had fired before it. Costs O(n log n) for the n nodes that were ever born
+/// in each collection, and for those before each mark that is a failure; and the text of each mark.
 ///
 /// `NoMemory` where memory is refused.
 pub fn picture_of(
@@ -63,17 +78,26 @@ pub fn picture_of(
     album: &Album,
     event: Option<&Event>,
 ) -> Result<Picture, Stop>
-    ensures { IfOk result (λ picture.
-        All (IsTree teller.now.session.core) picture.trees.items) }
+    ensures shows { IfOk result (λ picture. (names : Names) → Keeps teller.now.session.tables names →
+        ShowsEvent teller.now.session.core names album.now (option_map (λ e. e.now) event.entry)
+        picture) }
+    // No node that the core keeps is missing, if the album knows each.
+    ensures kept { IfOk result (λ picture. (history : List Entry) →
+        Shows teller.now.session.core history → KnowsKept teller.now.session.core album.now →
+        ShowsKept teller.now.session.core picture.trees.items) }
 {
     let trees = trees_of(alloc, &teller.session.core, album, event)?;
     match event {
-        Some(event) => Ok(Picture {
-            trees,
-            told: told_marks(alloc, teller, event)?,
-            travels: travels(alloc, &event.moments)?,
-            fired: event.fired,
-        }),
+        Some(event) => {
+            let told = told_marks(alloc, teller, event)?;
+            let travels = travels(alloc, &event.moments)?;
+            Ok(Picture {
+                trees,
+                told,
+                travels,
+                fired: event.fired,
+            })
+        }
         None => Ok(Picture {
             trees,
             told: Vec::new(alloc),
@@ -90,7 +114,9 @@ fn trees_of(
     album: &Album,
     event: Option<&Event>,
 ) -> Result<Vec<Tree>, Stop>
-    ensures { IfOk result (λ trees. All (IsTree core.now) trees.items) }
+    ensures seen { IfOk result (λ trees. All (IsTree core.now) trees.items) }
+    ensures trees { IfOk result (λ trees. map lists_of trees.items ≡ trees_in core.now
+        (option_map (λ e. e.now) event.entry) album.now.families.entries) }
 {
     let mut trees = Vec::new(alloc);
     for (id, nodes) in &album.families {
@@ -103,21 +129,37 @@ fn trees_of(
 // Puts the tree behind the others, if it is shown: its collection is kept, or the event took a node of it
 // or gave pages of it back.
 fn add_shown(trees: &mut Vec<Tree>, kept: bool, tree: Tree) -> Result<(), AllocError>
-    ensures { OnOk result ((s : State) → All (IsTree s) trees.old.items → IsTree s tree →
+    ensures seen { OnOk result ((s : State) → All (IsTree s) trees.old.items → IsTree s tree →
         All (IsTree s) trees.new.items) }
+    ensures shown { OnOk result ((s : State) → kept ≡ is_some (collection_at s.forest tree.id) →
+        map lists_of trees.new.items
+        ≡ map lists_of trees.old.items ++ filter (is_shown s) (lists_of tree ∷ [])) }
 {
-    if kept || !tree.left.is_empty() || !tree.freed.is_empty() {
+    if is_drawn(kept, &tree) {
         trees.push(tree)?;
     }
     Ok(())
 }
 
+// Whether the tree is shown, of a collection that is kept or not.
+fn is_drawn(kept: bool, tree: &Tree) -> bool
+    ensures { (s : State) → kept ≡ is_some (collection_at s.forest tree.now.id) →
+        result ≡ is_shown s (lists_of tree.now) }
+{
+    kept || 0 < tree.left.len() || 0 < tree.freed.len()
+}
+
 // The marks of the event, each in the first line of its fact.
-fn told_marks(alloc: Global, teller: &Teller, event: &Event) -> Result<Vec<ToldMark>, AllocError> {
+fn told_marks(alloc: Global, teller: &Teller, event: &Event) -> Result<Vec<ToldMark>, AllocError>
+    ensures { IfOk result (λ told. (names : Names) → Keeps teller.now.session.tables names →
+        map words_of told.items ≡ told_in names (views_of teller.now.session.core).free
+        event.now.after event.now.moments.items) }
+{
     let mut told = Vec::new(alloc);
     let mut rest = event.moments.as_slice();
     'marks: while let Some((moment, later)) = rest.split_first() {
-        told.push(told_mark(alloc, teller, moment, placed_by(later, event))?)?;
+        let mark = told_mark(alloc, teller, moment, placed_by(later, event))?;
+        told.push(mark)?;
         rest = later;
     }
     Ok(told)
@@ -129,17 +171,41 @@ fn told_mark(
     teller: &Teller,
     moment: &Moment,
     placed: Option<(Buffers, &[HeldBuffer])>,
-) -> Result<ToldMark, AllocError> {
+) -> Result<ToldMark, AllocError>
+    ensures { IfOk result (λ told. (names : Names) → Keeps teller.now.session.tables names →
+        words_of told ≡ (
+          is_failure moment.now.mark,
+          first_line (mark_text names
+              (views_of teller.now.session.core).free (option_map (λ p. (p.0, p.1.now)) placed.entry)
+              moment.now),
+        )) }
+{
     let mut line = Vec::new(alloc);
     teller.push_mark(moment, placed, &mut line)?;
-    if let Some(at) = line_end(&line) {
-        line.truncate(at);
+    cut_to_line(&mut line);
+    Ok(ToldMark {
+        fails: fails(moment.mark),
+        line,
+    })
+}
+
+// Leaves the first line of the text, without its end.
+fn cut_to_line(text: &mut Vec<u8>)
+    ensures { text.new.items ≡ first_line text.old.items }
+{
+    if let Some(at) = line_end(text) {
+        text.truncate(at);
     }
-    let fails = match moment.mark {
+}
+
+// Whether the mark is a failure.
+fn fails(mark: Forced) -> bool
+    ensures { result ≡ is_failure mark }
+{
+    match mark {
         Forced::Loss(_) => true,
-        _ => false,
-    };
-    Ok(ToldMark { fails, line })
+        Forced::Allocated(_) | Forced::Ended(_) => false,
+    }
 }
 
 // The tree of the collection with this id and these nodes, and whether it is kept.
@@ -150,7 +216,10 @@ fn tree_of(
     known: &Vec<Node>,
     event: Option<&Event>,
 ) -> Result<(bool, Tree), Stop>
-    ensures { IfOk result (λ told. IsTree core.now told.1) }
+    ensures seen { IfOk result (λ told. IsTree core.now told.1) }
+    ensures kept { IfOk result (λ told. told.0 ≡ is_some (collection_at core.now.forest id)) }
+    ensures lists { IfOk result (λ told. lists_of told.1 ≡ tree_in core.now
+        (option_map (λ e. e.now) event.entry) id known.now.items) }
 {
     let copied = core.collection(id)?;
     let kept = copied.is_some();
@@ -167,8 +236,10 @@ fn grow(
     held: Vec<HeldBuffer>,
     event: Option<&Event>,
 ) -> Result<Tree, AllocError>
-    ensures { IfOk result (λ tree. held.items ≡ held_of_collection core.now id →
+    ensures seen { IfOk result (λ tree. held.items ≡ held_of_collection core.now id →
         IsTree core.now tree) }
+    ensures lists { IfOk result (λ tree. held.items ≡ held_of_collection core.now id →
+        lists_of tree ≡ tree_in core.now (option_map (λ e. e.now) event.entry) id known.now.items) }
 {
     let (left, freed) = changed(alloc, id, known, &held, event)?;
     let nodes = seen_now(core, known)?;
@@ -217,10 +288,15 @@ fn changed(
     known: &Vec<Node>,
     held: &[HeldBuffer],
     event: Option<&Event>,
-) -> Result<(Vec<NodeKey>, Vec<HeldBuffer>), AllocError> {
+) -> Result<(Vec<NodeKey>, Vec<HeldBuffer>), AllocError>
+    ensures left { IfOk result (λ found. found.0.items ≡ option_map_or (left_since known.now.items)
+        (before_in (option_map (λ e. e.now) event.entry) id) []) }
+    ensures freed { IfOk result (λ found. found.1.items ≡ option_map_or (freed_since held.now)
+        (before_in (option_map (λ e. e.now) event.entry) id) []) }
+{
     match before_of(event, id) {
         Some(before) => Ok((
-            left_since(known, &before.copied.nodes)?,
+            left_at(known, &before.copied.nodes)?,
             given_back(&before.copied.held, held)?,
         )),
         None => Ok((Vec::new(alloc), Vec::new(alloc))),
@@ -228,7 +304,10 @@ fn changed(
 }
 
 // The collection before the event, if the event changed this one.
-fn before_of(event: Option<&Event>, id: CollectionId) -> Option<&Before> {
+fn before_of(event: Option<&Event>, id: CollectionId) -> Option<&Before>
+    ensures { option_map (λ b. b.now) result
+        ≡ before_in (option_map (λ e. e.now) event.entry) id }
+{
     let before = event?.before.as_ref()?;
     if before.copied.id == id {
         Some(before)
@@ -248,21 +327,36 @@ fn held_of(alloc: Global, copied: Option<Snapshot>) -> Vec<HeldBuffer>
     }
 }
 
-// The nodes that are gone, and were not among these earlier ones. Costs O(n log n) for n nodes.
-fn left_since(nodes: &Vec<Node>, earlier: &[Node]) -> Result<Vec<NodeKey>, AllocError> {
+// The nodes that are gone, and were among these earlier ones and not gone. Costs O(n log n) for n nodes.
+fn left_at(nodes: &Vec<Node>, earlier: &Vec<Node>) -> Result<Vec<NodeKey>, AllocError>
+    ensures { IfOk result (λ left. left.items
+        ≡ map (λ n. n.key) (filter (has_gone earlier.now.items) nodes.now.items)) }
+{
+    let found = nodes_by_key(earlier)?;
+    left_among(nodes, &found)
+}
+
+// The same, where the earlier nodes are found by their keys.
+fn left_among(nodes: &Vec<Node>, earlier: &KeyMap<Node>) -> Result<Vec<NodeKey>, AllocError>
+    ensures { IfOk result (λ left. (found : List NodeValue) → FindsNodes earlier.now found →
+        left.items ≡ map (λ n. n.key) (filter (has_gone found) nodes.now.items)) }
+{
     let mut left = Vec::new(*nodes.allocator());
     for node in nodes {
-        if node.gone && was_there(earlier, node) {
+        if went(node, earlier) {
             left.push(node.key)?;
         }
     }
     Ok(left)
 }
 
-// Whether the node was among these, which stand by birth, and was not gone.
-fn was_there(earlier: &[Node], node: &Node) -> bool {
-    match earlier.binary_search_by_key(&node.event, |other| other.event) {
-        Ok(at) => !earlier[at].gone,
-        Err(_) => false,
+// Whether the node is gone, and was among these and not gone.
+fn went(node: &Node, earlier: &KeyMap<Node>) -> bool
+    ensures { (found : List NodeValue) → FindsNodes earlier.now found →
+        result ≡ has_gone found node.now }
+{
+    match earlier.get(node.key) {
+        Some(before) => node.gone && !before.gone,
+        None => false,
     }
 }

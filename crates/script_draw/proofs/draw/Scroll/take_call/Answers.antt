@@ -8,6 +8,18 @@ returns-clause-setting c = λ scene at. (c.in_ok-event.ensures.ok scene at).sett
 pub returns-clause-limits : goal.returns-clause-limits
 returns-clause-limits c = refl
 
--- the reply is that of the event
-pub returns-clause-knows : goal.returns-clause-knows
-returns-clause-knows c = λ scene knows. (c.in_ok-event.event.reply, c.in_ok-event.ensures.knows scene knows)
+-- the event is the last
+pub returns-clause-made : goal.returns-clause-made
+returns-clause-made c = record {
+  event = c.in_ok-event.event;
+  is = c.in_ok-event.ensures.event;
+  kept = c.in_ok-keep.ensures.last;
+  knows = c.in_ok-event.ensures.knows;
+}
+
+-- the album took the event in
+pub returns-clause-kept : goal.returns-clause-kept
+returns-clause-kept c = λ scene knows kept.
+    c.in_ok-keep.ensures.kept c.args.self.now.teller.session.core c.args.client c.args.call scene.history knows.is_at.shows
+    c.in_ok-event.ensures.event (c.in_ok-event.ensures.ok scene knows.is_at).setting.pool
+    (c.in_ok-event.ensures.knows scene knows).is_at.shows kept
