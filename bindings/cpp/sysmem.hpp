@@ -842,6 +842,10 @@ public:
         Record record = o.record;
         const char *debug = record ? nullptr : std::getenv("SYSMEM_DEBUG");
         if (debug && std::string_view(debug) == "1") record = record_to(stderr);
+        if (o.transcript) {
+            state->transcript = "# pages " + std::to_string(o.pages) + "\n";
+            record = detail::keep(state->transcript, std::move(record));
+        }
         if (record) state->recorder = std::make_unique<detail::Recorder>(std::move(record));
         state->is_watched = state->recorder != nullptr;
         state->slow = o.slow;
@@ -966,6 +970,13 @@ public:
         std::uint64_t events = 0;
         sysmem_events(&state->core, &events);
         return events;
+    }
+    /// The events so far as a transcript, after a remark with the number of pages; empty without
+    /// Options::transcript. The program reads it: `sysmem explain` says what each event did and why, `sysmem draw`
+    /// draws the trees as they are now. Makes no event. O(its length).
+    std::string transcript() const {
+        detail::Guard guard(*state);
+        return state->transcript;
     }
     /// Labels are for people: an error has the label of its origin.
     void set_label(Key key, std::string text) const {

@@ -33,6 +33,14 @@ struct Kept {
     }
 };
 
+// A recorder that adds the lines to this text, and hands them on if there is another recorder.
+inline Record keep(std::string &text, Record then) {
+    return [&text, then = std::move(then)](std::string_view lines) {
+        text += lines;
+        if (then) then(lines);
+    };
+}
+
 // Writes the events of one core. A client or a node has the label that the program gave it, if this
 // is a label of the language, unique, and not of the form of generated labels: c, n or t and the
 // number of the event that made it. Otherwise it has a generated label. The labels of clients, and the

@@ -313,6 +313,7 @@ struct State : std::enable_shared_from_this<State> {
     std::shared_ptr<Due> due; // callbacks of buffers that fell idle, the last first
     Waiter *waiters = nullptr;
     Sleeper *sleepers = nullptr;
+    std::string transcript; // with Options::transcript
     std::unique_ptr<Recorder> recorder;
     bool is_eager = false;   // whether a tracker waits, or a callback is due
     bool is_watched = false; // whether there is a waiter or a recorder

@@ -6,7 +6,7 @@ int main(int count, char **words) {
     int steps = count > 1 ? std::atoi(words[1]) : 3000;
     Options options;
     options.pages = 256;
-    options.record = record_to(stdout);
+    options.transcript = true;
     Service service = Service::open(options).value();
     std::mt19937 dice(44);
     {
@@ -24,5 +24,6 @@ int main(int count, char **words) {
         for (auto &life : lives)
             if (life) life->end();
     }
+    std::fputs(service.transcript().c_str(), stdout);
     return is_nothing_left(service, options.pages) ? 0 : 1;
 }

@@ -343,6 +343,7 @@ static void a_transcript() {
     std::string lines;
     Options options;
     options.record = [&](std::string_view two) { lines += two; };
+    options.transcript = true;
     Service service = Service::open(options).value();
     Client app = service.join("app").value(), other = service.join("show").value();
     EXPECT(app.shut().value() == 0 && !app.open_root("root"));
@@ -357,7 +358,26 @@ static void a_transcript() {
                     "c2 dup root n6\n  token n6\nc2 dup root n7\n  token n7\n"
                     "# c2 give n6 ?\n#   refused 1 NoSuchClient\nc2 bind n7\n  done\n"
                     "c2 weakok n7 children\n  done\n");
+    EXPECT(service.transcript() == "# pages 16\n" + lines);
+    EXPECT(Service::open().value().transcript().empty());
 }
+
+#ifdef __cpp_exceptions
+// A recorder that throws ends the transcript. What is kept stays.
+static void a_transcript_that_ends() {
+    Options options;
+    options.pages = 8;
+    options.transcript = true;
+    options.record = [](std::string_view two) {
+        if (two.find("open") != two.npos) throw std::runtime_error("no more");
+    };
+    Service service = Service::open(options).value();
+    Client app = service.join("app").value();
+    app.open_root("root").value().sync().value();
+    EXPECT(service.transcript() == "# pages 8\napp join\n  joined\napp open root\n  token root\n");
+    EXPECT(service.events() == 4);
+}
+#endif
 
 // A weak holder is told to let go.
 static void weak_handles() {
@@ -409,6 +429,9 @@ int main() {
     callbacks();
     gifts();
     a_transcript();
+#ifdef __cpp_exceptions
+    a_transcript_that_ends();
+#endif
     weak_handles();
     what_outlives_a_service();
     std::puts("each value does what it should");

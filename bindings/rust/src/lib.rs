@@ -161,8 +161,14 @@ impl Service {
             code => Error::of(code),
         })?;
         let is_debug = || std::env::var_os("SYSMEM_DEBUG").map_or(false, |word| word == "1");
-        let record = options.record.or_else(|| is_debug().then(record_to_error));
+        let mut record = options.record.or_else(|| is_debug().then(record_to_error));
+        let first = if options.transcript { format!("# pages {pages}\n") } else { String::new() };
+        let transcript = Arc::new(Mutex::new(first));
+        if options.transcript {
+            record = Some(words::keep(transcript.clone(), record));
+        }
         let mut state = State::new(core, record);
+        state.transcript = transcript;
         state.slow = options.slow;
         if let Some(events) = events {
             state.set_margin(events);
@@ -269,6 +275,15 @@ impl Service {
     pub fn cause(&self, key: Key) -> Option<(Cause, Key)> {
         let (cause, origin) = self.0.lock().core.cause(key.words())?;
         Some((Cause::of(cause), Key::from(origin)))
+    }
+
+    /// The events so far as a transcript, after a remark with the number of pages; empty without
+    /// [`Options::transcript`]. The program reads it: `sysmem explain` says what each event did and why,
+    /// `sysmem draw` draws the trees as they are now. Makes no event. O(its length).
+    pub fn transcript(&self) -> String {
+        let state = self.0.lock();
+        let text = state.transcript.lock();
+        text.map_or_else(|_| String::new(), |text| text.clone())
     }
 
     /// Sets the node's label. An error has the label of its origin.

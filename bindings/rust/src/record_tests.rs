@@ -9,10 +9,7 @@ use things::{Dice, Things};
 
 /// The transcript of a crowd: the clients of one thread, four at a time.
 fn transcript() -> String {
-    let lines = Arc::new(Mutex::new(String::new()));
-    let to = lines.clone();
-    let record: Record = Arc::new(move |two| to.lock().unwrap().push_str(two));
-    let options = Options { pages: 256, record: Some(record), ..Options::default() };
+    let options = Options { pages: 256, transcript: true, ..Options::default() };
     let service = Service::open(options).unwrap();
     let mut dice = Dice(44);
     let mut clients: Vec<(Client, Things)> = Vec::new();
@@ -31,9 +28,7 @@ fn transcript() -> String {
     }
     drop(clients);
     assert_eq!((service.live(), service.held()), (Ok(vec![]), Ok(vec![])));
-    drop(service);
-    let lines = lines.lock().unwrap();
-    lines.clone()
+    service.transcript()
 }
 
 #[test]
@@ -55,7 +50,8 @@ fn labels_are_those_of_the_program_where_they_fit() {
     let lines = Arc::new(Mutex::new(String::new()));
     let to = lines.clone();
     let record: Record = Arc::new(move |two| to.lock().unwrap().push_str(two));
-    let service = Service::open(Options { record: Some(record), ..Options::default() }).unwrap();
+    let options = Options { record: Some(record), transcript: true, ..Options::default() };
+    let service = Service::open(options).unwrap();
     let (app, other) = (service.join_as("app").unwrap(), service.join_as("show").unwrap());
     let root = app.open_root("root").unwrap();
     let again = root.duplicate("root").unwrap();
@@ -70,4 +66,6 @@ fn labels_are_those_of_the_program_where_they_fit() {
          # app give n5 ?\n#   refused 1 NoSuchClient\n\
          app close n5\n  done\n"
     );
+    assert_eq!(service.transcript(), format!("# pages 16\n{told}"));
+    assert_eq!(Service::open(Options::default()).unwrap().transcript(), "");
 }

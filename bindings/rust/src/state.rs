@@ -78,6 +78,8 @@ pub(crate) struct State {
     pub memory: Option<Arc<crate::Memory>>,
     #[cfg(not(target_os = "linux"))]
     pub memory: Option<()>,
+    /// With `Options::transcript`.
+    pub transcript: Arc<Mutex<String>>,
     recorder: Option<Recorder>,
     /// Whether there is a wait, a recorder, or an end of a client with a descriptor.
     pub is_watched: bool,
@@ -121,6 +123,7 @@ impl State {
             seats: BTreeMap::new(),
             due: Vec::new(),
             memory: None,
+            transcript: Arc::default(),
             is_watched: record.is_some(),
             recorder: record.map(Recorder::new),
         }

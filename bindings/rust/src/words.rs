@@ -355,6 +355,18 @@ pub fn record_to(file: File) -> Record {
     })
 }
 
+/// A recorder that adds the lines to this text, and hands them on if there is another recorder.
+pub(crate) fn keep(text: Arc<Mutex<String>>, then: Option<Record>) -> Record {
+    Arc::new(move |lines| {
+        if let Ok(mut text) = text.lock() {
+            text.push_str(lines);
+        }
+        if let Some(then) = &then {
+            then(lines);
+        }
+    })
+}
+
 /// Writes the events to standard error.
 pub(crate) fn record_to_error() -> Record {
     Arc::new(|lines| {
@@ -386,6 +398,9 @@ pub struct Options {
     /// service. Where it panics, the transcript ends. [`record_to`] makes a recorder. Without one, and
     /// with SYSMEM_DEBUG=1 in the environment, the events are written to standard error.
     pub record: Option<Record>,
+    /// Whether the service keeps its transcript for [`Service::transcript`](crate::Service::transcript):
+    /// some 50 bytes an event.
+    pub transcript: bool,
     /// The pool's memory. It has at least as many pages as the pool.
     #[cfg(target_os = "linux")]
     pub memory: Option<Arc<crate::Memory>>,
@@ -405,6 +420,7 @@ impl fmt::Debug for Options {
             .field("handles", &self.handles)
             .field("seed", &self.seed.is_some())
             .field("record", &self.record.is_some())
+            .field("transcript", &self.transcript)
             .field("slow", &self.slow)
             .finish_non_exhaustive()
     }
@@ -421,6 +437,7 @@ impl Default for Options {
             handles: 65_536,
             seed: None,
             record: None,
+            transcript: false,
             #[cfg(target_os = "linux")]
             memory: None,
             slow: Duration::from_secs(5),

@@ -323,13 +323,16 @@ fn recorder_that_panics_ends_the_transcript() {
             std::panic::resume_unwind(Box::new("no more"));
         }
     });
-    let service = Service::open(Options { record: Some(record), ..Options::default() }).unwrap();
+    let options = Options { record: Some(record), transcript: true, ..Options::default() };
+    let service = Service::open(options).unwrap();
     let a = service.join().unwrap();
     let root = a.open_root("").unwrap(); // its recording panics
     assert_eq!(service.live(), Ok(vec![root.key()]));
     drop((root, a));
     assert_eq!((service.live(), service.is_settled()), (Ok(vec![]), true));
     assert_eq!(calls.load(Ordering::SeqCst), 2);
+    let kept = "# pages 16\nc1 join\n  joined\nc1 open n2\n  token n2\n";
+    assert_eq!(service.transcript(), kept);
 }
 
 /// Run again as a program of its own: what it writes to standard error.
