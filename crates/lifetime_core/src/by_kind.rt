@@ -1,8 +1,8 @@
 //! One function, compiled once for each kind of call. There the compiler knows the call, and leaves out each
 //! test of it, and what only other calls need. For this, each function on the way that reads the call by
 //! reference is marked `inline(always)`. The toolchain silently drops such a mark from a function of more
-//! than some 6,000 lines of LLVM's language. To decide a call and to make it are therefore two methods of
-//! the core, which meet only here.
+//! than some 6,000 lines of LLVM's language. To decide a call and to make it are therefore methods of the
+//! core, which meet only here. A call that is answered before its effect leaves first.
 ghost use Rattle.std.specs.Prelude.{◌≡◌};
 ghost use Rattle.sm_names.specs.declared.messages.Call.{Call as Made};
 ghost use Rattle.core_state.specs.Theorem.{Stepped};
@@ -23,7 +23,10 @@ fn take_one<F: FnOnce() -> Call>(
         Stepped core.old core.new client call result }
 {
     let call = known();
-    let decision = core.decide(client, &call);
+    if let Some(reply) = core.early_answer(client, &call) {
+        return core.commit_early(client, call, reply);
+    }
+    let decision = core.decide_effect(client, &call);
     core.commit(client, &call, &decision)
 }
 

@@ -1,6 +1,6 @@
 //! Every call on one state.
 ghost use Rattle.std.specs.Prelude.{◌≡◌, ◌+◌, ◌<◌, ◌≤◌, ◌↔◌, ◌∷◌, ◌++◌, ◌==◌, nat_le};
-ghost use Rattle.std.specs.Prelude.{[], List, length, slice_get, option_map, if◌then◌else◌, IfOk, IfErr, IfSome};
+ghost use Rattle.std.specs.Prelude.{[], List, length, slice_get, option_map, if◌then◌else◌, IfOk, IfErr, IfSome, IfNone};
 ghost use Rattle.std.specs.Prelude.{OnErr, OnOk, false, true, None, Some, is_some, option_copied};
 ghost use Rattle.sm_names.specs.declared.keys.BufferName.{BufferName as Buffer};
 ghost use Rattle.sm_names.specs.declared.keys.NodeKey.{NodeKey as Key};
@@ -8,6 +8,7 @@ ghost use Rattle.sm_names.specs.declared.keys.Strength.{Strength};
 ghost use Rattle.sm_names.specs.declared.tracking.Fired.{Fired};
 ghost use Rattle.sm_names.specs.declared.messages.Reply.{Reply};
 ghost use Rattle.sm_names.specs.Answers.{IsAnswer, is_at_limit};
+ghost use Rattle.sm_names.specs.Answers.{answer as answer_of, effect as effect_of};
 ghost use Rattle.sm_names.specs.Handles.{is_doomed};
 ghost use Rattle.sm_names.specs.Marks.{Entry};
 ghost use Rattle.sm_names.specs.Members.{some_strong_live};
@@ -19,11 +20,12 @@ ghost use Rattle.trackers.specs.Table.{empty, is_untaken, reader_of, cell_of, wi
 ghost use Rattle.forest_store.specs.Forest.{empty_forest, given, node_count, node_at};
 ghost use Rattle.forest_store.specs.Forest.{Collection as CollectionValue, collection_at};
 ghost use Rattle.forest_store.specs.Nodes.{is_of, is_spent, members_of};
-ghost use Rattle.forest_store.specs.Settling.{MayChange, collection_or_new};
+ghost use Rattle.forest_store.specs.Settling.{MayChange, collection_or_new, no_key};
 ghost use Rattle.buffer_holds.specs.Counts.{total};
 ghost use Rattle.core_state.specs.Kinds.{fits_call, takes_no_memory};
 ghost use Rattle.core_state.specs.Reads.{buffers_in, end_in, open_end_of};
-ghost use Rattle.core_state.specs.Reads.{readings_of};
+ghost use Rattle.core_state.specs.Reads.{node_named, readings_of};
+ghost use Rattle.sm_names.specs.Timelines.{key_of as key_named};
 ghost use Rattle.core_state.specs.Shown.{Shows, ShowsBut, forgetting};
 ghost use Rattle.core_state.specs.Steps.{Follows, Work, leaves_tracker_room, work_of};
 ghost use Rattle.core_state.specs.State.{IsSame};
@@ -35,7 +37,8 @@ mod views;
 
 use crate::by_kind::dispatch;
 use crate::event::{Contents, take_effect};
-use crate::replies::answer;
+use crate::refusals::first_answer;
+use crate::replies::{answer, effect};
 use crate::sweeping::{place_to_sweep, sweep, tracking_of};
 use crate::task::{put_end, task_of};
 use alloc_event::{Change, Forest, Node};
@@ -360,16 +363,66 @@ impl Core {
         }
     }
 
-    // Decides the call: its answer, except for the key of a new node, and its effect. Looks the named
-    // node up once.
+    // The answer that comes before the effect of the call, if there is one. `None` for a Close that is
+    // answered Done, since it takes effect.
     #[inline(always)]
-    pub(crate) fn decide(&self, client: ClientId, call: &Call) -> Decision
+    pub(crate) fn early_answer(&self, client: ClientId, call: &Call) -> Option<Reply>
+        ensures answer { IfSome result (λ reply. reply
+            ≡ answer_of self.now.limits (readings_of self.now) client no_key call.now) }
+        ensures effect { IfNone result (effect_of (readings_of self.now) client no_key call.now
+            ≡ answer_of self.now.limits (readings_of self.now) client no_key call.now) }
+    {
+        let node = self.named(key_of(call));
+        let traits = traits_of(call);
+        let reply = first_answer(self, client, call, &traits, with_end(node))?;
+        match (*call, reply) {
+            (Call::Close(_), Reply::Done) => None,
+            _ => Some(reply),
+        }
+    }
+
+    // Decides a call that no answer before its effect answers. Tests nothing that `early_answer` tested.
+    #[inline(always)]
+    pub(crate) fn decide_effect(&self, client: ClientId, call: &Call) -> Decision
+        requires { effect_of (readings_of self.now) client no_key call.now
+            ≡ answer_of self.now.limits (readings_of self.now) client no_key call.now }
+        ensures { IsDecision self.now client call.now result }
+    {
+        let named = key_of(call);
+        let node = self.named(named);
+        let reply = effect(self, client, NO_KEY, call, with_end(node));
+        self.decide_answered(client, call, reply, named, node)
+    }
+
+    // Decides the call: its answer, except for the key of a new node, and its effect.
+    #[inline(always)]
+    fn decide(&self, client: ClientId, call: &Call) -> Decision
         ensures { IsDecision self.now client call.now result }
     {
         let named = key_of(call);
         let node = self.named(named);
         let traits = traits_of(call);
         let reply = answer(self, client, NO_KEY, call, &traits, with_end(node));
+        self.decide_answered(client, call, reply, named, node)
+    }
+
+    // Decides what a call with this answer does. `named` is the key of the node that the call names,
+    // `node` this node, if it is kept.
+    #[inline(always)]
+    fn decide_answered(
+        &self,
+        client: ClientId,
+        call: &Call,
+        reply: Reply,
+        named: Option<NodeKey>,
+        node: Option<&Node>,
+    ) -> Decision
+        requires key { key_named call.now ≡ named }
+        requires node { option_copied node ≡ node_named self.now call.now }
+        requires answered { reply
+            ≡ answer_of self.now.limits (readings_of self.now) client no_key call.now }
+        ensures { IsDecision self.now client call.now result }
+    {
         let task = task_of(self, client, call, &reply, named, node);
         let tracking = tracking_of(self, call, &reply, node);
         Decision {
@@ -379,7 +432,26 @@ impl Core {
         }
     }
 
-    // Makes the call that `decide` has decided, as `step` says.
+    // Makes a call with an answer that came before its effect, as `step` says. Compiled once, so that
+    // no kind of call has its code beside that of the effect.
+    #[cold]
+    #[inline(never)]
+    pub(crate) fn commit_early(
+        &mut self,
+        client: ClientId,
+        call: Call,
+        reply: Reply,
+    ) -> Result<Reply, StepFault>
+        requires { reply ≡ answer_of self.old.limits (readings_of self.old) client no_key call }
+        ensures { Stepped self.old self.new client call result }
+    {
+        let named = key_of(&call);
+        let node = self.named(named);
+        let decision = self.decide_answered(client, &call, reply, named, node);
+        self.commit(client, &call, &decision)
+    }
+
+    // Makes the call that was decided so, as `step` says.
     #[inline(always)]
     pub(crate) fn commit(
         &mut self,

@@ -86,9 +86,15 @@ fn collect(core: &Core, client: ClientId) -> Reply
     }
 }
 
-// The answer of a call that takes effect; a new node gets this key.
+/// The answer of a call that takes effect; a new node gets this key.
 #[inline(always)]
-fn effect(core: &Core, client: ClientId, new: NodeKey, call: &Call, node: Option<&Node>) -> Reply
+pub(crate) fn effect(
+    core: &Core,
+    client: ClientId,
+    new: NodeKey,
+    call: &Call,
+    node: Option<&Node>,
+) -> Reply
     requires { end_named (readings_of core.now) call.now
         ≡ option_map (open_end_of core.now) (option_copied node) }
     ensures { result ≡ effect_of (readings_of core.now) client new call.now }
