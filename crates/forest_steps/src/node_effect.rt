@@ -224,9 +224,7 @@ pub fn work_out(nodes: &NodeStore, entry: &Entry, key: NodeKey, effect: Effect) 
     ensures effect { result.effect ≡ effect }
     ensures worked { IsWorkedOut nodes.now entry.now result }
 {
-    let Some(node) = nodes.table.get(key) else {
-        unreachable!();
-    };
+    let node = nodes.table.kept(key);
     let counts = counts_after(nodes, entry, node, key, &effect);
     NodeEffect {
         key,
@@ -236,17 +234,17 @@ pub fn work_out(nodes: &NodeStore, entry: &Entry, key: NodeKey, effect: Effect) 
 }
 
 /// Makes the effect on the node with this key.
+#[inline(always)]
 fn affect_at(table: &mut NodeTable<Node>, key: NodeKey, effect: &Effect)
-    requires { (n : NodeValue) → node_at table.old key ≡ Some n →
+    requires there { IsSome (row_at table.old key) }
+    requires room { (n : NodeValue) → node_at table.old key ≡ Some n →
         has_tracker_room key effect.now n ≡ true }
     ensures becomes { (n : NodeValue) → node_at table.old key ≡ Some n →
         table.new ≡ table_with_node table.old key (affected key effect.now n) }
     ensures writes { (n : NodeValue) → node_at table.old key ≡ Some n →
         Writes table.old table.new key (affected key effect.now n) }
 {
-    if let Some(node) = table.get_mut(key) {
-        affect_one(node, key, effect);
-    }
+    affect_one(table.kept_mut(key), key, effect);
 }
 
 /// Makes the effect on its node, and writes what is counted then, of the node's unit and of its

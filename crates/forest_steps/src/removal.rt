@@ -13,7 +13,7 @@ use forest_store::entry::Entry;
 use forest_store::garbage::note_gone;
 use forest_store::loss_marks::Going;
 use forest_store::node::Node;
-use forest_store::removed_nodes::{decrement_all, mark_all_gone, recount};
+use forest_store::removed_nodes::remove_all;
 use forest_store::reserved::without;
 use forest_store::store::NodeStore;
 use node_table::NodeTable;
@@ -53,12 +53,10 @@ fn remove_taken(
 {
     fall_into(&nodes.table, origin, keys).unwrap();
     let above = head_over(&nodes.table, keys);
-    let found = recount(&nodes.table, keys);
-    decrement_all(&nodes.table, &mut nodes.units, keys);
-    let over = mark_all_gone(&mut nodes.table, keys, going);
-    entry.strong = entry.strong.saturating_sub(found.strong);
-    entry.reserved = without(entry.reserved, found.reserved);
-    note_gone(&nodes.table, entry, keys, over);
+    let removed = remove_all(&mut nodes.table, &mut nodes.units, keys, going);
+    entry.strong = entry.strong.saturating_sub(removed.strong);
+    entry.reserved = without(entry.reserved, removed.reserved);
+    note_gone(&nodes.table, entry, keys, removed.over);
     above
 }
 

@@ -68,15 +68,15 @@ fn name(node: &mut Node, key: NodeKey)
 }
 
 /// The node is given its key in the table.
+#[inline(always)]
 fn name_at(table: &mut NodeTable<Node>, key: NodeKey)
+    requires { IsSome (row_at table.old key) }
     ensures becomes { (n : NodeValue) → node_at table.old key ≡ Some n →
         table.new ≡ table_with_node table.old key (named key n) }
     ensures writes { (n : NodeValue) → node_at table.old key ≡ Some n →
         Writes table.old table.new key (named key n) }
 {
-    if let Some(node) = table.get_mut(key) {
-        name(node, key);
-    }
+    name(table.kept_mut(key), key);
 }
 
 /// Stores the node under a key that was never given.

@@ -1,11 +1,11 @@
 //! Removal of nodes: what their counts lose, and how each is marked gone in the table.
-ghost use Rattle.std.specs.Prelude.{◌≡◌, ◌≢◌, ◌∷◌, [], Some, None, map, false};
+ghost use Rattle.std.specs.Prelude.{◌≡◌, ◌≢◌, ◌≤◌, ◌∷◌, [], Some, None, IsSome, map, false};
 ghost use Rattle.std.specs.List.{AllPairs, list_any};
 ghost use Rattle.std.specs.Option.{option_map_or};
 ghost use Rattle.sm_names.specs.declared.keys.NodeKey.{NodeKey as Key};
 ghost use Rattle.node_table.specs.Changes.{Writes};
 ghost use Rattle.node_table.specs.Lending.{table_with_node};
-ghost use Rattle.node_table.specs.Table.{node_at};
+ghost use Rattle.node_table.specs.Table.{node_at, row_at};
 ghost use Rattle.forest_store.specs.declared.node.Node.{Node as NodeValue};
 ghost use Rattle.forest_store.specs.Calm.{strong_count};
 ghost use Rattle.forest_store.specs.LossMarks.{gone_by, unreckoned};
@@ -49,62 +49,118 @@ pub fn recount(table: &NodeTable<Node>, keys: &[NodeKey]) -> Recounted
     found
 }
 
-/// Takes the node with this key from the counts, if it is there and not gone: from those of its
-/// unit, and, if it heads the unit, from those of the unit right above.
-fn decrement_for(table: &NodeTable<Node>, units: &mut Vec<Unit>, key: NodeKey)
-    ensures { units.new.items
-        ≡ unreckoned table.now (nodes_with table.now (key ∷ [])) units.old.items }
-{
-    if let Some(node) = table.get(key) {
-        if !node.gone {
-            uncount(units, node);
-        }
-        uncount_below(units, head_above(table, node));
-    }
+/// What the removal of nodes takes.
+#[derive(Clone, Copy)]
+pub struct Removed {
+    /// How many of them were strong and live.
+    pub strong: usize,
+    /// How many reserved buffers they camped on.
+    pub reserved: u128,
+    /// One of them is dead now.
+    pub over: bool,
 }
 
-/// Takes the nodes with these keys from the counts of their units and of those right above.
-pub fn decrement_all(table: &NodeTable<Node>, units: &mut Vec<Unit>, keys: &[NodeKey])
-    ensures { units.new.items
-        ≡ unreckoned table.now (nodes_with table.now keys.now) units.old.items }
+/// Subtracts the node from the counts of its unit, if it is not gone, and, if it heads the unit, from
+/// those of the unit right above.
+#[inline(always)]
+fn decrement(table: &NodeTable<Node>, units: &mut Vec<Unit>, node: &Node)
+    ensures { units.new.items ≡ unreckoned table.now (node.now ∷ []) units.old.items }
 {
-    for key in keys {
-        decrement_for(table, units, *key);
+    if !node.gone {
+        uncount(units, node);
     }
+    uncount_below(units, head_above(table, node));
 }
 
-/// Marks the node with this key gone, if it is there. Answers whether it is dead then.
+/// Marks the node with this key gone. Answers whether it is dead then.
+#[inline(always)]
 fn mark_gone(table: &mut NodeTable<Node>, key: NodeKey, going: &Going) -> bool
+    requires { IsSome (row_at table.old key) }
+    ensures becomes { (n : NodeValue) → node_at table.old key ≡ Some n →
+        table.new ≡ table_with_node table.old key (gone_by going.now n) }
+    ensures writes { (n : NodeValue) → node_at table.old key ≡ Some n →
+        Writes table.old table.new key (gone_by going.now n) }
+    ensures over { (n : NodeValue) → node_at table.old key ≡ Some n →
+        result ≡ is_over (gone_by going.now n) }
+{
+    let node = table.kept_mut(key);
+    go(node, going);
+    is_over(node)
+}
+
+/// Subtracts the node with this key from the counts of units, and marks it gone. Without such a node
+/// nothing changes.
+#[inline(always)]
+fn remove(
+    table: &mut NodeTable<Node>,
+    units: &mut Vec<Unit>,
+    key: NodeKey,
+    going: &Going,
+) -> Removed
+    ensures strong { result.strong ≡ strong_count (nodes_with table.old (key ∷ [])) }
+    ensures one { result.strong ≤ 1 }
+    ensures reserved { result.reserved ≡ reserved_count (nodes_with table.old (key ∷ [])) }
+    ensures few { result.reserved ≤ 255 }
+    ensures units { units.new.items
+        ≡ unreckoned table.old (nodes_with table.old (key ∷ [])) units.old.items }
     ensures none { node_at table.old key ≡ None → table.new ≡ table.old }
     ensures becomes { (n : NodeValue) → node_at table.old key ≡ Some n →
         table.new ≡ table_with_node table.old key (gone_by going.now n) }
     ensures writes { (n : NodeValue) → node_at table.old key ≡ Some n →
         Writes table.old table.new key (gone_by going.now n) }
-    ensures over { result
+    ensures over { result.over
         ≡ option_map_or (λ n. is_over (gone_by going.now n)) (node_at table.old key) false }
 {
-    match table.get_mut(key) {
-        Some(node) => {
-            go(node, going);
-            is_over(node)
-        }
-        None => false,
+    let Some(node) = table.get(key) else {
+        return Removed {
+            strong: 0,
+            reserved: 0,
+            over: false,
+        };
+    };
+    let strong = is_strong(node) as usize;
+    let reserved = camped(node, node.constraints) as u128;
+    decrement(table, units, node);
+    let over = mark_gone(table, key, going);
+    Removed {
+        strong,
+        reserved,
+        over,
     }
 }
 
-/// Marks the nodes with these keys gone. Answers whether one of them is dead then. Takes O(n).
-pub fn mark_all_gone(table: &mut NodeTable<Node>, keys: &[NodeKey], going: &Going) -> bool
+/// Removes the nodes with these keys: subtracts each from the counts of its unit, and, if it heads the
+/// unit, from those of the unit right above, and marks it gone. Reads each node once. Answers what the
+/// counts of the collection lose with them, and whether one of them is dead then. Takes O(n).
+pub fn remove_all(
+    table: &mut NodeTable<Node>,
+    units: &mut Vec<Unit>,
+    keys: &[NodeKey],
+    going: &Going,
+) -> Removed
     requires named { AreNamed table.old }
     requires once { AllPairs (λ (a b : Key). a ≢ b) keys.now }
+    ensures strong { result.strong ≡ strong_count (nodes_with table.old keys.now) }
+    ensures reserved { result.reserved ≡ reserved_count (nodes_with table.old keys.now) }
+    ensures units { units.new.items
+        ≡ unreckoned table.old (nodes_with table.old keys.now) units.old.items }
     ensures stores { Stores table.old table.new (map (gone_by going.now)
         (nodes_with table.old keys.now)) }
-    ensures over { result
+    ensures over { result.over
         ≡ list_any is_over (map (gone_by going.now) (nodes_with table.old keys.now)) }
 {
+    let mut strong = 0;
+    let mut reserved = 0;
     let mut over = false;
     for key in keys {
-        let one = mark_gone(table, *key, going);
-        over = over || one;
+        let one = remove(table, units, *key, going);
+        strong += one.strong;
+        reserved += one.reserved;
+        over = over || one.over;
     }
-    over
+    Removed {
+        strong,
+        reserved,
+        over,
+    }
 }

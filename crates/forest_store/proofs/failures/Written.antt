@@ -1,5 +1,6 @@
 -- Nodes that are written as they go, one after another.
-use Rattle.forest_store.proofs.Common.{◌≡◌, ◌≢◌, ℕ, zero, suc, ◌<◌, Bool, true, false, ◌||◌, inl, if◌then◌else◌, List, [], ◌∷◌, ◌++◌, length, map, take, get_or, Option, Some, None, option_map, refl, ap, sym, ◌∙◌, subst, arith, cons_option, list_any, option_map_or, NodeKey, same_key, or_right, same_key-refl, Table, node_at, Node, nodes_with, is_over, map-append, filter_map-append, AllPairs, or_none_left, or_none_right, Writes, table_with_node, Going, gone_by, Stores, stored, append-nil, common_steps}
+use Rattle.forest_store.proofs.Common.{◌≡◌, ◌≢◌, ℕ, zero, suc, ◌<◌, Bool, true, false, ◌||◌, inl, if◌then◌else◌, List, [], ◌∷◌, ◌++◌, length, map, take, get_or, Option, Some, None, option_map, refl, ap, sym, ◌∙◌, subst, arith, cons_option, list_any, option_map_or, NodeKey, Unit, head_above, head_of, unreckoned, untallied, without_below, not, same_key, or_right, same_key-refl, Table, node_at, Node, nodes_with, is_over, map-append, filter_map-append, AllPairs, or_none_left, or_none_right, Writes, table_with_node, Going, gone_by, Stores, stored, append-nil, common_steps}
+use Rattle.forest_store.proofs.failures.GoneNodes.{same_of}
 use Rattle.forest_store.proofs.Basics.{gone_same, stored_goes, same_key-swap, Stores-more, first_once, rest_once}
 
 -- a key that is not among these is not the one that stands here
@@ -35,6 +36,34 @@ module _ (t : Table Node) (named : (key : NodeKey) (n : Node) → node_at t key 
           let none : list_any (same_key n.key) done ≡ false = ap (λ (j : NodeKey). list_any (same_key j) done) key ∙ apart in
           ap Some (stored_goes t named _ done n (ap (node_at t) key ∙ at) n (inl refl)
           ∙ (λ i. if none i then gone_by going n else n))
+
+  -- a removed node keeps its head
+  head_still : (p : NodeKey) → head_of u p ≡ head_of t p
+  head_still p = ap (option_map (λ (n : Node). n.head)) (stores.look p) ∙ by _ refl
+    where
+      by : (o : Option Node) → node_at t p ≡ o →
+          option_map (λ (n : Node). n.head) (option_map (stored went) o) ≡ option_map (λ (n : Node). n.head) o
+      by None at = refl
+      by (Some n) at =
+          let key : n.key ≡ p = named p n at in
+          ap Some (ap (λ (m : Node). m.head) (stored_goes t named _ done n (ap (node_at t) key ∙ at) n (inl refl))
+          ∙ (same_of going done n).head)
+
+  -- so the unit right above is the same
+  above_still : (n : Node) → head_above u n ≡ head_above t n
+  above_still n = ap (λ (o : Option NodeKey). if n.gone || not n.attached then None else o) (by n.parent)
+    where
+      by : (o : Option NodeKey) → option_map_or (head_of u) o None ≡ option_map_or (head_of t) o None
+      by None = refl
+      by (Some p) = head_still p
+
+  -- and the counts lose as much with the node of this key
+  pub counts_still : (us : List Unit) → unreckoned u (nodes_with u (k ∷ [])) us ≡ unreckoned t (nodes_with t (k ∷ [])) us
+  counts_still us = ap (λ (o : Option Node). unreckoned u (cons_option o []) us) still_there ∙ by (node_at t k)
+    where
+      by : (o : Option Node) → unreckoned u (cons_option o []) us ≡ unreckoned t (cons_option o []) us
+      by None = refl
+      by (Some n) = ap (λ (h : Option NodeKey). without_below h (untallied (n ∷ []) us)) (above_still n)
 
   -- with the node of one key more
   with_more : nodes_with t (done ++ k ∷ []) ≡ nodes_with t done ++ cons_option (node_at t k) []

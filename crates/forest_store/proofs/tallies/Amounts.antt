@@ -1,5 +1,5 @@
 -- Sums over nodes, of numbers or of tests that pass: where one node changed, or without some.
-use Rattle.forest_store.proofs.Common.{◌≤◌, ◌≡◌, ◌≢◌, ℕ, zero, suc, ◌+◌, Bool, true, false, inl, inr, List, [], ◌∷◌, map, filter, Option, Some, None, if◌then◌else◌, refl, sym, ap, ◌∙◌, arith, not-true, list_any, cons_option, NodeKey, same_key, times, In, and_left, and_right, both_ways, either_way, same_key-refl, same_key-true, In-any, AllPairs, Table, node_at, nodes_with, Node, is_of, are_distinct, bit, common_steps}
+use Rattle.forest_store.proofs.Common.{◌≤◌, ◌≡◌, ◌≢◌, ℕ, zero, suc, ◌+◌, Bool, true, false, inl, inr, List, [], ◌∷◌, map, filter, Option, Some, None, if◌then◌else◌, refl, sym, ap, ◌∙◌, arith, not-true, list_any, cons_option, NodeKey, same_key, times, In, and_left, and_right, both_ways, either_way, same_key-refl, same_key-true, In-any, times-append, AllPairs, Table, node_at, nodes_with, Node, is_of, are_distinct, bit, common_steps}
 use Rattle.std.proofs.lemmas.Map.Views.{Contains-from_any}
 use Rattle.forest_store.proofs.lists.Lookups.{same_key-swap}
 
@@ -20,6 +20,26 @@ bit_few b = grind arith
 pub times_is : (test : Node → Bool) (ns : List Node) → times test ns ≡ amount_of (λ n. bit (test n)) ns
 times_is test [] = refl
 times_is test (n ∷ ns) = omega (arith, times_more test n ns, times_is test ns)
+
+-- the first node, and then the others
+pub times_first : (test : Node → Bool) (t : Table Node) (k : NodeKey) (ks : List NodeKey) →
+    times test (nodes_with t (k ∷ ks)) ≡ times test (nodes_with t (k ∷ [])) + times test (nodes_with t ks)
+times_first test t k ks = from (node_at t k)
+  where
+    from : (o : Option Node) →
+        times test (cons_option o (nodes_with t ks)) ≡ times test (cons_option o []) + times test (nodes_with t ks)
+    from None = omega arith
+    from (Some n) = times-append test (n ∷ []) (nodes_with t ks)
+
+-- the same of how much
+pub amount_first : (amount : Node → ℕ) (t : Table Node) (k : NodeKey) (ks : List NodeKey) →
+    amount_of amount (nodes_with t (k ∷ ks)) ≡ amount_of amount (nodes_with t (k ∷ [])) + amount_of amount (nodes_with t ks)
+amount_first amount t k ks = from (node_at t k)
+  where
+    from : (o : Option Node) →
+        amount_of amount (cons_option o (nodes_with t ks)) ≡ amount_of amount (cons_option o []) + amount_of amount (nodes_with t ks)
+    from None = omega arith
+    from (Some n) = omega arith
 
 -- by induction: each node counts as much
 pub amount_same : (p q : Node → ℕ) (ns : List Node) → ((n : Node) → In n ns → p n ≡ q n) → amount_of p ns ≡ amount_of q ns

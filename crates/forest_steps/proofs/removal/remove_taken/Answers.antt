@@ -4,7 +4,7 @@ use Rattle.forest_steps.proofs.tables.Rows.{still_named}
 use Rattle.forest_steps.proofs.removal.remove_taken.Goals as goal
 
 pub note_gone-requires-clause-named : goal.note_gone-requires-clause-named
-note_gone-requires-clause-named c = still_named c.requires.named c.mark_all_gone-over.ensures.stores
+note_gone-requires-clause-named c = still_named c.requires.named c.remove_all-removed.ensures.stores
 
 pub note_gone-requires-clause-over : goal.note_gone-requires-clause-over
 note_gone-requires-clause-over c = grind (arith, went_now)
@@ -12,24 +12,25 @@ note_gone-requires-clause-over c = grind (arith, went_now)
 pub returns-clause-gone : goal.returns-clause-gone
 returns-clause-gone c =
     let t = c.args.nodes.now.table in
-    let now = c.mark_all_gone-over.new.table in
+    let now = c.remove_all-removed.new.table in
     record {
       taken = search rules;
       forest = search rules;
-      stores = rw c.deref-4.ensures.value at
-          c.mark_all_gone-over.ensures.stores;
-      units = c.decrement_all.ensures ∙ ap (λ ks. unreckoned t (nodes_with t ks) c.args.nodes.now.units.items) c.deref-3.ensures.value;
+      stores = rw c.deref-2.ensures.value at
+          c.remove_all-removed.ensures.stores;
+      units = c.remove_all-removed.ensures.units
+          ∙ ap (λ ks. unreckoned t (nodes_with t ks) c.args.nodes.now.units.items) c.deref-2.ensures.value;
       shelf = c.note_gone.ensures.entry.shelf;
       strong = c.note_gone.ensures.entry.strong ∙ (c.saturating_sub-entry.ensures
-          ∙ ap (λ k. c.args.entry.now.strong - k) (c.recount-found.ensures.strong
+          ∙ ap (λ k. c.args.entry.now.strong - k) (c.remove_all-removed.ensures.strong
           ∙ ap (λ ks. strong_count (nodes_with t ks)) c.deref-2.ensures.value));
       reserved = λ left is. c.note_gone.ensures.entry.reserved ∙ c.without-entry.ensures left
-          (ap (λ k. left + k) (c.recount-found.ensures.reserved
+          (ap (λ k. left + k) (c.remove_all-removed.ensures.reserved
           ∙ ap (λ ks. reserved_count (nodes_with t ks)) c.deref-2.ensures.value) ∙ is);
       garbage_known = c.note_gone.ensures.entry.garbage_known;
       more = c.note_gone.ensures.entry.more;
       over = λ h. ap (λ ks. list_any (over_except c.note_gone.new.entry.garbage.items) (nodes_with now ks))
-          (sym c.deref-5.ensures.value) ∙ c.note_gone.ensures.over h;
+          (sym c.deref-3.ensures.value) ∙ c.note_gone.ensures.over h;
     }
 
 pub returns-clause-above : goal.returns-clause-above

@@ -3,6 +3,9 @@ use Rattle.forest_store.proofs.Common.{option_map, refl, ap, Node, Row}
 use Rattle.forest_store.proofs.newborns.Bearing.{bears_node}
 use Rattle.forest_store.proofs.insertion.insert_node.Goals as goal
 
+pub name_at-requires : goal.name_at-requires
+name_at-requires c = rw c.in_ok-key.ensures.ok.born refl
+
 pub returns-clause-ok : goal.returns-clause-ok
 returns-clause-ok c =
     let births = c.in_ok-key.ensures.ok in
