@@ -15,6 +15,7 @@ with no edit has a fault of its own, then the check decides only the edits of fu
 An edit that takes away what an answer names is refused for that alone, and the line says so: change a value, keep the names.
 The contract of a law, a function with no body, is tried so too, in checks of laws alone, where no proof file of one cites
 another. An edit of any other contract or of a definition is tried alone, in a check of the whole crate.
+An edit that begins with '# ERROR', as '# mismatched-types', is refused if it does not compile for this error alone.
 
 In the environment, RT names another command than rt, EDITS_ROOM the folder that the copies are made in, and
 EDITS_SAID a folder for what each check says.
@@ -44,6 +45,7 @@ ERROR = re.compile(r"^(?:\./)?proofs/(\S+)/\w+\.antt:\d+:\d+: error: (.*)$", re.
 ELSEWHERE = re.compile(r"rejected|not checked|not admitted|no module|cannot be imported")
 NAMED = re.compile(r"has no field|has no `|is not in scope")
 REACHED = re.compile(r"^(?:logic=not-proved|only=)", re.M)
+NOT_COMPILED = re.compile(r"^\S+: error\[([\w-]+)\]: .*$", re.M)
 
 
 def owner_of(lines, line, indent):
@@ -187,8 +189,11 @@ class Crate:
             return f"BAD EDIT: {fault}"
         if status == 0:
             return "NOT REFUSED"
-        if not REACHED.search(said):
-            return f"BAD EDIT: it did not reach the prover: {' '.join(said.splitlines()[:3])[:300]}"
+        errors, wanted = list(NOT_COMPILED.finditer(said)), edit.read_text(encoding="utf-8").partition("\n")[0]
+        if errors and all(wanted == f"# {it[1]}" for it in errors):
+            return f"refused: {errors[0][0][:150]}"
+        if not REACHED.search(said) or wanted.startswith("# "):
+            return f"BAD EDIT: it does not fail as it should: {' '.join(said.splitlines()[:3])[:300]}"
         first = next((it for it in said.splitlines() if ": error" in it or "not proved" in it), "")
         refused = functions & Answer(said).faults
         return Answer(said).refusal(refused) if refused else f"refused: {first[:150]}"

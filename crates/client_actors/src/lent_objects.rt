@@ -47,7 +47,7 @@ fn on_end<K, E: Setup, S: Ledger, W: Ledger, R: Wait>(
     rt: &R,
     service: &Service<E, S, W>,
     client: &mut Client<E, S, W>,
-    end: &EndOf<K>,
+    end: &EndOf<K, E>,
     call: Call,
 ) -> Result<NewObjects<E, S, W>, StepFault>
     requires holder { end.now.client ≡ client.old.id }
@@ -83,7 +83,7 @@ pub(crate) fn on_token<E: Setup, S: Ledger, W: Ledger, R: Wait>(
     rt: &R,
     service: &Service<E, S, W>,
     client: &mut Client<E, S, W>,
-    token: &TokenEnd,
+    token: &TokenEnd<E>,
     call: Call,
 ) -> Result<NewObjects<E, S, W>, StepFault>
     requires holder { token.now.client ≡ client.old.id }
@@ -113,7 +113,7 @@ pub(crate) fn on_collection<E: Setup, S: Ledger, W: Ledger, R: Wait>(
     alloc: Global,
     service: &Service<E, S, W>,
     client: &mut Client<E, S, W>,
-    collection: &CollectionEnd,
+    collection: &CollectionEnd<E>,
     call: Call,
 ) -> Result<NewObjects<E, S, W>, StepFault>
     requires holder { collection.now.client ≡ client.old.id }

@@ -17,9 +17,9 @@ fn spend_end<K, E: Setup, S: Ledger, W: Ledger, R: Wait>(
     rt: &R,
     service: &Service<E, S, W>,
     client: &mut Client<E, S, W>,
-    end: EndOf<K>,
+    end: EndOf<K, E>,
     call: Call,
-) -> Result<(), Kept<EndOf<K>>>
+) -> Result<(), Kept<EndOf<K, E>>>
     requires holder { end.client ≡ client.old.id }
     requires fits { FitsEnd end.key call }
     requires spends { may_spend call ≡ true }
@@ -65,9 +65,9 @@ fn spend_token<E: Setup, S: Ledger, W: Ledger, R: Wait>(
     rt: &R,
     service: &Service<E, S, W>,
     client: &mut Client<E, S, W>,
-    token: TokenEnd,
+    token: TokenEnd<E>,
     call: Call,
-) -> Result<NewObjects<E, S, W>, Kept<TokenEnd>>
+) -> Result<NewObjects<E, S, W>, Kept<TokenEnd<E>>>
     requires holder { token.client ≡ client.old.id }
     requires fits { FitsToken token.key call }
     requires spends { may_spend call ≡ true }

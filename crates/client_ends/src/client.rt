@@ -156,7 +156,7 @@ impl<E: Setup, S: Ledger, W: Ledger> Client<E, S, W> {
         rt: &R,
         service: &Service<E, S, W>,
         call: Call,
-    ) -> Result<TokenEnd, Why>
+    ) -> Result<TokenEnd<E>, Why>
         requires { moves_no_handle call ≡ true }
         ensures { MatchResult result
             (λ t. (t.client ≡ self.old.id)
@@ -449,7 +449,7 @@ impl<E: Setup, S: Ledger, W: Ledger> Client<E, S, W> {
         &mut self,
         rt: &R,
         service: &Service<E, S, W>,
-    ) -> Result<TokenEnd, Why>
+    ) -> Result<TokenEnd<E>, Why>
         ensures { MatchResult result
             (λ t. (t.client ≡ self.old.id)
             × Made self.old self.new Asked.OpenRoot (Told.Token t.key t.collection))

@@ -16,15 +16,15 @@ use std::sync::Wait;
 use std::sync::ledger::Ledger;
 use trackers::Tracker;
 
-impl CollectionEnd {
+impl<E: Setup> CollectionEnd<E> {
     /// Makes an attached child token (`fuchsia.sysmem2.BufferCollection.AttachToken`). Costs one
     /// event.
-    pub fn attach_token<E: Setup, S: Ledger, W: Ledger, R: Wait>(
+    pub fn attach_token<S: Ledger, W: Ledger, R: Wait>(
         &self,
         rt: &R,
         service: &Service<E, S, W>,
         client: &mut Client<E, S, W>,
-    ) -> Result<TokenEnd, Why>
+    ) -> Result<TokenEnd<E>, Why>
         requires holder { self.now.client ≡ client.old.id }
         ensures { MatchResult result
             (λ t. (t.client ≡ client.old.id) × Made client.old client.new
@@ -36,7 +36,7 @@ impl CollectionEnd {
 
     /// Says what the node asks of the buffers (`fuchsia.sysmem2.BufferCollection.SetConstraints`).
     /// Costs one event.
-    pub fn set_constraints<E: Setup, S: Ledger, W: Ledger, R: Wait>(
+    pub fn set_constraints<S: Ledger, W: Ledger, R: Wait>(
         &self,
         rt: &R,
         service: &Service<E, S, W>,
@@ -53,7 +53,7 @@ impl CollectionEnd {
 
     /// Asks whether the node's unit is allocated: Allocated, or Pending
     /// (`fuchsia.sysmem2.BufferCollection.CheckAllBuffersAllocated`). Costs one event.
-    pub fn check<E: Setup, S: Ledger, W: Ledger, R: Wait>(
+    pub fn check<S: Ledger, W: Ledger, R: Wait>(
         &self,
         rt: &R,
         service: &Service<E, S, W>,
@@ -73,7 +73,7 @@ impl CollectionEnd {
     ///
     /// `NoMemory` also if there is no room for `MAX_BUFFERS` handles, which the call asks for before the
     /// event. Costs one event and a look at each bit of a set.
-    pub fn take<E: Setup, S: Ledger, W: Ledger, R: Wait>(
+    pub fn take<S: Ledger, W: Ledger, R: Wait>(
         &self,
         rt: &R,
         alloc: Global,
@@ -92,7 +92,7 @@ impl CollectionEnd {
     /// the collection are not home, or once the node is gone before that allocation
     /// (`fuchsia.sysmem2.BufferCollection.AttachLifetimeTracking`). Its reader takes no lock. Costs one
     /// event, and a binary search among all trackers.
-    pub fn track_lifetime<E: Setup, S: Ledger, W: Ledger, R: Wait>(
+    pub fn track_lifetime<S: Ledger, W: Ledger, R: Wait>(
         &self,
         rt: &R,
         service: &Service<E, S, W>,

@@ -29,12 +29,12 @@ pub(crate) enum Drafted {
 ///
 /// A contract sees the token, and the calls in order. Drafting takes no lock and makes no event: `sync`
 /// makes the calls.
-pub struct Draft {
-    token: TokenEnd,
+pub struct Draft<E> {
+    token: TokenEnd<E>,
     calls: VecDeque<Drafted>,
 }
 
-impl Model for Draft {
+impl<E> Model for Draft<E> {
     ghost use Rattle.client_ends.specs.Drafts.{Sketch, drafted_calls};
 
     ghost Value = { Sketch };
@@ -46,22 +46,22 @@ impl Model for Draft {
 }
 
 /// The results of the calls that were made: the new ends, and all replies, in order.
-pub struct Part {
-    pub made: Vec<TokenEnd>,
+pub struct Part<E> {
+    pub made: Vec<TokenEnd<E>>,
     pub replies: Vec<Reply>,
 }
 
 /// The results of a whole draft: its token, the new ends, and all replies in order, that of the Sync
 /// last.
-pub struct Synced {
-    pub token: TokenEnd,
-    pub made: Vec<TokenEnd>,
+pub struct Synced<E> {
+    pub token: TokenEnd<E>,
+    pub made: Vec<TokenEnd<E>>,
     pub replies: Vec<Reply>,
 }
 
-impl TokenEnd {
+impl<E: Setup> TokenEnd<E> {
     /// Makes a draft of the token, without a call. Takes no lock and no memory, and makes no event.
-    pub fn draft(self, alloc: Global) -> Draft
+    pub fn draft(self, alloc: Global) -> Draft<E>
         ensures { result ≡ record { token = self; calls = [] } }
     {
         Draft {
@@ -71,7 +71,7 @@ impl TokenEnd {
     }
 }
 
-impl Draft {
+impl<E: Setup> Draft<E> {
     /// The client that holds the token. Takes no lock.
     pub fn client(&self) -> ClientId
         ensures { result ≡ self.now.token.client }
@@ -131,7 +131,7 @@ impl Draft {
     }
 
     /// Gives the token back, without making the drafted calls. Makes no event, and takes no lock.
-    pub fn abandon(self) -> TokenEnd
+    pub fn abandon(self) -> TokenEnd<E>
         ensures { result ≡ self.token }
     {
         let Draft { token, calls: _ } = self;
@@ -145,13 +145,13 @@ impl Draft {
     /// that has the other calls. `HistoryFull` and `NoMemory` are answered as for one event, `NoMemory`
     /// also, before all events, if there is no room for the ends and replies. Costs one event for each
     /// call, and one for the Sync.
-    pub fn sync<E: Setup, S: Ledger, W: Ledger, R: Wait>(
+    pub fn sync<S: Ledger, W: Ledger, R: Wait>(
         self,
         rt: &R,
         alloc: Global,
         service: &Service<E, S, W>,
         client: &mut Client<E, S, W>,
-    ) -> Result<Synced, (Draft, Part, StepFault)>
+    ) -> Result<Synced<E>, (Draft<E>, Part<E>, StepFault)>
         requires holder { self.token.client ≡ client.old.id }
         ensures { MatchResult result
             (λ s. IsSynced client.old client.new self s.token s.replies.items s.made.items)
@@ -163,12 +163,12 @@ impl Draft {
 
     // Does what `sync` does, under a lock that is held.
     #[tactic(auto, using(crate::proofs::DraftLaws::stopped_none))]
-    fn sync_in<E: Setup, S: Ledger, W: Ledger>(
+    fn sync_in<S: Ledger, W: Ledger>(
         self,
         alloc: Global,
         state: &mut State<E, S, W>,
         client: &mut Client<E, S, W>,
-    ) -> Result<Synced, (Draft, Part, StepFault)>
+    ) -> Result<Synced<E>, (Draft<E>, Part<E>, StepFault)>
         ensures made { MatchResult result
             (λ s. IsSynced client.old client.new self s.token s.replies.items s.made.items)
             (λ e. DraftStopped client.old client.new self e.0 e.1.replies.items e.1.made.items) }

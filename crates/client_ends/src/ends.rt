@@ -22,23 +22,26 @@ pub struct Unbound;
 pub struct Bound;
 
 /// A token (`fuchsia.sysmem2.BufferCollectionToken`), which must be spent.
-pub type TokenEnd = EndOf<Unbound>;
+pub type TokenEnd<E> = EndOf<Unbound, E>;
 
 /// A collection (`fuchsia.sysmem2.BufferCollection`), which must be spent.
-pub type CollectionEnd = EndOf<Bound>;
+pub type CollectionEnd<E> = EndOf<Bound, E>;
 
-/// An end of this kind (`fuchsia.sysmem2.Node`): a linear value, which must be spent.
+/// An end of this kind (`fuchsia.sysmem2.Node`): a linear value, which must be spent. Its type names its
+/// service by the ledger of events, as that of its `Client` does: no call takes an end of one service and
+/// another service or a client of it.
 ///
 /// A contract sees its holder, its node, and the node's collection. Each call of an end takes the
 /// `Client` of its holder, and makes one event of that client.
-pub struct EndOf<K> {
+pub struct EndOf<K, E> {
     client: ClientId,
     key: NodeKey,
     collection: CollectionId,
     kind: PhantomData<K>,
+    service: PhantomData<E>,
 }
 
-impl<K> Model for EndOf<K> {
+impl<K, E> Model for EndOf<K, E> {
     ghost use Rattle.client_ends.specs.Clients.{Tag};
 
     ghost Value = { Tag };
@@ -46,8 +49,8 @@ impl<K> Model for EndOf<K> {
     ghost view = { λ t. record { client = t.client; key = t.key; collection = t.collection } };
 }
 
-impl<K> EndOf<K> {
-    pub(crate) fn new(client: ClientId, key: NodeKey, collection: CollectionId) -> EndOf<K>
+impl<K, E: Setup> EndOf<K, E> {
+    pub(crate) fn new(client: ClientId, key: NodeKey, collection: CollectionId) -> EndOf<K, E>
         ensures { result ≡ record { client = client; key = key; collection = collection } }
     {
         EndOf {
@@ -55,11 +58,12 @@ impl<K> EndOf<K> {
             key,
             collection,
             kind: PhantomData,
+            service: PhantomData,
         }
     }
 
     /// Spends the end without an event, after the end of a service.
-    pub fn spend<E: Setup, S: Ledger, W: Ledger>(self, _ended: &Ended<E, S, W>) {
+    pub fn spend<S: Ledger, W: Ledger>(self, _ended: &Ended<E, S, W>) {
         self.used_up();
     }
 
@@ -70,6 +74,7 @@ impl<K> EndOf<K> {
             key: _,
             collection: _,
             kind: _,
+            service: _,
         } = self;
     }
 
@@ -82,7 +87,7 @@ impl<K> EndOf<K> {
 
     /// Asks only whether the node has failed (`fuchsia.sysmem2.Node.Sync`). All earlier calls were made
     /// before it. Costs one event.
-    pub fn sync<E: Setup, S: Ledger, W: Ledger, R: Wait>(
+    pub fn sync<S: Ledger, W: Ledger, R: Wait>(
         &self,
         rt: &R,
         service: &Service<E, S, W>,
@@ -98,7 +103,7 @@ impl<K> EndOf<K> {
 
     /// Makes the node weak, and each child that it gets from now on: they keep no buffer alive
     /// (`fuchsia.sysmem2.Node.SetWeak`). Costs one event.
-    pub fn set_weak<E: Setup, S: Ledger, W: Ledger, R: Wait>(
+    pub fn set_weak<S: Ledger, W: Ledger, R: Wait>(
         &self,
         rt: &R,
         service: &Service<E, S, W>,
@@ -114,7 +119,7 @@ impl<K> EndOf<K> {
 
     /// Lets the node take weak handles, with `children` also each child that it gets from now on, and
     /// all nodes below these children (`fuchsia.sysmem2.Node.SetWeakOk`). Costs one event.
-    pub fn set_weak_ok<E: Setup, S: Ledger, W: Ledger, R: Wait>(
+    pub fn set_weak_ok<S: Ledger, W: Ledger, R: Wait>(
         &self,
         rt: &R,
         service: &Service<E, S, W>,
@@ -131,7 +136,7 @@ impl<K> EndOf<K> {
 
     /// Makes a tracker that fires once the node is gone (`fuchsia.sysmem2.Node.AttachNodeTracking`). Its
     /// reader takes no lock. Costs one event, and a binary search among all trackers.
-    pub fn track_node<E: Setup, S: Ledger, W: Ledger, R: Wait>(
+    pub fn track_node<S: Ledger, W: Ledger, R: Wait>(
         &self,
         rt: &R,
         service: &Service<E, S, W>,
@@ -148,13 +153,13 @@ impl<K> EndOf<K> {
 
     /// Puts the end into a parcel for the client `to`. If the answer is not Done, the end comes back
     /// with the reason. Costs one event.
-    pub fn give<E: Setup, S: Ledger, W: Ledger, R: Wait>(
+    pub fn give<S: Ledger, W: Ledger, R: Wait>(
         self,
         rt: &R,
         service: &Service<E, S, W>,
         client: &mut Client<E, S, W>,
         to: ClientId,
-    ) -> Result<(), Kept<EndOf<K>>>
+    ) -> Result<(), Kept<EndOf<K, E>>>
         requires holder { self.client ≡ client.old.id }
         ensures { MatchResult result
             (λ _. Made client.old client.new (Asked.Give self.key to) Told.Done)
@@ -172,12 +177,12 @@ impl<K> EndOf<K> {
 
     /// Spends the end without a failure (`fuchsia.sysmem2.Node.Release`): the answer is Done, or
     /// PeerClosed if the node is gone. Otherwise the end comes back with the reason. Costs one event.
-    pub fn release<E: Setup, S: Ledger, W: Ledger, R: Wait>(
+    pub fn release<S: Ledger, W: Ledger, R: Wait>(
         self,
         rt: &R,
         service: &Service<E, S, W>,
         client: &mut Client<E, S, W>,
-    ) -> Result<Reply, Kept<EndOf<K>>>
+    ) -> Result<Reply, Kept<EndOf<K, E>>>
         requires holder { self.client ≡ client.old.id }
         ensures { MatchResult result
             (λ r. Made client.old client.new (Asked.Release self.key) r × (release_spends r ≡ true))
@@ -195,12 +200,12 @@ impl<K> EndOf<K> {
 
     /// Closes the end: a node that is not gone fails. If the answer is not Done, the end comes back with
     /// the reason. Costs one event.
-    pub fn close<E: Setup, S: Ledger, W: Ledger, R: Wait>(
+    pub fn close<S: Ledger, W: Ledger, R: Wait>(
         self,
         rt: &R,
         service: &Service<E, S, W>,
         client: &mut Client<E, S, W>,
-    ) -> Result<(), Kept<EndOf<K>>>
+    ) -> Result<(), Kept<EndOf<K, E>>>
         requires holder { self.client ≡ client.old.id }
         ensures { MatchResult result
             (λ _. Made client.old client.new (Asked.Close self.key) Told.Done)
@@ -224,7 +229,7 @@ impl<K> EndOf<K> {
     }
 
     /// The same end, of another kind.
-    pub(crate) fn into_kind<L>(self) -> EndOf<L>
+    pub(crate) fn into_kind<L>(self) -> EndOf<L, E>
         ensures { result ≡ self }
     {
         let EndOf {
@@ -232,6 +237,7 @@ impl<K> EndOf<K> {
             key,
             collection,
             kind: _,
+            service: _,
         } = self;
         EndOf::new(client, key, collection)
     }

@@ -9,15 +9,15 @@ use std::sync::ledger::Ledger;
 
 /// The content of a parcel: an end of either kind, or a handle. It must be spent.
 pub enum End<E: Setup, S: Ledger, W: Ledger> {
-    Token(TokenEnd),
-    Collection(CollectionEnd),
+    Token(TokenEnd<E>),
+    Collection(CollectionEnd<E>),
     Handle(Handle<E, S, W>),
 }
 
 /// The values that a client holds. Each of them must be spent.
 pub struct Held<E: Setup, S: Ledger, W: Ledger> {
-    pub tokens: Vec<TokenEnd>,
-    pub collections: Vec<CollectionEnd>,
+    pub tokens: Vec<TokenEnd<E>>,
+    pub collections: Vec<CollectionEnd<E>>,
     pub handles: Vec<Handle<E, S, W>>,
 }
 

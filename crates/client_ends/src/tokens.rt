@@ -13,14 +13,14 @@ use sm_names::{Call, Reply, StepFault};
 use std::sync::Wait;
 use std::sync::ledger::Ledger;
 
-impl TokenEnd {
+impl<E: Setup> TokenEnd<E> {
     /// Makes a child token (`fuchsia.sysmem2.BufferCollectionToken.Duplicate`). Costs one event.
-    pub fn duplicate<E: Setup, S: Ledger, W: Ledger, R: Wait>(
+    pub fn duplicate<S: Ledger, W: Ledger, R: Wait>(
         &self,
         rt: &R,
         service: &Service<E, S, W>,
         client: &mut Client<E, S, W>,
-    ) -> Result<TokenEnd, Why>
+    ) -> Result<TokenEnd<E>, Why>
         requires holder { self.now.client ≡ client.old.id }
         ensures { MatchResult result
             (λ t. (t.client ≡ client.old.id) × Made client.old client.new
@@ -32,7 +32,7 @@ impl TokenEnd {
 
     /// Once the node's unit is allocated, no failure climbs from the node to its parent
     /// (`fuchsia.sysmem2.BufferCollectionToken.SetDispensable`). Costs one event.
-    pub fn set_dispensable<E: Setup, S: Ledger, W: Ledger, R: Wait>(
+    pub fn set_dispensable<S: Ledger, W: Ledger, R: Wait>(
         &self,
         rt: &R,
         service: &Service<E, S, W>,
@@ -48,12 +48,12 @@ impl TokenEnd {
 
     /// Turns the token into a collection (`fuchsia.sysmem2.Allocator.BindSharedCollection`). If the
     /// answer is not Done, the token comes back with the reason. Costs one event.
-    pub fn bind<E: Setup, S: Ledger, W: Ledger, R: Wait>(
+    pub fn bind<S: Ledger, W: Ledger, R: Wait>(
         self,
         rt: &R,
         service: &Service<E, S, W>,
         client: &mut Client<E, S, W>,
-    ) -> Result<CollectionEnd, Kept<TokenEnd>>
+    ) -> Result<CollectionEnd<E>, Kept<TokenEnd<E>>>
         requires holder { self.client ≡ client.old.id }
         ensures { MatchResult result
             (λ end. (end ≡ self) × Made client.old client.new (Asked.Bind self.key) Told.Done)

@@ -230,7 +230,7 @@ pub fn gather<E: Setup, S: Ledger, W: Ledger, R: Wait>(
 }
 
 // Spends ends.
-fn spend_ends<K, E: Setup, S: Ledger, W: Ledger>(ended: &Ended<E, S, W>, ends: Vec<EndOf<K>>) {
+fn spend_ends<K, E: Setup, S: Ledger, W: Ledger>(ended: &Ended<E, S, W>, ends: Vec<EndOf<K, E>>) {
     let mut ends = ends;
     while let Some(end) = ends.pop() {
         end.spend(ended);

@@ -28,7 +28,7 @@ pub(crate) fn stack_ends<E: Setup, S: Ledger, W: Ledger>(
 /// Does the same with tokens. Their list keeps its room.
 pub(crate) fn stack_tokens<E: Setup, S: Ledger, W: Ledger>(
     stack: &mut Vec<End<E, S, W>>,
-    tokens: &mut Vec<TokenEnd>,
+    tokens: &mut Vec<TokenEnd<E>>,
 )
     requires { vec_len stack.old + vec_len tokens.old ≤ vec_capacity stack.old }
     ensures objects { top_first stack.new.items
@@ -46,7 +46,7 @@ pub(crate) fn stack_tokens<E: Setup, S: Ledger, W: Ledger>(
 /// Does the same with collections.
 pub(crate) fn stack_collections<E: Setup, S: Ledger, W: Ledger>(
     stack: &mut Vec<End<E, S, W>>,
-    collections: &mut Vec<CollectionEnd>,
+    collections: &mut Vec<CollectionEnd<E>>,
 )
     requires { vec_len stack.old + vec_len collections.old ≤ vec_capacity stack.old }
     ensures objects { top_first stack.new.items

@@ -29,8 +29,8 @@ fn twins<E: Setup, S: Ledger, W: Ledger, R: Wait + Abort>(
     alloc: Global,
     service: &Service<E, S, W>,
     client: &mut Client<E, S, W>,
-    root: TokenEnd,
-) -> Synced
+    root: TokenEnd<E>,
+) -> Synced<E>
     requires { root.client ≡ client.old.id }
     ensures token { result.token.client ≡ client.new.id }
     ensures id { client.new.id ≡ client.old.id }
@@ -58,8 +58,8 @@ fn known<E: Setup, S: Ledger, W: Ledger, R: Wait + Abort>(
     alloc: Global,
     service: &Service<E, S, W>,
     client: &mut Client<E, S, W>,
-    root: TokenEnd,
-) -> TokenEnd
+    root: TokenEnd<E>,
+) -> TokenEnd<E>
     requires { root.client ≡ client.old.id }
     ensures token { result.client ≡ client.new.id }
     ensures id { client.new.id ≡ client.old.id }
@@ -88,8 +88,8 @@ fn ask_twin<E: Setup, S: Ledger, W: Ledger, R: Wait + Abort>(
     alloc: Global,
     service: &Service<E, S, W>,
     client: &mut Client<E, S, W>,
-    token: TokenEnd,
-) -> (CollectionEnd, Reply)
+    token: TokenEnd<E>,
+) -> (CollectionEnd<E>, Reply)
     ensures collection { result.0.client ≡ client.new.id }
     ensures id { client.new.id ≡ client.old.id }
 {

@@ -16,8 +16,8 @@ fn stopped<E: Setup, S: Ledger, W: Ledger, R: Wait + Abort>(
     alloc: Global,
     service: &Service<E, S, W>,
     client: &mut Client<E, S, W>,
-    draft: Draft,
-) -> TokenEnd
+    draft: Draft<E>,
+) -> TokenEnd<E>
     requires { draft.token.client ≡ client.old.id }
 {
     match draft.sync(rt, alloc, service, client) {

@@ -20,8 +20,8 @@ fn sync_again<E: Setup, S: Ledger, W: Ledger, R: Wait + Abort>(
     alloc: Global,
     service: &Service<E, S, W>,
     client: &mut Client<E, S, W>,
-    draft: Draft,
-) -> (TokenEnd, TokenEnd)
+    draft: Draft<E>,
+) -> (TokenEnd<E>, TokenEnd<E>)
     requires { draft.token.client ≡ client.old.id }
     ensures id { client.new.id ≡ client.old.id }
 {
@@ -47,7 +47,7 @@ fn sync_again<E: Setup, S: Ledger, W: Ledger, R: Wait + Abort>(
 }
 
 // The one token of both lists.
-fn only_one<R: Abort>(rt: &R, first: Vec<TokenEnd>, second: Vec<TokenEnd>) -> TokenEnd {
+fn only_one<E, R: Abort>(rt: &R, first: Vec<TokenEnd<E>>, second: Vec<TokenEnd<E>>) -> TokenEnd<E> {
     if first.is_empty() {
         first.destroy_empty();
         only(rt, second)
@@ -63,7 +63,7 @@ fn tokens<E: Setup, S: Ledger, W: Ledger, R: Wait + Abort>(
     alloc: Global,
     service: &Service<E, S, W>,
     client: &mut Client<E, S, W>,
-    root: &TokenEnd,
+    root: &TokenEnd<E>,
 )
     requires { root.now.client ≡ client.old.id }
     ensures { client.new.id ≡ client.old.id }
@@ -92,7 +92,7 @@ fn handles<E: Setup, S: Ledger, W: Ledger, R: Wait + Abort>(
     alloc: Global,
     service: &Service<E, S, W>,
     client: &mut Client<E, S, W>,
-    collection: &CollectionEnd,
+    collection: &CollectionEnd<E>,
 )
     requires { collection.now.client ≡ client.old.id }
     ensures { client.new.id ≡ client.old.id }

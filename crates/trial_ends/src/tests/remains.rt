@@ -16,8 +16,8 @@ fn kept<E: Setup, S: Ledger, W: Ledger, R: Wait + Abort>(
     rt: &R,
     service: &Service<E, S, W>,
     client: &mut Client<E, S, W>,
-    root: CollectionEnd,
-) -> CollectionEnd
+    root: CollectionEnd<E>,
+) -> CollectionEnd<E>
     requires { root.client ≡ client.old.id }
     ensures id { client.new.id ≡ client.old.id }
     ensures root { result.client ≡ client.new.id }

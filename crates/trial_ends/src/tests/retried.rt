@@ -24,7 +24,7 @@ fn set_flag<E: Setup, S: Ledger, W: Ledger, R: Wait + Abort>(
     rt: &R,
     service: &Service<E, S, W>,
     client: &mut Client<E, S, W>,
-    token: &TokenEnd,
+    token: &TokenEnd<E>,
     flag: Flag,
 ) -> Result<Reply, StepFault>
     requires { token.now.client ≡ client.old.id }
@@ -43,7 +43,7 @@ pub fn flag_again<E: Setup, S: Ledger, W: Ledger, R: Wait + Abort>(
     rt: &R,
     service: &Service<E, S, W>,
     client: &mut Client<E, S, W>,
-    token: &TokenEnd,
+    token: &TokenEnd<E>,
     flag: Flag,
 )
     requires { token.now.client ≡ client.old.id }
@@ -62,7 +62,7 @@ pub fn track_node_again<E: Setup, S: Ledger, W: Ledger, R: Wait + Abort>(
     rt: &R,
     service: &Service<E, S, W>,
     client: &mut Client<E, S, W>,
-    token: &TokenEnd,
+    token: &TokenEnd<E>,
 ) -> Tracker
     requires { token.now.client ≡ client.old.id }
     ensures { client.new.id ≡ client.old.id }
@@ -79,7 +79,7 @@ pub fn track_lifetime_again<E: Setup, S: Ledger, W: Ledger, R: Wait + Abort>(
     rt: &R,
     service: &Service<E, S, W>,
     client: &mut Client<E, S, W>,
-    collection: &CollectionEnd,
+    collection: &CollectionEnd<E>,
 ) -> Tracker
     requires { collection.now.client ≡ client.old.id }
     ensures { client.new.id ≡ client.old.id }
@@ -115,8 +115,8 @@ pub fn attach_again<E: Setup, S: Ledger, W: Ledger, R: Wait + Abort>(
     rt: &R,
     service: &Service<E, S, W>,
     client: &mut Client<E, S, W>,
-    collection: &CollectionEnd,
-) -> TokenEnd
+    collection: &CollectionEnd<E>,
+) -> TokenEnd<E>
     requires { collection.now.client ≡ client.old.id }
     ensures id { client.new.id ≡ client.old.id }
     ensures token { result.client ≡ client.new.id }
@@ -135,7 +135,7 @@ pub fn check_again<E: Setup, S: Ledger, W: Ledger, R: Wait + Abort>(
     rt: &R,
     service: &Service<E, S, W>,
     client: &mut Client<E, S, W>,
-    collection: &CollectionEnd,
+    collection: &CollectionEnd<E>,
 ) -> Reply
     requires { collection.now.client ≡ client.old.id }
     ensures { client.new.id ≡ client.old.id }

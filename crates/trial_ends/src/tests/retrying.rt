@@ -28,7 +28,7 @@ pub fn open_again<E: Setup, S: Ledger, W: Ledger, R: Wait + Abort>(
     rt: &R,
     service: &Service<E, S, W>,
     client: &mut Client<E, S, W>,
-) -> TokenEnd
+) -> TokenEnd<E>
     ensures id { client.new.id ≡ client.old.id }
     ensures token { result.client ≡ client.new.id }
 {
@@ -44,8 +44,8 @@ pub fn duplicate_again<E: Setup, S: Ledger, W: Ledger, R: Wait + Abort>(
     rt: &R,
     service: &Service<E, S, W>,
     client: &mut Client<E, S, W>,
-    token: &TokenEnd,
-) -> TokenEnd
+    token: &TokenEnd<E>,
+) -> TokenEnd<E>
     requires { token.now.client ≡ client.old.id }
     ensures id { client.new.id ≡ client.old.id }
     ensures token { result.client ≡ client.new.id }
@@ -62,8 +62,8 @@ pub fn bind_again<E: Setup, S: Ledger, W: Ledger, R: Wait + Abort>(
     rt: &R,
     service: &Service<E, S, W>,
     client: &mut Client<E, S, W>,
-    token: TokenEnd,
-) -> CollectionEnd
+    token: TokenEnd<E>,
+) -> CollectionEnd<E>
     requires { token.client ≡ client.old.id }
     ensures id { client.new.id ≡ client.old.id }
     ensures collection { result.client ≡ client.new.id }
@@ -85,7 +85,7 @@ pub fn give_again<K, E: Setup, S: Ledger, W: Ledger, R: Wait + Abort>(
     rt: &R,
     service: &Service<E, S, W>,
     client: &mut Client<E, S, W>,
-    end: EndOf<K>,
+    end: EndOf<K, E>,
 )
     requires { end.client ≡ client.old.id }
     ensures { client.new.id ≡ client.old.id }
@@ -108,7 +108,7 @@ pub fn release_again<K, E: Setup, S: Ledger, W: Ledger, R: Wait + Abort>(
     rt: &R,
     service: &Service<E, S, W>,
     client: &mut Client<E, S, W>,
-    end: EndOf<K>,
+    end: EndOf<K, E>,
 )
     requires { end.client ≡ client.old.id }
     ensures { client.new.id ≡ client.old.id }
@@ -131,7 +131,7 @@ pub fn close_again<K, E: Setup, S: Ledger, W: Ledger, R: Wait + Abort>(
     rt: &R,
     service: &Service<E, S, W>,
     client: &mut Client<E, S, W>,
-    end: EndOf<K>,
+    end: EndOf<K, E>,
 )
     requires { end.client ≡ client.old.id }
     ensures { client.new.id ≡ client.old.id }
@@ -172,7 +172,7 @@ pub fn constrain_again<E: Setup, S: Ledger, W: Ledger, R: Wait + Abort>(
     rt: &R,
     service: &Service<E, S, W>,
     client: &mut Client<E, S, W>,
-    collection: &CollectionEnd,
+    collection: &CollectionEnd<E>,
     asked: Constraints,
 )
     requires { collection.now.client ≡ client.old.id }
@@ -194,7 +194,7 @@ pub fn take_again<E: Setup, S: Ledger, W: Ledger, R: Wait + Abort>(
     alloc: Global,
     service: &Service<E, S, W>,
     client: &mut Client<E, S, W>,
-    collection: &CollectionEnd,
+    collection: &CollectionEnd<E>,
 ) -> Vec<Handle<E, S, W>>
     requires { collection.now.client ≡ client.old.id }
     ensures { client.new.id ≡ client.old.id }
@@ -214,7 +214,7 @@ pub fn fill_again<E: Setup, S: Ledger, W: Ledger, R: Wait + Abort>(
     alloc: Global,
     service: &Service<E, S, W>,
     client: &mut Client<E, S, W>,
-    collection: &CollectionEnd,
+    collection: &CollectionEnd<E>,
     buffers: u8,
 ) -> Vec<Handle<E, S, W>>
     requires { collection.now.client ≡ client.old.id }

@@ -25,7 +25,7 @@ fn open<E: Setup, S: Ledger, W: Ledger, R: Wait + Abort>(
     rt: &R,
     service: &Service<E, S, W>,
     client: &mut Client<E, S, W>,
-) -> (TokenEnd, TokenEnd, Tracker)
+) -> (TokenEnd<E>, TokenEnd<E>, Tracker)
     ensures id { client.new.id ≡ client.old.id }
     ensures root { result.0.client ≡ client.new.id }
     ensures child { result.1.client ≡ client.new.id }
@@ -46,9 +46,9 @@ fn allocate<E: Setup, S: Ledger, W: Ledger, R: Wait + Abort>(
     rt: &R,
     service: &Service<E, S, W>,
     client: &mut Client<E, S, W>,
-    root: &CollectionEnd,
-    child: &CollectionEnd,
-) -> (TokenEnd, Tracker)
+    root: &CollectionEnd<E>,
+    child: &CollectionEnd<E>,
+) -> (TokenEnd<E>, Tracker)
     requires root { root.now.client ≡ client.old.id }
     requires child { child.now.client ≡ client.old.id }
     ensures id { client.new.id ≡ client.old.id }
@@ -75,7 +75,7 @@ fn take_one<E: Setup, S: Ledger, W: Ledger, R: Wait + Abort>(
     alloc: Global,
     service: &Service<E, S, W>,
     client: &mut Client<E, S, W>,
-    collection: &CollectionEnd,
+    collection: &CollectionEnd<E>,
     strength: Strength,
 ) -> Handle<E, S, W>
     requires { collection.now.client ≡ client.old.id }
@@ -95,8 +95,8 @@ fn handles<E: Setup, S: Ledger, W: Ledger, R: Wait + Abort>(
     alloc: Global,
     service: &Service<E, S, W>,
     client: &mut Client<E, S, W>,
-    root: &CollectionEnd,
-    child: &CollectionEnd,
+    root: &CollectionEnd<E>,
+    child: &CollectionEnd<E>,
 ) -> Tracker
     requires root { root.now.client ≡ client.old.id }
     requires child { child.now.client ≡ client.old.id }
@@ -119,8 +119,8 @@ fn round<E: Setup, S: Ledger, W: Ledger, R: Wait + Abort>(
     rt: &R,
     service: &Service<E, S, W>,
     client: &mut Client<E, S, W>,
-    root: CollectionEnd,
-) -> CollectionEnd
+    root: CollectionEnd<E>,
+) -> CollectionEnd<E>
     requires { root.client ≡ client.old.id }
     ensures id { client.new.id ≡ client.old.id }
     ensures root { result.client ≡ client.new.id }
@@ -149,7 +149,12 @@ fn build<E: Setup, S: Ledger, W: Ledger, R: Wait + Abort>(
     rt: &R,
     service: &Service<E, S, W>,
     client: &mut Client<E, S, W>,
-) -> (CollectionEnd, CollectionEnd, TokenEnd, (Tracker, Tracker))
+) -> (
+    CollectionEnd<E>,
+    CollectionEnd<E>,
+    TokenEnd<E>,
+    (Tracker, Tracker),
+)
     ensures id { client.new.id ≡ client.old.id }
     ensures root { result.0.client ≡ client.new.id }
     ensures child { result.1.client ≡ client.new.id }
@@ -167,10 +172,10 @@ fn leave_root<E: Setup, S: Ledger, W: Ledger, R: Wait + Abort>(
     rt: &R,
     service: &Service<E, S, W>,
     client: &mut Client<E, S, W>,
-    root: CollectionEnd,
-    child: CollectionEnd,
-    token: TokenEnd,
-) -> CollectionEnd
+    root: CollectionEnd<E>,
+    child: CollectionEnd<E>,
+    token: TokenEnd<E>,
+) -> CollectionEnd<E>
     requires root { root.client ≡ client.old.id }
     requires child { child.client ≡ client.old.id }
     requires token { token.client ≡ client.old.id }

@@ -35,7 +35,7 @@ fn close<K, E: Setup, S: Ledger, W: Ledger, R: Wait + Abort>(
     rt: &R,
     service: &Service<E, S, W>,
     client: &mut Client<E, S, W>,
-    end: EndOf<K>,
+    end: EndOf<K, E>,
 ) {
     assert!(rt; end.client() == client.id());
     made(rt, end.close(rt, service, client));
@@ -57,7 +57,7 @@ fn leave<K, E: Setup, S: Ledger, W: Ledger, R: Wait + Abort>(
     rt: &R,
     service: &Service<E, S, W>,
     client: &mut Client<E, S, W>,
-    end: EndOf<K>,
+    end: EndOf<K, E>,
 ) {
     assert!(rt; end.client() == client.id());
     let _ = made(rt, end.release(rt, service, client));
@@ -82,7 +82,7 @@ fn share_child<E: Setup, S: Ledger, W: Ledger, R: Wait + Abort>(
     rt: &R,
     service: &Service<E, S, W>,
     client: &mut Client<E, S, W>,
-    root: &TokenEnd,
+    root: &TokenEnd<E>,
     next: ClientId,
 ) {
     assert!(rt; root.client() == client.id());
@@ -99,7 +99,7 @@ fn share_handles<E: Setup, S: Ledger, W: Ledger, R: Wait + Abort>(
     alloc: Global,
     service: &Service<E, S, W>,
     client: &mut Client<E, S, W>,
-    root: &CollectionEnd,
+    root: &CollectionEnd<E>,
     next: ClientId,
 ) {
     assert!(rt; root.client() == client.id());

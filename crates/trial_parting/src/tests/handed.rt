@@ -19,7 +19,7 @@ fn hand_over<E: Setup, S: Ledger, W: Ledger, R: Wait + Abort>(
     service: &Service<E, S, W>,
     client: &mut Client<E, S, W>,
     to: ClientId,
-) -> (CollectionEnd, BufferName) {
+) -> (CollectionEnd<E>, BufferName) {
     let (root, handles) = filled_again(rt, alloc, service, client, 1);
     let handle = only(rt, handles);
     let buffer = handle.buffer();

@@ -32,7 +32,7 @@ fn share<E: Setup, S: Ledger, W: Ledger, R: Wait + Abort>(
 fn token_alone<E: Setup, S: Ledger, W: Ledger, R: Abort>(
     rt: &R,
     alloc: Global,
-    token: TokenEnd,
+    token: TokenEnd<E>,
 ) -> Held<E, S, W>
     ensures { AllHeldBy token.client (held_in result) }
 {

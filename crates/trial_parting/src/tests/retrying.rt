@@ -28,7 +28,7 @@ pub fn open_again<E: Setup, S: Ledger, W: Ledger, R: Wait + Abort>(
     rt: &R,
     service: &Service<E, S, W>,
     client: &mut Client<E, S, W>,
-) -> TokenEnd
+) -> TokenEnd<E>
     ensures id { client.new.id ≡ client.old.id }
     ensures token { result.client ≡ client.new.id }
 {
@@ -44,8 +44,8 @@ pub fn bind_again<E: Setup, S: Ledger, W: Ledger, R: Wait + Abort>(
     rt: &R,
     service: &Service<E, S, W>,
     client: &mut Client<E, S, W>,
-    token: TokenEnd,
-) -> CollectionEnd
+    token: TokenEnd<E>,
+) -> CollectionEnd<E>
     requires { token.client ≡ client.old.id }
     ensures id { client.new.id ≡ client.old.id }
     ensures collection { result.client ≡ client.new.id }
@@ -67,7 +67,7 @@ pub fn give_again<K, E: Setup, S: Ledger, W: Ledger, R: Wait + Abort>(
     rt: &R,
     service: &Service<E, S, W>,
     client: &mut Client<E, S, W>,
-    end: EndOf<K>,
+    end: EndOf<K, E>,
     to: ClientId,
 )
     requires { end.client ≡ client.old.id }
@@ -90,7 +90,7 @@ pub fn constrain_again<E: Setup, S: Ledger, W: Ledger, R: Wait + Abort>(
     rt: &R,
     service: &Service<E, S, W>,
     client: &mut Client<E, S, W>,
-    collection: &CollectionEnd,
+    collection: &CollectionEnd<E>,
     asked: Constraints,
 )
     requires { collection.now.client ≡ client.old.id }
@@ -112,7 +112,7 @@ pub fn take_again<E: Setup, S: Ledger, W: Ledger, R: Wait + Abort>(
     alloc: Global,
     service: &Service<E, S, W>,
     client: &mut Client<E, S, W>,
-    collection: &CollectionEnd,
+    collection: &CollectionEnd<E>,
 ) -> Vec<Handle<E, S, W>>
     requires { collection.now.client ≡ client.old.id }
     ensures { client.new.id ≡ client.old.id }
@@ -132,7 +132,7 @@ pub fn fill_again<E: Setup, S: Ledger, W: Ledger, R: Wait + Abort>(
     alloc: Global,
     service: &Service<E, S, W>,
     client: &mut Client<E, S, W>,
-    collection: &CollectionEnd,
+    collection: &CollectionEnd<E>,
     buffers: u8,
 ) -> Vec<Handle<E, S, W>>
     requires { collection.now.client ≡ client.old.id }
@@ -150,7 +150,7 @@ pub fn filled_again<E: Setup, S: Ledger, W: Ledger, R: Wait + Abort>(
     service: &Service<E, S, W>,
     client: &mut Client<E, S, W>,
     buffers: u8,
-) -> (CollectionEnd, Vec<Handle<E, S, W>>)
+) -> (CollectionEnd<E>, Vec<Handle<E, S, W>>)
     ensures id { client.new.id ≡ client.old.id }
     ensures collection { result.0.client ≡ client.new.id }
 {

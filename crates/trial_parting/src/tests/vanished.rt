@@ -26,7 +26,7 @@ fn give_child<E: Setup, S: Ledger, W: Ledger, R: Wait + Abort>(
     service: &Service<E, S, W>,
     client: &mut Client<E, S, W>,
     to: ClientId,
-) -> (TokenEnd, NodeKey)
+) -> (TokenEnd<E>, NodeKey)
     ensures { result.0.client ≡ client.new.id }
 {
     let root = made(rt, client.open_root(rt, service));
