@@ -1,9 +1,11 @@
 //! What no contract says: that calls succeed, and that trackers tell without the lock.
+use example::program;
 use stage::{Scene, stage};
 
 mod asking;
 mod crowd;
 mod drafting;
+mod example;
 mod limits;
 mod lock;
 mod memory;
@@ -41,4 +43,9 @@ fn values_are_spent_once_the_service_has_ended(rt: HostRuntime) {
 #[test]
 fn drafts_and_gifts_succeed_after_out_of_memory(rt: HostRuntime) {
     stage(&rt, rt.alloc(), Scene::Memory, 16)
+}
+
+#[test]
+fn the_program_of_the_page_gets_two_buffers(rt: HostRuntime) {
+    assert_eq!(&rt; program(&rt, rt.alloc()), 2)
 }
