@@ -71,7 +71,7 @@ class Source:
     def command(self, row):
         """The command of a row of the table."""
         options, argument = {}, None
-        makers = dict(re.findall(r"Word::(\w+) => (\w+)\(alloc\)", self.functions["argument"]))
+        makers = dict(re.findall(r"Word::(\w+) => (?:Ok\()?(\w+)\(alloc\)", self.functions["argument"]))
         for word in re.findall(r"Word::(\w+)", row):
             made = self.functions[makers[word]]
             if "option(" in made or ".long(" in made:

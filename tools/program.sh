@@ -49,6 +49,10 @@ try 3 'joined\n' 'bad line 2' 'a join\na ope' run
 try 3 'joined\n' 'bad line 2' 'a join\na fly\n' run
 try 3 '' 'bad line 1' 'a  join\n' run
 
+# Standard input has a name.
+try 0 'joined\n' '' 'a join\n' run -
+try 0 'agrees: 1 line, 1 reply\n' '' 'a join\n  joined\n' check -
+
 # Explanations, with the reason of a bad line.
 try 0 'a join\n  joined\n' '' 'a join\n' explain
 try 0 'a join\n  joined\n' '' 'a join\n  joined\n    a remark\n' explain
@@ -70,6 +74,15 @@ try 3 "$told" 'bad line 4: a word too many: now' "${bad}a check r now\\n" explai
 try 3 "$told" 'bad line 4: strong or weak is to stand here: hard' "${bad}a duph r.0 hard\\n" explain
 try 3 "$told" 'bad line 4: no buffer: r.64' "${bad}a duph r.64 weak\\n" explain
 
+# Only failures.
+lost='a open r\na close r\na sync r\na open s\na close s\n'
+told='    %s fails, lost: its end was closed without a release\n'
+first="a close r\\n  done\\n    event   3, line 3\\n${told/\%s/r}"
+second="a close s\\n  done\\n    event   6, line 6\\n${told/\%s/s}"
+try 0 "$first$second" '' "a join\\n$lost" explain --failures
+try 0 '' '' 'a join\na open r\n' explain --failures
+try 3 "$first" 'bad line 7: no such word: fly' "a join\\na open r\\na close r\\na sync r\\na open t\\n# a remark\\na fly\\n" explain --failures
+
 # Pictures.
 empty='pool ░░░░░░░░░░░░░░░░ 16 of 16 free\n'
 try 0 "event 0\\n\\n$empty" '' '' draw
@@ -77,16 +90,25 @@ try 0 "event 1: a join\\n\\n$empty" '' 'a join\n' draw
 try 0 "event 1: a join\\n\\n$empty" '' 'a join\na fly\n' draw --at 1
 try 0 'event 1: a join\n\npool 65 of 65 free\n' '' 'a join\n' draw --pages 65 --format text
 try 3 "event 1: a join\\n\\n$empty" 'bad line 2: no such word: fly' 'a join\na fly\n' draw
-try 2 '' 'there is no event 0' 'a join\n' draw --at 0
-try 2 '' 'there is no event 2' 'a join\n' draw --at 2
+try 2 '' 'sysmem: there is no event 0' 'a join\n' draw --at 0
+try 2 '' 'sysmem: there is no event 2' 'a join\n' draw --at 2
+try 0 "event 1: a join\\n\\n$empty" '' '# a remark\na join\nshow free\na fly\n' draw --line 3
+try 2 '' 'sysmem: there is no line 0' 'a join\n' draw --line 0
+try 2 '' 'sysmem: there is no line 2' 'a join\n' draw --line 2
+try 2 '' 'sysmem: there is no failure 3' "a join\\n$lost" draw --failure=3
+try 2 '' 'sysmem: there is no failure 1' 'a join\n' draw --failure
+try 2 '' '*' 'a join\n' draw --at 1 --line 1
+try 2 '' '*' 'a join\n' draw --failure --line 1
 try 2 '' '*' 'a join\n' draw --at last
 try 2 '' '*' 'a join\n' draw --format png
 
 # Transcripts.
-try 0 'agrees: 2 lines, 1 replies\n' '' 'a join\n  joined\n    a remark\nshow free\n' check
+try 0 'agrees: 2 lines, 1 reply\n' '' 'a join\n  joined\n    a remark\n# another\nshow free\n' check
+try 7 'no line was played\n' '' '' check
+try 7 'no line was played\n' '' '# a remark\n\n    another\n' check
 try 6 'line 1: a join\n  recorded  token a\n  legal     joined\n' '' 'a join\n  token a\n' check
 try 6 'line 2: # a remark\n  recorded  joined\n  legal     no reply\n' '' 'a join\n# a remark\n  joined\n' check
-try 3 '' 'bad line 1: a reply stands before the first line' '  joined\n' check
+try 3 '' 'bad line 1: a reply stands before the first line that has one' '  joined\n' check
 try 3 '' 'bad line 2: no such word: fly' 'a join\na fly\n' check
 
 # Scripts of actors.
@@ -123,11 +145,11 @@ done
 try 2 '' '*' '' fly
 try 2 '' '*' '' run examples/first.script examples/first.script
 try 2 '' '*' '' run --fly
-try 2 '' 'a word of the command line is not UTF-8' '' run $'\xff'
+try 2 '' 'sysmem: a word of the command line is not UTF-8' '' run $'\xff'
 try 2 '' '*' '' threads --fly
-try 2 '' 'a command is missing: run, threads, explain, draw or check; sysmem --help describes them' ''
-try 2 '' 'no such command: x.script; try sysmem run FILE' '' x.script
-try 2 '' 'no such command: ./x; try sysmem run FILE' '' ./x run
+try 2 '' 'sysmem: a command is missing: run, threads, explain, draw or check; sysmem --help describes them' ''
+try 2 '' 'sysmem: no such command: x.script; try sysmem run FILE' '' x.script
+try 2 '' 'sysmem: no such command: ./x; try sysmem run FILE' '' ./x run
 
 # Counts what was seen, or tells what was not.
 count() {
@@ -218,9 +240,20 @@ for script in examples/*.script; do
   count is_transcript "${script%.script}.explained"
 done
 for event in 27 28; do count is_drawn examples/camera.script "$event"; done
+# Its event 28 is that of line 36, and the first in which a node fails.
+is_found() {
+  "$program" draw "$1" examples/camera.script 2>"$room/told" | cmp -s - examples/camera.28.txt && hears ''
+}
+for words in --at=28 --line=36 --failure --failure=1; do count is_found "$words"; done
+# The parser's messages begin with the program's name too.
+is_named() {
+  "$program" fly 2>"$room/told"
+  [ $? = 2 ] && [ "$(head -c 8 "$room/told")" = 'sysmem: ' ]
+}
+count is_named
 unopened() {
   "$program" "$1" "$2" >"$room/out" 2>"$room/told"
-  [ $? = 1 ] && [ ! -s "$room/out" ] && hears "$2: $3"
+  [ $? = 1 ] && [ ! -s "$room/out" ] && hears "sysmem: $2: $3"
 }
 for command in run threads explain draw check; do count unopened "$command" examples/none.script 'no such file'; done
 count unopened run examples/first.script/none 'a part of its path is no directory'
@@ -258,7 +291,9 @@ chain_ends() {
 # As many empty lines as a script may have.
 empty_lines() {
   yes '' | head -c 16777216 >"$room/script"
-  is_transcript_of && [ "$(cat "$room/out")" = 'agrees: 16777216 lines, 0 replies' ]
+  "$program" explain <"$room/script" >"$room/explained" 2>"$room/told" && hears '' && cmp -s "$room/explained" "$room/script" &&
+    "$program" check <"$room/explained" >"$room/out" 2>"$room/told"
+  [ $? = 7 ] && [ "$(cat "$room/out")" = 'no line was played' ] && hears ''
 }
 # Labels of 16 letters.
 long_labels() {
@@ -297,7 +332,7 @@ agrees() {
 }
 record_agrees() {
   "$program" threads --pages 64 --record <"$1" >"$room/record" 2>"$room/told" && hears '' &&
-    grep -v '^  ' "$room/record" >"$room/lines" && agrees
+    grep -v '^  \|^#' "$room/record" >"$room/lines" && agrees
 }
 count is_recorded
 count parts_are_recorded

@@ -71,6 +71,7 @@ function play(text) {
     const step = { text: own, facts: [], isEvent: false };
     while (next < answers.length && answers[next].startsWith('  ')) {
       const answer = answers[next++];
+      if (answer.startsWith('    event   ')) continue; // the page tells the event itself
       if (answer.startsWith('    ')) step.facts.push(answer.slice(4)); else step.reply = answer.slice(2);
     }
     if (step.reply !== undefined && !isView(own)) {

@@ -22,6 +22,7 @@ function sentences_of(explained) {
     }
     const words = told.at(-1), is_reply = !row.startsWith('    ');
     if (is_reply && !/: (show|\S+ poll) /.test(words[0])) words[0] = words[0].replace(/^Line \d+/, `Event ${event += 1}`);
+    if (row.startsWith('    event   ')) continue;
     words.push(is_reply ? `Reply: ${row.slice(2)}` : row.slice(4));
   }
   return told;

@@ -15,12 +15,13 @@ _sysmem() {
   fi
   case $before in
     --format) mapfile -t COMPREPLY < <(compgen -W 'text dot svg' -- "$word") && return ;;
-    --pages | --at) return ;;
+    --pages | --at | --line) return ;;
   esac
   if [ "$command" = help ]; then
     [ "$COMP_CWORD" = 2 ] && mapfile -t COMPREPLY < <(compgen -W "$commands" -- "$word")
   elif [ "${word:0:1}" = - ]; then
-    [ "$command" = draw ] && options+=' --format --at'
+    [ "$command" = draw ] && options+=' --format --at --line --failure'
+    [ "$command" = explain ] && options+=' --failures'
     [ "$command" = threads ] && options+=' --record'
     mapfile -t COMPREPLY < <(compgen -W "$options" -- "$word")
   else

@@ -17,5 +17,11 @@ complete -c sysmem -n "__fish_seen_subcommand_from $commands" -l pages -x -d 'Th
 complete -c sysmem -n '__fish_seen_subcommand_from threads' -l record -d 'Writes all events before the report'
 complete -c sysmem -n '__fish_seen_subcommand_from draw' -l format -x -a 'text dot svg' \
     -d 'The format of the picture'
+complete -c sysmem -n '__fish_seen_subcommand_from explain' -l failures \
+    -d 'Tells only the lines whose event made a node fail'
 complete -c sysmem -n '__fish_seen_subcommand_from draw' -l at -x \
     -d 'The event after which the trees are drawn'
+complete -c sysmem -n '__fish_seen_subcommand_from draw' -l line -x \
+    -d 'The line after which the trees are drawn'
+complete -c sysmem -n '__fish_seen_subcommand_from draw' -l failure \
+    -d 'Draws the trees after the first event in which a node failed'

@@ -7,7 +7,8 @@ use Rattle.sm_names.specs.declared.rules.TheConstants.{MAX_PAGES}
 use Rattle.clap.specs.Words.{Row, ReadsOne, Text, first_of, first_value, found_of, one_of, one_text, rows_of, subcommand_rows_of}
 use Rattle.clap.specs.declared.parser.matches.ArgMatches.{ArgMatches}
 use Rattle.clap.proofs.WalkLemmas.{first_value-rows, one_text-rows}
-use Rattle.command_line.specs.Asked.{AreAsked, IsCount, IsNumberRead, subcommand_text, value_text, written_number}
+use Rattle.command_line.specs.declared.task.Until.{Until}
+use Rattle.command_line.specs.Asked.{AreAsked, IsCount, IsNumberRead, IsUntil, subcommand_text, value_text, written_number}
 
 -- the text is that of the subcommand's own matches
 pub its_text : (id : List ℕ) (matches inner : ArgMatches) (o : Option (Text × List Row)) →
@@ -74,3 +75,16 @@ module _ {E : Type 0} (gives : List ℕ → Result ℕ E → Type 0) (only : (t 
   is_read (Some t) None none value =
       let h = value t refl in
       λ number. only t (Err h.0) h.1 (number.numeral, number.fits)
+
+-- the numbers that are read of equal texts are the same
+pub until-same : (event line failure its_event its_line its_failure : Option (List ℕ)) (until : Until) → its_event ≡ event →
+    its_line ≡ line → its_failure ≡ failure → IsUntil event line failure until → IsUntil its_event its_line its_failure until
+until-same event line failure its_event its_line its_failure until e l f read = record {
+  event_number = read.event_number;
+  line_number = read.line_number;
+  failure_number = read.failure_number;
+  event_read = subst (λ (t : Option (List ℕ)). IsNumberRead t read.event_number) (sym e) read.event_read;
+  line_read = subst (λ (t : Option (List ℕ)). IsNumberRead t read.line_number) (sym l) read.line_read;
+  failure_read = subst (λ (t : Option (List ℕ)). IsNumberRead t read.failure_number) (sym f) read.failure_read;
+  is = read.is;
+}

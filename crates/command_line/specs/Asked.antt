@@ -1,11 +1,12 @@
 -- What the words of the command line ask for.
-use Rattle.std.specs.Prelude.{◌≡◌, ◌≢◌, ◌≤◌, ◌<◌, ◌^◌, ℕ, Bool, true, false, List, Option, Some, None, SomeIff, ⊤, codes, option_and_then}
+use Rattle.std.specs.Prelude.{◌≡◌, ◌≢◌, ◌⊎◌, ◌≤◌, ◌<◌, ◌^◌, ℕ, Bool, true, false, List, Option, Some, None, SomeIff, ⊤, codes, option_and_then}
 use Rattle.std.specs.Str.Parse.{IsNumeral, digits_value, without_leading_plus}
 use Rattle.sm_names.specs.declared.rules.TheConstants.{MAX_PAGES}
 use Rattle.clap.specs.Words.{first_of, one_of, subcommand_rows_of}
 use Rattle.clap.specs.declared.parser.matches.ArgMatches.{ArgMatches}
 use Rattle.command_line.specs.declared.task.Format.{Format}
 use Rattle.command_line.specs.declared.task.Task.{Task}
+use Rattle.command_line.specs.declared.task.Until.{Until}
 
 -- what is read as a value of the subcommand's option of this name, given or its default: there is none without a subcommand
 abbrev pub value_text : List ℕ → ArgMatches → Option (List ℕ)
@@ -34,7 +35,7 @@ abbrev pub IsTask : Option (List ℕ) → Task → Type 0
 IsTask None task = task ≡ Task.Run
 IsTask (Some name) Task.Run = (name ≢ codes "threads") × (name ≢ codes "explain") × (name ≢ codes "draw") × (name ≢ codes "check")
 IsTask (Some name) (Task.Threads output) = name ≡ codes "threads"
-IsTask (Some name) Task.Explain = name ≡ codes "explain"
+IsTask (Some name) (Task.Explain failures) = name ≡ codes "explain"
 IsTask (Some name) (Task.Draw view) = name ≡ codes "draw"
 IsTask (Some name) Task.Check = name ≡ codes "check"
 
@@ -59,10 +60,32 @@ abbrev pub IsNumberRead : Option (List ℕ) → Option ℕ → Type 0
 IsNumberRead None number = number ≡ None
 IsNumberRead (Some text) number = SomeIff number (IsNumber text) (written_number text)
 
--- the event of a picture, if one is asked for
-abbrev pub HasEvent : Option (List ℕ) → Task → Type 0
-HasEvent text (Task.Draw view) = IsNumberRead text view.at
-HasEvent text task = ⊤
+-- behind what the trees are drawn: the event that is asked for, or else the line, or else the failure
+abbrev pub until_asked : Option ℕ → Option ℕ → Option ℕ → Until
+until_asked (Some event) line failure = Until.Event event
+until_asked None (Some line) failure = Until.Line line
+until_asked None None (Some failure) = Until.Failure failure
+until_asked None None None = Until.Last
+
+-- the same, read of these texts
+pub record IsUntil (event line failure : Option (List ℕ)) (until : Until) : Type 0 where
+  pub event_number : Option ℕ
+  pub line_number : Option ℕ
+  pub failure_number : Option ℕ
+  pub event_read : IsNumberRead event event_number
+  pub line_read : IsNumberRead line line_number
+  pub failure_read : IsNumberRead failure failure_number
+  pub is : until ≡ until_asked event_number line_number failure_number
+
+-- behind what the trees of a picture are drawn, if one is asked for
+abbrev pub HasUntil : Option (List ℕ) → Option (List ℕ) → Option (List ℕ) → Task → Type 0
+HasUntil event line failure (Task.Draw view) = IsUntil event line failure view.until
+HasUntil event line failure task = ⊤
+
+-- the file that this word names: `-` stands for standard input
+abbrev pub IsFile : Option (List ℕ) → Option (List ℕ) → Type 0
+IsFile word None = (word ≡ None) ⊎ (word ≡ Some (codes "-"))
+IsFile word (Some name) = (word ≡ Some name) × (name ≢ codes "-")
 
 -- a flag is set if it was given
 pub record IsFlag (text : Option (List ℕ)) (flag : Bool) : Type 0 where
@@ -74,3 +97,8 @@ pub record IsFlag (text : Option (List ℕ)) (flag : Bool) : Type 0 where
 abbrev pub HasRecord : Option (List ℕ) → Task → Type 0
 HasRecord text (Task.Threads flag) = IsFlag text flag
 HasRecord text task = ⊤
+
+-- whether an explanation tells only the failures
+abbrev pub HasFailures : Option (List ℕ) → Task → Type 0
+HasFailures text (Task.Explain flag) = IsFlag text flag
+HasFailures text task = ⊤

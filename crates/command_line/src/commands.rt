@@ -28,7 +28,16 @@ pub(crate) const FORMAT: &str = "format";
 
 pub(crate) const AT: &str = "at";
 
+pub(crate) const LINE: &str = "line";
+
+pub(crate) const FAILURE: &str = "failure";
+
+pub(crate) const FAILURES: &str = "failures";
+
 pub(crate) const FILE: &str = "file";
+
+// The name of a file that stands for standard input.
+pub(crate) const STANDARD_INPUT: &str = "-";
 
 // The formats of pictures.
 const TEXT: &str = "text";
@@ -84,6 +93,38 @@ fn at_word<'a>(alloc: Global) -> Arg<'a> {
     .value_parser(value_parser!(u64))
 }
 
+// The option `--line N`.
+fn line_word<'a>(alloc: Global) -> Arg<'a> {
+    option(
+        alloc,
+        LINE,
+        "N",
+        "The trees after this line, and what the last event up to it did",
+    )
+    .value_parser(value_parser!(u64))
+}
+
+// The option `--failure[=K]`.
+fn failure_word<'a>(alloc: Global) -> Arg<'a> {
+    Arg::new(alloc, FAILURE)
+        .long(FAILURE)
+        .action(ArgAction::Set)
+        .value_name("K")
+        .num_args(0..=1)
+        .require_equals(true)
+        .default_missing_value("1")
+        .value_parser(value_parser!(u64))
+        .help("The trees after the first event in which a node failed, or after the Kth such event")
+}
+
+// The option `--failures`.
+fn failures_word<'a>(alloc: Global) -> Arg<'a> {
+    Arg::new(alloc, FAILURES)
+        .long(FAILURES)
+        .action(ArgAction::SetTrue)
+        .help("Tells only the lines whose event made a node fail")
+}
+
 // The option `--record`.
 fn record_word<'a>(alloc: Global) -> Arg<'a> {
     Arg::new(alloc, RECORD)
@@ -97,7 +138,7 @@ fn file_word<'a>(alloc: Global) -> Arg<'a> {
     Arg::new(alloc, FILE)
         .action(ArgAction::Set)
         .value_name("FILE")
-        .help("A file that is read instead of standard input")
+        .help("A file that is read instead of standard input; - is standard input")
 }
 
 // What a command takes: options, and a file.
@@ -108,6 +149,9 @@ enum Word {
     Record,
     Format,
     At,
+    Line,
+    Failure,
+    Failures,
 }
 
 // A command: its name, what its help says, and what it takes.
@@ -142,7 +186,7 @@ const COMMANDS: &[Row] = &[
         about: EXPLAIN_ABOUT,
         long_about: EXPLAIN_HELP,
         after_help: Some(LINES),
-        words: &[Word::Pages, Word::File],
+        words: &[Word::Pages, Word::File, Word::Failures],
     },
     // Draws trees.
     Row {
@@ -150,7 +194,14 @@ const COMMANDS: &[Row] = &[
         about: DRAW_ABOUT,
         long_about: DRAW_HELP,
         after_help: Some(DRAW_STATUS),
-        words: &[Word::Pages, Word::File, Word::Format, Word::At],
+        words: &[
+            Word::Pages,
+            Word::File,
+            Word::Format,
+            Word::At,
+            Word::Line,
+            Word::Failure,
+        ],
     },
     // Compares replies.
     Row {
@@ -163,13 +214,16 @@ const COMMANDS: &[Row] = &[
 ];
 
 // The option or the file.
-fn argument<'a>(alloc: Global, word: Word) -> Arg<'a> {
+fn argument<'a>(alloc: Global, word: Word) -> Result<Arg<'a>, AllocError> {
     match word {
-        Word::Pages => pages_word(alloc),
-        Word::File => file_word(alloc),
-        Word::Record => record_word(alloc),
-        Word::Format => format_word(alloc),
-        Word::At => at_word(alloc),
+        Word::Pages => Ok(pages_word(alloc)),
+        Word::File => Ok(file_word(alloc)),
+        Word::Record => Ok(record_word(alloc)),
+        Word::Format => Ok(format_word(alloc)),
+        Word::At => Ok(at_word(alloc)),
+        Word::Line => line_word(alloc).conflicts_with(AT),
+        Word::Failure => failure_word(alloc).conflicts_with(AT)?.conflicts_with(LINE),
+        Word::Failures => Ok(failures_word(alloc)),
     }
 }
 
@@ -188,7 +242,7 @@ fn named<'a>(alloc: Global, row: &Row) -> Command<'a> {
 fn made<'a>(alloc: Global, row: &Row) -> Result<Command<'a>, AllocError> {
     let mut command = named(alloc, row);
     for word in row.words {
-        command = command.arg(argument(alloc, *word))?;
+        command = command.arg(argument(alloc, *word)?)?;
     }
     Ok(command)
 }

@@ -8,7 +8,7 @@ pub(crate) const EXAMPLES: &str = "\
 Each command reads a script from FILE, or else from standard input:
 
     sysmem run camera.script
-    sysmem draw --at 28 camera.script
+    sysmem draw --failure camera.script
     sysmem explain < camera.script
 
 `sysmem run --help` lists the lines of a script. If FILE can't be opened, the
@@ -158,13 +158,15 @@ replies of `sysmem run`, and below them stands what the event did:
 
     dis close display
       done
+        event   28, line 36
         fordis fails, lost: its end was closed without a release
           up      fordis > root
           down    root > forcam forenc
         kept    root.0 root.1 root.2 root.3 by cam strong 1, dis strong 1
         fires   gone
 
-up: the failure climbs from node to parent, along links that are not blocked.
+event: the numbers of the event and of its line, for `sysmem draw`. up: the
+failure climbs from node to parent, along links that are not blocked.
 down: all children fail too. stops: why it climbs no further. kept: who keeps
 pages that are not free yet. camps: how many buffers each node camps on. waits:
 the nodes for which an allocation waits. since: the line whose event made that
@@ -182,19 +184,22 @@ pub(crate) const DRAW_ABOUT: &str = "Draws the trees after the last line or an e
 pub(crate) const DRAW_HELP: &str = "\
 Draws the trees of a script, after its last line or an event
 
-    sysmem draw --at 28 camera.script";
+    sysmem draw --at 28 camera.script
+    sysmem draw --line 36 camera.script
+    sysmem draw --failure camera.script";
 
 pub(crate) const DRAW_STATUS: &str = "\
-Lines that begin with two spaces are skipped, and those after the event that is
-asked for are not looked at. `sysmem run --help` lists the lines. So
+Lines that begin with two spaces are skipped, and those after the event, line or
+failure that is asked for are not looked at. `sysmem run --help` lists the
+lines. So
 
     sysmem draw --format dot camera.script | dot -Tsvg > camera.svg
 
 draws the trees after the last line of camera.script by Graphviz.
 
 Status: 0 the picture was written; 1 FILE can't be opened, or read or write
-fault; 2 the command line was refused, or there is no such event; 3 a bad line;
-4 no memory, or history full. A fault is one line on standard error; a bad line
+fault; 2 the command line was refused, or there is no such event, line or
+failure; 3 a bad line; 4 no memory, or history full. A fault is one line on standard error; a bad line
 has its reason.";
 
 pub(crate) const CHECK_ABOUT: &str = "Compares the replies of a transcript with the machine's";
@@ -208,8 +213,8 @@ A transcript is a script in which a line may be followed by its reply, indented
 by two spaces, and by lines indented by four or more, which are ignored. What
 `sysmem explain` writes is one, and so is what `sysmem threads --record` writes.
 `sysmem run --help` lists the lines of a script. If all replies agree, the
-numbers of lines that were played and of replies are written; else the first
-reply that differs:
+numbers of calls and views that were played and of replies are written, or that
+no line was played; else the first reply that differs:
 
     line 38: enc check encoder
       recorded  pending
@@ -218,4 +223,5 @@ reply that differs:
 
 Status: 0 all replies agree; 1 FILE can't be opened, or read or write fault; 2
 the command line was refused; 3 a bad line; 4 no memory, or history full; 6 a
-reply differs. A fault is one line on standard error; a bad line has its reason.";
+reply differs; 7 no line was played. A fault is one line on standard error; a bad
+line has its reason.";

@@ -1,9 +1,9 @@
 //! What the words of the command line ask for.
-ghost use Rattle.std.specs.Prelude.{◌≡◌, IfSome, codes, option_map};
+ghost use Rattle.std.specs.Prelude.{IfSome, codes, option_map};
 ghost use Rattle.clap.specs.Matches.{subcommand_name_of};
-ghost use Rattle.command_line.specs.Asked.{AreAsked, HasEvent, HasFormat, HasRecord, IsTask, subcommand_text, value_text};
+ghost use Rattle.command_line.specs.Asked.{AreAsked, HasFailures, HasFormat, HasRecord, HasUntil, IsFile, IsTask, subcommand_text, value_text};
 
-use crate::commands::{FILE, PAGES};
+use crate::commands::{FILE, PAGES, STANDARD_INPUT};
 use crate::task::{Task, task_of};
 use clap::ArgMatches;
 use script_lines::Pages;
@@ -27,12 +27,15 @@ pub fn request_of<'a>(matches: &ArgMatches<'a>) -> Option<Request<'a>>
     ensures task { IfSome result (λ request. IsTask (subcommand_name_of matches.now) request.task) }
     ensures format { IfSome result (λ request. HasFormat (subcommand_text (codes "format") matches.now)
         request.task) }
-    ensures event { IfSome result (λ request. HasEvent (value_text (codes "at") matches.now)
+    ensures until { IfSome result (λ request. HasUntil (value_text (codes "at") matches.now)
+        (value_text (codes "line") matches.now) (value_text (codes "failure") matches.now)
+        request.task) }
+    ensures failures { IfSome result (λ request. HasFailures (value_text (codes "failures") matches.now)
         request.task) }
     ensures record { IfSome result (λ request. HasRecord (value_text (codes "record") matches.now)
         request.task) }
-    ensures file { IfSome result (λ request. option_map (λ name. name.now) request.file
-        ≡ subcommand_text (codes "file") matches.now) }
+    ensures file { IfSome result (λ request. IsFile (subcommand_text (codes "file") matches.now)
+        (option_map (λ name. name.now) request.file)) }
 {
     match pages_of(matches) {
         Some(pages) => Some(Request {
@@ -58,8 +61,20 @@ fn pages_of(matches: &ArgMatches<'_>) -> Option<Pages>
 
 // The file that is read instead of standard input, if one is named.
 fn file_of<'a>(matches: &ArgMatches<'a>) -> Option<&'a str>
-    ensures { option_map (λ name. name.now) result ≡ subcommand_text (codes "file") matches.now }
+    ensures { IsFile (subcommand_text (codes "file") matches.now)
+        (option_map (λ name. name.now) result) }
 {
     let (_, inner) = matches.subcommand()?;
-    inner.get_str(FILE)
+    file_named(inner.get_str(FILE))
+}
+
+// The file of this name, if it is not the name of standard input.
+fn file_named(name: Option<&str>) -> Option<&str>
+    ensures { IsFile (option_map (λ text. text.now) name.entry)
+        (option_map (λ text. text.now) result) }
+{
+    match name {
+        Some(text) if text == STANDARD_INPUT => None,
+        _ => name,
+    }
 }

@@ -1,9 +1,11 @@
 //! What a command does with a script.
-ghost use Rattle.std.specs.Prelude.{codes, option_map};
+ghost use Rattle.std.specs.Prelude.{◌≡◌, codes, option_map};
 ghost use Rattle.clap.specs.Matches.{first_value, found_of, one_text, subcommand_name_of};
-ghost use Rattle.command_line.specs.Asked.{HasEvent, HasFormat, HasRecord, IsFormat, IsNumberRead, IsTask, subcommand_text, value_text};
+ghost use Rattle.command_line.specs.Asked.{HasFailures, HasFormat, HasRecord, HasUntil, IsFlag, IsFormat, IsTask, IsUntil, subcommand_text, until_asked, value_text};
 
-use crate::commands::{AT, CHECK, DOT, DRAW, EXPLAIN, FORMAT, RECORD, SVG, THREADS};
+use crate::commands::{
+    AT, CHECK, DOT, DRAW, EXPLAIN, FAILURE, FAILURES, FORMAT, LINE, RECORD, SVG, THREADS,
+};
 use clap::ArgMatches;
 
 /// What a picture is written as.
@@ -17,12 +19,24 @@ pub enum Format {
     Svg,
 }
 
+/// Behind what the trees are drawn. Numbers are from 1.
+#[derive(Clone, Copy)]
+pub enum Until {
+    /// The last line.
+    Last,
+    /// The event of this number.
+    Event(u64),
+    /// The line of this number.
+    Line(u64),
+    /// The event of this number among those in which a node failed.
+    Failure(u64),
+}
+
 /// Which picture is asked for.
 #[derive(Clone, Copy)]
 pub struct View {
     pub format: Format,
-    /// The event behind which the trees are drawn, from 1; `None` for the last.
-    pub at: Option<u64>,
+    pub until: Until,
 }
 
 /// What a command does with a script.
@@ -32,8 +46,9 @@ pub enum Task {
     Run,
     /// Runs the clients as actors, and writes the record too if it is asked for.
     Threads { has_record: bool },
-    /// Repeats each line with its reply and what its event forced.
-    Explain,
+    /// Repeats each line with its reply and what its event forced, or only the lines whose event made a
+    /// node fail.
+    Explain { only_failures: bool },
     /// Draws the trees.
     Draw(View),
     /// Compares the replies of a transcript.
@@ -45,7 +60,9 @@ pub enum Task {
 pub fn task_of(matches: &ArgMatches<'_>) -> Task
     ensures task { IsTask (subcommand_name_of matches.now) result }
     ensures format { HasFormat (subcommand_text (codes "format") matches.now) result }
-    ensures event { HasEvent (value_text (codes "at") matches.now) result }
+    ensures until { HasUntil (value_text (codes "at") matches.now)
+        (value_text (codes "line") matches.now) (value_text (codes "failure") matches.now) result }
+    ensures failures { HasFailures (value_text (codes "failures") matches.now) result }
     ensures record { HasRecord (value_text (codes "record") matches.now) result }
 {
     let Some((name, inner)) = matches.subcommand() else {
@@ -57,7 +74,9 @@ pub fn task_of(matches: &ArgMatches<'_>) -> Task
         };
     }
     if name == EXPLAIN {
-        return Task::Explain;
+        return Task::Explain {
+            only_failures: inner.get_flag(FAILURES),
+        };
     }
     if name == DRAW {
         return Task::Draw(view_of(inner));
@@ -72,11 +91,28 @@ pub fn task_of(matches: &ArgMatches<'_>) -> Task
 // The picture that the matches of `draw` ask for.
 fn view_of(matches: &ArgMatches<'_>) -> View
     ensures format { IsFormat (first_value (found_of matches.now) (codes "format")) result.format }
-    ensures event { IsNumberRead (one_text (found_of matches.now) (codes "at")) result.at }
+    ensures until { IsUntil (one_text (found_of matches.now) (codes "at"))
+        (one_text (found_of matches.now) (codes "line"))
+        (one_text (found_of matches.now) (codes "failure")) result.until }
 {
+    let event = matches.get_one::<u64>(AT);
+    let line = matches.get_one::<u64>(LINE);
+    let failure = matches.get_one::<u64>(FAILURE);
     View {
         format: format_of(matches.get_str(FORMAT)),
-        at: matches.get_one::<u64>(AT),
+        until: until_of(event, line, failure),
+    }
+}
+
+// Behind what the trees are drawn: the event of this number, or else this line, or else this failure.
+fn until_of(event: Option<u64>, line: Option<u64>, failure: Option<u64>) -> Until
+    ensures { result ≡ until_asked event line failure }
+{
+    match (event, line, failure) {
+        (Some(event), _, _) => Until::Event(event),
+        (None, Some(line), _) => Until::Line(line),
+        (None, None, Some(failure)) => Until::Failure(failure),
+        (None, None, None) => Until::Last,
     }
 }
 

@@ -1,11 +1,12 @@
 -- The outcome of a drawing once its picture is written.
-use Rattle.std.proofs.Common.{◌≡◌, ◌⊎◌, ℕ, ◌+◌, ◌<◌, ◌≤◌, true, false, List, [], ◌∷◌, ◌++◌, length, append-nil, sym, ◌∙◌, subst, Option, Some, None, inl, inr, arith}
+use Rattle.std.proofs.Common.{◌≡◌, ℕ, ◌+◌, ◌<◌, ◌≤◌, Bool, true, false, List, [], ◌∷◌, ◌++◌, length, append-nil, sym, ap, subst, Option, Some, None, inl, inr}
 use Rattle.std.proofs.KnownBytes.{Keeps-refl}
-use Rattle.std.specs.Prelude.{Ok, Err, Result, OnOk, IfErr}
+use Rattle.std.specs.Prelude.{Ok, Err, Result, OnOk, IfErr, option_map}
 use Rattle.std.specs.Io.KnownBytes.{Consumes, IsAtEnd}
 use Rattle.script_lines.specs.declared.TheConstants.{MOST_BYTES}
-use Rattle.script_lines.specs.Pieces.{whole_lines, last_part}
+use Rattle.script_lines.specs.Pieces.{whole_lines}
 use Rattle.script_faults.specs.declared.fault.ReportFault.{ReportFault}
+use Rattle.script_faults.specs.declared.fault.Sought.{Sought}
 use Rattle.script_faults.specs.Faults.{IsReported}
 use Rattle.script_faults.specs.Streams.{IsUnread}
 use Rattle.script_labels.specs.Names.{Names}
@@ -15,16 +16,17 @@ use Rattle.script_tales.specs.Called.{Calls}
 use Rattle.script_draw.specs.declared.draw.Format.{Format}
 use Rattle.script_draw.specs.declared.draw.Scroll.{Scroll}
 use Rattle.script_draw.specs.declared.draw.View.{View}
-use Rattle.script_draw.specs.Draws.{AreAll, Draws, EndsDrawn, PictureBefore, IsNoEvent, IsPicture, IsPictured, IsUnplayed, IsUnwritten, LinesDrawn, PictureLinesStop, Pictures, drawing_status}
-use Rattle.script_draw.specs.Played.{ComesBefore, LeadsToScene, is_reached}
-use Rattle.script_draw.specs.Reached.{PlayHalted, IsPlayedOn, PlayLinesHalt, Reached, stops_at_line}
+use Rattle.script_draw.specs.Draws.{AreAll, Draws, EndsDrawn, PictureBefore, IsMissing, IsPicture, IsPictured, IsUnplayed, IsUnwritten, LinesDrawn, PictureLinesStop, Pictures, drawing_status}
+use Rattle.script_draw.specs.declared.draw.Until.{Until}
+use Rattle.script_draw.specs.Played.{ComesBefore, IsAhead, LeadsToScene, asked_number, found, is_reached, wanted}
+use Rattle.script_draw.specs.Reached.{PlayEnds, PlayHalted, IsPlayedOn, PlayLinesHalt, Reached, stops_at_line}
 use Rattle.sm_names.specs.Marks.{Entry}
 use Rattle.core_state.specs.Shown.{Shows}
 use Rattle.script_pictures.specs.Albums.{KnowsKept}
 use Rattle.script_draw.proofs.Playing.{far-reaches, reached-is}
 
 -- a picture of the core is one of what happened so far
-pub pictures-so-far : (format : Format) (setting : Setting) (until : Option ℕ) (scroll : Scroll) (lines : List (List ℕ))
+pub pictures-so-far : (format : Format) (setting : Setting) (until : Until) (scroll : Scroll) (lines : List (List ℕ))
     (far : Reached setting until scroll lines) (blank text : List ℕ) → blank ≡ [] →
     ((names : Names) → KeepsNames scroll.teller.session.tables names → Calls scroll.teller.labels names → blank ≡ [] →
     (history : List Entry) → Shows scroll.teller.session.core history → KnowsKept scroll.teller.session.core scroll.album →
@@ -40,16 +42,16 @@ pictures-so-far format setting until scroll lines far blank text none on = recor
 
 -- what was written of the lines that were played, and why it was not
 abbrev pub IsWritten : Format → Scroll → Option (List ℕ) → Option (List ℕ) → Type 0
-IsWritten format scroll old new = (setting : Setting) (until : Option ℕ) (lines : List (List ℕ))
+IsWritten format scroll old new = (setting : Setting) (until : Until) (lines : List (List ℕ))
     (far : Reached setting until scroll lines) → IsPictured format setting far.scene scroll.line.items old new
 
 -- the fault says why no whole picture of the lines that were played was written
 abbrev pub IsRefused : Format → Scroll → Option (List ℕ) → Option (List ℕ) → ReportFault → Type 0
-IsRefused format scroll old new fault = (setting : Setting) (until : Option ℕ) (lines : List (List ℕ))
+IsRefused format scroll old new fault = (setting : Setting) (until : Until) (lines : List (List ℕ))
     (far : Reached setting until scroll lines) → IsUnwritten format setting far.scene scroll.line.items old new fault
 
 module _ (setting : Setting) (view : View) (scroll : Scroll) (old new : Option (List ℕ)) (script : List ℕ) where
-  module _ (lines after : List (List ℕ)) (split : whole_lines script ≡ lines ++ after) (far : Reached setting view.at scroll lines) where
+  module _ (lines after : List (List ℕ)) (split : whole_lines script ≡ lines ++ after) (far : Reached setting view.until scroll lines) where
     -- no picture went out, or a part of one
     cut-off : (fault : ReportFault) → IsUnwritten view.format setting far.scene scroll.line.items old new fault →
         PictureLinesStop setting view old new script fault
@@ -57,43 +59,44 @@ module _ (setting : Setting) (view : View) (scroll : Scroll) (old new : Option (
     cut-off ReportFault.TooLong stop = absurd stop
     cut-off (ReportFault.BadLine n reason) stop = absurd stop
     cut-off ReportFault.HistoryFull stop = absurd stop
-    cut-off (ReportFault.NoEvent event) stop = absurd stop
+    cut-off (ReportFault.Missing sought n) stop = absurd stop
     cut-off ReportFault.WriteFault stop = record {
       lines = lines;
       after = after;
       split = split;
       scene = far.scene;
       last = scroll.line.items;
-      reaches = far-reaches setting view.at scroll lines far;
+      reaches = far-reaches setting view.until scroll lines far;
       pictured = stop;
     }
     cut-off ReportFault.NoMemory stop = stop
 
   -- the picture of the lines that are asked for
-  pub drawn-all : (played : IsPlayedOn setting view.at scroll script) →
-      AreAll view.at script played.lines (length played.reached.scene.history) → (result : Result (Unit {0}) ReportFault) →
+  pub drawn-all : (all_found : Bool) (played : IsPlayedOn setting view.until all_found scroll script) →
+      AreAll (asked_number view.until) script played.lines (found view.until setting.pool played.lines played.reached.scene) → (result : Result (Unit {0}) ReportFault) →
       OnOk result (IsWritten view.format scroll old new) → IfErr result (IsRefused view.format scroll old new) →
       LinesDrawn setting view old new script result
-  drawn-all played all (Ok done) ok err = record {
+  drawn-all all_found played all (Ok done) ok err = record {
     lines = played.lines;
     after = played.after;
     split = played.split;
     scene = played.reached.scene;
     last = scroll.line.items;
-    reaches = far-reaches setting view.at scroll played.lines played.reached;
+    reaches = far-reaches setting view.until scroll played.lines played.reached;
     all = all;
-    pictured = ok setting view.at played.lines played.reached;
+    soonest = played.reached.ahead;
+    pictured = ok setting view.until played.lines played.reached;
   }
-  drawn-all played all (Err fault) ok err =
-      cut-off played.lines played.after played.split played.reached fault (err setting view.at played.lines played.reached)
+  drawn-all all_found played all (Err fault) ok err =
+      cut-off played.lines played.after played.split played.reached fault (err setting view.until played.lines played.reached)
 
   -- what is left of the lines before a stop
   abbrev Left : Type 0
-  Left = (lines : List (List ℕ)) (far : Reached setting view.at scroll lines) → ComesBefore view.at (length far.scene.history) →
-      PictureBefore view.at view.format setting far.scene scroll.line.items old new
+  Left = (lines : List (List ℕ)) (far : Reached setting view.until scroll lines) → IsAhead view.until setting.pool lines far.scene →
+      PictureBefore (asked_number view.until) (found view.until setting.pool lines far.scene) view.format setting far.scene scroll.line.items old new
 
   -- a line that halts the play leaves the picture that `left` gives of the lines before it
-  halted-left : (fault : ReportFault) (stop : PlayHalted setting view.at scroll (whole_lines script) fault) → Left →
+  halted-left : (fault : ReportFault) (stop : PlayHalted setting view.until scroll (whole_lines script) fault) → Left →
       IsUnplayed setting view old new script fault
   halted-left fault stop left = record {
     before = stop.before;
@@ -103,117 +106,130 @@ module _ (setting : Setting) (view : View) (scroll : Scroll) (old new : Option (
     whole = stop.whole;
     scene = stop.reached.scene;
     last = scroll.line.items;
-    reaches = far-reaches setting view.at scroll stop.before stop.reached;
+    reaches = far-reaches setting view.until scroll stop.before stop.reached;
     why = stop.why;
     left = left stop.before stop.reached stop.ahead;
   }
 
   -- a line stopped the script, and this is left of those before
-  stop-left : (fault : ReportFault) → stops_at_line fault ≡ true → PlayLinesHalt setting view.at scroll script fault → Left →
+  stop-left : (fault : ReportFault) → stops_at_line fault ≡ true → PlayLinesHalt setting view.until scroll script fault → Left →
       PictureLinesStop setting view old new script fault
   stop-left ReportFault.ReadFault test stop left = absurd stop
   stop-left ReportFault.TooLong test stop left = absurd stop
   stop-left ReportFault.WriteFault test stop left = absurd stop
-  stop-left (ReportFault.NoEvent event) test stop left = absurd stop
+  stop-left (ReportFault.Missing sought n) test stop left = absurd stop
   stop-left (ReportFault.BadLine n reason) test (inl stop) left = inl (halted-left (ReportFault.BadLine n reason) stop left)
   stop-left (ReportFault.BadLine n reason) test (inr stop) left = inr (record {
     unended = stop.unended;
     numbered = stop.numbered;
     scene = stop.reached.scene;
     last = scroll.line.items;
-    reaches = far-reaches setting view.at scroll (whole_lines script) stop.reached;
+    reaches = far-reaches setting view.until scroll (whole_lines script) stop.reached;
     left = left (whole_lines script) stop.reached stop.ahead;
   })
   stop-left ReportFault.HistoryFull test stop left = halted-left ReportFault.HistoryFull stop left
   stop-left ReportFault.NoMemory test stop left = absurd (cc)
 
   -- a line stopped the script, and the picture of those before went out
-  pub none-asked : view.at ≡ None → (fault : ReportFault) → stops_at_line fault ≡ true →
-      PlayLinesHalt setting view.at scroll script fault → IsWritten view.format scroll old new → PictureLinesStop setting view old new script fault
+  pub none-asked : wanted view.until ≡ None → (fault : ReportFault) → stops_at_line fault ≡ true →
+      PlayLinesHalt setting view.until scroll script fault → IsWritten view.format scroll old new → PictureLinesStop setting view old new script fault
   none-asked none fault test stop ok = stop-left fault test stop (λ lines far ahead.
-      subst (λ (at : Option ℕ). PictureBefore at view.format setting far.scene scroll.line.items old new) (sym none)
-      (ok setting view.at lines far))
+      subst (λ (at : Option ℕ). PictureBefore at (found view.until setting.pool lines far.scene) view.format setting far.scene
+      scroll.line.items old new) (sym (ap (option_map (λ (w : Sought × ℕ). w.1)) none))
+      (ok setting view.until lines far))
 
   -- a line stopped the script, and no picture went out
-  pub none-refused : (fault other : ReportFault) → stops_at_line fault ≡ true → PlayLinesHalt setting view.at scroll script fault →
+  pub none-refused : (fault other : ReportFault) → stops_at_line fault ≡ true → PlayLinesHalt setting view.until scroll script fault →
       IsRefused view.format scroll old new other → PictureLinesStop setting view old new script other
   none-refused ReportFault.ReadFault other test stop err = absurd stop
   none-refused ReportFault.TooLong other test stop err = absurd stop
   none-refused ReportFault.WriteFault other test stop err = absurd stop
-  none-refused (ReportFault.NoEvent event) other test stop err = absurd stop
+  none-refused (ReportFault.Missing sought n) other test stop err = absurd stop
   none-refused (ReportFault.BadLine n reason) other test (inl stop) err =
-      cut-off stop.before (stop.line ∷ stop.after) stop.split stop.reached other (err setting view.at stop.before stop.reached)
+      cut-off stop.before (stop.line ∷ stop.after) stop.split stop.reached other (err setting view.until stop.before stop.reached)
   none-refused (ReportFault.BadLine n reason) other test (inr stop) err =
       cut-off (whole_lines script) [] (sym (append-nil (whole_lines script))) stop.reached other
-      (err setting view.at (whole_lines script) stop.reached)
+      (err setting view.until (whole_lines script) stop.reached)
   none-refused ReportFault.HistoryFull other test stop err =
-      cut-off stop.before (stop.line ∷ stop.after) stop.split stop.reached other (err setting view.at stop.before stop.reached)
+      cut-off stop.before (stop.line ∷ stop.after) stop.split stop.reached other (err setting view.until stop.before stop.reached)
   none-refused ReportFault.NoMemory other test stop err = absurd (cc)
 
 module _ (setting : Setting) (view : View) (scroll : Scroll) (old : Option (List ℕ)) (script : List ℕ) where
-  -- a line stopped the script before the event that is asked for: nothing is written
-  pub some-asked : (at : ℕ) → view.at ≡ Some at → (fault : ReportFault) → stops_at_line fault ≡ true →
-      PlayLinesHalt setting view.at scroll script fault → PictureLinesStop setting view old old script fault
-  some-asked at asked fault test stop = stop-left setting view scroll old old script fault test stop (λ lines far ahead.
-      subst (λ (u : Option ℕ). PictureBefore u view.format setting far.scene scroll.line.items old old) (sym asked) (
-        subst (λ (u : Option ℕ). ComesBefore u (length far.scene.history)) asked ahead,
+  -- a line stopped the script before what is asked for: nothing is written
+  pub some-asked : (w : Sought × ℕ) → wanted view.until ≡ Some w → (fault : ReportFault) → stops_at_line fault ≡ true →
+      PlayLinesHalt setting view.until scroll script fault → PictureLinesStop setting view old old script fault
+  some-asked w asked fault test stop =
+      let number_is : asked_number view.until ≡ Some w.1 = ap (option_map (λ (v : Sought × ℕ). v.1)) asked in
+      stop-left setting view scroll old old script fault test stop (λ lines far ahead.
+      let count = found view.until setting.pool lines far.scene in
+      subst (λ (u : Option ℕ). PictureBefore u count view.format setting far.scene scroll.line.items old old) (sym number_is) (
+        subst (λ (u : Option ℕ). ComesBefore u count) number_is ahead,
         Keeps-refl old,
       ))
 
   -- memory was refused: nothing is written
-  pub no-line : (fault : ReportFault) → stops_at_line fault ≡ false → PlayLinesHalt setting view.at scroll script fault →
+  pub no-line : (fault : ReportFault) → stops_at_line fault ≡ false → PlayLinesHalt setting view.until scroll script fault →
       PictureLinesStop setting view old old script fault
   no-line ReportFault.ReadFault test stop = absurd stop
   no-line ReportFault.TooLong test stop = absurd stop
   no-line ReportFault.WriteFault test stop = absurd stop
-  no-line (ReportFault.NoEvent event) test stop = absurd stop
+  no-line (ReportFault.Missing sought n) test stop = absurd stop
   no-line (ReportFault.BadLine n reason) test stop = absurd (cc)
   no-line ReportFault.HistoryFull test stop = absurd (cc)
   no-line ReportFault.NoMemory test stop = Keeps-refl old
 
--- all lines were played where no event is asked for
-pub all-played : (setting : Setting) (until : Option ℕ) (scroll : Scroll) (script : List ℕ) (played : IsPlayedOn setting until scroll script) →
-    until ≡ None → AreAll until script played.lines (length played.reached.scene.history)
-all-played setting None scroll script played is = by played.ends
+-- all lines were played where the last is asked for: nothing else can be reached
+pub all-played : (setting : Setting) (until : Until) (all_found : Bool) (scroll : Scroll) (script : List ℕ)
+    (played : IsPlayedOn setting until all_found scroll script) → wanted until ≡ None →
+    AreAll (asked_number until) script played.lines (found until setting.pool played.lines played.reached.scene)
+all-played setting until all_found scroll script played is = by all_found played.ends
   where
-    by : (is_reached None (length played.reached.scene.history) ≡ true) ⊎ (played.lines ≡ whole_lines script) × (last_part script ≡ [])
-        × ComesBefore None (length played.reached.scene.history) → AreAll None script played.lines (length played.reached.scene.history)
-    by (inl test) = absurd (cc)
-    by (inr rest) = (rest.0, rest.1)
-all-played setting (Some at) scroll script played is = absurd (cc)
+    number_is : asked_number until ≡ None
+    number_is = ap (option_map (λ (w : Sought × ℕ). w.1)) is
 
--- the lines up to the event were played
-pub event-played : (setting : Setting) (until : Option ℕ) (scroll : Scroll) (script : List ℕ) (played : IsPlayedOn setting until scroll script) →
-    (at : ℕ) → until ≡ Some at → 0 < at → is_reached until (length played.reached.scene.history) ≡ true →
-    AreAll until script played.lines (length played.reached.scene.history)
-event-played setting None scroll script played at is some test = absurd (cc)
-event-played setting (Some event) scroll script played at is some test =
-    let same : event ≡ at = cc in
-    (reached-is event (length played.reached.scene.history) test, omega (arith, same, some))
+    count : ℕ
+    count = found until setting.pool played.lines played.reached.scene
 
--- the event was not made
-pub no-event : (setting : Setting) (view : View) (scroll : Scroll) (old : Option (List ℕ)) (script : List ℕ)
-    (played : IsPlayedOn setting view.at scroll script) (at : ℕ) → view.at ≡ Some at →
-    (at ≡ 0) ⊎ (is_reached view.at (length played.reached.scene.history) ≡ false) → IsNoEvent setting view old old script at
-no-event setting view scroll old script played at asked (inl zero) =
-    record { asked = asked; none = inl zero; kept = Keeps-refl old }
-no-event setting view scroll old script played at asked (inr test) = by played.ends
-  where
-    by : (is_reached view.at (length played.reached.scene.history) ≡ true) ⊎ (played.lines ≡ whole_lines script) × (last_part script ≡ [])
-        × ComesBefore view.at (length played.reached.scene.history) → IsNoEvent setting view old old script at
-    by (inl reached) = let both : true ≡ false = sym reached ∙ test in absurd (cc)
-    by (inr rest) = record {
-      asked = asked;
-      none = inr (record {
-        ended = rest.1;
-        scene = played.reached.scene;
-        last = scroll.line.items;
-        reaches = subst (λ (ls : List (List ℕ)). LeadsToScene setting ls played.reached.scene scroll.line.items) rest.0
-            (far-reaches setting view.at scroll played.lines played.reached);
-        fewer = subst (λ (u : Option ℕ). ComesBefore u (length played.reached.scene.history)) asked rest.2;
-      });
-      kept = Keeps-refl old;
-    }
+    by : (b : Bool) → PlayEnds b until setting.pool script played.lines played.reached.scene → AreAll (asked_number until) script played.lines count
+    by true reached =
+        let never : is_reached None count ≡ true = subst (λ (n : Option ℕ). is_reached n count ≡ true) number_is reached in
+        absurd (cc)
+    by false rest = subst (λ (n : Option ℕ). AreAll n script played.lines count) (sym number_is) (rest.0, rest.1)
+
+-- the lines up to what is asked for were played
+pub all-found : (setting : Setting) (until : Until) (scroll : Scroll) (script : List ℕ) (played : IsPlayedOn setting until true scroll script)
+    (w : Sought × ℕ) → wanted until ≡ Some w → 0 < w.1 →
+    AreAll (asked_number until) script played.lines (found until setting.pool played.lines played.reached.scene)
+all-found setting until scroll script played w is some =
+    let number_is : asked_number until ≡ Some w.1 = ap (option_map (λ (v : Sought × ℕ). v.1)) is in
+    let count = found until setting.pool played.lines played.reached.scene in
+    let reached : is_reached (Some w.1) count ≡ true =
+    subst (λ (n : Option ℕ). is_reached n count ≡ true) number_is played.ends in
+    subst (λ (n : Option ℕ). AreAll n script played.lines count) (sym number_is) (reached-is w.1 count reached, some)
+
+-- what is asked for has the number 0
+pub none-first : (setting : Setting) (view : View) (old : Option (List ℕ)) (script : List ℕ) (w : Sought × ℕ) →
+    wanted view.until ≡ Some w → w.1 ≡ 0 → IsMissing setting view old old script w.0 w.1
+none-first setting view old script w asked zero = record { asked = asked; none = inl zero; kept = Keeps-refl old }
+
+-- it was not reached
+pub none-reached : (setting : Setting) (view : View) (scroll : Scroll) (old : Option (List ℕ)) (script : List ℕ)
+    (played : IsPlayedOn setting view.until false scroll script) (w : Sought × ℕ) → wanted view.until ≡ Some w →
+    IsMissing setting view old old script w.0 w.1
+none-reached setting view scroll old script played w asked = record {
+  asked = asked;
+  none = inr (record {
+    ended = played.ends.1;
+    scene = played.reached.scene;
+    last = scroll.line.items;
+    reaches = subst (λ (ls : List (List ℕ)). LeadsToScene setting ls played.reached.scene scroll.line.items) played.ends.0
+        (far-reaches setting view.until scroll played.lines played.reached);
+    fewer = subst (λ (ls : List (List ℕ)). found view.until setting.pool ls played.reached.scene < w.1) played.ends.0
+        (subst (λ (n : Option ℕ). ComesBefore n (found view.until setting.pool played.lines played.reached.scene))
+        (ap (option_map (λ (v : Sought × ℕ). v.1)) asked) played.ends.2);
+  });
+  kept = Keeps-refl old;
+}
 
 module _ (setting : Setting) (view : View) (left_before left old : Option (List ℕ)) where
   -- memory was refused before any line was played
@@ -231,7 +247,7 @@ module _ (setting : Setting) (view : View) (left_before left old : Option (List 
   draws-unread ReportFault.WriteFault came = absurd came
   draws-unread (ReportFault.BadLine n reason) came = absurd came
   draws-unread ReportFault.HistoryFull came = absurd came
-  draws-unread (ReportFault.NoEvent event) came = absurd came
+  draws-unread (ReportFault.Missing sought n) came = absurd came
 
   module _ (new : Option (List ℕ)) (script : List ℕ) (taken : Consumes left_before left script) (end : IsAtEnd left)
       (within : length script ≤ MOST_BYTES) where
@@ -244,7 +260,7 @@ module _ (setting : Setting) (view : View) (left_before left old : Option (List 
     draws-told (Err ReportFault.WriteFault) drawn = record { script = script; taken = taken; outcome = (end, drawn) }
     draws-told (Err (ReportFault.BadLine n reason)) drawn = record { script = script; taken = taken; outcome = (end, drawn) }
     draws-told (Err ReportFault.HistoryFull) drawn = record { script = script; taken = taken; outcome = (end, drawn) }
-    draws-told (Err (ReportFault.NoEvent event)) drawn = record { script = script; taken = taken; outcome = (end, drawn) }
+    draws-told (Err (ReportFault.Missing sought n)) drawn = record { script = script; taken = taken; outcome = (end, drawn) }
     draws-told (Err ReportFault.NoMemory) drawn = record { script = script; taken = taken; outcome = drawn }
 
 -- a status that tells the outcome, and a line that tells its fault

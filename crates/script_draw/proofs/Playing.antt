@@ -1,5 +1,5 @@
 -- A script that is played on by one line, or stops at it.
-use Rattle.std.proofs.Common.{◌≡◌, ◌≢◌, ℕ, ◌+◌, ◌≤◌, true, false, List, [], ◌∷◌, ◌++◌, length, length-append, refl, sym, ◌∙◌, subst, Option, Some, None, inl, arith}
+use Rattle.std.proofs.Common.{◌≡◌, ◌≢◌, ℕ, ◌+◌, ◌<◌, ◌≤◌, ◌==◌, true, false, List, [], ◌∷◌, ◌++◌, length, length-append, refl, sym, ap, ◌∙◌, subst, Option, Some, None, inl, arith}
 use Rattle.std.proofs.lemmas.Bool.Decides.{nat_tests}
 use Rattle.std.specs.Prelude.{Ok, Err, Result, IfErr, codes, nat_le}
 use Rattle.sm_names.specs.declared.messages.Call.{Call}
@@ -19,10 +19,12 @@ use Rattle.sm_script.specs.Scenes.{Answers, Plays, Rests, Scene, Setting, as_lin
 use Rattle.script_labels.specs.Texts.{reply_text, view_text}
 use Rattle.sm_script.proofs.Playing.{plays-more}
 use Rattle.script_tales.specs.Called.{Knows}
+use Rattle.script_tales.specs.Failing.{failures}
 use Rattle.script_pictures.proofs.Showing.{knows-none}
 use Rattle.script_draw.specs.Draws.{IsLast}
 use Rattle.script_draw.specs.declared.draw.Scroll.{Scroll}
-use Rattle.script_draw.specs.Played.{ComesBefore, IsWithin, Played, Begins, Passes, Looks, Makes, LeadsToScene, is_call, is_reached}
+use Rattle.script_draw.specs.declared.draw.Until.{Until}
+use Rattle.script_draw.specs.Played.{ComesBefore, IsAhead, IsWithin, Played, Begins, Passes, Looks, Makes, LeadsToScene, WasAhead, asked_number, found, is_call, is_reached}
 use Rattle.script_draw.specs.Reached.{AsksFor, PlayHalts, PlayHalted, IsHeldUp, LineMakesCall, Reached}
 
 -- a line that makes no event gives some text, and changes nothing
@@ -65,42 +67,101 @@ played-plays pool lines scene last (Makes before line before_last there client c
           (record { act = Act.Ask client call binds; good = good; gives = (reply, refl, refl) })),
     )
 
--- 0 events are no more than are asked for
-within-none : (until : Option ℕ) → IsWithin until 0
-within-none None = tt
-within-none (Some at) = omega arith
+-- zero is the least number
+least : (n : ℕ) → 0 ≤ n
+least n = omega arith
 
--- one more event is made where fewer were than are asked for
-within-more : (until : Option ℕ) (n m : ℕ) → m ≡ n + 1 → ComesBefore until n → IsWithin until m
-within-more None n m is before = tt
-within-more (Some at) n m is before = omega (arith, is, before)
+-- a count below a number, that grows by one at most, does not exceed it
+grown-within : (a b n : ℕ) → a < n → b ≤ a + 1 → b ≤ n
+grown-within a b n before few = omega (arith, before, few)
 
--- it is not as many that were made
-pub ahead-of : (until : Option ℕ) (n : ℕ) → IsWithin until n → is_reached until n ≡ false → ComesBefore until n
+-- nothing is no more than is asked for
+within-none : (until : Until) (pool : ℕ) → IsWithin (asked_number until) (found until pool [] first_scene)
+within-none Until.Last pool = tt
+within-none (Until.Event number) pool = least number
+within-none (Until.Line number) pool = least number
+within-none (Until.Failure number) pool = least number
+
+-- one more line, without an event or with one in which nodes may have failed, where fewer were found than are asked for
+within-more : (until : Until) (pool : ℕ) (lines : List (List ℕ)) (line : List ℕ) (scene next : Scene) →
+    length next.history ≤ length scene.history + 1 →
+    failures (timeline pool next.history) ≤ failures (timeline pool scene.history) + 1 → IsAhead until pool lines scene →
+    IsWithin (asked_number until) (found until pool (lines ++ line ∷ []) next)
+within-more Until.Last pool lines line scene next one few ahead = tt
+within-more (Until.Event number) pool lines line scene next one few ahead =
+    grown-within (length scene.history) (length next.history) number ahead one
+within-more (Until.Line number) pool lines line scene next one few ahead =
+    let count = length-append lines (line ∷ []) in
+    grown-within (length lines) (length (lines ++ line ∷ [])) number ahead (omega (arith, count))
+within-more (Until.Failure number) pool lines line scene next one few ahead =
+    grown-within (failures (timeline pool scene.history)) (failures (timeline pool next.history)) number ahead few
+
+-- a number is no more than the next
+no-more : (n : ℕ) → n ≤ n + 1
+no-more n = omega arith
+
+-- a count that is the next number is no more than that
+one-more : (n m : ℕ) → m ≡ n + 1 → m ≤ n + 1
+one-more n m is = omega (arith, is)
+
+module _ (until : Until) (number pool : ℕ) (lines : List (List ℕ)) (scene : Scene) where
+  -- nothing reaches what is not asked for
+  pub at-last : until ≡ Until.Last → false ≡ is_reached (asked_number until) (found until pool lines scene)
+  at-last is = rw is refl
+
+  -- an event is reached where there are as many
+  pub at-event : until ≡ Until.Event number → (n : ℕ) → n ≡ length scene.history →
+      (number == n) ≡ is_reached (asked_number until) (found until pool lines scene)
+  at-event is n count = rw is (ap (λ (k : ℕ). number == k) count)
+
+  -- a line is reached where there are as many
+  pub at-line : until ≡ Until.Line number → (n : ℕ) → n ≡ length lines →
+      (number == n) ≡ is_reached (asked_number until) (found until pool lines scene)
+  at-line is n count = rw is (ap (λ (k : ℕ). number == k) count)
+
+  -- a failure is reached where there are as many
+  pub at-failure : until ≡ Until.Failure number → (n : ℕ) → n ≡ failures (timeline pool scene.history) →
+      (number == n) ≡ is_reached (asked_number until) (found until pool lines scene)
+  at-failure is n count = rw is (ap (λ (k : ℕ). number == k) count)
+
+-- it is not as many that were found
+pub ahead-of : (asked : Option ℕ) (n : ℕ) → IsWithin asked n → is_reached asked n ≡ false → ComesBefore asked n
 ahead-of None n within test = tt
 ahead-of (Some at) n within test = grind (arith, nat_tests)
 
--- as many were made as are asked for
+-- as many were found as are asked for
 pub reached-is : (at n : ℕ) → is_reached (Some at) n ≡ true → n ≡ at
 reached-is at n test = grind (arith, nat_tests)
 
+-- a count that grew by one at most, under other names
+same-few : (a b c d : ℕ) → a ≡ c → b ≡ d → b ≤ a + 1 → d ≤ c + 1
+same-few a b c d p q few = omega (arith, p, q, few)
+
+-- the lines were played, and before the last of them fewer were found than are asked for
+abbrev PlayedAhead : Until → ℕ → List (List ℕ) → Scene → List ℕ → Type 0
+PlayedAhead until pool lines scene last = (played : Played lines scene last) × WasAhead until pool lines scene last played
+
 -- no line was played
-pub far-none : (setting : Setting) (until : Option ℕ) (scroll : Scroll) → scroll.teller.session.core.pool ≡ setting.pool →
+pub far-none : (setting : Setting) (until : Until) (scroll : Scroll) → scroll.teller.session.core.pool ≡ setting.pool →
     scroll.teller.session.core.limits ≡ setting.limits → scroll.limits ≡ setting.limits → Knows scroll.teller first_scene →
     scroll.line.items ≡ [] → scroll.event ≡ None → Reached setting until scroll []
-far-none setting until scroll pool limits bound knows none quiet = record {
-  pool = pool;
-  limits = limits;
-  bound = bound;
-  scene = first_scene;
-  played = subst (Played [] first_scene) (sym none) Begins;
-  knows = knows;
-  kept = knows-none scroll.teller.session.core scroll.album knows.is_at.shows;
-  last = subst (IsLast setting.pool []) (sym quiet) refl;
-  within = within-none until;
-}
+far-none setting until scroll pool limits bound knows none quiet =
+    let so_far : PlayedAhead until setting.pool [] first_scene scroll.line.items =
+    subst (PlayedAhead until setting.pool [] first_scene) (sym none) (Begins, tt) in
+    record {
+      pool = pool;
+      limits = limits;
+      bound = bound;
+      scene = first_scene;
+      played = so_far.0;
+      knows = knows;
+      kept = knows-none scroll.teller.session.core scroll.album knows.is_at.shows;
+      last = subst (IsLast setting.pool []) (sym quiet) refl;
+      within = within-none until setting.pool;
+      ahead = so_far.1;
+    }
 
-module _ (setting : Setting) (until : Option ℕ) (scroll : Scroll) (lines : List (List ℕ)) (far : Reached setting until scroll lines) where
+module _ (setting : Setting) (until : Until) (scroll : Scroll) (lines : List (List ℕ)) (far : Reached setting until scroll lines) where
   -- the lines so far lead to the scene
   abbrev pub far-reaches : LeadsToScene setting lines far.scene scroll.line.items
   far-reaches = record {
@@ -112,65 +173,79 @@ module _ (setting : Setting) (until : Option ℕ) (scroll : Scroll) (lines : Lis
     };
   }
 
-  -- an indented line is passed over
-  pub far-pass : (line : List ℕ) → is_indented line ≡ true → Reached setting until scroll (lines ++ line ∷ [])
-  far-pass line skip = record {
-    pool = far.pool;
-    limits = far.limits;
-    bound = far.bound;
-    scene = far.scene;
-    played = Passes lines line scroll.line.items far.scene far.played skip;
-    knows = far.knows;
-    kept = far.kept;
-    last = far.last;
-    within = far.within;
-  }
+  module _ (before : IsAhead until setting.pool lines far.scene) where
+    -- an indented line is passed over
+    pub far-pass : (line : List ℕ) → is_indented line ≡ true → Reached setting until scroll (lines ++ line ∷ [])
+    far-pass line skip = record {
+      pool = far.pool;
+      limits = far.limits;
+      bound = far.bound;
+      scene = far.scene;
+      played = Passes lines line scroll.line.items far.scene far.played skip;
+      knows = far.knows;
+      kept = far.kept;
+      last = far.last;
+      within = within-more until setting.pool lines line far.scene far.scene (no-more _) (no-more _) before;
+      ahead = before;
+    }
 
-  -- a line that makes no event changes nothing
-  pub far-look : (line : List ℕ) (act : Act) → is_indented line ≡ false → act_in far.scene.names line ≡ Some act → is_call act ≡ false →
-      Reached setting until scroll (lines ++ line ∷ [])
-  far-look line act whole good is = record {
-    pool = far.pool;
-    limits = far.limits;
-    bound = far.bound;
-    scene = far.scene;
-    played = Looks lines line scroll.line.items far.scene act far.played whole good is;
-    knows = far.knows;
-    kept = far.kept;
-    last = far.last;
-    within = far.within;
-  }
+    -- a line that makes no event changes nothing
+    pub far-look : (line : List ℕ) (act : Act) → is_indented line ≡ false → act_in far.scene.names line ≡ Some act → is_call act ≡ false →
+        Reached setting until scroll (lines ++ line ∷ [])
+    far-look line act whole good is = record {
+      pool = far.pool;
+      limits = far.limits;
+      bound = far.bound;
+      scene = far.scene;
+      played = Looks lines line scroll.line.items far.scene act far.played whole good is;
+      knows = far.knows;
+      kept = far.kept;
+      last = far.last;
+      within = within-more until setting.pool lines line far.scene far.scene (no-more _) (no-more _) before;
+      ahead = before;
+    }
 
-  -- one more line made an event
-  pub far-make : (next : Scroll) (line : List ℕ) (client : ℕ) (call : Call) (binds : Binds) → is_indented line ≡ false →
-      act_in far.scene.names line ≡ Some (Act.Ask client call binds) → LineMakesCall scroll next client call binds line →
-      ComesBefore until (length far.scene.history) → Reached setting until next (lines ++ line ∷ [])
-  far-make next line client call binds whole good made before =
-      let event = made.made.event in
-      let scene = next_scene far.scene client call binds event.reply in
-      let same = made.setting far.scene far.knows.is_at in
-      record {
-        pool = same.pool ∙ far.pool;
-        limits = same.limits ∙ far.limits;
-        bound = made.limits ∙ far.bound;
-        scene = scene;
-        played = subst (Played (lines ++ line ∷ []) scene) (sym made.line_is)
-            (Makes lines line scroll.line.items far.scene client call binds event.reply far.played whole good);
-        knows = made.made.knows far.scene far.knows;
-        kept = made.kept far.scene far.knows far.kept;
-        last = subst (IsLast setting.pool scene.history) (sym made.made.kept) (record {
-          before = scroll.teller.session.core;
-          pool_is = far.pool;
-          earlier = far.scene.history;
-          shows = far.knows.is_at.shows;
-          client = client;
-          call = call;
-          is = made.made.is;
-          whole = refl;
-        });
-        within = within-more until (length far.scene.history) (length scene.history)
-            (length-append far.scene.history ((client, call, event.reply) ∷ [])) before;
-      }
+    -- one more line made an event
+    pub far-make : (next : Scroll) (line : List ℕ) (client : ℕ) (call : Call) (binds : Binds) → is_indented line ≡ false →
+        act_in far.scene.names line ≡ Some (Act.Ask client call binds) → LineMakesCall scroll next client call binds line →
+        Reached setting until next (lines ++ line ∷ [])
+    far-make next line client call binds whole good made =
+        let event = made.made.event in
+        let scene = next_scene far.scene client call binds event.reply in
+        let knows : Knows next.teller scene = made.made.knows far.scene far.knows in
+        let same = made.setting far.scene far.knows.is_at in
+        let pool_is : next.teller.session.core.pool ≡ setting.pool = same.pool ∙ far.pool in
+        let counted : next.teller.failures ≡ failures (timeline setting.pool scene.history) =
+        knows.failed ∙ ap (λ (p : ℕ). failures (timeline p scene.history)) pool_is in
+        let counted_before : scroll.teller.failures ≡ failures (timeline setting.pool far.scene.history) =
+        far.knows.failed ∙ ap (λ (p : ℕ). failures (timeline p far.scene.history)) far.pool in
+        let so_far : PlayedAhead until setting.pool (lines ++ line ∷ []) scene next.line.items =
+        subst (PlayedAhead until setting.pool (lines ++ line ∷ []) scene) (sym made.line_is)
+        (Makes lines line scroll.line.items far.scene client call binds event.reply far.played whole good, before) in
+        record {
+          pool = pool_is;
+          limits = same.limits ∙ far.limits;
+          bound = made.limits ∙ far.bound;
+          scene = scene;
+          played = so_far.0;
+          knows = knows;
+          kept = made.kept far.scene far.knows far.kept;
+          last = subst (IsLast setting.pool scene.history) (sym made.made.kept) (record {
+            before = scroll.teller.session.core;
+            pool_is = far.pool;
+            earlier = far.scene.history;
+            shows = far.knows.is_at.shows;
+            client = client;
+            call = call;
+            is = made.made.is;
+            whole = refl;
+          });
+          within = within-more until setting.pool lines line far.scene scene
+              (one-more (length far.scene.history) (length scene.history)
+              (length-append far.scene.history ((client, call, event.reply) ∷ [])))
+              (same-few scroll.teller.failures next.teller.failures _ _ counted_before counted made.failures) before;
+          ahead = so_far.1;
+        }
 
 -- a bad line and a refusal of memory are different reasons to stop
 bad-memory : Stop.BadLine ≡ Stop.NoMemory → ⊥
@@ -180,8 +255,8 @@ bad-memory e = cc
 full-memory : Stop.HistoryFull ≡ Stop.NoMemory → ⊥
 full-memory e = cc
 
-module _ (setting : Setting) (until : Option ℕ) (old new : Scroll) (lines : List (List ℕ)) (far : Reached setting until old lines)
-    (before : ComesBefore until (length far.scene.history)) (line : List ℕ) (stop : Stop)
+module _ (setting : Setting) (until : Until) (old new : Scroll) (lines : List (List ℕ)) (far : Reached setting until old lines)
+    (before : IsAhead until setting.pool lines far.scene) (line : List ℕ) (stop : Stop)
     (same : stop ≢ Stop.NoMemory → new ≡ old) (why : IsHeldUp setting far.scene line stop) (number : ℕ)
     (numbered : number ≡ length lines + 1) where
   -- the line was not played
@@ -189,7 +264,7 @@ module _ (setting : Setting) (until : Option ℕ) (old new : Scroll) (lines : Li
   far-stop ReportFault.ReadFault is = absurd is
   far-stop ReportFault.TooLong is = absurd is
   far-stop ReportFault.WriteFault is = absurd is
-  far-stop (ReportFault.NoEvent event) is = absurd is
+  far-stop (ReportFault.Missing sought n) is = absurd is
   far-stop (ReportFault.BadLine n reason) is =
       let held = subst (IsHeldUp setting far.scene line) is.0 why in
       subst (λ (s : Scroll). PlayHalted setting until s (lines ++ line ∷ []) (ReportFault.BadLine n reason))
@@ -220,7 +295,7 @@ module _ (setting : Setting) (until : Option ℕ) (old new : Scroll) (lines : Li
 
 -- why a line that asks for the act was not played
 abbrev pub HeldUp : Scroll → List ℕ → Act → Stop → Type 0
-HeldUp scroll line act stop = (setting : Setting) (until : Option ℕ) (lines : List (List ℕ)) (far : Reached setting until scroll lines) →
+HeldUp scroll line act stop = (setting : Setting) (until : Until) (lines : List (List ℕ)) (far : Reached setting until scroll lines) →
     AsksFor far.scene line act → IsHeldUp setting far.scene line stop
 
 -- what fails for want of memory alone says nothing of the line
@@ -231,15 +306,15 @@ held-made (Err stop) scroll line act is = λ setting until lines far asks. subst
 
 -- the line asks for the act
 pub held-on : (result : Result (Unit {0}) Stop) (scroll : Scroll) (line : List ℕ) (act : Act) →
-    ((setting : Setting) (until : Option ℕ) (lines : List (List ℕ)) (far : Reached setting until scroll lines) → AsksFor far.scene line act) →
+    ((setting : Setting) (until : Until) (lines : List (List ℕ)) (far : Reached setting until scroll lines) → AsksFor far.scene line act) →
     IfErr result (HeldUp scroll line act) →
-    IfErr result (λ stop. (setting : Setting) (until : Option ℕ) (lines : List (List ℕ)) (far : Reached setting until scroll lines) →
+    IfErr result (λ stop. (setting : Setting) (until : Until) (lines : List (List ℕ)) (far : Reached setting until scroll lines) →
     IsHeldUp setting far.scene line stop)
 held-on (Ok done) scroll line act asks held = tt
 held-on (Err stop) scroll line act asks held = λ setting until lines far. held setting until lines far (asks setting until lines far)
 
 -- as many events were made as may be
-pub held-full : (setting : Setting) (until : Option ℕ) (scroll : Scroll) (lines : List (List ℕ)) (far : Reached setting until scroll lines)
+pub held-full : (setting : Setting) (until : Until) (scroll : Scroll) (lines : List (List ℕ)) (far : Reached setting until scroll lines)
     (line : List ℕ) (client : ℕ) (call : Call) (binds : Binds) → is_indented line ≡ false →
     act_in far.scene.names line ≡ Some (Act.Ask client call binds) →
     nat_le scroll.limits.events scroll.teller.session.core.events ≡ true → IsHeldUp setting far.scene line Stop.HistoryFull

@@ -10,6 +10,7 @@ use Rattle.script_lines.specs.declared.TheConstants.{MOST_BYTES}
 use Rattle.script_lines.specs.Pieces.{whole_lines, last_part}
 use Rattle.script_lines.specs.Written.{WritesPart}
 use Rattle.script_faults.specs.declared.fault.ReportFault.{ReportFault}
+use Rattle.script_faults.specs.declared.fault.Sought.{Sought}
 use Rattle.script_faults.specs.Faults.{IsReported, fault_status}
 use Rattle.script_faults.specs.IndentedLines.{is_indented}
 use Rattle.script_labels.specs.Names.{Names, act_in}
@@ -22,7 +23,8 @@ use Rattle.script_pictures.specs.Albums.{KnowsKept}
 use Rattle.script_pictures.specs.Shown.{ShowsEvent, ShowsKept}
 use Rattle.script_draw.specs.declared.draw.Format.{Format}
 use Rattle.script_draw.specs.declared.draw.View.{View}
-use Rattle.script_draw.specs.Played.{LeadsToScene}
+use Rattle.script_draw.specs.declared.draw.Until.{Until}
+use Rattle.script_draw.specs.Played.{LeadsToScene, WasAhead, asked_number, found, wanted}
 use Rattle.picture_dot.specs.DotPictures.{dot_text}
 use Rattle.picture_svg.specs.SvgPictures.{svg_text}
 use Rattle.picture_text.specs.TextPictures.{picture_text}
@@ -86,12 +88,12 @@ IsUnwritten format setting scene last old new ReportFault.WriteFault = IsPicture
 IsUnwritten format setting scene last old new ReportFault.NoMemory = Keeps old new
 IsUnwritten format setting scene last old new _ = ⊥
 
--- these are all lines of the script, or those up to the event that is asked for
+-- these are all lines of the script, or have as many of what is sought as are asked for
 abbrev pub AreAll : Option ℕ → List ℕ → List (List ℕ) → ℕ → Type 0
-AreAll None script lines events = (lines ≡ whole_lines script) × (last_part script ≡ [])
-AreAll (Some at) script lines events = (events ≡ at) × (0 < at)
+AreAll None script lines count = (lines ≡ whole_lines script) × (last_part script ≡ [])
+AreAll (Some number) script lines count = (count ≡ number) × (0 < number)
 
--- these lines were played, and a picture of what they lead to was written
+-- these lines were played, those up to the first that reaches what is asked for, and a picture of what they lead to was written
 pub record IsDrawn (setting : Setting) (view : View) (old new : Option (List ℕ)) (script : List ℕ) : Type 0 where
   pub lines : List (List ℕ)
   pub after : List (List ℕ)
@@ -99,7 +101,8 @@ pub record IsDrawn (setting : Setting) (view : View) (old new : Option (List ℕ
   pub scene : Scene
   pub last : List ℕ
   pub reaches : LeadsToScene setting lines scene last
-  pub all : AreAll view.at script lines (length scene.history)
+  pub all : AreAll (asked_number view.until) script lines (found view.until setting.pool lines scene)
+  pub soonest : WasAhead view.until setting.pool lines scene last reaches.played
   pub pictured : IsPictured view.format setting scene last old new
 
 -- a first part of a picture of what some first lines lead to was written
@@ -112,11 +115,11 @@ pub record PictureCutOff (setting : Setting) (view : View) (old new : Option (Li
   pub reaches : LeadsToScene setting lines scene last
   pub pictured : IsPicturedInPart view.format setting scene last old new
 
--- what is written where a line could not be played: the picture of what the lines before it lead to; nothing where an event is
--- asked for, which those lines did not make
-abbrev pub PictureBefore : Option ℕ → Format → Setting → Scene → List ℕ → Option (List ℕ) → Option (List ℕ) → Type 0
-PictureBefore None format setting scene last old new = IsPictured format setting scene last old new
-PictureBefore (Some at) format setting scene last old new = (length scene.history < at) × Keeps old new
+-- what is written where a line could not be played: the picture of what the lines before it lead to; nothing where those lines
+-- have fewer of what is sought than are asked for
+abbrev pub PictureBefore : Option ℕ → ℕ → Format → Setting → Scene → List ℕ → Option (List ℕ) → Option (List ℕ) → Type 0
+PictureBefore None count format setting scene last old new = IsPictured format setting scene last old new
+PictureBefore (Some number) count format setting scene last old new = (count < number) × Keeps old new
 
 -- why the line of this number was not played
 abbrev pub PictureFault : Setting → Scene → List ℕ → ℕ → ReportFault → Type 0
@@ -135,7 +138,7 @@ pub record IsUnplayed (setting : Setting) (view : View) (old new : Option (List 
   pub last : List ℕ
   pub reaches : LeadsToScene setting before scene last
   pub why : PictureFault setting scene line (length before + 1) fault
-  pub left : PictureBefore view.at view.format setting scene last old new
+  pub left : PictureBefore (asked_number view.until) (found view.until setting.pool before scene) view.format setting scene last old new
 
 -- the last line has no end, and all others were played
 pub record PictureUnended (setting : Setting) (view : View) (old new : Option (List ℕ)) (script : List ℕ) (number : ℕ) : Type 0 where
@@ -144,21 +147,23 @@ pub record PictureUnended (setting : Setting) (view : View) (old new : Option (L
   pub scene : Scene
   pub last : List ℕ
   pub reaches : LeadsToScene setting (whole_lines script) scene last
-  pub left : PictureBefore view.at view.format setting scene last old new
+  pub left : PictureBefore (asked_number view.until) (found view.until setting.pool (whole_lines script) scene) view.format setting scene
+      last old new
 
--- the lines make fewer events than this
-pub record IsBehind (setting : Setting) (script : List ℕ) (event : ℕ) : Type 0 where
+-- the lines have fewer of what is sought than this
+pub record IsBehind (setting : Setting) (until : Until) (script : List ℕ) (number : ℕ) : Type 0 where
   pub ended : last_part script ≡ []
   pub scene : Scene
   pub last : List ℕ
   pub reaches : LeadsToScene setting (whole_lines script) scene last
-  pub fewer : length scene.history < event
+  pub fewer : found until setting.pool (whole_lines script) scene < number
 
--- an event is asked for that there is not: event 0, or one behind the last
-pub record IsNoEvent (setting : Setting) (view : View) (old new : Option (List ℕ)) (script : List ℕ) (event : ℕ) : Type 0 where
-  pub asked : view.at ≡ Some event
-  pub none : (event ≡ 0) ⊎ IsBehind setting script event
-  pub kept : Keeps old new
+-- what is asked for is not there: it has the number 0, or one behind the last
+pub record IsMissing (setting : Setting) (view : View) (old new : Option (List ℕ)) (script : List ℕ) (sought : Sought) (number : ℕ) : Type 0
+  where
+    pub asked : wanted view.until ≡ Some (sought, number)
+    pub none : (number ≡ 0) ⊎ IsBehind setting view.until script number
+    pub kept : Keeps old new
 
 -- why no picture was drawn, or one of some first lines
 abbrev pub PictureLinesStop : Setting → View → Option (List ℕ) → Option (List ℕ) → List ℕ → ReportFault → Type 0
@@ -167,7 +172,8 @@ PictureLinesStop setting view old new script (ReportFault.BadLine n reason) =
     IsUnplayed setting view old new script (ReportFault.BadLine n reason) ⊎ PictureUnended setting view old new script n
 PictureLinesStop setting view old new script ReportFault.HistoryFull = IsUnplayed setting view old new script ReportFault.HistoryFull
 PictureLinesStop setting view old new script ReportFault.NoMemory = Keeps old new
-PictureLinesStop setting view old new script (ReportFault.NoEvent event) = IsNoEvent setting view old new script event
+PictureLinesStop setting view old new script (ReportFault.Missing sought number) =
+    IsMissing setting view old new script sought number
 PictureLinesStop setting view old new script _ = ⊥
 
 -- what came of a script that was read

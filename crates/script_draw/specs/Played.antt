@@ -1,12 +1,16 @@
 -- What the lines of a script lead to, where its trees are drawn.
-use Rattle.std.specs.Prelude.{ℕ, ◌≡◌, ◌+◌, ◌<◌, ◌≤◌, ◌==◌, Bool, true, false, List, [], ◌∷◌, ◌++◌, Option, Some, None}
+use Rattle.std.specs.Prelude.{ℕ, ◌≡◌, ◌+◌, ◌<◌, ◌≤◌, ◌==◌, Bool, true, false, List, [], ◌∷◌, ◌++◌, length, Option, Some, None, option_map}
 use Rattle.sm_names.specs.declared.messages.Call.{Call}
 use Rattle.sm_names.specs.declared.messages.Reply.{Reply}
+use Rattle.sm_names.specs.Timelines.{timeline}
+use Rattle.script_faults.specs.declared.fault.Sought.{Sought}
 use Rattle.script_faults.specs.IndentedLines.{is_indented, unindented}
 use Rattle.script_labels.specs.declared.act.Act.{Act}
 use Rattle.script_labels.specs.declared.act.Binds.{Binds}
 use Rattle.script_labels.specs.Names.{act_in}
 use Rattle.sm_script.specs.Scenes.{LeadsTo, Scene, Setting, first_scene, next_scene}
+use Rattle.script_tales.specs.Failing.{failures}
+use Rattle.script_draw.specs.declared.draw.Until.{Until}
 
 -- the act is a call, which makes an event
 abbrev pub is_call : Act → Bool
@@ -31,17 +35,47 @@ pub record LeadsToScene (setting : Setting) (lines : List (List ℕ)) (scene : S
   pub texts : List ℕ
   pub leads : LeadsTo setting (unindented lines) texts scene
 
--- no more events were made than are asked for
+-- what is sought, and which of it; nothing where the last line is asked for
+abbrev pub wanted : Until → Option (Sought × ℕ)
+wanted Until.Last = None
+wanted (Until.Event number) = Some (Sought.Event, number)
+wanted (Until.Line number) = Some (Sought.Line, number)
+wanted (Until.Failure number) = Some (Sought.Failure, number)
+
+-- which of it
+abbrev pub asked_number : Until → Option ℕ
+asked_number until = option_map (λ (w : Sought × ℕ). w.1) (wanted until)
+
+-- how many of what is sought these lines have, where they lead to this scene: events, lines, or events in which nodes failed
+abbrev pub found : Until → ℕ → List (List ℕ) → Scene → ℕ
+found Until.Last pool lines scene = 0
+found (Until.Event number) pool lines scene = length scene.history
+found (Until.Line number) pool lines scene = length lines
+found (Until.Failure number) pool lines scene = failures (timeline pool scene.history)
+
+-- no more were found than are asked for
 abbrev pub IsWithin : Option ℕ → ℕ → Type 0
-IsWithin None events = Unit {0}
-IsWithin (Some at) events = events ≤ at
+IsWithin None count = Unit {0}
+IsWithin (Some number) count = count ≤ number
 
--- fewer events were made than are asked for
+-- fewer were found than are asked for
 abbrev pub ComesBefore : Option ℕ → ℕ → Type 0
-ComesBefore None events = Unit {0}
-ComesBefore (Some at) events = events < at
+ComesBefore None count = Unit {0}
+ComesBefore (Some number) count = count < number
 
--- as many events were made as are asked for
+-- as many were found as are asked for
 abbrev pub is_reached : Option ℕ → ℕ → Bool
-is_reached None events = false
-is_reached (Some at) events = at == events
+is_reached None count = false
+is_reached (Some number) count = number == count
+
+-- these lines have fewer than are asked for
+abbrev pub IsAhead : Until → ℕ → List (List ℕ) → Scene → Type 0
+IsAhead until pool lines scene = ComesBefore (asked_number until) (found until pool lines scene)
+
+-- the lines before the last had fewer: what is asked for is reached by the last line at the earliest
+abbrev pub WasAhead : (until : Until) (pool : ℕ) (lines : List (List ℕ)) (scene : Scene) (last : List ℕ) → Played lines scene last → Type 0
+WasAhead until pool lines scene last Begins = Unit {0}
+WasAhead until pool lines scene last (Passes before line before_last there so_far skip) = IsAhead until pool before there
+WasAhead until pool lines scene last (Looks before line before_last there act so_far whole good is) = IsAhead until pool before there
+WasAhead until pool lines scene last (Makes before line before_last there client call binds reply so_far whole good) =
+    IsAhead until pool before there

@@ -1,5 +1,5 @@
 -- How far a script is played that is drawn. No public clause cites this module.
-use Rattle.std.specs.Prelude.{ℕ, ◌≡◌, ◌≢◌, ◌⊎◌, ◌+◌, Bool, true, false, List, [], ◌∷◌, ◌++◌, length, Option, Some, None}
+use Rattle.std.specs.Prelude.{ℕ, ◌≡◌, ◌≢◌, ◌⊎◌, ◌+◌, ◌≤◌, Bool, true, false, List, [], ◌∷◌, ◌++◌, length, Some, None}
 use Rattle.script_lines.specs.Pieces.{whole_lines, last_part}
 use Rattle.script_faults.specs.declared.fault.ReportFault.{ReportFault}
 use Rattle.script_faults.specs.IndentedLines.{is_indented}
@@ -18,10 +18,11 @@ use Rattle.script_tales.specs.Tellings.{IsEventOf}
 use Rattle.script_pictures.specs.Albums.{KnowsKept}
 use Rattle.script_draw.specs.declared.draw.Scroll.{Scroll}
 use Rattle.script_draw.specs.Draws.{IsLast, PictureFault}
-use Rattle.script_draw.specs.Played.{ComesBefore, IsWithin, Played, is_reached}
+use Rattle.script_draw.specs.declared.draw.Until.{Until}
+use Rattle.script_draw.specs.Played.{IsAhead, IsWithin, Played, WasAhead, asked_number, found, is_reached}
 
--- these lines were played, which made no more events than are asked for
-pub record Reached (setting : Setting) (until : Option ℕ) (scroll : Scroll) (lines : List (List ℕ)) : Type 0 where
+-- these lines were played, which have no more of what is sought than is asked for, and before the last of them fewer
+pub record Reached (setting : Setting) (until : Until) (scroll : Scroll) (lines : List (List ℕ)) : Type 0 where
   pub pool : scroll.teller.session.core.pool ≡ setting.pool
   pub limits : scroll.teller.session.core.limits ≡ setting.limits
   pub bound : scroll.limits ≡ setting.limits
@@ -30,12 +31,13 @@ pub record Reached (setting : Setting) (until : Option ℕ) (scroll : Scroll) (l
   pub knows : Knows scroll.teller scene
   pub kept : KnowsKept scroll.teller.session.core scroll.album
   pub last : IsLast setting.pool scene.history scroll.event
-  pub within : IsWithin until (length scene.history)
+  pub within : IsWithin (asked_number until) (found until setting.pool lines scene)
+  pub ahead : WasAhead until setting.pool lines scene scroll.line.items played
 
--- one more line was played between the two moments, where fewer events were made than are asked for
+-- one more line was played between the two moments, where fewer were found than are asked for
 abbrev pub PlaysLine : Scroll → Scroll → List ℕ → Type 0
-PlaysLine old new line = (setting : Setting) (until : Option ℕ) (lines : List (List ℕ)) (far : Reached setting until old lines) →
-    ComesBefore until (length far.scene.history) → Reached setting until new (lines ++ line ∷ [])
+PlaysLine old new line = (setting : Setting) (until : Until) (lines : List (List ℕ)) (far : Reached setting until old lines) →
+    IsAhead until setting.pool lines far.scene → Reached setting until new (lines ++ line ∷ [])
 
 -- the call was made between the two moments, and its event is the last
 pub record MakesEvent (old new : Teller) (last : Option Event) (client : ℕ) (call : Call) (binds : Binds) : Type 0 where
@@ -48,6 +50,7 @@ pub record MakesEvent (old new : Teller) (last : Option Event) (client : ℕ) (c
 pub record LineMakesCall (old new : Scroll) (client : ℕ) (call : Call) (binds : Binds) (line : List ℕ) : Type 0 where
   pub setting : (scene : Scene) → IsAt old.teller.session scene → IsSameSetting old.teller.session new.teller.session
   pub limits : new.limits ≡ old.limits
+  pub failures : new.teller.failures ≤ old.teller.failures + 1
   pub line_is : new.line.items ≡ line
   pub made : MakesEvent old.teller new.teller new.event client call binds
   pub kept : (scene : Scene) → Knows old.teller scene → KnowsKept old.teller.session.core old.album →
@@ -65,44 +68,49 @@ IsHeldUp setting scene line Stop.HistoryFull = (is_indented line ≡ false) × I
 IsHeldUp setting scene line Stop.NoMemory = Unit {0}
 
 -- a line was not played, and all before it were
-pub record PlayHalted (setting : Setting) (until : Option ℕ) (scroll : Scroll) (lines : List (List ℕ)) (fault : ReportFault) : Type 0 where
+pub record PlayHalted (setting : Setting) (until : Until) (scroll : Scroll) (lines : List (List ℕ)) (fault : ReportFault) : Type 0 where
   pub before : List (List ℕ)
   pub line : List ℕ
   pub after : List (List ℕ)
   pub split : lines ≡ before ++ line ∷ after
   pub whole : is_indented line ≡ false
   pub reached : Reached setting until scroll before
-  pub ahead : ComesBefore until (length reached.scene.history)
+  pub ahead : IsAhead until setting.pool before reached.scene
   pub why : PictureFault setting reached.scene line (length before + 1) fault
 
 -- why these lines were not all played
-abbrev pub PlayHalts : Setting → Option ℕ → Scroll → List (List ℕ) → ReportFault → Type 0
+abbrev pub PlayHalts : Setting → Until → Scroll → List (List ℕ) → ReportFault → Type 0
 PlayHalts setting until scroll lines (ReportFault.BadLine n reason) = PlayHalted setting until scroll lines (ReportFault.BadLine n reason)
 PlayHalts setting until scroll lines ReportFault.HistoryFull = PlayHalted setting until scroll lines ReportFault.HistoryFull
 PlayHalts setting until scroll lines ReportFault.NoMemory = Unit {0}
 PlayHalts setting until scroll lines _ = ⊥
 
 -- the last line has no end, and all others were played
-pub record PlayUnended (setting : Setting) (until : Option ℕ) (scroll : Scroll) (script : List ℕ) (number : ℕ) : Type 0 where
+pub record PlayUnended (setting : Setting) (until : Until) (scroll : Scroll) (script : List ℕ) (number : ℕ) : Type 0 where
   pub unended : last_part script ≢ []
   pub numbered : number ≡ length (whole_lines script) + 1
   pub reached : Reached setting until scroll (whole_lines script)
-  pub ahead : ComesBefore until (length reached.scene.history)
+  pub ahead : IsAhead until setting.pool (whole_lines script) reached.scene
 
--- why a script was not played to its end, or to the event that is asked for
-abbrev pub PlayLinesHalt : Setting → Option ℕ → Scroll → List ℕ → ReportFault → Type 0
+-- why a script was not played to its end, or to what is asked for
+abbrev pub PlayLinesHalt : Setting → Until → Scroll → List ℕ → ReportFault → Type 0
 PlayLinesHalt setting until scroll script (ReportFault.BadLine n reason) =
     PlayHalts setting until scroll (whole_lines script) (ReportFault.BadLine n reason) ⊎ PlayUnended setting until scroll script n
 PlayLinesHalt setting until scroll script fault = PlayHalts setting until scroll (whole_lines script) fault
 
--- a script was played to its end, or to the event that is asked for
-pub record IsPlayedOn (setting : Setting) (until : Option ℕ) (scroll : Scroll) (script : List ℕ) : Type 0 where
+-- what is asked for was reached; or it was not, and these are all lines
+abbrev pub PlayEnds : Bool → Until → ℕ → List ℕ → List (List ℕ) → Scene → Type 0
+PlayEnds true until pool script lines scene = is_reached (asked_number until) (found until pool lines scene) ≡ true
+PlayEnds false until pool script lines scene =
+    (lines ≡ whole_lines script) × (last_part script ≡ []) × IsAhead until pool lines scene
+
+-- a script was played to what is asked for, or to its end
+pub record IsPlayedOn (setting : Setting) (until : Until) (all_found : Bool) (scroll : Scroll) (script : List ℕ) : Type 0 where
   pub lines : List (List ℕ)
   pub after : List (List ℕ)
   pub split : whole_lines script ≡ lines ++ after
   pub reached : Reached setting until scroll lines
-  pub ends : (is_reached until (length reached.scene.history) ≡ true)
-      ⊎ (lines ≡ whole_lines script) × (last_part script ≡ []) × ComesBefore until (length reached.scene.history)
+  pub ends : PlayEnds all_found until setting.pool script lines reached.scene
 
 -- the fault is one of a line, which changed nothing
 abbrev pub stops_at_line : ReportFault → Bool
@@ -112,4 +120,4 @@ stops_at_line ReportFault.ReadFault = false
 stops_at_line ReportFault.TooLong = false
 stops_at_line ReportFault.WriteFault = false
 stops_at_line ReportFault.NoMemory = false
-stops_at_line (ReportFault.NoEvent event) = false
+stops_at_line (ReportFault.Missing sought number) = false

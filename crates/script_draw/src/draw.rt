@@ -4,6 +4,7 @@ ghost use Rattle.sm_names.specs.declared.messages.Call.{Call as CallMade};
 ghost use Rattle.sm_names.specs.Marks.{Entry};
 ghost use Rattle.core_state.specs.Shown.{Shows};
 ghost use Rattle.core_state.specs.State.{State};
+ghost use Rattle.script_draw.specs.declared.draw.Until.{Until as Asked};
 ghost use Rattle.script_labels.specs.Names.{Names};
 ghost use Rattle.sm_script.specs.Scenes.{Scene, Setting};
 ghost use Rattle.sm_script.specs.Sessions.{IsAt, IsSameSetting};
@@ -12,14 +13,16 @@ ghost use Rattle.script_tales.specs.Called.{Calls, Knows};
 ghost use Rattle.script_tales.specs.Tellings.{IsEventOf};
 ghost use Rattle.script_pictures.specs.Albums.{KnowsKept};
 ghost use Rattle.script_draw.specs.Draws.{Draws, IsPicture, IsPictured, IsUnwritten, LinesDrawn, picture_in};
-ghost use Rattle.script_draw.specs.Played.{ComesBefore, is_reached};
+ghost use Rattle.script_draw.specs.Played.{IsAhead, asked_number, found, is_reached, wanted};
 ghost use Rattle.script_draw.specs.Reached.{AsksFor, PlaysLine, PlayHalts, IsHeldUp, IsPlayedOn, PlayLinesHalt, LineMakesCall, MakesEvent, Reached, stops_at_line};
 
 use event_facts::Event;
 use picture_dot::push_dot;
 use picture_svg::push_svg;
 use picture_text::push_text;
-use script_faults::{ReportFault, behind, fault_of, is_indented, put_out, read_script, unended};
+use script_faults::{
+    ReportFault, Sought, behind, fault_of, is_indented, put_out, read_script, unended,
+};
 use script_labels::{Act, Binds, Stop};
 use script_lines::{MOST_BYTES, line_end};
 use script_pictures::{Album, Picture, named_collection, picture_of};
@@ -39,12 +42,24 @@ pub enum Format {
     Svg,
 }
 
+/// Behind what the trees are drawn. Numbers are from 1.
+#[derive(Clone, Copy)]
+pub enum Until {
+    /// The last line.
+    Last,
+    /// The event of this number.
+    Event(u64),
+    /// The line of this number.
+    Line(u64),
+    /// The event of this number among those in which a node failed.
+    Failure(u64),
+}
+
 /// Which picture is asked for.
 #[derive(Clone, Copy)]
 pub struct View {
     pub format: Format,
-    /// The event behind which the trees are drawn, from 1; `None` for the last.
-    pub at: Option<u64>,
+    pub until: Until,
 }
 
 // A script that is played up to some event.
@@ -60,13 +75,13 @@ struct Scroll {
 }
 
 /// Runs the script that the reader holds against a new core with a pool of `pages` pages, and writes a
-/// picture of the trees behind its last line, or behind the event that is asked for; lines behind that
-/// event are not looked at. Lines that begin with two spaces are passed over. The whole script is read
+/// picture of the trees behind its last line, or behind the event, line or failure that is asked for; the
+/// lines behind that are not looked at. Lines that begin with two spaces are passed over. The whole script is read
 /// before any line is judged.
 ///
 /// On a fault nothing was written, but for these: `WriteFault`, where a first part of the picture was;
-/// and `BadLine` and `HistoryFull`, where no event is asked for: then the picture is that behind the line
-/// before.
+/// and `BadLine` and `HistoryFull`, where the last line is asked for: then the picture is that behind the
+/// line before. `Missing` where the script has no such event, line or failure.
 ///
 /// Costs what `explain_script` costs; O(n log n) for each event, for the n nodes that were ever born in the
 /// collection that it names, and for each collection that is drawn; the picture, where the text of a node at
@@ -104,34 +119,48 @@ fn draw_all<W: Write>(
     view: View,
 ) -> Result<(), ReportFault>
     requires { length script.now ≤ MOST_BYTES }
-    ensures { (setting : Setting) → Reached setting view.at scroll.old [] → LinesDrawn setting view
+    ensures { (setting : Setting) → Reached setting view.until scroll.old [] → LinesDrawn setting view
         (W.contents writer.old) (W.contents writer.new) script.now result }
 {
-    match play(alloc, scroll, script, view.at) {
-        Ok(()) => draw_asked(alloc, scroll, writer, view),
+    match play(alloc, scroll, script, view.until) {
+        Ok(is_reached) => draw_asked(alloc, scroll, writer, view, is_reached),
         Err(fault) => draw_so_far(alloc, scroll, writer, view, fault),
     }
 }
 
-// Writes the picture, if the event that is asked for was made.
+// What is sought, and which of it; nothing where the last line is asked for.
+fn wanted(until: Until) -> Option<(Sought, u64)>
+    ensures { result ≡ wanted until }
+{
+    match until {
+        Until::Last => None,
+        Until::Event(number) => Some((Sought::Event, number)),
+        Until::Line(number) => Some((Sought::Line, number)),
+        Until::Failure(number) => Some((Sought::Failure, number)),
+    }
+}
+
+// Writes the picture, if what is asked for was reached.
 fn draw_asked<W: Write>(
     alloc: Global,
     scroll: &Scroll,
     writer: &mut W,
     view: View,
+    is_reached: bool,
 ) -> Result<(), ReportFault>
-    ensures { (setting : Setting) (script : List ℕ) → IsPlayedOn setting view.at scroll.now script →
+    ensures { (setting : Setting) (script : List ℕ) →
+        IsPlayedOn setting view.until is_reached scroll.now script →
         LinesDrawn setting view (W.contents writer.old) (W.contents writer.new) script result }
 {
-    match view.at {
-        Some(at) => {
-            if at == 0 {
-                return Err(ReportFault::NoEvent(at));
+    match wanted(view.until) {
+        Some((sought, number)) => {
+            if number == 0 {
+                return Err(ReportFault::Missing { sought, number });
             }
-            if scroll.is_at(view.at) {
+            if is_reached {
                 write_picture(alloc, writer, scroll, view.format)
             } else {
-                Err(ReportFault::NoEvent(at))
+                Err(ReportFault::Missing { sought, number })
             }
         }
         None => write_picture(alloc, writer, scroll, view.format),
@@ -148,11 +177,11 @@ fn is_line_fault(fault: &ReportFault) -> bool
         | ReportFault::TooLong
         | ReportFault::WriteFault
         | ReportFault::NoMemory
-        | ReportFault::NoEvent(_) => false,
+        | ReportFault::Missing { .. } => false,
     }
 }
 
-// Writes the picture of what was there before the fault of a line, unless an event was asked for.
+// Writes the picture of what was there before the fault of a line, if the last line is asked for.
 fn draw_so_far<W: Write>(
     alloc: Global,
     scroll: &Scroll,
@@ -161,7 +190,7 @@ fn draw_so_far<W: Write>(
     fault: ReportFault,
 ) -> Result<(), ReportFault>
     ensures { (setting : Setting) (script : List ℕ) →
-        PlayLinesHalt setting view.at scroll.now script fault →
+        PlayLinesHalt setting view.until scroll.now script fault →
         LinesDrawn setting view (W.contents writer.old) (W.contents writer.new) script result }
 {
     if is_line_fault(&fault) {
@@ -171,7 +200,7 @@ fn draw_so_far<W: Write>(
     }
 }
 
-// Writes the picture of what was there before the fault of a line, unless an event was asked for.
+// Writes the picture of what was there before the fault of a line, if the last line is asked for.
 fn draw_before<W: Write>(
     alloc: Global,
     scroll: &Scroll,
@@ -180,16 +209,16 @@ fn draw_before<W: Write>(
     fault: ReportFault,
 ) -> Result<(), ReportFault>
     ensures { (setting : Setting) (script : List ℕ) → stops_at_line fault ≡ true →
-        PlayLinesHalt setting view.at scroll.now script fault →
+        PlayLinesHalt setting view.until scroll.now script fault →
         LinesDrawn setting view (W.contents writer.old) (W.contents writer.new) script result }
 {
-    match view.at {
+    match wanted(view.until) {
         Some(_) => Err(fault),
         None => draw_last(alloc, scroll, writer, view, fault),
     }
 }
 
-// Writes the picture of what was there before the fault of a line, where no event was asked for.
+// Writes the picture of what was there before the fault of a line, where the last line is asked for.
 fn draw_last<W: Write>(
     alloc: Global,
     scroll: &Scroll,
@@ -197,8 +226,8 @@ fn draw_last<W: Write>(
     view: View,
     fault: ReportFault,
 ) -> Result<(), ReportFault>
-    ensures { (setting : Setting) (script : List ℕ) → view.at ≡ None → stops_at_line fault ≡ true →
-        PlayLinesHalt setting view.at scroll.now script fault →
+    ensures { (setting : Setting) (script : List ℕ) → wanted view.until ≡ None → stops_at_line fault ≡ true →
+        PlayLinesHalt setting view.until scroll.now script fault →
         LinesDrawn setting view (W.contents writer.old) (W.contents writer.new) script result }
 {
     match write_picture(alloc, writer, scroll, view.format) {
@@ -214,11 +243,11 @@ fn write_picture<W: Write>(
     scroll: &Scroll,
     format: Format,
 ) -> Result<(), ReportFault>
-    ensures ok { OnOk result ((setting : Setting) (until : Option ℕ) (lines : List (List ℕ))
+    ensures ok { OnOk result ((setting : Setting) (until : Asked) (lines : List (List ℕ))
         (far : Reached setting until scroll.now lines) →
         IsPictured format setting far.scene scroll.now.line.items
         (W.contents writer.old) (W.contents writer.new)) }
-    ensures err { IfErr result (λ fault. (setting : Setting) (until : Option ℕ)
+    ensures err { IfErr result (λ fault. (setting : Setting) (until : Asked)
         (lines : List (List ℕ)) (far : Reached setting until scroll.now lines) →
         IsUnwritten format setting far.scene scroll.now.line.items
         (W.contents writer.old) (W.contents writer.new) fault) }
@@ -268,24 +297,24 @@ fn push_format(
     }
 }
 
-// Plays the lines up to this event, or to the last.
+// Plays the lines up to what is asked for, or to the last. Whether what is asked for was reached.
 fn play(
     alloc: Global,
     scroll: &mut Scroll,
     script: &[u8],
-    until: Option<u64>,
-) -> Result<(), ReportFault>
+    until: Until,
+) -> Result<bool, ReportFault>
     requires { length script.now ≤ MOST_BYTES }
-    ensures ok { OnOk result ((setting : Setting) → Reached setting until scroll.old [] →
-        IsPlayedOn setting until scroll.new script.now) }
+    ensures ok { IfOk result (λ is_reached. (setting : Setting) → Reached setting until scroll.old [] →
+        IsPlayedOn setting until is_reached scroll.new script.now) }
     ensures err { IfErr result (λ fault. (setting : Setting) → Reached setting until scroll.old [] →
         PlayLinesHalt setting until scroll.new script.now fault) }
 {
     let mut number: u64 = 0;
     let mut rest = script;
     'lines: while let Some(at) = line_end(rest) {
-        if scroll.is_at(until) {
-            return Ok(());
+        if scroll.is_at(until, number) {
+            return Ok(true);
         }
         number = number.saturating_add(1);
         match scroll.play_line(alloc, number, &rest[..at]) {
@@ -293,11 +322,11 @@ fn play(
             Err(fault) => return Err(fault),
         }
     }
-    if scroll.is_at(until) {
-        return Ok(());
+    if scroll.is_at(until, number) {
+        return Ok(true);
     }
     if rest.is_empty() {
-        Ok(())
+        Ok(false)
     } else {
         Err(unended(alloc, number.saturating_add(1)))
     }
@@ -307,7 +336,7 @@ impl Scroll {
     // No line was played.
     fn new(alloc: Global, seed: [u8; 16], pages: u32, limits: Limits) -> Result<Scroll, NoMemory>
         requires { (1 ≤ pages) × (pages ≤ MAX_PAGES) }
-        ensures { IfOk result (λ scroll. (until : Option ℕ) →
+        ensures { IfOk result (λ scroll. (until : Asked) →
             Reached (record { pool = pages; limits = limits }) until scroll []) }
     {
         let teller = Teller::new(alloc, seed, pages, limits)?;
@@ -322,23 +351,26 @@ impl Scroll {
         })
     }
 
-    // Whether this many events were made.
-    fn is_at(&self, until: Option<u64>) -> bool
-        ensures { (scene : Scene) → Knows self.now.teller scene →
-            result ≡ is_reached until (length scene.history) }
+    // Whether what is asked for was reached, where so many lines were played.
+    fn is_at(&self, until: Until, lines: u64) -> bool
+        ensures { (setting : Setting) (played : List (List ℕ)) (far : Reached setting until self.now played) →
+            lines ≡ length played →
+            result ≡ is_reached (asked_number until) (found until setting.pool played far.scene) }
     {
         match until {
-            Some(at) => at == self.teller.session.core.events(),
-            None => false,
+            Until::Last => false,
+            Until::Event(number) => number == self.teller.session.core.events(),
+            Until::Line(number) => number == lines,
+            Until::Failure(number) => number == self.teller.failures,
         }
     }
 
     // Plays one more line, the one of this number.
     fn play_line(&mut self, alloc: Global, number: u64, line: &[u8]) -> Result<(), ReportFault>
         ensures ok { OnOk result (PlaysLine self.old self.new line.now) }
-        ensures err { IfErr result (λ fault. (setting : Setting) (until : Option ℕ)
+        ensures err { IfErr result (λ fault. (setting : Setting) (until : Asked)
             (lines : List (List ℕ)) (far : Reached setting until self.old lines) →
-            ComesBefore until (length far.scene.history) → number ≡ length lines + 1 →
+            IsAhead until setting.pool lines far.scene → number ≡ length lines + 1 →
             PlayHalts setting until self.new (lines ++ line.now ∷ []) fault) }
     {
         match self.take_line(alloc, line) {
@@ -351,7 +383,7 @@ impl Scroll {
     fn take_line(&mut self, alloc: Global, line: &[u8]) -> Result<(), Stop>
         ensures ok { OnOk result (PlaysLine self.old self.new line.now) }
         ensures same { IfErr result (λ stop. stop ≢ Stop.NoMemory → self.new ≡ self.old) }
-        ensures err { IfErr result (λ stop. (setting : Setting) (until : Option ℕ)
+        ensures err { IfErr result (λ stop. (setting : Setting) (until : Asked)
             (lines : List (List ℕ)) (far : Reached setting until self.old lines) →
             IsHeldUp setting far.scene line.now stop) }
     {
@@ -367,12 +399,12 @@ impl Scroll {
     // Makes one more call, if the line asks for one, which is not indented. Where it can't, but for want of
     // memory, nothing changes.
     fn take_act(&mut self, alloc: Global, act: Act, line: &[u8]) -> Result<(), Stop>
-        ensures ok { OnOk result ((setting : Setting) (until : Option ℕ) (lines : List (List ℕ))
+        ensures ok { OnOk result ((setting : Setting) (until : Asked) (lines : List (List ℕ))
             (far : Reached setting until self.old lines) → AsksFor far.scene line.now act →
-            ComesBefore until (length far.scene.history) →
+            IsAhead until setting.pool lines far.scene →
             Reached setting until self.new (lines ++ line.now ∷ [])) }
         ensures same { IfErr result (λ stop. stop ≢ Stop.NoMemory → self.new ≡ self.old) }
-        ensures err { IfErr result (λ stop. (setting : Setting) (until : Option ℕ)
+        ensures err { IfErr result (λ stop. (setting : Setting) (until : Asked)
             (lines : List (List ℕ)) (far : Reached setting until self.old lines) →
             AsksFor far.scene line.now act → IsHeldUp setting far.scene line.now stop) }
     {
@@ -439,6 +471,8 @@ impl Scroll {
         ensures kept { OnOk result ((scene : Scene) → Knows self.old.teller scene →
             KnowsKept self.old.teller.session.core self.old.album →
             KnowsKept self.new.teller.session.core self.new.album) }
+        ensures failures { OnOk result
+            (self.new.teller.failures ≤ self.old.teller.failures + 1) }
     {
         let named = named_collection(&self.teller.session.core, &call);
         let event = self

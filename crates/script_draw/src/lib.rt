@@ -1,10 +1,10 @@
-//! The trees of a script behind an event, drawn: as text, in the language of Graphviz, or as a vector
+//! The trees of a script behind a line or an event, drawn: as text, in the language of Graphviz, or as a vector
 //! graphic.
 #![tactic(auto)]
 
 mod draw;
 mod program;
 
-pub use draw::{Format, View, draw_script};
+pub use draw::{Format, Until, View, draw_script};
 pub use program::draw_to_exit;
 pub use script_faults::ReportFault;

@@ -21,9 +21,10 @@ use Rattle.script_tales.specs.Tellings.{TellsLine}
 use Rattle.script_explain.proofs.LineTold.{answers-in, tells-in}
 use Rattle.sm_script.proofs.Playing.{plays-more}
 use Rattle.script_explain.specs.declared.check.Comparison.{Comparison}
+use Rattle.script_explain.specs.declared.check.Outcome.{Outcome}
 use Rattle.script_explain.specs.declared.check.Verdict.{Verdict}
-use Rattle.script_explain.specs.Comparisons.{Agreement, Agrees, Begins, Remarks, Replies, Plays, Checks, Difference, EndsChecked, FullAgreement, IsJudged, IsRemark, IsUnchecked, ComparisonLinesStop, TranscriptPlace, Records, ComparisonStopped, agreement_text, checking_status, told_difference}
-use Rattle.script_explain.specs.Progress.{CheckHalted, Compared, Ended, comparison_place}
+use Rattle.script_explain.specs.Comparisons.{Agreement, Agrees, Begins, Remarks, Replies, Plays, Checks, Difference, EndsChecked, FullAgreement, IsJudged, IsRemark, IsSaid, IsUnchecked, IsVerdict, ComparisonLinesStop, TranscriptPlace, Records, ComparisonStopped, checking_status, lines_with, told_difference}
+use Rattle.script_explain.specs.Progress.{CheckHalted, Compared, Ended, comparison_place, lines_counted}
 
 -- the lines that are not indented are played, one after another
 pub agrees-plays : (pool : ℕ) (lines : List (List ℕ)) (at : TranscriptPlace) → Agrees pool lines at →
@@ -54,6 +55,11 @@ record AreFew (lines : List (List ℕ)) (at : TranscriptPlace) : Type 0 where
   lines_few : at.lines ≤ length lines
   replies_few : at.replies ≤ length lines
 
+-- a line counts once at most
+one-line : (lines : ℕ) (reply : List ℕ) → lines_with lines reply ≤ lines + 1
+one-line lines [] = omega arith
+one-line lines (byte ∷ more) = omega arith
+
 -- a line raises each of the two counts by one at most, by induction on the lines
 agrees-few : (pool : ℕ) (lines : List (List ℕ)) (at : TranscriptPlace) → Agrees pool lines at → AreFew lines at
 agrees-few pool lines at Begins = record { lines_few = omega arith; replies_few = omega arith }
@@ -68,11 +74,18 @@ agrees-few pool lines at (Replies before line reply there so_far records same) =
 agrees-few pool lines at (Plays before line reply facts there next later so_far whole answers tells) =
     let few = agrees-few pool before there so_far in
     let count = length-append before (line ∷ []) in
-    record { lines_few = omega (arith, few.lines_few, count); replies_few = omega (arith, few.replies_few, count) }
+    let one = one-line there.lines reply in
+    record { lines_few = omega (arith, few.lines_few, count, one); replies_few = omega (arith, few.replies_few, count) }
 
 -- a small number is counted up
 count-up : (count most : ℕ) → count ≤ most → most + 1 ≤ MOST_BYTES → (next : ℕ) → next ≡ min (count + 1) (2 ^ 64 - 1) → next ≡ count + 1
 count-up count most small few next is = omega (arith, is, small, few)
+
+-- a small number of lines is counted up where the line has a reply
+count-line : (lines most : ℕ) (reply : List ℕ) → lines ≤ most → most + 1 ≤ MOST_BYTES → (next : ℕ) → next ≡ lines_counted lines reply →
+    next ≡ lines_with lines reply
+count-line lines most [] small few next is = is
+count-line lines most (byte ∷ more) small few next is = count-up lines most small few next is
 
 -- the place of these parts
 abbrev place : Scene → LossLines → ℕ → List ℕ → List ℕ → List ℕ → ℕ → ℕ → TranscriptPlace
@@ -133,15 +146,15 @@ module _ (setting : Setting) (c : Comparison) (lines : List (List ℕ)) (far : C
   pub far-play : (next : Comparison) (line : List ℕ) (number : ℕ) → is_indented line ≡ false → number ≡ length lines + 1 →
       number ≤ MOST_BYTES → ((scene : Scene) (losses : LossLines) → Knows c.teller scene → Recalls c.teller losses →
       TellsLine c.teller next.teller number line next.reply.items next.facts.items scene losses) → next.number ≡ number →
-      next.line.items ≡ line → next.lines ≡ min (c.lines + 1) (2 ^ 64 - 1) → next.replies ≡ c.replies →
+      next.line.items ≡ line → next.lines ≡ lines_counted c.lines next.reply.items → next.replies ≡ c.replies →
       Compared setting next (lines ++ line ∷ [])
   far-play next line number whole numbered small tells its_number its_line its_lines its_replies =
       let told = tells far.scene far.losses far.knows far.recalls in
       let step = told.advances in
       let reply = next.reply.items in
       let facts = next.facts.items in
-      let count : next.lines ≡ c.lines + 1 =
-      count-up c.lines (length lines) few.lines_few (omega (arith, numbered, small)) next.lines its_lines in
+      let count : next.lines ≡ lines_with c.lines reply =
+      count-line c.lines (length lines) reply few.lines_few (omega (arith, numbered, small)) next.lines its_lines in
       record {
         pool = step.setting.pool ∙ far.pool;
         limits = step.setting.limits ∙ far.limits;
@@ -149,12 +162,12 @@ module _ (setting : Setting) (c : Comparison) (lines : List (List ℕ)) (far : C
         losses = told.later;
         agrees = subst (Agrees setting.pool (lines ++ line ∷ []))
             (sym (same-place step.next told.later next.number (length lines + 1) next.line.items line reply reply facts facts
-            next.lines (c.lines + 1) next.replies c.replies (its_number ∙ numbered) its_line refl refl count its_replies))
+            next.lines (lines_with c.lines reply) next.replies c.replies (its_number ∙ numbered) its_line refl refl count its_replies))
             (Plays lines line reply facts (comparison_place c far.scene far.losses) step.next told.later far.agrees whole
             (answers-in setting.pool c.teller next.teller line reply far.scene far.pool step)
             (tells-in setting.pool c.teller next.teller number line reply facts far.scene far.losses (length lines + 1) far.pool
             far.knows.is_at numbered told));
-        knows = record { is_at = step.is_at; calls = told.calls };
+        knows = record { is_at = step.is_at; calls = told.calls; failed = told.failed };
         recalls = told.recalls;
       }
 
@@ -205,7 +218,7 @@ module _ (setting : Setting) (c : Comparison) (lines : List (List ℕ)) (far : C
   far-unplayed line stop number ReportFault.ReadFault whole why is numbered = absurd is
   far-unplayed line stop number ReportFault.TooLong whole why is numbered = absurd is
   far-unplayed line stop number ReportFault.WriteFault whole why is numbered = absurd is
-  far-unplayed line stop number (ReportFault.NoEvent event) whole why is numbered = absurd is
+  far-unplayed line stop number (ReportFault.Missing sought n) whole why is numbered = absurd is
   far-unplayed line stop number (ReportFault.BadLine n reason) whole why is numbered = record {
     before = lines;
     line = line;
@@ -237,7 +250,7 @@ module _ (setting : Setting) (c : Comparison) (lines : List (List ℕ)) (far : C
   far-unasked line reply number ReportFault.TooLong records none is numbered = absurd is
   far-unasked line reply number ReportFault.WriteFault records none is numbered = absurd is
   far-unasked line reply number ReportFault.HistoryFull records none is numbered = absurd is
-  far-unasked line reply number (ReportFault.NoEvent event) records none is numbered = absurd is
+  far-unasked line reply number (ReportFault.Missing sought n) records none is numbered = absurd is
   far-unasked line reply number (ReportFault.BadLine n reason) records none is numbered = record {
     before = lines;
     line = line;
@@ -267,7 +280,7 @@ module _ (setting : Setting) (lines all more : List (List ℕ)) (is : all ≡ li
   unchecked-more ReportFault.ReadFault stop = stop
   unchecked-more ReportFault.TooLong stop = stop
   unchecked-more ReportFault.WriteFault stop = stop
-  unchecked-more (ReportFault.NoEvent event) stop = stop
+  unchecked-more (ReportFault.Missing sought n) stop = stop
   unchecked-more (ReportFault.BadLine n reason) stop = unchecked-on (ReportFault.BadLine n reason) stop
   unchecked-more ReportFault.HistoryFull stop = unchecked-on ReportFault.HistoryFull stop
   unchecked-more ReportFault.NoMemory stop = stop
@@ -294,7 +307,7 @@ pub unchecked-lines : (setting : Setting) (script : List ℕ) (fault : ReportFau
 unchecked-lines setting script ReportFault.ReadFault stop = stop
 unchecked-lines setting script ReportFault.TooLong stop = stop
 unchecked-lines setting script ReportFault.WriteFault stop = stop
-unchecked-lines setting script (ReportFault.NoEvent event) stop = stop
+unchecked-lines setting script (ReportFault.Missing sought n) stop = stop
 unchecked-lines setting script (ReportFault.BadLine n reason) stop = inl stop
 unchecked-lines setting script ReportFault.HistoryFull stop = stop
 unchecked-lines setting script ReportFault.NoMemory stop = stop
@@ -307,7 +320,7 @@ unchecked-at-end setting c script number ReportFault.ReadFault far some numbered
 unchecked-at-end setting c script number ReportFault.TooLong far some numbered is = absurd is
 unchecked-at-end setting c script number ReportFault.WriteFault far some numbered is = absurd is
 unchecked-at-end setting c script number ReportFault.HistoryFull far some numbered is = absurd is
-unchecked-at-end setting c script number (ReportFault.NoEvent event) far some numbered is = absurd is
+unchecked-at-end setting c script number (ReportFault.Missing sought n) far some numbered is = absurd is
 unchecked-at-end setting c script number (ReportFault.BadLine n reason) far some numbered is = inr (record {
   unended = some;
   numbered = is ∙ numbered;
@@ -322,7 +335,7 @@ pub stopped-same : (setting : Setting) (old : Option (List ℕ)) (script : List 
 stopped-same setting old script ReportFault.ReadFault stop = absurd stop
 stopped-same setting old script ReportFault.TooLong stop = absurd stop
 stopped-same setting old script ReportFault.WriteFault stop = absurd stop
-stopped-same setting old script (ReportFault.NoEvent event) stop = absurd stop
+stopped-same setting old script (ReportFault.Missing sought n) stop = absurd stop
 stopped-same setting old script (ReportFault.BadLine n reason) stop = (stop, Keeps-refl old)
 stopped-same setting old script ReportFault.HistoryFull stop = (stop, Keeps-refl old)
 stopped-same setting old script ReportFault.NoMemory stop = (stop, Keeps-refl old)
@@ -344,7 +357,7 @@ module _ (setting : Setting) (left_before left old : Option (List ℕ)) where
   checks-unread ReportFault.WriteFault came = absurd came
   checks-unread (ReportFault.BadLine n reason) came = absurd came
   checks-unread ReportFault.HistoryFull came = absurd came
-  checks-unread (ReportFault.NoEvent event) came = absurd came
+  checks-unread (ReportFault.Missing sought n) came = absurd came
 
   module _ (new : Option (List ℕ)) (script : List ℕ) (taken : Consumes left_before left script) (end : IsAtEnd left)
       (within : length script ≤ MOST_BYTES) where
@@ -352,7 +365,7 @@ module _ (setting : Setting) (left_before left old : Option (List ℕ)) where
     checks-stopped : (fault : ReportFault) → ComparisonStopped setting old new script fault → Checks setting left_before left old new (Err fault)
     checks-stopped ReportFault.ReadFault stop = absurd stop.0
     checks-stopped ReportFault.TooLong stop = absurd stop.0
-    checks-stopped (ReportFault.NoEvent event) stop = absurd stop.0
+    checks-stopped (ReportFault.Missing sought n) stop = absurd stop.0
     checks-stopped ReportFault.WriteFault stop = record { script = script; taken = taken; outcome = (end, stop) }
     checks-stopped (ReportFault.BadLine n reason) stop = record { script = script; taken = taken; outcome = (end, stop) }
     checks-stopped ReportFault.HistoryFull stop = record { script = script; taken = taken; outcome = (end, stop) }
@@ -389,16 +402,26 @@ compared-none setting c pool limits knows recalls its_number its_line its_reply 
 }
 
 -- all agrees, and the text of that was put
-pub agreed-fully : (setting : Setting) (c : Comparison) (script text : List ℕ) → Ended setting c script Verdict.Agrees →
-    ((scene : Scene) (losses : LossLines) → text ≡ c.text.items ++ agreement_text (comparison_place c scene losses)) →
-    FullAgreement setting script text
-agreed-fully setting c script text ended said = record {
-  ended = ended.1;
-  at = comparison_place c ended.0.scene ended.0.losses;
-  agreed = far-agreed setting c (whole_lines script) ended.0;
-  said = said ended.0.scene ended.0.losses
-      ∙ ap (λ front. front ++ agreement_text (comparison_place c ended.0.scene ended.0.losses)) ended.2;
-}
+pub agreed-fully : (setting : Setting) (c : Comparison) (script text : List ℕ) (verdict : Verdict) → Ended setting c script Outcome.Agrees →
+    ((scene : Scene) (losses : LossLines) → IsSaid verdict (comparison_place c scene losses) c.text.items text) →
+    IsVerdict setting script text verdict
+agreed-fully setting c script text verdict ended said = by verdict (said ended.0.scene ended.0.losses)
+  where
+    at : TranscriptPlace
+    at = comparison_place c ended.0.scene ended.0.losses
+
+    fully : (v : Verdict) → IsSaid v at c.text.items text → FullAgreement setting script text v
+    fully v so = record {
+      ended = ended.1;
+      at = at;
+      agreed = far-agreed setting c (whole_lines script) ended.0;
+      said = subst (λ (t : List ℕ). IsSaid v at t text) ended.2 so;
+    }
+
+    by : (v : Verdict) → IsSaid v at c.text.items text → IsVerdict setting script text v
+    by Verdict.Agrees so = fully Verdict.Agrees so
+    by Verdict.Empty so = fully Verdict.Empty so
+    by Verdict.Differs so = absurd so
 
 -- a line that nothing is behind two spaces of
 pub behind-none : (line : List ℕ) → None ≡ behind_indent line → is_indented line ≡ false

@@ -1,5 +1,5 @@
 -- Loops over the lines of a script.
-use Rattle.std.proofs.Common.{◌≡◌, ℕ, ◌+◌, ◌-◌, ◌^◌, ◌<◌, ◌≤◌, min, ◌==◌, true, false, List, [], ◌∷◌, ◌++◌, length, length-append, take, drop, refl, sym, ◌∙◌, subst, Option, Some, None, arith}
+use Rattle.std.proofs.Common.{◌≡◌, ℕ, ◌+◌, ◌-◌, ◌^◌, ◌<◌, ◌≤◌, min, ◌==◌, Bool, true, false, List, [], ◌∷◌, ◌++◌, length, length-append, take, drop, refl, sym, ◌∙◌, subst, Option, Some, None, arith}
 use Rattle.std.specs.List.{position}
 use Rattle.script_lines.specs.declared.TheConstants.{MOST_BYTES}
 use Rattle.script_lines.specs.Pieces.{whole_lines, last_part}
@@ -11,32 +11,32 @@ use Rattle.sm_script.specs.Scenes.{Setting}
 use Rattle.sm_script.proofs.Taking.{some_behind}
 use Rattle.script_tales.specs.declared.teller.Teller.{Teller}
 use Rattle.script_explain.specs.declared.check.Comparison.{Comparison}
-use Rattle.script_explain.specs.declared.check.Verdict.{Verdict}
+use Rattle.script_explain.specs.declared.check.Outcome.{Outcome}
 use Rattle.script_explain.specs.Comparisons.{Difference, ComparisonLinesStop}
 use Rattle.script_explain.specs.Progress.{CheckHalted, Compared, Ended, Explained, Halted, Judges, LinesHalted, ExplainedSoFar}
 use Rattle.script_explain.proofs.Comparing.{difference-more, unchecked-at-end, unchecked-lines, unchecked-more}
 use Rattle.script_explain.proofs.Outcomes.{halted-at-end, halted-lines, halted-more}
 
 -- some lines were explained, and their number is this
-pub record Along (script rest : List ℕ) (number : ℕ) (first : Teller) (mid : Option (List ℕ)) (before : List ℕ) (now : Teller)
+pub record Along (only : Bool) (script rest : List ℕ) (number : ℕ) (first : Teller) (mid : Option (List ℕ)) (before : List ℕ) (now : Teller)
     (new : Option (List ℕ)) (after : List ℕ) : Type 0 where
   pub taken : List (List ℕ)
   pub takes : AreTaken script rest taken
   pub numbered : number ≡ length taken
-  pub explained : Explained first mid before now new after [] taken
+  pub explained : Explained only first mid before now new after [] taken
 
 -- none was
-pub along-none : (script : List ℕ) (first : Teller) (mid : Option (List ℕ)) (before : List ℕ) →
-    Along script script 0 first mid before first mid before
-along-none script first mid before = record {
+pub along-none : (only : Bool) (script : List ℕ) (first : Teller) (mid : Option (List ℕ)) (before : List ℕ) →
+    Along only script script 0 first mid before first mid before
+along-none only script first mid before = record {
   taken = [];
   takes = taken-none script;
   numbered = refl;
   explained = λ setting old far. far;
 }
 
-module _ (script rest : List ℕ) (number : ℕ) (first : Teller) (mid : Option (List ℕ)) (before : List ℕ) (now : Teller)
-    (new : Option (List ℕ)) (after : List ℕ) (along : Along script rest number first mid before now new after)
+module _ (only : Bool) (script rest : List ℕ) (number : ℕ) (first : Teller) (mid : Option (List ℕ)) (before : List ℕ) (now : Teller)
+    (new : Option (List ℕ)) (after : List ℕ) (along : Along only script rest number first mid before now new after)
     (small : length script ≤ MOST_BYTES) where
   module _ (at : ℕ) (found : position is_end rest ≡ Some at) (within : at < length rest) (count : ℕ)
       (counted : count ≡ min (number + 1) (2 ^ 64 - 1)) where
@@ -47,7 +47,7 @@ module _ (script rest : List ℕ) (number : ℕ) (first : Teller) (mid : Option 
 
     -- one more was
     pub along-more : (next : Teller) (newer : Option (List ℕ)) (later left : List ℕ) → left ≡ drop (at + 1) rest →
-        ((lines : List (List ℕ)) → count ≡ length lines + 1 → Explained now new after next newer later lines (take at rest ∷ [])) → Along script left count first mid before next newer later
+        ((lines : List (List ℕ)) → count ≡ length lines + 1 → Explained only now new after next newer later lines (take at rest ∷ [])) → Along only script left count first mid before next newer later
     along-more next newer later left is step = record {
       taken = along.taken ++ take at rest ∷ [];
       takes = subst (λ (r : List ℕ). AreTaken script r (along.taken ++ take at rest ∷ [])) (sym is)
@@ -58,20 +58,20 @@ module _ (script rest : List ℕ) (number : ℕ) (first : Teller) (mid : Option 
 
     -- the next was not
     pub along-stop : (newer : Option (List ℕ)) (later : List ℕ) (fault : ReportFault) →
-        ((setting : Setting) (old : Option (List ℕ)) (lines : List (List ℕ)) → ExplainedSoFar setting now old new after lines →
-        count ≡ length lines + 1 → Halted setting old newer later (lines ++ take at rest ∷ []) fault) →
-        (setting : Setting) (old : Option (List ℕ)) → ExplainedSoFar setting first old mid before [] →
-        LinesHalted setting old newer later script fault
+        ((setting : Setting) (old : Option (List ℕ)) (lines : List (List ℕ)) → ExplainedSoFar setting only now old new after lines →
+        count ≡ length lines + 1 → Halted setting only old newer later (lines ++ take at rest ∷ []) fault) →
+        (setting : Setting) (old : Option (List ℕ)) → ExplainedSoFar setting only first old mid before [] →
+        LinesHalted setting only old newer later script fault
     along-stop newer later fault stops setting old far =
-        halted-lines setting old newer later script fault
-        (halted-more setting old newer later (along.taken ++ take at rest ∷ []) (whole_lines script) (whole_lines (drop (at + 1) rest))
+        halted-lines setting only old newer later script fault
+        (halted-more setting only old newer later (along.taken ++ take at rest ∷ []) (whole_lines script) (whole_lines (drop (at + 1) rest))
         (taken-at script rest along.taken along.takes at found) fault
         (stops setting old along.taken (along.explained setting old far) along-number))
 
   module _ (none : position is_end rest ≡ None) where
     -- no line is left
-    pub along-all : Explained first mid before now new after [] (whole_lines script)
-    along-all = subst (Explained first mid before now new after []) (sym (taken-all script rest along.taken along.takes none))
+    pub along-all : Explained only first mid before now new after [] (whole_lines script)
+    along-all = subst (Explained only first mid before now new after []) (sym (taken-all script rest along.taken along.takes none))
         along.explained
 
     -- the last line has an end
@@ -81,9 +81,9 @@ module _ (script rest : List ℕ) (number : ℕ) (first : Teller) (mid : Option 
     -- the last line has no end
     pub along-unended : (length rest == 0) ≡ false → (count : ℕ) → count ≡ min (number + 1) (2 ^ 64 - 1) →
         (fault : ReportFault) → IsBadLine count fault → (setting : Setting) (old : Option (List ℕ)) →
-        ExplainedSoFar setting first old mid before [] → LinesHalted setting old new after script fault
+        ExplainedSoFar setting only first old mid before [] → LinesHalted setting only old new after script fault
     along-unended some count counted fault is setting old far =
-        halted-at-end setting now old new after script count fault (along-all setting old far)
+        halted-at-end setting only now old new after script count fault (along-all setting old far)
         (λ e. some_behind [] rest some (sym (rest-all script rest along.taken along.takes none) ∙ e))
         (last-number script rest along.taken along.takes small none number count along.numbered counted) is
 
@@ -120,7 +120,7 @@ module _ (script rest : List ℕ) (number : ℕ) (first now : Comparison) (along
     -- one more was
     pub agreeing-more : (next : Comparison) (left : List ℕ) → left ≡ drop (at + 1) rest →
         ((setting : Setting) (lines : List (List ℕ)) → Compared setting now lines → count ≡ length lines + 1 →
-        Judges setting now next lines (take at rest) Verdict.Agrees) → Agreeing script left count first next
+        Judges setting now next lines (take at rest) Outcome.Agrees) → Agreeing script left count first next
     agreeing-more next left is step = record {
       taken = along.taken ++ take at rest ∷ [];
       takes = subst (λ (r : List ℕ). AreTaken script r (along.taken ++ take at rest ∷ [])) (sym is)
@@ -135,7 +135,7 @@ module _ (script rest : List ℕ) (number : ℕ) (first now : Comparison) (along
     -- the next is the first that does not agree
     pub agreeing-differs : (next : Comparison) → first.text.items ≡ [] →
         ((setting : Setting) (lines : List (List ℕ)) → Compared setting now lines → count ≡ length lines + 1 →
-        Judges setting now next lines (take at rest) Verdict.Differs) → (setting : Setting) → Compared setting first [] →
+        Judges setting now next lines (take at rest) Outcome.Differs) → (setting : Setting) → Compared setting first [] →
         Difference setting (whole_lines script) next.text.items
     agreeing-differs next empty step setting far =
         let so_far = along.agreeing setting far in
@@ -162,7 +162,7 @@ module _ (script rest : List ℕ) (number : ℕ) (first now : Comparison) (along
 
     -- no line is left, and the last one has an end
     pub agreeing-ended : (length rest == 0) ≡ true → first.text.items ≡ [] → (setting : Setting) → Compared setting first [] →
-        Ended setting now script Verdict.Agrees
+        Ended setting now script Outcome.Agrees
     agreeing-ended empty blank setting far = (
       all-agree setting far,
       rest-all script rest along.taken along.takes none ∙ none-left rest empty,

@@ -1,5 +1,5 @@
 -- The lines of a text that explains lines.
-use Rattle.std.proofs.Common.{◌≡◌, ℕ, ◌+◌, ◌==◌, ◌&&◌, not, if◌then◌else◌, Bool, true, false, List, [], ◌∷◌, ◌++◌, map, drop, append_assoc, append-nil, refl, sym, ap, ◌∙◌, subst}
+use Rattle.std.proofs.Common.{◌≡◌, ℕ, ◌+◌, ◌==◌, ◌&&◌, not, if◌then◌else◌, Bool, true, false, List, [], ◌∷◌, ◌++◌, length, map, drop, append_assoc, append-nil, refl, sym, ap, ◌∙◌, subst}
 use Rattle.std.proofs.lemmas.Grind.{flat_map-append}
 use Rattle.std.proofs.lemmas.List.Elements.{filter-append}
 use Rattle.std.proofs.lemmas.List.Folds.{list_all-append}
@@ -10,7 +10,7 @@ use Rattle.script_lines.proofs.Piecing.{lines-append, rest-append}
 use Rattle.script_faults.specs.IndentedLines.{fact_line, indented, is_indented, unindented}
 use Rattle.sm_script.specs.Scenes.{Scene, as_line, first_scene}
 use Rattle.script_tales.specs.LostLines.{LossLines}
-use Rattle.script_explain.specs.Tales.{ExplainsLines, Begins, Passes, Goes, indent, replies_in, told_line}
+use Rattle.script_explain.specs.Tales.{ExplainsLines, Begins, Passes, Goes, indent, numbered_facts, replies_in, told_line}
 use Rattle.script_explain.proofs.CleanLabels.{and-left, and-right, inner-append, is_inner}
 use Rattle.script_explain.proofs.CleanScenes.{AreClean, IsReply, NoReply, OneReply, answers-clean}
 use Rattle.script_faults.proofs.Unindented.{unindented-more, unindented-skip}
@@ -163,7 +163,7 @@ replies-append a b =
 
 -- each line that is not indented adds itself, its reply and its facts, by induction on the lines
 told-has : (pool : ℕ) (lines : List (List ℕ)) (text replies : List ℕ) (scene : Scene) (losses : LossLines) →
-    ExplainsLines pool first_scene lines text replies scene losses → list_all is_inner lines ≡ true → Has lines text replies scene
+    ExplainsLines pool false first_scene lines text replies scene losses → list_all is_inner lines ≡ true → Has lines text replies scene
 told-has pool lines text replies scene losses Begins inner =
     record { all = []; whole = whole-nil; script = refl; answers = refl; clean = record { nodes = refl; trackers = refl } }
 told-has pool lines text replies scene losses (Passes before line said given there known so_far skip) inner =
@@ -178,27 +178,28 @@ told-has pool lines text replies scene losses (Passes before line said given the
     }
 told-has pool lines text replies scene losses
     (Goes before line said given reply facts there next known later so_far bare answers tells) inner =
+    let its : List ℕ = numbered_facts (length next.history) (length before + 1) facts in
     let both : (list_all is_inner before && list_all is_inner (line ∷ [])) ≡ true = sym (list_all-append is_inner before (line ∷ [])) ∙ inner in
     let rest = told-has pool before said given there known so_far (and-left (list_all is_inner before) (list_all is_inner (line ∷ [])) both) in
     let last : is_inner line ≡ true = and-left (is_inner line) true
     (and-right (list_all is_inner before) (list_all is_inner (line ∷ [])) both) in
     let cleanly = answers-clean pool there rest.clean line reply next answers in
-    let told = whole-told line reply facts last cleanly.reply in
-    let shown_facts : List (List ℕ) = map shown (whole_lines facts) in
+    let told = whole-told line reply its last cleanly.reply in
+    let shown_facts : List (List ℕ) = map shown (whole_lines its) in
     let behind : List (List ℕ) = told.replies ++ shown_facts in
     let bare_behind : unindented behind ≡ [] =
     filter-append (λ l. not (is_indented l)) told.replies shown_facts
     ∙ ap (λ front. front ++ unindented shown_facts) (behind-indented reply told.replies told.behind)
-    ∙ facts-indented (whole_lines facts) in
+    ∙ facts-indented (whole_lines its) in
     let replies_behind : replies_in behind ≡ reply =
     replies-append told.replies shown_facts
     ∙ ap (λ front. front ++ replies_in shown_facts) (behind-replies reply told.replies told.behind)
-    ∙ ap (λ back. reply ++ back) (facts-silent (whole_lines facts)) ∙ append-nil reply in
+    ∙ ap (λ back. reply ++ back) (facts-silent (whole_lines its)) ∙ append-nil reply in
     let one_line : unindented (line ∷ behind) ≡ line ∷ [] = rw bare (ap (λ ls. line ∷ ls) bare_behind) in
     let one_reply : replies_in (line ∷ behind) ≡ reply = rw bare replies_behind in
     record {
       all = rest.all ++ line ∷ behind;
-      whole = whole-append said (told_line line reply facts) rest.all (line ∷ behind) rest.whole told.whole;
+      whole = whole-append said (told_line line reply its) rest.all (line ∷ behind) rest.whole told.whole;
       script = filter-append (λ l. not (is_indented l)) rest.all (line ∷ behind)
           ∙ ap (λ front. front ++ unindented (line ∷ behind)) rest.script
           ∙ ap (λ back. unindented before ++ back) one_line
@@ -211,20 +212,20 @@ told-has pool lines text replies scene losses
 
 -- the lines of the script are those that are not indented, and the replies those that are indented by two spaces
 pub script-told : (pool : ℕ) (script text replies : List ℕ) (scene : Scene) (losses : LossLines) →
-    ExplainsLines pool first_scene (whole_lines script) text replies scene losses → unindented (whole_lines text) ≡ unindented (whole_lines script)
+    ExplainsLines pool false first_scene (whole_lines script) text replies scene losses → unindented (whole_lines text) ≡ unindented (whole_lines script)
 script-told pool script text replies scene losses tells =
     let has = told-has pool (whole_lines script) text replies scene losses tells (lines-inner [] script refl) in
     ap unindented has.whole.lines_are ∙ has.script
 
 -- the lines of an explanation that begin with two spaces, but not with four, are the replies
 pub replies-told : (pool : ℕ) (script text replies : List ℕ) (scene : Scene) (losses : LossLines) →
-    ExplainsLines pool first_scene (whole_lines script) text replies scene losses → replies_in (whole_lines text) ≡ replies
+    ExplainsLines pool false first_scene (whole_lines script) text replies scene losses → replies_in (whole_lines text) ≡ replies
 replies-told pool script text replies scene losses tells =
     let has = told-has pool (whole_lines script) text replies scene losses tells (lines-inner [] script refl) in
     ap replies_in has.whole.lines_are ∙ has.answers
 
 -- the text of an explanation consists of whole lines: nothing stands behind the last of them
 pub text-whole : (pool : ℕ) (script text replies : List ℕ) (scene : Scene) (losses : LossLines) →
-    ExplainsLines pool first_scene (whole_lines script) text replies scene losses → last_part text ≡ []
+    ExplainsLines pool false first_scene (whole_lines script) text replies scene losses → last_part text ≡ []
 text-whole pool script text replies scene losses tells =
     (told-has pool (whole_lines script) text replies scene losses tells (lines-inner [] script refl)).whole.ends

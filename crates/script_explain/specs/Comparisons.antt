@@ -1,5 +1,5 @@
 -- What comes of comparing a transcript.
-use Rattle.std.specs.Prelude.{◌≡◌, ◌≢◌, ◌⊎◌, ℕ, ◌+◌, ◌<◌, ◌≤◌, true, false, List, [], ◌∷◌, ◌++◌, codes, decimal, drop, length, None, Ok, Err, Option, Result, MatchResult}
+use Rattle.std.specs.Prelude.{◌≡◌, ◌≢◌, ◌⊎◌, ℕ, ◌+◌, ◌<◌, ◌≤◌, ◌==◌, if◌then◌else◌, true, false, List, [], ◌∷◌, ◌++◌, codes, decimal, drop, length, None, Ok, Err, Option, Result, MatchResult}
 use Rattle.std.specs.Io.KnownBytes.{Appends, Consumes, IsAtEnd, Keeps}
 use Rattle.script_lines.specs.declared.TheConstants.{MOST_BYTES}
 use Rattle.script_lines.specs.Pieces.{whole_lines, last_part}
@@ -7,6 +7,7 @@ use Rattle.script_lines.specs.Written.{WritesPart}
 use Rattle.script_faults.specs.declared.fault.ReportFault.{ReportFault}
 use Rattle.script_faults.specs.Faults.{IsReported, fault_status}
 use Rattle.script_faults.specs.IndentedLines.{indented, is_indented, unindented}
+use Rattle.text_parts.specs.Parts.{plural_end}
 use Rattle.script_labels.specs.Names.{act_in}
 use Rattle.sm_script.specs.Runs.{IsOver}
 use Rattle.sm_script.specs.Scenes.{Answers, LeadsTo, Scene, Setting, as_line, first_scene}
@@ -23,8 +24,8 @@ abbrev pub Records : List ℕ → List ℕ → Type 0
 Records line reply = (is_indented line ≡ true) × (is_indented (drop 2 line) ≡ false) × (reply ≡ drop 2 line)
 
 -- where the comparison of a transcript is: what happened so far, and the lines that made nodes fail; the last line that was played,
--- with its number, what it was answered, which is nothing or a line, and the facts of its event; how many lines were played, and
--- how many replies compared
+-- with its number, what it was answered, which is nothing or a line, and the facts of its event; how many lines were played that
+-- have a reply, and how many replies compared
 pub record TranscriptPlace : Type 0 where
   pub scene : Scene
   pub losses : LossLines
@@ -40,6 +41,11 @@ abbrev pub start : TranscriptPlace
 start =
     record { scene = first_scene; losses = []; number = 0; line = []; reply = []; facts = []; lines = 0; replies = 0 }
 
+-- one more line that has a reply is counted
+abbrev pub lines_with : ℕ → List ℕ → ℕ
+lines_with lines [] = lines
+lines_with lines (byte ∷ more) = lines + 1
+
 -- one more line was played, that of this number, with this reply and these facts
 abbrev pub played : TranscriptPlace → ℕ → List ℕ → List ℕ → List ℕ → Scene → LossLines → TranscriptPlace
 played at number line reply facts next losses = record {
@@ -49,7 +55,7 @@ played at number line reply facts next losses = record {
   line = line;
   reply = reply;
   facts = facts;
-  lines = at.lines + 1;
+  lines = lines_with at.lines reply;
   replies = at.replies;
 }
 
@@ -76,10 +82,18 @@ pub record Agreement (setting : Setting) (lines : List (List ℕ)) (at : Transcr
   pub texts : List ℕ
   pub leads : LeadsTo setting (unindented lines) texts at.scene
 
+-- the word behind this number of replies
+abbrev pub replies_word : ℕ → List ℕ
+replies_word replies = if replies == 1 then codes " reply\n" else codes " replies\n"
+
 -- what is told where all agrees
 abbrev pub agreement_text : TranscriptPlace → List ℕ
-agreement_text at =
-    codes "agrees: " ++ decimal at.lines ++ codes " lines, " ++ decimal at.replies ++ codes " replies\n"
+agreement_text at = codes "agrees: " ++ decimal at.lines ++ codes " " ++ codes "line" ++ plural_end at.lines ++ codes ", "
+    ++ decimal at.replies ++ replies_word at.replies
+
+-- what is told where no line was played that has a reply
+abbrev pub empty_text : List ℕ
+empty_text = codes "no line was played\n"
 
 -- the legal reply, as it is told: nothing is no reply
 abbrev pub legal_text : List ℕ → List ℕ
@@ -106,16 +120,23 @@ pub record Difference (setting : Setting) (lines : List (List ℕ)) (text : List
   pub differs : at.reply ≢ as_line reply
   pub said : text ≡ told_difference at.number at.line at.reply reply ++ indented at.facts
 
--- all agrees, and the text tells so
-pub record FullAgreement (setting : Setting) (script : List ℕ) (text : List ℕ) : Type 0 where
+-- what is said of a place up to which all agrees: nothing is, if no line was played that has a reply
+abbrev pub IsSaid : Verdict → TranscriptPlace → List ℕ → List ℕ → Type 0
+IsSaid Verdict.Agrees at before after = (0 < at.lines) × (after ≡ before ++ agreement_text at)
+IsSaid Verdict.Empty at before after = (at.lines ≡ 0) × (after ≡ before ++ empty_text)
+IsSaid Verdict.Differs at before after = ⊥
+
+-- all agrees, and the text tells so, or that no line was played that has a reply
+pub record FullAgreement (setting : Setting) (script : List ℕ) (text : List ℕ) (verdict : Verdict) : Type 0 where
   pub ended : last_part script ≡ []
   pub at : TranscriptPlace
   pub agreed : Agreement setting (whole_lines script) at
-  pub said : text ≡ agreement_text at
+  pub said : IsSaid verdict at [] text
 
 -- the verdict on the script, with its text
 abbrev pub IsVerdict : Setting → List ℕ → List ℕ → Verdict → Type 0
-IsVerdict setting script text Verdict.Agrees = FullAgreement setting script text
+IsVerdict setting script text Verdict.Agrees = FullAgreement setting script text Verdict.Agrees
+IsVerdict setting script text Verdict.Empty = FullAgreement setting script text Verdict.Empty
 IsVerdict setting script text Verdict.Differs = Difference setting (whole_lines script) text
 
 -- the verdict was written
@@ -183,10 +204,11 @@ pub record Checks (setting : Setting) (left_before left old new : Option (List �
       (λ verdict. IsAtEnd left × (length script ≤ MOST_BYTES) × IsJudged setting old new script verdict)
       (CheckStops setting left old new script)
 
--- the status that the program ends with: 0 where all agrees, 6 where a reply differs
+-- the status that the program ends with: 0 where all agrees, 6 where a reply differs, 7 where no line was played that has a reply
 abbrev pub checking_status : Result Verdict ReportFault → ℕ
 checking_status (Ok Verdict.Agrees) = 0
 checking_status (Ok Verdict.Differs) = 6
+checking_status (Ok Verdict.Empty) = 7
 checking_status (Err fault) = fault_status fault
 
 -- a transcript was checked, with this outcome: the status is its status, and its fault, if there is one, was told

@@ -1,5 +1,5 @@
 -- What an explanation of a script leaves.
-use Rattle.std.specs.Prelude.{◌≡◌, ◌≢◌, ◌⊎◌, ℕ, ◌+◌, ◌<◌, ◌≤◌, false, List, [], ◌∷◌, ◌++◌, length, None, Ok, Err, Option, Result, MatchResult}
+use Rattle.std.specs.Prelude.{◌≡◌, ◌≢◌, ◌⊎◌, ℕ, ◌+◌, ◌<◌, ◌≤◌, Bool, false, List, [], ◌∷◌, ◌++◌, length, None, Ok, Err, Option, Result, MatchResult}
 use Rattle.std.specs.Io.KnownBytes.{Appends, Consumes, IsAtEnd, Keeps}
 use Rattle.script_lines.specs.declared.TheConstants.{MOST_BYTES}
 use Rattle.script_lines.specs.Pieces.{whole_lines, last_part}
@@ -15,26 +15,26 @@ use Rattle.script_explain.specs.Tales.{ExplainsLines}
 
 -- the text explains these lines: their replies are those of a legal history whose calls are those of the lines that are not
 -- indented, and their facts those of its events
-pub record Explanation (setting : Setting) (lines : List (List ℕ)) (text : List ℕ) : Type 0 where
+pub record Explanation (setting : Setting) (only : Bool) (lines : List (List ℕ)) (text : List ℕ) : Type 0 where
   pub replies : List ℕ
   pub scene : Scene
   pub losses : LossLines
-  pub tells : ExplainsLines setting.pool first_scene lines text replies scene losses
+  pub tells : ExplainsLines setting.pool only first_scene lines text replies scene losses
   pub leads : LeadsTo setting (unindented lines) replies scene
 
 -- what was written explains exactly these lines
-pub record IsExplained (setting : Setting) (old new : Option (List ℕ)) (lines : List (List ℕ)) : Type 0 where
+pub record IsExplained (setting : Setting) (only : Bool) (old new : Option (List ℕ)) (lines : List (List ℕ)) : Type 0 where
   pub text : List ℕ
-  pub explains : Explanation setting lines text
+  pub explains : Explanation setting only lines text
   pub written : Appends old new text
 
 -- what was written is a first part of what explains some first lines
-pub record ExplanationCutOff (setting : Setting) (old new : Option (List ℕ)) (lines : List (List ℕ)) : Type 0 where
+pub record ExplanationCutOff (setting : Setting) (only : Bool) (old new : Option (List ℕ)) (lines : List (List ℕ)) : Type 0 where
   pub before : List (List ℕ)
   pub after : List (List ℕ)
   pub split : lines ≡ before ++ after
   pub text : List ℕ
-  pub explains : Explanation setting before text
+  pub explains : Explanation setting only before text
   pub written : WritesPart old new text
 
 -- why the line of this number was not explained
@@ -44,59 +44,59 @@ ExplanationFault setting scene line number ReportFault.HistoryFull = IsOver sett
 ExplanationFault setting scene line number _ = ⊥
 
 -- a line was not explained, and what was written explains exactly the lines before it
-pub record IsUnexplained (setting : Setting) (old new : Option (List ℕ)) (lines : List (List ℕ)) (fault : ReportFault) : Type 0 where
+pub record IsUnexplained (setting : Setting) (only : Bool) (old new : Option (List ℕ)) (lines : List (List ℕ)) (fault : ReportFault) : Type 0 where
   pub before : List (List ℕ)
   pub line : List ℕ
   pub after : List (List ℕ)
   pub split : lines ≡ before ++ line ∷ after
   pub whole : is_indented line ≡ false
-  pub told : IsExplained setting old new before
+  pub told : IsExplained setting only old new before
   pub why : ExplanationFault setting told.explains.scene line (length before + 1) fault
 
 -- the last line has no end, and all others were explained
-pub record ExplanationUnended (setting : Setting) (old new : Option (List ℕ)) (script : List ℕ) (number : ℕ) : Type 0 where
+pub record ExplanationUnended (setting : Setting) (only : Bool) (old new : Option (List ℕ)) (script : List ℕ) (number : ℕ) : Type 0 where
   pub unended : last_part script ≢ []
   pub numbered : number ≡ length (whole_lines script) + 1
-  pub told : IsExplained setting old new (whole_lines script)
+  pub told : IsExplained setting only old new (whole_lines script)
 
 -- memory was refused, and what was written explains exactly some first lines
-pub record ExplanationRefused (setting : Setting) (old new : Option (List ℕ)) (lines : List (List ℕ)) : Type 0 where
+pub record ExplanationRefused (setting : Setting) (only : Bool) (old new : Option (List ℕ)) (lines : List (List ℕ)) : Type 0 where
   pub before : List (List ℕ)
   pub after : List (List ℕ)
   pub split : lines ≡ before ++ after
-  pub told : IsExplained setting old new before
+  pub told : IsExplained setting only old new before
 
 -- why an explanation of a script that was read stopped
-abbrev pub ExplanationLinesStop : Setting → Option (List ℕ) → Option (List ℕ) → List ℕ → ReportFault → Type 0
-ExplanationLinesStop setting old new script ReportFault.WriteFault = ExplanationCutOff setting old new (whole_lines script)
-ExplanationLinesStop setting old new script (ReportFault.BadLine n reason) =
-    IsUnexplained setting old new (whole_lines script) (ReportFault.BadLine n reason) ⊎ ExplanationUnended setting old new script n
-ExplanationLinesStop setting old new script ReportFault.HistoryFull =
-    IsUnexplained setting old new (whole_lines script) ReportFault.HistoryFull
-ExplanationLinesStop setting old new script ReportFault.NoMemory = ExplanationRefused setting old new (whole_lines script)
-ExplanationLinesStop setting old new script _ = ⊥
+abbrev pub ExplanationLinesStop : Setting → Bool → Option (List ℕ) → Option (List ℕ) → List ℕ → ReportFault → Type 0
+ExplanationLinesStop setting only old new script ReportFault.WriteFault = ExplanationCutOff setting only old new (whole_lines script)
+ExplanationLinesStop setting only old new script (ReportFault.BadLine n reason) =
+    IsUnexplained setting only old new (whole_lines script) (ReportFault.BadLine n reason) ⊎ ExplanationUnended setting only old new script n
+ExplanationLinesStop setting only old new script ReportFault.HistoryFull =
+    IsUnexplained setting only old new (whole_lines script) ReportFault.HistoryFull
+ExplanationLinesStop setting only old new script ReportFault.NoMemory = ExplanationRefused setting only old new (whole_lines script)
+ExplanationLinesStop setting only old new script _ = ⊥
 
 -- what came of explaining a script that was read: without a fault what was written explains all lines
-abbrev pub LinesTold : Setting → Option (List ℕ) → Option (List ℕ) → List ℕ → Result (Unit {0}) ReportFault → Type 0
-LinesTold setting old new script result = MatchResult result
-    (λ _. (last_part script ≡ []) × IsExplained setting old new (whole_lines script))
-    (ExplanationLinesStop setting old new script)
+abbrev pub LinesTold : Setting → Bool → Option (List ℕ) → Option (List ℕ) → List ℕ → Result (Unit {0}) ReportFault → Type 0
+LinesTold setting only old new script result = MatchResult result
+    (λ _. (last_part script ≡ []) × IsExplained setting only old new (whole_lines script))
+    (ExplanationLinesStop setting only old new script)
 
 -- why an explanation stopped, where these bytes were read: no line is explained before all are read
-abbrev pub ExplanationStops : Setting → Option (List ℕ) → Option (List ℕ) → Option (List ℕ) → List ℕ → ReportFault → Type 0
-ExplanationStops setting left old new script ReportFault.ReadFault = (length script ≤ MOST_BYTES) × Keeps old new
-ExplanationStops setting left old new script ReportFault.TooLong = (MOST_BYTES < length script) × Keeps old new
-ExplanationStops setting left old new script ReportFault.NoMemory =
-    ExplanationLinesStop setting old new script ReportFault.NoMemory
-ExplanationStops setting left old new script fault = IsAtEnd left × ExplanationLinesStop setting old new script fault
+abbrev pub ExplanationStops : Setting → Bool → Option (List ℕ) → Option (List ℕ) → Option (List ℕ) → List ℕ → ReportFault → Type 0
+ExplanationStops setting only left old new script ReportFault.ReadFault = (length script ≤ MOST_BYTES) × Keeps old new
+ExplanationStops setting only left old new script ReportFault.TooLong = (MOST_BYTES < length script) × Keeps old new
+ExplanationStops setting only left old new script ReportFault.NoMemory =
+    ExplanationLinesStop setting only old new script ReportFault.NoMemory
+ExplanationStops setting only left old new script fault = IsAtEnd left × ExplanationLinesStop setting only old new script fault
 
 -- these bytes were read, and their lines were explained. Without a fault they are all that there is
-pub record Explains (setting : Setting) (left_before left old new : Option (List ℕ)) (result : Result (Unit {0}) ReportFault) : Type 0 where
+pub record Explains (setting : Setting) (only : Bool) (left_before left old new : Option (List ℕ)) (result : Result (Unit {0}) ReportFault) : Type 0 where
   pub script : List ℕ
   pub taken : Consumes left_before left script
   pub outcome : MatchResult result
-      (λ _. IsAtEnd left × (length script ≤ MOST_BYTES) × (last_part script ≡ []) × IsExplained setting old new (whole_lines script))
-      (ExplanationStops setting left old new script)
+      (λ _. IsAtEnd left × (length script ≤ MOST_BYTES) × (last_part script ≡ []) × IsExplained setting only old new (whole_lines script))
+      (ExplanationStops setting only left old new script)
 
 -- the status that the program ends with: 0 where all of the script was explained
 abbrev pub explaining_status : Result (Unit {0}) ReportFault → ℕ
@@ -104,8 +104,8 @@ explaining_status (Ok done) = 0
 explaining_status (Err fault) = fault_status fault
 
 -- a script was explained, with this outcome: the status is its status, and its fault, if there is one, was told
-pub record EndsExplained (setting : Setting) (left_before left old new told_before told : Option (List ℕ)) (status : ℕ) : Type 0 where
+pub record EndsExplained (setting : Setting) (only : Bool) (left_before left old new told_before told : Option (List ℕ)) (status : ℕ) : Type 0 where
   pub outcome : Result (Unit {0}) ReportFault
-  pub explains : Explains setting left_before left old new outcome
+  pub explains : Explains setting only left_before left old new outcome
   pub status_is : status ≡ explaining_status outcome
   pub reported : IsReported told_before told outcome

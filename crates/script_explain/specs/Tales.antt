@@ -1,8 +1,10 @@
 -- The text of a script that is explained.
-use Rattle.std.specs.Prelude.{◌≡◌, ℕ, ◌+◌, true, false, ◌&&◌, not, if◌then◌else◌, List, [], ◌∷◌, ◌++◌, codes, drop, length}
+use Rattle.std.specs.Prelude.{◌≡◌, ℕ, ◌+◌, ◌==◌, Bool, true, false, ◌&&◌, ◌||◌, not, if◌then◌else◌, List, [], ◌∷◌, ◌++◌, codes, decimal, drop, length}
 use Rattle.std.specs.List.{flat_map}
+use Rattle.sm_names.specs.Timelines.{timeline}
 use Rattle.script_faults.specs.IndentedLines.{indented, is_indented}
 use Rattle.sm_script.specs.Scenes.{Answers, Scene, as_line}
+use Rattle.script_tales.specs.Failing.{failures}
 use Rattle.script_tales.specs.LostLines.{LossLines}
 use Rattle.script_tales.specs.Tellings.{Tells}
 
@@ -19,6 +21,20 @@ line_with_reply line reply = line ++ codes "\n" ++ indent reply ++ reply
 abbrev pub told_line : List ℕ → List ℕ → List ℕ → List ℕ
 told_line line reply facts = line_with_reply line reply ++ indented facts
 
+-- the facts, behind a line with the numbers of their event and of its line; nothing where there are none
+abbrev pub numbered_facts : ℕ → ℕ → List ℕ → List ℕ
+numbered_facts event number [] = []
+numbered_facts event number (byte ∷ more) =
+    codes "event   " ++ decimal event ++ codes ", line " ++ decimal number ++ codes "\n" ++ byte ∷ more
+
+-- what a line comes to between these scenes is told; if only failures are told, then only if a node failed in its event
+abbrev pub is_told : Bool → ℕ → Scene → Scene → Bool
+is_told only pool scene next = not only || not (failures (timeline pool next.history) == failures (timeline pool scene.history))
+
+-- the text, if it is told
+abbrev pub if_told : Bool → List ℕ → List ℕ
+if_told told text = if told then text else []
+
 -- the replies among these lines, each with its end: the lines that begin with two spaces and no more, without these
 abbrev pub replies_in : List (List ℕ) → List ℕ
 replies_in lines = flat_map
@@ -26,14 +42,16 @@ replies_in lines = flat_map
 
 -- these lines, one after another, are explained by this text, give these replies, and lead to the last scene, where these lines
 -- made nodes fail. An indented line is passed over; any other is answered as a line of a script is, and the facts of its event are
--- told
-pub data ExplainsLines (pool : ℕ) (first : Scene) : List (List ℕ) → List ℕ → List ℕ → Scene → LossLines → Type 0 where
-  Begins : ExplainsLines pool first [] [] [] first []
+-- told, or nothing is, where only failures are told and no node failed in it
+pub data ExplainsLines (pool : ℕ) (only : Bool) (first : Scene) : List (List ℕ) → List ℕ → List ℕ → Scene → LossLines → Type 0 where
+  Begins : ExplainsLines pool only first [] [] [] first []
   Passes : (lines : List (List ℕ)) (line text replies : List ℕ) (scene : Scene) (losses : LossLines) →
-      ExplainsLines pool first lines text replies scene losses → is_indented line ≡ true →
-      ExplainsLines pool first (lines ++ line ∷ []) text replies scene losses
+      ExplainsLines pool only first lines text replies scene losses → is_indented line ≡ true →
+      ExplainsLines pool only first (lines ++ line ∷ []) text replies scene losses
   Goes : (lines : List (List ℕ)) (line text replies reply facts : List ℕ) (scene next : Scene) (losses later : LossLines) →
-      ExplainsLines pool first lines text replies scene losses → is_indented line ≡ false →
+      ExplainsLines pool only first lines text replies scene losses → is_indented line ≡ false →
       (answers : Answers pool scene line reply next) →
       Tells pool scene next (length lines + 1) line answers.act losses later facts →
-      ExplainsLines pool first (lines ++ line ∷ []) (text ++ told_line line reply facts) (replies ++ reply) next later
+      ExplainsLines pool only first (lines ++ line ∷ [])
+      (text ++ if_told (is_told only pool scene next) (told_line line reply (numbered_facts (length next.history) (length lines + 1) facts)))
+      (replies ++ reply) next later

@@ -5,14 +5,15 @@ ghost use Rattle.script_lines.specs.Pieces.{last_part, whole_lines};
 ghost use Rattle.sm_script.specs.Scenes.{Scene, Setting, as_line};
 ghost use Rattle.sm_script.specs.Sessions.{Advances, IsAt, IsStopped};
 ghost use Rattle.script_tales.specs.LostLines.{LossLines};
-ghost use Rattle.script_explain.specs.Comparisons.{Checks, IsJudged, IsVerdict, ComparisonLinesStop, Records, ComparisonStopped, agreement_text, legal_text, told_difference};
-ghost use Rattle.script_explain.specs.Progress.{CheckHalted, Compared, Ended, Judges, comparison_place};
+ghost use Rattle.script_faults.specs.declared.fault.ReportFault.{ReportFault as Fault};
+ghost use Rattle.script_explain.specs.Comparisons.{Checks, IsJudged, IsSaid, IsVerdict, ComparisonLinesStop, Records, ComparisonStopped, agreement_text, legal_text, replies_word, told_difference};
+ghost use Rattle.script_explain.specs.Progress.{CheckHalted, Compared, Ended, Judges, comparison_place, lines_counted};
 
 use script_faults::{
     ReportFault, bad_line, behind, behind_indent, fault_of, is_indented, push_indented, put_out,
     read_script, unended,
 };
-use script_lines::{MOST_BYTES, line_end};
+use script_lines::{MOST_BYTES, line_end, push};
 use script_tales::Teller;
 use sm_names::{Limits, MAX_PAGES, NoMemory};
 use std::alloc::{AllocError, Global};
@@ -26,6 +27,15 @@ pub enum Verdict {
     Agrees,
     /// The first that differs was written.
     Differs,
+    /// No line was played that has a reply.
+    Empty,
+}
+
+// The result of comparing some lines: whether all replies that are there are the machine's.
+#[derive(Clone, Copy)]
+enum Outcome {
+    Agrees,
+    Differs,
 }
 
 // A transcript that is compared, up to some line.
@@ -37,7 +47,7 @@ struct Comparison {
     line: Vec<u8>,
     reply: Vec<u8>,
     facts: Vec<u8>,
-    // How many lines were played, and how many replies compared.
+    // How many lines were played that have a reply, and how many replies compared.
     lines: u64,
     replies: u64,
     // What is to be written.
@@ -47,9 +57,9 @@ struct Comparison {
 /// Plays the lines of the transcript that the reader holds against a new core with a pool of `pages`
 /// pages, and compares each reply that is there with the machine's. A line that begins with two spaces is
 /// the reply to the line before it that begins with none; one that begins with four says nothing. Where
-/// all agree, writes how many lines were played and how many replies compared; else the first that
-/// differs, with the machine's reply and the facts of the event. The whole transcript is read before any
-/// line is judged.
+/// all agree, writes how many lines were played that have a reply and how many replies compared, or that no
+/// line was; else the first that differs, with the machine's reply and the facts of the event. The whole
+/// transcript is read before any line is judged.
 ///
 /// On a fault nothing was written, but for `WriteFault`, where a first part of the text was. Costs what
 /// `explain_script` costs.
@@ -140,21 +150,36 @@ impl Comparison {
             ComparisonLinesStop setting script.now fault) }
     {
         match self.take_lines(alloc, script) {
-            Ok(Verdict::Agrees) => match self.push_agreement() {
-                Ok(()) => Ok(Verdict::Agrees),
-                Err(_) => Err(ReportFault::NoMemory),
-            },
-            Ok(Verdict::Differs) => Ok(Verdict::Differs),
+            Ok(Outcome::Agrees) => self.agree(),
+            Ok(Outcome::Differs) => Ok(Verdict::Differs),
             Err(fault) => Err(fault),
         }
     }
 
+    // The verdict where all replies agree: appends it.
+    fn agree(&mut self) -> Result<Verdict, ReportFault>
+        ensures ok { IfOk result (λ verdict. (scene : Scene) (losses : LossLines) →
+            IsSaid verdict (comparison_place self.old scene losses) self.old.text.items self.new.text.items) }
+        ensures err { IfErr result (λ fault. fault ≡ Fault.NoMemory) }
+    {
+        if self.lines == 0 {
+            return match push(&mut self.text, "no line was played\n") {
+                Ok(()) => Ok(Verdict::Empty),
+                Err(_) => Err(ReportFault::NoMemory),
+            };
+        }
+        match self.push_agreement() {
+            Ok(()) => Ok(Verdict::Agrees),
+            Err(_) => Err(ReportFault::NoMemory),
+        }
+    }
+
     // Plays and compares the lines, one after another, up to the first that differs.
-    fn take_lines(&mut self, alloc: Global, script: &[u8]) -> Result<Verdict, ReportFault>
+    fn take_lines(&mut self, alloc: Global, script: &[u8]) -> Result<Outcome, ReportFault>
         requires few { length script.now ≤ MOST_BYTES }
         requires no_text { self.old.text.items ≡ [] }
-        ensures ok { IfOk result (λ verdict. (setting : Setting) → Compared setting self.old [] →
-            Ended setting self.new script.now verdict) }
+        ensures ok { IfOk result (λ outcome. (setting : Setting) → Compared setting self.old [] →
+            Ended setting self.new script.now outcome) }
         ensures err { IfErr result (λ fault. (setting : Setting) → Compared setting self.old [] →
             ComparisonLinesStop setting script.now fault) }
     {
@@ -163,36 +188,36 @@ impl Comparison {
         'lines: while let Some(at) = line_end(rest) {
             number = number.saturating_add(1);
             match self.take_line(alloc, number, &rest[..at]) {
-                Ok(Verdict::Agrees) => rest = behind(rest, at),
-                Ok(Verdict::Differs) => return Ok(Verdict::Differs),
+                Ok(Outcome::Agrees) => rest = behind(rest, at),
+                Ok(Outcome::Differs) => return Ok(Outcome::Differs),
                 Err(fault) => return Err(fault),
             }
         }
         if rest.is_empty() {
-            Ok(Verdict::Agrees)
+            Ok(Outcome::Agrees)
         } else {
             Err(unended(alloc, number.saturating_add(1)))
         }
     }
 
     // Plays or compares the line of this number.
-    fn take_line(&mut self, alloc: Global, number: u64, line: &[u8]) -> Result<Verdict, ReportFault>
+    fn take_line(&mut self, alloc: Global, number: u64, line: &[u8]) -> Result<Outcome, ReportFault>
         requires { number ≤ MOST_BYTES }
-        ensures ok { IfOk result (λ verdict. (setting : Setting) (lines : List (List ℕ)) →
+        ensures ok { IfOk result (λ outcome. (setting : Setting) (lines : List (List ℕ)) →
             Compared setting self.old lines → number ≡ length lines + 1 →
-            Judges setting self.old self.new lines line.now verdict) }
+            Judges setting self.old self.new lines line.now outcome) }
         ensures err { IfErr result (λ fault. (setting : Setting) (lines : List (List ℕ)) →
             Compared setting self.old lines → number ≡ length lines + 1 →
             CheckHalted setting (lines ++ line.now ∷ []) fault) }
     {
         match behind_indent(line) {
             None => match self.play(alloc, number, line) {
-                Ok(()) => Ok(Verdict::Agrees),
+                Ok(()) => Ok(Outcome::Agrees),
                 Err(fault) => Err(fault),
             },
             Some(recorded) => {
                 if is_indented(recorded) {
-                    return Ok(Verdict::Agrees);
+                    return Ok(Outcome::Agrees);
                 }
                 self.compare(alloc, number, recorded)
             }
@@ -221,7 +246,7 @@ impl Comparison {
             .answer(alloc, number, line, &mut self.reply, &mut self.facts)
         {
             Ok(()) => {
-                self.lines = self.lines.saturating_add(1);
+                self.lines = counted(self.lines, &self.reply);
                 Ok(())
             }
             Err(stop) => { Err(fault_of(alloc, stop, &self.teller.session.tables, number, line)) }
@@ -234,12 +259,12 @@ impl Comparison {
         alloc: Global,
         number: u64,
         recorded: &[u8],
-    ) -> Result<Verdict, ReportFault>
+    ) -> Result<Outcome, ReportFault>
         requires { number ≤ MOST_BYTES }
-        ensures ok { IfOk result (λ verdict. (setting : Setting) (lines : List (List ℕ))
+        ensures ok { IfOk result (λ outcome. (setting : Setting) (lines : List (List ℕ))
             (line : List ℕ) → Records line recorded.now →
             Compared setting self.old lines → number ≡ length lines + 1 →
-            Judges setting self.old self.new lines line verdict) }
+            Judges setting self.old self.new lines line outcome) }
         ensures err { IfErr result (λ fault. (setting : Setting) (lines : List (List ℕ))
             (line : List ℕ) → Records line recorded.now →
             Compared setting self.old lines → number ≡ length lines + 1 →
@@ -247,13 +272,17 @@ impl Comparison {
     {
         if is_line_of(&self.reply, recorded) {
             self.replies = self.replies.saturating_add(1);
-            return Ok(Verdict::Agrees);
+            return Ok(Outcome::Agrees);
         }
         if self.lines == 0 {
-            return Err(bad_line(alloc, number, "a reply stands before the first line"));
+            return Err(bad_line(
+                alloc,
+                number,
+                "a reply stands before the first line that has one",
+            ));
         }
         match self.tell_difference(recorded) {
-            Ok(()) => Ok(Verdict::Differs),
+            Ok(()) => Ok(Outcome::Differs),
             Err(_) => Err(ReportFault::NoMemory),
         }
     }
@@ -267,10 +296,10 @@ impl Comparison {
             &mut self.text,
             &[
                 Part::Word("agrees: "),
-                Part::Number(self.lines),
-                Part::Word(" lines, "),
+                Part::Counted(self.lines, "line"),
+                Part::Word(", "),
                 Part::Number(self.replies),
-                Part::Word(" replies\n"),
+                Part::Word(replies_word(self.replies)),
             ],
         )
     }
@@ -290,6 +319,28 @@ impl Comparison {
             recorded,
         )?;
         push_indented(&mut self.text, &self.facts)
+    }
+}
+
+// How many lines were played that have a reply, where one more has this reply.
+fn counted(lines: u64, reply: &[u8]) -> u64
+    ensures { result ≡ lines_counted lines reply.now }
+{
+    if reply.is_empty() {
+        lines
+    } else {
+        lines.saturating_add(1)
+    }
+}
+
+// The word behind this number of replies.
+fn replies_word(replies: u64) -> &'static str
+    ensures { result.now ≡ replies_word replies }
+{
+    if replies == 1 {
+        " reply\n"
+    } else {
+        " replies\n"
     }
 }
 

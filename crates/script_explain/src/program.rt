@@ -16,7 +16,10 @@ use std::process::ExitCode;
 // The status of a transcript that differs.
 const DIFFERS: u8 = 6;
 
-/// Explains the script that the reader holds, with these pages and the greatest limits, as
+// The status of one of which no line was played.
+const EMPTY: u8 = 7;
+
+/// Explains the script that the reader holds, or only its failures, with these pages and the greatest limits, as
 /// `explain_script` does, and answers the status that a program is to end with: 0 where the script came
 /// to its end, and else the status of the fault, which is reported as one line on `faults`, as far as
 /// that takes it. Costs what `explain_script` costs.
@@ -27,6 +30,7 @@ pub fn explain_to_exit<R: Read, W: Write, F: Write>(
     writer: &mut W,
     faults: &mut F,
     pages: Pages,
+    only_failures: bool,
 ) -> ExitCode
     ensures most { exit_status result ≤ 4 }
     ensures ends { EndsExplained (record {
@@ -38,19 +42,28 @@ pub fn explain_to_exit<R: Read, W: Write, F: Write>(
         trackers = MAX_TRACKERS;
         handles = MAX_HANDLES;
       };
-    })
+    }) only_failures
         (R.remaining reader.old) (R.remaining reader.new)
         (W.contents writer.old) (W.contents writer.new)
         (F.contents faults.old) (F.contents faults.new) (exit_status result) }
 {
-    match explain_script(alloc, seed, reader, writer, pages.count, Limits::full()) {
+    match explain_script(
+        alloc,
+        seed,
+        reader,
+        writer,
+        pages.count,
+        Limits::full(),
+        only_failures,
+    ) {
         Ok(()) => ExitCode::SUCCESS,
         Err(fault) => end_with(alloc, faults, &fault),
     }
 }
 
 /// Checks the transcript that the reader holds, with these pages and the greatest limits, as
-/// `check_script` does, and answers a status as `explain_to_exit` does, and 6 where a reply differs. Costs
+/// `check_script` does, and answers a status as `explain_to_exit` does, 6 where a reply differs, and 7 where no
+/// line was played. Costs
 /// what `check_script` costs.
 pub fn check_to_exit<R: Read, W: Write, F: Write>(
     alloc: Global,
@@ -60,7 +73,7 @@ pub fn check_to_exit<R: Read, W: Write, F: Write>(
     faults: &mut F,
     pages: Pages,
 ) -> ExitCode
-    ensures most { exit_status result ≤ 6 }
+    ensures most { exit_status result ≤ 7 }
     ensures ends { EndsChecked (record {
       pool = pages.count;
       limits = record {
@@ -78,6 +91,7 @@ pub fn check_to_exit<R: Read, W: Write, F: Write>(
     match check_script(alloc, seed, reader, writer, pages.count, Limits::full()) {
         Ok(Verdict::Agrees) => ExitCode::SUCCESS,
         Ok(Verdict::Differs) => ExitCode::from(DIFFERS),
+        Ok(Verdict::Empty) => ExitCode::from(EMPTY),
         Err(fault) => end_with(alloc, faults, &fault),
     }
 }

@@ -3,8 +3,9 @@ use Rattle.std.specs.Prelude.{ℕ, ◌≡◌, ◌≢◌, List, [], ◌∷◌, �
 use Rattle.script_lines.specs.Written.{WritesPart}
 use Rattle.script_labels.specs.declared.stop.Stop.{Stop}
 use Rattle.script_faults.specs.declared.fault.ReportFault.{ReportFault}
+use Rattle.script_faults.specs.declared.fault.Sought.{Sought}
 
--- the status that a program ends with: 1 for the streams, 2 for an event that there is not, 3 for the script, 4 for want of
+-- the status that a program ends with: 1 for the streams, 2 for what is not there, 3 for the script, 4 for want of
 -- memory or of room in the history
 abbrev pub fault_status : ReportFault → ℕ
 fault_status ReportFault.ReadFault = 1
@@ -13,7 +14,13 @@ fault_status ReportFault.WriteFault = 1
 fault_status (ReportFault.BadLine number reason) = 3
 fault_status ReportFault.HistoryFull = 4
 fault_status ReportFault.NoMemory = 4
-fault_status (ReportFault.NoEvent event) = 2
+fault_status (ReportFault.Missing sought number) = 2
+
+-- what is sought, in words
+abbrev pub sought_name : Sought → List ℕ
+sought_name Sought.Event = codes "event "
+sought_name Sought.Line = codes "line "
+sought_name Sought.Failure = codes "failure "
 
 -- what a fault is told as
 abbrev pub fault_text : ReportFault → List ℕ
@@ -23,11 +30,17 @@ fault_text ReportFault.WriteFault = codes "write fault"
 fault_text (ReportFault.BadLine number reason) = codes "bad line " ++ decimal number ++ codes ": " ++ reason.items
 fault_text ReportFault.HistoryFull = codes "history full"
 fault_text ReportFault.NoMemory = codes "no memory"
-fault_text (ReportFault.NoEvent event) = codes "there is no event " ++ decimal event
+fault_text (ReportFault.Missing sought number) = codes "there is no " ++ sought_name sought ++ decimal number
+
+-- what the line of a fault begins with: the program's name, unless `run` has a line for the same fault
+abbrev pub fault_start : ReportFault → List ℕ
+fault_start ReportFault.TooLong = codes "sysmem: "
+fault_start (ReportFault.Missing sought number) = codes "sysmem: "
+fault_start _ = []
 
 -- the line of the fault, with its end
 abbrev pub fault_line : ReportFault → List ℕ
-fault_line fault = fault_text fault ++ 10 ∷ []
+fault_line fault = fault_start fault ++ fault_text fault ++ 10 ∷ []
 
 -- the line of the fault was written, as far as it could be, or that of refused memory
 abbrev pub IsTold : Option (List ℕ) → Option (List ℕ) → ReportFault → Type 0

@@ -1,7 +1,7 @@
 //! How a program ends on a fault.
 ghost use Rattle.std.specs.Prelude.{◌≡◌, IfOk};
 ghost use Rattle.std.specs.Process.{exit_status};
-ghost use Rattle.script_faults.specs.Faults.{IsTold, fault_line, fault_status};
+ghost use Rattle.script_faults.specs.Faults.{IsTold, fault_line, fault_start, fault_status};
 
 use crate::fault::ReportFault;
 use script_lines::{WriteFault, push, write_out};
@@ -9,11 +9,26 @@ use std::alloc::{AllocError, Global};
 use std::io::Write;
 use std::process::ExitCode;
 
+// What the line of a fault begins with: the program's name, unless `run` has a line for the same fault.
+fn start_of(fault: &ReportFault) -> &'static str
+    ensures { result.now ≡ fault_start fault.now }
+{
+    match fault {
+        ReportFault::TooLong | ReportFault::Missing { .. } => "sysmem: ",
+        ReportFault::ReadFault
+        | ReportFault::WriteFault
+        | ReportFault::BadLine { .. }
+        | ReportFault::HistoryFull
+        | ReportFault::NoMemory => "",
+    }
+}
+
 // The fault in one line.
 fn fault_line(alloc: Global, fault: &ReportFault) -> Result<Vec<u8>, AllocError>
     ensures { IfOk result (λ line. line.items ≡ fault_line fault.now) }
 {
     let mut line = Vec::new(alloc);
+    push(&mut line, start_of(fault))?;
     fault.push_text(&mut line)?;
     push(&mut line, "\n")?;
     Ok(line)

@@ -1,6 +1,6 @@
 //! Why a script was not reported on to its end.
 ghost use Rattle.std.specs.Prelude.{◌≡◌, ◌++◌, OnOk, codes};
-ghost use Rattle.script_faults.specs.Faults.{HasReason, IsBadLine, IsFaultOf, fault_status, fault_text};
+ghost use Rattle.script_faults.specs.Faults.{HasReason, IsBadLine, IsFaultOf, fault_status, fault_text, sought_name};
 
 use crate::reasons::push_reason;
 use script_labels::{Stop, Tables};
@@ -8,6 +8,30 @@ use script_lines::push;
 use sm_names::NoMemory;
 use std::alloc::{AllocError, Global};
 use text_parts::{Part, push_parts};
+
+/// What is sought in a script by its number.
+#[derive(Clone, Copy)]
+pub enum Sought {
+    /// An event.
+    Event,
+    /// A line.
+    Line,
+    /// An event in which a node failed.
+    Failure,
+}
+
+impl Sought {
+    // What it is called.
+    fn name(self) -> &'static str
+        ensures { result.now ≡ sought_name self }
+    {
+        match self {
+            Sought::Event => "event ",
+            Sought::Line => "line ",
+            Sought::Failure => "failure ",
+        }
+    }
+}
 
 /// Why a script was not reported on to its end.
 #[derive(Drop)]
@@ -28,20 +52,23 @@ pub enum ReportFault {
     HistoryFull,
     /// Memory was refused.
     NoMemory,
-    /// The script makes fewer events than this, or this is 0.
-    NoEvent(u64),
+    /// The script has no such event, line or failure: it has fewer than this, or this is 0.
+    Missing {
+        sought: Sought,
+        number: u64,
+    },
 }
 
 impl ReportFault {
-    /// The status that a program ends with on this fault: 1 where reading or writing failed, 2 where an
-    /// event is asked for that there is not, 3 for a bad line, 4 where the history is full or memory was
+    /// The status that a program ends with on this fault: 1 where reading or writing failed, 2 where
+    /// what is asked for is not there, 3 for a bad line, 4 where the history is full or memory was
     /// refused. Takes O(1) time.
     pub fn status(&self) -> u8
         ensures { result ≡ fault_status self.now }
     {
         match self {
             ReportFault::ReadFault | ReportFault::TooLong | ReportFault::WriteFault => 1,
-            ReportFault::NoEvent(_) => 2,
+            ReportFault::Missing { .. } => 2,
             ReportFault::BadLine { .. } => 3,
             ReportFault::HistoryFull | ReportFault::NoMemory => 4,
         }
@@ -69,10 +96,14 @@ impl ReportFault {
             }
             ReportFault::HistoryFull => push(text, "history full"),
             ReportFault::NoMemory => push(text, "no memory"),
-            ReportFault::NoEvent(event) => {
+            ReportFault::Missing { sought, number } => {
                 push_parts(
                     text,
-                    &[Part::Word("there is no event "), Part::Number(*event)],
+                    &[
+                        Part::Word("there is no "),
+                        Part::Word(sought.name()),
+                        Part::Number(*number),
+                    ],
                 )
             }
         }

@@ -9,7 +9,7 @@ mod reasons;
 mod writing;
 
 pub use ending::end_with;
-pub use fault::{ReportFault, bad_line, fault_of, unended};
+pub use fault::{ReportFault, Sought, bad_line, fault_of, unended};
 pub use indents::{behind_indent, is_indented, push_indented};
 pub use reading::{behind, read_script};
 pub use writing::put_out;

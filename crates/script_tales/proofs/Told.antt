@@ -1,6 +1,7 @@
 -- A line that was answered, and whose facts were told.
 use Rattle.std.proofs.Common.{◌≡◌, ℕ, List, [], refl, ap, sym, ◌∙◌, subst, Option, Some}
 use Rattle.sm_names.specs.declared.messages.Call.{Call}
+use Rattle.sm_names.specs.Timelines.{timeline}
 use Rattle.event_facts.specs.declared.event.Event.{Event}
 use Rattle.script_labels.specs.declared.act.Act.{Act}
 use Rattle.script_labels.specs.declared.act.Binds.{Binds}
@@ -13,6 +14,7 @@ use Rattle.sm_script.specs.Sessions.{Advances, IsAt, IsSameSetting}
 use Rattle.script_tales.specs.declared.labels.Labels.{Labels}
 use Rattle.script_tales.specs.declared.teller.Teller.{Teller}
 use Rattle.script_tales.specs.Called.{Calls, Knows}
+use Rattle.script_tales.specs.Failing.{failures}
 use Rattle.script_tales.specs.LostLines.{LossLines, Recalls, with_losses}
 use Rattle.script_tales.specs.Tellings.{IsEventOf, TellsAct, TellsFacts, TellsLine}
 use Rattle.script_tales.proofs.Losing.{recalls-same}
@@ -24,11 +26,12 @@ module _ (old new : Teller) (number : ℕ) (line reply facts : List ℕ) (scene 
       act_in scene.names line ≡ Some (Act.Ask client call binds) → IsSameSetting old.session mid.session →
       reply ≡ as_line (reply_text scene.names binds event.reply) → Knows mid (next_scene scene client call binds event.reply) →
       IsEventOf old.session.core client call event → mid.losses ≡ old.losses → new.session ≡ mid.session → new.labels ≡ mid.labels →
+      new.failures ≡ mid.failures →
       ((ls : LossLines) → Recalls mid ls → Recalls new (with_losses (number, line) event.moments.items ls)) →
       ((names : Names) (ls : LossLines) → Keeps mid.session.tables names → Calls mid.labels names → Recalls mid ls →
       TellsFacts names (with_losses (number, line) event.moments.items ls) mid.session.core event facts) →
       TellsLine old new number line reply facts scene lines
-  told-call mid client call binds event good setting text after is losses session labels noted told =
+  told-call mid client call binds event good setting text after is losses session labels counted noted told =
       let next : Scene = next_scene scene client call binds event.reply in
       let later : LossLines = with_losses (number, line) event.moments.items lines in
       let kept : Recalls mid lines = recalls-same old mid lines losses recalls in
@@ -40,6 +43,8 @@ module _ (old new : Teller) (number : ℕ) (line reply facts : List ℕ) (scene 
           is_at = subst (λ (s : Session). IsAt s next) (sym session) after.is_at;
         };
         calls = subst (λ (l : Labels). Calls l next.names) (sym labels) after.calls;
+        failed = counted ∙ (after.failed
+            ∙ ap (λ (s : Session). failures (timeline s.core.pool next.history)) (sym session));
         later = later;
         recalls = noted lines kept;
         tells = (
@@ -60,9 +65,10 @@ module _ (old new : Teller) (number : ℕ) (line reply facts : List ℕ) (scene 
   pub told-look : (act : Act) → act_in scene.names line ≡ Some act →
       ((pool : ℕ) (text : List ℕ) (next : Scene) → ActGives pool scene act text next → next ≡ scene) →
       Advances old.session new.session line reply scene → new.labels ≡ old.labels → new.losses ≡ old.losses →
+      new.failures ≡ old.failures →
       ((next : Scene) → TellsAct old.session.core new.session.core scene next number line act lines lines facts) →
       TellsLine old new number line reply facts scene lines
-  told-look act good stays step labels losses none =
+  told-look act good stays step labels losses counted none =
       let same : step.answers.act ≡ act = let both : Some step.answers.act ≡ Some act = sym step.answers.good ∙ good in cc in
       let gives : ActGives old.session.core.pool scene act reply step.next =
       subst (λ (a : Act). ActGives old.session.core.pool scene a reply step.next) same step.answers.gives in
@@ -76,6 +82,9 @@ module _ (old new : Teller) (number : ℕ) (line reply facts : List ℕ) (scene 
         };
         calls = subst (λ (s : Scene). Calls new.labels s.names) (sym here)
             (subst (λ (l : Labels). Calls l scene.names) (sym labels) knows.calls);
+        failed = counted ∙ (knows.failed
+            ∙ (ap (λ (p : ℕ). failures (timeline p scene.history)) (sym step.setting.pool)
+            ∙ ap (λ (s : Scene). failures (timeline new.session.core.pool s.history)) (sym here)));
         later = lines;
         recalls = recalls-same old new lines losses recalls;
         tells = none step.next;

@@ -5,6 +5,7 @@ use Rattle.sm_names.specs.declared.keys.NodeKey.{NodeKey}
 use Rattle.sm_names.specs.declared.messages.Reply.{Reply}
 use Rattle.sm_names.specs.Marks.{Entry}
 use Rattle.sm_names.specs.Sameness.{same_key}
+use Rattle.sm_names.specs.Timelines.{timeline}
 use Rattle.core_state.specs.Shown.{Shows}
 use Rattle.script_lines.specs.declared.label.Label.{Label}
 use Rattle.script_lines.specs.Labels.{same_label, text_of_label}
@@ -16,6 +17,7 @@ use Rattle.sm_script.specs.Scenes.{Scene, as_line}
 use Rattle.sm_script.specs.Sessions.{IsAt}
 use Rattle.script_tales.specs.declared.labels.Labels.{Labels}
 use Rattle.script_tales.specs.declared.teller.Teller.{Teller}
+use Rattle.script_tales.specs.Failing.{failures}
 
 -- the label of the client, the last that it got
 abbrev pub client_label : Names → ℕ → Option Label
@@ -38,10 +40,11 @@ pub record Calls (labels : Labels) (names : Names) : Type 0 where
   pub clients : (client : ℕ) → lookup (λ other. client == other) labels.clients.entries ≡ client_label names client
   pub nodes : (node : NodeKey) → lookup (same_key node) labels.nodes.entries ≡ last_label names node
 
--- the teller has come so far, and calls all by what the labels stand for
+-- the teller has come so far, calls all by what the labels stand for, and has counted the events in which nodes failed
 pub record Knows (teller : Teller) (scene : Scene) : Type 0 where
   pub is_at : IsAt teller.session scene
   pub calls : Calls teller.labels scene.names
+  pub failed : teller.failures ≡ failures (timeline teller.session.core.pool scene.history)
 
 -- the teller took note of the reply of a call: its text stands behind what was there, and what it made or brought is called as
 -- the line says

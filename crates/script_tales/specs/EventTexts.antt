@@ -30,8 +30,8 @@ given_text names head given = concat (
     ∷ codes " is allocated: "
     ∷ counted given.count (codes "buffer")
     ∷ codes " of "
-    ∷ decimal given.size
-    ∷ codes " bytes\n"
+    ∷ counted given.size (codes "byte")
+    ∷ codes "\n"
     ∷ []
     )
 

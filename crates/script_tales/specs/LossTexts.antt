@@ -77,8 +77,8 @@ size_in given = option_map_or (λ (b : Buffers). b.size) given 0
 abbrev pub small_text : Option Buffers → ℕ → List ℕ
 small_text given size = concat (
     codes "it asks for "
-    ∷ decimal size
-    ∷ codes " bytes, and each buffer has "
+    ∷ counted size (codes "byte")
+    ∷ codes ", and each buffer has "
     ∷ decimal (size_in given)
     ∷ []
     )

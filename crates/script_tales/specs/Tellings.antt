@@ -35,6 +35,7 @@ use Rattle.script_tales.specs.declared.teller.Teller.{Teller}
 use Rattle.script_tales.specs.Called.{Calls}
 use Rattle.script_tales.specs.EventTexts.{doomed_text, fires_text, freed_text, kept_by_nodes, kept_text, unit_text, waits_text}
 use Rattle.script_tales.specs.FactTexts.{concat, holders_text}
+use Rattle.script_tales.specs.Failing.{failures}
 use Rattle.script_tales.specs.LostLines.{LossLines, Recalls, since_line, with_losses}
 use Rattle.script_tales.specs.MarkTexts.{marks_text}
 
@@ -197,11 +198,12 @@ pub record Tells (pool : ℕ) (scene next : Scene) (number : ℕ) (line : List �
   pub shows_next : Shows new next.history
   pub tells : TellsAct old new scene next number line act lines later facts
 
--- the line of this number was answered, and its facts told: the session advanced by it, and clients, ends and lines that made nodes
--- fail are known as they are behind it
+-- the line of this number was answered, and its facts told: the session advanced by it, and clients, ends, lines that made nodes
+-- fail, and in how many events nodes failed, are known as they are behind it
 pub record TellsLine (old new : Teller) (number : ℕ) (line reply facts : List ℕ) (scene : Scene) (lines : LossLines) : Type 0 where
   pub advances : Advances old.session new.session line reply scene
   pub calls : Calls new.labels advances.next.names
+  pub failed : new.failures ≡ failures (timeline new.session.core.pool advances.next.history)
   pub later : LossLines
   pub recalls : Recalls new later
   pub tells : TellsAct old.session.core new.session.core scene advances.next number line advances.answers.act lines later facts

@@ -51,8 +51,8 @@ fn push_given(
             Part::Word(" is allocated: "),
             Part::Counted(given.count as u64, "buffer"),
             Part::Word(" of "),
-            Part::Number(given.size as u64),
-            Part::Word(" bytes\n"),
+            Part::Counted(given.size as u64, "byte"),
+            Part::Word("\n"),
         ],
     )
 }

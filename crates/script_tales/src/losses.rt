@@ -201,8 +201,8 @@ fn push_small(text: &mut Vec<u8>, scene: &Snapshot, size: u32) -> Result<(), All
         text,
         &[
             Part::Word("it asks for "),
-            Part::Number(size as u64),
-            Part::Word(" bytes, and each buffer has "),
+            Part::Counted(size as u64, "byte"),
+            Part::Word(", and each buffer has "),
             Part::Number(size_of(scene.buffers) as u64),
         ],
     )

@@ -1,5 +1,5 @@
 //! A session that also writes the facts of its events.
-ghost use Rattle.std.specs.Prelude.{◌≡◌, ◌≢◌, ◌≤◌, ◌++◌, [], ◌∷◌, IfErr, IfOk, OnOk};
+ghost use Rattle.std.specs.Prelude.{◌≡◌, ◌≢◌, ◌≤◌, ◌+◌, ◌++◌, [], ◌∷◌, IfErr, IfOk, OnOk};
 ghost use Rattle.script_labels.specs.Names.{Names, label_of_node};
 ghost use Rattle.sm_script.specs.Scenes.{Scene, as_line, first_scene, next_scene};
 ghost use Rattle.sm_script.specs.Sessions.{Advances, Gains, IsAt, IsStopped};
@@ -7,6 +7,7 @@ ghost use Rattle.script_labels.specs.Tables.{Keeps};
 ghost use Rattle.script_labels.specs.Texts.{reply_text};
 ghost use Rattle.script_tales.specs.Called.{Calls, Knows, Notes, last_label, other_text};
 ghost use Rattle.script_tales.specs.FactTexts.{buffer_name};
+ghost use Rattle.script_tales.specs.Failing.{failures_with, has_failure, is_failure};
 ghost use Rattle.script_tales.specs.LostLines.{LossLines, Recalls, kept_line, with_loss, with_losses};
 ghost use Rattle.script_tales.specs.Tellings.{IsEventOf, TellsFacts, TellsLine};
 
@@ -39,6 +40,8 @@ pub struct Teller {
     pub session: Session,
     /// What clients and collected ends are called.
     pub labels: Labels,
+    /// In how many events of the lines so far nodes failed.
+    pub failures: u64,
     // By the node where a loss began.
     losses: HashMap<NodeKey, LossLine>,
 }
@@ -63,6 +66,7 @@ impl Teller {
         Ok(Teller {
             session: Session::new(alloc, seed, pages, limits)?,
             labels: Labels::new(alloc),
+            failures: 0,
             losses: HashMap::new(alloc),
         })
     }
@@ -124,6 +128,7 @@ impl Teller {
     ) -> Result<(), Stop>
         ensures session { self.new.session ≡ self.old.session }
         ensures labels { self.new.labels ≡ self.old.labels }
+        ensures failures { self.new.failures ≡ self.old.failures }
         ensures recalls { OnOk result ((lines : LossLines) → Recalls self.old lines →
             Recalls self.new (with_losses (number, line.now) event.now.moments.items lines)) }
         ensures facts { OnOk result ((names : Names) (lines : LossLines) →
@@ -158,11 +163,14 @@ impl Teller {
             reply.new.items ≡ as_line (reply_text names binds event.reply)) }
         ensures event { IfOk result (λ event. IsEventOf self.old.session.core client call event) }
         ensures losses { self.new.losses ≡ self.old.losses }
+        ensures failures { OnOk result (self.new.failures ≤ self.old.failures + 1) }
         ensures err { IfErr result (λ stop. (stop ≢ Stop.BadLine) × (stop ≡ Stop.HistoryFull →
             self.old.session.core.limits.events ≤ self.old.session.core.events)) }
     {
         reply.clear();
         let event = taken(take_event(alloc, &mut self.session.core, client, call))?;
+        let events = self.session.core.events();
+        self.failures = failures_with(self.failures, events, &event.moments);
         let made = self.noted(binds, event, reply)?;
         Ok(made)
     }
@@ -170,6 +178,7 @@ impl Teller {
     // Takes note of the event's reply, and gives the event back.
     fn noted(&mut self, binds: Binds, event: Event, text: &mut Vec<u8>) -> Result<Event, AllocError>
         ensures losses { self.new.losses ≡ self.old.losses }
+        ensures failures { self.new.failures ≡ self.old.failures }
         ensures same { IfOk result (λ made. made ≡ event) }
         ensures notes { IfOk result (λ made.
             Notes self.old self.new binds made.reply text.old.items text.new.items) }
@@ -183,6 +192,7 @@ impl Teller {
     // Appends the text of the reply, and takes note of what it made or brought.
     fn note(&mut self, binds: Binds, reply: Reply, text: &mut Vec<u8>) -> Result<(), AllocError>
         ensures losses { self.new.losses ≡ self.old.losses }
+        ensures failures { self.new.failures ≡ self.old.failures }
         ensures notes { OnOk result
             (Notes self.old self.new binds reply text.old.items text.new.items) }
     {
@@ -201,6 +211,7 @@ impl Teller {
     ) -> Result<(), AllocError>
         ensures session { self.new.session ≡ self.old.session }
         ensures labels { self.new.labels ≡ self.old.labels }
+        ensures failures { self.new.failures ≡ self.old.failures }
         ensures recalls { OnOk result ((lines : LossLines) → Recalls self.old lines →
             Recalls self.new (with_losses (number, line.now) moments.now lines)) }
     {
@@ -222,6 +233,7 @@ impl Teller {
     ) -> Result<(), AllocError>
         ensures session { self.new.session ≡ self.old.session }
         ensures labels { self.new.labels ≡ self.old.labels }
+        ensures failures { self.new.failures ≡ self.old.failures }
         ensures recalls { OnOk result ((lines : LossLines) → Recalls self.old lines →
             Recalls self.new (with_loss (number, line.now) mark lines)) }
     {
@@ -242,6 +254,7 @@ impl Teller {
     ) -> Result<(), AllocError>
         ensures session { self.new.session ≡ self.old.session }
         ensures labels { self.new.labels ≡ self.old.labels }
+        ensures failures { self.new.failures ≡ self.old.failures }
         ensures recalls { OnOk result ((lines : LossLines) → Recalls self.old lines →
             Recalls self.new ((origin, (number, line.now)) ∷ lines)) }
     {
@@ -298,6 +311,35 @@ fn push_other(
                 push_label(text, Some(last))
             }
         }
+    }
+}
+
+// In how many events nodes failed, where one more has these marks, so many did in before, and so many events were made.
+fn failures_with(failures: u64, events: u64, moments: &[Moment]) -> u64
+    ensures value { result ≡ failures_with failures events moments.now }
+    ensures few { result ≤ failures + 1 }
+{
+    if has_failure(moments) {
+        failures.saturating_add(1).min(events)
+    } else {
+        failures
+    }
+}
+
+// Whether one of the marks is that of a failure.
+fn has_failure(moments: &[Moment]) -> bool
+    ensures { result ≡ has_failure moments.now }
+{
+    moments.iter().any(|moment| is_failure(moment.mark))
+}
+
+// Whether the mark is that of a failure.
+fn is_failure(mark: Forced) -> bool
+    ensures { result ≡ is_failure mark }
+{
+    match mark {
+        Forced::Loss(_) => true,
+        Forced::Allocated(_) | Forced::Ended(_) => false,
     }
 }
 

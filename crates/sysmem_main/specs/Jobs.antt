@@ -2,12 +2,14 @@
 use Rattle.std.specs.Prelude.{◌≡◌, ◌⊎◌, ℕ, Bool, true, false, List, Option, Some, None, codes, option_map}
 use Rattle.clap.specs.Matches.{subcommand_name_of}
 use Rattle.clap.specs.declared.parser.matches.ArgMatches.{ArgMatches}
-use Rattle.command_line.specs.Asked.{AreAsked, HasEvent, HasFormat, HasRecord, IsTask, subcommand_text, value_text}
+use Rattle.command_line.specs.Asked.{AreAsked, HasFailures, HasFormat, HasRecord, HasUntil, IsFile, IsTask, subcommand_text, value_text}
 use Rattle.command_line.specs.declared.request.Request.{Request}
 use Rattle.command_line.specs.declared.task.Format.{Format as AskedFormat}
 use Rattle.command_line.specs.declared.task.Task.{Task}
+use Rattle.command_line.specs.declared.task.Until.{Until as AskedUntil}
 use Rattle.script_draw.specs.Draws.{EndsDrawn}
 use Rattle.script_draw.specs.declared.draw.Format.{Format}
+use Rattle.script_draw.specs.declared.draw.Until.{Until}
 use Rattle.script_explain.specs.Comparisons.{EndsChecked}
 use Rattle.script_explain.specs.Explanations.{EndsExplained}
 use Rattle.sm_script.specs.Endings.{Ends}
@@ -25,6 +27,13 @@ abbrev pub format_for : AskedFormat → Format
 format_for AskedFormat.Text = Format.Text
 format_for AskedFormat.Dot = Format.Dot
 format_for AskedFormat.Svg = Format.Svg
+
+-- behind what the trees are drawn, as `script_draw` names it
+abbrev pub until_for : AskedUntil → Until
+until_for AskedUntil.Last = Until.Last
+until_for (AskedUntil.Event number) = Until.Event number
+until_for (AskedUntil.Line number) = Until.Line number
+until_for (AskedUntil.Failure number) = Until.Failure number
 
 -- a pool of this many pages, and the greatest limits
 abbrev pub setting_of : ℕ → Setting
@@ -45,10 +54,10 @@ IsPlayed Task.Run pages before after status =
     Ends (setting_of pages) before.left after.left before.written after.written before.told after.told status
 IsPlayed (Task.Threads has_record) pages before after status =
     EndsThreads (output_for has_record) pages before.left after.left before.written after.written before.told after.told status
-IsPlayed Task.Explain pages before after status =
-    EndsExplained (setting_of pages) before.left after.left before.written after.written before.told after.told status
+IsPlayed (Task.Explain only_failures) pages before after status =
+    EndsExplained (setting_of pages) only_failures before.left after.left before.written after.written before.told after.told status
 IsPlayed (Task.Draw view) pages before after status =
-    EndsDrawn (setting_of pages) (record { format = format_for view.format; at = view.at })
+    EndsDrawn (setting_of pages) (record { format = format_for view.format; until = until_for view.until })
     before.left after.left before.written after.written before.told after.told status
 IsPlayed Task.Check pages before after status =
     EndsChecked (setting_of pages) before.left after.left before.written after.written before.told after.told status
@@ -71,9 +80,11 @@ pub record IsAsked (matches : ArgMatches) (request : Request) : Type 0 where
   pub pages : AreAsked (value_text (codes "pages") matches) (Some request.pages.count)
   pub task : IsTask (subcommand_name_of matches) request.task
   pub format : HasFormat (subcommand_text (codes "format") matches) request.task
-  pub event : HasEvent (value_text (codes "at") matches) request.task
+  pub until : HasUntil (value_text (codes "at") matches) (value_text (codes "line") matches) (value_text (codes "failure") matches)
+      request.task
+  pub failures : HasFailures (value_text (codes "failures") matches) request.task
   pub record_asked : HasRecord (value_text (codes "record") matches) request.task
-  pub file : option_map (λ name. name.now) request.file ≡ subcommand_text (codes "file") matches
+  pub file : IsFile (subcommand_text (codes "file") matches) (option_map (λ name. name.now) request.file)
 
 -- what the matches ask for was done
 pub record IsDone (matches : ArgMatches) (before after : Streams) (status : ℕ) : Type 0 where

@@ -16,11 +16,11 @@ open_reason _ = codes "it can't be opened"
 
 -- what is said of a file that can't be opened: its name and the reason
 abbrev pub unopened_text : List ℕ → List ℕ → List ℕ
-unopened_text name reason = name ++ codes ": " ++ reason
+unopened_text name reason = codes "sysmem: " ++ name ++ codes ": " ++ reason
 
 -- what is said of a file that stands where a command is to stand
 abbrev pub misplaced_text : List ℕ → List ℕ
-misplaced_text name = codes "no such command: " ++ name ++ codes "; try sysmem run FILE"
+misplaced_text name = codes "sysmem: no such command: " ++ name ++ codes "; try sysmem run FILE"
 
 -- a point or a slash stands in the name
 abbrev pub has_point_or_slash : List ℕ → Bool

@@ -8,13 +8,13 @@ ghost use Rattle.std.specs.Prelude.{◌≡◌, MatchResult, option_map};
 ghost use Rattle.std.specs.Process.{exit_status};
 ghost use Rattle.std.specs.IoError.{error_kind};
 ghost use Rattle.clap.specs.Words.{kind_of};
-ghost use Rattle.sysmem_main.specs.Jobs.{IsAnswered, IsPlayed, IsRead, format_for, output_for, streams};
+ghost use Rattle.sysmem_main.specs.Jobs.{IsAnswered, IsPlayed, IsRead, format_for, output_for, streams, until_for};
 ghost use Rattle.sysmem_main.specs.Statuses.{refusal_status, unread_status};
 
 use clap::error::ErrorKind;
 use clap::{ArgMatches, Error};
-use command_line::{Format, Request, Task, View, command, request_of};
-use messages::{Misplaced, NO_COMMAND, Unopened, misplaced_file, reason_of};
+use command_line::{Format, Request, Task, Until, View, command, request_of};
+use messages::{Misplaced, NAME, NO_COMMAND, Unopened, misplaced_file, reason_of};
 use script_draw::draw_to_exit;
 use script_explain::{check_to_exit, explain_to_exit};
 use sm_script::run_to_exit;
@@ -40,17 +40,24 @@ fn status_of(kind: ErrorKind) -> u8
     }
 }
 
-// Says why the words ask for no run: a missing command and a file instead of one in words of our
-// own, all else in clap's.
+// Says why the words ask for no run, behind the program's name: a missing command and a file instead
+// of one in words of our own, all else in clap's. Help stands alone.
 fn tell(rt: &(impl Print + Eprint), error: &Error, words: &[String]) {
     let _ = match error.kind() {
+        ErrorKind::DisplayHelp | ErrorKind::DisplayVersion => error.print(rt),
         ErrorKind::MissingSubcommand => rt.eprintln(NO_COMMAND),
         ErrorKind::InvalidSubcommand => match misplaced_file(words) {
             Some(name) => rt.eprintln(Misplaced { name }),
-            None => error.print(rt),
+            None => tell_named(rt, error),
         },
-        _ => error.print(rt),
+        _ => tell_named(rt, error),
     };
+}
+
+// Says it in clap's words, behind the program's name.
+fn tell_named(rt: &(impl Print + Eprint), error: &Error) -> io::Result<()> {
+    rt.eprint(NAME)?;
+    error.print(rt)
 }
 
 // Help on standard output with status 0, a refusal on standard error with 2.
@@ -80,7 +87,7 @@ fn unread(rt: &impl Eprint, error: &io::Error) -> ExitCode
     match error.kind() {
         io::ErrorKind::OutOfMemory => no_memory(rt),
         _ => {
-            let _ = rt.eprintln("a word of the command line is not UTF-8");
+            let _ = rt.eprintln("sysmem: a word of the command line is not UTF-8");
             ExitCode::from(2)
         }
     }
@@ -159,7 +166,7 @@ fn serve<H: Threads + Wait + Clock + Sync, R: Read, W: Write, F: Write>(
 fn no_such_pool(rt: &impl Eprint) -> ExitCode
     ensures { exit_status result ≡ 2 }
 {
-    let _ = rt.eprintln("the pool has from 1 to 1048576 pages");
+    let _ = rt.eprintln("sysmem: the pool has from 1 to 1048576 pages");
     ExitCode::from(2)
 }
 
@@ -238,7 +245,9 @@ fn play<H: Threads + Wait + Clock + Sync, R: Read, W: Write, F: Write>(
             let job = Job { pages, output };
             run_threads_to_exit(host, alloc, seed, reader, writer, faults, job)
         }
-        Task::Explain => explain_to_exit(alloc, seed, reader, writer, faults, pages),
+        Task::Explain { only_failures } => {
+            explain_to_exit(alloc, seed, reader, writer, faults, pages, only_failures)
+        }
         Task::Draw(view) => {
             draw_to_exit(alloc, seed, reader, writer, faults, pages, drawn(view))
         }
@@ -259,7 +268,7 @@ fn output_of(has_record: bool) -> Output
 
 // The picture that is asked for, as `script_draw` names it.
 fn drawn(view: View) -> script_draw::View
-    ensures { result ≡ record { format = format_for view.format; at = view.at } }
+    ensures { result ≡ record { format = format_for view.format; until = until_for view.until } }
 {
     let format = match view.format {
         Format::Text => script_draw::Format::Text,
@@ -268,6 +277,18 @@ fn drawn(view: View) -> script_draw::View
     };
     script_draw::View {
         format,
-        at: view.at,
+        until: drawn_until(view.until),
+    }
+}
+
+// Behind what the trees are drawn, as `script_draw` names it.
+fn drawn_until(until: Until) -> script_draw::Until
+    ensures { result ≡ until_for until }
+{
+    match until {
+        Until::Last => script_draw::Until::Last,
+        Until::Event(number) => script_draw::Until::Event(number),
+        Until::Line(number) => script_draw::Until::Line(number),
+        Until::Failure(number) => script_draw::Until::Failure(number),
     }
 }

@@ -5,9 +5,12 @@ ghost use Rattle.sysmem_main.specs.Messages.{file_in, open_reason};
 use std::fmt;
 use std::io::ErrorKind;
 
+/// What stands before a message of the parser.
+pub(crate) const NAME: &str = "sysmem: ";
+
 /// What is said where no command is given.
-pub(crate) const NO_COMMAND: &str =
-    "a command is missing: run, threads, explain, draw or check; sysmem --help describes them";
+pub(crate) const NO_COMMAND: &str = "\
+sysmem: a command is missing: run, threads, explain, draw or check; sysmem --help describes them";
 
 /// A file that can't be opened, and why.
 #[derive(Clone, Copy)]
@@ -24,7 +27,7 @@ impl fmt::Display for Unopened<'_> {
 
     fn fmt<W: fmt::Write>(&self, f: &mut fmt::Formatter<W>) -> fmt::Result {
         let (name, reason) = (self.name, self.reason);
-        write!(f, "{name}: {reason}")
+        write!(f, "sysmem: {name}: {reason}")
     }
 }
 
@@ -42,7 +45,7 @@ impl fmt::Display for Misplaced<'_> {
 
     fn fmt<W: fmt::Write>(&self, f: &mut fmt::Formatter<W>) -> fmt::Result {
         let name = self.name;
-        write!(f, "no such command: {name}; try sysmem run FILE")
+        write!(f, "sysmem: no such command: {name}; try sysmem run FILE")
     }
 }
 

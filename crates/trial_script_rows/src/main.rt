@@ -2,8 +2,10 @@
 //!
 //!     = run TITLE                       begins a script that is run, with two seeds of its tables
 //!     = explain WORDS, = check WORDS    begins a script that is explained; a transcript that is checked
+//!     = failures WORDS                  begins a script of which only the failures are explained
 //!     = text EVENT, = dot EVENT, = svg EVENT
 //!                                       begins a script whose trees are drawn after this event, or after its last line
+//!     = text line N, = text failure K   begins one whose trees are drawn after this line, or this failure
 //!     @ pages N                         sets the pages of its pool, 16 by default
 //!     @ limits EVENTS NODES COLLECTIONS TRACKERS HANDLES
 //!                                       sets its limits, the greatest by default
@@ -28,12 +30,21 @@ use task::{Task, task_of};
 fn explain(
     alloc: Global,
     setting: Setting,
+    only_failures: bool,
     script: &[u8],
     out: &mut Vec<u8>,
 ) -> Result<(), ReportFault> {
     let mut reader = script;
     let Setting { pages, limits } = setting;
-    explain_script(alloc, [0; 16], &mut reader, out, pages.count, limits)
+    explain_script(
+        alloc,
+        [0; 16],
+        &mut reader,
+        out,
+        pages.count,
+        limits,
+        only_failures,
+    )
 }
 
 // Appends what comes of comparing the transcript.
@@ -126,7 +137,7 @@ fn push_played(
 ) -> Result<(), AllocError> {
     let ended = match task {
         Task::Run => return run(alloc, setting, script, out),
-        Task::Explain => explain(alloc, *setting, script, out),
+        Task::Explain { only_failures } => { explain(alloc, *setting, only_failures, script, out) }
         Task::Check => check(alloc, *setting, script, out),
         Task::Draw(view) => draw(alloc, *setting, view, script, out),
     };

@@ -10,7 +10,8 @@ returns-in-Some g c =
         pages = c.in-Some.ensures.pages;
         task = c.in-Some.ensures.task;
         format = c.in-Some.ensures.format;
-        event = c.in-Some.ensures.event;
+        until = c.in-Some.ensures.until;
+        failures = c.in-Some.ensures.failures;
         record_asked = c.in-Some.ensures.«record»;
         file = c.in-Some.ensures.file;
       };

@@ -1,6 +1,6 @@
 use Rattle.std.proofs.Common.{Option, List, ℕ, refl, sym, subst, codes}
-use Rattle.command_line.specs.Asked.{IsFlag, IsFormat, IsNumberRead}
-use Rattle.command_line.proofs.Asking.{first_text, its_text}
+use Rattle.command_line.specs.Asked.{IsFlag, IsFormat}
+use Rattle.command_line.proofs.Asking.{first_text, its_text, until-same}
 use Rattle.command_line.proofs.task.task_of.Goals as goal
 
 -- each text is read of the subcommand's own matches
@@ -10,11 +10,13 @@ returns-then-eq-3-clause-format c =
     (sym (first_text (codes "format") c.args.matches.now c.in-Some.inner.now _ c.in-Some.ensures.rows refl))
     c.view_of.ensures.format
 
-pub returns-then-eq-3-clause-event : goal.returns-then-eq-3-clause-event
-returns-then-eq-3-clause-event c =
-    subst (λ (text : Option (List ℕ)). IsNumberRead text c.view_of.result.at)
-    (sym (its_text (codes "at") c.args.matches.now c.in-Some.inner.now _ c.in-Some.ensures.rows refl))
-    c.view_of.ensures.event
+pub returns-then-eq-3-clause-until : goal.returns-then-eq-3-clause-until
+returns-then-eq-3-clause-until c =
+    until-same _ _ _ _ _ _ c.view_of.result.until
+    (its_text (codes "at") c.args.matches.now c.in-Some.inner.now _ c.in-Some.ensures.rows refl)
+    (its_text (codes "line") c.args.matches.now c.in-Some.inner.now _ c.in-Some.ensures.rows refl)
+    (its_text (codes "failure") c.args.matches.now c.in-Some.inner.now _ c.in-Some.ensures.rows refl)
+    c.view_of.ensures.until
 
 pub returns-then-eq-clause-record : goal.returns-then-eq-clause-record
 returns-then-eq-clause-record c =
@@ -24,4 +26,14 @@ returns-then-eq-clause-record c =
       none = c.get_flag.ensures.none;
       set = c.get_flag.ensures.value;
       unset = c.get_flag.ensures.other;
+    })
+
+pub returns-then-eq-2-clause-failures : goal.returns-then-eq-2-clause-failures
+returns-then-eq-2-clause-failures c =
+    subst (λ (text : Option (List ℕ)). IsFlag text c.get_flag-then-eq-2.result)
+    (sym (its_text (codes "failures") c.args.matches.now c.in-Some.inner.now _ c.in-Some.ensures.rows refl))
+    (record {
+      none = c.get_flag-then-eq-2.ensures.none;
+      set = c.get_flag-then-eq-2.ensures.value;
+      unset = c.get_flag-then-eq-2.ensures.other;
     })

@@ -9,11 +9,11 @@ returns-in-Ok g c = λ setting start.
     let before = g.W.Write.contents c.args.writer.now in
     let mid = g.W.Write.contents c.explain_lines-told.new.writer in
     let pending = c.explain_lines-told.new.explainer.text.items in
-    told-out setting before mid (g.W.Write.contents c.put_out.new.writer) pending c.args.script.now
+    told-out setting c.args.only_failures before mid (g.W.Write.contents c.put_out.new.writer) pending c.args.script.now
     c.explain_lines-told.new.explainer.teller c.explain_lines-told.result
     (on_ok_weaker c.explain_lines-told.result (λ explained. explained setting before start) c.explain_lines-told.ensures.ok)
     c.explain_lines-told.ensures.whole
-    (IfErr-weaker c.explain_lines-told.result _ (LinesHalted setting before mid pending c.args.script.now)
+    (IfErr-weaker c.explain_lines-told.result _ (LinesHalted setting c.args.only_failures before mid pending c.args.script.now)
     (λ fault halted. halted setting before start) c.explain_lines-told.ensures.err)
     (rw c.deref.ensures.value at c.in-Ok.ensures.ok)
 
@@ -22,10 +22,10 @@ returns-in-Err g c = λ setting start.
     let before = g.W.Write.contents c.args.writer.now in
     let mid = g.W.Write.contents c.explain_lines-told.new.writer in
     let pending = c.explain_lines-told.new.explainer.text.items in
-    rw c.in-Err.ensures.err.0 (told-cut setting before mid (g.W.Write.contents c.put_out.new.writer) pending c.args.script.now
+    rw c.in-Err.ensures.err.0 (told-cut setting c.args.only_failures before mid (g.W.Write.contents c.put_out.new.writer) pending c.args.script.now
     c.explain_lines-told.new.explainer.teller c.explain_lines-told.result
     (on_ok_weaker c.explain_lines-told.result (λ explained. explained setting before start) c.explain_lines-told.ensures.ok)
     c.explain_lines-told.ensures.whole
-    (IfErr-weaker c.explain_lines-told.result _ (LinesHalted setting before mid pending c.args.script.now)
+    (IfErr-weaker c.explain_lines-told.result _ (LinesHalted setting c.args.only_failures before mid pending c.args.script.now)
     (λ fault halted. halted setting before start) c.explain_lines-told.ensures.err)
     (rw c.deref.ensures.value at c.in-Err.ensures.err.1))

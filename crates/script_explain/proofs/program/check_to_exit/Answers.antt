@@ -30,6 +30,18 @@ returns-in-Ok-Differs-clause-ends g c =
     (ends_checked _ _ _ _ _ told told c.check_script.result _ c.check_script.ensures
     (c.from.ensures ∙ sym (ap checking_status is)) (reported_none told _ _ is))
 
+pub returns-in-Ok-Empty-clause-ends : goal.returns-in-Ok-Empty-clause-ends
+returns-in-Ok-Empty-clause-ends g c =
+    let told = g.F.Write.contents c.args.faults.now in
+    let is = c.in-Ok-Empty.is ∙ ap Ok c.in-Ok-Empty.field-0-is in
+    subst
+    (λ (limits : Bound). EndsChecked (record { pool = c.args.pages.count; limits = limits })
+    (g.R.Read.remaining c.args.reader.now) (g.R.Read.remaining c.check_script.new.reader)
+    (g.W.Write.contents c.args.writer.now) (g.W.Write.contents c.check_script.new.writer) told told (exit_status c.from-in-Ok-Empty.result))
+    c.full.ensures
+    (ends_checked _ _ _ _ _ told told c.check_script.result _ c.check_script.ensures
+    (c.from-in-Ok-Empty.ensures ∙ sym (ap checking_status is)) (reported_none told _ _ is))
+
 pub returns-in-Err-clause-ends : goal.returns-in-Err-clause-ends
 returns-in-Err-clause-ends g c =
     let before = g.F.Write.contents c.args.faults.now in

@@ -10,11 +10,11 @@ pub returns-in-Ok-clause-ends : goal.returns-in-Ok-clause-ends
 returns-in-Ok-clause-ends g c =
     let told = g.F.Write.contents c.args.faults.now in
     subst
-    (λ (limits : Bound). EndsExplained (record { pool = c.args.pages.count; limits = limits })
+    (λ (limits : Bound). EndsExplained (record { pool = c.args.pages.count; limits = limits }) c.args.only_failures
     (g.R.Read.remaining c.args.reader.now) (g.R.Read.remaining c.explain_script.new.reader)
     (g.W.Write.contents c.args.writer.now) (g.W.Write.contents c.explain_script.new.writer) told told 0)
     c.full.ensures
-    (ends_explained _ _ _ _ _ told told c.explain_script.result 0 c.explain_script.ensures (sym (ap explaining_status c.in-Ok.is))
+    (ends_explained _ _ _ _ _ _ told told c.explain_script.result 0 c.explain_script.ensures (sym (ap explaining_status c.in-Ok.is))
     (reported_none told _ _ c.in-Ok.is))
 
 pub returns-in-Err-clause-ends : goal.returns-in-Err-clause-ends
@@ -22,10 +22,10 @@ returns-in-Err-clause-ends g c =
     let before = g.F.Write.contents c.args.faults.now in
     let told = g.F.Write.contents c.end_with.new.faults in
     subst
-    (λ (limits : Bound). EndsExplained (record { pool = c.args.pages.count; limits = limits })
+    (λ (limits : Bound). EndsExplained (record { pool = c.args.pages.count; limits = limits }) c.args.only_failures
     (g.R.Read.remaining c.args.reader.now) (g.R.Read.remaining c.explain_script.new.reader)
     (g.W.Write.contents c.args.writer.now) (g.W.Write.contents c.explain_script.new.writer) before told (exit_status c.end_with.result))
     c.full.ensures
-    (ends_explained _ _ _ _ _ before told c.explain_script.result _ c.explain_script.ensures
+    (ends_explained _ _ _ _ _ _ before told c.explain_script.result _ c.explain_script.ensures
     (c.end_with.ensures.status ∙ sym (ap explaining_status c.in-Err.is))
     (reported_fault before told _ _ c.in-Err.is c.end_with.ensures.told))

@@ -12,8 +12,8 @@ returns-then-is_full-clause-err c = λ setting until lines far asks.
 pub returns-else-is_full-clause-ok : goal.returns-else-is_full-clause-ok
 returns-else-is_full-clause-ok c = on_ok_weaker c.make.result
     (λ made setting until lines far asks before.
-    far-make setting until c.args.self.now lines far c.make.new.self c.args.line.now c.in-Ask.client c.in-Ask.call
-    c.in-Ask.binds asks.whole (asks.good ∙ ap Some c.in-Ask.is) made before)
+    far-make setting until c.args.self.now lines far before c.make.new.self c.args.line.now c.in-Ask.client c.in-Ask.call
+    c.in-Ask.binds asks.whole (asks.good ∙ ap Some c.in-Ask.is) made)
     c.make.ensures.ok
 
 pub returns-else-is_full-clause-err : goal.returns-else-is_full-clause-err
@@ -21,12 +21,12 @@ returns-else-is_full-clause-err c = held-made c.make.result c.args.self.now c.ar
 
 pub returns-in-Nothing-clause-ok : goal.returns-in-Nothing-clause-ok
 returns-in-Nothing-clause-ok c = λ setting until lines far asks before.
-    far-look setting until c.args.self.now lines far c.args.line.now c.args.act asks.whole asks.good (ap is_call c.in-Nothing.is)
+    far-look setting until c.args.self.now lines far before c.args.line.now c.args.act asks.whole asks.good (ap is_call c.in-Nothing.is)
 
 pub returns-in-Poll-clause-ok : goal.returns-in-Poll-clause-ok
 returns-in-Poll-clause-ok c = λ setting until lines far asks before.
-    far-look setting until c.args.self.now lines far c.args.line.now c.args.act asks.whole asks.good (ap is_call c.in-Poll.is)
+    far-look setting until c.args.self.now lines far before c.args.line.now c.args.act asks.whole asks.good (ap is_call c.in-Poll.is)
 
 pub returns-in-Show-clause-ok : goal.returns-in-Show-clause-ok
 returns-in-Show-clause-ok c = λ setting until lines far asks before.
-    far-look setting until c.args.self.now lines far c.args.line.now c.args.act asks.whole asks.good (ap is_call c.in-Show.is)
+    far-look setting until c.args.self.now lines far before c.args.line.now c.args.act asks.whole asks.good (ap is_call c.in-Show.is)

@@ -23,3 +23,7 @@ returns-clause-kept c = λ scene knows kept.
     c.in_ok-keep.ensures.kept c.args.self.now.teller.session.core c.args.client c.args.call scene.history knows.is_at.shows
     c.in_ok-event.ensures.event (c.in_ok-event.ensures.ok scene knows.is_at).setting.pool
     (c.in_ok-event.ensures.knows scene knows).is_at.shows kept
+
+-- the teller counts one more at most
+pub returns-clause-failures : goal.returns-clause-failures
+returns-clause-failures c = c.in_ok-event.ensures.failures

@@ -5,7 +5,7 @@ use Rattle.script_draw.proofs.draw.Scroll.take_line.Goals as goal
 
 pub returns-then-is_indented-clause-ok : goal.returns-then-is_indented-clause-ok
 returns-then-is_indented-clause-ok c = λ setting until lines far before.
-    far-pass setting until c.args.self.now lines far c.args.line.now (sym c.is_indented.ensures ∙ c.if-is_indented.true)
+    far-pass setting until c.args.self.now lines far before c.args.line.now (sym c.is_indented.ensures ∙ c.if-is_indented.true)
 
 pub returns-in-Some-clause-ok : goal.returns-in-Some-clause-ok
 returns-in-Some-clause-ok c = on_ok_weaker c.take_act.result

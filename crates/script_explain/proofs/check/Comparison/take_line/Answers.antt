@@ -22,9 +22,9 @@ returns-then-is_indented-clause-ok c = λ setting lines far numbered. (
 
 pub returns-else-is_indented-clause-ok : goal.returns-else-is_indented-clause-ok
 returns-else-is_indented-clause-ok c = IfOk-weaker c.compare.result _
-    (λ verdict. (setting : Setting) (lines : List (List ℕ)) → Compared setting c.args.self.now lines →
-    c.args.number ≡ length lines + 1 → Judges setting c.args.self.now c.compare.new.self lines c.args.line.now verdict)
-    (λ verdict judged setting lines. judged setting lines c.args.line.now
+    (λ outcome. (setting : Setting) (lines : List (List ℕ)) → Compared setting c.args.self.now lines →
+    c.args.number ≡ length lines + 1 → Judges setting c.args.self.now c.compare.new.self lines c.args.line.now outcome)
+    (λ outcome judged setting lines. judged setting lines c.args.line.now
     (records-from c.args.line.now c.in-Some.recorded.now c.in-Some.ensures (sym c.is_indented.ensures ∙ c.if-is_indented.false)))
     c.compare.ensures.ok
 

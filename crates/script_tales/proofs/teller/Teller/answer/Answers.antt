@@ -27,6 +27,7 @@ returns-in-Ok-tell-clause-tells c = λ scene lines knows recalls.
     (sym (c.read.ensures scene knows.is_at) ∙ c.in-Some-Ask.is ∙ ap Some c.in-Some-Ask.field-0-is)
     (c.in-Ok.ensures.ok scene knows.is_at).setting (c.in-Ok.ensures.text scene.names knows.is_at.keeps)
     (c.in-Ok.ensures.knows scene knows) c.in-Ok.ensures.event c.take.ensures.losses c.tell.ensures.session c.tell.ensures.labels
+    c.tell.ensures.failures
     c.in-Ok-tell.ensures.recalls
     (λ names ls keeps calls kept. c.in-Ok-tell.ensures.facts names ls keeps calls kept c.clear.ensures.items)
 
@@ -37,12 +38,13 @@ returns-in-Some-Nothing-clause-tells c = on_ok_weaker c.answer.result
     let new : Teller = record {
       session = c.answer.new.self;
       labels = c.args.self.now.labels;
+      failures = c.args.self.now.failures;
       losses = c.args.self.now.losses;
     } in
     told-look c.args.self.now new c.args.number c.args.line.now c.answer.new.reply.items c.clear.new.self.items scene lines
     knows recalls Act.Nothing
     (sym (c.read.ensures scene knows.is_at) ∙ c.in-Some-Nothing.is ∙ ap Some c.in-Some-Nothing.field-0-is)
-    (λ pool text next gives. gives.1) (advances scene knows.is_at) refl refl (λ next. (c.clear.ensures.items, refl)))
+    (λ pool text next gives. gives.1) (advances scene knows.is_at) refl refl refl (λ next. (c.clear.ensures.items, refl)))
     c.answer.ensures.ok
 
 pub returns-in-Some-Poll-clause-tells : goal.returns-in-Some-Poll-clause-tells
@@ -51,12 +53,13 @@ returns-in-Some-Poll-clause-tells c = on_ok_weaker c.answer-in-Some-Poll.result
     let new : Teller = record {
       session = c.answer-in-Some-Poll.new.self;
       labels = c.args.self.now.labels;
+      failures = c.args.self.now.failures;
       losses = c.args.self.now.losses;
     } in
     told-look c.args.self.now new c.args.number c.args.line.now c.answer-in-Some-Poll.new.reply.items c.clear.new.self.items scene lines
     knows recalls (Act.Poll c.in-Some-Poll.field-0-0)
     (sym (c.read.ensures scene knows.is_at) ∙ c.in-Some-Poll.is ∙ ap Some c.in-Some-Poll.field-0-is)
-    (λ pool text next gives. gives.3) (advances scene knows.is_at) refl refl (λ next. (c.clear.ensures.items, refl)))
+    (λ pool text next gives. gives.3) (advances scene knows.is_at) refl refl refl (λ next. (c.clear.ensures.items, refl)))
     c.answer-in-Some-Poll.ensures.ok
 
 pub returns-in-Some-Show-clause-tells : goal.returns-in-Some-Show-clause-tells
@@ -65,10 +68,11 @@ returns-in-Some-Show-clause-tells c = on_ok_weaker c.answer-in-Some-Show.result
     let new : Teller = record {
       session = c.answer-in-Some-Show.new.self;
       labels = c.args.self.now.labels;
+      failures = c.args.self.now.failures;
       losses = c.args.self.now.losses;
     } in
     told-look c.args.self.now new c.args.number c.args.line.now c.answer-in-Some-Show.new.reply.items c.clear.new.self.items scene lines
     knows recalls (Act.Show c.in-Some-Show.field-0-0)
     (sym (c.read.ensures scene knows.is_at) ∙ c.in-Some-Show.is ∙ ap Some c.in-Some-Show.field-0-is)
-    (λ pool text next gives. gives.1) (advances scene knows.is_at) refl refl (λ next. (c.clear.ensures.items, refl)))
+    (λ pool text next gives. gives.1) (advances scene knows.is_at) refl refl refl (λ next. (c.clear.ensures.items, refl)))
     c.answer-in-Some-Show.ensures.ok

@@ -9,6 +9,7 @@ pub marks-init : goal.marks-init
 marks-init c = record {
   session = refl;
   labels = refl;
+  failures = refl;
   notes = λ lines recalls. record { so_far = lines; recalls = recalls; rest = refl };
 }
 
@@ -17,6 +18,7 @@ pub marks-preserved : goal.marks-preserved
 marks-preserved c = record {
   session = c.note_mark.ensures.session ∙ c.marks.invariant.session;
   labels = c.note_mark.ensures.labels ∙ c.marks.invariant.labels;
+  failures = c.note_mark.ensures.failures ∙ c.marks.invariant.failures;
   notes = λ lines recalls.
       let line : NumberedLine = (c.args.number, c.args.line.now) in
       let so = c.marks.invariant.notes lines recalls in

@@ -8,6 +8,7 @@ abbrev pub invariant-marks : goal.invariant-marks
 invariant-marks l = record {
   session : l.self.session ≡ l.initial.self.session;
   labels : l.self.labels ≡ l.initial.self.labels;
+  failures : l.self.failures ≡ l.initial.self.failures;
   notes : (lines : LossLines) → Recalls l.initial.self lines →
       NotesOn (l.number, l.line) l.rest l.initial.rest l.initial.self l.self lines;
 }

@@ -1,4 +1,4 @@
-use Rattle.std.proofs.Common.{◌≡◌, ◌++◌, ◌∷◌, refl, ap, sym, ◌∙◌, subst, List, length, map}
+use Rattle.std.proofs.Common.{◌≡◌, ◌++◌, ◌∷◌, ℕ, refl, ap, sym, ◌∙◌, subst, List, length, map}
 use Rattle.std.specs.Prelude.{Ok, Result, IfOk}
 use Rattle.std.specs.Option.{IfSome}
 use Rattle.sm_names.specs.Marks.{Called, Mark}
@@ -14,6 +14,8 @@ use Rattle.core_state.specs.Theorem.{Stepped}
 use Rattle.event_facts.specs.declared.event.Event.{Event}
 use Rattle.sm_script.specs.Scenes.{as_line, next_scene}
 use Rattle.script_labels.specs.Texts.{reply_text}
+use Rattle.script_tales.specs.Failing.{failures, failures_with}
+use Rattle.script_tales.proofs.Failing.{failures-more}
 use Rattle.script_tales.proofs.teller.Teller.take.Goals as goal
 
 -- an event that was made
@@ -58,7 +60,31 @@ returns-clause-knows c = λ scene knows.
         keeps = notes.keeps scene.names knows.is_at.keeps;
       };
       calls = notes.calls scene.names knows.calls;
+      failed =
+          let old : State = c.args.self.now.session.core in
+          let made : Event = c.in_ok-made.made in
+          let next = next_scene scene c.args.client c.args.call c.args.binds reply in
+          let is : c.take_event.result ≡ whole made = c.in_ok-event.ensures.ok ∙ ap whole (sym c.in_ok-made.ensures.same) in
+          let stages : AreStages old c.take_event.new.core c.args.client c.args.call reply (map stage_of made.moments.items) =
+          subst (λ (r : Result Event StepFault). IfOk r (λ e. AreStages old c.take_event.new.core c.args.client c.args.call e.reply
+          (map stage_of e.moments.items))) is c.take_event.ensures.stages in
+          let marks =
+          told_of_stages old c.take_event.new.core scene.history c.args.client c.args.call reply knows.is_at.shows step.answer step.after
+          (map stage_of made.moments.items) stages
+          ∙ ap (λ (l : List Mark). laid_on l (Called c.args.client reply c.args.call ∷ timeline old.pool scene.history))
+          (marks_of_moments made.moments.items) in
+          let counted : c.failures_with-self.result ≡ failures_with c.args.self.now.failures c.events-events.result made.moments.items =
+          c.failures_with-self.ensures.value ∙ ap (failures_with c.args.self.now.failures c.events-events.result)
+          (c.deref.ensures.value ∙ ap (λ (e : Event). e.moments.items) (sym c.in_ok-made.ensures.same)) in
+          c.in_ok-made.ensures.failures
+          ∙ (failures-more old.pool scene.history c.args.client c.args.call reply made.moments.items marks c.args.self.now.failures
+          c.events-events.result c.failures_with-self.result knows.failed
+          (c.events-events.ensures.shown next.history (step.goes_on scene.history knows.is_at.shows)) counted
+          ∙ ap (λ (p : ℕ). failures (timeline p next.history)) (sym (notes.pool ∙ step.after.pool)));
     }
+
+pub returns-clause-failures : goal.returns-clause-failures
+returns-clause-failures c = rw c.in_ok-made.ensures.failures c.failures_with-self.ensures.few
 
 pub returns-clause-text : goal.returns-clause-text
 returns-clause-text c = λ names keeps.
