@@ -60,6 +60,7 @@ WRONG = [
     ('record','a refused label is used','if (r.kind == SYSMEM_NEW_TOKEN) {','if (true) {'),
     ('record','the given label is taken twice','used.count(*wanted) == 0','true'),
     ('record','events are not counted','        event++;\n','        if (event == 0) event++;\n'),
+    ('state','an end that is given up late is told of','                r.is = r.told; // of an end that is given up late nothing more is told\n',''),
     ('record','the transcript is not kept','        text += lines;\n',''),
     ('record','the transcript is not handed on','        if (then) then(lines);\n',''),
     ('hpp','a transcript is always kept','if (o.transcript) {','if (true) {'),

@@ -750,7 +750,7 @@ public:
         if (a.fd < 0) return -1;
         if (a.parcels > 0 || a.idle) s.light(a);
         for (std::uint32_t row = 0; row < a.rows.size(); row++)
-            if (a.rows[row].kind == SYSMEM_CLOSE) s.sit(a, row);
+            if (a.rows[row].kind == SYSMEM_CLOSE && !a.rows[row].is_late) s.sit(a, row);
         return a.fd;
     }
     /// What happened since the last call: the nodes whose ends this client holds and whose unit was

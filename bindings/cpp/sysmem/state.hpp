@@ -573,6 +573,7 @@ struct State : std::enable_shared_from_this<State> {
         for (auto at = seat(r.tree); at != seats.end() && at->tree == r.tree; ++at)
             if (at->account == &a && at->row == row) {
                 if (r.is != r.told) a.news--;
+                r.is = r.told; // of an end that is given up late nothing more is told
                 seats.erase(at);
                 is_watched = waiters || recorder || !seats.empty();
                 return dim(a);

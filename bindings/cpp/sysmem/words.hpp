@@ -283,7 +283,7 @@ struct Options {
     /// the service nor throw. record_to(file) makes a recorder. Without one, and with SYSMEM_DEBUG=1 in
     /// the environment, the events are written to standard error.
     Record record = nullptr;
-    /// Whether the service keeps its transcript for Service::transcript(): some 50 bytes an event.
+    /// Whether the service keeps its transcript for Service::transcript(): some 40 bytes an event.
     bool transcript = false;
     /// The pool's memory: see Memory::open. It has at least as many pages as the pool.
     std::shared_ptr<Memory> memory = nullptr;

@@ -37,6 +37,14 @@ struct Raw {
         }
         return true;
     }
+    // The bytes of a handle lie at its buffer's pages.
+    static bool are_there(const std::shared_ptr<Memory> &memory, const Handle &h) {
+        auto pages = h.pages();
+        Bytes bytes = memory->bytes(h);
+        return !pages ? bytes.empty()
+                      : bytes.data() == memory->data() + pages->start * Memory::page && !bytes.empty() &&
+                            (bytes.size() - 1) / Memory::page + 1 == pages->count;
+    }
     // Each buffer has as many handles as the core counts, and its pages.
     static bool are_counted_rightly(Service &service) {
         detail::State &s = *service.state;
@@ -108,8 +116,34 @@ struct Life {
         made++;
         tracker->on_fired(std::move(then));
     }
+    Result<std::optional<Parcel>> collect() {
+        if (upto(2) == 0) return client->collect();
+        if (upto(2) == 0) return client->collect_for(an_hour, over());
+        return client->collect_for(std::chrono::microseconds(upto(50)));
+    }
+    // Ends every wait at once.
+    static const Cancel &over() {
+        static const Cancel cancel = [] {
+            Cancel made;
+            made.cancel();
+            return made;
+        }();
+        return cancel;
+    }
+    static constexpr std::chrono::hours an_hour{1};
+    void look() {
+        (void)service.nodes();
+        if (!collections.empty()) (void)service.given(collections.back().collection());
+        if (handles.empty()) return;
+        Buffer buffer = handles.back().buffer();
+        (void)handles.back().pages();
+        (void)handles.back().open_handles();
+        (void)service.open_handles(client->id(), buffer, Strength::Strong);
+        (void)service.name(buffer);
+    }
     void step() {
-        switch (upto(24)) {
+        switch (upto(25)) {
+        case 24: return look();
         case 20: return (void)client->fd();
         case 21: return (void)client->pending();
         case 22:
@@ -120,6 +154,7 @@ struct Life {
                     (void)service.free_pages();
                 }))
                 idle_made++;
+            if (upto(4) == 0) return (void)handles.back().wait_idle(upto(2), an_hour, over());
             return (void)handles.back().wait_idle(upto(2), std::chrono::microseconds(upto(50)));
         case 23:
             if (!collections.empty()) (void)collections.back().waits_for();
@@ -127,7 +162,7 @@ struct Life {
         case 0: return keep(client->open_root("root"));
         case 1:
         case 2:
-            if (auto got = client->collect(); got && *got) {
+            if (auto got = collect(); got && *got) {
                 if (Token *t = std::get_if<Token>(&**got)) tokens.push_back(std::move(*t));
                 if (Collection *c = std::get_if<Collection>(&**got)) collections.push_back(std::move(*c));
                 if (Handle *h = std::get_if<Handle>(&**got)) handles.push_back(std::move(*h));
@@ -184,7 +219,8 @@ struct Life {
             return;
         case 19:
             if (!collections.empty())
-                (void)collections.back().wait_allocated(std::chrono::microseconds(upto(50)));
+                (void)(upto(4) == 0 ? collections.back().wait_allocated(an_hour, over())
+                                    : collections.back().wait_allocated(std::chrono::microseconds(upto(50))));
             if (!tokens.empty() && upto(3) == 0) (void)tokens.back().set_weak();
             return;
         }

@@ -67,6 +67,11 @@ impl Memory {
         Ok(Arc::new(Memory { start: at.cast(), length, file, is_used: AtomicBool::new(false) }))
     }
 
+    #[cfg(test)]
+    pub(crate) fn first(&self) -> *const AtomicU8 {
+        self.start
+    }
+
     /// How many pages it has.
     pub fn pages(&self) -> u32 {
         (self.length / Memory::PAGE) as u32

@@ -1,5 +1,5 @@
 //! After each call of four clients that make what calls they like, the descriptors, what they tell of each
-//! end, and the counts of handles are compared with the core.
+//! end, and the counts of handles are compared with the core; in the second half also the bytes of a memory.
 use crate::account::Row;
 use crate::descriptors::state_of;
 use crate::record_tests::things::{Dice, Things};
@@ -7,6 +7,8 @@ use crate::state::State;
 use crate::*;
 use std::os::raw::{c_int, c_short, c_ulong};
 use std::os::unix::io::AsRawFd;
+use std::sync::atomic::AtomicU8;
+use std::sync::Arc;
 
 #[repr(C)]
 struct PollFd(c_int, c_short, c_short);
@@ -69,10 +71,23 @@ fn compare_counts(state: &mut State) {
     }
 }
 
-#[test]
-fn binding_tells_what_the_core_has() {
-    let service = Service::open(Options { pages: 256, ..Options::default() }).unwrap();
-    let (mut lit, mut all) = (0, 0);
+/// The bytes of a handle lie at its buffer's pages.
+fn compare_bytes(memory: &Memory, first: *const AtomicU8, handle: &Handle) -> u64 {
+    let bytes = memory.bytes(handle);
+    if let Ok(pages) = handle.pages() {
+        assert_eq!(bytes.as_ptr() as usize - first as usize, pages.start as usize * Memory::PAGE);
+        assert_eq!((bytes.len() - 1) / Memory::PAGE + 1, pages.count as usize);
+    } else {
+        assert!(bytes.is_empty());
+    }
+    1
+}
+
+fn tells_what_the_core_has(events: u64, memory: Option<Arc<Memory>>) {
+    let options = Options { pages: 256, memory: memory.clone(), ..Options::default() };
+    let service = Service::open(options).unwrap();
+    let first = memory.as_ref().map(|memory| memory.first());
+    let (mut lit, mut all, mut mapped) = (0, 0, 0);
     for seed in 1.. {
         let mut dice = Dice(0x9e37_79b9_7f4a_7c15u64.wrapping_mul(seed));
         let mut clients: Vec<(Client, Things)> =
@@ -82,6 +97,9 @@ fn binding_tells_what_the_core_has() {
             let other = clients[other].0.id();
             let (client, things) = &mut clients[who];
             let _ = things.step(client, other, &mut dice);
+            if let (Some(memory), Some(first), Some(handle)) = (&memory, first, things.handle()) {
+                mapped += compare_bytes(memory, first, handle);
+            }
             let mut state = service.0.lock();
             let seen = compare_descriptors(&mut state);
             compare_counts(&mut state);
@@ -91,10 +109,16 @@ fn binding_tells_what_the_core_has() {
         let state = service.0.lock();
         assert!(state.trees.is_empty() && state.seats.is_empty());
         drop(state);
-        if service.events() > 30_000 {
+        if service.events() > events {
             break;
         }
     }
-    assert!(lit > 1000 && all - lit > 1000);
+    assert!(lit > 1000 && all - lit > 1000 && (memory.is_none() || mapped > 1000));
     assert_eq!((service.live(), service.free_pages()), (Ok(vec![]), 256));
+}
+
+#[test]
+fn binding_tells_what_the_core_has() {
+    tells_what_the_core_has(50_000, None);
+    tells_what_the_core_has(50_000, Some(Memory::open(256).unwrap()));
 }

@@ -399,7 +399,7 @@ pub struct Options {
     /// with SYSMEM_DEBUG=1 in the environment, the events are written to standard error.
     pub record: Option<Record>,
     /// Whether the service keeps its transcript for [`Service::transcript`](crate::Service::transcript):
-    /// some 50 bytes an event.
+    /// some 40 bytes an event.
     pub transcript: bool,
     /// The pool's memory. It has at least as many pages as the pool.
     #[cfg(target_os = "linux")]

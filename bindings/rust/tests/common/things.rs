@@ -29,6 +29,13 @@ impl Dice {
     }
 }
 
+/// Ends every wait at once.
+fn over() -> Cancel {
+    let cancel = Cancel::new();
+    cancel.cancel();
+    cancel
+}
+
 #[derive(Default)]
 pub struct Things {
     tokens: Vec<Token>,
@@ -47,11 +54,24 @@ impl Things {
         }
     }
 
+    /// The handle that came last.
+    #[allow(dead_code)]
+    pub fn handle(&self) -> Option<&Handle> {
+        self.handles.last()
+    }
+
     /// Makes one call.
     pub fn step(&mut self, client: &Client, other: ClientId, dice: &mut Dice) -> Result<(), Error> {
-        match dice.upto(21) {
+        match dice.upto(22) {
             0 => self.tokens.push(client.open_root("root")?),
-            1 | 2 => client.collect()?.into_iter().for_each(|parcel| self.keep(parcel)),
+            1 | 2 => {
+                let got = match dice.upto(4) {
+                    0 => client.collect_for(Duration::from_micros(20))?,
+                    1 => client.collect_for(&over())?,
+                    _ => client.collect()?,
+                };
+                got.into_iter().for_each(|parcel| self.keep(parcel));
+            }
             3 => {
                 let child = self.tokens.last().map(|t| t.duplicate("child")).transpose()?;
                 self.tokens.extend(child);
@@ -94,11 +114,18 @@ impl Things {
                     })?;
                     self.watched += 1;
                     handle.wait_idle(dice.upto(2) as u32, Duration::from_micros(20))?;
+                    handle.wait_idle(dice.upto(2) as u32, &over())?;
                 }
             }
             19 => {
                 if let Some(collection) = self.collections.last() {
                     collection.waits_for()?;
+                    collection.wait_allocated(&over())?;
+                }
+            }
+            20 => {
+                if let Some(handle) = self.handles.last() {
+                    assert!(handle.open_handles()? > 0 && handle.pages()?.count > 0);
                 }
             }
             15 => dice.take_out(&mut self.collections).map_or(Ok(()), |c| c.release())?,
