@@ -377,7 +377,7 @@ helps() {
 }
 for command in run threads explain; do count helps "$command" '^ *C trackweak B T '; done
 for command in draw check; do count helps "$command" 'sysmem run --help'; done
-count helps explain '^up: the failure climbs'
+count helps explain '^failure climbs from node to parent'
 count helps check '^A transcript is'
 echo "$passed passed, $failed failed"
 [ "$failed" = 0 ]
