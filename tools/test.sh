@@ -5,8 +5,9 @@ usage='Runs every test, each program on its own input, and the examples. Nothing
 
 An ITEM is a crate that has tests or is a program, `edits`: that each wrong edit still applies, `transcripts`: that each
 explanation is a transcript of its script, `help_texts`: that the man page and the completions have what the help has,
-`sizes`: that the documents state the sizes of the tree, or `shown_files`: that they show files as they are. With none, all of
-them run. LANES of them (one for each processor, if not said) are built and run side by side, in 1 GB each.
+`sizes`: that the documents state the sizes of the tree, `shown_files`: that they show files as they are, or `page`: that
+docs/try.html was made of the sources as they are. With none, all of them run. LANES of them (one for each processor, if not
+said) are built and run side by side, in 1 GB each.
 
 A line for each item counts its tests; what failed is printed above it. The last line is `N passed, M failed`, and the
 status is 0 if nothing failed.'
@@ -32,7 +33,7 @@ mapfile -t others < <({
   grep -rl --include='*.rt' '^ *#\[test\]' crates/*/src
   ls crates/*/src/main.rt
 } | cut -d / -f 2 | sort -u | grep -vxF "$(printf '%s\n' "${first[@]}")")
-all=("${first[@]}" "${others[@]}" edits transcripts help_texts sizes shown_files)
+all=("${first[@]}" "${others[@]}" edits transcripts help_texts sizes shown_files page)
 [ ${#items[@]} -gt 0 ] || items=("${all[@]}")
 for item in "${items[@]}"; do
   printf '%s\n' "${all[@]}" | grep -qxF "$item" || { echo "test.sh: $item has no tests" >&2 && exit 2; }
@@ -78,7 +79,7 @@ is_shared() {
 try_item() {
   local item=$1 log="$room/$1.log" status=0 passed failed
   local -A tools=([edits]=edits_apply.py [transcripts]=transcripts.py [help_texts]=help_texts.py [sizes]="sizes.py --check"
-                  [shown_files]=shown_files.py)
+                  [shown_files]=shown_files.py [page]="page_sources.py --check")
   if [ -n "${tools[$item]-}" ]; then
     tools/${tools[$item]} >"$log" 2>&1 || status=$?
     passed=$((status == 0)) failed=$((status != 0))

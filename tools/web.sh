@@ -1,6 +1,6 @@
 #!/bin/sh
 # Builds the page, compares its module with the program on 1,000 random scripts, tests it in Chromium and, where it is there, in
-# Firefox, and prints sizes and times. The program is built first if `rt run` has not left it.
+# Firefox, prints sizes and times, and leaves the page as docs/try.html. The program is built first if `rt run` has not left it.
 # Ends with the status of what failed.
 #   tools/web.sh [SCREENSHOTS]     needs rt, python3, node and chromium
 set -eu
@@ -24,3 +24,4 @@ else
     echo "firefox: not there, not tried (Debian: apt-get install firefox-esr)"
 fi
 printf '%s bytes, %s with gzip: sysmem.wasm\n' "$(wc -c < out/sysmem.wasm)" "$(gzip -9c out/sysmem.wasm | wc -c)"
+cp out/sysmem.html ../docs/try.html

@@ -43,6 +43,7 @@ link() { # what is written, more words
 link sysmem.wasm
 # For the test of refused memory: the same with four MiB at most.
 link small.wasm --max-memory=4194304
-python3 ../pack.py .. sysmem.wasm ../../examples sysmem.html
-python3 ../pack.py .. small.wasm ../../examples small.html
+sources=$(../../tools/page_sources.py)
+python3 ../pack.py .. sysmem.wasm ../../examples sysmem.html "$sources"
+python3 ../pack.py .. small.wasm ../../examples small.html "$sources"
 ls -l sysmem.wasm sysmem.html
