@@ -83,12 +83,18 @@ try 0 "$first$second" '' "a join\\n$lost" explain --failures
 try 0 '' '' 'a join\na open r\n' explain --failures
 try 3 "$first" 'bad line 7: no such word: fly' "a join\\na open r\\na close r\\na sync r\\na open t\\n# a remark\\na fly\\n" explain --failures
 
+# A summary.
+sum='    summary of %s\n    failed  %s\n    held    %s\n'
+none='    waiting 0 trackers\n'
+try 0 "$first$second$(printf "$sum" '6 events' '2 events: 3 6' '0 of 16 pages')\\n$none" '' "a join\\n$lost" explain --failures --summary
+try 0 "$(printf "$sum" '0 events' '0 events' '0 of 1 page')\\n$none" '' '' explain --summary --pages 1
+
 # Pictures.
-empty='pool ░░░░░░░░░░░░░░░░ 16 of 16 free\n'
+empty='pool ░░░░░░░░░░░░░░░░ 16 of 16 pages free\n'
 try 0 "event 0\\n\\n$empty" '' '' draw
 try 0 "event 1: a join\\n\\n$empty" '' 'a join\n' draw
 try 0 "event 1: a join\\n\\n$empty" '' 'a join\na fly\n' draw --at 1
-try 0 'event 1: a join\n\npool 65 of 65 free\n' '' 'a join\n' draw --pages 65 --format text
+try 0 'event 1: a join\n\npool 65 of 65 pages free\n' '' 'a join\n' draw --pages 65 --format text
 try 3 "event 1: a join\\n\\n$empty" 'bad line 2: no such word: fly' 'a join\na fly\n' draw
 try 2 '' 'sysmem: there is no event 0' 'a join\n' draw --at 0
 try 2 '' 'sysmem: there is no event 2' 'a join\n' draw --at 2
@@ -122,6 +128,9 @@ try 0 "$told$report" '' 'a join\na open r\na close r\na sync r\na open r\n' thre
 try 3 '' 'bad line 2' 'a join\nshow live\n' threads --record
 try 2 '' '*' 'a join\n' threads --record --record
 try 2 '' '*' 'a join\n' run --record
+try 0 'events 4\na events 3 strong 0 weak 0\ngather ok\n' '' 'a join\na open r\na close r\na sync r\na open r\n' threads --patient
+try 2 '' '*' 'a join\n' threads --patient --patient
+try 2 '' '*' 'a join\n' run --patient
 try 3 '' 'bad line 1' '' threads
 try 3 '' 'bad line 1' 'a open r\n' threads
 try 3 '' 'bad line 2' 'a join\nshow live\n' threads
@@ -141,13 +150,33 @@ for words in '--pages 0' '--pages 1048577' '--pages many' '--pages -1' '--pages'
   try 2 '' '*' 'a join\n' threads $words
 done
 
+# All orders of two clients: the reports, bad lines, an outcome that is not there, and too few states.
+pair='a join\nb join\na open r\na give r b\nb collect s\nb release s\n'
+try 0 '# outcome 1 of 2: 75 of 100 runs; 3 calls in 2 turns\na join\nb join\nb collect s\n# from here on every order leads to outcome 1\na open r\na give r b\n' '' "$pair" explore --outcome 1
+try 2 '' 'sysmem: there is no outcome 3' "$pair" explore --outcome 3
+try 2 '' 'sysmem: there is no outcome 0' "$pair" explore --outcome 0
+try 3 '' 'bad line 3: it names a client that did not join' 'a join\na open r\nb open s\n' explore
+try 3 '' 'bad line 3: each client joins once, before all steps' 'a join\na open r\nb join\n' explore
+try 3 '' 'bad line 2: a script of actors has no show' 'a join\nshow free\n' explore
+try 3 '' 'bad line 2: it has none of the forms of a line' 'a join\na opne r\n' explore
+try 3 '' 'bad line 2: the last line has no end' 'a join\na open r' explore
+try 3 '' 'bad line 2: the line ends in CR' 'a join\na open r\r\n' explore
+try 3 '' 'bad line 1: no client joins' '' explore
+try 2 '' '*' "$pair" explore --states no
+too_few_states() {
+  for most in 0 1 2 3; do
+    printf "$pair" | "$program" explore --states "$most" >"$room/out" 2>"$room/told"
+    [ $? = 7 ] && grep -q "^not all explored: $most states*, " "$room/out" && hears '' || return 1
+  done
+}
+
 # Words that ask for no run.
 try 2 '' '*' '' fly
 try 2 '' '*' '' run examples/first.script examples/first.script
 try 2 '' '*' '' run --fly
 try 2 '' 'sysmem: a word of the command line is not UTF-8' '' run $'\xff'
 try 2 '' '*' '' threads --fly
-try 2 '' 'sysmem: a command is missing: run, threads, explain, draw or check; sysmem --help describes them' ''
+try 2 '' 'sysmem: a command is missing: run, threads, explain, draw, check or explore; sysmem --help describes them' ''
 try 2 '' 'sysmem: no such command: x.script; try sysmem run FILE' '' x.script
 try 2 '' 'sysmem: no such command: ./x; try sysmem run FILE' '' ./x run
 
@@ -194,7 +223,7 @@ write_fails() {
   "$program" "$1" <"$room/script" >/dev/full 2>"$room/told"
   [ $? = 1 ] && hears 'write fault'
 }
-for command in run threads explain draw check; do
+for command in run threads explain draw check explore; do
   count read_fails "$command"
   count write_fails "$command"
 done
@@ -214,6 +243,28 @@ no_thread() {
 }
 count no_memory
 count no_thread
+
+# Each example of which all orders were gone through: `check` accepts the play of each outcome.
+is_explored() {
+  "$program" explore "$1" 2>"$room/told" | cmp -s - "${1%.actors}.outcomes" && hears '' &&
+    "$program" explore <"$1" 2>"$room/told" | cmp -s - "${1%.actors}.outcomes" && hears ''
+}
+has_plays() {
+  local outcome outcomes
+  outcomes=$(sed -n 's/.* \([0-9]*\) outcomes\?$/\1/p' "${1%.actors}.outcomes")
+  [ "$outcomes" -gt 0 ] || return 1
+  for ((outcome = 1; outcome <= outcomes; outcome++)); do
+    "$program" explore --outcome "$outcome" "$1" >"$room/play" 2>"$room/told" && hears '' &&
+      [ "$(head -c 12 "$room/play")" = "# outcome $outcome " ] &&
+      "$program" explain "$room/play" 2>"$room/told" >"$room/explained" && hears '' &&
+      "$program" check "$room/explained" 2>"$room/told" | grep -q '^agrees: ' && hears '' || return 1
+  done
+}
+for script in examples/*.outcomes; do
+  count is_explored "${script%.outcomes}.actors"
+  count has_plays "${script%.outcomes}.actors"
+done
+count too_few_states
 
 # Each example.
 is_answered() {
@@ -255,9 +306,9 @@ unopened() {
   "$program" "$1" "$2" >"$room/out" 2>"$room/told"
   [ $? = 1 ] && [ ! -s "$room/out" ] && hears "sysmem: $2: $3"
 }
-for command in run threads explain draw check; do count unopened "$command" examples/none.script 'no such file'; done
+for command in run threads explain draw check explore; do count unopened "$command" examples/none.script 'no such file'; done
 count unopened run examples/first.script/none 'a part of its path is no directory'
-for command in run threads explain draw check; do count unopened "$command" examples 'it is a directory'; done
+for command in run threads explain draw check explore; do count unopened "$command" examples 'it is a directory'; done
 count unopened run "$(printf 'n%.0s' {1..300})" 'the name is too long'
 ln -s loop "$room/loop"
 count unopened run "$room/loop" 'too many symbolic links'
@@ -352,6 +403,18 @@ are_shared() {
   return 1
 }
 count are_shared
+
+# Whether the actors of examples/patient.actors, five times, each wait until something is there for them.
+are_patient() {
+  local run
+  for run in 1 2 3 4 5; do
+    "$program" threads --record --patient <examples/patient.actors >"$room/record" 2>"$room/told" && hears '' || return 1
+    [ "$(grep -c '^  taken strong ' "$room/record")" = 2 ] || return 1
+    [ "$(grep -c '^  handle ' "$room/record")" = 2 ] || return 1
+    "$program" check <"$room/record" >/dev/null || return 1
+  done
+}
+count are_patient
 
 # A crowd: 64 actors open trees, give children and handles to the next one, and use what comes, 50 times.
 awk 'BEGIN {

@@ -1,5 +1,6 @@
 /* Refuses one allocation of a process: the one whose number, from 1, the environment's REFUSE names. It
-   says so on standard error. To be loaded with LD_PRELOAD. */
+   says so on standard error. To be loaded with LD_PRELOAD: the toolchain's own switch builds the tests anew for
+   each number. */
 #include <stdatomic.h>
 #include <stdlib.h>
 #include <unistd.h>

@@ -11,7 +11,7 @@ import sys
 
 TOP = pathlib.Path(__file__).resolve().parent.parent
 SHOWN = [
-    ("docs/RATTLE.md", "crates/trial_ends/src/tests/example.rt"),
+    ("docs/RATTLE.md", "crates/test_ends/src/tests/example.rt"),
     ("docs/START.md", "examples/first.script"),
     ("docs/START.md", "examples/first.out"),
 ]

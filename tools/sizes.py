@@ -5,8 +5,9 @@
   tools/sizes.py --check   the same for those that are wrong; the status is 1 if there is one
   tools/sizes.py --write   puts the sizes of the tree into the documents
 
-A count is exact. A number of lines is stated in rounded form, and is wrong if it is off by more than 3%. Lines are those of
-crates other than the trial_.. crates, without comments and blank lines.
+A count is exact. A number of lines is stated in rounded form, and is wrong if it is off by more than 3%, in the list of the
+crates by more than a tenth and ten lines. Lines are counted without comments and blank lines. The sums leave out the test_..
+crates.
 """
 import glob
 import os
@@ -16,22 +17,29 @@ import sys
 os.chdir(os.path.join(os.path.dirname(os.path.abspath(__file__)), ".."))
 
 
-def is_trial(path):
-    return path.split("/")[1].startswith("trial_")
+def is_test(path):
+    return path.split("/")[1].startswith("test_")
 
 
-def lines(pattern, comment):
+def lines(pattern, comment, tests=False):
     """The lines of the files with these names, without comments and blank lines."""
     total = 0
     for path in glob.glob(pattern, recursive=True):
-        if not is_trial(path):
+        if tests or not is_test(path):
             with open(path, encoding="utf-8") as file:
                 total += sum(1 for line in file if line.strip() and not line.strip().startswith(comment))
     return total
 
 
-def rounded(number, digits=2):
-    """The number with this many digits, and a comma at the thousands."""
+def sizes_of(crate):
+    """A crate's lines of code, of specifications and of proofs."""
+    return [lines(f"crates/{crate}/{folder}", comment, tests=True)
+            for folder, comment in [("src/**/*.rt", "//"), ("specs/**/*.antt", "--"), ("proofs/**/*.antt", "--")]]
+
+
+def rounded(number):
+    """The number with two digits, or three after a 1, and a comma at the thousands."""
+    digits = 3 if str(number).startswith("1") else 2
     step = 10 ** max(len(str(number)) - digits, 0)
     return f"{round(number / step) * step:,}"
 
@@ -60,11 +68,54 @@ SIZES = [
 ]
 
 
+# The document that lists the crates, and one of its rows: the crate with its three sizes.
+LIST = "docs/CRATES.md"
+ITEM = re.compile(r"\[(\w+)\]\(\.\./crates/\w+\) \| ([\d,]+) \| ([\d,]+) \| ([\d,]+) \|")
+
+
 def differs(said, size):
     """Whether the size that a document states is wrong."""
     if isinstance(size, str):
         return said != size
     return abs(int(said.replace(",", "")) - size) > 0.03 * size
+
+
+def crate_differs(said, size):
+    """Whether the size of a crate that the list states is wrong."""
+    return abs(int(said.replace(",", "")) - size) > max(size / 10, 10)
+
+
+def report_crates(only_wrong):
+    """Lists the sizes of the crates, and answers how many are wrong or lack."""
+    wrong = 0
+    found = {item[0]: item[1:] for item in ITEM.findall(open(LIST, encoding="utf-8").read())}
+    for crate in sorted(set(os.listdir("crates")) | set(found)):
+        is_crate = os.path.isdir(f"crates/{crate}/src")
+        if crate.startswith("test_") and crate not in found:
+            continue
+        if crate not in found or not is_crate:
+            print(f"{LIST}: {crate} {'is not listed' if is_crate else 'is no crate'}")
+            wrong += 1
+            continue
+        off = any(crate_differs(said, size) for said, size in zip(found[crate], sizes_of(crate)))
+        wrong += off
+        if off or not only_wrong:
+            exactly = " + ".join(f"{size:,}" for size in sizes_of(crate))
+            print(f"{LIST}: {crate} {' + '.join(found[crate])}{' is wrong, it is ' if off else ', exactly '}{exactly}")
+    return wrong
+
+
+def write_crates():
+    """Puts the sizes of crates that are wrong into the list."""
+    def item(found):
+        crate, said = found.group(1), found.groups()[1:]
+        if not any(crate_differs(one, size) for one, size in zip(said, sizes_of(crate))):
+            return found.group(0)
+        return f"[{crate}](../crates/{crate}) | {' | '.join(rounded(size) for size in sizes_of(crate))} |"
+
+    text = open(LIST, encoding="utf-8").read()
+    with open(LIST, "w", encoding="utf-8") as file:
+        file.write(ITEM.sub(item, text))
 
 
 def report(only_wrong):
@@ -101,6 +152,7 @@ def write():
             start = found.end(at)
         with open(path, "w", encoding="utf-8") as file:
             file.write(new + text[start:])
+    write_crates()
 
 
 def main():
@@ -110,7 +162,8 @@ def main():
         sys.exit(0 if mode in (["--help"], ["-h"]) else 2)
     if mode == ["--write"]:
         write()
-    wrong = report(only_wrong=mode == ["--check"])
+    only_wrong = mode == ["--check"]
+    wrong = report(only_wrong) + report_crates(only_wrong)
     sys.exit(1 if wrong and mode else 0)
 
 

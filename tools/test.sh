@@ -28,15 +28,17 @@ done
 [[ $lanes =~ ^[1-9][0-9]*$ ]] || { echo 'test.sh: -j takes a number of lanes' >&2 && exit 2; }
 
 # All items. Those that take longest come first, so that no lane waits for them at the end.
-first=(trial_scripts sysmem_main trial_script_rows trial_core trial_forest_rows)
+first=(test_scripts sysmem_main test_script_rows test_core test_forest_rows)
 mapfile -t others < <({
   grep -rl --include='*.rt' '^ *#\[test\]' crates/*/src
   ls crates/*/src/main.rt
 } | cut -d / -f 2 | sort -u | grep -vxF "$(printf '%s\n' "${first[@]}")")
 all=("${first[@]}" "${others[@]}" edits transcripts help_texts sizes shown_files page)
 [ ${#items[@]} -gt 0 ] || items=("${all[@]}")
+declare -A is_item
+for item in "${all[@]}"; do is_item[$item]=1; done
 for item in "${items[@]}"; do
-  printf '%s\n' "${all[@]}" | grep -qxF "$item" || { echo "test.sh: $item has no tests" >&2 && exit 2; }
+  [ -n "${is_item[$item]-}" ] || { echo "test.sh: $item has no tests" >&2 && exit 2; }
 done
 room=$(mktemp -d)
 trap 'rm -rf "$room"' EXIT
@@ -65,6 +67,9 @@ try_program() {
     add_case apart examples/apart.actors threads examples/apart.out
     add_case alone examples/alone.actors 'threads --record' examples/alone.record
     add_case shared examples/shared.actors threads
+    for script in examples/*.outcomes; do
+      add_case "$(basename "$script" .outcomes)_outcomes" "${script%.outcomes}.actors" explore "$script"
+    done
   fi
   (cd "$crate" && rt try --seconds 600 --cases "$room/$item.cases")
 }
@@ -85,7 +90,7 @@ try_item() {
     passed=$((status == 0)) failed=$((status != 0))
   elif [ -f "crates/$item/src/main.rt" ]; then
     try_program >"$log" 2>&1 || status=$?
-    passed=$(grep -cE '^case=\S+ run=ended status=0 .*output=expected' "$log")
+    passed=$(grep -cE '^case=\S+ run=ended status=0 .*output=expected|^case=\S+_outcomes run=ended status=6 .*output=expected' "$log")
     if [ "$item" = sysmem_main ] && is_shared "$log"; then passed=$((passed + 1)); fi
     failed=$(($(find "$room/$item.cases" -name '*.args' | wc -l) - passed))
   else
@@ -100,5 +105,7 @@ try_item() {
 export -f try_item try_program add_case is_shared
 
 printf '%s\n' "${items[@]}" | xargs -P "$lanes" -I{} bash -c 'try_item {} >"$room/{}.said"; cat "$room/{}.said"' || true
-awk '{ passed += $(NF - 3); failed += $(NF - 1) } END { print passed + 0 " passed, " failed + 0 " failed"; exit failed > 0 }' \
-  < <(for item in "${items[@]}"; do tail -n 1 "$room/$item.said" 2>/dev/null || echo "0 passed, 1 failed"; done)
+awk '$0 ~ /: [0-9]+ passed, [0-9]+ failed$/ { passed += $(NF - 3); failed += $(NF - 1); next }
+  { failed++; print "test.sh: no count of an item: " $0 }
+  END { print passed + 0 " passed, " failed + 0 " failed"; exit failed > 0 }' \
+  < <(for item in "${items[@]}"; do tail -n 1 "$room/$item.said" 2>/dev/null | grep . || echo "$item: 0 passed, 1 failed"; done)

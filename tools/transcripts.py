@@ -3,7 +3,7 @@
 
   tools/transcripts.py
 
-Of each example, and of each row of trial_script_rows that is explained: the explanation without its indented lines is the
+Of each example, and of each row of test_script_rows that is explained: the explanation without its indented lines is the
 script, as far as it was told, and its lines of exactly two spaces are the replies. The replies of an example stand in
 its `.out`. It reads files alone, and takes less than a second. The last line counts; the status is 1 if one differs.
 """
@@ -40,7 +40,7 @@ def fault_of(script, told, replies):
     """What is wrong with the explanation of a script, if something is. `replies` may be unknown."""
     faults = [line for line in told if line.startswith(b"! ")]
     said, answered = parts_of([line for line in told if not line.startswith(b"! ")])
-    wanted = [line for line in script if not line.startswith(INDENT) and not line.startswith(b"@ pages ")]
+    wanted = [line for line in script if not line.startswith(INDENT) and not line.startswith(b"@ ")]
     if said != wanted[: len(said)] or (len(said) < len(wanted)) != bool(faults):
         return "its lines without an indent are not the script"
     if replies is not None and answered != replies:
@@ -55,7 +55,7 @@ def main():
     for script in sorted(TOP.glob("examples/*.script")):
         told, out = script.with_suffix(".explained"), script.with_suffix(".out")
         cases.append((script.name, *(lines(path.read_bytes()) for path in (script, told, out))))
-    folder = TOP / "crates/trial_script_rows"
+    folder = TOP / "crates/test_script_rows"
     given, wrote = (rows((folder / name).read_bytes()) for name in ("stdin", "stdout"))
     for (title, script), (_, told) in zip(given, wrote, strict=True):
         if title.startswith(b"= explain "):

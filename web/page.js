@@ -99,17 +99,16 @@ function rows_of(event) {
 function seen(text) {
   const found = { nodes: [], held: [], pool: '', fired: [] };
   for (const row of text.split('\n').slice(1)) {
-    const buffer = /^(\S+\.\d+) +[✕·]?!? *(pages? [^;]*?)(?:; kept by (.*))?$/.exec(row);
-    const node = /^([│├└─╌ ]*)([a-z][a-z0-9]*(?: \([a-z0-9]+\))?) +([✕·])?(!)? *(.*)$/.exec(row);
+    const buffer = /^(\S+\.\d+) +[✗○·]?!? *(pages? [^;]*?)(?:; kept by (.*))?$/.exec(row);
+    const fired = /^tracker (\S+) fired at event (\d+)$/.exec(row);
+    const node = /^([│├└─═~ ]*)([a-z][a-z0-9]*(?: \([a-z0-9]+\))?) +([✗○·])?(!)? *(.*)$/.exec(row);
     if (row.startsWith('pool ')) found.pool = row.slice(5);
-    else if (row.startsWith('fired ')) found.fired = pairs(row.slice(6).split(' '));
+    else if (fired) found.fired.push(fired.slice(1));
     else if (buffer) found.held.push(buffer.slice(1));
     else if (node) found.nodes.push({ depth: node[1].length / 4, name: node[2], mark: node[3] ?? '', now: node[4] === '!', facts: node[5], row });
   }
   return found;
 }
-
-const pairs = (words) => words.filter((_, i) => i % 2 === 0).map((w, i) => [w, words[2 * i + 1]]);
 
 const tell = (node) => `${node.name}: ${node.facts.split('; ').slice(0, 2).join(', ')}`;
 

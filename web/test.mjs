@@ -53,11 +53,11 @@ async function display_failure({ value, open }) {
   assert.match(await value("$('tree').firstChild.getAttribute('aria-label')"), /root: released, lost, origin fordis; .*fordis \(display\): lost/);
   assert.match(await value("$('tree').textContent"), /event 28: +dis close display/);
   const seen = await value(`(() => { const placed = (query, is_it) => [...document.querySelectorAll('#tree ' + query)].filter(is_it).map((e) => e.getBoundingClientRect());
-    const [word] = placed('text', (t) => t.textContent === 'closed, not released');
+    const [word] = placed('text', (t) => t.textContent === 'lost');
     const box = placed('rect', (r) => getComputedStyle(r).fill === 'rgb(168, 67, 0)').find((b) => b.left < word.left && word.right < b.right && b.top < word.top && word.bottom < b.bottom);
     return [box.right <= $('tree').getBoundingClientRect().right, box.bottom <= innerHeight, $('tree').scrollWidth <= $('tree').clientWidth]; })()`);
   assert.deepEqual(seen, [true, true, true], 'the origin stands on the first screen');
-  assert.equal(await value("$('pool').textContent"), 'Pool: ████████░░░░░░░░ 8 of 16 free');
+  assert.equal(await value("$('pool').textContent"), 'Pool: ████████░░░░░░░░ 8 of 16 pages free');
   assert.deepEqual(await value("[...$('held').rows].map((r) => [...r.cells].map((c) => c.textContent).join('|'))[0]"), 'root.0|pages 0 to 1|cam strong 1, dis strong 1');
   assert.deepEqual(await value("[...$('fired').rows].map((r) => r.textContent)"), ['goneat event 28']);
 }
@@ -151,7 +151,7 @@ async function links({ value, open }) {
   await value("$('pages').value = 4; $('run').click()");
   assert.match(await value('location.hash'), /^#script=YSBqb2luCg&line=1&pages=4$/);
   await open(page, '#script=YSBqb2luCg&pages=4');
-  assert.deepEqual(await value("[$('script').value, $('pages').value, $('pool').textContent]"), ['a join\n', '4', 'Pool: ░░░░ 4 of 4 free']);
+  assert.deepEqual(await value("[$('script').value, $('pages').value, $('pool').textContent]"), ['a join\n', '4', 'Pool: ░░░░ 4 of 4 pages free']);
   for (const [line, shown] of [['2', '2'], ['999', '50'], ['1.5', '1'], ['0', '50'], ['x', '50']]) {
     await open(page, `#example=camera&line=${line}`);
     assert.equal(await value("$('at').textContent"), shown, `line=${line}`);
@@ -172,7 +172,7 @@ async function sizes({ value }) {
   }
   const beside = [...wide.slice(0, 302), 'a dup r7 x', 'a dup x y', 'a sync x', 'a bind r9'];
   const listed = await value(`(() => { $('script').value = ${JSON.stringify(`${beside.join('\n')}\n`)}; $('run').click();
-    return [303, 304, 305].map((k) => { show(k); return $('tree').textContent.split('\\n').map((row) => row.replace(/^[│├└─╌ ]*/, '').split(' ')[0]); }); })()`);
+    return [303, 304, 305].map((k) => { show(k); return $('tree').textContent.split('\\n').map((row) => row.replace(/^[│├└─═~ ]*/, '').split(' ')[0]); }); })()`);
   assert.deepEqual(listed, [['r0', 'r7', 'x', 'y', '299'], ['303'], ['r0', 'r9', '301']]);
   const many = ['a join', 'a open r', ...Array.from({ length: 100 }, (_, i) => `a dup r n${i}`), ...Array.from({ length: 4900 }, (_, i) => `a sync n${i % 100}`)];
   const [run, step] = await value(`(() => { $('script').value = ${JSON.stringify(`${many.join('\n')}\n`)};

@@ -1,7 +1,7 @@
 # Completes the command line of sysmem in bash.
 _sysmem() {
   local word=${COMP_WORDS[COMP_CWORD]} before=${COMP_WORDS[COMP_CWORD - 1]} command=${COMP_WORDS[1]}
-  local commands='run threads explain draw check' options='--pages --help -h'
+  local commands='run threads explain draw check explore' options='--pages --help -h'
   COMPREPLY=()
   if [ "$COMP_CWORD" = 1 ]; then
     mapfile -t COMPREPLY < <(compgen -W "$commands help --help --version -h -V" -- "$word")
@@ -15,14 +15,15 @@ _sysmem() {
   fi
   case $before in
     --format) mapfile -t COMPREPLY < <(compgen -W 'text dot svg' -- "$word") && return ;;
-    --pages | --at | --line) return ;;
+    --pages | --at | --line | --outcome | --states) return ;;
   esac
   if [ "$command" = help ]; then
     [ "$COMP_CWORD" = 2 ] && mapfile -t COMPREPLY < <(compgen -W "$commands" -- "$word")
   elif [ "${word:0:1}" = - ]; then
     [ "$command" = draw ] && options+=' --format --at --line --failure'
-    [ "$command" = explain ] && options+=' --failures'
-    [ "$command" = threads ] && options+=' --record'
+    [ "$command" = explain ] && options+=' --failures --summary'
+    [ "$command" = threads ] && options+=' --record --patient'
+    [ "$command" = explore ] && options+=' --once --outcome --states'
     mapfile -t COMPREPLY < <(compgen -W "$options" -- "$word")
   else
     mapfile -t COMPREPLY < <(compgen -f -- "$word")

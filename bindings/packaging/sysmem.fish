@@ -1,5 +1,5 @@
 # Completes the command line of sysmem in fish.
-set -l commands run threads explain draw check
+set -l commands run threads explain draw check explore
 complete -c sysmem -n __fish_use_subcommand -f
 complete -c sysmem -n __fish_use_subcommand -a run -d 'Answers each line of a script'
 complete -c sysmem -n __fish_use_subcommand -a threads \
@@ -9,19 +9,28 @@ complete -c sysmem -n __fish_use_subcommand -a explain \
 complete -c sysmem -n __fish_use_subcommand -a draw -d 'Draws the trees after the last line or an event'
 complete -c sysmem -n __fish_use_subcommand -a check \
     -d "Compares the replies of a transcript with the machine's"
+complete -c sysmem -n __fish_use_subcommand -a explore \
+    -d "Goes through all orders of the clients' steps, and tells the outcomes"
 complete -c sysmem -n __fish_use_subcommand -a help -d 'Describes a command'
 complete -c sysmem -n __fish_use_subcommand -s V -l version -d 'Names the version'
 complete -c sysmem -s h -l help -d 'Describes the commands, or a command'
 complete -c sysmem -n '__fish_seen_subcommand_from help' -f -a "$commands"
 complete -c sysmem -n "__fish_seen_subcommand_from $commands" -l pages -x -d 'The number of pages of the pool'
 complete -c sysmem -n '__fish_seen_subcommand_from threads' -l record -d 'Writes all events before the report'
+complete -c sysmem -n '__fish_seen_subcommand_from threads' -l patient -d 'Makes steps again until something is there'
 complete -c sysmem -n '__fish_seen_subcommand_from draw' -l format -x -a 'text dot svg' \
     -d 'The format of the picture'
 complete -c sysmem -n '__fish_seen_subcommand_from explain' -l failures \
     -d 'Tells only the lines whose event made a node fail'
+complete -c sysmem -n '__fish_seen_subcommand_from explain' -l summary \
+    -d 'Tells failures, held pages and waiting trackers at the end'
 complete -c sysmem -n '__fish_seen_subcommand_from draw' -l at -x \
     -d 'The event after which the trees are drawn'
 complete -c sysmem -n '__fish_seen_subcommand_from draw' -l line -x \
     -d 'The line after which the trees are drawn'
 complete -c sysmem -n '__fish_seen_subcommand_from draw' -l failure \
     -d 'Draws the trees after the first event in which a node failed'
+complete -c sysmem -n '__fish_seen_subcommand_from explore' -l once -d 'Makes each step once, as threads does'
+complete -c sysmem -n '__fish_seen_subcommand_from explore' -l outcome -x \
+    -d 'The outcome whose play is written'
+complete -c sysmem -n '__fish_seen_subcommand_from explore' -l states -x -d 'How many states are met at most'

@@ -347,6 +347,11 @@ static void names() {
     std::unordered_map<Buffer, int> by_buffer{{second, 1}};
     std::unordered_map<Key, int> by_key{{key, 1}};
     EXPECT(by_buffer.count(second) == 1 && by_key.count(key) == 1 && handles[0].buffer() < second);
+    Buffer first = handles[0].buffer();
+    handles[0] = std::move(handles[1]); // the handle that was there is dropped at once
+    EXPECT(handles[0].buffer() == second && !handles[1]);
+    EXPECT(service.open_handles(a.id(), first, Strength::Strong) == 0);
+    EXPECT(service.open_handles(a.id(), second, Strength::Strong) == 1);
     EXPECT(other.set_constraints({1, 65, 1}).error().message() == "bad call: at_least is 65, and must be 0 to 64");
     EXPECT(other.set_constraints({0, 0, 0}).error().message() == "bad call: size is 0, and must be 1 to 1073741824");
     Options o;

@@ -1,5 +1,6 @@
 -- How a play goes on.
-use Rattle.std.proofs.Common.{ℕ, zero, suc, ◌≡◌, ◌∙◌, refl, sym, ap, subst, Bool, true, false, List, [], ◌∷◌, ◌++◌, length, map, slice_get, slice_index_or, slice_set, Option, Some, None}
+use Rattle.std.proofs.Common.{ℕ, zero, suc, ◌≡◌, ◌∙◌, refl, sym, ap, subst, Bool, true, false, List, [], ◌∷◌}
+use Rattle.std.proofs.Common.{◌++◌, length, map, slice_get, slice_index_or, slice_set, Option, Some, None}
 use Rattle.std.proofs.lemmas.List.{map-append}
 use Rattle.std.specs.Prelude.{◌&&◌, IfOk, IfSome, Result, Ok, Err, Vec}
 use Rattle.std.specs.declared.alloc.Global.{Global}
@@ -13,9 +14,9 @@ use Rattle.actor_scripts.specs.declared.object.StepCall.{StepCall}
 use Rattle.actor_scripts.specs.ActorStates.{step_call}
 use Rattle.core_state.specs.Shown.{Shows}
 use Rattle.core_state.specs.State.{State}
-use Rattle.event_marks.specs.declared.moment.Moment.{Moment}
-use Rattle.event_marks.specs.Marks.{AreStages, Stage as MarkStage}
-use Rattle.event_marks.specs.Moments.{stage_of as stage_told}
+use Rattle.forced_marks.specs.declared.moment.Moment.{Moment}
+use Rattle.forced_marks.specs.Marks.{AreStages, Stage as MarkStage}
+use Rattle.forced_marks.specs.Moments.{stage_of as stage_told}
 use Rattle.actor_plays.specs.declared.actor.Actor.{Actor}
 use Rattle.actor_plays.specs.declared.plan.Plan.{Plan}
 use Rattle.actor_plays.specs.declared.plan.Planned.{Planned}
@@ -23,7 +24,8 @@ use Rattle.actor_plays.specs.declared.play.Play.{Play}
 use Rattle.actor_plays.specs.declared.play.Turned.{Turned}
 use Rattle.actor_plays.specs.declared.falls.Fall.{Fall}
 use Rattle.actor_plays.specs.Fates.{AreFalls, AreTold, falls_at}
-use Rattle.actor_plays.specs.Plays.{AreJoining, IsLeftWaiting, IsPlay, IsTurn, Plays, Stage, first_stage, is_wait, joins, next_step, passed, polls, stage_after, stage_of, stages_of}
+use Rattle.actor_plays.specs.Plays.{AreJoining, IsLeftWaiting, IsPlay, IsTurn, Plays, Stage, first_stage}
+use Rattle.actor_plays.specs.Plays.{is_wait, joins, next_step, passed, polls, stage_after, stage_of, stages_of}
 
 -- two changes of the actors are one
 pub only_actors : (a b c : Play) → b ≡ record a { actors = b.actors } → c ≡ record b { actors = c.actors } →
@@ -101,6 +103,7 @@ module _ (plans : List Plan) (old new : Play) (actor : ℕ) (next : Planned) (is
 -- the actor makes the call of its next step
 module _ (plans : List Plan) (old mid new : Play) (actor client : ℕ) (next : Planned) (asked : StepCall) (reply : Reply)
     (is : IsPlay plans old) where
+  -- the play has one turn more, whose call and reply are those of the step
   called_at : (stage : Stage) → slice_get (stages_of old) actor ≡ Some stage → next_step plans actor stage ≡ Some next →
       step_call old.clients.items stage.known next.step ≡ Some asked → slice_get old.clients.items actor ≡ Some client →
       next.waits && is_wait reply ≡ false → Shows mid.core mid.entries.items →
@@ -127,6 +130,7 @@ module _ (plans : List Plan) (old mid new : Play) (actor client : ℕ) (next : P
             waits))));
       }
 
+  -- by cases on the stage: an actor without one has no next step
   called_by : (o : Option Stage) → slice_get (stages_of old) actor ≡ o → option_and_then (next_step plans actor) o ≡ Some next →
       option_and_then (λ (stage : Stage). step_call old.clients.items stage.known next.step) o ≡ Some asked →
       slice_get old.clients.items actor ≡ Some client →
@@ -160,6 +164,7 @@ module _ (plans : List Plan) (old mid new : Play) (actor client : ℕ) (next : P
 -- the actor waits, after it passed what it could
 module _ (plans : List Plan) (first old new : Play) (actor client : ℕ) (next : Planned) (asked : StepCall) (reply : Reply)
     (is : IsPlay plans old) where
+  -- by cases on the stage: an actor without one has no next step
   waits_by : (o : Option Stage) → slice_get (stages_of old) actor ≡ o → option_and_then (next_step plans actor) o ≡ Some next →
       option_and_then (λ (stage : Stage). step_call old.clients.items stage.known next.step) o ≡ Some asked →
       slice_get old.clients.items actor ≡ Some client → next.waits && is_wait reply ≡ true → Shows new.core new.entries.items →
@@ -187,6 +192,7 @@ module _ (plans : List Plan) (first old new : Play) (actor client : ℕ) (next :
             (subst (λ (p : Play). Plays plans p.clients.items p.turns.items p.entries.items (stages_of old)) passed is.plays);
       }
 
+  -- by the lemma above, for the stage of this actor
   pub left_waiting : option_and_then (next_step plans actor) (slice_get (stages_of old) actor) ≡ Some next →
       option_and_then (λ (stage : Stage). step_call old.clients.items stage.known next.step) (slice_get (stages_of old) actor)
       ≡ Some asked →
@@ -205,6 +211,7 @@ set_there [] i old new g is to = tt
 set_there (x ∷ xs) zero old new g is to = ap (λ (s : Stage). s ∷ map stage_of xs) (to ∙ ap (λ a. g (stage_of a)) is)
 set_there (x ∷ xs) (suc i) old new g is to = from (slice_get (map stage_of xs) i) (set_there xs i old new g is to)
   where
+    -- by cases: the place is past the end, or one further on
     from : (o : Option Stage) → IfSome o (λ s. map stage_of (slice_set xs i new) ≡ slice_set (map stage_of xs) i (g s)) →
         IfSome o (λ s. stage_of x ∷ map stage_of (slice_set xs i new) ≡ stage_of x ∷ slice_set (map stage_of xs) i (g s))
     from None so = tt

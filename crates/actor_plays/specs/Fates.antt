@@ -14,9 +14,9 @@ use Rattle.forest_store.specs.Nodes.{after_loss}
 use Rattle.core_state.specs.Shown.{Shows}
 use Rattle.core_state.specs.State.{State}
 use Rattle.std.specs.declared.alloc.Global.{Global}
-use Rattle.event_marks.specs.declared.moment.Moment.{Moment}
-use Rattle.event_marks.specs.Marks.{AreStages, Stage}
-use Rattle.event_marks.specs.Moments.{stage_of}
+use Rattle.forced_marks.specs.declared.moment.Moment.{Moment}
+use Rattle.forced_marks.specs.Marks.{AreStages, Stage}
+use Rattle.forced_marks.specs.Moments.{stage_of}
 use Rattle.event_facts.specs.Facts.{is_lost_with}
 use Rattle.actor_plays.specs.declared.ending.Fate.{Fate}
 use Rattle.actor_plays.specs.declared.falls.Fall.{Fall}

@@ -54,6 +54,7 @@ abbrev pub planned_step : Bool → List Step → ℕ → Step → List Planned
 planned_step once steps at step =
     if is_repeat once steps at then [] else record { step = step; at = at; waits = is_repeat once steps (at + 1) } ∷ []
 
+-- the step that the plan has at this place of the script, if it has one there
 abbrev pub planned_at : Bool → List Step → ℕ → List Planned
 planned_at once steps at = option_map_or (planned_step once steps at) (slice_get steps at) []
 

@@ -91,6 +91,7 @@ pub data Plays (plans : List Plan) (clients : List ℕ) : List ℕ → List Entr
 abbrev pub stage_of : Actor → Stage
 stage_of actor = record { at = actor.at; known = known actor.state; made = actor.made.items }
 
+-- where each actor of the play is, by the order of the joins
 abbrev pub stages_of : Play → List Stage
 stages_of play = map stage_of play.actors.items
 

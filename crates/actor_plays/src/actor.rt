@@ -1,5 +1,6 @@
 //! An actor in a play.
-ghost use Rattle.std.specs.Prelude.{◌≡◌, ◌≤◌, false, true, OnOk};
+ghost use Rattle.std.specs.Prelude.{◌≡◌, ◌≤◌, false, true, IfErr, OnOk};
+ghost use Rattle.sm_names.specs.declared.outcomes.StepFault.{StepFault as Fault};
 ghost use Rattle.actor_scripts.specs.ActorStates.{step_call};
 ghost use Rattle.actor_scripts.specs.Tables.{known};
 ghost use Rattle.actor_plays.specs.Plays.{first_stage, passed, stage_after, stage_of};
@@ -60,8 +61,9 @@ impl Actor {
         asked: &StepCall,
         reply: Reply,
     ) -> Result<(), StepFault>
-        ensures { OnOk result
+        ensures stage { OnOk result
             (stage_of self.new ≡ stage_after (stage_of self.old) next asked.now reply) }
+        ensures memory { IfErr result (λ fault. fault ≡ Fault.NoMemory) }
     {
         if self.at == usize::MAX {
             return Err(StepFault::NoMemory);

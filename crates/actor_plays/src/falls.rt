@@ -1,15 +1,16 @@
 //! The nodes that an event took.
-ghost use Rattle.std.specs.Prelude.{◌≡◌, ◌++◌, map, IfOk, OnOk};
+ghost use Rattle.std.specs.Prelude.{◌≡◌, ◌++◌, map, IfErr, IfOk, OnOk};
 ghost use Rattle.std.specs.List.{filter, flat_map};
-ghost use Rattle.event_marks.specs.Moments.{stage_of};
-ghost use Rattle.event_marks.specs.Steps.{mark_told};
+ghost use Rattle.sm_names.specs.declared.outcomes.StepFault.{StepFault};
+ghost use Rattle.forced_marks.specs.Moments.{stage_of};
+ghost use Rattle.forced_marks.specs.Steps.{mark_told};
 ghost use Rattle.forest_store.specs.declared.node.Node.{Node as NodeValue};
 ghost use Rattle.forest_store.specs.Nodes.{after_loss};
 ghost use Rattle.actor_plays.specs.Fates.{AreTold, end_told, fall_told, falls_at, falls_by};
 
 use event_facts::takings::taken_under;
-use event_marks::losses::lose;
-use event_marks::{Forced, Moment};
+use forced_marks::losses::lose;
+use forced_marks::{Forced, Moment};
 use forest_store::Node;
 use sm_names::{Fault, NodeKey, StepFault};
 use std::alloc::{AllocError, Global};
@@ -107,7 +108,8 @@ pub(crate) fn note_falls(
     alloc: Global,
     moments: &Option<Vec<Moment>>,
 ) -> Result<(), StepFault>
-    ensures { OnOk result (AreTold moments.now falls.old.items falls.new.items) }
+    ensures told { OnOk result (AreTold moments.now falls.old.items falls.new.items) }
+    ensures memory { IfErr result (λ fault. fault ≡ StepFault.NoMemory) }
 {
     match moments {
         Some(moments) => match push_falls(falls, alloc, moments) {

@@ -1,7 +1,8 @@
 //! A play on a core, turn by turn.
-ghost use Rattle.std.specs.Prelude.{◌≡◌, ◌+◌, ◌≤◌, ◌&&◌, ◌∷◌, ◌++◌, [], length, option_copied, slice_get, slice_set, false, true, None, IfOk, IfSome, OnOk};
+ghost use Rattle.std.specs.Prelude.{◌≡◌, ◌+◌, ◌≤◌, ◌&&◌, ◌∷◌, ◌++◌, [], length, option_copied, slice_get, slice_set, false, true, None, Err, IfErr, IfOk, IfSome, OnOk};
 ghost use Rattle.std.specs.Option.{option_and_then, option_map, option_map_or};
 ghost use Rattle.sm_names.specs.declared.rules.TheConstants.{MAX_PAGES};
+ghost use Rattle.sm_names.specs.declared.outcomes.StepFault.{StepFault as Fault};
 ghost use Rattle.core_state.specs.Shown.{Shows};
 ghost use Rattle.actor_plays.specs.Fates.{AreFalls, fate_in};
 ghost use Rattle.actor_plays.specs.Plays.{AreJoining, Asks, AsksNothing, IsPlay, IsTurn, Stage, first_stage, has_fired as has_fired_among, is_wait as is_waiting, next_step, passed, polls as polls_for, stage_after, stage_of, stages_of};
@@ -13,7 +14,7 @@ use crate::ending::{Fate, fallen, fate_of};
 use crate::falls::{Fall, note_falls};
 use crate::plan::{Plan, Planned};
 use actor_scripts::{ActorState, Step, StepCall};
-use event_facts::take_told;
+use event_facts::step_with_marks;
 use lifetime_core::Core;
 use sm_names::{Call, ClientId, Fired, Limits, NoMemory, NodeKey, Reply, StepFault, TrackerId};
 use std::alloc::Global;
@@ -117,6 +118,8 @@ impl Play {
             ≡ self.old.entries.items ++ (client, call, reply) ∷ []) }
         ensures rest { OnOk result
             (self.new ≡ record self.old { core = self.new.core; entries = self.new.entries }) }
+        ensures full { result ≡ Err Fault.HistoryFull →
+            self.old.core.limits.events ≤ self.old.core.events }
         ensures pool { OnOk result (self.new.core.pool ≡ self.old.core.pool) }
         ensures limits { OnOk result (self.new.core.limits ≡ self.old.core.limits) }
     {
@@ -142,11 +145,13 @@ impl Play {
           entries = self.new.entries;
           falls = self.new.falls;
         }) }
+        ensures full { result ≡ Err Fault.HistoryFull →
+            self.old.core.limits.events ≤ self.old.core.events }
         ensures pool { OnOk result (self.new.core.pool ≡ self.old.core.pool) }
         ensures limits { OnOk result (self.new.core.limits ≡ self.old.core.limits) }
     {
         let made = call;
-        let told = take_told(&mut self.core, alloc, client, call)?;
+        let told = step_with_marks(&mut self.core, alloc, client, call)?;
         note_falls(&mut self.falls, alloc, &told.moments)?;
         let reply = told.reply;
         let answer = reply;
@@ -165,12 +170,14 @@ impl Play {
         ensures joining { OnOk result (AreJoining self.new) }
         ensures counted { OnOk result
             (length self.new.clients.items ≡ length self.old.clients.items + 1) }
+        ensures full { result ≡ Err Fault.HistoryFull →
+            self.old.core.limits.events ≤ self.old.core.events }
         ensures pool { OnOk result (self.new.core.pool ≡ self.old.core.pool) }
         ensures limits { OnOk result (self.new.core.limits ≡ self.old.core.limits) }
     {
         let reply = self.make_call(0, Call::Join)?;
         let Reply::Joined(client) = reply else {
-            return Err(StepFault::HistoryFull);
+            return Err(StepFault::NoMemory);
         };
         self.add_actor(alloc, client)?;
         Ok(())
@@ -184,6 +191,7 @@ impl Play {
             (stages_of self.new ≡ stages_of self.old ++ first_stage ∷ []) }
         ensures rest { OnOk result (self.new
             ≡ record self.old { clients = self.new.clients; actors = self.new.actors }) }
+        ensures memory { IfErr result (λ fault. fault ≡ Fault.NoMemory) }
     {
         let actor = Actor::new(alloc, client);
         match self.actors.push(actor) {
@@ -200,6 +208,7 @@ impl Play {
     /// Costs O(1).
     pub fn have_joined(&self, plans: &[Plan]) -> bool
         ensures count { result ≡ true → length self.now.clients.items ≡ length plans.now }
+        ensures all { length self.now.clients.items ≡ length plans.now → result ≡ true }
         ensures play { AreJoining self.now →
             length self.now.clients.items ≡ length plans.now → IsPlay plans.now self.now }
         ensures told { AreJoining self.now → AreFalls self.now.entries.items self.now.falls.items }
@@ -341,6 +350,8 @@ impl Play {
           entries = self.new.entries;
           falls = self.new.falls;
         }) }
+        ensures full { result ≡ Err Fault.HistoryFull →
+            self.old.core.limits.events ≤ self.old.core.events }
         ensures pool { OnOk result (self.new.core.pool ≡ self.old.core.pool) }
         ensures limits { OnOk result (self.new.core.limits ≡ self.old.core.limits) }
     {
@@ -365,6 +376,7 @@ impl Play {
         ensures turns { OnOk result (self.new.turns.items ≡ self.old.turns.items ++ actor ∷ []) }
         ensures rest { OnOk result (self.new
             ≡ record self.old { actors = self.new.actors; turns = self.new.turns }) }
+        ensures memory { IfErr result (λ fault. fault ≡ Fault.NoMemory) }
     {
         if self.actors.len() <= actor {
             return Err(StepFault::NoMemory);
@@ -411,6 +423,8 @@ impl Play {
         ensures turn { IfOk result (IsTurn plans.now self.old self.new actor) }
         ensures told { tells ≡ true → AreFalls self.old.entries.items self.old.falls.items →
             OnOk result (AreFalls self.new.entries.items self.new.falls.items) }
+        ensures full { result ≡ Err Fault.HistoryFull →
+            self.old.core.limits.events ≤ self.old.core.events }
         ensures pool { OnOk result (self.new.core.pool ≡ self.old.core.pool) }
         ensures limits { OnOk result (self.new.core.limits ≡ self.old.core.limits) }
     {
@@ -426,7 +440,7 @@ impl Play {
     /// play tells, the nodes that the call took are noted.
     ///
     /// The fault is that of the call, or memory was refused. Then the play is of no more use. Costs the call,
-    /// and a constant number of look-ups for each step that is passed; if the play tells, what `take_told`
+    /// and a constant number of look-ups for each step that is passed; if the play tells, what `step_with_marks`
     /// costs, and a copy of the collection for each mark of the event.
     pub fn take_turn(
         &mut self,
@@ -439,6 +453,8 @@ impl Play {
         ensures turn { IfOk result (IsTurn plans.now self.old self.new actor) }
         ensures told { tells ≡ true → AreFalls self.old.entries.items self.old.falls.items →
             OnOk result (AreFalls self.new.entries.items self.new.falls.items) }
+        ensures full { result ≡ Err Fault.HistoryFull →
+            self.old.core.limits.events ≤ self.old.core.events }
         ensures pool { OnOk result (self.new.core.pool ≡ self.old.core.pool) }
         ensures limits { OnOk result (self.new.core.limits ≡ self.old.core.limits) }
     {

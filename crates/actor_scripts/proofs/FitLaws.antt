@@ -20,7 +20,10 @@ use Rattle.actor_scripts.specs.declared.step.Step.{Step}
 use Rattle.actor_scripts.specs.declared.step.StepBuffer.{StepBuffer}
 use Rattle.actor_scripts.specs.declared.object.StepCall.{StepCall}
 use Rattle.actor_scripts.specs.declared.object.Object.{Object}
-use Rattle.actor_scripts.specs.ActorStates.{Fits, FitsACollection, FitsAToken, FitsNone, FitsObject, FitsThere, Known, NamesHandle, NamesNode, NamesNothing, argument_at, argument_held, asked_strength, bare_call, call_at, call_for, call_on, end_slot, handle_slot, is_join, object_at, slot_call, target_of, with_strength}
+use Rattle.actor_scripts.specs.ActorStates.{Fits, FitsACollection, FitsAToken, FitsNone, FitsObject, FitsThere}
+use Rattle.actor_scripts.specs.ActorStates.{Known, NamesHandle, NamesNode, NamesNothing, argument_at, argument_held}
+use Rattle.actor_scripts.specs.ActorStates.{asked_strength, bare_call, call_at, call_for, call_on, end_slot}
+use Rattle.actor_scripts.specs.ActorStates.{handle_slot, is_join, object_at, slot_call, target_of, with_strength}
 
 -- what holds of the one holds of the other
 pub takes : {A : Type 0} (P : A → Type 0) (made call : A) → Some made ≡ Some call → P made → P call
@@ -128,7 +131,8 @@ module _ (objects : List (Option Object)) where
 module _ (objects : List (Option Object)) (f : Object → Option Call) (fits : (object : Object) (call : Call) → f object ≡ Some call →
     FitsObject object call) where
   -- the call that was made of an object
-  pub fits_made : (slot : ℕ) (object : Object) (made : Option Call) (asked : StepCall) → object_at objects slot ≡ Some object → f object ≡ made →
+  pub fits_made : (slot : ℕ) (object : Object) (made : Option Call) (asked : StepCall) →
+      object_at objects slot ≡ Some object → f object ≡ made →
       option_map (λ (c : Call). record { call = c; slot = Some slot }) made ≡ Some asked → Fits objects asked.slot asked.call
   fits_made slot object None asked there is so = cc
   fits_made slot object (Some call) asked there is so =
@@ -137,7 +141,8 @@ module _ (objects : List (Option Object)) (f : Object → Option Call) (fits : (
 
   -- of what lies in the slot
   pub fits_lying : (slot : ℕ) (there : Option Object) (asked : StepCall) → object_at objects slot ≡ there →
-      option_and_then (λ (object : Object). option_map (λ (c : Call). record { call = c; slot = Some slot }) (f object)) there ≡ Some asked →
+      option_and_then (λ (object : Object). option_map (λ (c : Call). record { call = c; slot = Some slot }) (f object)) there
+      ≡ Some asked →
       Fits objects asked.slot asked.call
   fits_lying slot None asked is so = cc
   fits_lying slot (Some object) asked is so = fits_made slot object (f object) asked is refl so

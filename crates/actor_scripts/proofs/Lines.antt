@@ -14,7 +14,8 @@ module _ (so_far : Reading) (rest : List ℕ) where
   module _ (at : ℕ) (found : position is_end rest ≡ Some at) where
     -- the reader takes the first line, then reads the rest from the reading that it leads to
     by_line : script_actors_from so_far rest ≡ actors_after (rest_from [] (drop (at + 1) rest))
-        (option_map_or (λ next. after_lines next (lines_from [] (drop (at + 1) rest))) (after_line so_far (take at rest)) (Err (so_far.lines + 1)))
+        (option_map_or (λ next. after_lines next (lines_from [] (drop (at + 1) rest)))
+        (after_line so_far (take at rest)) (Err (so_far.lines + 1)))
     by_line =
         let ends = ends_found [] rest at found in
         ap (λ (ls : List (List ℕ)). actors_after (rest_from [] rest) (after_lines so_far ls)) ends.lines

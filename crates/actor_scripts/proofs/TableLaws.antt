@@ -1,5 +1,6 @@
 -- Tables, and what is known by them.
-use Rattle.std.proofs.Common.{ℕ, suc, ◌≡◌, ◌<◌, ◌+◌, ◌-◌, ◌∙◌, refl, ap, sym, Bool, true, false, if◌then◌else◌, ◌==◌, List, [], ◌∷◌, ◌++◌, append_assoc, append-nil, map, Option, Some, None, arith}
+use Rattle.std.proofs.Common.{ℕ, suc, ◌≡◌, ◌<◌, ◌+◌, ◌-◌, ◌∙◌, refl, ap, sym, Bool, true, false, if◌then◌else◌}
+use Rattle.std.proofs.Common.{◌==◌, List, [], ◌∷◌, ◌++◌, append_assoc, append-nil, map, Option, Some, None, arith}
 use Rattle.std.specs.Int.{bit_at}
 use Rattle.sm_names.specs.declared.rules.TheConstants.{MAX_BUFFERS}
 use Rattle.sm_names.specs.declared.keys.BufferName.{BufferName}
@@ -9,7 +10,9 @@ use Rattle.actor_scripts.specs.declared.object.Object.{Object}
 use Rattle.sm_names.specs.declared.messages.Reply.{Reply}
 use Rattle.actor_scripts.specs.declared.step.Step.{Step}
 use Rattle.actor_scripts.specs.declared.object.StepCall.{StepCall}
-use Rattle.actor_scripts.specs.ActorStates.{Known, state_after, emptied, new_objects, handle_of, handles_from, on_of, spends_object, without_spent, objects_after, with_node_label, with_object, with_objects, with_tracker_label, without_handle, without_object}
+use Rattle.actor_scripts.specs.ActorStates.{Known, state_after, emptied, new_objects, handle_of, handles_from, on_of}
+use Rattle.actor_scripts.specs.ActorStates.{spends_object, without_spent, objects_after, with_node_label, with_object}
+use Rattle.actor_scripts.specs.ActorStates.{with_objects, with_tracker_label, without_handle, without_object}
 use Rattle.actor_scripts.specs.Tables.{both_of, queues_of}
 
 -- with no handle of either strength there is none

@@ -89,6 +89,7 @@ abbrev pub actors_after : List ℕ → Result Reading ℕ → Result Actors ℕ
 actors_after rest (Ok so_far) = actors_at_end rest so_far
 actors_after rest (Err number) = Err number
 
+-- the actors that the rest of a script leads to: those after its whole lines and its last part
 abbrev pub script_actors_from : Reading → List ℕ → Result Actors ℕ
 script_actors_from so_far script = actors_after (last_part script) (after_lines so_far (whole_lines script))
 

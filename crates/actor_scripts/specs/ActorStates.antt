@@ -328,10 +328,12 @@ abbrev pub FitsAnyEnd : NodeKey → Target → Named NodeKey BufferName → Type
 FitsAnyEnd key Target.End object = NamesNode key object
 FitsAnyEnd key _ object = ⊥
 
+-- calls on a token, or on an end of any kind, that name this node
 abbrev pub FitsAToken : NodeKey → Target → Named NodeKey BufferName → Type 0
 FitsAToken key Target.Token object = NamesNode key object
 FitsAToken key on object = FitsAnyEnd key on object
 
+-- calls on a collection, or on an end of any kind, that name this node
 abbrev pub FitsACollection : NodeKey → Target → Named NodeKey BufferName → Type 0
 FitsACollection key Target.Collection object = NamesNode key object
 FitsACollection key on object = FitsAnyEnd key on object

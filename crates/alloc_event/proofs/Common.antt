@@ -1,5 +1,7 @@
 -- The names that several proofs of this crate cite, passed on from one place. Declares nothing.
-pub use Rattle.std.proofs.Common.{Bool, Err, List, None, Ok, Option, Result, Some, [], ap, arith, cond, false, get_or, is_some, length, map, nat_lt, not, option_map, refl, subst, suc, sym, true, zero, ℕ, ◌++◌, ◌+◌, ◌<◌, ◌==◌, ◌||◌, ◌∙◌, ◌∷◌, ◌≡◌, ◌≢◌}
+pub use Rattle.std.proofs.Common.{Bool, Err, List, None, Ok, Option, Result, Some, [], ap, arith, cond}
+pub use Rattle.std.proofs.Common.{false, get_or, is_some, length, map, nat_lt, not, option_map, refl, subst}
+pub use Rattle.std.proofs.Common.{suc, sym, true, zero, ℕ, ◌++◌, ◌+◌, ◌<◌, ◌==◌, ◌||◌, ◌∙◌, ◌∷◌, ◌≡◌, ◌≢◌}
 pub use Rattle.std.proofs.lemmas.Bool.{eqb-true, false≢true}
 pub use Rattle.std.specs.List.{AllByRecursion, filter, find}
 pub use Rattle.std.specs.Option.{option_map_or}
@@ -10,7 +12,8 @@ pub use Rattle.sm_names.specs.declared.keys.NodeKey.{NodeKey}
 pub use Rattle.node_table.specs.Table.{Table, node_at}
 pub use Rattle.forest_store.specs.Counts.{AreUnits}
 pub use Rattle.forest_store.specs.Forest.{Collection, Forest, collection_at, is_left, on_collections, with_nodes}
-pub use Rattle.forest_store.specs.Shelves.{AreRising, Finishes, Gives, IsStored, Shelf, all_keys, are_filed, collection_in, forest_of, nodes_with, place_in, shelf_of, shelves_of}
+pub use Rattle.forest_store.specs.Shelves.{AreRising, Finishes, Gives, IsStored, Shelf, all_keys, are_filed}
+pub use Rattle.forest_store.specs.Shelves.{collection_in, forest_of, nodes_with, place_in, shelf_of, shelves_of}
 pub use Rattle.forest_store.specs.Nodes.{is_of, is_over, with_end}
 pub use Rattle.forest_store.specs.Settling.{Handles, Settled, collection_or_new, with_birth}
 pub use Rattle.forest_store.specs.declared.change.Change.{Change}

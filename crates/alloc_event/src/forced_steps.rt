@@ -33,7 +33,7 @@ fn reserve(store: &Store, room: &mut Scratch) -> Result<(), NoMemory>
 
 /// Makes a loss, with all that it forces. `NoMemory` if room for the removed nodes is refused; then
 /// nothing changed.
-#[inline(always)]
+#[inline(never)]
 pub(crate) fn settle_loss(
     store: &mut Store,
     at: usize,
@@ -197,7 +197,7 @@ fn settle_uncounted(
 }
 
 /// Makes an effect, with all that it forces, as `settle_effect` does: it works out the counts after it.
-#[inline(always)]
+#[inline(never)]
 fn settle_counted(
     store: &mut Store,
     at: usize,

@@ -20,6 +20,7 @@ use forest_store::change::Change;
 use forest_store::entry::{entry_of, place_of};
 use forest_store::garbage::{forget_over, list_garbage, take_out};
 use forest_store::insertion::Birth;
+use forest_store::key_list::KeyList;
 use forest_store::lookup::{copy_out, held_by_page, kept_nodes, live_by_birth, pages_beside};
 use forest_store::node::{End, Node};
 use forest_store::snapshot::Snapshot;
@@ -36,6 +37,8 @@ pub struct Forest {
     store: Store,
     // The lists that an event works with, reserved before it.
     room: Scratch,
+    // Room for the keys of the next collection: that of the one which was forgotten last.
+    spare: KeyList,
 }
 
 impl Model for Forest {
@@ -66,6 +69,7 @@ impl Forest {
                 entries: Vec::new(alloc),
             },
             room: Scratch::new(alloc),
+            spare: KeyList::new(alloc),
         }
     }
 
@@ -132,7 +136,8 @@ impl Forest {
                 client,
                 event,
             };
-            let key = settle_birth(store, pool, holds, collection, birth, keys)?;
+            let spare = &mut self.spare;
+            let key = settle_birth(store, pool, holds, collection, birth, keys, spare)?;
             return Ok(Some(key));
         }
         let room = &mut self.room;
@@ -359,6 +364,12 @@ impl Forest {
         ensures collections { self.new.collections ≡ without_over_in id self.old.collections }
         ensures keys { SameKeys self.old self.new }
     {
-        forget_over(&mut self.store.nodes.table, &mut self.store.entries, id);
+        let store = &mut self.store;
+        forget_over(
+            &mut store.nodes.table,
+            &mut store.entries,
+            id,
+            &mut self.spare,
+        );
     }
 }

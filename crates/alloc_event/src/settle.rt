@@ -20,6 +20,7 @@ use forest_steps::scratch::Scratch;
 use forest_store::change::Change;
 use forest_store::entry::place_of;
 use forest_store::insertion::{Birth, insert_counted};
+use forest_store::key_list::KeyList;
 use forest_store::store::Store;
 use forest_store::unit_counts::{bound, reach};
 use sm_names::{BufferName, CollectionId, Fault, NoMemory, NodeKey};
@@ -59,7 +60,7 @@ pub(crate) fn settle_change(
 /// Makes the birth of a node, and all that it forces: if no strong node of the collection is live then, its
 /// buffers may be abandoned, or home. `NoMemory` leaves the table and the pool as they were, and the
 /// entries and the counts of units except for their room.
-#[inline(always)]
+#[inline(never)]
 pub(crate) fn settle_birth(
     store: &mut Store,
     pool: &mut Pool,
@@ -67,6 +68,7 @@ pub(crate) fn settle_birth(
     id: CollectionId,
     birth: Birth,
     keys: &mut Vec<NodeKey>,
+    spare: &mut KeyList,
 ) -> Result<NodeKey, NoMemory>
     requires forest { IsResting store.old }
     requires change { MayChange (forest_in store.old) id (birth_change birth) }
@@ -78,7 +80,7 @@ pub(crate) fn settle_birth(
     ensures err { OnErr result (UnbornIn pool.old pool.new store.old store.new) }
 {
     reach(&mut store.nodes.units, store.nodes.table.next_slot())?;
-    let key = insert_counted(store, id, birth)?;
+    let key = insert_counted(store, id, birth, spare)?;
     bound(&store.nodes.table);
     let Some(at) = place_of(&store.entries, id) else {
         unreachable!();

@@ -12,12 +12,15 @@ abbrev pub FieldsAgree : (limit most newest places free : ℕ) → List (Hold ×
 FieldsAgree limit most newest places free rows tallies =
     CountsInvariant limit rows tallies × TotalsAreUpTo most tallies × (places ≤ free) × NoneIsNewer newest tallies × (most ≤ limit)
 
-module _ (limit most most' newest newest' places places' free free' : ℕ) (rows rows' : List (Hold × ℕ)) (tallies tallies' : List (HandleKind × Tally))
-    (was : FieldsAgree limit most newest places free rows tallies) (grows : most ≤ most') (bounded : most' ≤ limit) (newer : newest ≤ newest')
+module _ (limit most most' newest newest' places places' free free' : ℕ) (rows rows' : List (Hold × ℕ))
+    (tallies tallies' : List (HandleKind × Tally))
+    (was : FieldsAgree limit most newest places free rows tallies) (grows : most ≤ most')
+    (bounded : most' ≤ limit) (newer : newest ≤ newest')
     (fits : places' ≤ free') where
   -- a step changes no other row and no other tally
   pub agree_after : (hold : Hold) (row' : Option ℕ) (tally' : Tally) → Step limit rows rows' tallies tallies' hold row' (Some tally')
-      → tally'.total ≤ most' → (newest' < hold.kind.buffer.collection → tally'.total ≡ 0) → FieldsAgree limit most' newest' places' free' rows' tallies'
+      → tally'.total ≤ most' → (newest' < hold.kind.buffer.collection → tally'.total ≡ 0) →
+      FieldsAgree limit most' newest' places' free' rows' tallies'
   agree_after hold row' tally' step within none = (
     sound_after step,
     up_to_after most most' tallies tallies' hold.kind _ (Some tally') step.retallies grows within was.1,

@@ -17,7 +17,8 @@ use Rattle.buffer_holds.proofs.Steps.{Step, Step-raised}
 abbrev pub landed : Tally → ℕ → Tally
 landed tally more = record { total = tally.total; moving = tally.moving - 1; clients = tally.clients + more }
 
-module _ (limit : ℕ) (rows : List (Hold × ℕ)) (tallies : List (HandleKind × Tally)) (sound : CountsInvariant limit rows tallies) (client : ℕ)
+module _ (limit : ℕ) (rows : List (Hold × ℕ)) (tallies : List (HandleKind × Tally))
+    (sound : CountsInvariant limit rows tallies) (client : ℕ)
     (buffer : BufferName) (strength : Strength) {places : ℕ} {old : Counts} (view : counts_with limit places rows tallies ≡ old)
     (some : 0 < moving_count old buffer strength) where
   -- the tally says that one of these handles is in a parcel
@@ -47,8 +48,10 @@ module _ (limit : ℕ) (rows : List (Hold × ℕ)) (tallies : List (HandleKind �
 
   -- one row and one tally change
   pub Step-landed : (rows' : List (Hold × ℕ)) (tallies' : List (HandleKind × Tally)) (tally : Tally) (more : ℕ)
-      → tally_at tallies (kind_of buffer strength) ≡ tally → more ≡ length rows' - length rows → Raises rows rows' (hold_of client buffer strength)
-      → Resets same_handle_kind tallies tallies' (kind_of buffer strength) (tally_row tallies (kind_of buffer strength)) (Some (landed tally more))
+      → tally_at tallies (kind_of buffer strength) ≡ tally → more ≡ length rows' - length rows →
+      Raises rows rows' (hold_of client buffer strength)
+      → Resets same_handle_kind tallies tallies' (kind_of buffer strength)
+      (tally_row tallies (kind_of buffer strength)) (Some (landed tally more))
       → Step limit rows rows' tallies tallies' (hold_of client buffer strength) (Some (count_at rows (hold_of client buffer strength) + 1))
       (Some (landed tally more))
   Step-landed rows' tallies' tally more kept longer raises resets =

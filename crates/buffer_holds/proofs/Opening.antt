@@ -8,7 +8,8 @@ use Rattle.buffer_holds.specs.Sound.{CountsInvariant, tally_at}
 use Rattle.buffer_holds.specs.Stored.{one_more, OpensOne}
 use Rattle.buffer_holds.proofs.Steps.{Step, Step-raised}
 
-module _ (limit : ℕ) (rows rows' : List (Hold × ℕ)) (tallies tallies' : List (HandleKind × Tally)) (sound : CountsInvariant limit rows tallies)
+module _ (limit : ℕ) (rows rows' : List (Hold × ℕ)) (tallies tallies' : List (HandleKind × Tally))
+    (sound : CountsInvariant limit rows tallies)
     (hold : Hold)
     (raises : Raises rows rows' hold) (opens : OpensOne rows rows' tallies tallies' hold.kind) (room : (tally_at tallies hold.kind).total ≢
     limit) where

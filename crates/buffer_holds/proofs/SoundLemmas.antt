@@ -1,5 +1,6 @@
 -- What the sound fields say of counts and tallies.
-use Rattle.std.proofs.Common.{◌≡◌, ◌+◌, ◌≤◌, ◌<◌, refl, sym, ap, ◌∙◌, ℕ, Bool, true, false, cond, not, List, [], ◌∷◌, Option, Some, None, arith, sum_by, length, IsSome, is_some, if◌then◌else◌, unwrap_or}
+use Rattle.std.proofs.Common.{◌≡◌, ◌+◌, ◌≤◌, ◌<◌, refl, sym, ap, ◌∙◌, ℕ, Bool, true, false, cond, not, List, [], ◌∷◌}
+use Rattle.std.proofs.Common.{Option, Some, None, arith, sum_by, length, IsSome, is_some, if◌then◌else◌, unwrap_or}
 use Rattle.std.proofs.lemmas.List.Sums.{sum_by-cons}
 use Rattle.std.proofs.lemmas.Map.Made.{lookup-map_values}
 use Rattle.std.specs.Option.{option_map}
@@ -51,6 +52,7 @@ moving_is limit rows tallies buffer strength =
     ap (λ o. unwrap_or o 0) (lookup-map_values (λ (t : Tally). t.moving) (same_handle_kind (kind_of buffer strength)) tallies)
     ∙ mapped (lookup (same_handle_kind (kind_of buffer strength)) tallies)
   where
+    -- by cases: no tally has none in parcels
     mapped : (o : Option Tally) → unwrap_or (option_map (λ (t : Tally). t.moving) o) 0 ≡ (unwrap_or o no_tally).moving
     mapped None = refl
     mapped (Some t) = refl
@@ -89,6 +91,7 @@ sum_by-one_of-le-length kind [] = omega arith
 sum_by-one_of-le-length kind (row ∷ rows) =
     omega (arith, sum_by-one_of-le-length kind rows, sum_by-cons (one_of kind) row rows, at_most_one (same_handle_kind row.0.kind kind))
   where
+    -- by cases on the test
     at_most_one : (b : Bool) → cond b 1 0 ≤ 1
     at_most_one true = omega arith
     at_most_one false = omega arith
@@ -104,6 +107,7 @@ sum_by-share-none kind (row ∷ rows) none =
       apart (same_handle_kind row.0.kind kind) (omega (arith, none, sum_by-cons (one_of kind) row rows)),
     )
   where
+    -- by cases: a row of the kind would count 1
     apart : (b : Bool) → ◌≡◌ {A = ℕ} (cond b 1 0) 0 → ◌≡◌ {A = ℕ} (cond b row.1 0) 0
     apart true e = absurd (omega (arith, e))
     apart false e = refl
@@ -113,7 +117,8 @@ pub kept_from_something : (row : Option Tally) → 0 < (unwrap_or row no_tally).
 kept_from_something None some = absurd (omega arith)
 kept_from_something (Some tally) some = refl
 
-module _ (limit : ℕ) (rows : List (Hold × ℕ)) (tallies : List (HandleKind × Tally)) (sound : CountsInvariant limit rows tallies) (hold : Hold) where
+module _ (limit : ℕ) (rows : List (Hold × ℕ)) (tallies : List (HandleKind × Tally))
+    (sound : CountsInvariant limit rows tallies) (hold : Hold) where
   -- a client's handles and those in parcels are at most all
   pub count_at-le-total : count_at rows hold + (tally_at tallies hold.kind).moving ≤ (tally_at tallies hold.kind).total
   count_at-le-total =

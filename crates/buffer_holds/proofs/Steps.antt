@@ -1,5 +1,6 @@
 -- One row and the tally of its kind change together.
-use Rattle.std.proofs.Common.{◌≡◌, ◌+◌, ◌≤◌, ◌-◌, ◌<◌, refl, sym, ap, subst, ◌∙◌, ℕ, Bool, true, false, cond, zero, suc, ◌==◌, ◌&&◌, sum_by, length, List, Option, Some, None, arith, IsSome, unwrap_or, is_some, ◌||◌, nat_lt}
+use Rattle.std.proofs.Common.{◌≡◌, ◌+◌, ◌≤◌, ◌-◌, ◌<◌, refl, sym, ap, subst, ◌∙◌, ℕ, Bool, true, false, cond, zero, suc, ◌==◌}
+use Rattle.std.proofs.Common.{◌&&◌, sum_by, length, List, Option, Some, None, arith, IsSome, unwrap_or, is_some, ◌||◌, nat_lt}
 use Rattle.std.specs.Map.{lookup}
 use Rattle.std.proofs.lemmas.Bool.{and_parts, eqb-true}
 use Rattle.sm_names.specs.declared.keys.BufferName.{BufferName}
@@ -14,7 +15,8 @@ use Rattle.buffer_holds.specs.Rows.{Resets, Raises, row_at, count_at}
 use Rattle.buffer_holds.specs.Sound.{Tallies, CountsInvariant, tally_at, tally_row, no_tally, one_of, is_idle, without_client}
 use Rattle.buffer_holds.proofs.KindLemmas.{same_kind-one, same_hold-one, same_kind-refl}
 use Rattle.buffer_holds.proofs.Places.{sent_after}
-use Rattle.buffer_holds.proofs.SoundLemmas.{one_row, one_row-some, one_row-added, one_row-le-clients, weight_at-share, weight_at-one_of, sum_by-share-none, counts_of, counts_with, moving_is, total_is}
+use Rattle.buffer_holds.proofs.SoundLemmas.{one_row, one_row-some, one_row-added, one_row-le-clients, weight_at-share}
+use Rattle.buffer_holds.proofs.SoundLemmas.{weight_at-one_of, sum_by-share-none, counts_of, counts_with, moving_is, total_is}
 
 -- the tally keeps up with the row
 pub record KeepsUp (limit : ℕ) (row row' : Option ℕ) (tally tally' : Tally) : Type 0 where
@@ -31,7 +33,8 @@ pub record Step (limit : ℕ) (rows rows' : List (Hold × ℕ)) (tallies tallies
   pub keeps : KeepsUp limit (row_at rows hold) row' (tally_at tallies hold.kind) (unwrap_or tally' no_tally)
   pub needed : IsSome tally' → 0 < (unwrap_or tally' no_tally).clients + (unwrap_or tally' no_tally).moving
 
-module _ (limit : ℕ) (rows rows' : List (Hold × ℕ)) (tallies tallies' : List (HandleKind × Tally)) (sound : CountsInvariant limit rows tallies)
+module _ (limit : ℕ) (rows rows' : List (Hold × ℕ)) (tallies tallies' : List (HandleKind × Tally))
+    (sound : CountsInvariant limit rows tallies)
     (hold : Hold) (tally' : Tally)
     (retallies : Resets same_handle_kind tallies tallies' hold.kind (tally_row tallies hold.kind) (Some tally')) where
   -- one handle of the client less
@@ -75,7 +78,8 @@ module _ (limit : ℕ) (rows rows' : List (Hold × ℕ)) (tallies tallies' : Lis
   }
 
 -- a row of 0 is removed, and with it a tally without rows
-module _ (limit : ℕ) (rows rows' : List (Hold × ℕ)) (tallies tallies' : List (HandleKind × Tally)) (sound : CountsInvariant limit rows tallies)
+module _ (limit : ℕ) (rows rows' : List (Hold × ℕ)) (tallies tallies' : List (HandleKind × Tally))
+    (sound : CountsInvariant limit rows tallies)
     (hold : Hold)
     (idle : row_at rows hold ≡ Some 0) (resets : Resets same_hold rows rows' hold (row_at rows hold) None)
     (retallies : Resets same_handle_kind tallies tallies' hold.kind (tally_row tallies hold.kind)
@@ -303,7 +307,8 @@ module _ {limit : ℕ} {rows rows' : List (Hold × ℕ)} {tallies tallies' : Lis
 
   -- what is in parcels
   pub moving_after : (b : BufferName) (s : Strength)
-      → moving_count (counts_of limit rows' tallies') b s ≡ cond (same_handle_kind hold.kind (kind_of b s)) (unwrap_or tally' no_tally).moving
+      → moving_count (counts_of limit rows' tallies') b s
+      ≡ cond (same_handle_kind hold.kind (kind_of b s)) (unwrap_or tally' no_tally).moving
       (moving_count (counts_of limit rows tallies) b s)
   moving_after b s =
       moving_is limit rows' tallies' b s
@@ -317,7 +322,8 @@ module _ {limit : ℕ} {rows rows' : List (Hold × ℕ)} {tallies tallies' : Lis
   total_after b s =
       total_is limit rows' tallies' sound_after b s
       ∙ number_after (λ t. t.total) (kind_of b s)
-      ∙ ap (cond (same_handle_kind hold.kind (kind_of b s)) (unwrap_or tally' no_tally).total) (sym (total_is limit rows tallies step.sound b s))
+      ∙ ap (cond (same_handle_kind hold.kind (kind_of b s)) (unwrap_or tally' no_tally).total)
+      (sym (total_is limit rows tallies step.sound b s))
 
 -- what contracts see of a step
 module _ {limit : ℕ} {rows rows' : List (Hold × ℕ)} {tallies tallies' : List (HandleKind × Tally)} {row' : Option ℕ} {tally' : Option Tally}
@@ -332,14 +338,17 @@ module _ {limit : ℕ} {rows rows' : List (Hold × ℕ)} {tallies tallies' : Lis
       (in_parcels (moving_count old buffer strength)) (in_all (total old buffer strength))
   sets_by {places'} held in_parcels in_all is_held is_moving is_total =
       let before = counts_with limit places rows tallies in
-      subst (λ counts. Sets counts (counts_with limit places' rows' tallies') client buffer strength (held (of counts client buffer strength))
+      subst (λ counts. Sets counts (counts_with limit places' rows' tallies') client buffer strength
+      (held (of counts client buffer strength))
       (in_parcels (moving_count counts buffer strength)) (in_all (total counts buffer strength))) view (record {
         limit = refl;
         counts = λ c b s. of_after step c b s
             ∙ ap (λ o. cond (same_hold (hold_of client buffer strength) (hold_of c b s)) (unwrap_or o 0) (of before c b s)) is_held;
-        parcels = λ b s. moving_after step b s ∙ ap (λ n. cond (same_handle_kind (kind_of buffer strength) (kind_of b s)) n (moving_count before b s))
+        parcels = λ b s. moving_after step b s
+            ∙ ap (λ n. cond (same_handle_kind (kind_of buffer strength) (kind_of b s)) n (moving_count before b s))
             (is_moving ∙ ap in_parcels (sym (moving_is limit rows tallies buffer strength)));
-        totals = λ b s. total_after step b s ∙ ap (λ n. cond (same_handle_kind (kind_of buffer strength) (kind_of b s)) n (total before b s))
+        totals = λ b s. total_after step b s
+            ∙ ap (λ n. cond (same_handle_kind (kind_of buffer strength) (kind_of b s)) n (total before b s))
             (is_total ∙ ap in_all (sym (total_is limit rows tallies step.sound buffer strength)));
         sent = omega (
           arith,

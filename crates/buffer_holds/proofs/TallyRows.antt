@@ -1,5 +1,6 @@
 -- What the calls of the map of tallies find and write, by the specs' own test of kinds.
-use Rattle.std.proofs.Common.{◌≡◌, ◌<◌, ◌+◌, ◌∙◌, ℕ, refl, sym, ap, subst, Option, None, Some, IfSome, IfNone, IsSome, slice_get, unwrap_or, Bor, MutBor}
+use Rattle.std.proofs.Common.{◌≡◌, ◌<◌, ◌+◌, ◌∙◌, ℕ, refl, sym, ap, subst, Option, None, Some}
+use Rattle.std.proofs.Common.{IfSome, IfNone, IsSome, slice_get, unwrap_or, Bor, MutBor}
 use Rattle.std.specs.Map.{lookup}
 use Rattle.std.specs.Map.Iter.{deref_pair}
 use Rattle.std.specs.Option.{option_copied_mut, option_map}
@@ -57,7 +58,8 @@ module _ {S : Type 0} (tallies : HashMap HandleKind Tally S) (kind : HandleKind)
       option_copied_mut lent ≡ slice_get (values tallies) place
       → IsUnique derived.it tallies → (tally : MutBor Tally) → lent ≡ Some tally → tally_at tallies.entries kind ≡ tally.now
   tally_lent_at place there lent value unique tally is =
-      ap (λ o. unwrap_or o no_tally) (lookup_placed derived.it same_handle_kind derived_kind same_kind-one same_kind-refl tallies tallies kind
+      ap (λ o. unwrap_or o no_tally)
+      (lookup_placed derived.it same_handle_kind derived_kind same_kind-one same_kind-refl tallies tallies kind
       place there.0 there.1 unique)
       ∙ sym (value_lent_at tallies place kind there.0 there.1 lent value tally is)
 
@@ -86,7 +88,9 @@ module _ {S : Type 0} (tallies : HashMap HandleKind Tally S) (kind : HandleKind)
 
       -- what is written there
       pub row_written : (after : Tally)
-          → Resets same_handle_kind tallies.entries (set_value_at tallies.entries place after) kind (tally_row tallies.entries kind) (Some after)
+          → Resets same_handle_kind tallies.entries (set_value_at tallies.entries place after) kind
+          (tally_row tallies.entries kind) (Some after)
       row_written after =
-          resets_placed derived.it same_handle_kind derived_kind same_kind-one same_kind-refl tallies tallies kind place placed.0 placed.1 unique
+          resets_placed derived.it same_handle_kind derived_kind same_kind-one same_kind-refl
+          tallies tallies kind place placed.0 placed.1 unique
           after

@@ -44,7 +44,8 @@ pub struct Holds {
     limit: u32,
     // No more than this many of one kind were ever open: the limit at most.
     most: u32,
-    // No handle was ever opened on a buffer of a collection with a greater id.
+    // No handle was ever opened on a buffer of a collection with a greater id. Most collections from which nobody took
+    // are newer, and need no look-up.
     newest: CollectionId,
     // As many places are free among the rows.
     places: u32,
@@ -160,7 +161,7 @@ impl Holds {
     }
 
     /// Whether it is known of each kind of handle that fewer are open than may be. It is, until as many
-    /// of one kind were open at once. It costs O(1).
+    /// of one kind were open at once. Costs O(1).
     pub fn have_room(&self) -> bool
         ensures { result ≡ true →
             (buffer : BufferName) (strength : Strength) →
@@ -367,6 +368,7 @@ impl Holds {
 
     /// Makes a place for a handle that lands, of whatever client, buffer and strength: `places` is one
     /// more. `NoMemory` changes nothing. O(1), unless the table of rows grows.
+    #[inline(always)]
     pub fn reserve_landing(&mut self) -> Result<(), NoMemory>
         ensures ok { OnOk result (self.new ≡ record self.old {
           places = self.old.places + 1;
@@ -385,7 +387,7 @@ impl Holds {
 
     /// Puts one of the client's handles into a parcel, where it is open and belongs to nobody, and
     /// answers whether it had one. Without one nothing changes. The client keeps its room until
-    /// `tidy`. It takes no memory. Two look-ups.
+    /// `tidy`. Takes no memory. Two look-ups.
     ///
     /// It makes no place for the handle where it lands: `reserve_landing` does.
     pub fn lift(&mut self, client: ClientId, buffer: BufferName, strength: Strength) -> bool

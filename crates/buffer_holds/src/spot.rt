@@ -15,7 +15,7 @@ pub struct Spot {
 }
 
 impl Spot {
-    /// Before the first look-up: nothing was found yet. It takes no memory.
+    /// Before the first look-up: nothing was found yet. Takes no memory.
     pub fn new() -> Spot
         ensures { result ≡ record { row = 0; tally = 0 } }
     {

@@ -1,5 +1,6 @@
 -- What stays true while buffers are placed one after another.
-use Rattle.std.proofs.Common.{ℕ, zero, suc, ◌≡◌, ◌+◌, ◌-◌, ◌*◌, ◌<◌, ◌≤◌, refl, ap, sym, subst, ◌∙◌, List, [], ◌∷◌, ◌++◌, length, get_or, inl, inr, arith, append_assoc}
+use Rattle.std.proofs.Common.{ℕ, zero, suc, ◌≡◌, ◌+◌, ◌-◌, ◌*◌, ◌<◌, ◌≤◌, refl, ap, sym, subst, ◌∙◌}
+use Rattle.std.proofs.Common.{List, [], ◌∷◌, ◌++◌, length, get_or, inl, inr, arith, append_assoc}
 use Rattle.std.specs.Prelude.{All}
 use Rattle.std.specs.List.{prefix_len}
 use Rattle.std.specs.List.Sorted.{IsNonDecreasingBy}
@@ -107,7 +108,8 @@ filling_run size pages count (suc n) next left holes0 held0 looks starts holes h
     c0 cs ch cd one refl f' in
     let sum : looks + (at + 1) + looks_in pages n (taken pages holes) ≡ looks + (at + 1 + looks_in pages n (taken pages holes)) =
     omega arith in
-    let joined : (starts ++ start ∷ []) ++ starts_in pages n (taken pages holes) ≡ starts ++ (start ∷ starts_in pages n (taken pages holes)) =
+    let joined : (starts ++ start ∷ []) ++ starts_in pages n (taken pages holes)
+    ≡ starts ++ (start ∷ starts_in pages n (taken pages holes)) =
     append_assoc starts (start ∷ []) (starts_in pages n (taken pages holes)) in
     subst (λ s. IsFilling size pages count next holes0 held0 (looks + (at + 1 + looks_in pages n (taken pages holes))) s
     (holes_after pages n (taken pages holes)) (with_buffers pages (starts_in pages n (taken pages holes)) held') c0 cs ch cd) joined

@@ -1,5 +1,6 @@
 -- Searches among blocks.
-use Rattle.std.proofs.Common.{ℕ, ◌≡◌, ◌+◌, ◌-◌, ◌<◌, ◌≤◌, ap, sym, ◌∙◌, List, [], length, get_or, take, drop, inl, inr, arith, nat_lt, true, false}
+use Rattle.std.proofs.Common.{ℕ, ◌≡◌, ◌+◌, ◌-◌, ◌<◌, ◌≤◌, ap, sym, ◌∙◌, List, [], length}
+use Rattle.std.proofs.Common.{get_or, take, drop, inl, inr, arith, nat_lt, true, false}
 use Rattle.std.specs.Prelude.{All}
 use Rattle.std.specs.List.{prefix_len}
 use Rattle.std.specs.List.Sorted.{IsNonDecreasingBy}

@@ -1,5 +1,6 @@
 -- First fit on a list of holes.
-use Rattle.std.proofs.Common.{ℕ, ◌≡◌, ◌+◌, ◌-◌, ◌/◌, ◌<◌, ◌≤◌, refl, ap, sym, subst, ◌∙◌, true, List, [], ◌∷◌, ◌++◌, length, get_or, take, inl, inr, arith, one-add}
+use Rattle.std.proofs.Common.{ℕ, ◌≡◌, ◌+◌, ◌-◌, ◌/◌, ◌<◌, ◌≤◌, refl, ap, sym, subst, ◌∙◌, true}
+use Rattle.std.proofs.Common.{List, [], ◌∷◌, ◌++◌, length, get_or, take, inl, inr, arith, one-add}
 use Rattle.std.specs.Prelude.{All}
 use Rattle.std.specs.List.{prefix_len}
 use Rattle.std.proofs.Math.Nat.{div-eq_of_lt}
@@ -139,6 +140,7 @@ all-small pages most hs all lt =
     sym (prefix_len_is (too_small pages) hs (length hs) none (omega arith) (λ k less. lt-ltb _ _ (at k none less))
     (λ more. absurd (omega arith)))
   where
+    -- since a hole has at most the greatest number of pages
     at : (k : ℕ) (d : Interval) → k < length hs → (get_or hs k d).pages < pages
     at k d less = let few : (get_or hs k d).pages ≤ most = all k d less in omega arith
 
@@ -167,9 +169,11 @@ pub passed-front : (pages n : ℕ) (hs ks : List Interval) → n ≤ prefix_len 
 passed-front pages n hs ks le within same =
     search_passes_many pages 0 n ks none (omega arith) (omega arith) within small
   where
+    -- any interval, for places past the end
     none : Interval
     none = record { start = 0; pages = 0 }
 
+    -- since the fronts are the same, and what is passed is too small
     small : AreSmall pages 0 n ks
     small k d from to =
         let in_it : k < length hs = omega (arith, prefix_len-le-length (too_small pages) hs) in

@@ -1,5 +1,6 @@
 -- The holes between intervals in order of page.
-use Rattle.std.proofs.Common.{ℕ, zero, suc, ◌≡◌, ◌+◌, ◌-◌, ◌/◌, ◌<◌, ◌≤◌, refl, ◌∙◌, true, false, List, [], ◌∷◌, ◌++◌, length, get_or, inl, inr, arith, nat_lt, ◌==◌}
+use Rattle.std.proofs.Common.{ℕ, zero, suc, ◌≡◌, ◌+◌, ◌-◌, ◌/◌, ◌<◌, ◌≤◌, refl, ◌∙◌, true, false}
+use Rattle.std.proofs.Common.{List, [], ◌∷◌, ◌++◌, length, get_or, inl, inr, arith, nat_lt, ◌==◌}
 use Rattle.std.specs.List.{prefix_len}
 use Rattle.std.proofs.Math.Nat.{div-eq_of_lt}
 use Rattle.std.proofs.lemmas.Bool.{lt-ltb, le-ltb, eq-eqb, ne_eqb, cases_lt}
@@ -56,6 +57,7 @@ holes-end low size [] h k d lt =
       | inr none ↦ let no : k < 0 = rw (gap_none low size none) at lt in absurd (omega arith)
     ]
   where
+    -- by cases on the place: the one hole ends with the pool
     one : (k : ℕ) → k < length {A = Interval} (record { start = low; pages = size - low } ∷ []) → low < size →
         end_of (get_or {A = Interval} (record { start = low; pages = size - low } ∷ []) k d) ≤ size
     one zero lt some = omega arith
@@ -69,6 +71,7 @@ holes-end low size (i ∷ is) h k d lt =
       | inr none ↦ rw (gap_none low i.start none) (holes-end (end_of i) size is f.rest k d (rw (gap_none low i.start none) at lt))
     ]
   where
+    -- by cases on the place: the first hole ends before an interval, and the others are further on
     more : (k : ℕ) → k < length {A = Interval} (record { start = low; pages = i.start - low } ∷ holes_from (end_of i) size is) →
         low < i.start → end_of i ≤ size → ((k : ℕ) → k < length (holes_from (end_of i) size is) →
         end_of (get_or (holes_from (end_of i) size is) k d) ≤ size) →
@@ -102,6 +105,7 @@ gap_fits low to pages rest one fits =
     let n : nat_lt (to - low) pages ≡ false = le-ltb _ _ (omega arith) in
     rw (gap_some low to (omega arith), n) (refl, left, omega arith)
   where
+    -- by cases: what is left of the gap is the gap behind, or nothing if the whole gap was taken
     left : shortened pages (record { start = low; pages = to - low }) rest ≡ gap (low + pages) to ++ rest
     left =
         elim (cases_lt (low + pages) to) [

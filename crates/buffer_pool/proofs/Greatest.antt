@@ -1,5 +1,6 @@
 -- The holes are the greatest free intervals.
-use Rattle.std.proofs.Common.{ℕ, zero, suc, ◌≡◌, ◌+◌, ◌-◌, ◌<◌, ◌≤◌, refl, ap, sym, subst, ◌∙◌, true, false, List, [], ◌∷◌, ◌++◌, length, get_or, inl, inr, arith, nat_le}
+use Rattle.std.proofs.Common.{ℕ, zero, suc, ◌≡◌, ◌+◌, ◌-◌, ◌<◌, ◌≤◌, refl, ap, sym, subst, ◌∙◌, true}
+use Rattle.std.proofs.Common.{false, List, [], ◌∷◌, ◌++◌, length, get_or, inl, inr, arith, nat_le}
 use Rattle.std.specs.Prelude.{Contains}
 use Rattle.std.proofs.lemmas.Bool.{cases_Bool, cases_lt, cases_order, le-leb, leb-true, and_parts, and_from, both_ways}
 use Rattle.std.proofs.lemmas.List.{append-nil, get_or_default}
@@ -90,6 +91,7 @@ room_in_gap low to P rest here behind k d lt =
       | inr none ↦ rw (gap_none low to none) (behind k d (rw (gap_none low to none) at lt))
     ]
   where
+    -- by cases on the place: the first one, or one of the others
     both : (k : ℕ) → P (record { start = low; pages = to - low }) →
         k < length {A = Interval} (record { start = low; pages = to - low } ∷ rest) →
         P (get_or {A = Interval} (record { start = low; pages = to - low } ∷ rest) k d)

@@ -1,5 +1,6 @@
 -- Intervals side by side that are put in one place.
-use Rattle.std.proofs.Common.{ℕ, zero, suc, ◌≡◌, ◌+◌, ◌-◌, ◌*◌, ◌<◌, ◌≤◌, refl, ap, sym, subst, ◌∙◌, true, false, List, [], ◌∷◌, ◌++◌, length, length-drop, get_or, take, drop, inl, inr, arith, nat_lt, if◌then◌else◌, append_assoc, one-add}
+use Rattle.std.proofs.Common.{ℕ, zero, suc, ◌≡◌, ◌+◌, ◌-◌, ◌*◌, ◌<◌, ◌≤◌, refl, ap, sym, subst, ◌∙◌, true, false, List, [], ◌∷◌, ◌++◌}
+use Rattle.std.proofs.Common.{length, length-drop, get_or, take, drop, inl, inr, arith, nat_lt, if◌then◌else◌, append_assoc, one-add}
 use Rattle.std.specs.Prelude.{All}
 use Rattle.std.specs.List.{insert_slice, prefix_len}
 use Rattle.std.specs.List.Sorted.{IsNonDecreasingBy}
@@ -68,7 +69,13 @@ pub length-with : (start pages n at : ℕ) (is : List Interval) → at ≤ lengt
 length-with start pages n at is le =
     let R : List Interval = run_of start pages n in
     let front : length (take at is) ≡ at = length-take-le at is le in
-    omega (arith, length-append (take at is ++ R) (drop at is), length-append (take at is) R, length-drop at is, length-run_of start pages n)
+    omega (
+      arith,
+      length-append (take at is ++ R) (drop at is),
+      length-append (take at is) R,
+      length-drop at is,
+      length-run_of start pages n,
+    )
 
 -- if none has more pages than the bound, none has with a run behind them
 pub bound-behind : (bound more start pages n : ℕ) (is : List Interval) → bound ≤ more → pages ≤ more →
@@ -122,6 +129,7 @@ clear-holes low size (i ∷ is) h k d lt =
     (inl (omega (arith, at, f.has_pages)), clear-holes (end_of i) size is f.rest k d lt))
     k d lt
   where
+    -- by induction on the intervals: each begins where the range ends, or later
     clear-later : (low size from to : ℕ) (is : List Interval) → in_order low size is ≡ true → to ≤ low → IsClear from to is
     clear-later low size from to [] h le = tt
     clear-later low size from to (i ∷ is) h le =

@@ -23,7 +23,8 @@ pub record KeepsRun (size free count pages : ℕ) (holes held : List Interval) :
   pub small : count * pages < 4294967296
   pub taken : count * pages ≤ free
   pub kept : (capacity : ℕ) → length held + count ≤ capacity →
-      IsPoolSound size (free - count * pages) (holes_after pages count holes) (with_buffers pages (starts_in pages count holes) held) capacity
+      IsPoolSound size (free - count * pages) (holes_after pages count holes)
+      (with_buffers pages (starts_in pages count holes) held) capacity
 
 -- if all buffers have room, the looks for them are bounded, and the pool stays sound with them
 pub keeps_run : (size free count pages : ℕ) (holes held : List Interval) (capacity : ℕ) → 1 ≤ pages →

@@ -1,5 +1,6 @@
 -- The least start with room is that of the first hole that is long enough.
-use Rattle.std.proofs.Common.{ℕ, zero, suc, ◌≡◌, ◌+◌, ◌<◌, ◌≤◌, ◌⊎◌, refl, ap, sym, subst, ◌∙◌, Bool, true, false, not, List, [], ◌∷◌, ◌++◌, length, inl, inr, arith, nat_lt, nat_le, Some, None}
+use Rattle.std.proofs.Common.{ℕ, zero, suc, ◌≡◌, ◌+◌, ◌<◌, ◌≤◌, ◌⊎◌, refl, ap, sym, subst, ◌∙◌, Bool, true, false}
+use Rattle.std.proofs.Common.{not, List, [], ◌∷◌, ◌++◌, length, inl, inr, arith, nat_lt, nat_le, Some, None}
 use Rattle.std.specs.List.{prefix_len, list_any, find, range_with_len}
 use Rattle.std.proofs.lemmas.Bool.{and_from, and_left, and_right, lt-ltb, le-ltb, le-leb, lt-leb, leb-true, and_parts, cases_lt, cases_eq}
 use Rattle.std.proofs.lemmas.List.{append-nil}

@@ -1,5 +1,6 @@
 -- Intervals in order of page.
-use Rattle.std.proofs.Common.{ℕ, zero, suc, ◌≡◌, ◌+◌, ◌<◌, ◌≤◌, refl, ap, subst, true, false, List, [], ◌∷◌, length, get_or, inl, inr, arith, nat_lt, nat_le, ◌==◌, one-add}
+use Rattle.std.proofs.Common.{ℕ, zero, suc, ◌≡◌, ◌+◌, ◌<◌, ◌≤◌, refl, ap, subst, true, false, List}
+use Rattle.std.proofs.Common.{[], ◌∷◌, length, get_or, inl, inr, arith, nat_lt, nat_le, ◌==◌, one-add}
 use Rattle.std.specs.List.{insert, prefix_len}
 use Rattle.std.specs.List.Sorted.{IsNonDecreasingBy}
 use Rattle.std.proofs.lemmas.Bool.{cases_Bool, and_parts, and_from, ltb-true, ltb-false, leb-true, lt-ltb, le-leb, ne_eqb, cases_lt}

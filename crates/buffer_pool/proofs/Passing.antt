@@ -1,8 +1,10 @@
 -- A search that looks at block after block.
-use Rattle.std.proofs.Common.{ℕ, ◌≡◌, ◌+◌, ◌/◌, ◌<◌, ◌≤◌, refl, ap, sym, subst, ◌∙◌, List, [], ◌++◌, length, get_or, take, drop, inl, inr, arith}
+use Rattle.std.proofs.Common.{ℕ, ◌≡◌, ◌+◌, ◌/◌, ◌<◌, ◌≤◌, refl, ap, sym, subst, ◌∙◌, List}
+use Rattle.std.proofs.Common.{[], ◌++◌, length, get_or, take, drop, inl, inr, arith}
 use Rattle.std.specs.List.{prefix_len}
 use Rattle.std.proofs.lemmas.Bool.{cases_lt}
-use Rattle.std.proofs.lemmas.List.{length-append, take-append-drop, drop_all, take_all, get_or_past, drop-append-le, drop-drop, drop_at, take_at, take-take, length-take, length-take-le}
+use Rattle.std.proofs.lemmas.List.{length-append, take-append-drop, drop_all, take_all, get_or_past, drop-append-le}
+use Rattle.std.proofs.lemmas.List.{drop-drop, drop_at, take_at, take-take, length-take, length-take-le}
 use Rattle.std.proofs.lemmas.List.Concat.{flat_map-append}
 use Rattle.std.proofs.lemmas.List.Sums.{prefix_len-le-length, sum_by-append}
 use Rattle.sm_names.specs.declared.keys.Interval.{Interval}

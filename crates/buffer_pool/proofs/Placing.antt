@@ -1,5 +1,6 @@
 -- Buffers placed one after another by first fit are placed as the definition says.
-use Rattle.std.proofs.Common.{ℕ, zero, suc, ◌≡◌, ◌+◌, ◌-◌, ◌*◌, ◌/◌, ◌<◌, ◌≤◌, refl, ap, sym, subst, ◌∙◌, Bool, true, false, cond, ◌||◌, List, [], ◌∷◌, length, inl, inr, arith, nat_lt, nat_le, ◌==◌, Some, None}
+use Rattle.std.proofs.Common.{ℕ, zero, suc, ◌≡◌, ◌+◌, ◌-◌, ◌*◌, ◌/◌, ◌<◌, ◌≤◌, refl, ap, sym, subst, ◌∙◌, Bool, true}
+use Rattle.std.proofs.Common.{false, cond, ◌||◌, List, [], ◌∷◌, length, inl, inr, arith, nat_lt, nat_le, ◌==◌, Some, None}
 use Rattle.std.specs.List.{prefix_len, list_any}
 use Rattle.std.specs.Option.{option_map}
 use Rattle.std.proofs.Math.Nat.{div-eq_of_lt, div-eq-sub-div, mul-le-mul_right, mul_comm, suc-mul}
@@ -113,6 +114,7 @@ list_any-with_interval p new (i ∷ is) =
       | inr n ↦ rw n refl
     ]
   where
+    -- by cases on the first two tests
     turned : (a b c : Bool) → (a || (b || c)) ≡ (b || (a || c))
     turned true true c = refl
     turned true false c = refl

@@ -1,5 +1,6 @@
 -- Intervals of as many pages that lie side by side among those in order of page.
-use Rattle.std.proofs.Common.{ℕ, zero, suc, ◌≡◌, ◌+◌, ◌*◌, ◌<◌, ◌≤◌, refl, ap, sym, subst, ◌∙◌, true, false, List, [], ◌∷◌, ◌++◌, length, get_or, take, drop, inl, inr, arith, nat_lt, ◌==◌, one-add, add-suc, add-zero, length-drop}
+use Rattle.std.proofs.Common.{ℕ, zero, suc, ◌≡◌, ◌+◌, ◌*◌, ◌<◌, ◌≤◌, refl, ap, sym, subst, ◌∙◌, true, false, List, [], ◌∷◌, ◌++◌}
+use Rattle.std.proofs.Common.{length, get_or, take, drop, inl, inr, arith, nat_lt, ◌==◌, one-add, add-suc, add-zero, length-drop}
 use Rattle.std.specs.Prelude.{Contains}
 use Rattle.std.specs.List.{prefix_len, remove_range}
 use Rattle.std.proofs.Math.Nat.{mul-le-mul_left, suc-mul}
@@ -27,6 +28,7 @@ remove_range-more is at m n le =
     ∙ ap (λ (s : ℕ). drop s is) (sum at m n) in
     λ i. front i ++ back i
   where
+    -- by arithmetic
     sum : (at m n : ℕ) → at + m + n ≡ at + (m + n)
     sum at m n = omega arith
 
@@ -83,13 +85,15 @@ without-had start x (i ∷ is) k lt at =
       | inr n ↦ kept k (rw n at lt) (rw n at at) (λ j. without-had start x is j)
     ]
   where
+    -- by cases on the place: the first stays, and the others are found further on
     kept : (k : ℕ) → k < length (i ∷ without start is) → get_or (i ∷ without start is) k x ≡ x →
         ((j : ℕ) → j < length (without start is) → get_or (without start is) j x ≡ x → Contains is x) → Contains (i ∷ is) x
     kept zero lt at on = (0, omega arith, at)
     kept (suc k) lt at on = had-later x i is (on k (omega arith) at)
 
 -- an interval that remains after the removal of a run was there before each of its steps
-pub without_run-had : (start pages count : ℕ) (x : Interval) (is : List Interval) → Contains (without_run start pages count is) x → Contains is
+pub without_run-had : (start pages count : ℕ) (x : Interval) (is : List Interval) →
+    Contains (without_run start pages count is) x → Contains is
     x
 without_run-had start pages zero x is there = there
 without_run-had start pages (suc n) x is there =
@@ -184,7 +188,8 @@ next_at low high (i ∷ is) h (suc k) (suc m) a b lt at less there same =
     (omega (arith, r.0), r.1)
 
 -- without the one between others, those stay
-without_between : (low high : ℕ) (front : List Interval) (b : Interval) (rest : List Interval) → in_order low high (front ++ b ∷ rest) ≡ true →
+without_between : (low high : ℕ) (front : List Interval) (b : Interval) (rest : List Interval) →
+    in_order low high (front ++ b ∷ rest) ≡ true →
     (low ≤ b.start) × (without b.start (front ++ b ∷ rest) ≡ front ++ rest)
 without_between low high [] b rest h =
     let f = first_in_order low high b rest h in

@@ -1,5 +1,6 @@
 -- Holes that are spaced, and pages that come back to them.
-use Rattle.std.proofs.Common.{ℕ, zero, suc, ◌≡◌, ◌+◌, ◌<◌, ◌≤◌, refl, ap, sym, subst, ◌∙◌, Bool, true, false, List, [], ◌∷◌, ◌++◌, length, get_or, set, take, drop, inl, inr, arith, nat_lt, nat_le, ◌==◌, one-add, add-one}
+use Rattle.std.proofs.Common.{ℕ, zero, suc, ◌≡◌, ◌+◌, ◌<◌, ◌≤◌, refl, ap, sym, subst, ◌∙◌, Bool, true, false, List, [], ◌∷◌}
+use Rattle.std.proofs.Common.{◌++◌, length, get_or, set, take, drop, inl, inr, arith, nat_lt, nat_le, ◌==◌, one-add, add-one}
 use Rattle.std.specs.List.{insert, remove, prefix_len}
 use Rattle.std.specs.List.Sorted.{IsNonDecreasingBy}
 use Rattle.std.proofs.lemmas.Bool.{cases_Bool, and_parts, and_from, ltb-true, leb-true, lt-ltb, le-leb, eqb-true, cases_lt}
@@ -74,7 +75,8 @@ spaced-begins low (h ∷ hs) s (suc j) (suc k) d le lt =
     spaced-begins (end_of h + 1) hs f.rest j k d before within
 
 -- what comes back is merged behind the holes that end before it
-pub released_at : (i : Interval) (hs : List Interval) → with_released i hs ≡ take (prefix_len (λ (h : Interval). nat_lt (end_of h) i.start) hs)
+pub released_at : (i : Interval) (hs : List Interval) →
+    with_released i hs ≡ take (prefix_len (λ (h : Interval). nat_lt (end_of h) i.start) hs)
     hs ++ merged i (drop (prefix_len (λ (h : Interval). nat_lt (end_of h) i.start) hs) hs)
 released_at i [] = refl
 released_at i (h ∷ hs) =
@@ -160,7 +162,8 @@ module _ (i : Interval) (hs : List Interval) (at : ℕ) (found : at ≡ prefix_l
 
   -- where the hole at the place touches only the end of the interval, both become one hole
   pub released_before : (hole : Interval) → hole ≡ get_or hs at hole → first_ends i.start (drop at hs) ≡ false →
-      first_begins (end_of i) (drop at hs) ≡ true → set hs at (record { start = i.start; pages = i.pages + hole.pages }) ≡ with_released i hs
+      first_begins (end_of i) (drop at hs) ≡ true →
+      set hs at (record { start = i.start; pages = i.pages + hole.pages }) ≡ with_released i hs
   released_before hole is ends begins =
       let lt : at < length hs = first_within (first_begins (end_of i)) at hs refl begins in
       let m = merged_before i hole at hs lt is ends begins in

@@ -1,5 +1,6 @@
 -- Buffers that are taken side by side from the first hole that is not too small.
-use Rattle.std.proofs.Common.{ℕ, zero, suc, ◌≡◌, ◌+◌, ◌-◌, ◌*◌, ◌/◌, ◌<◌, ◌≤◌, refl, ap, sym, subst, ◌∙◌, true, false, List, [], ◌∷◌, ◌++◌, length, get_or, set, take, drop, inl, inr, arith, ◌==◌, one-add}
+use Rattle.std.proofs.Common.{ℕ, zero, suc, ◌≡◌, ◌+◌, ◌-◌, ◌*◌, ◌/◌, ◌<◌, ◌≤◌, refl, ap, sym, subst, ◌∙◌, true, false}
+use Rattle.std.proofs.Common.{List, [], ◌∷◌, ◌++◌, length, get_or, set, take, drop, inl, inr, arith, ◌==◌, one-add}
 use Rattle.std.specs.List.{prefix_len, remove}
 use Rattle.std.proofs.Math.Nat.{suc-mul, mul_comm, mul-le-mul_right, div-eq-sub-div, div-mul-le_self}
 use Rattle.std.proofs.lemmas.Bool.{cases_Bool, le-ltb, eq-eqb, eqb-true, eqb-false, ne_eqb}
@@ -116,6 +117,7 @@ first_run pages n (h ∷ hs) d one lt le =
           rw f (front_run pages n h hs one le')
     ]
   where
+    -- by arithmetic
     swapped : (a b c : ℕ) → c ≡ b + a → a + b ≡ c
     swapped a b c e = omega arith
 

@@ -41,6 +41,7 @@ module _ (L : List (List Interval)) (spot : Spot) where
       HasIntervalAt (set L spot.block (set (get_or L spot.block []) spot.offset hole)) at
   still_there at hole there = (
     rw (length-set L spot.block (set (get_or L spot.block []) spot.offset hole)) there.0,
-    rw (same-size L spot.block at.block (set (get_or L spot.block []) spot.offset hole) (length-set (get_or L spot.block []) spot.offset hole))
+    rw (same-size L spot.block at.block (set (get_or L spot.block []) spot.offset hole)
+        (length-set (get_or L spot.block []) spot.offset hole))
         there.1,
   )

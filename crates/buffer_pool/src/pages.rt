@@ -45,7 +45,7 @@ impl Model for Pool {
 impl Pool {
     /// A pool of this many pages, from 1 to `MAX_PAGES`, of which none is held.
     ///
-    /// `NoMemory` where the list for its one hole is refused. It costs the same for any size.
+    /// `NoMemory` where the list for its one hole is refused. Costs the same for any size.
     pub fn new(alloc: Global, pages: u32) -> Result<Pool, NoMemory>
         requires { (1 ≤ pages) × (pages ≤ MAX_PAGES) }
         ensures ok { IfOk result (λ pool. pool ≡ record { size = pages; held = [] }) }
@@ -68,7 +68,7 @@ impl Pool {
     /// `PoolFull` where some buffer has no such start, and `NoMemory` where a growth is refused.
     /// Either leaves the pool as it was.
     ///
-    /// The holes and the held intervals lie in blocks of at most 128. It costs two walks over the
+    /// The holes and the held intervals lie in blocks of at most 128. Costs two walks over the
     /// blocks of holes, from where the last search ended if that was for as many pages or fewer and
     /// no pages came back before, up to the last start, or to the end where the pool is full: a block
     /// whose greatest hole is too small is passed at once. The buffers that lie in one hole leave it
@@ -106,7 +106,7 @@ impl Pool {
     /// Takes back the pages of a held interval, and leaves all others as they are. The pages form
     /// one hole with the holes that they touch.
     ///
-    /// It takes no memory, and costs two binary searches in each of two lists, the held intervals and
+    /// Takes no memory, and costs two binary searches in each of two lists, the held intervals and
     /// the holes, and a move of at most a block in either; where a block becomes full or empty, also
     /// of the part of the list of blocks behind it. Where no block is spare, two that fit into one
     /// are sought and made one.
@@ -122,7 +122,7 @@ impl Pool {
     /// side by side from `start` on, and leaves all others as they are. The pages form one hole with
     /// the holes that they touch.
     ///
-    /// It takes no memory, and costs what one interval costs, and a move of at most a block for each
+    /// Takes no memory, and costs what one interval costs, and a move of at most a block for each
     /// further block that the intervals lie in, and of the part of the list of blocks behind it where
     /// it becomes empty.
     pub fn give_back_run(&mut self, start: u32, pages: u32, count: u32)
@@ -152,14 +152,14 @@ impl Pool {
         }
     }
 
-    /// How many pages there are, held or free. It costs one read.
+    /// How many pages there are, held or free. Costs one read.
     pub fn pages(&self) -> u32
         ensures { result ≡ self.now.size }
     {
         self.size
     }
 
-    /// How many pages nobody holds. It takes no memory, and costs one read.
+    /// How many pages nobody holds. Takes no memory, and costs one read.
     pub fn free_pages(&self) -> u32
         ensures free { result + total_pages self.now.held ≡ self.now.size }
         ensures sound { IsSound self.now }

@@ -88,6 +88,7 @@ pub has_gained : (call : Call) (reply : Reply) (units new : Amounts) → may_gai
     CountsEvent units new call reply → SameHandles new (with_gain (gained call reply) no_amounts)
 has_gained call reply units new is none counts = alone (gained call reply) (after_gaining call reply units new is counts)
   where
+    -- by cases on what is gained
     alone : (gain : Option Strength) → SameHandles new (with_gain gain units) → SameHandles new (with_gain gain no_amounts)
     alone None same = (same.0 ∙ none.0, same.1 ∙ none.1)
     alone (Some Strong) same = (same.0 ∙ ap (λ n. n + 1) none.0, same.1 ∙ none.1)

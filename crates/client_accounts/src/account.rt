@@ -71,7 +71,7 @@ impl<E: Setup, S: Ledger, W: Ledger> Model for Account<E, S, W> {
 }
 
 impl<E: Setup, S: Ledger, W: Ledger> Account<E, S, W> {
-    /// The account of a client that has made its Join alone, which these units count. It takes no memory.
+    /// The account of a client that has made its Join alone, which these units count. Takes no memory.
     pub fn new(alloc: Global, units: Units<E, S, W>) -> Account<E, S, W>
         requires { units.events ≡ 1 }
         ensures { result ≡ record { units = units; own = [] } }
@@ -82,7 +82,7 @@ impl<E: Setup, S: Ledger, W: Ledger> Account<E, S, W> {
         }
     }
 
-    /// The list, in the order of the events. It costs O(1).
+    /// The list, in the order of the events. Costs O(1).
     pub fn own(&self) -> &[Own]
         ensures value { result.now ≡ self.now.own }
         ensures share { self.now.units.events ≡ length self.now.own + 1 }
@@ -123,7 +123,7 @@ impl<E: Setup, S: Ledger, W: Ledger> Account<E, S, W> {
         Ok(reply)
     }
 
-    /// Moves the unit of one handle of this strength from these units to the account. It takes no memory, and
+    /// Moves the unit of one handle of this strength from these units to the account. Takes no memory, and
     /// does nothing when it runs.
     #[tactic(auto, using(crate::proofs::UnitLaws::more_events))]
     pub fn pass_in(
@@ -140,7 +140,7 @@ impl<E: Setup, S: Ledger, W: Ledger> Account<E, S, W> {
         pass(state, unit, &mut self.units, strength);
     }
 
-    /// Moves the unit of one handle of this strength from the account to these units. It takes no memory, and
+    /// Moves the unit of one handle of this strength from the account to these units. Takes no memory, and
     /// does nothing when it runs.
     #[tactic(auto, using(crate::proofs::UnitLaws::same_events))]
     pub fn pass_out(

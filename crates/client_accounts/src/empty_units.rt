@@ -8,7 +8,7 @@ use service_lock::{Setup, State, Units, is_full, units};
 use sm_names::StepFault;
 use std::sync::ledger::Ledger;
 
-/// The fault where memory was refused: a full record comes first. It costs O(1).
+/// The fault where memory was refused: a full record comes first. Costs O(1).
 pub fn memory_fault<E: Setup, S: Ledger, W: Ledger>(state: &State<E, S, W>) -> StepFault
     ensures { (result ≡ Fault.HistoryFull)
         ↔ (state.now.limits.events ≤ length state.now.history) }
@@ -21,7 +21,7 @@ pub fn memory_fault<E: Setup, S: Ledger, W: Ledger>(state: &State<E, S, W>) -> S
 }
 
 /// Empty units, which take one part of each book. The fault where no part is left is that of refused
-/// memory, and leaves the state as it was. It costs O(1).
+/// memory, and leaves the state as it was. Costs O(1).
 pub fn empty<E: Setup, S: Ledger, W: Ledger>(
     state: &mut State<E, S, W>,
 ) -> Result<Units<E, S, W>, StepFault>

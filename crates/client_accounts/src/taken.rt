@@ -13,7 +13,7 @@ pub struct Taken {
     pub set: u64,
 }
 
-/// What the reply says that was taken: `None` where it is no reply of a Take that opened handles. It costs O(1).
+/// What the reply says that was taken: `None` where it is no reply of a Take that opened handles. Costs O(1).
 pub fn taken_by(reply: &Reply) -> Option<Taken>
     ensures { result ≡ told_taken reply.now }
 {

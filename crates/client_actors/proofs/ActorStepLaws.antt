@@ -1,5 +1,6 @@
 -- What an actor's slots hold after its calls, and what it leaves.
-use Rattle.std.proofs.Common.{ℕ, zero, suc, ◌≡◌, ◌+◌, ◌-◌, ◌≤◌, ◌<◌, ◌∙◌, refl, sym, ap, subst, Bool, true, false, if◌then◌else◌, ◌==◌, List, [], ◌∷◌, ◌++◌, arith, length, length-append, map, Option, Some, None}
+use Rattle.std.proofs.Common.{ℕ, zero, suc, ◌≡◌, ◌+◌, ◌-◌, ◌≤◌, ◌<◌, ◌∙◌, refl, sym, ap, subst, Bool, true, false}
+use Rattle.std.proofs.Common.{if◌then◌else◌, ◌==◌, List, [], ◌∷◌, ◌++◌, arith, length, length-append, map, Option, Some, None}
 use Rattle.std.specs.Int.{bit_at}
 use Rattle.std.specs.List.{All}
 use Rattle.std.specs.Prelude.{flat_map, reverse, set, slice_get, slice_index_or, option_map, Result, Ok, Err, MatchResult}
@@ -13,9 +14,9 @@ use Rattle.sm_names.specs.declared.outcomes.StepFault.{StepFault}
 use Rattle.event_laws.specs.declared.own.Own.{Own}
 use Rattle.client_ends.specs.declared.held.End.{End}
 use Rattle.client_ends.specs.Clients.{Grip, Made, Seen, last_reply}
-use Rattle.client_parting.specs.Partings.{AllHeldBy, Token, Collection, Handle, owner_of, sorted}
-use Rattle.client_parting.specs.Stacks.{kept_objects}
-use Rattle.client_parting.proofs.BackLaws.{sorted_own}
+use Rattle.client_vanish.specs.Vanishings.{AllHeldBy, Token, Collection, Handle, owner_of, sorted}
+use Rattle.client_vanish.specs.Stacks.{kept_objects}
+use Rattle.client_vanish.proofs.BackLaws.{sorted_own}
 use Rattle.actor_scripts.specs.declared.object.StepCall.{StepCall}
 use Rattle.actor_scripts.specs.declared.object.Object.{Object}
 use Rattle.actor_scripts.specs.ActorStates.{FitsThere, bound, emptied, new_objects, handles_from, on_of, spends_object, object_at}
@@ -111,7 +112,8 @@ full_owned client (h ∷ hs) all =
     (full_owned client hs (All-tail (λ (x : Grip). x.client ≡ client) h hs all))
 
 -- all slots stay the client's once they contain what the call brought, which the client holds
-pub stored_owned : {E S W : Type 0} (client : ℕ) (slots : List (Option (End E S W))) (brought : NewObjects E S W) → All (SlotHeldBy client) slots →
+pub stored_owned : {E S W : Type 0} (client : ℕ) (slots : List (Option (End E S W))) (brought : NewObjects E S W) →
+    All (SlotHeldBy client) slots →
     NewHeldBy client brought → All (SlotHeldBy client) (slots ++ slots_for brought)
 stored_owned client slots NewObjects.Nothing all of = All-append (SlotHeldBy client) slots [] all (All-nil (SlotHeldBy client))
 stored_owned client slots (NewObjects.One end) all of =
@@ -143,6 +145,7 @@ handles_few collection strength held index zero = omega arith
 handles_few collection strength held index (suc count) =
     either (handles_few collection strength held (index + 1) count) (bit_at held index == 1) refl
   where
+    -- by cases: a bit that is set gives one handle
     either : length (handles_from collection strength held (index + 1) count) ≤ count → (b : Bool) → (bit_at held index == 1) ≡ b →
         length (handles_from collection strength held index (suc count)) ≤ suc count
     either more true is = rw is (omega (arith, more))

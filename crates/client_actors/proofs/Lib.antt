@@ -1,4 +1,6 @@
 pub mod ActorStepLaws
 pub mod ObjectCallLaws
+pub mod PatienceLaws
 pub mod ScriptLaws
 pub mod RunLaws
+pub mod OnceLaws

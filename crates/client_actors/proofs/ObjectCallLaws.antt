@@ -1,5 +1,6 @@
 -- What calls do to what an actor holds.
-use Rattle.std.proofs.Common.{ℕ, zero, suc, ◌≡◌, ◌+◌, ◌∙◌, refl, sym, ap, Bool, true, false, if◌then◌else◌, ◌==◌, List, [], ◌∷◌, map, Option, None}
+use Rattle.std.proofs.Common.{ℕ, zero, suc, ◌≡◌, ◌+◌, ◌∙◌, refl, sym, ap, Bool, true}
+use Rattle.std.proofs.Common.{false, if◌then◌else◌, ◌==◌, List, [], ◌∷◌, map, Option, None}
 use Rattle.std.specs.Int.{bit_at}
 use Rattle.std.specs.List.{All, filter, range_with_len}
 use Rattle.std.proofs.lemmas.List.Elements.{All-cons, All-nil}
@@ -51,7 +52,8 @@ module _ (old new : Seen) (key : NodeKey) (handles : List Grip) (took : Took old
       (grips_owned is)
 
 -- a call that did not spend what it might have spent gives nothing
-unspent : (on : Option Object) (call : Call) (reply : Reply) → may_spend call ≡ true → spends_object call reply ≡ false → new_objects on call reply ≡ []
+unspent : (on : Option Object) (call : Call) (reply : Reply) → may_spend call ≡ true →
+    spends_object call reply ≡ false → new_objects on call reply ≡ []
 unspent on (Call.Bind key) Reply.Done may not = cc
 unspent on (Call.Bind key) _ may not = refl
 unspent on (Call.Give key to) reply may not = refl

@@ -1,5 +1,6 @@
 -- What lies in each place before and after all actors ran.
-use Rattle.std.proofs.Common.{ℕ, suc, ◌≡◌, ◌<◌, ◌∙◌, refl, sym, ap, subst, List, [], ◌∷◌, ◌++◌, append_assoc, arith, length, map, Option, Some, None, slice_index_or}
+use Rattle.std.proofs.Common.{ℕ, suc, ◌≡◌, ◌<◌, ◌∙◌, refl, sym, ap, subst, List, [], ◌∷◌, ◌++◌}
+use Rattle.std.proofs.Common.{append_assoc, arith, length, map, Option, Some, None, slice_index_or}
 use Rattle.std.specs.Prelude.{drop, reverse, take, IsSome}
 use Rattle.std.specs.List.{All, AllZip}
 use Rattle.std.proofs.lemmas.List.{map-append, reverse-append}
@@ -52,14 +53,14 @@ whole n new old is = ap (λ k. take k (new ++ drop (length new) old)) is ∙ sta
 
 module _ {E S W : Type 0} where
   -- an end lies in each place
-  pub all_some : (clients : List ℕ) (scripts : List ActorScript) (actors : List (Option (ActorEnd E S W))) →
-      AllZip (IsEndThere clients) scripts actors → All (λ a. IsSome a) actors
-  all_some clients [] [] so = All-nil (λ (a : Option (ActorEnd E S W)). IsSome a)
-  all_some clients [] (a ∷ actors) so = absurd so
-  all_some clients (s ∷ scripts) [] so = absurd so
-  all_some clients (s ∷ scripts) (None ∷ actors) so = absurd so.0
-  all_some clients (s ∷ scripts) (Some end ∷ actors) so =
-      All-cons (λ (a : Option (ActorEnd E S W)). IsSome a) (Some end) actors refl (all_some clients scripts actors so.1)
+  pub all_some : (clients : List ℕ) (most : ℕ) (scripts : List ActorScript) (actors : List (Option (ActorEnd E S W))) →
+      AllZip (IsEndThere clients most) scripts actors → All (λ a. IsSome a) actors
+  all_some clients most [] [] so = All-nil (λ (a : Option (ActorEnd E S W)). IsSome a)
+  all_some clients most [] (a ∷ actors) so = absurd so
+  all_some clients most (s ∷ scripts) [] so = absurd so
+  all_some clients most (s ∷ scripts) (None ∷ actors) so = absurd so.0
+  all_some clients most (s ∷ scripts) (Some end ∷ actors) so =
+      All-cons (λ (a : Option (ActorEnd E S W)). IsSome a) (Some end) actors refl (all_some clients most scripts actors so.1)
 
   -- the ids of the ends
   ids_there : (ends : List (ActorEnd E S W)) → map id_there (map Some ends) ≡ map end_id ends
@@ -67,18 +68,20 @@ module _ {E S W : Type 0} where
   ids_there (end ∷ ends) = ap (λ l. end_id end ∷ l) (ids_there ends)
 
   -- the ends out of their places
-  taken_out : (clients : List ℕ) (scripts : List ActorScript) (ends : List (ActorEnd E S W)) →
-      AllZip (IsEndThere clients) scripts (map Some ends) → AllZip (IsEndOf clients) scripts ends
-  taken_out clients [] [] so = so
-  taken_out clients [] (end ∷ ends) so = so
-  taken_out clients (s ∷ scripts) [] so = so
-  taken_out clients (s ∷ scripts) (end ∷ ends) so = (so.0, taken_out clients scripts ends so.1)
+  taken_out : (clients : List ℕ) (most : ℕ) (scripts : List ActorScript) (ends : List (ActorEnd E S W)) →
+      AllZip (IsEndThere clients most) scripts (map Some ends) → AllZip (IsEndOf clients most) scripts ends
+  taken_out clients most [] [] so = so
+  taken_out clients most [] (end ∷ ends) so = so
+  taken_out clients most (s ∷ scripts) [] so = so
+  taken_out clients most (s ∷ scripts) (end ∷ ends) so = (so.0, taken_out clients most scripts ends so.1)
 
   -- all have run
-  pub have_run : (clients : List ℕ) (scripts : List ActorScript) (old new : List (Option (ActorEnd E S W))) (ends : List (ActorEnd E S W)) →
-      AllZip (IsEndThere clients) scripts new → clients ≡ map id_there old → map id_there new ≡ map id_there old →
-      map Some ends ≡ new → HaveRun scripts ends
-  have_run clients scripts old new ends so joined same is =
+  pub have_run : (clients : List ℕ) (most : ℕ) (scripts : List ActorScript)
+      (old new : List (Option (ActorEnd E S W))) (ends : List (ActorEnd E S W)) →
+      AllZip (IsEndThere clients most) scripts new → clients ≡ map id_there old → map id_there new ≡ map id_there old →
+      map Some ends ≡ new → HaveRun most scripts ends
+  have_run clients most scripts old new ends so joined same is =
       let ids : clients ≡ map end_id ends = joined ∙ (sym same ∙ (sym (ap (map id_there) is) ∙ ids_there ends)) in
-      subst (λ l. AllZip (IsEndOf l) scripts ends) ids (taken_out clients scripts ends (subst (AllZip (IsEndThere clients) scripts) (sym is)
+      subst (λ l. AllZip (IsEndOf l most) scripts ends) ids
+      (taken_out clients most scripts ends (subst (AllZip (IsEndThere clients most) scripts) (sym is)
       so))

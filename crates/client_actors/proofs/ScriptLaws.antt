@@ -1,20 +1,23 @@
 -- How an actor runs its steps, and what it leaves.
-use Rattle.std.proofs.Common.{ℕ, ◌≡◌, ◌∙◌, refl, sym, ap, subst, inl, inr, false, List, [], ◌∷◌, ◌++◌, append_assoc, append-nil, Option, Some, None}
+use Rattle.std.proofs.Common.{ℕ, ◌≡◌, ◌∙◌, refl, sym, ap, subst, inl, inr, false, List}
+use Rattle.std.proofs.Common.{[], ◌∷◌, ◌++◌, append_assoc, append-nil, Option, Some, None}
 use Rattle.std.specs.Prelude.{flat_map, Result, Ok, Err, OnErr, OnOk, is_err}
 use Rattle.std.specs.List.{All}
 use Rattle.sm_names.specs.declared.messages.Reply.{Reply}
 use Rattle.client_ends.specs.declared.held.End.{End}
 use Rattle.client_ends.specs.Clients.{Made, Seen, last_reply}
-use Rattle.client_parting.specs.Partings.{AllHeldBy, Holds, IsBroken, IsGone, Remains, sorted}
+use Rattle.client_vanish.specs.Vanishings.{AllHeldBy, Holds, IsBroken, IsGone, Remains, sorted}
 use Rattle.actor_scripts.specs.declared.step.Step.{Step}
 use Rattle.actor_scripts.specs.declared.object.StepCall.{StepCall}
 use Rattle.actor_scripts.specs.ActorStates.{Known, step_call, state_after, nothing_known, objects_after}
-use Rattle.actor_scripts.specs.ScriptRuns.{RunsScript}
 use Rattle.actor_scripts.specs.Tables.{known}
 use Rattle.actor_scripts.proofs.TableLaws.{objects_noted}
 use Rattle.client_actors.specs.declared.actor.Actor.{Actor}
-use Rattle.client_actors.specs.ActorSteps.{MakesCall, Falters, HasFaltered, HasMade, HasFinished, HasRunSome, HasRunTo, HasStepped, HasStopped, IsAware, ActorInvariant, holds_by_state, objects_in_slots, pairs_of, part_of}
+use Rattle.client_actors.specs.ActorSteps.{MakesCall, Falters, HasFaltered, HasMade, HasFinished, HasRunSome, HasRunTo, HasStepped}
+use Rattle.client_actors.specs.ActorSteps.{HasStopped, HasTaken, IsAware, ActorInvariant, holds_by_state, objects_in_slots, pairs_of}
+use Rattle.client_actors.specs.ActorSteps.{part_of}
 use Rattle.client_actors.specs.ObjectCalls.{SlotHeldBy, lies}
+use Rattle.client_actors.specs.PatientRuns.{RunsPatiently}
 use Rattle.client_actors.proofs.ActorStepLaws.{last_is, pairs_more, parts_left}
 
 -- what is ensured of a success
@@ -48,61 +51,63 @@ has_made step asked reply old new mid a same last knows objects =
     }
 
 -- no step yet
-pub runs_none : {E S W : Type 0} (clients : List ℕ) (actor : Actor E S W) → actor.client.own ≡ [] → known actor.state ≡ nothing_known →
-    RunsScript clients [] (pairs_of actor.client.own) (known actor.state)
-runs_none clients actor own state =
-    subst (λ o. RunsScript clients [] (pairs_of o) (known actor.state)) (sym own) (subst (RunsScript clients [] []) (sym state) RunsScript.Starts)
+pub runs_none : {E S W : Type 0} (clients : List ℕ) (most : ℕ) (actor : Actor E S W) → actor.client.own ≡ [] →
+    known actor.state ≡ nothing_known → RunsPatiently clients most [] (pairs_of actor.client.own) (known actor.state)
+runs_none clients most actor own state =
+    subst (λ o. RunsPatiently clients most [] (pairs_of o) (known actor.state)) (sym own)
+    (subst (RunsPatiently clients most [] []) (sym state) RunsPatiently.Starts)
 
 module _ {E S W : Type 0} (clients : List ℕ) where
   -- a step that makes a call
   pub stepped : (step : Step) (asked : StepCall) (reply : Reply) (old new : Actor E S W) →
-      step_call clients (known old.state) step ≡ Some asked → HasMade step asked reply old new → IsAware old → HasStepped clients step old new
+      step_call clients (known old.state) step ≡ Some asked → HasMade step asked reply old new →
+      IsAware old → HasStepped clients step (Some reply) old new
   stepped step asked reply old new is made aware = record {
-    runs = λ steps so. subst (RunsScript clients (steps ++ step ∷ []) (pairs_of new.client.own)) (sym made.knows)
-        (subst (λ l. RunsScript clients (steps ++ step ∷ []) l (state_after (known old.state) step asked reply))
-        (sym (pairs_more old.client new.client asked.call reply made.made))
-        (RunsScript.Makes steps (pairs_of old.client.own) (known old.state) step asked reply so is));
+    answer = record {
+      asked = asked;
+      is_asked = is;
+      made = pairs_more old.client new.client asked.call reply made.made;
+      knows = made.knows;
+    };
+    skips = λ e. absurd (some-none reply e);
     aware = made.slots ∙ (ap (λ l. objects_after l asked reply) aware ∙ sym made.objects);
   }
+    where
+      -- a reply is none
+      some-none : (r : Reply) → Some r ≡ None → ⊥
+      some-none r e = cc
 
   -- a step that is skipped
   pub skipped : (step : Step) (actor : Actor E S W) → step_call clients (known actor.state) step ≡ None → IsAware actor →
-      HasStepped clients step actor actor
-  skipped step actor none aware = record {
-    runs = λ steps so. RunsScript.Skips steps (pairs_of actor.client.own) (known actor.state) step so none;
-    aware = aware;
-  }
+      HasStepped clients step None actor actor
+  skipped step actor none aware = record { answer = (refl, refl); skips = λ e. none; aware = aware }
 
   -- a step whose call came to a fault
   pub faltered : (step : Step) (asked : StepCall) (old new : Actor E S W) → step_call clients (known old.state) step ≡ Some asked →
       Falters old.client new.client asked (lies old.slots.items) (lies new.slots.items) → IsAware old →
       HasFaltered clients step old new
   faltered step asked old new is (inl same) aware = record {
-    runs = λ steps done left split so. record {
-      state = known old.state;
-      done = done;
-      left = step ∷ left;
-      split = split;
-      runs = subst (λ (c : Seen). RunsScript clients done (pairs_of c.own) (known old.state)) (sym same.0) so;
-      has = same.1 ∙ aware;
-    };
+    reply = None;
+    state = known old.state;
+    answer = (ap (λ (c : Seen). pairs_of c.own) same.0, refl);
+    has = same.1 ∙ aware;
   }
   faltered step asked old new is (inr a) aware = record {
-    runs = λ steps done left split so. record {
-      state = state_after (known old.state) step asked a.reply;
-      done = done ++ step ∷ [];
-      left = left;
-      split = split ∙ sym (append_assoc done (step ∷ []) left);
-      runs = subst (λ l. RunsScript clients (done ++ step ∷ []) l (state_after (known old.state) step asked a.reply))
-          (sym (pairs_more old.client new.client asked.call a.reply a.made))
-          (RunsScript.Makes done (pairs_of old.client.own) (known old.state) step asked a.reply so is);
-      has = a.objects ∙ (ap (λ l. objects_after l asked a.reply) aware ∙ sym (objects_noted (known old.state) step asked a.reply));
+    reply = Some a.reply;
+    state = state_after (known old.state) step asked a.reply;
+    answer = record {
+      asked = asked;
+      is_asked = is;
+      made = pairs_more old.client new.client asked.call a.reply a.made;
+      knows = refl;
     };
+    has = a.objects ∙ (ap (λ l. objects_after l asked a.reply) aware ∙ sym (objects_noted (known old.state) step asked a.reply));
   }
 
+module _ {E S W : Type 0} (clients : List ℕ) (most : ℕ) where
   -- one more
-  pub ran_more : (steps rest more : List Step) (step : Step) (old new : Actor E S W) → HasRunTo clients steps rest old →
-      rest ≡ step ∷ more → HasStepped clients step old new → HasRunTo clients steps more new
+  pub ran_more : (steps rest more : List Step) (step : Step) (old new : Actor E S W) → HasRunTo clients most steps rest old →
+      rest ≡ step ∷ more → HasTaken clients most step old new → HasRunTo clients most steps more new
   ran_more steps rest more step old new so is one = record {
     done = so.done ++ step ∷ [];
     split = so.split ∙ (ap (λ l. so.done ++ l) is ∙ sym (append_assoc so.done (step ∷ []) more));
@@ -117,14 +122,11 @@ module _ {E S W : Type 0} (clients : List ℕ) where
 
   -- an actor that a fault stopped before it made all steps
   pub has_stopped : (steps : List Step) (actor : Actor E S W) (client : Seen) (held : Holds) → client ≡ actor.client →
-      HasRunSome clients steps actor.client (lies actor.slots.items) → ActorInvariant actor →
-      held ≡ sorted (objects_in_slots actor.slots.items) → AllHeldBy client.id held → HasStopped clients steps client held
+      HasRunSome clients most steps actor.client (lies actor.slots.items) → ActorInvariant actor →
+      held ≡ sorted (objects_in_slots actor.slots.items) → AllHeldBy client.id held → HasStopped clients most steps client held
   has_stopped steps actor client held same some sound is owned = record {
     before = actor.client;
     state = some.state;
-    done = some.done;
-    left = some.left;
-    split = some.split;
     runs = some.runs;
     broken = inl (same, holds actor.client.id some.state actor.slots.items held some.has sound.owned is);
     turn = inl same;
@@ -133,15 +135,23 @@ module _ {E S W : Type 0} (clients : List ℕ) where
 
   -- one that it stopped as it vanished
   pub has_broken : (steps : List Step) (actor : Actor E S W) (client left : Seen) (held back : Holds) → client ≡ actor.client →
-      RunsScript clients steps (pairs_of actor.client.own) (known actor.state) → IsAware actor → ActorInvariant actor →
-      held ≡ sorted (objects_in_slots actor.slots.items) → IsBroken client left held back → AllHeldBy left.id back → HasStopped clients steps left back
+      RunsPatiently clients most steps (pairs_of actor.client.own) (known actor.state) → IsAware actor → ActorInvariant actor →
+      held ≡ sorted (objects_in_slots actor.slots.items) → IsBroken client left held back →
+      AllHeldBy left.id back → HasStopped clients most steps left back
   has_broken steps actor client left held back same runs aware sound is broken owned = record {
     before = actor.client;
     state = known actor.state;
-    done = steps;
-    left = [];
-    split = sym (append-nil steps);
-    runs = runs;
+    runs = record {
+      done = steps;
+      left = [];
+      split = sym (append-nil steps);
+      before = known actor.state;
+      ran = pairs_of actor.client.own;
+      tried = [];
+      runs = runs;
+      tries = (refl, refl);
+      made_are = sym (append-nil (pairs_of actor.client.own));
+    };
     broken = subst (λ h. IsBroken actor.client left h back) (holds actor.client.id (known actor.state) actor.slots.items held aware
         sound.owned is) (subst (λ c. IsBroken c left held back) same broken);
     turn = inr refl;
@@ -150,8 +160,8 @@ module _ {E S W : Type 0} (clients : List ℕ) where
 
   -- an actor that made all its steps and is gone
   pub has_finished : (steps : List Step) (actor : Actor E S W) (client : Seen) (left : Remains) (held : Holds) → client ≡ actor.client →
-      RunsScript clients steps (pairs_of actor.client.own) (known actor.state) → IsAware actor → ActorInvariant actor →
-      held ≡ sorted (objects_in_slots actor.slots.items) → IsGone client left.client held left.refused → HasFinished clients steps left
+      RunsPatiently clients most steps (pairs_of actor.client.own) (known actor.state) → IsAware actor → ActorInvariant actor →
+      held ≡ sorted (objects_in_slots actor.slots.items) → IsGone client left.client held left.refused → HasFinished clients most steps left
   has_finished steps actor client left held same runs aware sound is gone = record {
     before = actor.client;
     state = known actor.state;

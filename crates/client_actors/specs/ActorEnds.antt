@@ -2,8 +2,8 @@
 use Rattle.std.specs.Prelude.{ℕ, ◌≡◌, List, [], map, Option, Some, None, slice_index_or}
 use Rattle.std.specs.List.{AllZip}
 use Rattle.client_ends.specs.Clients.{Seen}
-use Rattle.client_parting.specs.declared.gathering.Holding.{Holding}
-use Rattle.client_parting.specs.Partings.{held_in, sorted}
+use Rattle.client_vanish.specs.declared.gathering.Holding.{Holding}
+use Rattle.client_vanish.specs.Vanishings.{held_in, sorted}
 use Rattle.actor_scripts.specs.declared.step.ActorScript.{ActorScript}
 use Rattle.client_actors.specs.declared.gate.ActorEnd.{ActorEnd}
 use Rattle.client_actors.specs.ActorSteps.{HasFinished, HasStopped}
@@ -19,15 +19,16 @@ end_id (ActorEnd.Wrecked wreck) = wreck.client.id
 end_id (ActorEnd.Stopped client held fault) = client.id
 end_id (ActorEnd.NotStarted client) = client.id
 
--- it is gone and has run the script, or was stopped in it, or did not start. Labels stand for these clients
-abbrev pub IsEndOf : {E S W : Type 0} → List ℕ → ActorScript → ActorEnd E S W → Type 0
-IsEndOf clients script (ActorEnd.Wrecked wreck) = HasFinished clients script.steps.items wreck
-IsEndOf clients script (ActorEnd.Stopped client held fault) = HasStopped clients script.steps.items client (held_in held)
-IsEndOf clients script (ActorEnd.NotStarted client) = HasJoined client
+-- it is gone and has run the script, each step at most so many times more, or was stopped in it, or did not start. Labels stand for these
+-- clients
+abbrev pub IsEndOf : {E S W : Type 0} → List ℕ → ℕ → ActorScript → ActorEnd E S W → Type 0
+IsEndOf clients most script (ActorEnd.Wrecked wreck) = HasFinished clients most script.steps.items wreck
+IsEndOf clients most script (ActorEnd.Stopped client held fault) = HasStopped clients most script.steps.items client (held_in held)
+IsEndOf clients most script (ActorEnd.NotStarted client) = HasJoined client
 
 -- one end for each script, in order, where labels stand for the clients of these ends
-abbrev pub HaveRun : {E S W : Type 0} → List ActorScript → List (ActorEnd E S W) → Type 0
-HaveRun scripts ends = AllZip (IsEndOf (map end_id ends)) scripts ends
+abbrev pub HaveRun : {E S W : Type 0} → ℕ → List ActorScript → List (ActorEnd E S W) → Type 0
+HaveRun most scripts ends = AllZip (IsEndOf (map end_id ends) most) scripts ends
 
 -- its client joined, made no event since, and holds nothing
 abbrev pub IsIdle : {E S W : Type 0} → Holding E S W → Type 0
@@ -51,11 +52,11 @@ id_there None = 0
 id_there (Some end) = end_id end
 
 -- the end of this script lies there
-abbrev pub IsEndThere : {E S W : Type 0} → List ℕ → ActorScript → Option (ActorEnd E S W) → Type 0
-IsEndThere clients script None = ⊥
-IsEndThere clients script (Some end) = IsEndOf clients script end
+abbrev pub IsEndThere : {E S W : Type 0} → List ℕ → ℕ → ActorScript → Option (ActorEnd E S W) → Type 0
+IsEndThere clients most script None = ⊥
+IsEndThere clients most script (Some end) = IsEndOf clients most script end
 
 -- the end of the script of this number lies there
-pub record IsEndAt {E S W : Type 0} (clients : List ℕ) (scripts : List ActorScript) (number : ℕ) (there : Option (ActorEnd E S W)) : Type
-    0 where
-  pub end : (d : ActorScript) → IsEndThere clients (slice_index_or scripts number d) there
+pub record IsEndAt {E S W : Type 0} (clients : List ℕ) (most : ℕ) (scripts : List ActorScript) (number : ℕ)
+    (there : Option (ActorEnd E S W)) : Type 0 where
+  pub end : (d : ActorScript) → IsEndThere clients most (slice_index_or scripts number d) there

@@ -7,18 +7,18 @@ use Rattle.event_laws.specs.declared.own.Own.{Own}
 use Rattle.client_ends.specs.declared.held.End.{End}
 use Rattle.client_ends.specs.declared.held.Held.{Held}
 use Rattle.client_ends.specs.Clients.{Made, Seen}
-use Rattle.client_parting.specs.Partings.{AllHeldBy, Holds, IsBroken, IsGone, Remains, HeldObject, Token, Collection, Handle, held_in, sorted}
-use Rattle.client_parting.specs.Stacks.{kept_objects}
+use Rattle.client_vanish.specs.Vanishings.{AllHeldBy, Holds, IsBroken, IsGone, Remains, HeldObject, Token, Collection, Handle, held_in, sorted}
+use Rattle.client_vanish.specs.Stacks.{kept_objects}
 use Rattle.actor_scripts.specs.declared.step.Step.{Step}
 use Rattle.actor_scripts.specs.declared.object.StepCall.{StepCall}
 use Rattle.actor_scripts.specs.declared.object.Object.{Object}
-use Rattle.actor_scripts.specs.ActorStates.{Known, emptied, state_after, new_objects, on_of, spends_object, objects_after}
-use Rattle.actor_scripts.specs.ScriptRuns.{RunsScript}
+use Rattle.actor_scripts.specs.ActorStates.{Known, emptied, state_after, step_call, new_objects, on_of, spends_object, objects_after}
 use Rattle.actor_scripts.specs.Tables.{known}
 use Rattle.client_actors.specs.declared.actor.Actor.{Actor}
 use Rattle.client_actors.specs.declared.gate.ActorEnd.{ActorEnd}
 use Rattle.client_actors.specs.declared.new_objects.NewObjects.{NewObjects}
 use Rattle.client_actors.specs.ObjectCalls.{NewHeldBy, SlotHeldBy, lies, objects_in}
+use Rattle.client_actors.specs.PatientRuns.{FindsNothing, RunsPatiently, RunsSome}
 
 -- the calls and replies of a list
 abbrev pub pairs_of : List Own → List (Call × Reply)
@@ -38,34 +38,28 @@ part_of client (Some (Object.Handle buffer strength)) =
 abbrev pub holds_by_state : ℕ → Known → Holds
 holds_by_state client state = sorted (flat_map (part_of client) state.objects)
 
--- the remains of an actor that made all its steps and vanished: its own list is a run of its script, followed by the
--- events that closed all that it held then
-pub record HasFinished (clients : List ℕ) (steps : List Step) (left : Remains) : Type 0 where
+-- the remains of an actor that made all its steps, each at most so many times more, and vanished: its own list is a run of its script,
+-- followed by the events that closed all that it held then
+pub record HasFinished (clients : List ℕ) (most : ℕ) (steps : List Step) (left : Remains) : Type 0 where
   pub before : Seen
   pub state : Known
-  pub runs : RunsScript clients steps (pairs_of before.own) state
+  pub runs : RunsPatiently clients most steps (pairs_of before.own) state
   pub gone : IsGone before left.client (holds_by_state before.id state) left.refused
 
 -- a client's own list is a run of the first of its steps, and these are the objects that it then has
-pub record HasRunSome (clients : List ℕ) (steps : List Step) (client : Seen) (objects : List (Option Object)) : Type 0 where
+pub record HasRunSome (clients : List ℕ) (most : ℕ) (steps : List Step) (client : Seen) (objects : List (Option Object)) : Type 0 where
   pub state : Known
-  pub done : List Step
-  pub left : List Step
-  pub split : steps ≡ done ++ left
-  pub runs : RunsScript clients done (pairs_of client.own) state
+  pub runs : RunsSome clients most steps (pairs_of client.own) state
   pub has : objects ≡ state.objects
 
 -- an actor that a fault stopped: its own list is a run of the first of its steps, and then, if it made them all, the first
--- events of its parting. It holds what these did not close
-pub record HasStopped (clients : List ℕ) (steps : List Step) (client : Seen) (held : Holds) : Type 0 where
+-- events of its vanishing. It holds what these did not close
+pub record HasStopped (clients : List ℕ) (most : ℕ) (steps : List Step) (client : Seen) (held : Holds) : Type 0 where
   pub before : Seen
   pub state : Known
-  pub done : List Step
-  pub left : List Step
-  pub split : steps ≡ done ++ left
-  pub runs : RunsScript clients done (pairs_of before.own) state
+  pub runs : RunsSome clients most steps (pairs_of before.own) state
   pub broken : IsBroken before client (holds_by_state before.id state) held
-  pub turn : (client ≡ before) ⊎ (left ≡ [])
+  pub turn : (client ≡ before) ⊎ (runs.left ≡ [])
   pub owned : AllHeldBy client.id held
 
 -- one event was made, of this call on the object in the slot, if the call has a slot: the slots became `after`, and these objects are new
@@ -104,17 +98,30 @@ pub record ActorInvariant {E S W : Type 0} (actor : Actor E S W) : Type 0 where
 abbrev pub IsAware : {E S W : Type 0} → Actor E S W → Type 0
 IsAware actor = lies actor.slots.items ≡ (known actor.state).objects
 
--- if the actor has made some steps, it has made this one too, and its slots are as it knows them
-pub record HasStepped {E S W : Type 0} (clients : List ℕ) (step : Step) (old new : Actor E S W) : Type 0 where
-  pub runs : (steps : List Step) → RunsScript clients steps (pairs_of old.client.own) (known old.state) →
-      RunsScript clients (steps ++ step ∷ []) (pairs_of new.client.own) (known new.state)
+-- the step made this call, whose reply is this, and the actor then knows this
+pub record HasCalled (clients : List ℕ) (step : Step) (reply : Reply) (before after : List (Call × Reply)) (state next : Known) : Type 0 where
+  pub asked : StepCall
+  pub is_asked : step_call clients state step ≡ Some asked
+  pub made : after ≡ before ++ (asked.call, reply) ∷ []
+  pub knows : next ≡ state_after state step asked reply
+
+-- the step made a call with this reply, or none was made
+abbrev pub HasAnswer : List ℕ → Step → Option Reply → List (Call × Reply) → List (Call × Reply) → Known → Known → Type 0
+HasAnswer clients step (Some reply) before after state next = HasCalled clients step reply before after state next
+HasAnswer clients step None before after state next = (after ≡ before) × (next ≡ state)
+
+-- the actor made the step, on this reply, or skipped it, and its slots are as it knows them
+pub record HasStepped {E S W : Type 0} (clients : List ℕ) (step : Step) (reply : Option Reply) (old new : Actor E S W) : Type 0 where
+  pub answer : HasAnswer clients step reply (pairs_of old.client.own) (pairs_of new.client.own) (known old.state) (known new.state)
+  pub skips : reply ≡ None → step_call clients (known old.state) step ≡ None
   pub aware : IsAware new
 
--- a step came to a fault: if the actor has made the steps before it, it has still made the first of all
+-- a step came to a fault: no call was made, or one was, and the slots are as after its reply
 pub record HasFaltered {E S W : Type 0} (clients : List ℕ) (step : Step) (old new : Actor E S W) : Type 0 where
-  pub runs : (steps done left : List Step) → steps ≡ done ++ step ∷ left →
-      RunsScript clients done (pairs_of old.client.own) (known old.state) →
-      HasRunSome clients steps new.client (lies new.slots.items)
+  pub reply : Option Reply
+  pub state : Known
+  pub answer : HasAnswer clients step reply (pairs_of old.client.own) (pairs_of new.client.own) (known old.state) state
+  pub has : lies new.slots.items ≡ state.objects
 
 -- the objects in slots, the newest first
 abbrev pub last_objects_first : {E S W : Type 0} → List (Option (End E S W)) → List HeldObject
@@ -131,14 +138,33 @@ pub record HasMade {E S W : Type 0} (step : Step) (asked : StepCall) (reply : Re
   pub objects : (known new.state).objects ≡ objects_after (known old.state).objects asked reply
   pub slots : lies new.slots.items ≡ objects_after (lies old.slots.items) asked reply
 
--- an actor is gone and has run its script, or was stopped in it
-abbrev pub EndsSo : {E S W : Type 0} → List ℕ → List Step → ℕ → ActorEnd E S W → Type 0
-EndsSo clients steps id (ActorEnd.Wrecked wreck) = (wreck.client.id ≡ id) × HasFinished clients steps wreck
-EndsSo clients steps id (ActorEnd.Stopped client held fault) = (client.id ≡ id) × HasStopped clients steps client (held_in held)
-EndsSo clients steps id (ActorEnd.NotStarted client) = ⊥
+-- an actor is gone and has run its script, each step at most so many times more, or was stopped in it
+abbrev pub EndsSo : {E S W : Type 0} → List ℕ → ℕ → List Step → ℕ → ActorEnd E S W → Type 0
+EndsSo clients most steps id (ActorEnd.Wrecked wreck) = (wreck.client.id ≡ id) × HasFinished clients most steps wreck
+EndsSo clients most steps id (ActorEnd.Stopped client held fault) =
+    (client.id ≡ id) × HasStopped clients most steps client (held_in held)
+EndsSo clients most steps id (ActorEnd.NotStarted client) = ⊥
 
 -- it has made all steps but these, which are the last ones
-pub record HasRunTo {E S W : Type 0} (clients : List ℕ) (steps rest : List Step) (actor : Actor E S W) : Type 0 where
+pub record HasRunTo {E S W : Type 0} (clients : List ℕ) (most : ℕ) (steps rest : List Step) (actor : Actor E S W) : Type 0 where
   pub done : List Step
   pub split : steps ≡ done ++ rest
-  pub runs : RunsScript clients done (pairs_of actor.client.own) (known actor.state)
+  pub runs : RunsPatiently clients most done (pairs_of actor.client.own) (known actor.state)
+
+-- if the actor has made some steps, it has made this one too, at most so many times more, and its slots are as it knows them
+pub record HasTaken {E S W : Type 0} (clients : List ℕ) (most : ℕ) (step : Step) (old new : Actor E S W) : Type 0 where
+  pub runs : (steps : List Step) → RunsPatiently clients most steps (pairs_of old.client.own) (known old.state) →
+      RunsPatiently clients most (steps ++ step ∷ []) (pairs_of new.client.own) (known new.state)
+  pub aware : IsAware new
+
+-- a step came to a fault: if the actor has made the steps before it, it has still made the first of all
+pub record HasGivenUp {E S W : Type 0} (clients : List ℕ) (most : ℕ) (step : Step) (old new : Actor E S W) : Type 0 where
+  pub runs : (steps done left : List Step) → steps ≡ done ++ step ∷ left →
+      RunsPatiently clients most done (pairs_of old.client.own) (known old.state) →
+      HasRunSome clients most steps new.client (lies new.slots.items)
+
+-- the step was tried so often, and nothing was there
+pub record IsWaiting {E S W : Type 0} (clients : List ℕ) (step : Step) (tries : ℕ) (old new : Actor E S W) : Type 0 where
+  pub tried : List (Call × Reply)
+  pub nothing : FindsNothing clients step (known old.state) tries tried (known new.state)
+  pub made : pairs_of new.client.own ≡ pairs_of old.client.own ++ tried

@@ -1,3 +1,4 @@
 pub mod ObjectCalls
 pub mod ActorSteps
 pub mod ActorEnds
+pub mod PatientRuns

@@ -17,9 +17,11 @@ use Rattle.client_actors.specs.declared.new_objects.NewObjects.{NewObjects}
 abbrev pub token_seen : Tag → Object
 token_seen t = Object.Token t.key t.collection
 
+-- the object that a typed collection is
 abbrev pub collection_seen : Tag → Object
 collection_seen c = Object.Collection c.key c.collection
 
+-- the object that a typed handle is
 abbrev pub handle_seen : Grip → Object
 handle_seen h = Object.Handle h.buffer h.strength
 

@@ -1,5 +1,5 @@
 //! An actor: what it has and knows, and how it makes a step.
-ghost use Rattle.std.specs.Prelude.{◌≡◌, ◌+◌, ◌≤◌, [], MatchResult, IfOk, OnErr, OnOk, vec_len, vec_capacity};
+ghost use Rattle.std.specs.Prelude.{◌≡◌, ◌+◌, ◌≤◌, [], MatchResult, IfOk, OnErr, vec_len, vec_capacity};
 ghost use Rattle.std.specs.List.{All};
 ghost use Rattle.actor_scripts.specs.ActorStates.{Fits, nothing_known};
 ghost use Rattle.actor_scripts.specs.Tables.{known};
@@ -135,7 +135,7 @@ impl<E: Setup, S: Ledger, W: Ledger> Actor<E, S, W> {
     ) -> Result<Option<Reply>, StepFault>
         requires sound { ActorInvariant self.old }
         requires aware { IsAware self.old }
-        ensures stepped { OnOk result (HasStepped clients.now step self.old self.new) }
+        ensures stepped { IfOk result (λ reply. HasStepped clients.now step reply self.old self.new) }
         ensures faltered { OnErr result (HasFaltered clients.now step self.old self.new) }
         ensures sound { ActorInvariant self.new }
         ensures id { self.new.client.id ≡ self.old.client.id }

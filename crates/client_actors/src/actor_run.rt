@@ -1,25 +1,81 @@
 //! An actor runs its script, and vanishes.
-ghost use Rattle.std.specs.Prelude.{◌≡◌, [], OnErr, OnOk};
-ghost use Rattle.actor_scripts.specs.ScriptRuns.{RunsScript};
+ghost use Rattle.std.specs.Prelude.{◌≡◌, [], IfOk, OnErr, OnOk};
 ghost use Rattle.actor_scripts.specs.Tables.{known};
-ghost use Rattle.client_parting.specs.Partings.{AllHeldBy, held_in, sorted};
-ghost use Rattle.client_actors.specs.ActorSteps.{EndsSo, HasRunSome, IsAware, ActorInvariant, objects_in_slots, pairs_of};
+ghost use Rattle.client_vanish.specs.Vanishings.{AllHeldBy, held_in, sorted};
+ghost use Rattle.client_actors.specs.ActorSteps.{EndsSo, HasFaltered, HasGivenUp, HasRunSome, HasStepped, HasTaken, IsAware, ActorInvariant, objects_in_slots, pairs_of};
 ghost use Rattle.client_actors.specs.ObjectCalls.{lies};
+ghost use Rattle.client_actors.specs.PatientRuns.{RunsPatiently};
 
 use crate::actor::Actor;
 use crate::gate::{ActorEnd, Gate};
+use crate::patience::{await_firing, is_nothing, pause};
 use crate::stored_objects::unload;
 use actor_scripts::{ActorScript, Step};
 use client_ends::{Client, Held};
-use client_parting::vanish;
+use client_vanish::vanish;
 use service_lock::{Service, Setup};
-use sm_names::{ClientId, StepFault};
+use sm_names::{ClientId, Reply, StepFault};
 use std::alloc::Global;
 use std::sync::Wait;
 use std::sync::ledger::Ledger;
+use std::time::Clock;
 
-// Makes the steps in order, until a fault.
-fn run_steps<E: Setup, S: Ledger, W: Ledger, G: Gate, R: Wait>(
+// Makes the step, and again while nothing is there for it, at most so many times more.
+fn take_step<E: Setup, S: Ledger, W: Ledger, G: Gate, R: Wait + Clock>(
+    rt: &R,
+    alloc: Global,
+    service: &Service<E, S, W>,
+    gate: &G,
+    clients: &[ClientId],
+    actor: &mut Actor<E, S, W>,
+    number: u64,
+    step: &Step,
+    most: u64,
+) -> Result<(), StepFault>
+    requires sound { ActorInvariant actor.old }
+    requires aware { IsAware actor.old }
+    ensures taken { OnOk result (HasTaken clients.now most step.now actor.old actor.new) }
+    ensures given { OnErr result (HasGivenUp clients.now most step.now actor.old actor.new) }
+    ensures sound { ActorInvariant actor.new }
+    ensures id { actor.new.client.id ≡ actor.old.client.id }
+{
+    for tries in 0..most {
+        let reply = try_step(rt, alloc, service, gate, clients, actor, number, *step)?;
+        if !is_nothing(&reply) {
+            return Ok(());
+        }
+        pause(rt, tries);
+    }
+    let _last = try_step(rt, alloc, service, gate, clients, actor, number, *step)?;
+    Ok(())
+}
+
+// Makes the step once, and the gate hears of it.
+fn try_step<E: Setup, S: Ledger, W: Ledger, G: Gate, R: Wait>(
+    rt: &R,
+    alloc: Global,
+    service: &Service<E, S, W>,
+    gate: &G,
+    clients: &[ClientId],
+    actor: &mut Actor<E, S, W>,
+    number: u64,
+    step: Step,
+) -> Result<Option<Reply>, StepFault>
+    requires sound { ActorInvariant actor.old }
+    requires aware { IsAware actor.old }
+    ensures stepped { IfOk result (λ reply. HasStepped clients.now step reply actor.old actor.new) }
+    ensures faltered { OnErr result (HasFaltered clients.now step actor.old actor.new) }
+    ensures sound { ActorInvariant actor.new }
+    ensures id { actor.new.client.id ≡ actor.old.client.id }
+{
+    gate.before(actor.client.id(), number);
+    let reply = actor.step(rt, alloc, service, clients, step)?;
+    gate.after(actor.client.id(), number, &reply);
+    Ok(reply)
+}
+
+// Makes the steps in order, until a fault, each at most so many times more.
+fn run_steps<E: Setup, S: Ledger, W: Ledger, G: Gate, R: Wait + Clock>(
     rt: &R,
     alloc: Global,
     service: &Service<E, S, W>,
@@ -27,15 +83,16 @@ fn run_steps<E: Setup, S: Ledger, W: Ledger, G: Gate, R: Wait>(
     clients: &[ClientId],
     actor: &mut Actor<E, S, W>,
     steps: &[Step],
+    most: u64,
 ) -> Result<(), StepFault>
     requires sound { ActorInvariant actor.old }
     requires aware { IsAware actor.old }
-    requires none { RunsScript clients.now [] (pairs_of actor.old.client.own)
+    requires none { RunsPatiently clients.now most [] (pairs_of actor.old.client.own)
         (known actor.old.state) }
-    ensures runs { OnOk result (RunsScript clients.now steps.now (pairs_of actor.new.client.own)
-        (known actor.new.state)) }
+    ensures runs { OnOk result (RunsPatiently clients.now most steps.now
+        (pairs_of actor.new.client.own) (known actor.new.state)) }
     ensures aware { OnOk result (IsAware actor.new) }
-    ensures some { OnErr result (HasRunSome clients.now steps.now actor.new.client
+    ensures some { OnErr result (HasRunSome clients.now most steps.now actor.new.client
         (lies actor.new.slots.items)) }
     ensures sound { ActorInvariant actor.new }
     ensures id { actor.new.client.id ≡ actor.old.client.id }
@@ -44,9 +101,8 @@ fn run_steps<E: Setup, S: Ledger, W: Ledger, G: Gate, R: Wait>(
     let mut rest = steps;
     'each_step: while let Some((step, more)) = rest.split_first() {
         number = number.wrapping_add(1);
-        gate.before(actor.client.id(), number);
-        let reply = actor.step(rt, alloc, service, clients, *step)?;
-        gate.after(actor.client.id(), number, &reply);
+        take_step(rt, alloc, service, gate, clients, actor, number, step, most)?;
+        await_firing(rt, service, &actor.state, *step, most);
         rest = more;
     }
     Ok(())
@@ -74,17 +130,21 @@ fn leave<E: Setup, S: Ledger, W: Ledger>(actor: Actor<E, S, W>) -> (Client<E, S,
 /// then vanishes, as by `vanish`, with all that it holds, in the list of each kind in the order in which it
 /// came: tokens as replies gave them, collections as they were bound or collected, handles as they were
 /// opened. The client is one that joined and has made no event since; `clients` are the ids of all actors,
-/// in the order of their scripts. The gate hears of each step.
+/// in the order of their scripts. The gate hears of each try of a step.
 ///
-/// Ended `Wrecked`, the client's own list is a run of the script, each step's call once, and then
-/// the events of its parting. On a fault it is `Stopped` at once: its own list is a run of the first
+/// A `collect`, `check` or `take` that finds nothing is tried again, and so is a look at a tracker that has
+/// not fired: each at most `most` times more, with a pause of a millisecond behind each try but the first
+/// hundred. So each step is made once where `most` is 0.
+///
+/// Ended `Wrecked`, the client's own list is a run of the script, each step's tries one after another, and then
+/// the events of its vanishing. On a fault it is `Stopped` at once: its own list is a run of the first
 /// steps, each with all that its reply gave, and then, if it made them all, the first events of its
-/// parting; it has all that it then holds.
+/// vanishing; it has all that it then holds.
 ///
 /// Costs the events of its calls, a constant number of look-ups for each step and each object that
 /// came or was spent, and memory for each object that was ever given. A tracker is dropped at once,
 /// and a look at one makes no call.
-pub fn run_actor<E: Setup, S: Ledger, W: Ledger, G: Gate, R: Wait>(
+pub fn run_actor<E: Setup, S: Ledger, W: Ledger, G: Gate, R: Wait + Clock>(
     rt: &R,
     alloc: Global,
     service: &Service<E, S, W>,
@@ -92,13 +152,14 @@ pub fn run_actor<E: Setup, S: Ledger, W: Ledger, G: Gate, R: Wait>(
     clients: &[ClientId],
     client: Client<E, S, W>,
     script: &ActorScript,
+    most: u64,
 ) -> ActorEnd<E, S, W>
     requires { client.own ≡ [] }
-    ensures { EndsSo clients.now script.now.steps.items client.id result }
+    ensures { EndsSo clients.now most script.now.steps.items client.id result }
 {
     let mut actor = Actor::new(alloc, client);
     let steps = script.steps.as_slice();
-    let ran = run_steps(rt, alloc, service, gate, clients, &mut actor, steps);
+    let ran = run_steps(rt, alloc, service, gate, clients, &mut actor, steps, most);
     let (client, held) = leave(actor);
     match ran {
         Ok(()) => match vanish(rt, alloc, service, client, held) {

@@ -13,7 +13,7 @@ use crate::gate::{ActorEnd, Gate};
 use crate::start::Start;
 use actor_scripts::ActorScript;
 use client_ends::{Held, join, memory_fault};
-use client_parting::Holding;
+use client_vanish::Holding;
 use service_lock::{Service, Setup, State};
 use sm_names::{ClientId, StepFault};
 use std::alloc::Global;
@@ -34,11 +34,12 @@ fn run_there<E: Setup, S: Ledger, W: Ledger, G: Gate, R: Wait + Clock>(
     start: &Start,
     scripts: &[ActorScript],
     number: usize,
+    most: u64,
     on: &mut Option<ActorEnd<E, S, W>>,
 )
     requires ready { CanStart on.old }
     requires number { number < length scripts.now }
-    ensures end { IsEndAt clients.now scripts.now number on.new }
+    ensures end { IsEndAt clients.now most scripts.now number on.new }
     ensures id { id_there on.new ≡ id_there on.old }
 {
     if !start.come(rt) {
@@ -46,7 +47,8 @@ fn run_there<E: Setup, S: Ledger, W: Ledger, G: Gate, R: Wait + Clock>(
     }
     match mem::replace(on, None) {
         Some(ActorEnd::NotStarted(client)) => {
-            let end = run_actor(rt, alloc, service, gate, clients, client, &scripts[number]);
+            let script = &scripts[number];
+            let end = run_actor(rt, alloc, service, gate, clients, client, script, most);
             match mem::replace(on, Some(end)) {
                 None => {}
                 Some(_) => unreachable!(),
@@ -70,11 +72,12 @@ fn run_all<
     gate: &G,
     clients: &[ClientId],
     scripts: &[ActorScript],
+    most: u64,
     actors: &mut [Option<ActorEnd<E, S, W>>],
 )
     requires ready { All CanStart actors.old }
     requires len { length scripts.now ≡ length actors.old }
-    ensures ends { AllZip (IsEndThere clients.now) scripts.now actors.new }
+    ensures ends { AllZip (IsEndThere clients.now most) scripts.now actors.new }
     ensures ids { map id_there actors.new ≡ map id_there actors.old }
 {
     let count = actors.len();
@@ -86,7 +89,9 @@ fn run_all<
         rt,
         actors,
         count,
-        &|i, on| run_there(rt, alloc, service, gate, clients, &start, scripts, i, on),
+        &|i, on| run_there(
+            rt, alloc, service, gate, clients, &start, scripts, i, most, on,
+        ),
     );
 }
 
@@ -229,8 +234,9 @@ fn clients_of<E: Setup, S: Ledger, W: Ledger>(
 
 /// Runs all scripts side by side: a client for each joins, in order, and then each runs its script,
 /// as by `run_actor`, in a thread of its own. All threads wait until all are there, so that each
-/// actor may wait for any other; all have ended when it returns. The gate hears of each step of
-/// each actor, outside the lock.
+/// actor may wait for any other; all have ended when it returns. Each step is made again while
+/// nothing is there for it, at most `most` times more. The gate hears of each try of each actor,
+/// outside the lock.
 ///
 /// One end for each script, in order; labels of clients stand for the clients of these ends. An
 /// actor that is stopped by a fault leaves the others as they are. Where the system gives no more
@@ -254,8 +260,9 @@ pub fn run_actors<
     service: &Service<E, S, W>,
     gate: &G,
     scripts: &[ActorScript],
+    most: u64,
 ) -> Result<Vec<ActorEnd<E, S, W>>, (Vec<Holding<E, S, W>>, StepFault)>
-    ensures ran { IfOk result (λ ends. HaveRun scripts.now ends.items) }
+    ensures ran { IfOk result (λ ends. HaveRun most scripts.now ends.items) }
     ensures idle { IfErr result (λ e. All IsIdle e.0.items) }
     ensures few { IfErr result (λ e. vec_len e.0 ≤ length scripts.now) }
 {
@@ -289,6 +296,7 @@ pub fn run_actors<
                 gate,
                 ids,
                 scripts,
+                most,
                 actors.as_mut_slice(),
             );
             Ok(ends_of(actors, ends))

@@ -1,12 +1,12 @@
 //! What a program hears of actors while they run, and at their end.
 use client_ends::{Client, Held};
-use client_parting::Wreck;
+use client_vanish::Wreck;
 use service_lock::Setup;
 use sm_names::{ClientId, Reply, StepFault};
 use std::sync::ledger::Ledger;
 
 /// Hears of each step of each actor, outside the lock. Steps are numbered from 1, those that are
-/// skipped and looks at trackers too.
+/// skipped and looks at trackers too. A step that is tried again is heard of again, with its number.
 pub trait Gate {
     /// The actor is about to make the step.
     fn before(&self, client: ClientId, step: u64);

@@ -1,7 +1,7 @@
 //! Room in the slots, and what is put into them and taken out.
 ghost use Rattle.std.specs.Prelude.{◌≡◌, ◌+◌, ◌≤◌, ◌++◌, length, OnOk, vec_len, vec_capacity};
-ghost use Rattle.client_parting.specs.Partings.{held_in, sorted};
-ghost use Rattle.client_parting.specs.Stacks.{both};
+ghost use Rattle.client_vanish.specs.Vanishings.{held_in, sorted};
+ghost use Rattle.client_vanish.specs.Stacks.{both};
 ghost use Rattle.client_actors.specs.ActorSteps.{ListsHaveRoom, last_objects_first};
 ghost use Rattle.client_actors.specs.ObjectCalls.{slots_for};
 

@@ -15,6 +15,7 @@ untaken_last [] id = rw (eq-eqb id id refl) refl
 untaken_last (i ∷ ids) id = let rest : is_untaken (ids ++ id ∷ []) id ≡ true = untaken_last ids id in
     either (i == id) rest
   where
+    -- by cases on the test
     either : (b : Bool) → is_untaken (ids ++ id ∷ []) id ≡ true → (b || is_untaken (ids ++ id ∷ []) id) ≡ true
     either true so = refl
     either false so = so

@@ -7,8 +7,9 @@ use Rattle.sm_names.specs.declared.rules.TheConstants.{MAX_PAGES}
 use Rattle.clap.specs.Words.{Row, ReadsOne, Text, first_of, first_value, found_of, one_of, one_text, rows_of, subcommand_rows_of}
 use Rattle.clap.specs.declared.parser.matches.ArgMatches.{ArgMatches}
 use Rattle.clap.proofs.WalkLemmas.{first_value-rows, one_text-rows}
+use Rattle.command_line.specs.declared.task.Search.{Search}
 use Rattle.command_line.specs.declared.task.Until.{Until}
-use Rattle.command_line.specs.Asked.{AreAsked, IsCount, IsNumberRead, IsUntil, subcommand_text, value_text, written_number}
+use Rattle.command_line.specs.Asked.{AreAsked, IsCount, IsNumberRead, IsSearch, IsUntil, subcommand_text, value_text, written_number}
 
 -- the text is that of the subcommand's own matches
 pub its_text : (id : List ℕ) (matches inner : ArgMatches) (o : Option (Text × List Row)) →
@@ -87,4 +88,14 @@ until-same event line failure its_event its_line its_failure until e l f read = 
   line_read = subst (λ (t : Option (List ℕ)). IsNumberRead t read.line_number) (sym l) read.line_read;
   failure_read = subst (λ (t : Option (List ℕ)). IsNumberRead t read.failure_number) (sym f) read.failure_read;
   is = read.is;
+}
+
+-- so is what they ask a search for
+pub search-same : (outcome states its_outcome its_states : Option (List ℕ)) (search : Search) → its_outcome ≡ outcome →
+    its_states ≡ states → IsSearch outcome states search → IsSearch its_outcome its_states search
+search-same outcome states its_outcome its_states search o s read = record {
+  outcome_read = subst (λ (t : Option (List ℕ)). IsNumberRead t search.outcome) (sym o) read.outcome_read;
+  states_number = read.states_number;
+  states_read = subst (λ (t : Option (List ℕ)). IsNumberRead t read.states_number) (sym s) read.states_read;
+  states_is = read.states_is;
 }

@@ -5,6 +5,7 @@ use Rattle.sm_names.specs.declared.rules.TheConstants.{MAX_PAGES}
 use Rattle.clap.specs.Words.{first_of, one_of, subcommand_rows_of}
 use Rattle.clap.specs.declared.parser.matches.ArgMatches.{ArgMatches}
 use Rattle.command_line.specs.declared.task.Format.{Format}
+use Rattle.command_line.specs.declared.task.Search.{Search}
 use Rattle.command_line.specs.declared.task.Task.{Task}
 use Rattle.command_line.specs.declared.task.Until.{Until}
 
@@ -34,10 +35,12 @@ subcommand_text id matches = option_and_then (λ sub. first_of id sub.1) (subcom
 abbrev pub IsTask : Option (List ℕ) → Task → Type 0
 IsTask None task = task ≡ Task.Run
 IsTask (Some name) Task.Run = (name ≢ codes "threads") × (name ≢ codes "explain") × (name ≢ codes "draw") × (name ≢ codes "check")
-IsTask (Some name) (Task.Threads output) = name ≡ codes "threads"
-IsTask (Some name) (Task.Explain failures) = name ≡ codes "explain"
+    × (name ≢ codes "explore")
+IsTask (Some name) (Task.Threads output patience) = name ≡ codes "threads"
+IsTask (Some name) (Task.Explain failures summary) = name ≡ codes "explain"
 IsTask (Some name) (Task.Draw view) = name ≡ codes "draw"
 IsTask (Some name) Task.Check = name ≡ codes "check"
+IsTask (Some name) (Task.Explore search) = name ≡ codes "explore"
 
 -- the format of this name: text if it has none of the other names
 abbrev pub IsFormat : Option (List ℕ) → Format → Type 0
@@ -95,10 +98,37 @@ pub record IsFlag (text : Option (List ℕ)) (flag : Bool) : Type 0 where
 
 -- whether a run of actors writes its record
 abbrev pub HasRecord : Option (List ℕ) → Task → Type 0
-HasRecord text (Task.Threads flag) = IsFlag text flag
+HasRecord text (Task.Threads output patience) = IsFlag text output
 HasRecord text task = ⊤
+
+-- whether actors make steps again while nothing is there for them
+abbrev pub HasPatience : Option (List ℕ) → Task → Type 0
+HasPatience text (Task.Threads output patience) = IsFlag text patience
+HasPatience text task = ⊤
 
 -- whether an explanation tells only the failures
 abbrev pub HasFailures : Option (List ℕ) → Task → Type 0
-HasFailures text (Task.Explain flag) = IsFlag text flag
+HasFailures text (Task.Explain failures summary) = IsFlag text failures
 HasFailures text task = ⊤
+
+-- whether an explanation ends with a summary
+abbrev pub HasSummary : Option (List ℕ) → Task → Type 0
+HasSummary text (Task.Explain failures summary) = IsFlag text summary
+HasSummary text task = ⊤
+
+-- how many states are met at most, if this number is asked for
+abbrev pub states_asked : Option ℕ → ℕ
+states_asked (Some states) = states
+states_asked None = 1000000
+
+-- the outcome and the number of states that these texts ask for
+pub record IsSearch (outcome states : Option (List ℕ)) (search : Search) : Type 0 where
+  pub outcome_read : IsNumberRead outcome search.outcome
+  pub states_number : Option ℕ
+  pub states_read : IsNumberRead states states_number
+  pub states_is : search.states ≡ states_asked states_number
+
+-- which search through the orders is asked for, if one is
+abbrev pub HasSearch : Option (List ℕ) → Option (List ℕ) → Option (List ℕ) → Task → Type 0
+HasSearch once outcome states (Task.Explore search) = IsFlag once search.once × IsSearch outcome states search
+HasSearch once outcome states task = ⊤

@@ -1,7 +1,8 @@
 //! The commands of the program, with their options.
 use crate::help::{
     ABOUT, CHECK_ABOUT, CHECK_HELP, DRAW_ABOUT, DRAW_HELP, DRAW_STATUS, EXAMPLES, EXPLAIN_ABOUT,
-    EXPLAIN_HELP, LINES, RUN_ABOUT, RUN_HELP, THREADS_ABOUT, THREADS_HELP,
+    EXPLAIN_HELP, EXPLORE_ABOUT, EXPLORE_HELP, EXPLORE_STATUS, LINES, RUN_ABOUT, RUN_HELP,
+    THREADS_ABOUT, THREADS_HELP,
 };
 use clap::builder::ValueParser;
 use clap::{Arg, ArgAction, Command, value_parser};
@@ -19,10 +20,14 @@ pub(crate) const DRAW: &str = "draw";
 
 pub(crate) const CHECK: &str = "check";
 
+pub(crate) const EXPLORE: &str = "explore";
+
 // The names of the options, and of the argument.
 pub(crate) const PAGES: &str = "pages";
 
 pub(crate) const RECORD: &str = "record";
+
+pub(crate) const PATIENT: &str = "patient";
 
 pub(crate) const FORMAT: &str = "format";
 
@@ -33,6 +38,14 @@ pub(crate) const LINE: &str = "line";
 pub(crate) const FAILURE: &str = "failure";
 
 pub(crate) const FAILURES: &str = "failures";
+
+pub(crate) const SUMMARY: &str = "summary";
+
+pub(crate) const ONCE: &str = "once";
+
+pub(crate) const OUTCOME: &str = "outcome";
+
+pub(crate) const STATES: &str = "states";
 
 pub(crate) const FILE: &str = "file";
 
@@ -104,7 +117,7 @@ fn line_word<'a>(alloc: Global) -> Arg<'a> {
     .value_parser(value_parser!(u64))
 }
 
-// The option `--failure[=K]`.
+// The option `--failure[=K]`. Behind a space K would be the FILE.
 fn failure_word<'a>(alloc: Global) -> Arg<'a> {
     Arg::new(alloc, FAILURE)
         .long(FAILURE)
@@ -125,12 +138,56 @@ fn failures_word<'a>(alloc: Global) -> Arg<'a> {
         .help("Tells only the lines whose event made a node fail")
 }
 
+// The option `--summary`.
+fn summary_word<'a>(alloc: Global) -> Arg<'a> {
+    Arg::new(alloc, SUMMARY)
+        .long(SUMMARY)
+        .action(ArgAction::SetTrue)
+        .help(
+            "Tells at the end in which events nodes failed, who keeps pages, and which trackers wait",
+        )
+}
+
+// The option `--once`.
+fn once_word<'a>(alloc: Global) -> Arg<'a> {
+    Arg::new(alloc, ONCE)
+        .long(ONCE)
+        .action(ArgAction::SetTrue)
+        .help("No line waits: each step is made once, as in sysmem threads")
+}
+
+// The option `--outcome K`.
+fn outcome_word<'a>(alloc: Global) -> Arg<'a> {
+    option(
+        alloc,
+        OUTCOME,
+        "K",
+        "Writes a shortest play of outcome K as a script, instead of the report",
+    )
+    .value_parser(value_parser!(u64))
+}
+
+// The option `--states N`.
+fn states_word<'a>(alloc: Global) -> Arg<'a> {
+    option(alloc, STATES, "N", "How many states are met at most")
+        .value_parser(value_parser!(u64))
+        .default_value("1000000")
+}
+
 // The option `--record`.
 fn record_word<'a>(alloc: Global) -> Arg<'a> {
     Arg::new(alloc, RECORD)
         .long(RECORD)
         .action(ArgAction::SetTrue)
         .help("Writes all events as a transcript, and below it the report, each line after #")
+}
+
+// The option `--patient`.
+fn patient_word<'a>(alloc: Global) -> Arg<'a> {
+    Arg::new(alloc, PATIENT)
+        .long(PATIENT)
+        .action(ArgAction::SetTrue)
+        .help("Makes a collect, check, take or poll again until it is answered otherwise")
 }
 
 // The name of a file that is read instead of standard input.
@@ -147,11 +204,16 @@ enum Word {
     Pages,
     File,
     Record,
+    Patient,
     Format,
     At,
     Line,
     Failure,
     Failures,
+    Summary,
+    Once,
+    Outcome,
+    States,
 }
 
 // A command: its name, what its help says, and what it takes.
@@ -178,7 +240,7 @@ const COMMANDS: &[Row] = &[
         about: THREADS_ABOUT,
         long_about: LINES,
         after_help: Some(THREADS_HELP),
-        words: &[Word::Pages, Word::File, Word::Record],
+        words: &[Word::Pages, Word::File, Word::Record, Word::Patient],
     },
     // Explains each line.
     Row {
@@ -186,7 +248,7 @@ const COMMANDS: &[Row] = &[
         about: EXPLAIN_ABOUT,
         long_about: EXPLAIN_HELP,
         after_help: Some(LINES),
-        words: &[Word::Pages, Word::File, Word::Failures],
+        words: &[Word::Pages, Word::File, Word::Failures, Word::Summary],
     },
     // Draws trees.
     Row {
@@ -211,6 +273,20 @@ const COMMANDS: &[Row] = &[
         after_help: None,
         words: &[Word::Pages, Word::File],
     },
+    // Goes through all orders.
+    Row {
+        name: EXPLORE,
+        about: EXPLORE_ABOUT,
+        long_about: EXPLORE_HELP,
+        after_help: Some(EXPLORE_STATUS),
+        words: &[
+            Word::Pages,
+            Word::File,
+            Word::Once,
+            Word::Outcome,
+            Word::States,
+        ],
+    },
 ];
 
 // The option or the file.
@@ -219,11 +295,16 @@ fn argument<'a>(alloc: Global, word: Word) -> Result<Arg<'a>, AllocError> {
         Word::Pages => Ok(pages_word(alloc)),
         Word::File => Ok(file_word(alloc)),
         Word::Record => Ok(record_word(alloc)),
+        Word::Patient => Ok(patient_word(alloc)),
         Word::Format => Ok(format_word(alloc)),
         Word::At => Ok(at_word(alloc)),
         Word::Line => line_word(alloc).conflicts_with(AT),
         Word::Failure => failure_word(alloc).conflicts_with(AT)?.conflicts_with(LINE),
         Word::Failures => Ok(failures_word(alloc)),
+        Word::Summary => Ok(summary_word(alloc)),
+        Word::Once => Ok(once_word(alloc)),
+        Word::Outcome => Ok(outcome_word(alloc)),
+        Word::States => Ok(states_word(alloc)),
     }
 }
 

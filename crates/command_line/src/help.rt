@@ -138,6 +138,11 @@ label of a node is n and the number of the event of its birth:
 `sysmem threads --record shared.actors | sysmem explain` explains these events,
 if both commands have the same --pages.
 
+With --patient an actor waits: it makes a collect that is answered empty, a check
+or take that is answered pending, and a poll of a tracker that has not fired
+again, at most 100000 times, with a pause of a millisecond behind each but the
+first hundred. Each such call is an event.
+
 Status: 0 the report was written; 1 FILE can't be opened, or read or write fault;
 2 the command line was refused; 3 a bad line: also a show, a join after a step
 or of a client that joined, a client that does not join, or no client at all; 4
@@ -169,10 +174,14 @@ event: the numbers of the event and of its line, for `sysmem draw`. up: the
 failure climbs from node to parent, along links that are not blocked.
 down: all children fail too. stops: why it climbs no further. kept: who keeps
 pages that are not free yet. camps: how many buffers each node camps on. waits:
-the nodes for which an allocation waits. since: the line whose event made that
-loss.
+the nodes for which an allocation waits. why: what a refused call failed at.
+since: the line that made the loss, or that the refusal or misuse rests on.
 
 Lines that begin with two spaces are skipped, and count as lines.
+
+With --summary it ends with a summary, indented by four spaces: in which events
+nodes failed, how many pages are held, who keeps them, and which trackers have
+not fired.
 
 Status: 0 all lines were answered; 1 FILE can't be opened, or read or write
 fault; 2 the command line was refused; 3 a bad line; 4 no memory, or history
@@ -225,3 +234,67 @@ Status: 0 all replies agree; 1 FILE can't be opened, or read or write fault; 2
 the command line was refused; 3 a bad line; 4 no memory, or history full; 6 a
 reply differs; 7 no line was played. A fault is one line on standard error; a bad
 line has its reason.";
+
+pub(crate) const EXPLORE_ABOUT: &str =
+    "Goes through all orders of the clients' steps, and tells the outcomes";
+
+pub(crate) const EXPLORE_HELP: &str = "\
+Goes through all orders of the clients' steps, and tells the outcomes
+
+    sysmem explore pair.actors
+
+reads a script as `sysmem threads` does: the lines that begin with a client's
+label are its steps. So
+
+    a join
+    b join
+    a open r
+    a dup r s
+    a give s b
+    b collect t
+    b release t
+    a release r
+
+has an outcome in which b looks for the token before it is given:
+
+    2 clients, 6 steps; none vanishes
+    6 orders, 14 states, 2 outcomes
+
+      r     is released, without buffers    88 of 100: outcome 1
+            ends                            12 of 100: outcome 2
+      s     is live, without buffers        88 of 100: outcome 1
+            ends                            12 of 100: outcome 2
+      a b   comes to its end              always
+      free  16                            always
+
+A line that stands twice or more in a row waits: a collect, check, take or poll
+is then made once its answer is no longer empty or pending. With --once it is
+made as often as it stands. A client stays when its steps are done.
+
+An outcome says of each node whether it ends, fails (and why), or is left, of
+each client whether it comes to its end or waits for ever, of each tracker
+whether it fires, and how many pages are free. N of 100: the share of the runs
+in which each turn is drawn evenly among the clients that have one.
+
+    sysmem explore --outcome 2 pair.actors | sysmem explain
+
+explains a play that comes to outcome 2, of the fewest calls. Labels that two
+clients use have the client's in front there.
+
+A script may have claims, which other commands skip, such as
+
+    #! never s fails lost by r
+    #! always free 16
+    #! sometimes b waits
+
+A fact is: NODE fails [CAUSE] [by NODE], NODE ends, NODE lives, NODE pending
+(it is left without buffers), CLIENT waits, TRACKER fires, or free PAGES. The
+report tells which claims hold, and which outcome breaks one that does not.";
+
+pub(crate) const EXPLORE_STATUS: &str = "\
+Status: 0 all orders were gone through, and all claims hold; 1 FILE can't be
+opened, or read or write fault; 2 the command line was refused, or there is no
+such outcome; 3 a bad line, as for `sysmem threads`, or a bad claim; 4 no
+memory, or history full; 5 a mistake of the program; 6 a claim does not hold;
+7 not all orders were gone through, since there are more states than --states.
+A fault is one line on standard error; a bad line has its reason.";

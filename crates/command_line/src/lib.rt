@@ -9,4 +9,4 @@ mod task;
 
 pub use commands::command;
 pub use request::{Request, request_of};
-pub use task::{Format, Task, Until, View, task_of};
+pub use task::{Format, Search, Task, Until, View, task_of};

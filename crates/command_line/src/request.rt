@@ -1,7 +1,7 @@
 //! What the words of the command line ask for.
 ghost use Rattle.std.specs.Prelude.{IfSome, codes, option_map};
 ghost use Rattle.clap.specs.Matches.{subcommand_name_of};
-ghost use Rattle.command_line.specs.Asked.{AreAsked, HasFailures, HasFormat, HasRecord, HasUntil, IsFile, IsTask, subcommand_text, value_text};
+ghost use Rattle.command_line.specs.Asked.{AreAsked, HasFailures, HasFormat, HasPatience, HasRecord, HasSearch, HasSummary, HasUntil, IsFile, IsTask, subcommand_text, value_text};
 
 use crate::commands::{FILE, PAGES, STANDARD_INPUT};
 use crate::task::{Task, task_of};
@@ -32,7 +32,14 @@ pub fn request_of<'a>(matches: &ArgMatches<'a>) -> Option<Request<'a>>
         request.task) }
     ensures failures { IfSome result (λ request. HasFailures (value_text (codes "failures") matches.now)
         request.task) }
+    ensures summary { IfSome result (λ request. HasSummary (value_text (codes "summary") matches.now)
+        request.task) }
     ensures record { IfSome result (λ request. HasRecord (value_text (codes "record") matches.now)
+        request.task) }
+    ensures patience { IfSome result (λ request. HasPatience (value_text (codes "patient") matches.now)
+        request.task) }
+    ensures search { IfSome result (λ request. HasSearch (value_text (codes "once") matches.now)
+        (value_text (codes "outcome") matches.now) (value_text (codes "states") matches.now)
         request.task) }
     ensures file { IfSome result (λ request. IsFile (subcommand_text (codes "file") matches.now)
         (option_map (λ name. name.now) request.file)) }

@@ -1,10 +1,11 @@
 //! What a command does with a script.
 ghost use Rattle.std.specs.Prelude.{◌≡◌, codes, option_map};
 ghost use Rattle.clap.specs.Matches.{first_value, found_of, one_text, subcommand_name_of};
-ghost use Rattle.command_line.specs.Asked.{HasFailures, HasFormat, HasRecord, HasUntil, IsFlag, IsFormat, IsTask, IsUntil, subcommand_text, until_asked, value_text};
+ghost use Rattle.command_line.specs.Asked.{HasFailures, HasFormat, HasPatience, HasRecord, HasSearch, HasSummary, HasUntil, IsFlag, IsFormat, IsSearch, IsTask, IsUntil, states_asked, subcommand_text, until_asked, value_text};
 
 use crate::commands::{
-    AT, CHECK, DOT, DRAW, EXPLAIN, FAILURE, FAILURES, FORMAT, LINE, RECORD, SVG, THREADS,
+    AT, CHECK, DOT, DRAW, EXPLAIN, EXPLORE, FAILURE, FAILURES, FORMAT, LINE, ONCE, OUTCOME,
+    PATIENT, RECORD, STATES, SUMMARY, SVG, THREADS,
 };
 use clap::ArgMatches;
 
@@ -39,20 +40,40 @@ pub struct View {
     pub until: Until,
 }
 
+/// Which search through the orders of the clients' steps is asked for.
+#[derive(Clone, Copy)]
+pub struct Search {
+    /// No line waits: each step is made once.
+    pub once: bool,
+    /// The number of the outcome whose play is written, from 1; `None` where the report is.
+    pub outcome: Option<u64>,
+    /// How many states are met at most.
+    pub states: u64,
+}
+
 /// What a command does with a script.
 #[derive(Clone, Copy)]
 pub enum Task {
     /// Answers each line.
     Run,
-    /// Runs the clients as actors, and writes the record too if it is asked for.
-    Threads { has_record: bool },
+    /// Runs the clients as actors, and writes the record too if it is asked for. A patient actor makes a step
+    /// again while nothing is there for it.
+    Threads {
+        has_record: bool,
+        is_patient: bool,
+    },
     /// Repeats each line with its reply and what its event forced, or only the lines whose event made a
-    /// node fail.
-    Explain { only_failures: bool },
+    /// node fail, and tells a summary behind them if it is asked for.
+    Explain {
+        only_failures: bool,
+        has_summary: bool,
+    },
     /// Draws the trees.
     Draw(View),
     /// Compares the replies of a transcript.
     Check,
+    /// Goes through all orders of the clients' steps.
+    Explore(Search),
 }
 
 /// What the matches of a parse ask for: the task of the subcommand of that name, and `Run` for any other
@@ -63,7 +84,11 @@ pub fn task_of(matches: &ArgMatches<'_>) -> Task
     ensures until { HasUntil (value_text (codes "at") matches.now)
         (value_text (codes "line") matches.now) (value_text (codes "failure") matches.now) result }
     ensures failures { HasFailures (value_text (codes "failures") matches.now) result }
+    ensures summary { HasSummary (value_text (codes "summary") matches.now) result }
     ensures record { HasRecord (value_text (codes "record") matches.now) result }
+    ensures patience { HasPatience (value_text (codes "patient") matches.now) result }
+    ensures search { HasSearch (value_text (codes "once") matches.now)
+        (value_text (codes "outcome") matches.now) (value_text (codes "states") matches.now) result }
 {
     let Some((name, inner)) = matches.subcommand() else {
         return Task::Run;
@@ -71,15 +96,20 @@ pub fn task_of(matches: &ArgMatches<'_>) -> Task
     if name == THREADS {
         return Task::Threads {
             has_record: inner.get_flag(RECORD),
+            is_patient: inner.get_flag(PATIENT),
         };
     }
     if name == EXPLAIN {
         return Task::Explain {
             only_failures: inner.get_flag(FAILURES),
+            has_summary: inner.get_flag(SUMMARY),
         };
     }
     if name == DRAW {
         return Task::Draw(view_of(inner));
+    }
+    if name == EXPLORE {
+        return Task::Explore(search_of(inner));
     }
     if name == CHECK {
         Task::Check
@@ -101,6 +131,31 @@ fn view_of(matches: &ArgMatches<'_>) -> View
     View {
         format: format_of(matches.get_str(FORMAT)),
         until: until_of(event, line, failure),
+    }
+}
+
+// The search that the matches of `explore` ask for.
+fn search_of(matches: &ArgMatches<'_>) -> Search
+    ensures once { IsFlag (one_text (found_of matches.now) (codes "once")) result.once }
+    ensures search { IsSearch (one_text (found_of matches.now) (codes "outcome"))
+        (one_text (found_of matches.now) (codes "states")) result }
+{
+    let outcome = matches.get_one::<u64>(OUTCOME);
+    let states = matches.get_one::<u64>(STATES);
+    Search {
+        once: matches.get_flag(ONCE),
+        outcome,
+        states: states_of(states),
+    }
+}
+
+// How many states are met at most, if this number is asked for.
+fn states_of(states: Option<u64>) -> u64
+    ensures { result ≡ states_asked states }
+{
+    match states {
+        Some(states) => states,
+        None => 1_000_000,
     }
 }
 

@@ -1,6 +1,8 @@
 -- What an event does to the row of one client. No public clause cites this module.
 use Rattle.std.specs.Prelude.{ℕ, Bool, true, false, ◌==◌, if◌then◌else◌, List, [], ◌∷◌, ◌++◌, map, drop}
+use Rattle.std.specs.List.{cons_option}
 use Rattle.sm_names.specs.declared.messages.Parcel.{Parcel}
+use Rattle.core_state.specs.declared.clients.Queue.{Queue}
 use Rattle.core_state.specs.declared.clients.Standing.{Standing}
 use Rattle.core_state.specs.declared.clients.Standing.TheVariants.{Open, OpenWith, Shut, ShutWith}
 use Rattle.core_state.specs.State.{Client}
@@ -24,13 +26,17 @@ without_first c = record c { waiting = drop 1 c.waiting }
 -- a client that stands so is shut
 abbrev pub is_shut_so : Standing → Bool
 is_shut_so Open = false
-is_shut_so (OpenWith parcels) = false
+is_shut_so (OpenWith queue) = false
 is_shut_so Shut = true
-is_shut_so (ShutWith parcels) = true
+is_shut_so (ShutWith queue) = true
+
+-- the parcels of a queue
+abbrev pub queued : Queue → List Parcel
+queued queue = cons_option queue.first queue.rest.items
 
 -- the parcels that wait for it
 abbrev pub parcels_in : Standing → List Parcel
 parcels_in Open = []
-parcels_in (OpenWith parcels) = parcels.value.items
+parcels_in (OpenWith queue) = queued queue.value
 parcels_in Shut = []
-parcels_in (ShutWith parcels) = parcels.value.items
+parcels_in (ShutWith queue) = queued queue.value

@@ -1,9 +1,9 @@
 //! The clients, and the parcels that wait for them.
-ghost use Rattle.std.specs.Prelude.{◌≡◌, ◌==◌, ◌++◌, IfOk, OnOk, OnErr, [], ◌∷◌, map, length, true, false};
+ghost use Rattle.std.specs.Prelude.{◌≡◌, ◌==◌, ◌++◌, IfOk, OnOk, OnErr, [], ◌∷◌, drop, map, length, true, false};
 ghost use Rattle.std.specs.List.{find, list_any, position, slice_get};
 ghost use Rattle.std.specs.Option.{option_map_or};
 ghost use Rattle.sm_names.specs.Marks.{Called};
-ghost use Rattle.core_state.specs.ClientRows.{with_client, now_shut, without_first, with_parcel};
+ghost use Rattle.core_state.specs.ClientRows.{queued, with_client, now_shut, without_first, with_parcel};
 ghost use Rattle.core_state.specs.State.{Client as Row};
 ghost use Rattle.core_state.specs.Steps.{clients_by, new_client};
 ghost use Rattle.core_state.specs.Tasks.{takes_room};
@@ -18,14 +18,22 @@ use std::mem;
 /// A queue with room for more parcels than this gives its memory back once it is empty.
 const KEPT_ROOM: usize = 64;
 
-/// Whether a client is shut, and the parcels that wait for it, the first one first. There is no queue before the
-/// first parcel, and after `tidy`.
+/// The parcels that wait for a client, the first one first. A parcel that comes when none waits lies beside
+/// the others, so that it needs no memory but the queue itself.
+#[derive(Drop)]
+struct Queue {
+    first: Option<Parcel>,
+    rest: VecDeque<Parcel>,
+}
+
+/// Whether a client is shut, and the parcels that wait for it. There is no queue before the first parcel,
+/// and after `give_back`.
 #[derive(Drop)]
 enum Standing {
     Open,
-    OpenWith(Box<VecDeque<Parcel>>),
+    OpenWith(Box<Queue>),
     Shut,
-    ShutWith(Box<VecDeque<Parcel>>),
+    ShutWith(Box<Queue>),
 }
 
 /// A client that joined. Once it is shut and no parcel waits for it, its row of 24 bytes is all that is
@@ -47,6 +55,90 @@ impl Model for Client {
         record { id = c.id; shut = is_shut_so c.standing; waiting = parcels_in c.standing } };
 }
 
+impl Queue {
+    // A queue of this parcel.
+    fn of(alloc: Global, parcel: Parcel) -> Result<Box<Queue>, NoMemory>
+        ensures { IfOk result (λ queue. queued queue.value ≡ parcel ∷ []) }
+    {
+        let queue = Queue {
+            first: Some(parcel),
+            rest: VecDeque::new(alloc),
+        };
+        match Box::new(alloc, queue) {
+            Ok(queue) => Ok(queue),
+            Err(_) => Err(NoMemory),
+        }
+    }
+
+    // Whether no parcel waits.
+    #[inline(always)]
+    fn is_empty(&self) -> bool
+        ensures { result ≡ (length (queued self.now) == 0) }
+    {
+        self.first.is_none() && self.rest.front().is_none()
+    }
+
+    // Whether no parcel waits, but there is room for many.
+    #[inline(always)]
+    fn is_idle(&self) -> bool
+        ensures { result ≡ true → queued self.now ≡ [] }
+    {
+        self.rest.capacity() > KEPT_ROOM && self.is_empty()
+    }
+
+    // How many parcels wait.
+    #[inline(always)]
+    fn count(&self) -> usize
+        ensures { result ≡ length (queued self.now) }
+    {
+        let (front, back) = self.rest.as_slices();
+        match self.first {
+            Some(_) => front.len() + back.len() + 1,
+            None => front.len() + back.len(),
+        }
+    }
+
+    // The parcel that is collected next.
+    #[inline(always)]
+    fn next(&self) -> Option<Parcel>
+        ensures { result ≡ slice_get (queued self.now) 0 }
+    {
+        match self.first {
+            Some(parcel) => Some(parcel),
+            None => self.rest.front().copied(),
+        }
+    }
+
+    // Puts the parcel behind the others.
+    #[inline(always)]
+    fn push(&mut self, parcel: Parcel) -> Result<(), NoMemory>
+        ensures ok { OnOk result (queued self.new ≡ queued self.old ++ parcel ∷ []) }
+        ensures err { OnErr result (queued self.new ≡ queued self.old) }
+    {
+        if self.is_empty() {
+            self.first = Some(parcel);
+            return Ok(());
+        }
+        match self.rest.push_back(parcel) {
+            Ok(()) => Ok(()),
+            Err(_) => Err(NoMemory),
+        }
+    }
+
+    // Takes the first parcel.
+    #[inline(always)]
+    fn pop(&mut self)
+        ensures { queued self.new ≡ drop 1 (queued self.old) }
+    {
+        match self.first {
+            Some(_) => self.first = None,
+            None => {
+                self.rest.pop_front();
+            }
+        }
+    }
+}
+
 impl Client {
     // Whether the client is shut.
     #[inline(always)]
@@ -65,8 +157,8 @@ impl Client {
         ensures { result ≡ length self.now.waiting }
     {
         match &self.standing {
-            Standing::OpenWith(parcels) => count_of(parcels),
-            Standing::ShutWith(parcels) => count_of(parcels),
+            Standing::OpenWith(queue) => queue.count(),
+            Standing::ShutWith(queue) => queue.count(),
             Standing::Open | Standing::Shut => 0,
         }
     }
@@ -77,8 +169,8 @@ impl Client {
         ensures { result ≡ slice_get self.now.waiting 0 }
     {
         match &self.standing {
-            Standing::OpenWith(parcels) => parcels.front().copied(),
-            Standing::ShutWith(parcels) => parcels.front().copied(),
+            Standing::OpenWith(queue) => queue.next(),
+            Standing::ShutWith(queue) => queue.next(),
             Standing::Open | Standing::Shut => None,
         }
     }
@@ -88,11 +180,11 @@ impl Client {
         ensures { self.new ≡ now_shut self.old }
     {
         match mem::replace(&mut self.standing, Standing::Shut) {
-            Standing::OpenWith(parcels) => self.standing = Standing::ShutWith(parcels),
-            Standing::ShutWith(parcels) => self.standing = Standing::ShutWith(parcels),
+            Standing::OpenWith(queue) => self.standing = Standing::ShutWith(queue),
+            Standing::ShutWith(queue) => self.standing = Standing::ShutWith(queue),
             Standing::Open | Standing::Shut => {}
         }
-        self.tidy();
+        self.give_back();
     }
 
     // Puts the parcel behind those that wait.
@@ -102,14 +194,28 @@ impl Client {
         ensures err { OnErr result (self.new ≡ self.old) }
     {
         match &mut self.standing {
-            Standing::OpenWith(parcels) => add(parcels, parcel),
-            Standing::ShutWith(parcels) => add(parcels, parcel),
+            Standing::OpenWith(queue) => queue.push(parcel),
+            _ => self.push_first(alloc, parcel),
+        }
+    }
+
+    // The same, also where the client has no queue yet or is shut. A call of its own, since a caller that
+    // grows too large is not compiled into its callers.
+    #[cold]
+    #[inline(never)]
+    fn push_first(&mut self, alloc: Global, parcel: Parcel) -> Result<(), NoMemory>
+        ensures ok { OnOk result (self.new ≡ with_parcel parcel self.old) }
+        ensures err { OnErr result (self.new ≡ self.old) }
+    {
+        match &mut self.standing {
+            Standing::OpenWith(queue) => queue.push(parcel),
+            Standing::ShutWith(queue) => queue.push(parcel),
             Standing::Open => {
-                self.standing = Standing::OpenWith(queue_of(alloc, parcel)?);
+                self.standing = Standing::OpenWith(Queue::of(alloc, parcel)?);
                 Ok(())
             }
             Standing::Shut => {
-                self.standing = Standing::ShutWith(queue_of(alloc, parcel)?);
+                self.standing = Standing::ShutWith(Queue::of(alloc, parcel)?);
                 Ok(())
             }
         }
@@ -121,69 +227,50 @@ impl Client {
         ensures { self.new ≡ without_first self.old }
     {
         match &mut self.standing {
-            Standing::OpenWith(parcels) => {
-                parcels.pop_front();
+            Standing::OpenWith(queue) => {
+                queue.pop();
+                if queue.is_idle() {
+                    self.give_back();
+                }
             }
-            Standing::ShutWith(parcels) => {
-                parcels.pop_front();
-            }
+            _ => self.pop_last(),
+        }
+    }
+
+    // The same, also where the client is shut, whose queue is given back with its last parcel.
+    #[cold]
+    #[inline(never)]
+    fn pop_last(&mut self)
+        ensures { self.new ≡ without_first self.old }
+    {
+        match &mut self.standing {
+            Standing::OpenWith(queue) => queue.pop(),
+            Standing::ShutWith(queue) => queue.pop(),
             Standing::Open | Standing::Shut => {}
         }
-        self.tidy();
+        self.give_back();
     }
 
     // Gives the memory of an empty queue back if no parcel can come any more, or if it has room for many.
-    #[inline(always)]
-    fn tidy(&mut self)
+    #[cold]
+    #[inline(never)]
+    fn give_back(&mut self)
         ensures { self.new ≡ self.old }
     {
-        if self.count_waiting() > 0 {
-            return;
-        }
         match &self.standing {
-            Standing::OpenWith(parcels) => {
-                if parcels.capacity() > KEPT_ROOM {
+            Standing::OpenWith(queue) => {
+                if queue.is_idle() {
                     self.standing = Standing::Open;
                 }
             }
-            Standing::ShutWith(_) => self.standing = Standing::Shut,
+            Standing::ShutWith(queue) => {
+                if queue.is_empty() {
+                    self.standing = Standing::Shut;
+                }
+            }
             Standing::Open | Standing::Shut => {}
         }
     }
-}
-
-// How many parcels are in the queue.
-#[inline(always)]
-fn count_of(parcels: &VecDeque<Parcel>) -> usize
-    ensures { result ≡ length parcels.now.items }
-{
-    let (front, back) = parcels.as_slices();
-    front.len() + back.len()
-}
-
-// Puts the parcel behind the others.
-#[inline(always)]
-fn add(parcels: &mut VecDeque<Parcel>, parcel: Parcel) -> Result<(), NoMemory>
-    ensures ok { OnOk result (parcels.new.items ≡ parcels.old.items ++ parcel ∷ []) }
-    ensures err { OnErr result (parcels.new.items ≡ parcels.old.items) }
-{
-    match parcels.push_back(parcel) {
-        Ok(()) => Ok(()),
-        Err(_) => Err(NoMemory),
-    }
-}
-
-// A queue of this parcel.
-fn queue_of(alloc: Global, parcel: Parcel) -> Result<Box<VecDeque<Parcel>>, NoMemory>
-    ensures { IfOk result (λ queue. queue.value.items ≡ parcel ∷ []) }
-{
-    let Ok(mut parcels) = Box::new(alloc, VecDeque::new(alloc)) else {
-        return Err(NoMemory);
-    };
-    if parcels.push_back(parcel).is_err() {
-        return Err(NoMemory);
-    }
-    Ok(parcels)
 }
 
 /// Whether the client joined. Costs O(log clients): clients are numbered as they join.
@@ -305,7 +392,6 @@ fn searched_place(clients: &[Client], client: ClientId) -> Option<usize>
 }
 
 // Puts a client that joined just now behind all others.
-#[inline(always)]
 fn admit(clients: &mut Vec<Client>, made: ClientId) -> Result<(), NoMemory>
     ensures ok { OnOk result (clients.new.items ≡ clients.old.items ++ new_client made ∷ []) }
     ensures err { OnErr result (clients.new.items ≡ clients.old.items) }
@@ -320,7 +406,6 @@ fn admit(clients: &mut Vec<Client>, made: ClientId) -> Result<(), NoMemory>
 }
 
 // Shuts the client.
-#[inline(always)]
 fn shut(clients: &mut Vec<Client>, client: ClientId)
     requires { Rise (map (λ (c : Row). c.id) clients.old.items) }
     ensures { clients.new.items ≡ with_client client now_shut clients.old.items }

@@ -74,7 +74,7 @@ fn misuse(node: &Node, call: &Call) -> Option<Reply>
 
 /// The answer that the end of this node, which is not spent, determines for a call with these traits, if
 /// it determines one. In this order: by its holder; Done to each Close; cause and origin of a node that
-/// failed; by the other kind; the misuse. It costs O(1).
+/// failed; by the other kind; the misuse. Costs O(1).
 #[inline(always)]
 pub fn answer_of_end(client: ClientId, node: &Node, call: &Call, traits: &Traits) -> Option<Reply>
     requires law { Describes call.now traits.now }

@@ -6,7 +6,7 @@
 pub mod clients;
 pub mod decision;
 pub mod end_answers;
-pub mod hands;
+pub mod handle_changes;
 pub mod laws;
 pub mod reading;
 pub mod task;

@@ -1,5 +1,6 @@
 -- The collection that a call changes, copied before it.
-use Rattle.std.proofs.Common.{ℕ, ◌≡◌, refl, ap, sym, ◌∙◌, subst, true, false, List, [], Option, Some, None, option_map, Result, Ok, Err, IfOk, IfSome}
+use Rattle.std.proofs.Common.{ℕ, ◌≡◌, refl, ap, sym, ◌∙◌, subst, true, false, List, []}
+use Rattle.std.proofs.Common.{Option, Some, None, option_map, Result, Ok, Err, IfOk, IfSome}
 use Rattle.std.specs.Result.{result_ok}
 use Rattle.std.specs.List.{list_any}
 use Rattle.std.specs.Option.{option_map_or, unwrap_or}
@@ -26,10 +27,10 @@ use Rattle.core_state.specs.State.{State}
 use Rattle.core_state.specs.Steps.{Work, at_collection, at_node, leaves_tracker_room, work_of}
 use Rattle.core_state.proofs.forced.Dropping.{took_last}
 use Rattle.core_state.proofs.forced.Losing.{losing, no_work}
-use Rattle.event_facts.specs.declared.told.Start.{Start}
-use Rattle.event_marks.specs.Marks.{SettlesInStages, Stage, StagesIn, StagesOf, own_stage}
+use Rattle.event_facts.specs.declared.marked_steps.Start.{Start}
+use Rattle.forced_marks.specs.Marks.{SettlesInStages, Stage, StagesIn, StagesOf, own_stage}
 use Rattle.event_facts.specs.Walks.{IsCopied, IsStart}
-use Rattle.event_marks.proofs.Sound.{changed_sound}
+use Rattle.forced_marks.proofs.Sound.{changed_sound}
 
 -- a work as a pair
 abbrev pub pair : Work → ℕ × Change
@@ -105,6 +106,7 @@ pub changed_copy : (s : State) (limits : Bound) (client : ℕ) (call : Call) (re
     IsSound (changed b.change (unwrap_or (new_key reply) no_key) (collection_of b.scene))
 changed_copy s limits client call reply b answer before = by (work_of s client call reply) refl before
   where
+    -- by cases: with work the changed collection fits, since the copy shows it
     by : (o : Option Work) → work_of s client call reply ≡ o → IsStart s o (Some b) →
         IsSound (changed b.change (unwrap_or (new_key reply) no_key) (collection_of b.scene))
     by None e absent = absurd absent
@@ -130,7 +132,8 @@ pub walked : (old new : State) (reply : Reply) (o : Option Work) (b : Start) (st
     StagesIn old (total new.holds) reply o st
 walked old new reply None b st same absent by = absurd absent
 walked old new reply (Some w) b st same copy by =
-    subst (λ (x : Change). StagesOf old.pool (total new.holds) (beside old.forest w.collection) x (collection_or_new old.forest w.collection)
+    subst (λ (x : Change). StagesOf old.pool (total new.holds) (beside old.forest w.collection) x
+    (collection_or_new old.forest w.collection)
     (changed x (unwrap_or (new_key reply) no_key) (collection_or_new old.forest w.collection)) st) copy.change
     (subst (λ (c : Collection). StagesOf old.pool (total new.holds) (beside old.forest w.collection) b.change c
     (changed b.change (unwrap_or (new_key reply) no_key) c) st) copy.scene

@@ -13,7 +13,7 @@ use Rattle.forest_store.specs.declared.node.Node.{Node}
 use Rattle.forest_store.specs.declared.snapshot.Snapshot.{Snapshot}
 use Rattle.forest_store.specs.Forest.{collection_at}
 use Rattle.forest_store.specs.Snapshots.{collection_of}
-use Rattle.event_marks.specs.declared.moment.Moment.{Moment}
+use Rattle.forced_marks.specs.declared.moment.Moment.{Moment}
 use Rattle.core_state.specs.Reads.{is_live_in}
 use Rattle.core_state.specs.State.{State}
 use Rattle.core_state.specs.Steps.{Work, work_of}

@@ -12,7 +12,7 @@ use Rattle.forest_store.specs.declared.node.Node.{Node}
 use Rattle.forest_store.specs.Nodes.{node_of}
 use Rattle.forest_store.specs.Questions.{is_below, is_live_node}
 use Rattle.event_facts.specs.declared.keepers.Holder.{Holder}
-use Rattle.event_facts.specs.declared.ways.Stop.{Stop}
+use Rattle.event_facts.specs.declared.failure_path.Stop.{Stop}
 
 -- ---- failures and ends
 

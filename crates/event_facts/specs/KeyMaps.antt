@@ -7,8 +7,8 @@ use Rattle.std.specs.declared.alloc.Global.{Global}
 use Rattle.sm_names.specs.contracts.keys.NodeKeyOrd.TheImpl as key_order
 use Rattle.sm_names.specs.declared.keys.NodeKey.{NodeKey}
 use Rattle.sm_names.specs.Sameness.{same_key}
-use Rattle.event_marks.specs.declared.key_sets.KeySet.{KeySet}
-use Rattle.event_marks.specs.KeySets.{has}
+use Rattle.forced_marks.specs.declared.key_sets.KeySet.{KeySet}
+use Rattle.forced_marks.specs.KeySets.{has}
 use Rattle.event_facts.specs.declared.key_maps.KeyMap.{KeyMap}
 use Rattle.event_facts.specs.declared.key_maps.KeyRows.{KeyRows}
 

@@ -12,8 +12,8 @@ use Rattle.forest_store.specs.Settling.{MayChange, collection_or_new}
 use Rattle.forest_store.specs.Snapshots.{collection_of}
 use Rattle.core_state.specs.State.{State}
 use Rattle.core_state.specs.Steps.{Work, leaves_tracker_room}
-use Rattle.event_facts.specs.declared.told.Start.{Start}
-use Rattle.event_facts.specs.declared.told.Told.{Told}
+use Rattle.event_facts.specs.declared.marked_steps.Start.{Start}
+use Rattle.event_facts.specs.declared.marked_steps.Told.{Told}
 
 -- the reply, or why the call was not taken
 abbrev pub reply_of : Result Told StepFault → Result Reply StepFault

@@ -42,7 +42,7 @@ fn changed(core: &Core, client: ClientId, call: &Call) -> Option<CollectionId>
     }
 }
 
-// That collection as it stands; `None` where there is none. It costs a copy.
+// That collection as it stands; `None` where there is none. Costs a copy.
 pub(crate) fn look(core: &Core, client: ClientId, call: &Call) -> Result<Option<Before>, NoMemory>
     ensures copied { IfOk result (λ before. (reply : Reply) →
         IsAnswer core.now.limits (readings_of core.now) client call.now reply →

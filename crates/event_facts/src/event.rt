@@ -7,14 +7,14 @@ ghost use Rattle.sm_names.specs.declared.messages.Reply.{Reply as Answer};
 ghost use Rattle.forest_store.specs.declared.snapshot.Snapshot.{Snapshot as Copy};
 ghost use Rattle.core_state.specs.Reads.{readings_of};
 ghost use Rattle.core_state.specs.Theorem.{Stepped};
-ghost use Rattle.event_marks.specs.Marks.{AreStages};
-ghost use Rattle.event_marks.specs.Moments.{stage_of};
+ghost use Rattle.forced_marks.specs.Marks.{AreStages};
+ghost use Rattle.forced_marks.specs.Moments.{stage_of};
 ghost use Rattle.event_facts.specs.Events.{IsSnapshot, IsCopiedAfter, IsSetOf, concerned_by, given_in, has_left, snapshot_held, is_doomed_in, is_newly_doomed, snapshot_nodes, scene_after, some_left_in};
 
 use crate::before::{Before, look};
+use crate::marked_steps::step_with_marks;
 use crate::pages::{doomed_of, without};
-use crate::told::take_told;
-use event_marks::Moment;
+use forced_marks::Moment;
 use forest_store::{Node, Snapshot};
 use lifetime_core::Core;
 use sm_names::{Buffers, Call, ClientId, Fired, HeldBuffer, NoMemory, Reply, StepFault};
@@ -39,7 +39,7 @@ pub struct Event {
 /// collection before and after.
 ///
 /// `HistoryFull` where as many events were made as may be: nothing was done. `NoMemory` where memory was
-/// refused: then the call may have been made. Costs what `take_told` costs, and two copies of the
+/// refused: then the call may have been made. Costs what `step_with_marks` costs, and two copies of the
 /// collection.
 pub fn take_event(
     alloc: Global,
@@ -63,7 +63,7 @@ pub fn take_event(
 {
     let fired = core.fired().len();
     let before = before_of(core, client, &call)?;
-    let told = take_told(core, alloc, client, call)?;
+    let told = step_with_marks(core, alloc, client, call)?;
     let reply = told.reply;
     let Some(moments) = told.moments else {
         return Err(StepFault::NoMemory);

@@ -4,7 +4,7 @@ ghost use Rattle.std.specs.List.{filter};
 ghost use Rattle.forest_store.specs.declared.node.Node.{Node as NodeValue};
 ghost use Rattle.event_facts.specs.Facts.{client_holds, holders_with, holders_in, is_keeper};
 
-use event_marks::questions::is_live;
+use forced_marks::questions::is_live;
 use forest_store::Node;
 use lifetime_core::Core;
 use sm_names::{BufferName, ClientId, NodeKey, Strength};

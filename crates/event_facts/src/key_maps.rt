@@ -5,7 +5,7 @@ ghost use Rattle.sm_names.specs.declared.keys.NodeKey.{NodeKey as Key};
 ghost use Rattle.sm_names.specs.Sameness.{same_key};
 ghost use Rattle.event_facts.specs.KeyMaps.{HasKeys, values_at, value_at};
 
-use event_marks::key_sets::KeySet;
+use forced_marks::key_sets::KeySet;
 use sm_names::NodeKey;
 use std::alloc::{AllocError, Global};
 use std::collections::BTreeMap;

@@ -5,15 +5,15 @@
 
 mod before;
 mod event;
+pub mod failure_path;
 pub mod keepers;
 mod key_maps;
+mod marked_steps;
 pub mod pages;
 pub mod takings;
-mod told;
 pub mod waits;
-pub mod ways;
 
 pub use before::Before;
 pub use event::{Event, fired_since, placed_by, take_event};
 pub use key_maps::{KeyMap, KeyRows, keys_of};
-pub use told::{Told, take_told};
+pub use marked_steps::{Told, step_with_marks};

@@ -5,7 +5,7 @@ ghost use Rattle.std.specs.List.{filter, list_any};
 ghost use Rattle.event_facts.specs.Events.{IsSetOf, is_doomed_in};
 ghost use Rattle.event_facts.specs.Facts.{is_back, is_on_buffer};
 
-use event_marks::questions::some_strong_live;
+use forced_marks::questions::some_strong_live;
 use forest_store::Node;
 use lifetime_core::Core;
 use sm_names::{BufferName, Buffers, CollectionId, HeldBuffer, Strength};

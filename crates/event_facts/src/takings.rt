@@ -3,18 +3,18 @@ ghost use Rattle.std.specs.Prelude.{◌≡◌, ◌++◌, ◌∷◌, [], if◌the
 ghost use Rattle.std.specs.List.{filter};
 ghost use Rattle.sm_names.specs.declared.keys.NodeKey.{NodeKey as Key};
 ghost use Rattle.forest_store.specs.declared.node.Node.{Node as NodeValue};
-ghost use Rattle.event_marks.specs.KeySets.{has};
+ghost use Rattle.forced_marks.specs.KeySets.{has};
 ghost use Rattle.event_facts.specs.Facts.{is_handed, is_handed_past, is_lost_with, is_taken_of};
 ghost use Rattle.event_facts.specs.KeyMaps.{values_at};
 
 use crate::key_maps::{KeyRows, keys_of};
-use event_marks::key_sets::KeySet;
-use event_marks::node_sets::nodes_under;
+use forced_marks::key_sets::KeySet;
+use forced_marks::node_sets::nodes_under;
 use forest_store::Node;
 use sm_names::NodeKey;
 use std::alloc::{AllocError, Global};
 
-/// The nodes that are not gone, and are the top one or below it, by birth. Costs O(n log n) for n nodes.
+/// The nodes at or below `top` that are not gone, in order of birth. Costs O(n log n) for n nodes.
 pub fn taken_under(nodes: &Vec<Node>, top: NodeKey) -> Result<Vec<Node>, AllocError>
     ensures { IfOk result (λ taken. taken.items
         ≡ filter (is_lost_with nodes.now.items top) nodes.now.items) }

@@ -3,7 +3,7 @@ ghost use Rattle.std.specs.Prelude.{◌≡◌, IfOk};
 ghost use Rattle.std.specs.List.{filter};
 ghost use Rattle.event_facts.specs.Facts.{is_awaited};
 
-use event_marks::questions::is_live;
+use forced_marks::questions::is_live;
 use forest_store::Node;
 use sm_names::NodeKey;
 use std::alloc::AllocError;

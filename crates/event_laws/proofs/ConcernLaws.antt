@@ -105,6 +105,7 @@ collection_stays : (limits : Bound) (marks : Timeline) (client : ℕ) (reply : R
 collection_stays limits marks client reply call key collection answer here =
     with_new (birth_at (events marks + 1) (Called client reply call)) refl
   where
+    -- by cases: the newest birth is of a new key, so it is not the one that is looked up
     with_new : (o : Option Birth) → birth_at (events marks + 1) (Called client reply call) ≡ o →
         collection_in (cons_option o (births marks)) key ≡ Some collection
     with_new None e = here
@@ -168,7 +169,8 @@ still_tracked pool marks entry t on =
 -- after an event none is due that is of another collection
 pub others_not_due : (pool : ℕ) (limits : Bound) (marks : Timeline) (entry : Entry) (collection : ℕ) → Grows pool limits [] marks →
     IsAnswer limits (readings marks) entry.0 entry.1 entry.2 →
-    (collection_at marks entry ≡ Some collection → ⊥) → (t : Tracked) → In t (trackers_to_test marks entry) → IsOf marks collection t.condition →
+    (collection_at marks entry ≡ Some collection → ⊥) → (t : Tracked) → In t (trackers_to_test marks entry) →
+    IsOf marks collection t.condition →
     is_tracked_met (world (after pool marks entry)) t ≡ false
 others_not_due pool limits marks entry collection g answer away t on of_it =
     elim (In-append (unfired_trackers marks) (tracker_made marks entry) t on) [

@@ -1,5 +1,6 @@
 -- What one event does to ends: whether they are spent or in a parcel, and their holders.
-use Rattle.std.proofs.Common.{ℕ, ◌≡◌, ◌+◌, refl, ap, sym, ◌∙◌, Bool, true, false, cond, not, ◌||◌, ◌&&◌, ◌==◌, inl, inr, List, [], ◌∷◌, ◌++◌, Option, Some, None}
+use Rattle.std.proofs.Common.{ℕ, ◌≡◌, ◌+◌, refl, ap, sym, ◌∙◌, Bool, true, false, cond, not, ◌||◌}
+use Rattle.std.proofs.Common.{◌&&◌, ◌==◌, inl, inr, List, [], ◌∷◌, ◌++◌, Option, Some, None}
 use Rattle.std.specs.List.{list_any, sum_by, find, cons_option}
 use Rattle.std.specs.Option.{option_map_or}
 use Rattle.sm_names.specs.declared.keys.Kind.{Kind}
@@ -36,6 +37,7 @@ birth_stays : (limits : Bound) (marks : Timeline) (caller : ℕ) (reply : Reply)
     birth_of (Called caller reply call ∷ marks) node ≡ birth_of marks node
 birth_stays limits marks caller reply call node answer born = from (birth_at (events marks + 1) (Called caller reply call)) refl
   where
+    -- by cases: the newest birth is of a new key, so it is not the one that is looked up
     from : (o : Option Birth) → birth_at (events marks + 1) (Called caller reply call) ≡ o →
         find (λ b. same_key b.node node) (cons_option o (births marks)) ≡ find (λ b. same_key b.node node) (births marks)
     from None e = refl
@@ -51,6 +53,7 @@ holder_mark : (limits : Bound) (marks : Timeline) (caller : ℕ) (reply : Reply)
     (holder marks node)
 holder_mark limits marks caller reply call node answer born = from (collector_at node (Called caller reply call))
   where
+    -- by cases: who collects it now has it, and otherwise a birth of another node changes nothing
     from : (o : Option ℕ) → option_map_or (λ c. c) (option_map_or Some o (collector marks node)) (option_map_or (λ (b : Birth).
         b.client) (birth_of (Called caller reply call ∷ marks) node) 0) ≡ option_map_or (λ c. c) o (holder marks node)
     from (Some c) = refl
@@ -89,6 +92,7 @@ born_held limits marks caller reply call b answer h nobody =
     (λ i. option_map_or (λ c. c) (nobody i) (option_map_or (λ (x : Birth). x.client) (found i) 0))
     ∙ born_to_caller (events marks + 1) caller reply call b h
   where
+    -- since the newest birth is the first that is looked at
     first : find (λ x. same_key x.node b.node) (b ∷ births marks) ≡ Some b
     first = rw (same_key-refl b.node) refl
 
@@ -162,7 +166,8 @@ module _ (pool : ℕ) (limits : Bound) (history : List Entry) (entry : Entry) (l
   holder_event node born = (λ i. next.same.holders i node) ∙ holder_mark limits old entry.0 entry.2 entry.1 node next.answer born
 
   -- a Bind makes a collection of a token
-  pub kind_event : (node : NodeKey) → kind (timeline pool (history ++ entry ∷ [])) node ≡ cond (binds node (entry_mark entry)) Kind.Collection
+  pub kind_event : (node : NodeKey) → kind (timeline pool (history ++ entry ∷ [])) node
+      ≡ cond (binds node (entry_mark entry)) Kind.Collection
       (kind (timeline pool history) node)
   kind_event node = (λ i. next.same.kinds i node) ∙ from (binds node (entry_mark entry)) (list_any (binds node) old)
     where

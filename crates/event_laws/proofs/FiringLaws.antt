@@ -1,5 +1,6 @@
 -- When a tracker fires, as one more event comes.
-use Rattle.std.proofs.Common.{ℕ, ◌≡◌, ◌≤◌, ◌+◌, refl, ap, sym, ◌∙◌, Bool, true, false, cond, not, ◌&&◌, ◌==◌, List, [], ◌∷◌, Option, Some, None, is_none, arith}
+use Rattle.std.proofs.Common.{ℕ, ◌≡◌, ◌≤◌, ◌+◌, refl, ap, sym, ◌∙◌, Bool, true, false, cond, not}
+use Rattle.std.proofs.Common.{◌&&◌, ◌==◌, List, [], ◌∷◌, Option, Some, None, is_none, arith}
 use Rattle.std.proofs.lemmas.Bool.{eqb-true, eq-eqb}
 use Rattle.std.specs.List.{list_any}
 use Rattle.std.specs.Option.{option_map, option_map_or}
@@ -25,6 +26,7 @@ use Rattle.history_laws.proofs.FiredLaws.{fired_early}
 pub none_fired : (marks : Timeline) (t : Tracked) → ((u : Tracked) → In u (tracked marks) → u.id == t.id ≡ false) → fired_at marks t ≡ None
 none_fired marks t other = from (last_match (fires_at t) (moments marks)) refl
   where
+    -- since a tracker that fires was attached with its own id, which none has
     never : (m : Timeline) → In m (moments marks) → fires_at t m ≡ true → ⊥
     never m on h =
         let attached : list_any (λ (u : Tracked). u.id == t.id) (tracked m) ≡ true = and_left _ (holds (world m) t.condition) h in
@@ -32,6 +34,7 @@ none_fired marks t other = from (last_match (fires_at t) (moments marks)) refl
         let no : true ≡ false = sym u.2 ∙ other u.0 ((moment_earlier marks m on).among u.0 u.1) in
         cc
 
+    -- by cases: a last match would be a moment at which it fires, and there is none
     from : (o : Option Timeline) → last_match (fires_at t) (moments marks) ≡ o → option_map events o ≡ None
     from None e = refl
     from (Some moment) e = absurd (last_match-kept (λ m. ⊥) (fires_at t) (moments marks) never moment e)
@@ -47,6 +50,7 @@ passes marks t on =
 pub not_due : (marks : Timeline) (t : Tracked) → In t (tracked marks) → fired_at marks t ≡ None → is_tracked_met (world marks) t ≡ false
 not_due marks t on h = sym (passes marks t on) ∙ from (last_match (fires_at t) (earlier_moments marks)) (fires_at t marks) h
   where
+    -- by cases on both: it would have fired now, if what it waits for held
     from : (o : Option Timeline) (b : Bool) → option_map events (option_map_or Some o (cond b (Some marks) None)) ≡ None → b ≡ false
     from None true h = cc
     from None false h = refl
@@ -64,6 +68,7 @@ fired_next pool marks entry t on =
     ∙ ap (λ (b : Bool). option_map_or Some (fired_at marks t) (cond b (Some (events (after pool marks entry))) None))
     (passes (after pool marks entry) t on))
   where
+    -- by cases on the earlier match and on whether it fires now
     from : (o : Option Timeline) (b : Bool) →
         option_map events (option_map_or Some o (cond b (Some (after pool marks entry)) None)) ≡ option_map_or Some (option_map events o)
         (cond b (Some (events (after pool marks entry))) None)
@@ -77,6 +82,7 @@ pub waits_next : (pool : ℕ) (marks : Timeline) (entry : Entry) (t : Tracked) �
 waits_next pool marks entry t on =
     ap is_none (fired_next pool marks entry t on) ∙ from (fired_at marks t) (is_tracked_met (world (after pool marks entry)) t)
   where
+    -- by cases on the earlier firing and on whether it fires now
     from : (o : Option ℕ) (b : Bool) → is_none (option_map_or Some o (cond b (Some (events (after pool marks entry))) None)) ≡ (is_none
         o && not b)
     from (Some event) b = refl
@@ -91,9 +97,11 @@ fires_now pool marks entry t on =
     ap (λ (o : Option ℕ). option_map_or (λ e. e == events (after pool marks entry)) o false) (fired_next pool marks entry t on)
     ∙ from (fired_at marks t) refl (is_tracked_met (world (after pool marks entry)) t)
   where
+    -- the number of this event
     now : ℕ
     now = events (after pool marks entry)
 
+    -- by cases: an earlier firing has the number of an event before this one, so it is not this
     from : (o : Option ℕ) → fired_at marks t ≡ o → (b : Bool) →
         option_map_or (λ e. e == now) (option_map_or Some o (cond b (Some now) None)) false ≡ (is_none o && b)
     from (Some event) e b = false_if (event == now) (λ h.
@@ -112,9 +120,11 @@ fired_then pool marks entry event early t on =
     ap (λ (o : Option ℕ). option_map_or (λ e. e == event) o false) (fired_next pool marks entry t on)
     ∙ from (fired_at marks t) (is_tracked_met (world (after pool marks entry)) t)
   where
+    -- the number of this event
     now : ℕ
     now = events (after pool marks entry)
 
+    -- by cases: a firing now has a later number than an event before
     from : (o : Option ℕ) (b : Bool) → option_map_or (λ e. e == event) (option_map_or Some o (cond b (Some now) None)) false ≡ option_map_or
         (λ e. e == event) o false
     from (Some e) b = refl

@@ -6,7 +6,8 @@ use Rattle.sm_names.specs.declared.keys.NodeKey.{NodeKey}
 use Rattle.sm_names.specs.declared.messages.Call.{Call}
 use Rattle.sm_names.specs.declared.messages.Reply.{Reply}
 use Rattle.sm_names.specs.declared.outcomes.Refusal.{Refusal}
-use Rattle.sm_names.specs.Answers.{Readings, IsAnswer, effect, new_key, closing, no_end, refused_if, unknown_client, shut_client, end_in_transit, peer_closed, wrong_kind, misuse, no_handle, limits_met}
+use Rattle.sm_names.specs.Answers.{Readings, IsAnswer, effect, new_key, closing, no_end, refused_if, unknown_client}
+use Rattle.sm_names.specs.Answers.{shut_client, end_in_transit, peer_closed, wrong_kind, misuse, no_handle, limits_met}
 use Rattle.sm_names.specs.Births.{births, was_born}
 use Rattle.sm_names.specs.Bounds.{Bound}
 use Rattle.event_laws.specs.ByEvent.{sends}

@@ -1,5 +1,6 @@
 -- Handles are on buffers of allocated collections, and clients have them.
-use Rattle.std.proofs.Common.{ℕ, ◌≡◌, ◌≤◌, ◌<◌, ◌-◌, refl, ap, sym, ◌∙◌, subst, Bool, true, false, ◌||◌, ◌&&◌, ◌==◌, inl, inr, [], ◌∷◌, Option, Some, None, arith}
+use Rattle.std.proofs.Common.{ℕ, ◌≡◌, ◌≤◌, ◌<◌, ◌-◌, refl, ap, sym, ◌∙◌, subst, Bool, true, false}
+use Rattle.std.proofs.Common.{◌||◌, ◌&&◌, ◌==◌, inl, inr, [], ◌∷◌, Option, Some, None, arith}
 use Rattle.std.proofs.lemmas.Bool.{eqb-true, false≢true}
 use Rattle.std.specs.List.{list_any, cons_option}
 use Rattle.std.specs.Option.{option_map_or}
@@ -20,7 +21,8 @@ use Rattle.sm_names.specs.Words.{times}
 use Rattle.history_laws.proofs.CountLaws.{counted, caller_joined, client-le-total, total_is}
 use Rattle.history_laws.proofs.GrowthLaws.{Grows, Stays, Answers, Loses, Allocates, Ends}
 use Rattle.event_laws.proofs.HandleEventLaws.{open_of_mark}
-use Rattle.sm_names.proofs.SamenessLaws.{same_buffer-true, same_strength-true, either_way, and_left, and_right, both_ways, or_right, false_if}
+use Rattle.sm_names.proofs.SamenessLaws.{same_buffer-true, same_strength-true, either_way}
+use Rattle.sm_names.proofs.SamenessLaws.{and_left, and_right, both_ways, or_right, false_if}
 use Rattle.history_laws.proofs.HandleLaws.{dup_was_open}
 use Rattle.history_laws.proofs.HeldLaws.{Lays, Nothing_new, New, allocation_lays}
 use Rattle.history_laws.proofs.SettledLaws.{forced_why}
@@ -32,6 +34,7 @@ use Rattle.history_laws.proofs.TakeLaws.{take_opens}
 pub still_joined : (marks : Timeline) (mark : Mark) (client : ℕ) → has_joined marks client ≡ true → has_joined (mark ∷ marks) client ≡ true
 still_joined marks mark client h = from (joined_at mark)
   where
+    -- by cases: one client more does not hide those before it
     from : (o : Option ℕ) → list_any (λ c. c == client) (cons_option o (clients marks)) ≡ true
     from None = h
     from (Some c) = or_right (c == client) _ h

@@ -1,5 +1,6 @@
 -- What each kind of event does to the counts of handles.
-use Rattle.std.proofs.Common.{ℕ, ◌≡◌, ◌<◌, ◌+◌, ◌-◌, refl, ap, sym, ◌∙◌, Bool, true, false, cond, ◌&&◌, ◌==◌, inl, inr, List, [], ◌∷◌, ◌++◌, arith}
+use Rattle.std.proofs.Common.{ℕ, ◌≡◌, ◌<◌, ◌+◌, ◌-◌, refl, ap, sym, ◌∙◌, Bool, true, false}
+use Rattle.std.proofs.Common.{cond, ◌&&◌, ◌==◌, inl, inr, List, [], ◌∷◌, ◌++◌, arith}
 use Rattle.std.proofs.lemmas.Bool.{eqb-true, eq-eqb}
 use Rattle.std.specs.Int.{bit_at}
 use Rattle.sm_names.specs.declared.keys.BufferName.{BufferName}
@@ -14,8 +15,10 @@ use Rattle.sm_names.specs.Legality.{IsLegal}
 use Rattle.sm_names.specs.Marks.{Entry, Timeline}
 use Rattle.sm_names.specs.Sameness.{same_buffer, same_strength}
 use Rattle.sm_names.specs.Timelines.{timeline}
-use Rattle.event_laws.proofs.HandleEventLaws.{open_of_event, open_total_event, moving_event, idle_gains, idle_loses, idle_opens, idle_drops, idle_lifts, idle_lands}
-use Rattle.sm_names.proofs.SamenessLaws.{same_buffer-true, same_strength-true, either_way, and_left, and_right, or_false, and_both, same_strength-refl}
+use Rattle.event_laws.proofs.HandleEventLaws.{open_of_event, open_total_event, moving_event, idle_gains}
+use Rattle.event_laws.proofs.HandleEventLaws.{idle_loses, idle_opens, idle_drops, idle_lifts, idle_lands}
+use Rattle.sm_names.proofs.SamenessLaws.{same_buffer-true, same_strength-true, either_way, and_left}
+use Rattle.sm_names.proofs.SamenessLaws.{and_right, or_false, and_both, same_strength-refl}
 
 -- ---- how a count changes
 
@@ -116,7 +119,8 @@ module _ (pool : ℕ) (limits : Bound) (history : List Entry) (client : ℕ) (bu
       let new : Timeline = timeline pool (history ++ (client, Call.DupHandle buffer strength, Reply.Done) ∷ []) in
       record {
         counts = λ c b s. up (open_of old c b s) (open_of new c b s) (hold_test buffer strength client c b s)
-            (gains (only c) b s (entry_mark entry)) (loses (only c) b s (entry_mark entry)) (open_of_event pool limits history entry legal c b s)
+            (gains (only c) b s (entry_mark entry)) (loses (only c) b s (entry_mark entry))
+            (open_of_event pool limits history entry legal c b s)
             (or_false (hold_test buffer strength client c b s)) refl
             ∙ at_hold buffer strength client (λ c b s. open_of old c b s + 1) c b s (open_of old c b s);
         parcels = kind_stays buffer strength (moving old) (moving new) (λ b s.
@@ -193,7 +197,8 @@ module _ (pool : ℕ) (limits : Bound) (history : List Entry) (client : ℕ) (bu
           counts = λ c b s. up (open_of old c b s) (open_of new c b s) (hold_test buffer strength client c b s)
               (gains (only c) b s (entry_mark entry)) false (open_of_event pool limits history entry legal c b s) refl refl
               ∙ at_hold buffer strength client (λ c b s. open_of old c b s + 1) c b s (open_of old c b s);
-          parcels = λ b s. down (moving old b s) (moving new b s) (kind_test buffer strength b s) false (lands anyone b s (entry_mark entry))
+          parcels = λ b s. down (moving old b s) (moving new b s) (kind_test buffer strength b s) false
+              (lands anyone b s (entry_mark entry))
               (moved b s) refl refl
               ∙ at_kind buffer strength (λ b s. moving old b s - 1) b s (moving old b s);
           totals = kind_stays buffer strength (open_total old) (open_total new) (λ b s.

@@ -1,5 +1,6 @@
 -- The handles that a history opened and did not drop are those that are open on all buffers.
-use Rattle.std.proofs.Common.{ℕ, zero, suc, ◌≡◌, ◌≤◌, ◌<◌, ◌+◌, refl, ap, sym, ◌∙◌, Bool, true, false, cond, ◌&&◌, ◌==◌, inl, inr, List, [], ◌∷◌, length, arith}
+use Rattle.std.proofs.Common.{ℕ, zero, suc, ◌≡◌, ◌≤◌, ◌<◌, ◌+◌, refl, ap, sym, ◌∙◌, Bool, true}
+use Rattle.std.proofs.Common.{false, cond, ◌&&◌, ◌==◌, inl, inr, List, [], ◌∷◌, length, arith}
 use Rattle.std.proofs.lemmas.Bool.{eq-eqb, eqb-true, eqb-false}
 use Rattle.std.proofs.lemmas.List.Sums.{length-filter, sum_by-cons}
 use Rattle.std.specs.Int.{bit_at}
@@ -22,7 +23,8 @@ use Rattle.history_laws.proofs.KeptLaws.{kept-after}
 use Rattle.sm_names.proofs.SamenessLaws.{and_both, and_left, and_right, and_swap, either_way}
 use Rattle.history_laws.proofs.SumLaws.{one, one_of, AreOnce, times-cons, sum_by-same, sum_by-add, sum_by-zero, sum_once}
 use Rattle.event_laws.specs.ByEvent.{anyone, only, entry_mark}
-use Rattle.event_laws.specs.HandleSums.{ListsAllocated, all_moving, all_open, all_open_of, allocated_collections, opened_at, dropped_at, sent_at, got_at, opened, dropped, sent, got, indices_in, over_buffers}
+use Rattle.event_laws.specs.HandleSums.{ListsAllocated, all_moving, all_open, all_open_of, allocated_collections, opened_at}
+use Rattle.event_laws.specs.HandleSums.{dropped_at, sent_at, got_at, opened, dropped, sent, got, indices_in, over_buffers}
 use Rattle.event_laws.proofs.HandleSumNamedLaws.{IsThere, lists_allocated, opens_there, drops_there, lifts_there, lands_there}
 use Rattle.event_laws.proofs.HandleCaseLaws.{same_buffer-refl}
 
@@ -58,6 +60,7 @@ in_range a (suc n) k low high = elim (either_way (a == k)) [
       rw e (in_range (a + 1) n k next (omega (arith, high)))
 ]
   where
+    -- since the two numbers differ
     above : (a k : ℕ) → a ≤ k → (a == k) ≡ false → a + 1 ≤ k
     above a k le e = omega (arith, le, eqb-false a k e)
 
@@ -255,7 +258,8 @@ module _ (cs is : List ℕ) (test : BufferName → Mark → Bool) (amount : Mark
       let on_mark : (b : BufferName) → test b (entry_mark e) ≡ true → IsListed cs is b = λ b h.
       let this : one (test b (entry_mark e)) ≡ 1 = ap one h in
       on b (omega (arith, this, count_after pool b marks e, count_grows pool b (after pool marks e) es)) in
-      let next : grid cs is (λ b. times (test b) (after pool marks e)) ≡ grid cs is (λ b. times (test b) marks + one (test b (entry_mark e))) =
+      let next : grid cs is (λ b. times (test b) (after pool marks e))
+      ≡ grid cs is (λ b. times (test b) marks + one (test b (entry_mark e))) =
       grid-same cs is (λ b. times (test b) (after pool marks e)) (λ b. times (test b) marks + one (test b (entry_mark e))) (λ b.
       count_after pool b marks e) in
       omega (
@@ -312,7 +316,8 @@ module _ (pool : ℕ) (limits : Bound) (history : List Entry) (legal : IsLegal p
     -- what was dropped
     dropped_sum : over_buffers collections (λ b. times (drops who b strength) (timeline pool history)) ≡ dropped who strength history
     dropped_sum =
-        count_all collections (range_with_len 0 MAX_BUFFERS) (λ b. drops who b strength) (dropped_at who strength) (drops_quiet who strength)
+        count_all collections (range_with_len 0 MAX_BUFFERS) (λ b. drops who b strength)
+        (dropped_at who strength) (drops_quiet who strength)
         (drops_add collections (range_with_len 0 MAX_BUFFERS) once (range_once 0 MAX_BUFFERS) same_indices who strength)
         pool history (λ b h. listed b (drops_there pool limits marks grown who b strength h))
 
@@ -334,7 +339,8 @@ module _ (pool : ℕ) (limits : Bound) (history : List Entry) (legal : IsLegal p
   two_sums : (f g h : BufferName → ℕ) → ((b : BufferName) → f b + g b ≡ h b) →
       over_buffers collections f + over_buffers collections g ≡ over_buffers collections h
   two_sums f g h adds =
-      sym (grid-add collections (range_with_len 0 MAX_BUFFERS) f g) ∙ grid-same collections (range_with_len 0 MAX_BUFFERS) (λ b. f b + g b) h adds
+      sym (grid-add collections (range_with_len 0 MAX_BUFFERS) f g)
+      ∙ grid-same collections (range_with_len 0 MAX_BUFFERS) (λ b. f b + g b) h adds
 
   -- what is open in all
   pub total_adds : over_buffers collections (λ b. open_total (timeline pool history) b strength) + dropped anyone strength history ≡ opened

@@ -1,5 +1,6 @@
 -- Handles that were ever moved are on the buffers that are there, of which a collection has `MAX_BUFFERS` at most.
-use Rattle.std.proofs.Common.{ℕ, zero, suc, ◌≡◌, ◌≤◌, ◌<◌, ◌+◌, refl, ap, sym, ◌∙◌, subst, Bool, true, false, ◌==◌, nat_lt, not, inl, inr, List, map, [], ◌∷◌, Option, Some, None, is_some, is_none, arith}
+use Rattle.std.proofs.Common.{ℕ, zero, suc, ◌≡◌, ◌≤◌, ◌<◌, ◌+◌, refl, ap, sym, ◌∙◌, subst, Bool, true, false, ◌==◌}
+use Rattle.std.proofs.Common.{nat_lt, not, inl, inr, List, map, [], ◌∷◌, Option, Some, None, is_some, is_none, arith}
 use Rattle.std.proofs.lemmas.Bool.{eqb-true, eq-eqb, ltb-true, ltb-false, false≢true}
 use Rattle.std.proofs.lemmas.List.Sums.{sum_by-cons}
 use Rattle.std.specs.List.{list_any, range_with_len, sum_by}
@@ -157,7 +158,8 @@ module _ (pool : ℕ) (limits : Bound) where
           ((i : ℕ) → 0 < count (record { collection = c; index = i }) →
           list_any (λ name. same_buffer name (record { collection = c; index = i })) (option_map_or (λ (b : Buffers).
           names c b.count) o []) ≡ true) →
-          sum_by (λ i. count (record { collection = c; index = i })) (range_with_len 0 MAX_BUFFERS) ≡ sum_by count (option_map_or (λ (b : Buffers).
+          sum_by (λ i. count (record { collection = c; index = i })) (range_with_len 0 MAX_BUFFERS)
+          ≡ sum_by count (option_map_or (λ (b : Buffers).
           names c b.count) o [])
       from c None most on = none_on (λ i. count (record { collection = c; index = i })) 0 MAX_BUFFERS (λ i low.
           zero_if (count (record { collection = c; index = i })) (λ some. let no : false ≡ true = on i some in cc))

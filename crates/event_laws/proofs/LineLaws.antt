@@ -54,6 +54,7 @@ pub part_most : (client event : ℕ) (history : List Entry) → length (part_fro
 part_most client event [] = omega arith
 part_most client event (e ∷ es) = either (part_most client (event + 1) es) (is_own client event e) refl
   where
+    -- by cases: an own event adds one, and any other adds nothing
     either : length (part_from client (event + 1) es) ≤ length es → (b : Bool) → is_own client event e ≡ b →
         length (part_from client event (e ∷ es)) ≤ length (e ∷ es)
     either on true own = rw own (omega arith)
@@ -67,7 +68,8 @@ pub record IsCounted (strength : Strength) (gained lost : ℕ) (rest whole : Lis
 -- and fits a number
 pub fits_more : (strength : Strength) (gained lost : ℕ) (rest whole later : List Own) (own : Own) →
     IsCounted strength gained lost rest whole → rest ≡ own ∷ later →
-    (gained + gained_by strength own.call own.reply ≤ length whole * MAX_BUFFERS) × (lost + lost_by strength own.call own.reply ≤ length whole * MAX_BUFFERS)
+    (gained + gained_by strength own.call own.reply ≤ length whole * MAX_BUFFERS) ×
+    (lost + lost_by strength own.call own.reply ≤ length whole * MAX_BUFFERS)
 fits_more strength gained lost rest whole later own so on =
     let one : gains strength rest ≡ gained_by strength own.call own.reply + gains strength later =
     rw on (sum_by-cons (λ (x : Own). gained_by strength x.call x.reply) own later) in

@@ -1,5 +1,6 @@
 -- Chained events.
-use Rattle.std.proofs.Common.{ℕ, ◌+◌, ◌-◌, ◌<◌, ◌≤◌, ◌≡◌, ◌==◌, ◌&&◌, ◌∙◌, refl, sym, ap, subst, Bool, true, false, List, [], ◌∷◌, length, drop, get_or, arith}
+use Rattle.std.proofs.Common.{ℕ, ◌+◌, ◌-◌, ◌<◌, ◌≤◌, ◌≡◌, ◌==◌, ◌&&◌, ◌∙◌, refl, sym, ap, subst}
+use Rattle.std.proofs.Common.{Bool, true, false, List, [], ◌∷◌, length, drop, get_or, arith}
 use Rattle.std.proofs.lemmas.Bool.{eqb-true, ne_eqb, le-ltb, ltb-false, ltb-true}
 use Rattle.std.proofs.lemmas.List.{drop_more, drop_all, get_or_read, drop-drop}
 use Rattle.std.specs.Prelude.{nat_lt}
@@ -13,6 +14,7 @@ use Rattle.event_laws.specs.Parts.{is_own, own_entry, part, part_from}
 pub own_not_yet : (client event : ℕ) (e : Entry) → event ≤ client → is_own client event e ≡ false
 own_not_yet client event e before = either (e.0 == client)
   where
+    -- by cases: a client's own events come after the one that made it
     either : (b : Bool) → (b && nat_lt client event) ≡ false
     either true = le-ltb client event before
     either false = refl
@@ -31,9 +33,11 @@ jumps history client passed (e ∷ es) is =
     let tail : drop (passed + 1) history ≡ es = sym (drop-drop 1 passed history) ∙ ap (drop 1) is in
     either (jumps history client (passed + 1) es tail) (is_own client (passed + 1) e) refl
   where
+    -- by arithmetic
     one_less : passed + 1 - 1 ≡ passed
     one_less = omega arith
 
+    -- by cases: an own event is where its part begins, and at any other the part begins further on
     either : Jumps history client (passed + 1 + 1) es → (b : Bool) → is_own client (passed + 1) e ≡ b →
         Jumps history client (passed + 1) (e ∷ es)
     either on true own =
@@ -81,6 +85,7 @@ not_before : (client event : ℕ) (xs : List Entry) → 0 < first_from client ev
 not_before client event [] some = absurd (omega (arith, some))
 not_before client event (e ∷ es) some = either (not_before client (event + 1) es) (is_own client event e) refl some
   where
+    -- by cases: an own event is the first, and otherwise the first is further on
     either : (0 < first_from client (event + 1) es → event + 1 ≤ first_from client (event + 1) es) → (b : Bool) →
         is_own client event e ≡ b → 0 < first_from client event (e ∷ es) → event ≤ first_from client event (e ∷ es)
     either on true own some = rw own (omega arith)
@@ -93,6 +98,7 @@ not_before client event (e ∷ es) some = either (not_before client (event + 1) 
 pub stands_within : (history : List Entry) (client event : ℕ) → 0 < event → Stands history client event → event ≤ length history
 stands_within history client event some stands = either (nat_lt (length history) event) refl
   where
+    -- past the record no part begins, so an event that stands is in it
     either : (b : Bool) → nat_lt (length history) event ≡ b → event ≤ length history
     either true past =
         let far : length history < event = ltb-true (length history) event past in
@@ -112,16 +118,20 @@ steps_at : (history : List Entry) (client k : ℕ) (entry : Entry) (first next :
     Links 0 first next history → Steps history client (k + 1) entry (get_or next k 0)
 steps_at history client k entry first next stands is links = both (is_own client (k + 1) entry) refl
   where
+    -- since an event of a client's part is in the record
     within : k < length history
     within = omega (arith, stands_within history client (k + 1) (omega arith) stands)
 
+    -- the record from that event on begins with it
     split : drop (k + 1 - 1) history ≡ entry ∷ (drop (k + 1) history)
     split = let one_less : k + 1 - 1 ≡ k = omega arith in ap (λ i. drop i history) one_less ∙ (drop_more history k entry within
         ∙ ap (λ x. x ∷ (drop (k + 1) history)) (sym is))
 
+    -- the part that begins there begins with that event
     begins : first_from client (k + 1) (entry ∷ (drop (k + 1) history)) ≡ k + 1
     begins = ap (first_from client (k + 1)) (sym split) ∙ stands.begins (omega arith)
 
+    -- by cases: an event of another would make the part begin later; for its own the link names the next
     both : (b : Bool) → is_own client (k + 1) entry ≡ b → Steps history client (k + 1) entry (get_or next k 0)
     both false other =
         let later : first_from client (k + 1 + 1) (drop (k + 1) history) ≡ k + 1 = rw other at begins in

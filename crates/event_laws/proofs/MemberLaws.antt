@@ -1,5 +1,6 @@
 -- The clients that joined, and those that are there.
-use Rattle.std.proofs.Common.{ℕ, ◌+◌, ◌<◌, ◌≡◌, ◌||◌, ◌∙◌, refl, sym, ap, Bool, true, false, List, [], ◌∷◌, ◌++◌, append_assoc, length, get_or}
+use Rattle.std.proofs.Common.{ℕ, ◌+◌, ◌<◌, ◌≡◌, ◌||◌, ◌∙◌, refl, sym, ap, Bool, true}
+use Rattle.std.proofs.Common.{false, List, [], ◌∷◌, ◌++◌, append_assoc, length, get_or}
 use Rattle.std.proofs.lemmas.List.{get_or_read}
 use Rattle.std.proofs.lemmas.List.Elements.{All-append, All-cons, All-nil}
 use Rattle.sm_names.specs.Marks.{Entry}
@@ -30,7 +31,8 @@ read_other ids event entry rest later history on other so = record {
 }
 
 -- an event that made a client which is there
-pub read_join : (ids : List ℕ) (event : ℕ) (entry : Entry) (rest later history : List Entry) → rest ≡ entry ∷ later → makes_client entry ≡ true →
+pub read_join : (ids : List ℕ) (event : ℕ) (entry : Entry) (rest later history : List Entry) →
+    rest ≡ entry ∷ later → makes_client entry ≡ true →
     is_among ids event ≡ true → IsRead ids event rest history →
     IsRead ids (event + 1) later history
 read_join ids event entry rest later history on join there so = record {
@@ -41,6 +43,7 @@ read_join ids event entry rest later history on join there so = record {
       (All-nil (λ c. is_among ids c ≡ true)));
 }
   where
+    -- since the first entry makes a client
     joins : joined_from event (entry ∷ later) ≡ event ∷ joined_from (event + 1) later
     joins = rw join refl
 
@@ -50,6 +53,7 @@ pub read_next : (ids : List ℕ) (event : ℕ) (entry : Entry) (rest later histo
     IsRead ids (event + 1) later history
 read_next ids event entry rest later history on there so = either (makes_client entry) refl
   where
+    -- by cases on whether the entry makes a client
     either : (b : Bool) → makes_client entry ≡ b → IsRead ids (event + 1) later history
     either true join = read_join ids event entry rest later history on join (there join) so
     either false other = read_other ids event entry rest later history on other so

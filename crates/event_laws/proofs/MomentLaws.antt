@@ -1,5 +1,6 @@
 -- What an event adds to the moments, and what was so at an earlier one.
-use Rattle.std.proofs.Common.{ℕ, ◌≡◌, ◌≤◌, ◌+◌, refl, ◌∙◌, Bool, true, false, cond, inl, inr, List, [], ◌∷◌, length, Option, Some, None, arith}
+use Rattle.std.proofs.Common.{ℕ, ◌≡◌, ◌≤◌, ◌+◌, refl, ◌∙◌, Bool, true, false, cond, inl}
+use Rattle.std.proofs.Common.{inr, List, [], ◌∷◌, length, Option, Some, None, arith}
 use Rattle.std.specs.List.{fold}
 use Rattle.std.specs.Option.{option_map_or}
 use Rattle.sm_names.specs.Marks.{Entry, Mark, Timeline, Called, Loss, Allocated, Ended, events, is_event}
@@ -19,6 +20,7 @@ last_match-kept P test [] each y h = cc
 last_match-kept {A} P test (x ∷ xs) each y h =
     from (last_match test xs) (last_match-kept P test xs (λ z on. each z (inr on)) y) (test x) (each x (inl refl)) h
   where
+    -- by cases: the last match is behind, where it is known, or it is the first element
     from : (o : Option A) → (o ≡ Some y → P y) → (b : Bool) → (b ≡ true → P x) → option_map_or Some o (cond b (Some x) None) ≡ Some y → P y
     from (Some z) later b here h = later h
     from None later true here h = let is : x ≡ y = cc in rw (← is) (here refl)
@@ -55,6 +57,7 @@ earlier_moment (mark ∷ before) moment on =
       | inr e ↦ earlier_on before moment mark (earlier_moment before moment (rw e at on))
     ]
   where
+    -- restates the hypothesis with `In`, so that it can be split
     at_event : In moment (before ∷ earlier_moments before) → In moment (before ∷ earlier_moments before)
     at_event h = h
 

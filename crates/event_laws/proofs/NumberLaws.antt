@@ -1,5 +1,6 @@
 -- A tracker bears the number of the event that attached it.
-use Rattle.std.proofs.Common.{ℕ, ◌≡◌, ◌≤◌, ◌<◌, ◌+◌, refl, ap, sym, ◌∙◌, subst, false, inl, inr, List, [], ◌∷◌, ◌++◌, reverse, Option, Some, None, arith}
+use Rattle.std.proofs.Common.{ℕ, ◌≡◌, ◌≤◌, ◌<◌, ◌+◌, refl, ap, sym, ◌∙◌, subst, false, inl}
+use Rattle.std.proofs.Common.{inr, List, [], ◌∷◌, ◌++◌, reverse, Option, Some, None, arith}
 use Rattle.std.proofs.lemmas.List.{reverse-append}
 use Rattle.std.proofs.lemmas.List.Quantifiers.{all_pairs_push}
 use Rattle.std.specs.List.{All, AllPairs}
@@ -78,6 +79,7 @@ numbered_called : (limits : Bound) (marks : Timeline) (client : ℕ) (reply : Re
     IsAnswer limits (readings marks) client call reply → AreNumbered marks → AreNumbered (Called client reply call ∷ marks)
 numbered_called limits marks client reply call answer old = with_new (tracked_at marks (Called client reply call)) refl
   where
+    -- by cases: a new tracker has the number of this event, which is greater than all before
     with_new : (o : Option Tracked) → tracked_at marks (Called client reply call) ≡ o → AreNumbered (Called client reply call ∷ marks)
     with_new None e = record {
       early = rw e (λ t on. let x : t.id ≤ events marks = old.early t on in omega (arith, x));

@@ -1,5 +1,6 @@
 -- A line tells how many handles its client has open, and each client has one.
-use Rattle.std.proofs.Common.{ℕ, ◌≡◌, ◌≤◌, ◌<◌, ◌+◌, ◌∙◌, ◌==◌, ◌&&◌, refl, ap, sym, subst, Bool, true, false, cond, List, [], ◌∷◌, ◌++◌, Option, Some, None, is_some, append_assoc, append-nil, get_or, length, length-append, reverse, arith}
+use Rattle.std.proofs.Common.{ℕ, ◌≡◌, ◌≤◌, ◌<◌, ◌+◌, ◌∙◌, ◌==◌, ◌&&◌, refl, ap, sym, subst, Bool, true, false, cond, List, [], ◌∷◌, ◌++◌}
+use Rattle.std.proofs.Common.{Option, Some, None, is_some, append_assoc, append-nil, get_or, length, length-append, reverse, arith}
 use Rattle.std.proofs.lemmas.Bool.{lt-ltb, false≢true}
 use Rattle.std.proofs.lemmas.List.{reverse-append}
 use Rattle.std.proofs.lemmas.List.Elements.{All-cons, All-map, All-nil}
@@ -162,7 +163,8 @@ stranger_all : (pool : ℕ) (limits : Bound) (history : List Entry) → IsLegal 
     all_open_of (timeline pool history) client strength ≡ 0
 unfolding all_open_of
 stranger_all pool limits history legal client stranger strength =
-    over_none (allocated_collections (timeline pool history)) (range_with_len 0 MAX_BUFFERS) (λ b. open_of (timeline pool history) client b strength)
+    over_none (allocated_collections (timeline pool history)) (range_with_len 0 MAX_BUFFERS)
+    (λ b. open_of (timeline pool history) client b strength)
     (λ b. stranger_has_none pool limits (timeline pool history) (legal_grows pool limits history legal) client b strength stranger)
 
 module _ (pool : ℕ) (limits : Bound) (history : List Entry) (legal : IsLegal pool limits history) where

@@ -1,5 +1,6 @@
 -- What one event does to the parcels that wait, and to the clients.
-use Rattle.std.proofs.Common.{ℕ, ◌≡◌, ◌≤◌, ◌+◌, refl, ap, sym, ◌∙◌, Bool, true, false, not, ◌||◌, ◌==◌, inl, inr, List, [], ◌∷◌, ◌++◌, drop, Option, Some, None, arith, is_some}
+use Rattle.std.proofs.Common.{ℕ, ◌≡◌, ◌≤◌, ◌+◌, refl, ap, sym, ◌∙◌, Bool, true, false, not, ◌||◌, ◌==◌}
+use Rattle.std.proofs.Common.{inl, inr, List, [], ◌∷◌, ◌++◌, drop, Option, Some, None, arith, is_some}
 use Rattle.std.proofs.lemmas.Bool.{eqb-true, false≢true}
 use Rattle.std.specs.List.{cons_option}
 use Rattle.std.specs.Option.{option_map_or}
@@ -62,11 +63,13 @@ first_is limits marks client caller (Reply.Collected key kind collection) Call.C
     from (parcels marks client) (t.answered ∙ ap (λ c. collected (readings marks) (parcels marks c)) (eqb-true caller client u.0))
     ∙ ap (λ q. q ∷ drop 1 (parcels marks client)) u.1
   where
+    -- by cases: a Collected reply names the key that was asked for, and Empty is no Collected
     end_is : (k : _) (o : Option OpenEnd) → Reply.Collected key kind collection ≡ option_map_or (λ (x : OpenEnd).
         Reply.Collected k x.kind x.collection) o Reply.Empty → key ≡ k
     end_is k None told = cc
     end_is k (Some x) told = cc
 
+    -- by cases on the first parcel: only an end is answered Collected
     from : (ps : List Parcel) → Reply.Collected key kind collection ≡ collected (readings marks) ps → ps ≡ Parcel.End key ∷ drop 1 ps
     from [] told = cc
     from (Parcel.End k ∷ more) told = ap (λ x. Parcel.End x ∷ more) (sym (end_is k ((readings marks).end_of k) told))
@@ -79,11 +82,13 @@ first_is limits marks client caller (Reply.CollectedHandle buffer strength) Call
     from (parcels marks client) (t.answered ∙ ap (λ c. collected (readings marks) (parcels marks c)) (eqb-true caller client u.0))
     ∙ ap (λ q. q ∷ drop 1 (parcels marks client)) u.1
   where
+    -- by cases: neither Collected nor Empty is CollectedHandle
     no_end : (k : _) (o : Option OpenEnd) → Reply.CollectedHandle buffer strength ≡ option_map_or (λ (x : OpenEnd).
         Reply.Collected k x.kind x.collection) o Reply.Empty → ⊥
     no_end k None told = cc
     no_end k (Some x) told = cc
 
+    -- by cases on the first parcel: only a handle is answered CollectedHandle
     from : (ps : List Parcel) → Reply.CollectedHandle buffer strength ≡ collected (readings marks) ps →
         ps ≡ Parcel.Handle buffer strength ∷ drop 1 ps
     from [] told = cc

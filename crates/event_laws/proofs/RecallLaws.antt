@@ -1,5 +1,6 @@
 -- What was over before an event may be forgotten: whether a tracker is due does not rest on it.
-use Rattle.std.proofs.Common.{ℕ, ◌≡◌, ◌≤◌, ◌<◌, refl, sym, ◌∙◌, subst, Bool, true, false, cond, not, ◌||◌, nat_le, inl, inr, [], Some, None, arith}
+use Rattle.std.proofs.Common.{ℕ, ◌≡◌, ◌≤◌, ◌<◌, refl, sym, ◌∙◌, subst, Bool, true, false}
+use Rattle.std.proofs.Common.{cond, not, ◌||◌, nat_le, inl, inr, [], Some, None, arith}
 use Rattle.std.proofs.lemmas.Bool.{eqb-true}
 use Rattle.sm_names.specs.declared.keys.BufferName.{BufferName}
 use Rattle.sm_names.specs.declared.keys.NodeKey.{NodeKey}

@@ -53,6 +53,7 @@ choice_one (own ∷ others) tests all (inr a) (inr b) e = ap inr (choice_one oth
 number_one : Tells (λ (a b : ℕ). a == b)
 number_one a b e = eqb-true a b e
 
+-- by cases on both switches
 switch_one : Tells (switch.eq-value).it
 switch_one true true e = refl
 switch_one false false e = refl
@@ -63,15 +64,18 @@ switch_one false true e = absurd (false≢true e)
 none : (a b : Unit {0}) → true ≡ true → a ≡ b
 none a b e = refl
 
+-- by the field, since nothing is behind it
 lone : {A : Type 0} {E : A → A → Bool} → Tells E → (a b : A × Unit {0}) → E a.0 b.0 ≡ true → a ≡ b
 lone one a b e = λ i. (one a.0 b.0 e i, tt)
 
+-- by the first field and the lone second
 two : {A B : Type 0} {E : A → A → Bool} {F : B → B → Bool} → Tells E → Tells F → (a b : A × (B × Unit {0})) →
     (E a.0 b.0 && F a.1.0 b.1.0) ≡ true → a ≡ b
 two {A} {B} {E} {F} one other a b e =
     let each = and_parts (E a.0 b.0) (F a.1.0 b.1.0) e in
     λ i. (one a.0 b.0 each.0 i, (other a.1.0 b.1.0 each.1 i, tt))
 
+-- by the first field and the two behind it
 three : {A B C : Type 0} {E : A → A → Bool} {F : B → B → Bool} {G : C → C → Bool} → Tells E → Tells F → Tells G →
     (a b : A × (B × (C × Unit {0}))) → (E a.0 b.0 && (F a.1.0 b.1.0 && G a.1.1.0 b.1.1.0)) ≡ true → a ≡ b
 three {A} {B} {C} {E} {F} {G} one other last a b e =
@@ -105,15 +109,19 @@ demand_one a b e =
 strength_one : Tells (strength.eq-value).it
 strength_one = same_true strength_type.the_type tt
 
+-- since kinds of ends are names alone
 kind_one : Tells (kind.eq-value).it
 kind_one = same_true kind_type.the_type tt
 
+-- since causes of failure are names alone
 failure_one : Tells (failure.eq-value).it
 failure_one = same_true failure_type.the_type tt
 
+-- since misuses are names alone
 misuse_one : Tells (misuse.eq-value).it
 misuse_one = same_true misuse_type.the_type tt
 
+-- since refusals are names alone
 refusal_one : Tells (refusal.eq-value).it
 refusal_one = same_true refusal_type.the_type tt
 

@@ -1,5 +1,6 @@
 -- The buffers of a set.
-use Rattle.std.proofs.Common.{ℕ, zero, suc, ◌≡◌, ◌≤◌, ◌+◌, ◌==◌, ◌/◌, ◌%◌, ◌^◌, ap, sym, ◌∙◌, Bool, true, false, cond, List, [], ◌∷◌, ◌++◌, length, arith}
+use Rattle.std.proofs.Common.{ℕ, zero, suc, ◌≡◌, ◌≤◌, ◌+◌, ◌==◌, ◌/◌, ◌%◌, ◌^◌, ap, sym, ◌∙◌}
+use Rattle.std.proofs.Common.{Bool, true, false, cond, List, [], ◌∷◌, ◌++◌, length, arith}
 use Rattle.std.proofs.lemmas.List.Sums.{count_by-le-length, length-filter}
 use Rattle.std.proofs.lemmas.List.FromFn.{length-range_with_len}
 use Rattle.std.proofs.lemmas.Grind.{common_steps}
@@ -36,6 +37,7 @@ below_push most set =
     ap (λ l. length (filter p l)) (range-push 0 most)
     ∙ (one_more p (range_with_len 0 most) (0 + most) ∙ ap (λ k. length (indices_below most set) + cond (bit_at set k == 1) 1 0) e)
   where
+    -- by the rule for a filter of an append
     one_more : (p : ℕ → Bool) (xs : List ℕ) (x : ℕ) → length (filter p (xs ++ x ∷ [])) ≡ length (filter p xs) + cond (p x) 1 0
     one_more p xs x = grind (arith, common_steps)
 

@@ -1,5 +1,6 @@
 -- An end is in at most one parcel, and one that is in a parcel is not spent.
-use Rattle.std.proofs.Common.{ℕ, ◌≡◌, ◌<◌, ◌+◌, refl, ap, sym, ◌∙◌, Bool, true, false, cond, not, ◌||◌, ◌&&◌, ◌==◌, inl, inr, [], ◌∷◌, Option, Some, None, is_some, arith}
+use Rattle.std.proofs.Common.{ℕ, ◌≡◌, ◌<◌, ◌+◌, refl, ap, sym, ◌∙◌, Bool, true, false, cond, not}
+use Rattle.std.proofs.Common.{◌||◌, ◌&&◌, ◌==◌, inl, inr, [], ◌∷◌, Option, Some, None, is_some, arith}
 use Rattle.std.proofs.lemmas.Bool.{eqb-true, eq-eqb, false≢true}
 use Rattle.std.specs.List.{list_any, cons_option}
 use Rattle.std.specs.Option.{option_map_or}
@@ -12,7 +13,8 @@ use Rattle.sm_names.specs.Answers.{IsAnswer}
 use Rattle.sm_names.specs.Births.{Birth, births, birth_at, was_born}
 use Rattle.sm_names.specs.Bounds.{Bound}
 use Rattle.event_laws.specs.ByEvent.{one_if, collected_at, sends, delivers}
-use Rattle.sm_names.specs.Ends.{clients, has_joined, spent, spends, binds, given_at, parcels, is_end_of, in_transit, collector_at, collector}
+use Rattle.sm_names.specs.Ends.{clients, has_joined, spent, spends, binds, given_at}
+use Rattle.sm_names.specs.Ends.{parcels, is_end_of, in_transit, collector_at, collector}
 use Rattle.sm_names.specs.Marks.{Mark, Timeline, Called, events}
 use Rattle.sm_names.specs.Reading.{readings}
 use Rattle.sm_names.specs.Sameness.{same_key}
@@ -95,6 +97,7 @@ transit_is : (marks : Timeline) (node : NodeKey) (place : ℕ) (t : Bool) →
 transit_is marks node place t waits joined =
     (λ i. list_any (λ c. any_one (is_end_of node) (parcels marks c) (place == c && t) (waits c) i) (clients marks)) ∙ by_test t joined
   where
+    -- by cases: a switch that is off passes nowhere, and one that is on passes at the place, which has joined
     by_test : (t : Bool) → (t ≡ true → has_joined marks place ≡ true) → list_any (λ c. place == c && t) (clients marks) ≡ t
     by_test false joined = false_if (list_any (λ c. place == c && false) (clients marks)) (λ h.
         let a = In-list_any (λ c. place == c && false) (clients marks) h in

@@ -1,5 +1,6 @@
 -- Which trackers wait after one more event, and which fired.
-use Rattle.std.proofs.Common.{ℕ, ◌≡◌, ◌≤◌, refl, ap, sym, ◌∙◌, Bool, true, false, cond, not, ◌&&◌, ◌==◌, nat_le, inl, inr, List, [], ◌∷◌, ◌++◌, length, map, reverse, Option, Some, None, is_none, arith}
+use Rattle.std.proofs.Common.{ℕ, ◌≡◌, ◌≤◌, refl, ap, sym, ◌∙◌, Bool, true, false, cond, not, ◌&&◌, ◌==◌, nat_le, inl}
+use Rattle.std.proofs.Common.{inr, List, [], ◌∷◌, ◌++◌, length, map, reverse, Option, Some, None, is_none, arith}
 use Rattle.std.proofs.lemmas.List.{reverse-append, append-nil}
 use Rattle.std.proofs.lemmas.List.Concat.{flat_map-append}
 use Rattle.std.proofs.lemmas.List.Elements.{filter-append}
@@ -67,6 +68,7 @@ In-waiting marks t on =
     let r = In-filter (λ (u : Tracked). is_none (fired_at marks u)) (reverse (tracked marks)) t on in
     (In-reverse (tracked marks) t r.0, none (fired_at marks t) r.1)
   where
+    -- since an event would not be none
     none : (o : Option ℕ) → is_none o ≡ true → o ≡ None
     none None h = refl
     none (Some event) h = cc
@@ -79,11 +81,13 @@ waiting_not_due marks t on = let w = In-waiting marks t on in not_due marks t w.
 pub waited_for : (marks : Timeline) (t : Tracked) → In t (unfired_trackers marks) → IsWaitedFor marks t.condition
 waited_for marks t on = from t.condition (waiting_not_due marks t on)
   where
+    -- by cases: a node that is gone without being allocated would make the tracker due
     or_allocated : (a g : Bool) (few : Bool) → cond a few g ≡ false → g ≡ true → a ≡ true
     or_allocated true g few h e = refl
     or_allocated false true few h e = cc
     or_allocated false false few h e = cc
 
+    -- by cases on the condition: each was false at the last moment
     from : (condition : Condition) → holds (world marks) condition ≡ false → IsWaitedFor marks condition
     from (Condition.Node key) h = h
     from (Condition.Lifetime key collection most) h =
@@ -120,14 +124,17 @@ module _ (pool : ℕ) (limits : Bound) (marks : Timeline) (entry : Entry) (g : G
 
   -- those of them that pass one more test
   asked_of : (test : Tracked → Bool) →
-      filter (λ t. is_none (fired_at marks t) && test t) (reverse (tracked (after pool marks entry))) ≡ filter test (trackers_to_test marks entry)
+      filter (λ t. is_none (fired_at marks t) && test t) (reverse (tracked (after pool marks entry)))
+      ≡ filter test (trackers_to_test marks entry)
   asked_of test = filter-both (λ t. is_none (fired_at marks t)) test (reverse (tracked (after pool marks entry)))
       ∙ ap (filter test) unfired_on
 
   -- those that are not due wait on
-  pub waiting_next : unfired_trackers (after pool marks entry) ≡ filter (λ t. not (is_tracked_met (world (after pool marks entry)) t)) (trackers_to_test marks entry)
+  pub waiting_next : unfired_trackers (after pool marks entry)
+      ≡ filter (λ t. not (is_tracked_met (world (after pool marks entry)) t)) (trackers_to_test marks entry)
   waiting_next =
-      filter-In (λ t. is_none (fired_at then t)) (λ t. is_none (fired_at marks t) && not (is_tracked_met (world then) t)) (reverse (tracked then))
+      filter-In (λ t. is_none (fired_at then t)) (λ t. is_none (fired_at marks t) && not (is_tracked_met (world then) t))
+      (reverse (tracked then))
       (λ t on. waits_next pool marks entry t (In-reverse (tracked then) t on))
       ∙ asked_of (λ t. not (is_tracked_met (world then) t))
 

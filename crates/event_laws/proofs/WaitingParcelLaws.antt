@@ -52,12 +52,14 @@ ends_by_birth bs (p ∷ ps) born =
     ends_by_birth bs ps (λ node h. born node (or_right (is_end_of node p) _ h)) in
     let all : sum_by (λ (b : Birth). times (is_end_of b.node) (p ∷ ps)) bs
     ≡ sum_by (λ (b : Birth). times (is_end_of b.node) ps) bs + sum_by (λ (b : Birth). one (is_end_of b.node p)) bs =
-    sum_by-same (λ (b : Birth). times (is_end_of b.node) (p ∷ ps)) (λ (b : Birth). times (is_end_of b.node) ps + one (is_end_of b.node p)) bs
+    sum_by-same (λ (b : Birth). times (is_end_of b.node) (p ∷ ps))
+    (λ (b : Birth). times (is_end_of b.node) ps + one (is_end_of b.node p)) bs
     (λ b. times-cons (is_end_of b.node) p ps)
     ∙ sum_by-add (λ (b : Birth). times (is_end_of b.node) ps) (λ (b : Birth). one (is_end_of b.node p)) bs in
     let head : one (is_end p) ≤ sum_by (λ (b : Birth). one (is_end_of b.node p)) bs = at_head p (λ node h. born node (or_left _ _ h)) in
     omega (arith, rest, all, head, times-cons is_end p ps)
   where
+    -- by cases: the birth of an end's node counts it, and a handle is no end
     at_head : (q : Parcel) → ((node : NodeKey) → is_end_of node q ≡ true → was_born bs node ≡ true) →
         one (is_end q) ≤ sum_by (λ (b : Birth). one (is_end_of b.node q)) bs
     at_head (Parcel.End key) known = counted_once bs key (known key (same_key-refl key))
@@ -83,7 +85,8 @@ waits-le-kept pool limits marks g client b =
 pub ends-le-kept : (pool : ℕ) (limits : Bound) (marks : Timeline) → Grows pool limits [] marks → (client : ℕ) →
     times is_end (parcels marks client) ≤ kept_nodes marks
 ends-le-kept pool limits marks g client =
-    let born : times is_end (parcels marks client) ≤ sum_by (λ (b : Birth). times (is_end_of b.node) (parcels marks client)) (births marks) =
+    let born : times is_end (parcels marks client)
+    ≤ sum_by (λ (b : Birth). times (is_end_of b.node) (parcels marks client)) (births marks) =
     ends_by_birth (births marks) (parcels marks client)
     (λ node h. in_transit_born pool limits marks g node (waits_in_transit pool limits marks g node client h)) in
     let kept : sum_by (λ (b : Birth). times (is_end_of b.node) (parcels marks client)) (births marks) ≤ kept_nodes marks =

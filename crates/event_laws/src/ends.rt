@@ -18,8 +18,8 @@ ghost use Rattle.sm_names.specs.Marks.{Entry, events};
 ghost use Rattle.sm_names.specs.Timelines.{timeline};
 ghost use Rattle.sm_names.specs.Words.{times};
 
-/// A Join adds the client that it made, which is the event's number and joined never before, and a
-/// Shut shuts its caller: every other event leaves the clients, and which of them are shut.
+/// A Join adds the client that it made, whose number is the event's and that never joined before, and a
+/// Shut shuts its caller. Every other event changes neither the clients nor which of them are shut.
 pub fn events_make_and_shut_clients()
     ensures joined { (pool : ℕ) (limits : Bound) (history : List Entry) (entry : Entry) →
         IsLegal pool limits (history ++ entry ∷ []) →
@@ -36,8 +36,8 @@ pub fn events_make_and_shut_clients()
         ≡ (shuts client (entry_mark entry) || is_shut (timeline pool history) client) }
 {}
 
-/// A parcel that an event gives to a client waits last, and one that the client gets waited first:
-/// every other event leaves what waits for it. Nothing waits for a client that has not joined.
+/// A parcel that an event gives to a client waits last, and one that the client gets waited first.
+/// Every other event changes nothing of what waits for it. Nothing waits for a client that has not joined.
 pub fn events_move_parcels()
     ensures given { (pool : ℕ) (limits : Bound) (history : List Entry) (entry : Entry) →
         IsLegal pool limits (history ++ entry ∷ []) → (client : ℕ) (parcel : Parcel) →
@@ -99,7 +99,7 @@ pub fn waiting_parcels_are_bounded()
 
 /// A Close or a Release spends an end, a Give puts one into a parcel and leaves its holder, and a
 /// Collect takes one out and makes its caller the holder, and a Bind makes a collection of a token:
-/// every other event leaves the ends that there are. A new node's end is its caller's token.
+/// every other event changes none of the ends that there are. A new node's end is its caller's token.
 pub fn events_move_ends()
     ensures spent { (pool : ℕ) (limits : Bound) (history : List Entry) (entry : Entry) →
         IsLegal pool limits (history ++ entry ∷ []) → (node : NodeKey) →

@@ -1,5 +1,6 @@
 -- A walk down within a bound: it visits children alone, and lists the nodes within the bound.
-use Rattle.std.proofs.Common.{◌≡◌, ◌≢◌, ◌↔◌, ℕ, zero, suc, ◌+◌, ◌<◌, Bool, true, false, ◌&&◌, not, if◌then◌else◌, inl, inr, List, [], ◌∷◌, length, take, get_or, AllPairs, Contains, Option, Some, None, arith, refl, ap, sym, ◌∙◌, subst}
+use Rattle.std.proofs.Common.{◌≡◌, ◌≢◌, ◌↔◌, ℕ, zero, suc, ◌+◌, ◌<◌, Bool, true, false, ◌&&◌, not, if◌then◌else◌, inl, inr, List, []}
+use Rattle.std.proofs.Common.{◌∷◌, length, take, get_or, AllPairs, Contains, Option, Some, None, arith, refl, ap, sym, ◌∙◌, subst}
 use Rattle.std.specs.Option.{option_map_or}
 use Rattle.std.specs.List.{flat_map}
 use Rattle.sm_names.specs.declared.keys.NodeKey.{NodeKey}

@@ -57,7 +57,7 @@ pub(crate) fn is_abandoned(table: &NodeTable<Node>, entry: &Entry, holds: &Holds
     has_given_root(table, entry.keys.as_slice()) && !is_strong_open(entry.id, entry.buffers, holds)
 }
 
-/// The buffer with this name is not held any longer, and gives its pages back. It costs a pass over
+/// The buffer with this name is not held any longer, and gives its pages back. Costs a pass over
 /// the names.
 fn free_buffer(held: &mut Vec<HeldBuffer>, pool: &mut Pool, holds: &Holds, buffer: BufferName)
     requires home { is_home (total holds.now buffer Grade.Strong)
@@ -109,7 +109,7 @@ fn free_if_home(
 /// What comes of a handle of the buffer that was dropped, if no step is forced by that: the buffer
 /// gives its pages back, if it is home. Answers whether no step is forced; else nothing changed. No step
 /// is forced where the collection is there, and a strong node of it is live, or its root is gone or has
-/// no buffers, or a strong handle is open on one of its buffers. It takes no memory.
+/// no buffers, or a strong handle is open on one of its buffers. Takes no memory.
 pub fn drop_in_place(
     table: &NodeTable<Node>,
     entries: &mut Vec<Entry>,

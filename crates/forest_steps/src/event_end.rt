@@ -26,7 +26,7 @@ use forest_store::store::{NodeStore, Store};
 use sm_names::{Cause, Fault, NodeKey};
 
 /// Whether nothing is left to be done in the collection at this place: a strong node of it is live, or it
-/// rests without one. It costs a look at the handles of each buffer where no strong node is live.
+/// rests without one. Costs a look at the handles of each buffer where no strong node is live.
 #[inline(always)]
 pub fn is_finished(store: &Store, at: usize, pool: &Pool, holds: &Holds) -> bool
     requires may { MayFinish (total holds.now) store.now at }
@@ -43,8 +43,8 @@ pub fn is_finished(store: &Store, at: usize, pool: &Pool, holds: &Holds) -> bool
 
 /// Where no strong node is live and the buffers of the collection at this place are abandoned, the loss
 /// of its root removes all its nodes; then the home buffers return their pages. No step is forced after
-/// that. It costs O(1), a look at the handles of each buffer where no strong node is live, O(1) for each
-/// node that is removed, and the cost of `free_home_buffers`. It takes no memory.
+/// that. Costs O(1), a look at the handles of each buffer where no strong node is live, O(1) for each
+/// node that is removed, and the cost of `free_home_buffers`. Takes no memory.
 #[inline(always)]
 pub fn finish_event(
     store: &mut Store,
@@ -72,7 +72,7 @@ pub fn finish_event(
 }
 
 /// Where the buffers of the collection are abandoned, of which no strong node is live, the loss of its
-/// root removes all its nodes. It costs a look at the strong handles of its buffers, and O(1) for each
+/// root removes all its nodes. Costs a look at the strong handles of its buffers, and O(1) for each
 /// node that is removed.
 fn fail_if_abandoned(
     nodes: &mut NodeStore,

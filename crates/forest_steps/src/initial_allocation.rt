@@ -205,7 +205,7 @@ fn reserved_with(
 
 /// The plan of the initial allocation, before the pool is asked, if the effect, with these counts, makes
 /// the root's unit ready while it has no buffers, and something holds it then. The keys of the unit, and
-/// of the attached nodes right below it, are listed for it. It takes no memory.
+/// of the attached nodes right below it, are listed for it. Takes no memory.
 fn planned(
     nodes: &NodeStore,
     entry: &Entry,
@@ -295,8 +295,8 @@ fn lose_first(
     remove_subtree(nodes, entry, head, Some(fault), keys);
 }
 
-/// The unit of the root, with this head, whose keys are listed, is allocated with these buffers, and the
-/// attached units that are ready below it have their turns.
+/// Allocates the unit of the root, with this head, whose keys are listed, with these buffers, and then
+/// allocates or refuses the attached units that are ready below it.
 fn allocate_root_unit(
     nodes: &mut NodeStore,
     entry: &mut Entry,
@@ -375,16 +375,16 @@ fn settle_first(
 }
 
 /// Makes an effect by which the root's unit becomes ready, while something holds it and it has no
-/// buffers, with all that is forced: the unit is allocated, and the attached units below that
-/// are ready have their turns, by birth, each of which is allocated or refused; or the root is lost, where
+/// buffers, with all that is forced: the unit is allocated, and the attached units below that are ready
+/// are allocated or refused, by birth; or the root is lost, where
 /// no strong node is live then, no buffers are wanted or too many, or the pool is full. Answers whether
 /// it did; if not, the root's unit does not wait for its buffers after the effect, or nothing holds it
 /// then, and nothing changed.
 ///
-/// It costs O(1). Where the unit is ready, it costs besides a few reads of each
-/// node of the unit and of each attached node right below it, a write of each node of the unit, what the
-/// places of the buffers cost, and what the turns cost, or, where the root is lost, O(1) for each node of
-/// the collection; and at last what `finish_event` costs. `NoMemory` where the room for the held buffers
+/// Costs O(1). Where the unit is ready, costs besides a few reads of each node of the unit and of each
+/// attached node right below it, a write of each node of the unit, what the places of the buffers cost, and
+/// what `allocate_all_pending` costs, or, where the root is lost, O(1) for each node of the collection; and
+/// at last what `finish_event` costs. `NoMemory` where the room for the held buffers
 /// is refused, or the pool's: then nothing changed.
 pub fn allocate_root(
     store: &mut Store,

@@ -36,7 +36,7 @@ impl Bound<Node> for OneUnit {
 }
 
 /// Lists the keys of the unit with this head: of its nodes, and of the attached nodes right below
-/// them. It costs their number, and takes no memory.
+/// them. Takes no memory. Costs O(k) for these k keys.
 pub(crate) fn list_unit(table: &NodeTable<Node>, head: NodeKey, keys: &mut Vec<NodeKey>)
     requires there { IsSome (row_at table.now head) }
     requires room { table_len table.now ≤ vec_capacity keys.old }
@@ -86,10 +86,10 @@ pub(crate) fn is_next(table: &NodeTable<Node>, units: &[Unit], head: NodeKey) ->
     has_turn(table, head) && unit_in(units, head.slot as usize).unready == 0
 }
 
-/// The unit with this head has its turn, if it is next: it is allocated, or refused, where the buffers
-/// are not enough for it, and fails; where nothing holds the unit above it then, that ends, or the
-/// highest above it that nothing holds. It costs O(1) for each node of the unit, for each head right below
-/// it, and for each node that is removed. It takes no memory.
+/// Allocates or refuses the unit with this head, if it is next: it is refused, and fails, where the
+/// buffers are not enough for it; where nothing holds the unit above it then, that ends, or the highest
+/// above it that nothing holds. Takes no memory. Costs O(1) for each node of the unit, for each head right
+/// below it, and for each node that is removed.
 pub(crate) fn allocate_pending(
     nodes: &mut NodeStore,
     entry: &mut Entry,

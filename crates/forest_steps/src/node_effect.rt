@@ -56,7 +56,7 @@ pub struct NodeEffect {
 }
 
 /// Whether the effect changes none of the counts: it neither releases its node nor makes it weak, nor
-/// sets its constraints. It costs O(1).
+/// sets its constraints. Costs O(1).
 #[inline(always)]
 pub fn keeps_counts(effect: &Effect) -> bool
     ensures { result ≡ keeps_counts effect.now }
@@ -216,7 +216,7 @@ fn counts_after(
 }
 
 /// Works the effect out on the node with this key of the entry's collection: counts what changes by it.
-/// It costs O(1).
+/// Costs O(1).
 #[inline(always)]
 pub fn work_out(nodes: &NodeStore, entry: &Entry, key: NodeKey, effect: Effect) -> NodeEffect
     requires { IsSome (row_at nodes.now.table key) }
@@ -248,8 +248,8 @@ fn affect_at(table: &mut NodeTable<Node>, key: NodeKey, effect: &Effect)
 }
 
 /// Makes the effect on its node, and writes what is counted then, of the node's unit and of its
-/// collection. It costs O(1), but for a sum of what is reserved that no number holds, which costs
-/// a pass over the nodes. It takes no memory.
+/// collection. Costs O(1), but for a sum of what is reserved that no number holds, which costs
+/// a pass over the nodes. Takes no memory.
 #[inline(always)]
 pub(crate) fn make_effect(nodes: &mut NodeStore, entry: &mut Entry, made: &NodeEffect)
     requires named { AreNamed nodes.old.table }

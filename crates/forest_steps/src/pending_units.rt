@@ -1,4 +1,4 @@
-//! Attached units that come to their turn, one after another by birth: each is allocated or refused.
+//! Pending attached units, one after another by birth: each is allocated or refused.
 ghost use Rattle.std.specs.List.{list_any};
 ghost use Rattle.std.specs.Prelude.{◌≡◌, ◌<◌, ◌≤◌, ◌+◌, ◌++◌, ◌∷◌, [], List, ℕ, Some, true, IsSome, filter, length, vec_capacity};
 ghost use Rattle.sm_names.specs.declared.keys.NodeKey.{NodeKey as Key};
@@ -26,7 +26,7 @@ use forest_store::unit_counts::Unit;
 use node_table::NodeTable;
 use sm_names::{Buffers, NodeKey};
 
-/// A unit that may come to its turn.
+/// A pending unit: it may be allocated next.
 #[derive(Clone, Copy)]
 pub struct PendingUnit {
     /// Where its head stands among the keys of its collection.
@@ -111,11 +111,11 @@ fn list_heads(
     }
 }
 
-/// Lists the unit with this head, and behind it by birth each attached unit that may come to its turn
-/// by its allocation: it is ready, without buffers, and hangs right below another of them. It costs the
+/// Lists the unit with this head, and behind it by birth each attached unit that its allocation may make
+/// next: it is ready, without buffers, and hangs right below another of them. Costs the
 /// nodes of these units and the heads right below them, and for each of these units a logarithm of the
 /// collection's nodes; where nodes were not born in the order of their events, a pass over the keys for
-/// each. It takes no memory: the lists have room for as many as there are nodes.
+/// each. Takes no memory: the lists have room for as many as there are nodes.
 pub(crate) fn list_pending(
     table: &NodeTable<Node>,
     units: &[Unit],
@@ -141,7 +141,7 @@ pub(crate) fn list_pending(
 }
 
 /// Whether the buffers are abandoned: no strong node of the collection, which has these buffers, is
-/// live, its root has its own, and no strong handle is open on one of them. It costs a look at the
+/// live, its root has its own, and no strong handle is open on one of them. Costs a look at the
 /// handles of each buffer where no strong node is live.
 fn are_abandoned(table: &NodeTable<Node>, entry: &Entry, buffers: Buffers, holds: &Holds) -> bool
     requires { given_few (Some buffers) ≡ true }
@@ -153,8 +153,9 @@ fn are_abandoned(table: &NodeTable<Node>, entry: &Entry, buffers: Buffers, holds
         && !is_strong_open(entry.id, Some(buffers), holds)
 }
 
-/// Each of these units has its turn, until the buffers are abandoned. It costs what each turn costs, and
-/// for each, where no strong node is live, a look at the handles of each buffer. It takes no memory.
+/// Allocates or refuses each of these units that is next, in their order, until the buffers are
+/// abandoned. Takes no memory. Costs what each `allocate_pending` costs, and for each, where no strong
+/// node is live, a look at the handles of each buffer.
 pub(crate) fn allocate_all_pending(
     nodes: &mut NodeStore,
     entry: &mut Entry,

@@ -23,8 +23,8 @@ use forest_store::entry::Entry;
 use forest_store::store::NodeStore;
 use sm_names::{Buffers, Fault, NodeKey};
 
-/// Makes a loss, and ends the units above that nothing holds after it. It costs O(1) for each node that
-/// the failure climbs over, and for each that is removed. It takes no memory.
+/// Makes a loss, and ends the units above that nothing holds after it. Takes no memory. Costs O(1) for
+/// each node that the failure climbs over, and for each that is removed.
 pub fn apply_loss(
     nodes: &mut NodeStore,
     entry: &mut Entry,
@@ -46,8 +46,8 @@ pub fn apply_loss(
     fall_by(nodes, entry, fault, &mut room.removed);
 }
 
-/// The turns of the unit with this head, if it is next, and of those that follow, until the buffers are
-/// abandoned. It costs what the turns cost, and takes no memory.
+/// Allocates or refuses the unit with this head, if it is next, then those that follow, until the buffers
+/// are abandoned. Takes no memory. Costs what `allocate_all_pending` costs.
 fn allocate_ready(
     nodes: &mut NodeStore,
     entry: &mut Entry,
@@ -88,9 +88,9 @@ fn allocate_ready(
 }
 
 /// Makes an effect, and what it forces: the end of the unit of its node and of those above it, where
-/// nothing holds them then, and the turns of that unit and of those that follow, where it is ready and
-/// attached. The unit of the root must not wait for its first buffers then. It costs O(1), and O(1) for
-/// each node that ends, or the cost of the turns. It takes no memory.
+/// nothing holds them then, and the logical allocation of that unit and of those that follow, where it is
+/// ready and attached. The unit of the root must not wait for its first buffers then. Takes no memory.
+/// Costs O(1), and O(1) for each node that ends, or what `allocate_all_pending` costs.
 pub fn apply_effect(
     nodes: &mut NodeStore,
     entry: &mut Entry,

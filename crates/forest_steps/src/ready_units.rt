@@ -1,5 +1,4 @@
-//! Which attached units may come to their turn once the one above them is allocated, since they are
-//! ready.
+//! Which attached units may be next once the one above them is allocated, since they are ready.
 ghost use Rattle.std.specs.List.{list_any};
 ghost use Rattle.std.specs.List.Sorted.{IsSorted};
 ghost use Rattle.std.specs.Prelude.{◌≡◌, ◌≤◌, ◌++◌, ◌∷◌, [], true, length, vec_capacity, IsSome};
@@ -63,7 +62,7 @@ pub(crate) fn is_head_at(
     }
 }
 
-/// The units that may come to their turn together, by the counts of their collection: a walk down from
+/// The units that may be next together, by the counts of their collection: a walk down from
 /// one of them takes the attached nodes right below them, and nothing below those that head none of
 /// them.
 #[derive(Drop)]
@@ -81,8 +80,8 @@ impl<'a> Bound<Node> for Together<'a> {
 }
 
 /// Lists the keys of the nodes of the unit with this head, and of each attached unit that is ready and
-/// hangs right below another of them, and of the heads right below all these. It costs their number, and
-/// takes no memory: the list has room for as many keys as there are nodes.
+/// hangs right below another of them, and of the heads right below all these. Costs their number. Takes
+/// no memory: the list has room for as many keys as there are nodes.
 pub(crate) fn find_ready_below(
     table: &NodeTable<Node>,
     units: &[Unit],

@@ -34,7 +34,7 @@ fn head_over(table: &NodeTable<Node>, keys: &[NodeKey]) -> Option<NodeKey>
 /// its collection; a node that may be forgotten then is noted. Answers the head of the unit right above
 /// the removed nodes, if there is one.
 ///
-/// It costs O(1) for each node that the failure climbs over, and for each that is removed. It takes no
+/// Costs O(1) for each node that the failure climbs over, and for each that is removed. Takes no
 /// memory.
 fn remove_taken(
     nodes: &mut NodeStore,
@@ -65,8 +65,8 @@ fn remove_taken(
 /// those that may be forgotten then. Answers the head of the unit right above the removed nodes, if there
 /// is one: perhaps nothing holds that unit then.
 ///
-/// It costs O(1) for each node that the failure climbs over, and for each node at and below the highest,
-/// also one that was gone before. It takes no memory.
+/// Costs O(1) for each node that the failure climbs over, and for each node at and below the highest,
+/// also one that was gone before. Takes no memory.
 pub(crate) fn remove_subtree(
     nodes: &mut NodeStore,
     entry: &mut Entry,

@@ -12,7 +12,7 @@ use buffer_holds::{Holds, Spot};
 use buffer_pool::Pool;
 use sm_names::HeldBuffer;
 
-/// The buffers that are home give their pages back, and are not held any longer. It takes no memory,
+/// The buffers that are home give their pages back, and are not held any longer. Takes no memory,
 /// and costs a look at the handles of each buffer, two where some stay held and others do not, with a
 /// shift for each that does not, and the cost of `Pool::give_back`.
 pub(crate) fn free_home_buffers(

@@ -1,24 +1,24 @@
-//! Room for removed nodes, and for the units that have their turns.
+//! Room for removed nodes, and for pending units.
 ghost use Rattle.std.specs.Prelude.{◌≡◌, ◌≤◌, [], OnOk, true, vec_capacity};
 
 use crate::pending_units::PendingUnit;
 use sm_names::{NoMemory, NodeKey};
 use std::alloc::Global;
 
-/// Lists with room for as many as there are nodes: births make it, so that removals and turns take no
-/// memory.
+/// Lists with room for as many as there are nodes: births make it, so that removals and
+/// allocations take no memory.
 #[derive(Drop)]
 pub struct Scratch {
-    /// The removed nodes, or the nodes of the units that have their turns.
+    /// The removed nodes, or the nodes of the pending units.
     pub removed: Vec<NodeKey>,
     /// The nodes of the root's unit.
     pub unit: Vec<NodeKey>,
-    /// Units that may come to their turn.
+    /// Pending units.
     pub pending: Vec<PendingUnit>,
 }
 
 impl Scratch {
-    /// Empty lists with room for nothing. It takes no memory.
+    /// Empty lists with room for nothing. Takes no memory.
     pub fn new(alloc: Global) -> Scratch
         ensures removed { result.removed.items ≡ [] }
         ensures unit { result.unit.items ≡ [] }
@@ -31,7 +31,7 @@ impl Scratch {
         }
     }
 
-    /// Makes room for this many nodes in each list. It costs O(1), growth spread over the calls.
+    /// Makes room for this many nodes in each list. Costs O(1), growth spread over the calls.
     pub fn reserve(&mut self, nodes: usize) -> Result<(), NoMemory>
         ensures removed { OnOk result (nodes ≤ vec_capacity self.new.removed) }
         ensures unit { OnOk result (nodes ≤ vec_capacity self.new.unit) }

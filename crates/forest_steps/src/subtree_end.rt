@@ -35,7 +35,7 @@ fn unit_over(table: &NodeTable<Node>, units: &[Unit], head: NodeKey) -> Option<N
 }
 
 /// The highest of the units above one another that nothing holds but the one below, from this one
-/// on, by the counts. It costs their number.
+/// on, by the counts. Costs their number.
 fn highest(table: &NodeTable<Node>, units: &[Unit], head: NodeKey) -> NodeKey
     requires { IsSome (row_at table.now head) }
     ensures climbed { result ≡ climbed (table_len table.now) table.now units.now head }
@@ -52,8 +52,8 @@ fn highest(table: &NodeTable<Node>, units: &[Unit], head: NodeKey) -> NodeKey
 }
 
 /// Where nothing holds the unit with this head, the highest of the units above one another from it on
-/// that nothing holds but the one below ends, and all below it. It costs O(1) for each of those units and
-/// for each node that ends. It takes no memory.
+/// that nothing holds but the one below ends, and all below it. Costs O(1) for each of those units and
+/// for each node that ends. Takes no memory.
 pub(crate) fn end_above(
     nodes: &mut NodeStore,
     entry: &mut Entry,
@@ -84,8 +84,8 @@ pub(crate) fn end_above(
 }
 
 /// Removes each node that the fault takes; where nothing holds the unit above them then, that unit ends,
-/// or the highest above it that nothing holds. It costs O(1) for each node that the failure climbs over,
-/// and for each that is removed. It takes no memory.
+/// or the highest above it that nothing holds. Costs O(1) for each node that the failure climbs over,
+/// and for each that is removed. Takes no memory.
 #[inline(always)]
 pub(crate) fn fall_by(
     nodes: &mut NodeStore,

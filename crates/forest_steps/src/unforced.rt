@@ -20,7 +20,7 @@ use forest_store::unit_counts::is_held_by;
 use node_table::NodeTable;
 
 /// Whether nothing is forced by the effect: something holds the node's unit, which does not get its
-/// buffers next, and a strong node of the collection is live, or it rests without one. It costs O(1),
+/// buffers next, and a strong node of the collection is live, or it rests without one. Costs O(1),
 /// and a look at the handles of each buffer where no strong node is live then.
 #[inline(always)]
 pub fn is_unforced(table: &NodeTable<Node>, entry: &Entry, holds: &Holds, made: &NodeEffect) -> bool
@@ -39,7 +39,7 @@ pub fn is_unforced(table: &NodeTable<Node>, entry: &Entry, holds: &Holds, made: 
     is_kept_by(table, entry, holds, strong)
 }
 
-/// Makes an effect that forces nothing on a node of the collection at this place. It costs O(1),
+/// Makes an effect that forces nothing on a node of the collection at this place. Costs O(1),
 /// and takes no memory.
 #[inline(always)]
 pub fn apply_unforced(store: &mut Store, at: usize, pool: &Pool, holds: &Holds, made: &NodeEffect)

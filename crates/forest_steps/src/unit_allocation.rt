@@ -1,4 +1,4 @@
-//! The allocation of units: whether one has its turn, what its nodes ask for, and how their nodes are
+//! The allocation of units: whether one is next, what its nodes ask for, and how their nodes are
 //! marked as allocated.
 ghost use Rattle.std.specs.List.Sorted.{IsSorted};
 ghost use Rattle.std.specs.Prelude.{◌≡◌, if◌then◌else◌, ◌∷◌, [], None, Some, true, false};

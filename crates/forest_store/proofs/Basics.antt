@@ -1,6 +1,7 @@
 -- The lemmas that proofs of whole changes cite, passed on from one place. Declares nothing.
 pub use Rattle.forest_store.proofs.allocation.Next.{hangs_in_some}
-pub use Rattle.forest_store.proofs.changes.Altering.{filed_at, found_filed, found_id, found_whole, kept_of, looked-of, none_above, same_affected, shelf_by}
+pub use Rattle.forest_store.proofs.changes.Altering.{filed_at, found_filed, found_id, found_whole, kept_of}
+pub use Rattle.forest_store.proofs.changes.Altering.{looked-of, none_above, same_affected, shelf_by}
 pub use Rattle.forest_store.proofs.changes.Finishing.{collection-beside, keys_in, looked-keys, place-filed, whole-map, whole-unmap}
 pub use Rattle.forest_store.proofs.failures.GoneNodes.{gone_same, stored_goes}
 pub use Rattle.forest_store.proofs.leaving.Noted.{fewer_over, more_noted, none_but, none_noted, not_over_but, noted_not}
@@ -17,7 +18,8 @@ pub use Rattle.forest_store.proofs.quiescence.Watched.{found_counted}
 pub use Rattle.forest_store.proofs.shelves.Entries.{IsPlace, none_cases, none_in, place_cases, place_is, place_within, set_put}
 pub use Rattle.forest_store.proofs.shelves.Putting.{above-weaker, cases_place, put-map, rising-put}
 pub use Rattle.forest_store.proofs.shelves.Showing.{collection_is, filed-length, filed_found, node_is, shelf_found}
-pub use Rattle.forest_store.proofs.lists.Elements.{In-made, In-made-back, all_at, all_filter, all_in, all_mapped, all_weaker, each_none, made-In, made-found, map-same, none_each, none_less, times_map}
+pub use Rattle.forest_store.proofs.lists.Elements.{In-made, In-made-back, all_at, all_filter, all_in, all_mapped, all_weaker}
+pub use Rattle.forest_store.proofs.lists.Elements.{each_none, made-In, made-found, map-same, none_each, none_less, times_map}
 pub use Rattle.forest_store.proofs.tables.Hanging.{in_all, looked_gone, looked_there}
 pub use Rattle.forest_store.proofs.tables.KeptRoots.{rooted_birth, rooted_filter}
 pub use Rattle.forest_store.proofs.tables.Kin.{kin_kept}
@@ -29,6 +31,7 @@ pub use Rattle.forest_store.proofs.tallies.Amounts.{amount_of, first_once, rest_
 pub use Rattle.forest_store.proofs.tallies.Holding.{head_there}
 pub use Rattle.forest_store.proofs.tallies.Hung.{above_node, below_mapped, hung_by, hung_hangs, hung_is, is_hung}
 pub use Rattle.forest_store.proofs.tallies.InTurn.{is_above, other_slots, same_long}
-pub use Rattle.forest_store.proofs.tallies.Reckoning.{lives_gone, lives_other, lives_own, own_is, own_unit, tallied_adds, tallied_by, waits_gone, waits_other, waits_own}
+pub use Rattle.forest_store.proofs.tallies.Reckoning.{lives_gone, lives_other, lives_own, own_is, own_unit}
+pub use Rattle.forest_store.proofs.tallies.Reckoning.{tallied_adds, tallied_by, waits_gone, waits_other, waits_own}
 pub use Rattle.forest_store.proofs.tallies.Reserved.{reserved_append, reserved_filter, reserved_is, reserved_map, reserved_one}
 pub use Rattle.forest_store.proofs.tallies.Untold.{times_same}

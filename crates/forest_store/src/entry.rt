@@ -1,5 +1,5 @@
 //! A collection as it is kept, and the collections by their ids.
-ghost use Rattle.std.specs.Prelude.{◌≡◌, ◌==◌, nat_lt, option_copied, IfSome};
+ghost use Rattle.std.specs.Prelude.{◌≡◌, ◌==◌, nat_lt, option_copied, IfSome, Some};
 ghost use Rattle.std.specs.List.{prefix_len, find};
 ghost use Rattle.forest_store.specs.Shelves.{AreRising, place_in, shelves_of};
 
@@ -54,7 +54,8 @@ fn before_last(entries: &[Entry], id: CollectionId) -> Option<usize>
 #[inline(always)]
 fn guessed(entries: &[Entry], id: CollectionId) -> Option<usize>
     requires { AreRising (shelves_of entries.now) }
-    ensures { IfSome result (λ at. at ≡ prefix_len (λ e. nat_lt e.id id) entries.now) }
+    ensures before { IfSome result (λ at. at ≡ prefix_len (λ e. nat_lt e.id id) entries.now) }
+    ensures place { IfSome result (λ at. place_in id entries.now ≡ Some at) }
 {
     let at = entries.first()?.guess.get() as usize;
     if at < entries.len() && entries[at].id == id {
@@ -100,18 +101,38 @@ pub(crate) fn entries_before(entries: &[Entry], id: CollectionId) -> usize
     }
 }
 
-/// The index of the collection with this id.
-#[inline(always)]
-pub fn place_of(entries: &[Entry], id: CollectionId) -> Option<usize>
+/// The index of the collection with this id, by a binary search.
+#[inline(never)]
+fn searched_place(entries: &[Entry], id: CollectionId) -> Option<usize>
     requires { AreRising (shelves_of entries.now) }
     ensures { result ≡ place_in id entries.now }
 {
-    let at = entries_before(entries, id);
+    let at = searched(entries, id);
     if at < entries.len() && entries[at].id == id {
         Some(at)
     } else {
         None
     }
+}
+
+/// The index of the collection with this id. Looks at the last one, then at the one that was found
+/// last, then makes a binary search.
+#[inline(always)]
+pub fn place_of(entries: &[Entry], id: CollectionId) -> Option<usize>
+    requires { AreRising (shelves_of entries.now) }
+    ensures { result ≡ place_in id entries.now }
+{
+    let last = entries.len().checked_sub(1)?;
+    if entries[last].id == id {
+        return Some(last);
+    }
+    if entries[last].id < id {
+        return None;
+    }
+    if let Some(at) = guessed(entries, id) {
+        return Some(at);
+    }
+    searched_place(entries, id)
 }
 
 /// The collection with this id.

@@ -23,6 +23,7 @@ use crate::node::Node;
 use node_table::NodeTable;
 use sm_names::{CollectionId, NodeKey};
 use std::alloc::AllocError;
+use std::mem;
 
 /// For collections of at most this many nodes, a pass over all nodes costs no more than a list of
 /// the dead ones.
@@ -242,7 +243,6 @@ fn take_all_over(table: &mut NodeTable<Node>, keys: &mut KeyList, garbage: &[Nod
 }
 
 /// Removes the dead nodes of the collection.
-#[inline(always)]
 fn forget_of(table: &mut NodeTable<Node>, entry: &mut Entry)
     requires { IsForgettable table.old entry.old }
     ensures look { (k : Key) → node_at table.new k ≡ left_at table.old entry.old.keys.items k }
@@ -265,9 +265,10 @@ fn is_bare(entry: &Entry) -> bool
     entry.keys.len() == 0 && entry.held.is_empty()
 }
 
-/// Removes the collection, if it has no node and no page. Allocates nothing.
+/// Removes the collection, if it has no node and no page. The room for its keys is then spare. Allocates
+/// nothing.
 #[inline(always)]
-pub(crate) fn drop_bare(entries: &mut Vec<Entry>, id: CollectionId)
+pub(crate) fn drop_bare(entries: &mut Vec<Entry>, id: CollectionId, spare: &mut KeyList)
     requires { AreRising (shelves_of entries.old.items) }
     ensures shelves { shelves_of entries.new.items
         ≡ without_bare id (shelves_of entries.old.items) }
@@ -276,6 +277,7 @@ pub(crate) fn drop_bare(entries: &mut Vec<Entry>, id: CollectionId)
 {
     if let Some(at) = place_of(entries, id) {
         if is_bare(&entries[at]) {
+            mem::swap(&mut entries[at].keys, spare);
             entries.remove(at);
         }
     }
@@ -309,10 +311,15 @@ fn forget_nodes(table: &mut NodeTable<Node>, entries: &mut Vec<Entry>, id: Colle
     is_bare(entry)
 }
 
-/// Removes the dead nodes of the collection, and the collection if it has no node and no page then.
-/// Allocates nothing.
+/// Removes the dead nodes of the collection, and the collection if it has no node and no page then. The
+/// room for its keys is then spare. Allocates nothing.
 #[inline(always)]
-pub fn forget_over(table: &mut NodeTable<Node>, entries: &mut Vec<Entry>, id: CollectionId)
+pub fn forget_over(
+    table: &mut NodeTable<Node>,
+    entries: &mut Vec<Entry>,
+    id: CollectionId,
+    spare: &mut KeyList,
+)
     requires kept { IsStored table.old (shelves_of entries.old.items) }
     requires counted { AreCounted table.old entries.old.items }
     ensures collections { map (collection_in table.new) (shelves_of entries.new.items)
@@ -322,7 +329,7 @@ pub fn forget_over(table: &mut NodeTable<Node>, entries: &mut Vec<Entry>, id: Co
     ensures keys { SameKeys table.old table.new }
 {
     if forget_nodes(table, entries, id) {
-        drop_bare(entries, id);
+        drop_bare(entries, id, spare);
     }
 }
 
@@ -340,7 +347,6 @@ fn note_key(entry: &mut Entry, key: NodeKey)
 }
 
 /// Lists the collection's node with this key, if it is dead now. Allocates nothing.
-#[inline(always)]
 pub fn list_garbage(entries: &mut Vec<Entry>, id: CollectionId, key: NodeKey, over: bool)
     requires { AreRising (shelves_of entries.old.items) }
     ensures shelves { shelves_of entries.new.items ≡ shelves_of entries.old.items }

@@ -24,6 +24,7 @@ use crate::unit_counts::{bound, count_at, no_unit, put_unit};
 use node_table::NodeTable;
 use sm_names::{ClientId, CollectionId, NoMemory, NodeKey};
 use std::cell::Cell;
+use std::mem;
 
 /// A node that is to be born, as `Change::Birth` tells of it.
 #[derive(Clone, Copy)]
@@ -46,15 +47,20 @@ const NO_KEY: NodeKey = NodeKey {
 
 /// A node that is to be born, without its key: a child of the parent, or a root of the collection.
 fn drafted(table: &NodeTable<Node>, id: CollectionId, birth: Birth) -> Node
+    requires { IfSome birth.parent (λ p. IsSome (row_at table.now p)) }
     ensures { result ≡ born (option_and_then (node_at table.now) birth.parent) birth.attached id
         birth.event birth.client no_key }
 {
-    if let Some(parent) = birth.parent {
-        if let Some(above) = table.get(parent) {
-            return new_child(birth.attached, NO_KEY, birth.event, birth.client, above);
-        }
+    match birth.parent {
+        Some(parent) => new_child(
+            birth.attached,
+            NO_KEY,
+            birth.event,
+            birth.client,
+            table.kept(parent),
+        ),
+        None => new_root(NO_KEY, id, birth.event, birth.client),
     }
-    new_root(NO_KEY, id, birth.event, birth.client)
 }
 
 /// The node is given its key. It heads its unit, if it is a root or attached.
@@ -143,13 +149,14 @@ fn insert_child(
     Ok(key)
 }
 
-/// The first node of a collection that is not there yet. `NoMemory` leaves the table and the
-/// entries as they were.
+/// The first node of a collection that is not there yet. The list of its keys is the spare one, of which
+/// only the room is taken. `NoMemory` leaves the table and the entries as they were.
 fn insert_root(
     table: &mut NodeTable<Node>,
     entries: &mut Vec<Entry>,
     id: CollectionId,
     draft: &Node,
+    spare: &mut KeyList,
 ) -> Result<NodeKey, NoMemory>
     requires rising { AreRising (shelves_of entries.old.items) }
     requires first { table.old.first ≡ 0 }
@@ -164,12 +171,13 @@ fn insert_root(
     ensures err_entries { OnErr result (entries.new.items ≡ entries.old.items) }
 {
     let alloc = *entries.allocator();
-    let mut keys = KeyList::new(alloc);
-    if keys.reserve_one().is_err() || entries.reserve(1).is_err() {
+    spare.clear();
+    if spare.reserve_one().is_err() || entries.reserve(1).is_err() {
         return Err(NoMemory);
     }
     let strong = strong_with(draft);
     let key = insert_node(table, draft)?;
+    let mut keys = mem::replace(spare, KeyList::new(alloc));
     keys.push(key);
     put_entry(
         entries,
@@ -189,9 +197,14 @@ fn insert_root(
 }
 
 /// The birth of a node, where nothing else changes with it. `NoMemory` leaves the table as it was,
-/// and of the entries all but their room. It costs O(1) and a binary search, growth spread
+/// and of the entries all but their room. Costs O(1) and a binary search, growth spread
 /// over the births, and for a root the shift of the entries behind it.
-fn insert_uncounted(store: &mut Store, id: CollectionId, birth: Birth) -> Result<NodeKey, NoMemory>
+fn insert_uncounted(
+    store: &mut Store,
+    id: CollectionId,
+    birth: Birth,
+    spare: &mut KeyList,
+) -> Result<NodeKey, NoMemory>
     requires forest { IsResting store.old }
     requires change { MayChange (forest_in store.old) id (birth_change birth) }
     ensures ok { IfOk result (InsertedIn store.old store.new id birth) }
@@ -201,18 +214,25 @@ fn insert_uncounted(store: &mut Store, id: CollectionId, birth: Birth) -> Result
     let draft = drafted(&store.nodes.table, id, birth);
     match place_of(&store.entries, id) {
         Some(at) => insert_child(&mut store.nodes.table, &mut store.entries[at], &draft),
-        None => insert_root(&mut store.nodes.table, &mut store.entries, id, &draft),
+        None => insert_root(
+            &mut store.nodes.table,
+            &mut store.entries,
+            id,
+            &draft,
+            spare,
+        ),
     }
 }
 
 /// The birth of a node, where nothing else changes with it, counted for its unit, whose slot the list
 /// of units reaches. `NoMemory` leaves the table and the units as they were, and of the entries all
-/// but their room. It costs O(1) and a binary search, growth spread over the births, and for a
-/// root the shift of the entries behind it.
+/// but their room. A new collection takes the room of the spare list for its keys. Costs O(1) and a
+/// binary search, growth spread over the births, and for a root the shift of the entries behind it.
 pub fn insert_counted(
     store: &mut Store,
     id: CollectionId,
     birth: Birth,
+    spare: &mut KeyList,
 ) -> Result<NodeKey, NoMemory>
     requires forest { IsResting store.old }
     requires reached { store.old.nodes.table.vacant < length store.old.nodes.units.items }
@@ -222,7 +242,7 @@ pub fn insert_counted(
     ensures units { HaveUnits store.new.nodes.units.items store.new.nodes.table
         store.new.entries.items }
 {
-    let key = insert_uncounted(store, id, birth)?;
+    let key = insert_uncounted(store, id, birth, spare)?;
     bound(&store.nodes.table);
     put_unit(&mut store.nodes.units, key.slot as usize, no_unit());
     count_at(&mut store.nodes.units, &store.nodes.table, key);

@@ -55,6 +55,14 @@ impl KeyList {
         }
     }
 
+    /// Forgets all of them. Their room stays.
+    pub(crate) fn clear(&mut self)
+        ensures { self.new.items ≡ [] }
+    {
+        self.cells.clear();
+        self.front = 0;
+    }
+
     /// How many there are.
     pub fn len(&self) -> usize
         ensures { result ≡ length self.now.items }

@@ -1,6 +1,6 @@
 //! Removal of nodes: what their counts lose, and how each is marked gone in the table.
-ghost use Rattle.std.specs.Prelude.{◌≡◌, ◌≢◌, ◌≤◌, ◌∷◌, [], Some, None, IsSome, map, false};
-ghost use Rattle.std.specs.List.{AllPairs, list_any};
+ghost use Rattle.std.specs.Prelude.{◌≡◌, ◌≢◌, ◌≤◌, ◌∷◌, [], Some, IsSome, map, false};
+ghost use Rattle.std.specs.List.{All, AllPairs, list_any};
 ghost use Rattle.std.specs.Option.{option_map_or};
 ghost use Rattle.sm_names.specs.declared.keys.NodeKey.{NodeKey as Key};
 ghost use Rattle.node_table.specs.Changes.{Writes};
@@ -88,8 +88,8 @@ fn mark_gone(table: &mut NodeTable<Node>, key: NodeKey, going: &Going) -> bool
     is_over(node)
 }
 
-/// Subtracts the node with this key from the counts of units, and marks it gone. Without such a node
-/// nothing changes.
+/// Subtracts the node with this key from the counts of units, and marks it gone. Answers what the counts
+/// of its collection lose.
 #[inline(always)]
 fn remove(
     table: &mut NodeTable<Node>,
@@ -97,13 +97,13 @@ fn remove(
     key: NodeKey,
     going: &Going,
 ) -> Removed
+    requires { IsSome (row_at table.old key) }
     ensures strong { result.strong ≡ strong_count (nodes_with table.old (key ∷ [])) }
     ensures one { result.strong ≤ 1 }
     ensures reserved { result.reserved ≡ reserved_count (nodes_with table.old (key ∷ [])) }
     ensures few { result.reserved ≤ 255 }
     ensures units { units.new.items
         ≡ unreckoned table.old (nodes_with table.old (key ∷ [])) units.old.items }
-    ensures none { node_at table.old key ≡ None → table.new ≡ table.old }
     ensures becomes { (n : NodeValue) → node_at table.old key ≡ Some n →
         table.new ≡ table_with_node table.old key (gone_by going.now n) }
     ensures writes { (n : NodeValue) → node_at table.old key ≡ Some n →
@@ -111,13 +111,7 @@ fn remove(
     ensures over { result.over
         ≡ option_map_or (λ n. is_over (gone_by going.now n)) (node_at table.old key) false }
 {
-    let Some(node) = table.get(key) else {
-        return Removed {
-            strong: 0,
-            reserved: 0,
-            over: false,
-        };
-    };
+    let node = table.kept(key);
     let strong = is_strong(node) as usize;
     let reserved = camped(node, node.constraints) as u128;
     decrement(table, units, node);
@@ -129,9 +123,10 @@ fn remove(
     }
 }
 
-/// Removes the nodes with these keys: subtracts each from the counts of its unit, and, if it heads the
-/// unit, from those of the unit right above, and marks it gone. Reads each node once. Answers what the
-/// counts of the collection lose with them, and whether one of them is dead then. Takes O(n).
+/// Removes the nodes with these keys, which are all there: subtracts each from the counts of its unit,
+/// and, if it heads the unit, from those of the unit right above, and marks it gone. Reads each node
+/// once. Answers what the counts of the collection lose with them, and whether one of them is dead then.
+/// Takes O(n).
 pub fn remove_all(
     table: &mut NodeTable<Node>,
     units: &mut Vec<Unit>,
@@ -140,6 +135,7 @@ pub fn remove_all(
 ) -> Removed
     requires named { AreNamed table.old }
     requires once { AllPairs (λ (a b : Key). a ≢ b) keys.now }
+    requires there { All (λ (k : Key). IsSome (row_at table.old k)) keys.now }
     ensures strong { result.strong ≡ strong_count (nodes_with table.old keys.now) }
     ensures reserved { result.reserved ≡ reserved_count (nodes_with table.old keys.now) }
     ensures units { units.new.items

@@ -1,7 +1,7 @@
 //! What is counted of units: how many of their nodes are live, for how many they wait, and how many
 //! units hang right below them.
-ghost use Rattle.std.specs.Prelude.{◌≡◌, ◌<◌, ◌≤◌, [], ◌∷◌, set, length, OnOk};
-ghost use Rattle.node_table.specs.Table.{table_len};
+ghost use Rattle.std.specs.Prelude.{◌≡◌, ◌<◌, ◌≤◌, [], ◌∷◌, set, length, IsSome, OnOk};
+ghost use Rattle.node_table.specs.Table.{row_at, table_len};
 ghost use Rattle.forest_store.specs.Counts.{Extends, decrement_if, head_above, head_of, hung, is_held_by, is_unready, no_unit, raised, reckoned, tallied, unit_at, with_below, with_node};
 ghost use Rattle.forest_store.specs.Shelves.{nodes_with};
 
@@ -77,7 +77,7 @@ pub fn put_unit(units: &mut Vec<Unit>, slot: usize, unit: Unit)
 }
 
 /// Makes the list reach to this slot. The slots that this adds count nothing. `NoMemory` comes where
-/// that was refused room; the counts are then what they were. It costs what is added, growth spread
+/// that was refused room; the counts are then what they were. Costs what is added, growth spread
 /// over the calls.
 pub fn reach(units: &mut Vec<Unit>, slot: usize) -> Result<(), NoMemory>
     ensures ok { OnOk result (slot < length units.new.items) }
@@ -147,15 +147,15 @@ fn count_below(units: &mut Vec<Unit>, head: Option<NodeKey>)
 
 /// Counts the node with this key, for its unit and for the one right above that.
 pub(crate) fn count_at(units: &mut Vec<Unit>, table: &NodeTable<Node>, key: NodeKey)
+    requires { IsSome (row_at table.now key) }
     ensures { units.new.items
         ≡ reckoned table.now (nodes_with table.now (key ∷ [])) units.old.items }
 {
-    if let Some(node) = table.get(key) {
-        if !node.gone {
-            count(units, node);
-        }
-        count_below(units, head_above(table, node));
+    let node = table.kept(key);
+    if !node.gone {
+        count(units, node);
     }
+    count_below(units, head_above(table, node));
 }
 
 /// No table has more nodes than a number can tell.

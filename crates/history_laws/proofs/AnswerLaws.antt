@@ -6,7 +6,9 @@ use Rattle.sm_names.specs.declared.messages.Call.{Call}
 use Rattle.sm_names.specs.declared.messages.Reply.{Reply}
 use Rattle.sm_names.specs.declared.outcomes.Misuse.{Misuse}
 use Rattle.sm_names.specs.declared.outcomes.Refusal.{Refusal}
-use Rattle.sm_names.specs.Answers.{OpenEnd, Readings, answer, answers_first, effect, unknown_client, shut_client, no_end, end_in_transit, closing, peer_closed, wrong_kind, misuse, misuse_of, no_handle, makes_node, makes_collection, makes_tracker, too_many_handles, refused_if, misused_if, end_named}
+use Rattle.sm_names.specs.Answers.{OpenEnd, Readings, answer, answers_first, effect, unknown_client, shut_client, no_end}
+use Rattle.sm_names.specs.Answers.{end_in_transit, closing, peer_closed, wrong_kind, misuse, misuse_of, no_handle, makes_node}
+use Rattle.sm_names.specs.Answers.{makes_collection, makes_tracker, too_many_handles, refused_if, misused_if, end_named}
 use Rattle.sm_names.specs.Bounds.{Bound}
 use Rattle.sm_names.specs.Marks.{took_effect}
 use Rattle.sm_names.specs.Timelines.{key_of}

@@ -1,5 +1,6 @@
 -- A collection that an event does not name is after it as it was before.
-use Rattle.std.proofs.Common.{ℕ, ◌≡◌, refl, ap, sym, ◌∙◌, subst, Bool, true, false, cond, not, ◌==◌, nat_le, List, [], ◌∷◌, length, map, Option, Some, None, is_some}
+use Rattle.std.proofs.Common.{ℕ, ◌≡◌, refl, ap, sym, ◌∙◌, subst, Bool, true, false, cond, not, ◌==◌}
+use Rattle.std.proofs.Common.{nat_le, List, [], ◌∷◌, length, map, Option, Some, None, is_some}
 use Rattle.std.proofs.lemmas.Bool.{eqb-true, eq-eqb}
 use Rattle.std.proofs.lemmas.List.Sums.{length-filter}
 use Rattle.std.specs.List.{count_by, filter, list_any}
@@ -177,6 +178,7 @@ last_same : (f : Timeline → Bool) (b a : Timeline) (before : List Timeline) �
     last_match f (b ∷ a ∷ before) ≡ last_match f (a ∷ before)
 last_same f b a before less = from (last_match f before) (f b) (f a) refl refl
   where
+    -- by cases on the last match behind both and on the two tests: if the newer passes so does the older, which is then taken
     from : (o : Option Timeline) (later earlier : Bool) → f b ≡ later → f a ≡ earlier →
         option_map_or Some (option_map_or Some o (cond earlier (Some a) None)) (cond later (Some b) None) ≡ option_map_or Some o
         (cond earlier (Some a) None)

@@ -1,5 +1,6 @@
 -- What holds at a birth: the end that the call names is there, and the reply has its collection.
-use Rattle.std.proofs.Common.{ℕ, ◌≡◌, ◌+◌, refl, ap, sym, ◌∙◌, subst, Bool, true, false, cond, not, ◌&&◌, ◌==◌, ◌⊎◌, inl, inr, List, Option, Some, None, is_some}
+use Rattle.std.proofs.Common.{ℕ, ◌≡◌, ◌+◌, refl, ap, sym, ◌∙◌, subst, Bool, true, false, cond}
+use Rattle.std.proofs.Common.{not, ◌&&◌, ◌==◌, ◌⊎◌, inl, inr, List, Option, Some, None, is_some}
 use Rattle.std.specs.List.{cons_option}
 use Rattle.std.specs.Option.{option_map_or, option_map}
 use Rattle.sm_names.specs.declared.keys.NodeKey.{NodeKey}
@@ -37,6 +38,7 @@ pub has_end : (marks : Timeline) (client : ℕ) (call : Call) (key : NodeKey) �
 has_end marks client call key h is =
     from (spent marks key) (birth_of marks key) refl refl (rw is at h)
   where
+    -- by cases: a spent end and an unborn node are both refused with NoSuchEnd, so the birth is there and its end is unspent
     from : (s : Bool) (o : Option Birth) → spent marks key ≡ s → birth_of marks key ≡ o →
         refused_if (option_map_or (λ (e : OpenEnd). not (e.holder == client) && not e.in_transit)
         (cond s None (option_map (open_end marks) o)) true) Refusal.NoSuchEnd ≡ None → HasEnd marks key
@@ -65,6 +67,7 @@ has_no_fault marks call key e is h =
     let none : fault marks e.birth.node ≡ None = none_of (fault marks e.birth.node) h' in
     subst (λ (k : NodeKey). fault marks k ≡ None) (birth_is marks key e.birth e.is).1 none
   where
+    -- since a fault would be answered
     none_of : (o : Option Fault) → option_map (λ (f : Fault). Reply.PeerClosed f.cause f.origin) o ≡ None → o ≡ None
     none_of None h = refl
     none_of (Some f) h = cc

@@ -1,5 +1,6 @@
 -- The bits of a set of buffers, and the names of this many buffers.
-use Rattle.std.proofs.Common.{ℕ, zero, suc, ◌≡◌, ◌≤◌, ◌<◌, ◌+◌, ◌*◌, ◌/◌, ◌%◌, ◌^◌, refl, ap, sym, ◌∙◌, Bool, true, false, cond, ◌&&◌, ◌==◌, nat_lt, inl, inr, List, [], ◌∷◌, map, arith}
+use Rattle.std.proofs.Common.{ℕ, zero, suc, ◌≡◌, ◌≤◌, ◌<◌, ◌+◌, ◌*◌, ◌/◌, ◌%◌, ◌^◌, refl, ap, sym, ◌∙◌, Bool}
+use Rattle.std.proofs.Common.{true, false, cond, ◌&&◌, ◌==◌, nat_lt, inl, inr, List, [], ◌∷◌, map, arith}
 use Rattle.std.proofs.lemmas.Bool.{eqb-true, eq-eqb, ltb-true, ltb-false}
 use Rattle.std.proofs.Math.Nat.{pow-succ'}
 use Rattle.std.proofs.lemmas.List.Sums.{sum_by-cons}
@@ -112,6 +113,7 @@ index_times a (suc n) zero =
     let here : (a == a + 0) ≡ true = eq-eqb a (a + 0) (omega arith) in
     rw (here, first_below n) (ap (λ k. k + 1) (later (a + 1) n (omega arith)))
   where
+    -- by induction on how many numbers are left: each of them is greater than a
     later : (b m : ℕ) → a < b → times (λ i. i == a + 0) (range_with_len b m) ≡ 0
     later b zero less = refl
     later b (suc m) less =

@@ -1,5 +1,6 @@
 -- The handles that are open are those of the clients and those in parcels.
-use Rattle.std.proofs.Common.{ℕ, subst, ◌≡◌, ◌≤◌, ◌+◌, refl, ap, sym, ◌∙◌, Bool, true, false, cond, not, ◌&&◌, ◌||◌, ◌==◌, inl, inr, List, [], ◌∷◌, drop, Option, Some, None, arith}
+use Rattle.std.proofs.Common.{ℕ, subst, ◌≡◌, ◌≤◌, ◌+◌, refl, ap, sym, ◌∙◌, Bool, true, false, cond, not}
+use Rattle.std.proofs.Common.{◌&&◌, ◌||◌, ◌==◌, inl, inr, List, [], ◌∷◌, drop, Option, Some, None, arith}
 use Rattle.std.proofs.lemmas.Bool.{eqb-true, not-false, false≢true}
 use Rattle.std.specs.List.{cons_option, sum_by}
 use Rattle.std.specs.Option.{option_map_or}
@@ -220,6 +221,7 @@ clients-called : (limits : Bound) (marks : Timeline) (caller : ℕ) (reply : Rep
     IsAnswer limits (readings marks) caller call reply → AreClients marks → AreClients (Called caller reply call ∷ marks)
 clients-called limits marks caller reply call answer old = with_new (joined_at (Called caller reply call)) refl
   where
+    -- since the clients that are listed are numbered at most as the last event, and this one is the next
     new_once : (made : ℕ) → made ≡ events marks + 1 → one_of (clients marks) made ≡ false
     new_once made is = elim (either_way (one_of (clients marks) made)) [
       | inr e ↦ e
@@ -230,6 +232,7 @@ clients-called limits marks caller reply call answer old = with_new (joined_at (
           absurd (omega (arith, is))
     ]
 
+    -- by cases: where nobody joins nothing changes; who joins has the number of the next event, which none had
     with_new : (o : Option ℕ) → joined_at (Called caller reply call) ≡ o → AreClients (Called caller reply call ∷ marks)
     with_new None e = record {
       early = rw e (λ c on. let x : c ≤ events marks = old.early c on in omega (arith, x));

@@ -1,5 +1,6 @@
 -- What is doomed or home stays so.
-use Rattle.std.proofs.Common.{ℕ, ◌≡◌, ◌≤◌, ◌<◌, ◌+◌, refl, sym, ◌∙◌, subst, Bool, true, false, not, ◌&&◌, ◌==◌, inl, inr, [], ◌∷◌, Option, Some, None, is_some, is_none, arith}
+use Rattle.std.proofs.Common.{ℕ, ◌≡◌, ◌≤◌, ◌<◌, ◌+◌, refl, sym, ◌∙◌, subst, Bool, true, false, not, ◌&&◌}
+use Rattle.std.proofs.Common.{◌==◌, inl, inr, [], ◌∷◌, Option, Some, None, is_some, is_none, arith}
 use Rattle.std.proofs.lemmas.Bool.{eqb-true, eq-eqb, not-true}
 use Rattle.std.specs.List.{list_any}
 use Rattle.std.specs.Option.{option_map_or}
@@ -23,7 +24,8 @@ use Rattle.sm_names.specs.Weakness.{weak, sets_weak, born_to}
 use Rattle.history_laws.proofs.CountLaws.{anyone, counted, caller_joined, client-le-total}
 use Rattle.history_laws.proofs.GrowthLaws.{Grows, Stays, Answers, Loses, Allocates, Ends, grows_on}
 use Rattle.history_laws.proofs.HandleLaws.{dup_was_open}
-use Rattle.sm_names.proofs.SamenessLaws.{same_buffer-true, same_strength-true, either_way, and_left, and_right, or_parts, and_both, both_ways}
+use Rattle.sm_names.proofs.SamenessLaws.{same_buffer-true, same_strength-true, either_way}
+use Rattle.sm_names.proofs.SamenessLaws.{and_left, and_right, or_parts, and_both, both_ways}
 use Rattle.history_laws.proofs.LifeLaws.{IsOrdered, ordered, In_new, members_on}
 use Rattle.sm_names.proofs.ListLaws.{In, In-list_any, In-any}
 use Rattle.history_laws.proofs.SettledLaws.{member_birth}
@@ -86,6 +88,7 @@ buffers_early pool limits _ (Allocates before c head g e) collection h =
       | inr n ↦ buffers_early pool limits before g collection (rw n at h)
     ]
   where
+    -- by cases on the birth: the root is in the collection, and a birth has the number of an event that was
     from : (o : Option Birth) → birth_of before head ≡ o → option_map_or (λ (b : Birth). is_none b.parent && b.collection == collection) o
         false ≡ true → collection ≤ events before
     from None e h = cc

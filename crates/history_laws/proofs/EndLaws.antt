@@ -1,5 +1,6 @@
 -- Once every end is spent and every handle dropped, nothing is live or held.
-use Rattle.std.proofs.Common.{ℕ, ◌≡◌, refl, ap, sym, ◌∙◌, subst, Bool, true, false, cond, not, ◌&&◌, ◌||◌, ◌==◌, ◌⊎◌, inl, inr, List, [], ◌∷◌, map, reverse, Option, Some, None, is_some}
+use Rattle.std.proofs.Common.{ℕ, ◌≡◌, refl, ap, sym, ◌∙◌, subst, Bool, true, false, cond, not, ◌&&◌, ◌||◌}
+use Rattle.std.proofs.Common.{◌==◌, ◌⊎◌, inl, inr, List, [], ◌∷◌, map, reverse, Option, Some, None, is_some}
 use Rattle.std.specs.List.{fold, cons_option}
 use Rattle.std.specs.Option.{option_map, option_and_then, unwrap_or}
 use Rattle.std.proofs.lemmas.Bool.{and_right}
@@ -10,7 +11,8 @@ use Rattle.sm_names.specs.declared.messages.Call.{Call}
 use Rattle.sm_names.specs.declared.messages.Reply.{Reply}
 use Rattle.sm_names.specs.declared.outcomes.Cause.{Cause}
 use Rattle.sm_names.specs.declared.outcomes.Fault.{Fault}
-use Rattle.sm_names.specs.Answers.{IsAnswer, OpenEnd, Readings, answers_first, effect, closing, limits_met, misuse, misuse_of, no_handle, peer_closed}
+use Rattle.sm_names.specs.Answers.{IsAnswer, OpenEnd, Readings, answers_first, effect, closing}
+use Rattle.sm_names.specs.Answers.{limits_met, misuse, misuse_of, no_handle, peer_closed}
 use Rattle.sm_names.specs.Births.{Birth, births, birth_of, ancestors}
 use Rattle.sm_names.specs.Bounds.{Bound}
 use Rattle.sm_names.specs.Ends.{spent, spends}
@@ -33,7 +35,8 @@ use Rattle.sm_names.proofs.ChainLaws.{top_on}
 use Rattle.sm_names.proofs.SamenessLaws.{either_way, and_left, both_ways, false_if, same_key-true, or_cases, or_left, or_right, map-Some}
 use Rattle.history_laws.proofs.SettledLaws.{member_birth}
 use Rattle.history_laws.proofs.BirthLaws.{birth_is}
-use Rattle.history_laws.proofs.RejectLaws.{is_refusal, Rejects, rejects_if, unknown_rejects, shut_rejects, no_end_rejects, in_transit_rejects, wrong_kind_rejects}
+use Rattle.history_laws.proofs.RejectLaws.{is_refusal, Rejects, rejects_if, unknown_rejects, shut_rejects}
+use Rattle.history_laws.proofs.RejectLaws.{no_end_rejects, in_transit_rejects, wrong_kind_rejects}
 
 -- ---- PeerClosed is answered of a node that is gone
 

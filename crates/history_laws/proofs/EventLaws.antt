@@ -1,5 +1,6 @@
 -- An event of one collection changes nothing in the others.
-use Rattle.std.proofs.Common.{ℕ, zero, suc, ◌≡◌, ◌+◌, ◌*◌, ◌-◌, refl, ap, sym, ◌∙◌, subst, Bool, true, false, cond, not, ◌&&◌, ◌||◌, ◌==◌, ◌⊎◌, inl, inr, List, [], ◌∷◌, map, reverse, length, Option, Some, None, is_some}
+use Rattle.std.proofs.Common.{ℕ, zero, suc, ◌≡◌, ◌+◌, ◌*◌, ◌-◌, refl, ap, sym, ◌∙◌, subst, Bool, true, false, cond, not, ◌&&◌}
+use Rattle.std.proofs.Common.{◌||◌, ◌==◌, ◌⊎◌, inl, inr, List, [], ◌∷◌, map, reverse, length, Option, Some, None, is_some}
 use Rattle.std.proofs.lemmas.Bool.{eqb-true, false≢true}
 use Rattle.std.specs.List.{list_any, filter, cons_option}
 use Rattle.std.specs.Option.{option_map_or, option_map, option_and_then}
@@ -33,7 +34,8 @@ use Rattle.sm_names.specs.Weakness.{covered, covers_children, sets_weak_ok, weak
 use Rattle.sm_names.specs.declared.keys.HeldBuffer.{HeldBuffer}
 use Rattle.sm_names.specs.Timelines.{placed}
 use Rattle.history_laws.proofs.GrowthLaws.{Grows, Answers, own_loss_origin, grows_forced, grows_lost}
-use Rattle.history_laws.proofs.IsolationLaws.{fault_loss, placed_allocation, members_loss, members_end, members_allocation, buffers_allocation, birth_of_collection, of_ours}
+use Rattle.history_laws.proofs.IsolationLaws.{fault_loss, placed_allocation, members_loss, members_end}
+use Rattle.history_laws.proofs.IsolationLaws.{members_allocation, buffers_allocation, birth_of_collection, of_ours}
 use Rattle.history_laws.proofs.LifeLaws.{IsOrdered, ordered, whole, In_old}
 use Rattle.sm_names.proofs.ListLaws.{In, map-In}
 use Rattle.history_laws.proofs.ReachLaws.{other_key}

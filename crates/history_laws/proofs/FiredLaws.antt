@@ -1,5 +1,6 @@
 -- If a call changes nothing that the conditions of trackers depend on, no tracker fires.
-use Rattle.std.proofs.Common.{ℕ, ◌≡◌, ◌≤◌, ◌+◌, refl, ap, sym, ◌∙◌, Bool, true, false, cond, ◌&&◌, ◌==◌, inl, inr, List, [], ◌∷◌, ◌++◌, map, reverse, Option, Some, None, is_none, arith}
+use Rattle.std.proofs.Common.{ℕ, ◌≡◌, ◌≤◌, ◌+◌, refl, ap, sym, ◌∙◌, Bool, true, false, cond, ◌&&◌, ◌==◌, inl}
+use Rattle.std.proofs.Common.{inr, List, [], ◌∷◌, ◌++◌, map, reverse, Option, Some, None, is_none, arith}
 use Rattle.std.proofs.lemmas.Bool.{eqb-true}
 use Rattle.std.proofs.lemmas.List.{reverse-append, append-nil}
 use Rattle.std.proofs.lemmas.List.Concat.{flat_map-append}
@@ -21,6 +22,7 @@ last_match-again : {A : Type 0} (test : A → Bool) (x y : A) (ys : List A) → 
     last_match test (x ∷ y ∷ ys) ≡ last_match test (y ∷ ys)
 last_match-again test x y ys same = from (last_match test ys) (test x) (test y) same
   where
+    -- by cases on the last match behind and on the two tests, which agree
     from : (o : Option _) (a b : Bool) → a ≡ b →
         option_map_or Some (option_map_or Some o (cond b (Some y) None)) (cond a (Some x) None) ≡ option_map_or Some o
         (cond b (Some y) None)
@@ -34,6 +36,7 @@ last_match-In : {A : Type 0} (test : A → Bool) (xs : List A) (x : A) → last_
 last_match-In test [] x h = cc
 last_match-In test (y ∷ ys) x h = from (last_match test ys) (last_match-In test ys x) (test y) h
   where
+    -- by cases: the last match is behind, or it is the first element
     from : (o : Option _) → (o ≡ Some x → In x ys) → (b : Bool) → option_map_or Some o (cond b (Some y) None) ≡ Some x → In x (y ∷ ys)
     from (Some z) later b h = inr (later h)
     from None later true h = let is : y ≡ x = cc in inl (sym is)
@@ -55,6 +58,7 @@ moment_early (mark ∷ before) moment on =
           let less : events moment ≤ events before = moment_early before moment there in omega (arith, more, less)
     ]
   where
+    -- restates the hypothesis with `In`, so that it can be split
     at_event : In moment (before ∷ earlier_moments before) → In moment (before ∷ earlier_moments before)
     at_event h = h
 
@@ -62,6 +66,7 @@ moment_early (mark ∷ before) moment on =
 pub fired_early : (marks : Timeline) (t : Tracked) (event : ℕ) → fired_at marks t ≡ Some event → event ≤ events marks
 fired_early marks t event h = from (last_match (fires_at t) (moments marks)) refl h
   where
+    -- the moment is the present one or an earlier one, and neither has more events
     from : (o : Option Timeline) → last_match (fires_at t) (moments marks) ≡ o → option_map events o ≡ Some event → event ≤ events marks
     from None e h = cc
     from (Some moment) e h =
@@ -83,6 +88,7 @@ none_to_come marks =
     (filter_none (λ t. option_map_or (λ e. e == events marks + 1) (fired_at marks t) false) (reverse (tracked marks)) (λ t.
     not_now t (fired_at marks t) refl))
   where
+    -- since a tracker that fired did so at an event that was, which is not the next
     not_now : (t : Tracked) (o : Option ℕ) → fired_at marks t ≡ o → option_map_or (λ e. e == events marks + 1) o false ≡ false
     not_now t None e = refl
     not_now t (Some event) e = elim (either_way (event == events marks + 1)) [

@@ -1,5 +1,6 @@
 -- The forced steps do not depend on the nodes that are gone.
-use Rattle.std.proofs.Common.{ℕ, ◌≡◌, refl, ap, sym, ◌∙◌, Bool, true, false, cond, not, ◌&&◌, ◌||◌, inl, inr, List, [], ◌∷◌, Option, Some, None}
+use Rattle.std.proofs.Common.{ℕ, ◌≡◌, refl, ap, sym, ◌∙◌, Bool, true, false, cond, not}
+use Rattle.std.proofs.Common.{◌&&◌, ◌||◌, inl, inr, List, [], ◌∷◌, Option, Some, None}
 use Rattle.std.specs.List.{list_any, list_all, find, filter, filter_map}
 use Rattle.std.specs.Option.{option_map_or, option_map, option_and_then}
 use Rattle.std.proofs.lemmas.Bool.{not-false}
@@ -7,10 +8,12 @@ use Rattle.std.proofs.Math.Bool.{and-false}
 use Rattle.sm_names.specs.declared.keys.NodeKey.{NodeKey}
 use Rattle.sm_names.specs.Births.{births, AreSound}
 use Rattle.sm_names.specs.Changes.{without_gone}
-use Rattle.sm_names.specs.Forced.{Standing, forced, ending, abandoned, initial_allocation, logical_allocation, is_deserted, is_allocated, is_next_head, initial_failure, logical_failure, outcome}
+use Rattle.sm_names.specs.Forced.{Standing, forced, ending, abandoned, initial_allocation, logical_allocation}
+use Rattle.sm_names.specs.Forced.{is_deserted, is_allocated, is_next_head, initial_failure, logical_failure, outcome}
 use Rattle.sm_names.specs.Losses.{gone, parent_of}
 use Rattle.sm_names.specs.Marks.{Timeline, Ended}
-use Rattle.sm_names.specs.Members.{Member, members, is_live, is_under, is_root, is_settled, is_ready, some_live, some_strong_live, subtree, unit, demands, wanted, asked, root_left, reserved}
+use Rattle.sm_names.specs.Members.{Member, members, is_live, is_under, is_root, is_settled, is_ready, some_live}
+use Rattle.sm_names.specs.Members.{some_strong_live, subtree, unit, demands, wanted, asked, root_left, reserved}
 use Rattle.sm_names.specs.Sameness.{same_key}
 use Rattle.sm_names.specs.Timelines.{standing, next_forced}
 use Rattle.sm_names.proofs.ListLaws.{In}
@@ -82,6 +85,7 @@ and_then-same : {A B : Type 0} (f g : A → Option B) (o p : Option A) → o ≡
     option_and_then f o ≡ option_and_then g p
 and_then-same {A = A} f g o p is same = ap (option_and_then f) is ∙ at p
   where
+    -- by cases on the value: the two functions agree on it
     at : (q : Option A) → option_and_then f q ≡ option_and_then g q
     at None = refl
     at (Some x) = same x
@@ -90,6 +94,7 @@ and_then-same {A = A} f g o p is same = ap (option_and_then f) is ∙ at p
 map-same : {A B : Type 0} (f g : A → B) (o p : Option A) → ((x : A) → f x ≡ g x) → o ≡ p → option_map f o ≡ option_map g p
 map-same {A = A} f g o p same is = ap (option_map f) is ∙ at p
   where
+    -- by cases on the value: the two functions agree on it
     at : (q : Option A) → option_map f q ≡ option_map g q
     at None = refl
     at (Some x) = ap Some (same x)
@@ -140,6 +145,7 @@ demands-left asked ms = map-asked (λ (m : Member). cond m.gone None m.constrain
 root-left : (ms : List Member) → root_left (left_of ms) ≡ root_left ms
 root-left ms = find-left (λ m. is_root m && not m.gone) is_left (λ m. is_root m && not m.gone) ms (λ m on. twice (is_root m) m.gone)
   where
+    -- by cases on both tests
     twice : (r g : Bool) → (not g && (r && not g)) ≡ (r && not g)
     twice true true = refl
     twice false true = refl
@@ -151,6 +157,7 @@ pub asked-left : (ms : List Member) → asked (left_of ms) ≡ asked ms
 asked-left ms = ap (λ (o : Option Member). wanted (option_map_or (λ (root : Member). unit root.key (left_of ms)) o [])) (root-left ms)
     ∙ of_root (root_left ms)
   where
+    -- by cases on the root: the demands of a unit leave out the nodes that are gone
     of_root : (o : Option Member) →
         wanted (option_map_or (λ (root : Member). unit root.key (left_of ms)) o []) ≡ wanted (option_map_or (λ (root : Member).
         unit root.key ms) o [])

@@ -1,5 +1,6 @@
 -- What is gone stays gone, which nodes are live, and what fired stays fired.
-use Rattle.std.proofs.Common.{ℕ, ◌≡◌, ◌+◌, refl, ap, sym, ◌∙◌, Bool, true, false, cond, not, ◌&&◌, ◌||◌, inl, inr, List, [], ◌∷◌, ◌++◌, reverse, Option, Some, None, is_some}
+use Rattle.std.proofs.Common.{ℕ, ◌≡◌, ◌+◌, refl, ap, sym, ◌∙◌, Bool, true, false, cond, not, ◌&&◌, ◌||◌}
+use Rattle.std.proofs.Common.{inl, inr, List, [], ◌∷◌, ◌++◌, reverse, Option, Some, None, is_some}
 use Rattle.std.proofs.lemmas.List.Sums.{fold-append}
 use Rattle.std.specs.List.{list_any, fold}
 use Rattle.std.specs.Option.{option_map_or, option_map}
@@ -68,6 +69,7 @@ up_here : (marks : Timeline) (node p : NodeKey) → IsOrdered marks → parent_i
     gone marks p ≡ false
 up_here marks node p ord up here = from (birth_of marks node) refl up
   where
+    -- a parent that is gone would take its child along, which is not gone
     from : (o : Option Birth) → birth_of marks node ≡ o → option_map_or (λ (b : Birth). b.parent) o None ≡ Some p → gone marks p ≡ false
     from None e up = cc
     from (Some b) e up =
@@ -140,12 +142,14 @@ listed_once marks node sound =
     ∙ (times-reverse (λ (b : Birth). live marks b.node && same_key b.node node) (births marks)
     ∙ ((λ i. times (λ (b : Birth). same_live b i) (births marks)) ∙ counted (live marks node) refl))
   where
+    -- where the keys are the same the node is the same; elsewhere both sides are false
     same_live : (b : Birth) → (live marks b.node && same_key b.node node) ≡ (live marks node && same_key b.node node)
     same_live b = elim (either_way (same_key b.node node)) [
       | inl e ↦ ap (λ (k : NodeKey). live marks k && same_key b.node node) (same_key-true b.node node e)
       | inr e ↦ rw e (and-false (live marks b.node) ∙ sym (and-false (live marks node)))
     ]
 
+    -- a live node was born, and births are once for each node; one that is not live counts nowhere
     counted : (l : Bool) → live marks node ≡ l → times (λ (b : Birth). l && same_key b.node node) (births marks) ≡ cond l 1 0
     counted true e =
         let there : is_some (birth_of marks node) ≡ true =

@@ -1,5 +1,6 @@
 -- No client drops or gives more handles than it took, doubled and collected.
-use Rattle.std.proofs.Common.{ℕ, zero, suc, ◌≡◌, ◌≤◌, ◌<◌, ◌+◌, refl, subst, Bool, true, false, cond, ◌&&◌, ◌==◌, inl, inr, List, [], ◌∷◌, None, arith}
+use Rattle.std.proofs.Common.{ℕ, zero, suc, ◌≡◌, ◌≤◌, ◌<◌, ◌+◌, refl, subst, Bool, true}
+use Rattle.std.proofs.Common.{false, cond, ◌&&◌, ◌==◌, inl, inr, List, [], ◌∷◌, None, arith}
 use Rattle.std.specs.List.{fold}
 use Rattle.sm_names.specs.declared.keys.BufferName.{BufferName}
 use Rattle.sm_names.specs.declared.keys.Strength.{Strength}

@@ -1,5 +1,6 @@
 -- What is held: buffers apart from one another, each of them allocated and not home.
-use Rattle.std.proofs.Common.{ℕ, ◌≡◌, ◌≤◌, ◌+◌, refl, ap, sym, ◌∙◌, subst, Bool, true, false, cond, not, ◌&&◌, ◌==◌, nat_lt, ◌⊎◌, inl, inr, List, [], ◌∷◌, ◌++◌, map, length, Option, Some, None, is_some, is_none, arith}
+use Rattle.std.proofs.Common.{ℕ, ◌≡◌, ◌≤◌, ◌+◌, refl, ap, sym, ◌∙◌, subst, Bool, true, false, cond, not, ◌&&◌, ◌==◌, nat_lt}
+use Rattle.std.proofs.Common.{◌⊎◌, inl, inr, List, [], ◌∷◌, ◌++◌, map, length, Option, Some, None, is_some, is_none, arith}
 use Rattle.std.proofs.lemmas.Bool.{eqb-true, not-true}
 use Rattle.std.proofs.lemmas.List.{length-map, map-append}
 use Rattle.std.proofs.lemmas.List.FromFn.{length-range_with_len}
@@ -26,7 +27,8 @@ use Rattle.sm_names.specs.Views.{free_pages}
 use Rattle.history_laws.proofs.BitLaws.{times_below}
 use Rattle.history_laws.proofs.DoomLaws.{buffers_early, home_on}
 use Rattle.history_laws.proofs.GrowthLaws.{Grows, Stays, Answers, Loses, Allocates, Ends}
-use Rattle.sm_names.proofs.SamenessLaws.{same_buffer-true, and_both, and_left, and_right, both_ways, either_way, not_none, or_both, or_left, or_parts, or_right, same_key-refl, none_if}
+use Rattle.sm_names.proofs.SamenessLaws.{same_buffer-true, and_both, and_left, and_right, both_ways, either_way}
+use Rattle.sm_names.proofs.SamenessLaws.{not_none, or_both, or_left, or_parts, or_right, same_key-refl, none_if}
 use Rattle.history_laws.proofs.LifeLaws.{IsOrdered, ordered, In_new}
 use Rattle.sm_names.proofs.ListLaws.{In, times-append}
 use Rattle.history_laws.proofs.PageLaws.{ArePlaced, placed_apart, sum-le-pool}
@@ -108,9 +110,11 @@ given_root pool limits _ (Answers before client reply call g answer) b on root h
           ap (λ (k : NodeKey). list_any (is_allocation k) before) heads ∙ was
     ]
   where
+    -- the birth that this event brings, if it brings one
     new : Option Birth
     new = birth_at (events before + 1) (Called client reply call)
 
+    -- from the answer to the call
     came : (b : Birth) → birth_at (events before + 1) (Called client reply call) ≡ Some b → Comes before client reply call b
     came b e = comes limits before client (events before + 1) reply call b answer e
 given_root pool limits _ (Loses before origin cause g born) b on root h = given_root pool limits before g b on root h
@@ -121,6 +125,7 @@ given_root pool limits _ (Allocates before c top g e) b on root h =
       | inr n ↦ or_right (same_key top (head (births before) b.node)) _ (given_root pool limits before g b on root (rw n at h))
     ]
   where
+    -- by cases on the birth: the allocated node is a root of the same collection, so it is the root
     from : (o : Option Birth) → birth_of before top ≡ o → option_map_or (λ (x : Birth). is_none x.parent && x.collection == b.collection) o
         false ≡ true → same_key top (head (births before) b.node) ≡ true
     from None e i = cc
@@ -362,6 +367,7 @@ times_held pool limits marks g x =
     ∙ names_once x.collection x (buffers_of marks x.collection))
     ∙ both (list_any (λ b. same_buffer b x) (buffer_names marks x.collection)) (not (home marks x)))
   where
+    -- by cases on both tests
     both : (a b : Bool) → cond b (one a) 0 ≡ one (a && b)
     both true true = refl
     both true false = refl
@@ -383,6 +389,7 @@ held_once pool limits marks g x =
     same_buffer b x) (buffer_names marks x.collection) && not (home marks x)) = times_held pool limits marks g x in
     omega (arith, n, few (list_any (λ b. same_buffer b x) (buffer_names marks x.collection) && not (home marks x)))
   where
+    -- by cases on the test
     few : (b : Bool) → one b ≤ 1
     few true = omega arith
     few false = omega arith

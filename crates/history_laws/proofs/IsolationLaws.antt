@@ -1,5 +1,6 @@
 -- What happens in one collection changes no node of another.
-use Rattle.std.proofs.Common.{ℕ, ◌≡◌, refl, ap, sym, ◌∙◌, Bool, true, false, cond, ◌&&◌, ◌||◌, ◌==◌, inl, inr, List, [], ◌∷◌, ◌++◌, map, Option, Some, None, is_none}
+use Rattle.std.proofs.Common.{ℕ, ◌≡◌, refl, ap, sym, ◌∙◌, Bool, true, false, cond, ◌&&◌, ◌||◌, ◌==◌}
+use Rattle.std.proofs.Common.{inl, inr, List, [], ◌∷◌, ◌++◌, map, Option, Some, None, is_none}
 use Rattle.std.proofs.lemmas.Bool.{eqb-true, eq-eqb}
 use Rattle.std.specs.List.{filter}
 use Rattle.std.specs.Option.{option_map, option_map_or, IfSome}
@@ -59,9 +60,11 @@ head_in (b ∷ older) sound together node born =
           )
     ]
   where
+    -- an older birth stays among the births
     raised : (k : NodeKey) → was_born older k ≡ true → was_born (b ∷ older) k ≡ true
     raised k h = or_right (same_key b.node k) _ h
 
+    -- by cases: a head of its own is in its collection, and another node has its parent's head, which the older births know
     from : (a : Bool) (o : Option NodeKey) → IfSome o (λ p. was_born older p ≡ true) →
         IfSome o (λ p. collection_in older p ≡ Some b.collection) → same_key b.node node ≡ true →
         ((p : NodeKey) → was_born older p ≡ true → (was_born older (head older p) ≡ true) ×

@@ -1,5 +1,6 @@
 -- What an allocation lays out is of the collection whose root it is.
-use Rattle.std.proofs.Common.{ℕ, ◌≡◌, refl, ap, sym, ◌∙◌, Bool, true, false, cond, ◌&&◌, ◌==◌, inl, inr, List, [], ◌∷◌, map, Option, Some, None, is_some, is_none}
+use Rattle.std.proofs.Common.{ℕ, ◌≡◌, refl, ap, sym, ◌∙◌, Bool, true, false, cond, ◌&&◌, ◌==◌}
+use Rattle.std.proofs.Common.{inl, inr, List, [], ◌∷◌, map, Option, Some, None, is_some, is_none}
 use Rattle.std.proofs.lemmas.Bool.{eq-eqb}
 use Rattle.std.specs.Option.{option_map_or}
 use Rattle.sm_names.specs.declared.keys.BufferName.{BufferName}
@@ -31,6 +32,7 @@ layout_given pool before out (Loss origin cause) h on = absurd on
 layout_given pool before out (Ended top) h on = absurd on
 layout_given pool before out (Allocated head) h on = from (birth_of before head) on
   where
+    -- by cases on the places: what is laid out has names of the collection
     starts_given : (b : Birth) (g : Buffers) (o : Option (List ℕ)) →
         In h (option_map_or (laid_out (pages_of g.size) (names b.collection g.count)) o []) → h.buffer.collection ≡ b.collection
     starts_given b g None on = absurd on
@@ -39,6 +41,7 @@ layout_given pool before out (Allocated head) h on = from (birth_of before head)
         (λ name there. let r = In-map (λ i. record { collection = b.collection; index = i }) _ name there in
         ap (λ (x : BufferName). x.collection) r.2) h on
 
+    -- by cases: only a root lays out anything, and that is of its own collection
     of_root : (b : Birth) (root : Bool) → In h (cond root (layout pool b.collection (asked (members before b.collection)) out) []) →
         (root && b.collection == h.buffer.collection) ≡ true
     of_root b true on =
@@ -46,6 +49,7 @@ layout_given pool before out (Allocated head) h on = from (birth_of before head)
         eq-eqb b.collection h.buffer.collection (sym (starts_given b g (places pool (pages_of g.size) g.count out) on))
     of_root b false on = absurd on
 
+    -- by cases on the birth: without one nothing is laid out
     from : (o : Option Birth) → In h (option_map_or (λ (b : Birth).
         cond (is_none b.parent) (layout pool b.collection (asked (members before b.collection)) out) []) o []) →
         option_map_or (λ (b : Birth). is_none b.parent && b.collection == h.buffer.collection) o false ≡ true
@@ -62,6 +66,7 @@ placed_given pool (mark ∷ before) h on =
       | inr old ↦ was (is_initial before h.buffer.collection mark) (placed_given pool before h old)
     ]
   where
+    -- by cases: the collection is given buffers by this mark, or had them
     was : (b : Bool) → is_some (buffers_of before h.buffer.collection) ≡ true →
         is_some (cond b (Some (asked (members before h.buffer.collection))) (buffers_of before h.buffer.collection)) ≡ true
     was true e = refl

@@ -1,5 +1,6 @@
 -- The births of a legal history are sound.
-use Rattle.std.proofs.Common.{ℕ, zero, suc, ◌≡◌, ◌+◌, ◌*◌, refl, sym, ◌∙◌, subst, Bool, true, false, ◌⊎◌, inl, inr, List, [], ◌∷◌, length, Option, Some, None, ap, is_some}
+use Rattle.std.proofs.Common.{ℕ, zero, suc, ◌≡◌, ◌+◌, ◌*◌, refl, sym, ◌∙◌, subst, Bool, true, false}
+use Rattle.std.proofs.Common.{◌⊎◌, inl, inr, List, [], ◌∷◌, length, Option, Some, None, ap, is_some}
 use Rattle.std.proofs.lemmas.Bool.{false≢true}
 use Rattle.std.specs.List.{fold, cons_option}
 use Rattle.std.specs.Option.{option_map_or, option_map, IfSome}
@@ -59,6 +60,7 @@ own_loss_same : (before marks : Timeline) (call : Call) (reply : Reply) →
     births (cons_option (own_loss before call reply) marks) ≡ births marks
 own_loss_same before marks call reply = from (own_loss before call reply) (λ mark e. own_loss_no_event before call reply mark e)
   where
+    -- by cases: a loss is no event, so it brings no birth
     from : (o : Option Mark) → ((mark : Mark) → o ≡ Some mark → is_event mark ≡ false) → births (cons_option o marks) ≡ births marks
     from None h = refl
     from (Some mark) h = same_births marks mark (h mark refl)
@@ -69,16 +71,20 @@ pub births-after : (pool : ℕ) (marks : Timeline) (entry : Entry) → AreSound 
 births-after pool marks entry sound =
     settles (collection_of called entry.1 entry.2) ∙ same
   where
+    -- the marks after the event's own
     called : Timeline
     called = Called entry.0 entry.2 entry.1 ∷ marks
 
+    -- and after the loss that it causes, if it causes one
     lost : Timeline
     lost = cons_option (own_loss marks entry.1 entry.2) (Called entry.0 entry.2 entry.1 ∷ marks)
 
+    -- since a loss brings no birth
     same : births (cons_option (own_loss marks entry.1 entry.2) (Called entry.0 entry.2 entry.1 ∷ marks)) ≡ births
         (Called entry.0 entry.2 entry.1 ∷ marks)
     same = own_loss_same marks (Called entry.0 entry.2 entry.1 ∷ marks) entry.1 entry.2
 
+    -- by cases: where the event has a collection its forced steps bring no births, and elsewhere there are none
     settles : (o : Option ℕ) → births (option_map_or (λ collection.
         settled pool collection (cons_option (own_loss marks entry.1 entry.2) (Called entry.0 entry.2 entry.1 ∷ marks))) o
         (cons_option (own_loss marks entry.1 entry.2) (Called entry.0 entry.2 entry.1 ∷ marks))) ≡
@@ -94,12 +100,14 @@ pub sound_called : (limits : Bound) (marks : Timeline) (entry : Entry) → IsAns
     AreSound (births marks) → AreSound (births (Called entry.0 entry.2 entry.1 ∷ marks))
 sound_called limits marks entry answer sound = with_birth (birth_at (events marks + 1) (Called entry.0 entry.2 entry.1)) refl
   where
+    -- by cases: it has no parent, or the birth of its parent is among the births
     parent_born_before : (b : Birth) → ((b.parent ≡ None) × (b.collection ≡ events marks + 1)) ⊎ ((p : Birth) × In p (births marks) ×
         (b.parent ≡ Some p.node) × (b.collection ≡ p.collection) × (spent marks p.node ≡ false) × (fault marks p.node ≡ None)) →
         IfSome b.parent (λ parent. was_born (births marks) parent ≡ true)
     parent_born_before b (inl r) = rw r.0 tt
     parent_born_before b (inr r) = rw r.2 (In-was_born (births marks) r.0 r.1)
 
+    -- by cases: where a node is born it is new and its parent was born before, and the older births are sound
     with_birth : (o : Option Birth) → birth_at (events marks + 1) (Called entry.0 entry.2 entry.1) ≡ o →
         AreSound (cons_option o (births marks))
     with_birth None e = sound

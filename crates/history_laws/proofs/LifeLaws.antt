@@ -1,5 +1,6 @@
 -- What holds of the nodes of each timeline that grows from nothing.
-use Rattle.std.proofs.Common.{ℕ, ◌≡◌, ◌≤◌, ◌+◌, refl, ap, sym, ◌∙◌, Bool, true, false, ◌||◌, ◌==◌, ◌⊎◌, inl, inr, List, [], ◌∷◌, Option, Some, None, is_some, arith}
+use Rattle.std.proofs.Common.{ℕ, ◌≡◌, ◌≤◌, ◌+◌, refl, ap, sym, ◌∙◌, Bool, true, false, ◌||◌, ◌==◌}
+use Rattle.std.proofs.Common.{◌⊎◌, inl, inr, List, [], ◌∷◌, Option, Some, None, is_some, arith}
 use Rattle.std.specs.List.{list_any, find, cons_option}
 use Rattle.sm_names.specs.declared.keys.NodeKey.{NodeKey}
 use Rattle.sm_names.specs.declared.messages.Call.{Call}
@@ -69,6 +70,7 @@ below_born : (bs : List Birth) (top node : NodeKey) → AreSound bs → was_born
 below_born bs top node sound born h =
     from (ancestors bs node) (ancestors_chain (parent_in bs) bs (λ k _. refl) sound node refl) h
   where
+    -- by cases on the ancestors: the node is the top one, or it has a parent and so was born
     from : (above : List NodeKey) → IsChain (parent_in bs) node above → (same_key top node || list_any (same_key top) above) ≡ true →
         was_born bs node ≡ true
     from [] chain h = elim (either_way (same_key top node)) [

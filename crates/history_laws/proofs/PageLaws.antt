@@ -1,5 +1,6 @@
 -- Buffers are placed in the pool, apart from one another and from what is held.
-use Rattle.std.proofs.Common.{ℕ, zero, suc, ◌≡◌, ◌≤◌, ◌<◌, ◌+◌, refl, ap, sym, subst, Bool, true, false, cond, ◌&&◌, ◌||◌, nat_lt, nat_le, inl, inr, List, [], ◌∷◌, ◌++◌, map, length, Some, arith}
+use Rattle.std.proofs.Common.{ℕ, zero, suc, ◌≡◌, ◌≤◌, ◌<◌, ◌+◌, refl, ap, sym, subst, Bool, true, false, cond}
+use Rattle.std.proofs.Common.{◌&&◌, ◌||◌, nat_lt, nat_le, inl, inr, List, [], ◌∷◌, ◌++◌, map, length, Some, arith}
 use Rattle.std.proofs.lemmas.Bool.{ltb-true, ltb-false, leb-true, leb-false, not-true}
 use Rattle.std.proofs.lemmas.List.Sums.{sum_by-cons}
 use Rattle.std.specs.List.{list_any, range_with_len, sum_by}
@@ -30,6 +31,7 @@ pub record ArePlaced (pool pages count : ℕ) (held : List Interval) (starts : L
 meets_back : (a b : Interval) → meets a b ≡ false → meets b a ≡ false
 meets_back a b h = both_turned (nat_lt a.start (b.start + b.pages)) (nat_lt b.start (a.start + a.pages)) h
   where
+    -- by cases on both tests
     both_turned : (p q : Bool) → (p && q) ≡ false → (q && p) ≡ false
     both_turned true true h = cc
     both_turned true false h = refl
@@ -45,6 +47,7 @@ put_apart i (x ∷ xs) held h =
     let s = split x xs h.0 in
     (or_both (meets i x) _ (meets_back x i s.0) r.0, (s.1, r.1))
   where
+    -- by induction on the intervals before it: each part of the disjunction is false
     split : (x : Interval) (xs : List Interval) → list_any (meets x) (xs ++ i ∷ held) ≡ false → (meets x i ≡ false) ×
         (list_any (meets x) (xs ++ held) ≡ false)
     split x [] h = or_parts (meets x i) _ h
@@ -176,6 +179,7 @@ sum_is_taken : (pool : ℕ) (is : List Interval) → AreApart is → are_in pool
     sum_by (λ (i : Interval). i.pages) is ≡ taken_below is pool
 sum_is_taken pool [] apart inside = sym (none pool)
   where
+    -- by induction on the number: without intervals no page is taken
     none : (n : ℕ) → taken_below [] n ≡ 0
     none zero = refl
     none (suc n) = let x : taken_below [] n ≡ 0 = none n in omega arith

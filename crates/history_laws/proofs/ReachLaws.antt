@@ -76,12 +76,14 @@ ancestors_chain parent (b ∷ older) agrees sound node here =
       | inr e ↦ rw e (ancestors_chain parent older at_older sound.2 node (rw e at here))
     ]
   where
+    -- since a node of the older births is not the newest
     at_older : (k : NodeKey) → was_born older k ≡ true → parent k ≡ parent_in older k
     at_older k old =
         let other : same_key b.node k ≡ false = not_newest b older k sound old in
         let there : parent k ≡ parent_in (b ∷ older) k = agrees k (or_right (same_key b.node k) _ old) in
         rw other at there
 
+    -- by cases on the parent: its chain is one more link of the node's
     from_parent : (o : Option NodeKey) → parent node ≡ o → IfSome o (λ p. was_born older p ≡ true) →
         ((p : NodeKey) → parent p ≡ parent_in older p → IsChain parent p (ancestors older p)) →
         IsChain parent node (option_map_or (λ p. p ∷ ancestors older p) o [])

@@ -5,7 +5,8 @@ use Rattle.sm_names.specs.declared.keys.NodeKey.{NodeKey}
 use Rattle.sm_names.specs.declared.messages.Call.{Call}
 use Rattle.sm_names.specs.declared.messages.Reply.{Reply}
 use Rattle.sm_names.specs.declared.outcomes.Refusal.{Refusal}
-use Rattle.sm_names.specs.Answers.{OpenEnd, Readings, IsAnswer, answer, effect, new_key, closing, no_end, refused_if, unknown_client, shut_client, end_in_transit, end_named, peer_closed, wrong_kind, misuse, no_handle, limits_met}
+use Rattle.sm_names.specs.Answers.{OpenEnd, Readings, IsAnswer, answer, effect, new_key, closing, no_end, refused_if, unknown_client}
+use Rattle.sm_names.specs.Answers.{shut_client, end_in_transit, end_named, peer_closed, wrong_kind, misuse, no_handle, limits_met}
 use Rattle.sm_names.specs.Bounds.{Bound}
 use Rattle.sm_names.specs.Marks.{Timeline}
 use Rattle.sm_names.specs.Reading.{readings}

@@ -39,6 +39,7 @@ strong_same pool a b collection s =
     names collection g.count) o [])) s.given
     ∙ from (buffers_of a collection)
   where
+    -- by cases: without buffers no handle is open, and each buffer has as many open handles as before
     from : (o : Option Buffers) → list_any (λ x. nat_lt 0 (open_total b x Strength.Strong)) (option_map_or (λ (g : Buffers).
         names collection g.count) o []) ≡
         list_any (λ x. nat_lt 0 (open_total a x Strength.Strong)) (option_map_or (λ (g : Buffers). names collection g.count) o [])
@@ -67,14 +68,17 @@ rests_after : (pool : ℕ) (limits : Bound) (marks : Timeline) (entry : Entry) �
     IsAnswer limits (readings marks) entry.0 entry.1 entry.2 → Rests pool marks → Rests pool (after pool marks entry)
 rests_after pool limits marks entry g answer rests collection = from (collection_of called entry.1 entry.2) refl
   where
+    -- the marks after the event's own
     called : Timeline
     called = Called entry.0 entry.2 entry.1 ∷ marks
 
+    -- where the event is of another collection, this one stays as it was
     apart : (collection_of (Called entry.0 entry.2 entry.1 ∷ marks) entry.1 entry.2 ≡ Some collection → ⊥) →
         next_forced pool collection (after pool marks entry) ≡ None
     apart away = rests_same pool collection marks (after pool marks entry) (same_after pool limits marks entry.0 collection entry.2 entry.1
         g answer away) (rests collection)
 
+    -- where the event is of this collection, its forced steps go on until none applies
     its_own : (ours : ℕ) → collection_of (Called entry.0 entry.2 entry.1 ∷ marks) entry.1 entry.2 ≡ Some ours → ours ≡ collection →
         next_forced pool collection (after pool marks entry) ≡ None
     its_own ours of is =
@@ -83,6 +87,7 @@ rests_after pool limits marks entry g answer rests collection = from (collection
         (settled_rests pool ours lost (whole pool limits lost (grows_lost pool limits [] marks entry g answer)).sound).0 in
         rw of (ap (λ (c : ℕ). next_forced pool c (settled pool ours lost)) (sym is) ∙ rest)
 
+    -- by cases on the collection of the event: it is this one, or another, or there is none
     from : (o : Option ℕ) → collection_of (Called entry.0 entry.2 entry.1 ∷ marks) entry.1 entry.2 ≡ o →
         next_forced pool collection (after pool marks entry) ≡ None
     from None of = apart (λ e. let no : None ≡ Some collection = sym of ∙ e in cc)

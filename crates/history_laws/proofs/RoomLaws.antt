@@ -1,5 +1,6 @@
 -- Where buffers have places, and where some buffer has no room.
-use Rattle.std.proofs.Common.{ℕ, zero, suc, ◌≡◌, ◌≤◌, ◌<◌, ◌+◌, refl, ap, sym, ◌∙◌, Bool, false, nat_lt, inl, inr, List, [], ◌∷◌, length, Some, None, arith}
+use Rattle.std.proofs.Common.{ℕ, zero, suc, ◌≡◌, ◌≤◌, ◌<◌, ◌+◌, refl, ap, sym, ◌∙◌, Bool, false}
+use Rattle.std.proofs.Common.{nat_lt, inl, inr, List, [], ◌∷◌, length, Some, None, arith}
 use Rattle.std.proofs.lemmas.Bool.{ltb-true, ltb-false}
 use Rattle.std.specs.List.{find, range_with_len}
 use Rattle.std.specs.Option.{option_map}

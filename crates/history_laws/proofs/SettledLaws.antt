@@ -1,5 +1,6 @@
 -- Why a step is forced. The forced steps come to an end, and none applies then.
-use Rattle.std.proofs.Common.{◌&&◌, ℕ, zero, suc, ◌≡◌, ◌≤◌, ◌<◌, ◌+◌, ◌*◌, refl, ap, sym, ◌∙◌, subst, Bool, true, false, cond, not, ◌||◌, ◌==◌, ◌⊎◌, inl, inr, List, [], ◌∷◌, length, Option, Some, None, arith, is_some, is_none}
+use Rattle.std.proofs.Common.{◌&&◌, ℕ, zero, suc, ◌≡◌, ◌≤◌, ◌<◌, ◌+◌, ◌*◌, refl, ap, sym, ◌∙◌, subst, Bool, true, false, cond}
+use Rattle.std.proofs.Common.{not, ◌||◌, ◌==◌, ◌⊎◌, inl, inr, List, [], ◌∷◌, length, Option, Some, None, arith, is_some, is_none}
 use Rattle.std.specs.List.{list_any, find, filter}
 use Rattle.std.specs.Option.{option_map_or}
 use Rattle.std.proofs.lemmas.Bool.{not-true}
@@ -7,15 +8,19 @@ use Rattle.sm_names.specs.declared.keys.NodeKey.{NodeKey}
 use Rattle.sm_names.specs.declared.outcomes.Cause.{Cause}
 use Rattle.sm_names.specs.declared.outcomes.Failure.{Failure}
 use Rattle.sm_names.specs.Births.{Birth, births, head, ancestors, was_born, AreSound}
-use Rattle.sm_names.specs.Forced.{Standing, is_deserted, ending, abandoned, initial_allocation, initial_failure, logical_allocation, logical_failure, outcome, is_next_head, is_allocated}
+use Rattle.sm_names.specs.Forced.{Standing, is_deserted, ending, abandoned, initial_allocation, initial_failure}
+use Rattle.sm_names.specs.Forced.{logical_allocation, logical_failure, outcome, is_next_head, is_allocated}
 use Rattle.sm_names.specs.Losses.{gone, allocated, is_allocation, takes}
 use Rattle.sm_names.specs.Marks.{Mark, Timeline, Called, Loss, Allocated, Ended, is_event}
-use Rattle.sm_names.specs.Members.{Member, member, members, births_in, is_root, root_left, some_live, subtree, unit, is_ready, demands, asked, reserved}
+use Rattle.sm_names.specs.Members.{Member, member, members, births_in, is_root, root_left}
+use Rattle.sm_names.specs.Members.{some_live, subtree, unit, is_ready, demands, asked, reserved}
 use Rattle.sm_names.specs.Sameness.{same_key}
 use Rattle.sm_names.specs.Timelines.{next_forced, standing, settled_within, settled, Settles, Rests, Forces}
-use Rattle.sm_names.proofs.ListLaws.{In, In-filter, In-map, In-reverse, In-find, In-first_some, when-Some, times-le-length, times-le, times-lt}
+use Rattle.sm_names.proofs.ListLaws.{In, In-filter, In-map, In-reverse, In-find, In-first_some}
+use Rattle.sm_names.proofs.ListLaws.{when-Some, times-le-length, times-le, times-lt}
 use Rattle.sm_names.proofs.ChainLaws.{top_on}
-use Rattle.sm_names.proofs.SamenessLaws.{either_way, same_key-true, same_key-refl, or_left, or_right, and_left, and_right, both_ways, none_or_some, map-Some, and_then-Some, none_if}
+use Rattle.sm_names.proofs.SamenessLaws.{either_way, same_key-true, same_key-refl, or_left, or_right, and_left}
+use Rattle.sm_names.proofs.SamenessLaws.{and_right, both_ways, none_or_some, map-Some, and_then-Some, none_if}
 use Rattle.sm_names.specs.Words.{times}
 
 -- ---- a birth and what is found of it

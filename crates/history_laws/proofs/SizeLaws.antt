@@ -1,5 +1,6 @@
 -- Each held buffer has the pages that its collection's buffers take.
-use Rattle.std.proofs.Common.{ℕ, ◌≡◌, refl, ap, sym, ◌∙◌, subst, true, false, cond, not, ◌==◌, ◌⊎◌, inl, inr, List, [], ◌∷◌, ◌++◌, Some, None}
+use Rattle.std.proofs.Common.{ℕ, ◌≡◌, refl, ap, sym, ◌∙◌, subst, true, false, cond, not}
+use Rattle.std.proofs.Common.{◌==◌, ◌⊎◌, inl, inr, List, [], ◌∷◌, ◌++◌, Some, None}
 use Rattle.std.proofs.lemmas.Bool.{eqb-true, eq-eqb}
 use Rattle.std.specs.List.{list_all, range_with_len}
 use Rattle.std.specs.Option.{option_map_or}
@@ -51,6 +52,7 @@ sized_by pool before mark old (New collection buffers starts e there fresh given
           (was.0, given h.buffer.collection ∙ still was (either_way (collection == h.buffer.collection)), was.2)
     ]
   where
+    -- the collection is not the new one, which had no buffers, so its buffers stay
     still : (was : IsSized before h) → ((collection == h.buffer.collection) ≡ true) ⊎ ((collection == h.buffer.collection) ≡ false) →
         cond (collection == h.buffer.collection) (Some buffers) (buffers_of before h.buffer.collection) ≡ Some was.0
     still was (inl e) =

@@ -1,5 +1,6 @@
 -- What a collection shows of a loss, and what losses and ends give back.
-use Rattle.std.proofs.Common.{ℕ, ◌≡◌, refl, ap, sym, ◌∙◌, subst, Bool, true, false, not, ◌&&◌, ◌||◌, inl, inr, List, [], ◌∷◌, map, Some, Option, None, nat_lt}
+use Rattle.std.proofs.Common.{ℕ, ◌≡◌, refl, ap, sym, ◌∙◌, subst, Bool, true, false, not, ◌&&◌}
+use Rattle.std.proofs.Common.{◌||◌, inl, inr, List, [], ◌∷◌, map, Some, Option, None, nat_lt}
 use Rattle.std.specs.List.{list_any, filter}
 use Rattle.std.specs.Option.{option_map_or, option_map}
 use Rattle.sm_names.specs.declared.keys.NodeKey.{NodeKey}
@@ -224,6 +225,7 @@ pub standing-allocated : (pool collection : ℕ) (marks : Timeline) (head parent
     collection) { members = map (after_allocation head) (members marks collection) }
 standing-allocated pool collection marks head parent up = from (birth_of marks head) refl up
   where
+    -- by cases on the birth: with a parent the node is attached, and without a birth it has none
     from : (o : Option Birth) → birth_of marks head ≡ o → option_map_or (λ (b : Birth). b.parent) o None ≡ Some parent →
         standing pool (Allocated head ∷ marks) collection ≡ record (standing pool marks
         collection) { members = map (after_allocation head) (members marks collection) }

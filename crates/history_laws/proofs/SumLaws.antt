@@ -1,5 +1,6 @@
 -- Counts and sums over lists.
-use Rattle.std.proofs.Common.{ℕ, ◌≡◌, ◌≤◌, ◌<◌, ◌+◌, refl, ap, sym, ◌∙◌, Bool, true, false, cond, ◌&&◌, ◌==◌, inl, inr, List, [], ◌∷◌, ◌++◌, arith}
+use Rattle.std.proofs.Common.{ℕ, ◌≡◌, ◌≤◌, ◌<◌, ◌+◌, refl, ap, sym, ◌∙◌, Bool, true, false}
+use Rattle.std.proofs.Common.{cond, ◌&&◌, ◌==◌, inl, inr, List, [], ◌∷◌, ◌++◌, arith}
 use Rattle.std.proofs.lemmas.Bool.{eqb-true, eq-eqb}
 use Rattle.std.proofs.lemmas.List.Sums.{sum_by-cons}
 use Rattle.std.specs.List.{filter, list_any, sum_by}
@@ -115,6 +116,7 @@ pub sum_once : (k : ℕ) (t : Bool) (ns : List ℕ) → AreOnce ns → (t ≡ tr
     sum_by (λ n. one ((k == n) && t)) ns ≡ one t
 sum_once k false ns once on = sum_by-same (λ n. one ((k == n) && false)) (λ n. 0) ns (λ n. neither (k == n)) ∙ sum_by-zero ns
   where
+    -- by cases on the test
     neither : (b : Bool) → one (b && false) ≡ 0
     neither true = refl
     neither false = refl

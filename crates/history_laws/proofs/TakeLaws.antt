@@ -1,5 +1,6 @@
 -- What Take answers, and which handles it opens.
-use Rattle.std.proofs.Common.{ℕ, ◌≡◌, refl, ap, sym, ◌∙◌, Bool, true, false, cond, not, ◌&&◌, ◌==◌, nat_lt, ◌⊎◌, inl, inr, List, [], ◌∷◌, Option, Some, None}
+use Rattle.std.proofs.Common.{ℕ, ◌≡◌, refl, ap, sym, ◌∙◌, Bool, true, false, cond, not, ◌&&◌}
+use Rattle.std.proofs.Common.{◌==◌, nat_lt, ◌⊎◌, inl, inr, List, [], ◌∷◌, Option, Some, None}
 use Rattle.std.proofs.lemmas.Bool.{eqb-true}
 use Rattle.std.proofs.lemmas.Nat.Bits.{bit_at-zero}
 use Rattle.std.specs.Int.{bit_at}
@@ -11,7 +12,8 @@ use Rattle.sm_names.specs.declared.keys.Strength.{Strength}
 use Rattle.sm_names.specs.declared.messages.Call.{Call}
 use Rattle.sm_names.specs.declared.messages.Reply.{Reply}
 use Rattle.sm_names.specs.declared.outcomes.Refusal.{Refusal}
-use Rattle.sm_names.specs.Answers.{IsAnswer, answer, OpenEnd, Readings, effect, set_of, strength_of, closing, unknown_client, shut_client, no_end, end_in_transit, peer_closed, wrong_kind, misuse, no_handle, limits_met, collected, end_named}
+use Rattle.sm_names.specs.Answers.{IsAnswer, answer, OpenEnd, Readings, effect, set_of, strength_of, closing, unknown_client, shut_client}
+use Rattle.sm_names.specs.Answers.{no_end, end_in_transit, peer_closed, wrong_kind, misuse, no_handle, limits_met, collected, end_named}
 use Rattle.sm_names.specs.Births.{Birth, births}
 use Rattle.sm_names.specs.Bounds.{Bound}
 use Rattle.sm_names.specs.Handles.{opens, doomed, buffers_of, buffer_names, names}
@@ -56,6 +58,7 @@ not_taken_collect r [] = refl
 not_taken_collect r (Parcel.Handle name given ∷ more) = refl
 not_taken_collect r (Parcel.End key ∷ more) = from (r.end_of key)
   where
+    -- by cases: an end is collected or nothing is, and neither is Taken
     from : (o : Option OpenEnd) → is_taken (option_map_or (λ (e : OpenEnd). Reply.Collected key e.kind e.collection) o Reply.Empty) ≡ false
     from None = refl
     from (Some e) = refl
@@ -164,9 +167,11 @@ take_opens limits before client collection taken set key answer buffer =
     rw (same_strength-refl taken) (ap (λ n. collection == buffer.collection && bit_at n buffer.index == 1) k.set_is
     ∙ from (buffers_of before collection))
   where
+    -- whether the buffer is not doomed
     passes : BufferName → Bool
     passes name = not (doomed before name)
 
+    -- where the collections are the same, the name with this index is the buffer; elsewhere both sides are false
     by_collection : (n : ℕ) → ((collection == buffer.collection) ≡ true) ⊎ ((collection == buffer.collection) ≡ false) →
         (collection == buffer.collection && (nat_lt buffer.index n && passes (record { collection = collection; index = buffer.index })))
         ≡ ((collection == buffer.collection && nat_lt buffer.index n) && passes buffer)
@@ -174,6 +179,7 @@ take_opens limits before client collection taken set key answer buffer =
         rw e (ap (λ c. nat_lt buffer.index n && passes (record { collection = c; index = buffer.index })) is)
     by_collection n (inr e) = rw e refl
 
+    -- by cases: without buffers no bit is set, and with them each bit stands for a buffer that is not doomed
     from : (o : Option Buffers) →
         (collection == buffer.collection && bit_at (set_of (filter (λ name. not (doomed before name)) (option_map_or (λ (b : Buffers).
         names collection b.count) o []))) buffer.index == 1)

@@ -1,6 +1,7 @@
 -- What holds after every legal history: a node is in its parent's collection and gone if its parent is, and one that is gone
 -- while its end is not spent has failed.
-use Rattle.std.proofs.Common.{ℕ, zero, suc, ◌≡◌, ◌+◌, ◌*◌, refl, ap, sym, ◌∙◌, subst, Bool, true, false, cond, not, ◌&&◌, ◌||◌, ◌==◌, ◌⊎◌, inl, inr, List, [], ◌∷◌, length, Option, Some, None, is_some}
+use Rattle.std.proofs.Common.{ℕ, zero, suc, ◌≡◌, ◌+◌, ◌*◌, refl, ap, sym, ◌∙◌, subst, Bool, true, false, cond, not}
+use Rattle.std.proofs.Common.{◌&&◌, ◌||◌, ◌==◌, ◌⊎◌, inl, inr, List, [], ◌∷◌, length, Option, Some, None, is_some}
 use Rattle.std.specs.List.{list_any, find, fold, cons_option}
 use Rattle.std.specs.Option.{option_map_or, option_map, IfSome}
 use Rattle.sm_names.specs.declared.keys.NodeKey.{NodeKey}
@@ -25,7 +26,8 @@ use Rattle.history_laws.proofs.BirthLaws.{comes}
 use Rattle.sm_names.proofs.ListLaws.{In, In-filter-back, In-map-back, In-reverse-back, In-find, none-In}
 use Rattle.sm_names.proofs.ChainLaws.{IsChain}
 use Rattle.history_laws.proofs.ReachLaws.{parent_in, parent_born, other_key, ancestors_on, ancestors_chain}
-use Rattle.sm_names.proofs.SamenessLaws.{false_if, either_way, same_key-true, or_left, or_right, or_first, or_none_right, both_ways, none_or_some, map-Some}
+use Rattle.sm_names.proofs.SamenessLaws.{false_if, either_way, same_key-true, or_left, or_right}
+use Rattle.sm_names.proofs.SamenessLaws.{or_first, or_none_right, both_ways, none_or_some, map-Some}
 use Rattle.history_laws.proofs.SettledLaws.{Changes, forced_changes, Why, No_live, Fails, Initial, Logical, forced_why, find_birth}
 use Rattle.sm_names.specs.Words.{when}
 use Rattle.sm_names.specs.declared.outcomes.Fault.{Fault}
@@ -56,6 +58,7 @@ pub line_collection : (bs : List Birth) → AreSound bs → AreTogether bs → (
 line_collection bs sound together top node h =
     along node (ancestors bs node) (ancestors_chain (parent_in bs) bs (λ k _. refl) sound node refl) h
   where
+    -- by induction along the chain: a parent is in the collection of its child
     along : (n : NodeKey) (above : List NodeKey) → IsChain (parent_in bs) n above → list_any (same_key top) (n ∷ above) ≡ true →
         collection_in bs n ≡ collection_in bs top
     along n [] chain h =
@@ -222,6 +225,7 @@ born_below : (limits : Bound) (marks : Timeline) (entry : Entry) (b : Birth) →
 born_below limits marks entry b w answer at parent up =
     from (comes limits marks entry.0 (events marks + 1) entry.2 entry.1 b answer at).from
   where
+    -- by cases: the node has no parent, which contradicts, or the birth of its parent says both
     from : ((b.parent ≡ None) × (b.collection ≡ events marks + 1)) ⊎ ((p : Birth) × In p (births marks) × (b.parent ≡ Some p.node) ×
         (b.collection ≡ p.collection) × (spent marks p.node ≡ false) × (fault marks p.node ≡ None)) → BornBelow marks b parent
     from (inl r) = let no : None ≡ Some parent = sym r.0 ∙ up in absurd (cc)
@@ -244,16 +248,19 @@ whole-called limits marks entry answer w = record {
   failed = λ node g s. w.failed node g (or_none_right (spends node (Called entry.0 entry.2 entry.1)) (spent marks node) s);
 }
   where
+    -- by cases on the parent: it is in the collection of its child
     with_parent : (b : Birth) → birth_at (events marks + 1) (Called entry.0 entry.2 entry.1) ≡ Some b → (o : Option NodeKey) →
         b.parent ≡ o → IfSome o (λ p. collection_in (births marks) p ≡ Some b.collection)
     with_parent b at None e = tt
     with_parent b at (Some p) e = (born_below limits marks entry b w answer at p e).together
 
+    -- by cases: the newest birth is in the collection of its parent, and the others were so
     with_birth : (o : Option Birth) → birth_at (events marks + 1) (Called entry.0 entry.2 entry.1) ≡ o →
         AreTogether (cons_option o (births marks))
     with_birth None e = w.together
     with_birth (Some b) e = (with_parent b e b.parent refl, w.together)
 
+    -- the newest node is not below one that is gone, and the others were so
     from_birth : (child parent : NodeKey) → gone marks parent ≡ true → (o : Option Birth) →
         birth_at (events marks + 1) (Called entry.0 entry.2 entry.1) ≡ o →
         parent_in (cons_option o (births marks)) child ≡ Some parent → gone marks child ≡ true
@@ -290,20 +297,25 @@ pub whole-after : (pool : ℕ) (limits : Bound) (marks : Timeline) (entry : Entr
     IsAnswer limits (readings marks) entry.0 entry.1 entry.2 → IsWhole marks → IsWhole (after pool marks entry)
 whole-after pool limits marks entry answer w = settles (collection_of (Called entry.0 entry.2 entry.1 ∷ marks) entry.1 entry.2)
   where
+    -- the marks after the event's own
     called : Timeline
     called = Called entry.0 entry.2 entry.1 ∷ marks
 
+    -- since the call keeps them whole
     whole_called : IsWhole (Called entry.0 entry.2 entry.1 ∷ marks)
     whole_called = whole-called limits marks entry answer w
 
+    -- by cases: a loss is a mark of its own, which keeps them whole
     loses : (o : Option Mark) → own_loss marks entry.1 entry.2 ≡ o → IsWhole (cons_option o (Called entry.0 entry.2 entry.1 ∷ marks))
     loses None e = whole_called
     loses (Some mark) e = whole-mark called mark (own_loss_no_event marks entry.1 entry.2 mark e) (own_loss_leaves marks called entry.1
         entry.2 mark e) whole_called
 
+    -- for the loss that the event has
     whole_lost : IsWhole (cons_option (own_loss marks entry.1 entry.2) (Called entry.0 entry.2 entry.1 ∷ marks))
     whole_lost = loses (own_loss marks entry.1 entry.2) refl
 
+    -- by cases: where the event has a collection its forced steps keep them whole, and elsewhere there are none
     settles : (o : Option ℕ) → IsWhole (option_map_or (λ collection.
         settled pool collection (cons_option (own_loss marks entry.1 entry.2) (Called entry.0 entry.2 entry.1 ∷ marks))) o
         (cons_option (own_loss marks entry.1 entry.2) (Called entry.0 entry.2 entry.1 ∷ marks)))

@@ -16,7 +16,7 @@ use alloc_event::Forest;
 use buffer_holds::Holds;
 use buffer_pool::Pool;
 use core_state::clients::{Client, note_client};
-use core_state::hands::{apply_handles, tidy_up, undo_handles};
+use core_state::handle_changes::{apply_handles, tidy_up, undo_handles};
 use core_state::task::Task;
 use sm_names::{Call, ClientId, NoMemory, NodeKey, Reply};
 use trackers::{Trackers, Waiting};

@@ -1,29 +1,22 @@
 //! Every call on one state.
-ghost use Rattle.std.specs.Prelude.{◌≡◌, ◌+◌, ◌<◌, ◌≤◌, ◌↔◌, ◌∷◌, ◌++◌, ◌==◌, nat_le};
-ghost use Rattle.std.specs.Prelude.{[], List, length, slice_get, option_map, if◌then◌else◌, IfOk, IfErr, IfSome, IfNone};
-ghost use Rattle.std.specs.Prelude.{OnErr, OnOk, false, true, None, Some, is_some, option_copied};
-ghost use Rattle.sm_names.specs.declared.keys.BufferName.{BufferName as Buffer};
+ghost use Rattle.std.specs.Prelude.{◌≡◌, ◌+◌, ◌<◌, ◌≤◌, ◌↔◌, ◌∷◌, ◌++◌, ◌==◌};
+ghost use Rattle.std.specs.Prelude.{[], List, length, option_map, if◌then◌else◌, IfOk, IfErr, IfSome, IfNone};
+ghost use Rattle.std.specs.Prelude.{OnErr, OnOk, false, true, None, Some, option_copied};
 ghost use Rattle.sm_names.specs.declared.keys.NodeKey.{NodeKey as Key};
-ghost use Rattle.sm_names.specs.declared.keys.Strength.{Strength};
 ghost use Rattle.sm_names.specs.declared.tracking.Fired.{Fired};
 ghost use Rattle.sm_names.specs.declared.messages.Reply.{Reply};
-ghost use Rattle.sm_names.specs.Answers.{IsAnswer, is_at_limit};
+ghost use Rattle.sm_names.specs.Answers.{IsAnswer};
 ghost use Rattle.sm_names.specs.Answers.{answer as answer_of, effect as effect_of};
-ghost use Rattle.sm_names.specs.Handles.{is_doomed};
 ghost use Rattle.sm_names.specs.Marks.{Entry};
-ghost use Rattle.sm_names.specs.Members.{some_strong_live};
 ghost use Rattle.sm_names.specs.Timelines.{timeline};
 ghost use Rattle.sm_names.specs.Trackers.{Tracked, tracked};
 ghost use Rattle.std.specs.List.{cons_option, list_any};
-ghost use Rattle.std.specs.Option.{option_and_then, option_map_or};
+ghost use Rattle.std.specs.Option.{option_and_then};
 ghost use Rattle.trackers.specs.Table.{empty, is_untaken, reader_of, cell_of, without_id};
-ghost use Rattle.forest_store.specs.Forest.{empty_forest, given, node_count, node_at};
-ghost use Rattle.forest_store.specs.Forest.{Collection as CollectionValue, collection_at};
-ghost use Rattle.forest_store.specs.Nodes.{is_of, is_spent, members_of};
+ghost use Rattle.forest_store.specs.Forest.{empty_forest, given, node_at};
+ghost use Rattle.forest_store.specs.Nodes.{is_of};
 ghost use Rattle.forest_store.specs.Settling.{MayChange, collection_or_new, no_key};
-ghost use Rattle.buffer_holds.specs.Counts.{total};
 ghost use Rattle.core_state.specs.Kinds.{fits_call, takes_no_memory};
-ghost use Rattle.core_state.specs.Reads.{buffers_in, end_in, open_end_of};
 ghost use Rattle.core_state.specs.Reads.{node_named, readings_of};
 ghost use Rattle.sm_names.specs.Timelines.{key_of as key_named};
 ghost use Rattle.core_state.specs.Shown.{Shows, ShowsBut, forgetting};
@@ -33,6 +26,7 @@ ghost use Rattle.core_state.specs.Tasks.{IsDecision};
 ghost use Rattle.core_state.specs.Theorem.{GoesOn, Leads, Stepped, Stops, entries};
 ghost use Rattle.core_state.specs.Theorem.{tracker_told, trackers_told};
 
+mod readings;
 mod views;
 
 use crate::by_kind::dispatch;
@@ -42,16 +36,14 @@ use crate::replies::{answer, effect};
 use crate::sweeping::{place_to_sweep, sweep, tracking_of};
 use crate::task::{put_end, task_of};
 use alloc_event::{Change, Forest, Node};
-use buffer_holds::{Holds, Spot};
+use buffer_holds::Holds;
 use buffer_pool::Pool;
-use core_state::clients::{count_waiting, first_waiting, has_joined, is_shut};
 use core_state::decision::{Decision, changes_nothing, with_key};
 use core_state::reading::with_end;
 use core_state::task::{carried_end, change_in, changed_by};
 use core_state::traits::{key_of, traits_of};
 use sm_names::{
-    BufferName, Buffers, Call, ClientId, CollectionId, Limits, MAX_BUFFERS, MAX_PAGES, NoMemory,
-    NodeKey, Parcel, Reply, StepFault, Strength, TrackerId,
+    Call, ClientId, CollectionId, Limits, MAX_PAGES, NoMemory, NodeKey, Reply, StepFault, TrackerId,
 };
 use std::alloc::Global;
 use std::marker::Model;
@@ -187,167 +179,15 @@ impl Core {
         self.events + 1
     }
 
-    // Whether the client was shut.
-    #[inline(always)]
-    pub(crate) fn is_shut(&self, client: ClientId) -> bool
-        ensures { result ≡ (readings_of self.now).is_shut client }
-    {
-        is_shut(&self.contents.clients, client)
-    }
-
-    // How many parcels wait for the client.
-    #[inline(always)]
-    pub(crate) fn count_waiting(&self, client: ClientId) -> usize
-        ensures { result ≡ length ((readings_of self.now).waiting client) }
-    {
-        count_waiting(&self.contents.clients, client)
-    }
-
-    // The parcel that the client collects next.
-    #[inline(always)]
-    pub(crate) fn first_waiting(&self, client: ClientId) -> Option<Parcel>
-        ensures { result ≡ slice_get ((readings_of self.now).waiting client) 0 }
-    {
-        first_waiting(&self.contents.clients, client)
-    }
-
-    // How many of these handles the client has open.
-    #[inline(always)]
-    pub(crate) fn open_of(&self, client: ClientId, buffer: BufferName, strength: Strength) -> u32
-        ensures { result ≡ (readings_of self.now).open_of client buffer strength }
-    {
-        self.contents.holds.of(client, buffer, strength)
-    }
-
-    // How many of these handles are open, those in parcels among them.
-    #[inline(always)]
-    pub(crate) fn open_total(&self, buffer: BufferName, strength: Strength) -> u32
-        ensures { result ≡ total self.now.holds buffer strength }
-    {
-        self.contents.holds.total(buffer, strength)
-    }
-
-    // True only if one more handle of any buffer and strength may be opened.
-    #[inline(always)]
-    pub(crate) fn have_room(&self) -> bool
-        ensures { result ≡ true → (buffer : Buffer) (strength : Strength) →
-            is_at_limit self.now.limits (readings_of self.now) strength buffer ≡ false }
-    {
-        self.contents.holds.have_room()
-    }
-
-    // Whether as many of these handles are open as the limit allows.
-    #[inline(always)]
-    pub(crate) fn has_all_handles(&self, buffer: BufferName, strength: Strength) -> bool
-        ensures { result ≡ is_at_limit self.now.limits (readings_of self.now) strength buffer }
-    {
-        if self.have_room() {
-            return false;
-        }
-        self.limits.handles() <= self.contents.holds.total(buffer, strength)
-    }
-
-    // Does what `has_all_handles` does, and searches from this spot on.
-    #[inline(always)]
-    pub(crate) fn has_all_handles_near(
-        &self,
-        buffer: BufferName,
-        strength: Strength,
-        near: &mut Spot,
-    ) -> bool
-        ensures { result ≡ is_at_limit self.now.limits (readings_of self.now) strength buffer }
-    {
-        self.limits.handles() <= self.contents.holds.total_near(buffer, strength, near)
-    }
-
-    // Whether as many trackers wait as the limit allows.
-    #[inline(always)]
-    pub(crate) fn has_all_trackers(&self) -> bool
-        ensures { result
-            ≡ nat_le self.now.limits.trackers (readings_of self.now).unfired }
-    {
-        self.limits.trackers() as usize <= self.contents.trackers.waiting()
-    }
-
-    // Whether a strong node of the collection is live.
-    #[inline(always)]
-    pub(crate) fn strong_live(&self, id: CollectionId) -> bool
-        ensures { result ≡ option_map_or
-            (λ (c : CollectionValue). some_strong_live (members_of c.nodes))
-            (collection_at self.now.forest id) false }
-    {
-        self.contents.forest.strong_live(id)
-    }
-
-    // Whether nothing strong keeps the buffer; `strong_live` says whether a strong node is live.
-    #[inline(always)]
-    pub(crate) fn is_doomed(&self, buffer: BufferName, strong_live: bool) -> bool
-        ensures { result ≡ is_doomed (total self.now.holds buffer Strength.Strong) strong_live }
-    {
-        self.contents.holds.doomed(buffer, strong_live)
-    }
-
-    // Whether the client joined.
-    #[inline(always)]
-    pub(crate) fn has_joined(&self, client: ClientId) -> bool
-        ensures { result ≡ (readings_of self.now).has_joined client }
-    {
-        has_joined(&self.contents.clients, client)
-    }
-
-    // The node with this key, unless its end is spent.
-    #[inline(always)]
-    pub(crate) fn node_with_end(&self, key: NodeKey) -> Option<&Node>
-        ensures value { end_in self.now key
-            ≡ option_map (open_end_of self.now) (option_copied result) }
-        ensures unspent { IfSome result (λ n. is_spent n.now.end ≡ false) }
-    {
-        with_end(self.contents.forest.node(key))
-    }
-
     // The node with this key, if a key is named and its node is kept.
     #[inline(always)]
-    fn named(&self, key: Option<NodeKey>) -> Option<&Node>
+    pub(crate) fn named(&self, key: Option<NodeKey>) -> Option<&Node>
         ensures { option_copied result ≡ option_and_then (node_at self.now.forest) key }
     {
         match key {
             Some(key) => self.contents.forest.node(key),
             None => None,
         }
-    }
-
-    // Whether the collection is kept.
-    #[inline(always)]
-    pub(crate) fn has_collection(&self, id: CollectionId) -> bool
-        ensures { result ≡ is_some (collection_at self.now.forest id) }
-    {
-        self.contents.forest.collection(id).is_some()
-    }
-
-    // The collection's buffers, if it is kept and allocated.
-    #[inline(always)]
-    pub(crate) fn buffers_of(&self, id: CollectionId) -> Option<Buffers>
-        ensures value { result ≡ buffers_in self.now id }
-        ensures few { IfSome result (λ b. b.count ≤ MAX_BUFFERS) }
-    {
-        self.contents.forest.collection(id)?.buffers
-    }
-
-    // Whether as many nodes are kept as the limit allows.
-    #[inline(always)]
-    pub(crate) fn has_all_nodes(&self) -> bool
-        ensures { result ≡ nat_le self.now.limits.nodes (node_count self.now.forest) }
-    {
-        self.limits.nodes() as usize <= self.contents.forest.len()
-    }
-
-    // Whether as many collections are kept as the limit allows.
-    #[inline(always)]
-    pub(crate) fn has_all_collections(&self) -> bool
-        ensures { result
-            ≡ nat_le self.now.limits.collections (length self.now.forest.collections) }
-    {
-        self.limits.collections() as usize <= self.contents.forest.collections()
     }
 
     // Why a call is not made if memory is refused: `HistoryFull` comes first.
@@ -364,15 +204,23 @@ impl Core {
     }
 
     // The answer that comes before the effect of the call, if there is one. `None` for a Close that is
-    // answered Done, since it takes effect.
+    // answered Done, since it takes effect. `named` is the key of the node that the call names, `node`
+    // this node, if it is kept.
     #[inline(always)]
-    pub(crate) fn early_answer(&self, client: ClientId, call: &Call) -> Option<Reply>
+    pub(crate) fn early_answer(
+        &self,
+        client: ClientId,
+        call: &Call,
+        named: Option<NodeKey>,
+        node: Option<&Node>,
+    ) -> Option<Reply>
+        requires key { named ≡ key_named call.now }
+        requires node { option_copied node ≡ option_and_then (node_at self.now.forest) named }
         ensures answer { IfSome result (λ reply. reply
             ≡ answer_of self.now.limits (readings_of self.now) client no_key call.now) }
         ensures effect { IfNone result (effect_of (readings_of self.now) client no_key call.now
             ≡ answer_of self.now.limits (readings_of self.now) client no_key call.now) }
     {
-        let node = self.named(key_of(call));
         let traits = traits_of(call);
         let reply = first_answer(self, client, call, &traits, with_end(node))?;
         match (*call, reply) {
@@ -381,15 +229,22 @@ impl Core {
         }
     }
 
-    // Decides a call that no answer before its effect answers. Tests nothing that `early_answer` tested.
+    // Decides a call that no answer before its effect answers. Tests nothing that `early_answer` tested,
+    // and takes the node that this was given.
     #[inline(always)]
-    pub(crate) fn decide_effect(&self, client: ClientId, call: &Call) -> Decision
-        requires { effect_of (readings_of self.now) client no_key call.now
+    pub(crate) fn decide_effect(
+        &self,
+        client: ClientId,
+        call: &Call,
+        named: Option<NodeKey>,
+        node: Option<&Node>,
+    ) -> Decision
+        requires key { named ≡ key_named call.now }
+        requires node { option_copied node ≡ option_and_then (node_at self.now.forest) named }
+        requires effect { effect_of (readings_of self.now) client no_key call.now
             ≡ answer_of self.now.limits (readings_of self.now) client no_key call.now }
         ensures { IsDecision self.now client call.now result }
     {
-        let named = key_of(call);
-        let node = self.named(named);
         let reply = effect(self, client, NO_KEY, call, with_end(node));
         self.decide_answered(client, call, reply, named, node)
     }
@@ -448,7 +303,7 @@ impl Core {
         let named = key_of(&call);
         let node = self.named(named);
         let decision = self.decide_answered(client, &call, reply, named, node);
-        self.commit(client, &call, &decision)
+        self.commit(client, &call, decision)
     }
 
     // Makes the call that was decided so, as `step` says.
@@ -457,32 +312,30 @@ impl Core {
         &mut self,
         client: ClientId,
         call: &Call,
-        decision: &Decision,
+        decision: Decision,
     ) -> Result<Reply, StepFault>
-        requires { IsDecision self.old client call.now decision.now }
+        requires { IsDecision self.old client call.now decision }
         ensures { Stepped self.old self.new client call.now result }
     {
+        let Decision {
+            reply,
+            task,
+            tracking,
+        } = decision;
         if self.events >= self.limits.events() {
             return Err(StepFault::HistoryFull);
         }
-        if changes_nothing(call, &decision.reply) {
+        if changes_nothing(call, &reply) {
             self.events = self.next_event();
-            return Ok(decision.reply);
+            return Ok(reply);
         }
-        let Ok(key) = take_effect(
-            &mut self.contents,
-            client,
-            call,
-            &decision.reply,
-            &decision.task,
-            decision.tracking,
-        ) else {
+        let Ok(key) = take_effect(&mut self.contents, client, call, &reply, &task, tracking) else {
             return Err(StepFault::NoMemory);
         };
         self.events += 1;
         let place = place_to_sweep(
-            changed_by(&decision.task),
-            decision.tracking,
+            changed_by(&task),
+            tracking,
             &self.contents.forest,
             &self.contents.holds,
         );
@@ -493,9 +346,9 @@ impl Core {
             &self.contents.forest,
             &self.contents.holds,
         );
-        let carried = carried_end(client, call, &decision.reply);
-        put_end(&mut self.contents.forest, &decision.task, carried);
-        Ok(with_key(decision.reply, key))
+        let carried = carried_end(client, call, &reply);
+        put_end(&mut self.contents.forest, &task, carried);
+        Ok(with_key(reply, key))
     }
 
     /// Makes one call: answers it, makes its change and all that the change forces, puts its end where

@@ -19,8 +19,8 @@ pub(crate) fn strength_of(weak: bool) -> Strength
     }
 }
 
-/// Whether on one of the buffers that the Take would open the handles of this strength are at their
-/// limit. Costs O(1) as long as no count of handles was ever at the limit, and then at most two look-ups
+/// Whether one of the buffers that the Take would open has as many handles of this strength as the limit
+/// allows. Costs O(1) as long as no count of handles was ever at the limit, and then at most two look-ups
 /// for each buffer.
 pub(crate) fn is_one_full(core: &Core, collection: CollectionId, strength: Strength) -> bool
     ensures { result ≡ list_any (is_at_limit core.now.limits (readings_of core.now) strength)

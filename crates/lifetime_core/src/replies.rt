@@ -69,6 +69,7 @@ fn take(core: &Core, client: ClientId, key: NodeKey, node: Option<&Node>, new: N
 }
 
 // The first parcel that waits for the client, if one does.
+#[inline(always)]
 fn collect(core: &Core, client: ClientId) -> Reply
     ensures { result ≡ collected (readings_of core.now) ((readings_of core.now).waiting client) }
 {

@@ -1,5 +1,7 @@
 -- What a birth does to a table.
-use Rattle.std.proofs.Common.{◌≡◌, ◌≢◌, ℕ, ◌+◌, ◌<◌, ◌≤◌, ◌^◌, ◌==◌, ◌&&◌, ◌||◌, nat_le, nat_lt, Bool, true, false, List, [], Option, Some, None, is_some, IsSome, IfSome, count_by, option_map, arith, refl, ap, sym, ◌∙◌, slice_index_or, inl, inr, subst}
+use Rattle.std.proofs.Common.{◌≡◌, ◌≢◌, ℕ, ◌+◌, ◌<◌, ◌≤◌, ◌^◌, ◌==◌, ◌&&◌, ◌||◌, nat_le, nat_lt, Bool}
+use Rattle.std.proofs.Common.{true, false, List, [], Option, Some, None, is_some, IsSome, IfSome, count_by}
+use Rattle.std.proofs.Common.{option_map, arith, refl, ap, sym, ◌∙◌, slice_index_or, inl, inr, subst}
 use Rattle.std.proofs.lemmas.Bool.{cases_eq}
 use Rattle.std.proofs.lemmas.Bool.Decides.{nat_tests}
 use Rattle.std.proofs.Math.Bool.{and-false}
@@ -7,7 +9,8 @@ use Rattle.sm_names.specs.declared.keys.NodeKey.{NodeKey}
 use Rattle.sm_names.specs.Sameness.{same_key}
 use Rattle.node_table.specs.Table.{Row, Table, row_at, parent_at, parent_in, children_at, children_in, next_at, was_given}
 use Rattle.node_table.specs.Changes.{Births, at_parent, with_child}
-use Rattle.node_table.specs.Sound.{row_in, rows_of, run_in, first_in, last_in, prev_in, next_in, given_count, entry_in, stamp_in, table_of, with_vacant, IsSound, IsRun, IsLinked, at_slot, Bumped}
+use Rattle.node_table.specs.Sound.{row_in, rows_of, run_in, first_in, last_in, prev_in, next_in, given_count, entry_in}
+use Rattle.node_table.specs.Sound.{stamp_in, table_of, with_vacant, IsSound, IsRun, IsLinked, at_slot, Bumped}
 use Rattle.node_table.specs.declared.slot.Slot.{Slot}
 use Rattle.node_table.proofs.Rows.{count-gain}
 use Rattle.node_table.proofs.Keys.{eq-true, eq-false, same-fields, key_cases, same_key-equal, same_key-apart}
@@ -22,6 +25,7 @@ given-more : (first generation next : ℕ) → generation ≢ next →
     (nat_le first generation && nat_lt generation (next + 1)) ≡ (nat_le first generation && nat_lt generation next)
 given-more first generation next differ = ap (λ b. nat_le first generation && b) (by_test (nat_lt generation next) refl)
   where
+    -- by cases on the test: one that was given stays so, and the next one is another
     by_test : (b : Bool) → nat_lt generation next ≡ b → nat_lt generation (next + 1) ≡ nat_lt generation next
     by_test true test = let more : nat_lt generation (next + 1) ≡ true = grind (arith, nat_tests) in more ∙ sym test
     by_test false test =
@@ -51,30 +55,38 @@ module _ {N : Type 0} (old new : List (Option (Slot N))) (nexts nexts2 : List �
     abbrev old-rows : List (Option (Row N))
     old-rows = rows_of old (given_count first nexts)
 
+    -- the rows after the birth
     abbrev new-rows : List (Option (Row N))
     new-rows = rows_of new (given_count first nexts2)
 
+    -- the table before the birth
     abbrev before : Table N
     before = table_of old nexts first limit
 
+    -- the table after the birth
     abbrev after : Table N
     after = table_of new nexts2 first limit
 
+    -- since the slot was vacant
     no-row : slice_index_or old-rows key.slot None ≡ None
     no-row = row-at old (given_count first nexts) key.slot ∙ ap (row_in (next_in old) (given_count first nexts)) was_vacant
 
+    -- since no row stands in its slot
     absent : row_at before key ≡ None
     absent = none-then (next_at before key.slot == key.generation + 1) (slice_index_or old-rows key.slot None) no-row
 
+    -- since one row came and the others are as they were
     longer : count_by is_some new-rows ≡ count_by is_some old-rows + 1
     longer =
         count-gain key.slot old-rows new-rows (ap is_some no-row) (ap is_some new-row)
         (λ i differ. ap is_some (other-row i differ)
         ∙ is_some-option_map (at_slot parent (with_child key) i) (slice_index_or old-rows i None))
 
+    -- since a vacant slot has a next generation
     fits : key.generation < 2 ^ 32
     fits = let below : slice_index_or nexts key.slot first < 2 ^ 32 = sound.vacant key.slot was_vacant in rw next at below
 
+    -- since its slot has the new row, and its generation is the last given there
     born-row : row_at after key ≡ Some (record { parent = parent; children = []; node = node })
     born-row = rw (bumped.at, next, eq-true (key.generation + 1) (key.generation + 1) refl) new-row
 
@@ -93,16 +105,19 @@ module _ {N : Type 0} (old new : List (Option (Slot N))) (nexts nexts2 : List �
               (with_child key) k there))
         ]
 
+    -- since its parent has a row, and the new key had none
     stranger : (p : Option NodeKey) → IfSome p (λ k. IsSome (row_at before k)) → p ≢ Some key
     stranger None some same = absurd (cc)
     stranger (Some k) some same =
         let is : k ≡ key = cc in let none : row_at before k ≡ None = subst (λ j. row_at before j ≡ None) (sym is) absent in absurd (cc)
 
+    -- by cases on the parent: it is the one that has a row
     parent-row : (p : Option NodeKey) (above : NodeKey) → IfSome p (λ k. IsSome (row_at before k)) → p ≡ Some above →
         IsSome (row_at before above)
     parent-row None above some is = absurd (cc)
     parent-row (Some k) above some is = let same : k ≡ above = cc in subst (λ j. IsSome (row_at before j)) same some
 
+    -- since one node was added below a parent that is there
     forest-born : IsLinked (parent_at after) (children_at after)
     forest-born =
         IsLinked-birth (parent_at before) (children_at before) (parent_at after) (children_at after) sound.forest parent key
@@ -118,6 +133,7 @@ module _ {N : Type 0} (old new : List (Option (Slot N))) (nexts nexts2 : List �
         ∙ children-with key (row_at before above) (parent-row parent above there is))
         (λ above differ away. ap children_in (others above differ ∙ map-stranger parent (with_child key) above (row_at before above) away))
 
+    -- each part stays: one row more is counted, the slot is taken, and the others are as they were
     pub sound-born : stamp_in (entry_in (slice_index_or new key.slot None)) ≡ Some key.generation →
         ((i : ℕ) → i ≢ key.slot → stamp_in (entry_in (slice_index_or new i None)) ≡ stamp_in (entry_in (slice_index_or old i None))) →
         IsSound new nexts2 first (count + 1) limit
@@ -156,6 +172,7 @@ module _ {N : Type 0} (old new : List (Option (Slot N))) (nexts nexts2 : List �
           chained = chained;
         }
 
+    -- the new key was given now, and of every other key nothing changed
     given : (k : NodeKey) → was_given after k ≡ (same_key key k || was_given before k)
     given k =
         elim (key_cases key k) [
@@ -180,6 +197,7 @@ module _ {N : Type 0} (old new : List (Option (Slot N))) (nexts nexts2 : List �
               | inr apart ↦ rw (bumped.others k.slot apart) refl
             ]
 
+    -- each part, from the facts above
     pub births : (vacant vacant2 : ℕ) → key.slot ≡ vacant → Births (with_vacant vacant before) (with_vacant vacant2 after) parent node key
     births vacant vacant2 slot =
         record {

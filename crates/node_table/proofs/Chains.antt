@@ -1,10 +1,12 @@
 -- The runs of children in the slots of a sound table.
-use Rattle.std.proofs.Common.{◌≡◌, ℕ, ◌+◌, ◌-◌, ◌<◌, ◌≤◌, ◌==◌, true, List, [], length, Option, Some, None, is_some, IsSome, Contains, cond, option_map, slice_index_or, arith, refl, ap, sym, ◌∙◌, subst}
+use Rattle.std.proofs.Common.{◌≡◌, ℕ, ◌+◌, ◌-◌, ◌<◌, ◌≤◌, ◌==◌, true, List, [], length, Option, Some, None, is_some}
+use Rattle.std.proofs.Common.{IsSome, Contains, cond, option_map, slice_index_or, arith, refl, ap, sym, ◌∙◌, subst}
 use Rattle.sm_names.specs.declared.keys.NodeKey.{NodeKey}
 use Rattle.node_table.specs.Table.{Row, Table, row_at, node_at, parent_at, parent_in, children_at, children_in}
 use Rattle.node_table.specs.Forest.{first_key, next_key, siblings_at}
 use Rattle.std.specs.Option.{option_map_or}
-use Rattle.node_table.specs.Sound.{IsSound, IsRun, run_from, run_in, first_in, last_in, prev_in, next_in, rows_of, table_of, with_vacant, entry_in, stamp_in, link_in, core_of, row_of, with_children, given_count}
+use Rattle.node_table.specs.Sound.{IsSound, IsRun, run_from, run_in, first_in, last_in, prev_in, next_in, rows_of, table_of}
+use Rattle.node_table.specs.Sound.{with_vacant, entry_in, stamp_in, link_in, core_of, row_of, with_children, given_count}
 use Rattle.node_table.specs.declared.slot.Entry.{Entry}
 use Rattle.node_table.specs.declared.slot.Slot.{Slot}
 use Rattle.node_table.proofs.Keys.{eq-true, eq-false, same-fields}
@@ -155,7 +157,8 @@ module _ {N : Type 0} where
     runs_short i = run_from-short (next_in slots) (given_count first nexts) (first_in slots i)
 
     -- a child is followed by its next sibling
-    pub next_shown : (vacant : ℕ) (t : Table N) → with_vacant vacant (table_of slots nexts first limit) ≡ t → (key : NodeKey) → IsSome (parent_at t key) →
+    pub next_shown : (vacant : ℕ) (t : Table N) → with_vacant vacant (table_of slots nexts first limit) ≡ t →
+        (key : NodeKey) → IsSome (parent_at t key) →
         next_in slots key.slot ≡ next_key key (siblings_at t key)
     next_shown vacant t is key = subst (λ u. IsSome (parent_at u key) → next_in slots key.slot ≡ next_key key (siblings_at u key)) is
         (by_parent (parent_at (table_of slots nexts first limit) key) refl)
@@ -182,7 +185,8 @@ module _ {N : Type 0} where
 
     -- an entry says what its key's row has, since the row is made of it
     pub entry-shows : (vacant : ℕ) (t : Table N) → with_vacant vacant (table_of slots nexts first limit) ≡ t → (key : NodeKey)
-        (o : Option (Entry N)) → entry_in (slice_index_or slots key.slot None) ≡ o → slice_index_or nexts key.slot first ≡ key.generation + 1 → Shows t key o
+        (o : Option (Entry N)) → entry_in (slice_index_or slots key.slot None) ≡ o →
+        slice_index_or nexts key.slot first ≡ key.generation + 1 → Shows t key o
     entry-shows vacant t is key o at next = subst (λ u. Shows u key o) is (by_entry o at
         (ap (λ b. cond b (slice_index_or (rows_of slots (given_count first nexts)) key.slot None) None)
         (eq-true (slice_index_or nexts key.slot first) (key.generation + 1) next)

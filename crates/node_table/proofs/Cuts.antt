@@ -1,9 +1,11 @@
 -- What a cut does to a table.
-use Rattle.std.proofs.Common.{◌≡◌, ◌≢◌, ℕ, ◌+◌, ◌<◌, List, Option, Some, None, is_some, IsSome, IfSome, cond, count_by, option_map, slice_set, arith, refl, ap, sym, ◌∙◌, slice_index_or}
+use Rattle.std.proofs.Common.{◌≡◌, ◌≢◌, ℕ, ◌+◌, ◌<◌, List, Option, Some, None, is_some, IsSome, IfSome, cond}
+use Rattle.std.proofs.Common.{count_by, option_map, slice_set, arith, refl, ap, sym, ◌∙◌, slice_index_or}
 use Rattle.sm_names.specs.declared.keys.NodeKey.{NodeKey}
 use Rattle.node_table.specs.Table.{Row, Table, row_at, parent_at, parent_in, children_at, children_in, next_at}
 use Rattle.node_table.specs.Changes.{Cuts, at_parent, without_child, without_parent}
-use Rattle.node_table.specs.Sound.{row_of, rows_of, run_in, first_in, last_in, prev_in, next_in, link_in, entry_in, stamp_in, parent_of, given_count, table_of, with_vacant, IsRun, IsSound, IsLinked, EditsRows, at_slot}
+use Rattle.node_table.specs.Sound.{row_of, rows_of, run_in, first_in, last_in, prev_in, next_in, link_in, entry_in, stamp_in}
+use Rattle.node_table.specs.Sound.{parent_of, given_count, table_of, with_vacant, IsRun, IsSound, IsLinked, EditsRows, at_slot}
 use Rattle.node_table.specs.declared.slot.Entry.{Entry}
 use Rattle.node_table.specs.declared.slot.Slot.{Slot}
 use Rattle.node_table.proofs.Keys.{eq-true}

@@ -4,7 +4,8 @@ use Rattle.slab.specs.Slab.{Slab, get}
 use Rattle.sm_names.specs.declared.keys.NodeKey.{NodeKey}
 use Rattle.node_table.specs.Table.{Row, row_at}
 use Rattle.node_table.specs.Changes.{Cuts}
-use Rattle.node_table.specs.Sound.{IsSound, Edits, Joins, loosened, prev_in, next_in, parent_of, table_of, table_in, entry_in, stamp_in, core_of}
+use Rattle.node_table.specs.Sound.{IsSound, Edits, Joins, loosened, prev_in, next_in}
+use Rattle.node_table.specs.Sound.{parent_of, table_of, table_in, entry_in, stamp_in, core_of}
 use Rattle.node_table.specs.declared.slot.Slot.{Slot}
 use Rattle.node_table.proofs.Slots.{option_map-keeps}
 use Rattle.node_table.proofs.Steps.{kinds, part-kept}

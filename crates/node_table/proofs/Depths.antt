@@ -1,5 +1,6 @@
 -- Every climb from parent to parent ends, in fewer steps than there are nodes.
-use Rattle.std.proofs.Common.{◌≡◌, ℕ, zero, suc, ◌+◌, ◌-◌, ◌<◌, ◌≤◌, ◌==◌, ◌&&◌, nat_lt, Bool, true, false, cond, if◌then◌else◌, List, [], ◌∷◌, length, Option, Some, None, is_some, IsSome, count_by, Contains, slice_index_or, arith, refl, ap}
+use Rattle.std.proofs.Common.{◌≡◌, ℕ, zero, suc, ◌+◌, ◌-◌, ◌<◌, ◌≤◌, ◌==◌, ◌&&◌, nat_lt, Bool, true, false, cond, if◌then◌else◌, List}
+use Rattle.std.proofs.Common.{[], ◌∷◌, length, Option, Some, None, is_some, IsSome, count_by, Contains, slice_index_or, arith, refl, ap}
 use Rattle.std.proofs.lemmas.Bool.Decides.{nat_tests}
 use Rattle.std.proofs.lemmas.List.Sums.{sum_by-cons}
 use Rattle.std.proofs.lemmas.Bool.{eqb-true}
@@ -17,6 +18,7 @@ counts taken rank most = if taken && nat_lt rank most then 1 else 0
 counts-low : (taken : Bool) (rank most : ℕ) → counts taken rank most ≤ cond taken 1 0
 counts-low true rank most = if_below (nat_lt rank most)
   where
+    -- by cases on the test
     if_below : (b : Bool) → (if b then 1 else 0) ≤ 1
     if_below true = omega arith
     if_below false = omega arith
@@ -36,6 +38,7 @@ counts-more : (taken : Bool) (rank most more : ℕ) → most ≤ more → counts
 counts-more false rank most more le = omega arith
 counts-more true rank most more le = by_test (nat_lt rank most) refl
   where
+    -- by cases on the test: a rank below one number is below a greater one
     by_test : (b : Bool) → nat_lt rank most ≡ b → counts true rank most ≤ counts true rank more
     by_test true test = let below : rank < more = grind (arith, nat_tests) in rw (test, counts-yes rank more below) (omega arith)
     by_test false test = rw test (omega arith)

@@ -1,5 +1,7 @@
 -- A child joins its siblings: what the links of all slots are then.
-use Rattle.std.proofs.Common.{◌≡◌, ◌≢◌, ℕ, zero, suc, ◌+◌, ◌<◌, ◌≤◌, ◌==◌, List, [], ◌∷◌, ◌++◌, length, Option, Some, None, true, is_some, IsSome, IfSome, Contains, option_map, slice_index_or, arith, refl, ap, sym, ◌∙◌, subst, inl, inr, if◌then◌else◌}
+use Rattle.std.proofs.Common.{◌≡◌, ◌≢◌, ℕ, zero, suc, ◌+◌, ◌<◌, ◌≤◌, ◌==◌, List, [], ◌∷◌, ◌++◌, length}
+use Rattle.std.proofs.Common.{Option, Some, None, true, is_some, IsSome, IfSome, Contains, option_map}
+use Rattle.std.proofs.Common.{slice_index_or, arith, refl, ap, sym, ◌∙◌, subst, inl, inr, if◌then◌else◌}
 use Rattle.std.proofs.lemmas.Bool.{cases_eq}
 use Rattle.std.proofs.lemmas.List.{length-append}
 use Rattle.slab.specs.Slab.{Slab, Updates, get, slab_len}
@@ -7,7 +9,9 @@ use Rattle.node_table.proofs.Rows.{count-same}
 use Rattle.sm_names.specs.declared.keys.NodeKey.{NodeKey}
 use Rattle.node_table.specs.Table.{Row, row_at}
 use Rattle.node_table.specs.Changes.{Births, with_child}
-use Rattle.node_table.specs.Sound.{IsSound, IsRun, run_from, LinksLast, Bumped, run_in, first_in, last_in, prev_in, next_in, last_under, rows_of, table_of, table_in, entry_in, stamp_in, link_in, core_of, with_children, given_count, at_slot, unless}
+use Rattle.node_table.specs.Sound.{IsSound, IsRun, run_from, LinksLast, Bumped, run_in, first_in, last_in}
+use Rattle.node_table.specs.Sound.{prev_in, next_in, last_under, rows_of, table_of, table_in, entry_in}
+use Rattle.node_table.specs.Sound.{stamp_in, link_in, core_of, with_children, given_count, at_slot, unless}
 use Rattle.node_table.specs.declared.slot.Entry.{Entry}
 use Rattle.node_table.specs.declared.slot.Slot.{Slot}
 use Rattle.node_table.specs.declared.slot.Slot.TheVariants.{Taken}
@@ -73,12 +77,15 @@ module _ {N : Type 0} (old mid new : Slab (Slot N)) (nexts nexts2 : List ℕ) (f
     (Some (Taken (record { generation = key.generation; parent = parent; first = None; last = None; prev = last; next = None; node = node }))))
     (in_table : IfSome parent (λ p. IsSome (row_at (table_of old.slots nexts first limit) p)))
   where
+    -- how many keys were given before
     abbrev most : ℕ
     most = given_count first nexts
 
+    -- the children in a slot before
     abbrev run : ℕ → List NodeKey
     run i = run_in old.slots most i
 
+    -- since one generation more was given
     more : given_count first nexts2 ≡ most + 1
     more = given-more first key.slot nexts nexts2 (sound.rising key.slot) bumped.at bumped.others
 
@@ -87,13 +94,16 @@ module _ {N : Type 0} (old mid new : Slab (Slot N)) (nexts nexts2 : List ℕ) (f
     gains None i = run i
     gains (Some p) i = if p.slot == i then run i ++ key ∷ [] else run i
 
+    -- by cases on the parent: it is in another slot, so nothing is added here
     gains-away : (p : Option NodeKey) (i : ℕ) → ((q : NodeKey) → p ≡ Some q → q.slot ≢ i) → gains p i ≡ run i
     gains-away None i away = refl
     gains-away (Some p) i away = ap (λ b. if b then run i ++ key ∷ [] else run i) (eq-false p.slot i (away p refl))
 
+    -- since the slot is that of the parent
     gains-here : (p : NodeKey) (i : ℕ) → p.slot ≡ i → gains (Some p) i ≡ run i ++ key ∷ []
     gains-here p i at = ap (λ b. if b then run i ++ key ∷ [] else run i) (eq-true p.slot i at)
 
+    -- the children were no more than the keys given, and at most one came
     gains-short : (p : Option NodeKey) (i : ℕ) → length (gains p i) ≤ given_count first nexts2
     gains-short None i = let short : length (run i) ≤ most = runs_short old.slots nexts first count limit sound i in omega (arith, more)
     gains-short (Some p) i =
@@ -114,6 +124,7 @@ module _ {N : Type 0} (old mid new : Slab (Slot N)) (nexts nexts2 : List ℕ) (f
         let some : slice_index_or old.slots x.slot None ≡ Some (Taken entry.0) = entry.1 in
         absurd (cc)
 
+    -- since the new key had no row, no child was it
     member-away : (i : ℕ) (x : NodeKey) → Contains (run i) x → x.slot ≢ key.slot
     member-away i x child = elsewhere x (member-there old.slots nexts first count limit sound i x child)
 
@@ -122,11 +133,13 @@ module _ {N : Type 0} (old mid new : Slab (Slot N)) (nexts nexts2 : List ℕ) (f
         link_in link (entry_in (get new i)) ≡ link_in link (entry_in (get mid i))
     new-link link i differ = ap (λ o. link_in link (entry_in o)) (updates.others i differ)
 
+    -- since its slot has the new entry
     key-link : (link : Entry N → Option NodeKey) →
         link_in link (entry_in (get new key.slot)) ≡ link
         (record { generation = key.generation; parent = parent; first = None; last = None; prev = last; next = None; node = node })
     key-link link = ap (λ o. link_in link (entry_in o)) updates.changed
 
+    -- since the slot was vacant
     nothing-there : run key.slot ≡ []
     nothing-there = ap (λ o. run_from (next_in old.slots) most (link_in (λ (e : Entry N). e.first) (entry_in o))) was_vacant
         ∙ run_from-none (next_in old.slots) most
@@ -141,6 +154,7 @@ module _ {N : Type 0} (old mid new : Slab (Slot N)) (nexts nexts2 : List ℕ) (f
           | inr there ↦ there
         ]
 
+    -- since a node without a parent is the last child of none
     no-last : parent ≡ None → last ≡ None
     no-last none = is_last ∙ ap (last_under old.slots) none
 
@@ -159,6 +173,7 @@ module _ {N : Type 0} (old mid new : Slab (Slot N)) (nexts nexts2 : List ℕ) (f
             (last-in p y some is)) (member-there old.slots nexts first count limit sound i x child) at in
             off (is ∙ ap Some it)
 
+    -- since a child that was there is in another slot, whose links stay
     prev-kept : (i : ℕ) (x : NodeKey) → Contains (run i) x → prev_in new.slots x.slot ≡ prev_in old.slots x.slot
     prev-kept i x child = new-link (λ (e : Entry N). e.prev) x.slot (member-away i x child) ∙ linked.prevs x.slot
 
@@ -261,6 +276,7 @@ module _ {N : Type 0} (old mid new : Slab (Slot N)) (nexts nexts2 : List ℕ) (f
                   (sym (gains-away parent i away)) (each-away i differ away)
             ]
 
+    -- from the runs of all slots
     chained-born : (i : ℕ) → IsRun (next_in new.slots) (prev_in new.slots) None (first_in new.slots i)
         (run_in new.slots (given_count first nexts2) i) (last_in new.slots i)
     chained-born = chained_so new.slots (given_count first nexts2) (gains parent) each (gains-short parent)
@@ -277,6 +293,7 @@ module _ {N : Type 0} (old mid new : Slab (Slot N)) (nexts nexts2 : List ℕ) (f
           | inr apart ↦ rw (eq-false p.slot i apart) refl
         ]
 
+    -- the row has the children that it had, and the new one if it is its parent
     other-row : (i : ℕ) → i ≢ key.slot → slice_index_or (rows_of new.slots (given_count first nexts2)) i None ≡ option_map
         (at_slot parent (with_child key) i) (slice_index_or (rows_of old.slots most) i None)
     other-row i differ =
@@ -287,6 +304,7 @@ module _ {N : Type 0} (old mid new : Slab (Slot N)) (nexts nexts2 : List ℕ) (f
         ∙ (gained parent i (option_map core_of (entry_in (get old i)))
         ∙ ap (option_map (at_slot parent (with_child key) i)) (sym (row-is old.slots most i)))))
 
+    -- the row has no children, since its slot was vacant
     new-row : slice_index_or (rows_of new.slots (given_count first nexts2)) key.slot None ≡ Some
         (record { parent = parent; children = []; node = node })
     new-row =
@@ -295,9 +313,11 @@ module _ {N : Type 0} (old mid new : Slab (Slot N)) (nexts nexts2 : List ℕ) (f
         ∙ ap (λ (keys : List NodeKey). Some (record { parent = parent; children = keys; node = node }))
         (gains-away parent key.slot (parent-away parent in_table) ∙ nothing-there))
 
+    -- since its slot has the new entry
     born-taken : is_some (slice_index_or new.slots key.slot None) ≡ true
     born-taken = ap is_some updates.changed
 
+    -- since each other slot is taken if it was
     born-kinds : (i : ℕ) → i ≢ key.slot → is_some (slice_index_or new.slots i None) ≡ is_some (slice_index_or old.slots i None)
     born-kinds i differ = ap is_some (updates.others i differ) ∙ linked.same_rows.kinds i
 

@@ -1,11 +1,14 @@
 -- A child leaves its siblings: what the links of all slots are then.
-use Rattle.std.proofs.Common.{◌≡◌, ◌≢◌, ℕ, ◌≤◌, ◌==◌, Bool, true, false, List, length, Option, Some, None, IsSome, IfSome, Contains, cond, option_map, arith, refl, ap, sym, ◌∙◌, subst, inl, inr, if◌then◌else◌}
+use Rattle.std.proofs.Common.{◌≡◌, ◌≢◌, ℕ, ◌≤◌, ◌==◌, Bool, true, false, List, length, Option, Some, None, IsSome, IfSome}
+use Rattle.std.proofs.Common.{Contains, cond, option_map, arith, refl, ap, sym, ◌∙◌, subst, inl, inr, if◌then◌else◌}
 use Rattle.std.proofs.lemmas.Bool.{cases_eq}
 use Rattle.slab.specs.Slab.{Slab, get}
 use Rattle.sm_names.specs.declared.keys.NodeKey.{NodeKey}
 use Rattle.node_table.specs.Table.{Row, row_at, parent_at, children_at}
 use Rattle.node_table.specs.Changes.{without_child, without_parent}
-use Rattle.node_table.specs.Sound.{IsSound, IsRun, Edits, EditsRows, Joins, HasEntry, loosened, run_in, first_in, last_in, prev_in, next_in, parent_of, rows_of, table_of, entry_in, link_in, core_of, with_children, given_count, at_key, at_slot, unless}
+use Rattle.node_table.specs.Sound.{IsSound, IsRun, Edits, EditsRows, Joins, HasEntry, loosened, run_in}
+use Rattle.node_table.specs.Sound.{first_in, last_in, prev_in, next_in, parent_of, rows_of, table_of, entry_in}
+use Rattle.node_table.specs.Sound.{link_in, core_of, with_children, given_count, at_key, at_slot, unless}
 use Rattle.node_table.specs.declared.slot.Entry.{Entry}
 use Rattle.node_table.specs.declared.slot.Slot.{Slot}
 use Rattle.node_table.proofs.Keys.{eq-true, eq-false}

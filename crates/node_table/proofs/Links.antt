@@ -1,10 +1,12 @@
 -- What each change does to the links of all nodes.
-use Rattle.std.proofs.Common.{◌≡◌, ◌≢◌, ◌⊎◌, ℕ, suc, ◌<◌, List, [], ◌∷◌, ◌++◌, Option, Some, None, Contains, arith, refl, sym, ap, ◌∙◌, subst, inl, inr}
+use Rattle.std.proofs.Common.{◌≡◌, ◌≢◌, ◌⊎◌, ℕ, suc, ◌<◌, List, [], ◌∷◌, ◌++◌, Option, Some}
+use Rattle.std.proofs.Common.{None, Contains, arith, refl, sym, ap, ◌∙◌, subst, inl, inr}
 use Rattle.sm_names.specs.declared.keys.NodeKey.{NodeKey}
 use Rattle.node_table.specs.Sound.{IsLinked}
 use Rattle.node_table.proofs.Keys.{key_cases}
 use Rattle.node_table.proofs.Parents.{parent_cases}
-use Rattle.node_table.proofs.Lists.{AllDiffer, without, AllDiffer-push, AllDiffer-without, Contains-last, Contains-before_last, Contains-but_last, Contains-without, without_lacks, without_keeps, without_stranger}
+use Rattle.node_table.proofs.Lists.{AllDiffer, without, AllDiffer-push, AllDiffer-without, Contains-last, Contains-before_last}
+use Rattle.node_table.proofs.Lists.{Contains-but_last, Contains-without, without_lacks, without_keeps, without_stranger}
 
 module _ (up : NodeKey → Option NodeKey) (down : NodeKey → List NodeKey) (up2 : NodeKey → Option NodeKey) (down2 : NodeKey →
     List NodeKey) (old : IsLinked up down) where

@@ -1,5 +1,6 @@
 -- The children of a key, met one after the other.
-use Rattle.std.proofs.Common.{◌≡◌, ◌≢◌, ◌+◌, ◌<◌, List, [], ◌∷◌, ◌++◌, length, Option, Some, None, Contains, cond, arith, refl, sym, ap, ◌∙◌, subst}
+use Rattle.std.proofs.Common.{◌≡◌, ◌≢◌, ◌+◌, ◌<◌, List, [], ◌∷◌, ◌++◌, length, Option}
+use Rattle.std.proofs.Common.{Some, None, Contains, cond, arith, refl, sym, ap, ◌∙◌, subst}
 use Rattle.std.specs.Option.{option_map_or}
 use Rattle.std.proofs.lemmas.List.{append_assoc, append-nil, length-append}
 use Rattle.std.proofs.Math.Seq.{append_snoc}
@@ -78,6 +79,7 @@ pub appends-within : (children old now : List NodeKey) (at : Option NodeKey) (ch
     at ≡ Some child → length now < length old + length children
 appends-within children old now at child so is = by_rest so.rest so.all so.next_is
   where
+    -- by cases on the children that are still to come: there is one, so not all have come
     by_rest : (rest : List NodeKey) → children ≡ so.done ++ rest → at ≡ first_key rest → length now < length old + length children
     by_rest [] all first = absurd (cc)
     by_rest (k ∷ rest) all first =

@@ -1,5 +1,6 @@
 -- Lists of keys in which none stands twice: one more at the end, and one less.
-use Rattle.std.proofs.Common.{◌≡◌, ◌≢◌, ◌⊎◌, ℕ, zero, suc, ◌<◌, not, List, [], ◌∷◌, ◌++◌, length, filter, Contains, AllPairs, slice_index_or, arith, refl, sym, ap, ◌∙◌, subst, inl, inr}
+use Rattle.std.proofs.Common.{◌≡◌, ◌≢◌, ◌⊎◌, ℕ, zero, suc, ◌<◌, not, List, [], ◌∷◌, ◌++◌, length, filter}
+use Rattle.std.proofs.Common.{Contains, AllPairs, slice_index_or, arith, refl, sym, ap, ◌∙◌, subst, inl, inr}
 use Rattle.std.proofs.lemmas.List.{get_or_default}
 use Rattle.std.proofs.lemmas.List.Elements.{Contains-append_left, Contains-append_right, Contains-append_cases}
 use Rattle.std.proofs.lemmas.List.Kept.{AllPairs-filter}
@@ -31,6 +32,7 @@ Contains-tail head key rest there = (suc there.0, omega (arith, there.1), there.
 pub Contains-cons_cases : (head key : NodeKey) (rest : List NodeKey) → Contains (head ∷ rest) key → (head ≡ key) ⊎ Contains rest key
 Contains-cons_cases head key rest there = by_index there.0 there.1 there.2
   where
+    -- by cases on the place: it is the first or further on
     by_index : (at : ℕ) → at < suc (length rest) → slice_index_or (head ∷ rest) at key ≡ key → (head ≡ key) ⊎ Contains rest key
     by_index zero within found = inl found
     by_index (suc at) within found = inr (at, omega arith, found)

@@ -1,5 +1,6 @@
 -- What a change of the parent's row does to the row of each key.
-use Rattle.std.proofs.Common.{◌≡◌, ◌≢◌, ◌⊎◌, Bool, true, false, ◌∷◌, ◌++◌, [], Option, Some, None, IsSome, option_map, if◌then◌else◌, refl, ap, inl, inr}
+use Rattle.std.proofs.Common.{◌≡◌, ◌≢◌, ◌⊎◌, Bool, true, false, ◌∷◌, ◌++◌, [], Option, Some}
+use Rattle.std.proofs.Common.{None, IsSome, option_map, if◌then◌else◌, refl, ap, inl, inr}
 use Rattle.sm_names.specs.declared.keys.NodeKey.{NodeKey}
 use Rattle.sm_names.specs.Sameness.{same_key}
 use Rattle.node_table.specs.Table.{Row, parent_in, children_in}

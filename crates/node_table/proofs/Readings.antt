@@ -1,5 +1,6 @@
 -- What reads of a sound table answer.
-use Rattle.std.proofs.Common.{◌≡◌, ◌≢◌, ℕ, ◌+◌, ◌<◌, ◌≤◌, ◌==◌, ◌^◌, ◌&&◌, nat_le, nat_lt, Bool, true, false, List, [], Option, Some, None, IsSome, Contains, AllPairs, slice_index_or, arith, refl, sym, ap, subst}
+use Rattle.std.proofs.Common.{◌≡◌, ◌≢◌, ℕ, ◌+◌, ◌<◌, ◌≤◌, ◌==◌, ◌^◌, ◌&&◌, nat_le, nat_lt, Bool, true, false, List, []}
+use Rattle.std.proofs.Common.{Option, Some, None, IsSome, Contains, AllPairs, slice_index_or, arith, refl, sym, ap, subst}
 use Rattle.std.proofs.lemmas.Bool.Decides.{nat_tests}
 use Rattle.sm_names.specs.declared.keys.NodeKey.{NodeKey}
 use Rattle.node_table.specs.Table.{Table, empty_table, row_at, was_given, parent_at, parent_in, children_at, children_in}

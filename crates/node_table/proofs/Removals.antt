@@ -1,11 +1,13 @@
 -- What the removal of a node without links does to a table.
-use Rattle.std.proofs.Common.{◌≡◌, ◌≢◌, ◌⊎◌, ℕ, ◌+◌, ◌-◌, ◌<◌, ◌≤◌, Contains, length, ◌^◌, ◌==◌, true, List, [], Option, Some, None, is_some, IsSome, cond, count_by, option_map, arith, refl, ap, sym, ◌∙◌, slice_index_or, inl, inr, subst}
+use Rattle.std.proofs.Common.{◌≡◌, ◌≢◌, ◌⊎◌, ℕ, ◌+◌, ◌-◌, ◌<◌, ◌≤◌, Contains, length, ◌^◌, ◌==◌, true, List, [], Option, Some, None}
+use Rattle.std.proofs.Common.{is_some, IsSome, cond, count_by, option_map, arith, refl, ap, sym, ◌∙◌, slice_index_or, inl, inr, subst}
 use Rattle.std.proofs.lemmas.Bool.{cases_eq}
 use Rattle.slab.specs.Slab.{Slab, get}
 use Rattle.sm_names.specs.declared.keys.NodeKey.{NodeKey}
 use Rattle.node_table.specs.Table.{Row, Table, row_at, node_at, parent_at, parent_in, children_at, children_in, next_at}
 use Rattle.node_table.specs.Changes.{Cuts, Removes, without_parent}
-use Rattle.node_table.specs.Sound.{row_in, row_of, rows_of, core_of, with_children, entry_in, stamp_in, link_in, run_in, first_in, last_in, prev_in, next_in, given_count, IsRun, table_in, IsSound}
+use Rattle.node_table.specs.Sound.{row_in, row_of, rows_of, core_of, with_children, entry_in, stamp_in, link_in}
+use Rattle.node_table.specs.Sound.{run_in, first_in, last_in, prev_in, next_in, given_count, IsRun, table_in, IsSound}
 use Rattle.node_table.specs.declared.slot.Entry.{Entry}
 use Rattle.node_table.specs.declared.slot.Slot.{Slot}
 use Rattle.node_table.specs.declared.slot.Slot.TheVariants.{Taken}
@@ -39,9 +41,11 @@ module _ {N : Type 0} (whole : Table N) (old new : Slab (Slot N)) (nexts : List 
     abbrev before : Table N
     before = table_in old nexts first limit
 
+    -- the table after the removal
     abbrev after : Table N
     after = table_in new nexts first limit
 
+    -- since the key had a row
     had-next : slice_index_or nexts key.slot first ≡ key.generation + 1
     had-next = next-there before key (ap is_some cut.loose ∙ is_some-option_map without_parent (row_at whole key) ∙ there)
 
@@ -53,6 +57,7 @@ module _ {N : Type 0} (whole : Table N) (old new : Slab (Slot N)) (nexts : List 
     no-parent : parent_at before key ≡ None
     no-parent = ap parent_in cut.loose ∙ parent-without (row_at whole key)
 
+    -- since the key had a row, and cutting keeps it
     there-now : IsSome (row_at before key)
     there-now = ap is_some cut.loose ∙ (is_some-option_map without_parent (row_at whole key) ∙ there)
 
@@ -76,9 +81,11 @@ module _ {N : Type 0} (whole : Table N) (old new : Slab (Slot N)) (nexts : List 
     left i (inl at) = []
     left i (inr differ) = run_in old.slots most i
 
+    -- the children in a slot after the removal
     abbrev lists : ℕ → List NodeKey
     lists i = left i (cases_eq i key.slot)
 
+    -- by cases: the slot that became vacant has no children, and each other keeps its run
     each-by : (i : ℕ) (c : (i ≡ key.slot) ⊎ (i ≢ key.slot)) →
         IsRun (next_in new.slots) (prev_in new.slots) None (first_in new.slots i) (left i c) (last_in new.slots i)
     each-by i (inl at) = (
@@ -96,20 +103,25 @@ module _ {N : Type 0} (whole : Table N) (old new : Slab (Slot N)) (nexts : List 
         (λ x child. link-kept (λ (e : Entry N). e.prev) x.slot (away i x child))
         (sound.chained i)))
 
+    -- by cases: a vacant slot has none, and each other has no more than before
     short-by : (i : ℕ) (c : (i ≡ key.slot) ⊎ (i ≢ key.slot)) → length (left i c) ≤ most
     short-by i (inl at) = omega arith
     short-by i (inr differ) = runs_short old.slots nexts first count limit sound i
 
+    -- by cases: any other slot keeps its children
     lists-other : (i : ℕ) (c : (i ≡ key.slot) ⊎ (i ≢ key.slot)) → i ≢ key.slot → left i c ≡ run_in old.slots most i
     lists-other i (inl at) differ = absurd (differ at)
     lists-other i (inr apart) differ = refl
 
+    -- since its slot had the entry that was taken out
     old-row : slice_index_or (rows_of old.slots most) key.slot None ≡ Some (row_of (next_in old.slots) most e)
     old-row = row-at old.slots most key.slot ∙ ap (row_in (next_in old.slots) most) was
 
+    -- since its slot is vacant
     new-row : slice_index_or (rows_of new.slots most) key.slot None ≡ None
     new-row = row-at new.slots most key.slot ∙ ap (option_map (row_of (next_in new.slots) most)) empty
 
+    -- the slot has the same core and the same children
     other-row : (i : ℕ) → i ≢ key.slot → slice_index_or (rows_of new.slots most) i None ≡ slice_index_or (rows_of old.slots most) i None
     other-row i differ =
         rows_are new.slots most lists (λ j. each-by j (cases_eq j key.slot)) (λ j. short-by j (cases_eq j key.slot)) i
@@ -119,16 +131,20 @@ module _ {N : Type 0} (whole : Table N) (old new : Slab (Slot N)) (nexts : List 
         (same i differ)
         ∙ sym (row-is old.slots most i)))
 
+    -- since one row went and the others are as they were
     shorter : count_by is_some (rows_of old.slots most) ≡ count_by is_some (rows_of new.slots most) + 1
     shorter = count-gain key.slot (rows_of new.slots most) (rows_of old.slots most) (ap is_some new-row) (ap is_some old-row) (λ i differ.
         ap is_some (sym (other-row i differ)))
 
+    -- since a slot whose last generation was given is retired, not vacant
     not-retired : get new key.slot ≡ None → key.generation ≡ 4294967295 → ⊥
     not-retired none last = let held : is_some (get new key.slot) ≡ true = retired last in absurd (cc (held, none))
 
+    -- since no row stands in its slot
     gone : row_at after key ≡ None
     gone = none-then (next_at after key.slot == key.generation + 1) (slice_index_or (rows_of new.slots most) key.slot None) new-row
 
+    -- another key of the slot has another generation, which has no row; each other slot keeps its row
     others : (k : NodeKey) → k ≢ key → row_at after k ≡ row_at before k
     others k differ =
         elim (cases_eq k.slot key.slot) [
@@ -148,6 +164,7 @@ module _ {N : Type 0} (whole : Table N) (old new : Slab (Slot N)) (nexts : List 
           | inr differ ↦ ap parent_in (others k differ)
         ]
 
+    -- the key had no children, and the others keep their rows
     downs : (k : NodeKey) → children_at after k ≡ children_at before k
     downs k =
         elim (key_cases k key) [
@@ -156,6 +173,7 @@ module _ {N : Type 0} (whole : Table N) (old new : Slab (Slot N)) (nexts : List 
           | inr differ ↦ ap children_in (others k differ)
         ]
 
+    -- each part stays: one row less is counted, and the others are as they were
     pub sound-removed : IsSound new.slots nexts first (count - 1) limit
     sound-removed =
         record {
@@ -184,6 +202,7 @@ module _ {N : Type 0} (whole : Table N) (old new : Slab (Slot N)) (nexts : List 
           chained = chained_so new.slots most lists (λ j. each-by j (cases_eq j key.slot)) (λ j. short-by j (cases_eq j key.slot));
         }
 
+    -- each part, from the facts above and from those of the cut
     pub removes : Removes whole after key e.node
     removes =
         record {

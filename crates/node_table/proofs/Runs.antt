@@ -1,10 +1,12 @@
 -- Runs of keys, each linked to the one before and the one after.
-use Rattle.std.proofs.Common.{◌≡◌, ◌≢◌, ◌⊎◌, ℕ, zero, suc, ◌≤◌, List, [], ◌∷◌, ◌++◌, length, Option, Some, None, Contains, cond, arith, refl, sym, ap, ◌∙◌, subst, inl, inr}
+use Rattle.std.proofs.Common.{◌≡◌, ◌≢◌, ◌⊎◌, ℕ, zero, suc, ◌≤◌, List, [], ◌∷◌, ◌++◌, length, Option}
+use Rattle.std.proofs.Common.{Some, None, Contains, cond, arith, refl, sym, ap, ◌∙◌, subst, inl, inr}
 use Rattle.sm_names.specs.declared.keys.NodeKey.{NodeKey}
 use Rattle.node_table.specs.Sound.{run_from, IsRun}
 use Rattle.node_table.specs.Forest.{first_key, next_key}
 use Rattle.node_table.proofs.Keys.{key_cases, same_key-equal, same_key-apart, some-one, none-some}
-use Rattle.node_table.proofs.Lists.{AllDiffer, AllDiffer-tail, without, without-same, without-other, without_stranger, Contains-none, Contains-head, Contains-tail, Contains-cons_cases, head_differs}
+use Rattle.node_table.proofs.Lists.{AllDiffer, AllDiffer-tail, without, without-same, without-other, without_stranger}
+use Rattle.node_table.proofs.Lists.{Contains-none, Contains-head, Contains-tail, Contains-cons_cases, head_differs}
 
 -- nothing runs from no key
 pub run_from-none : (next : ℕ → Option NodeKey) (most : ℕ) → run_from next most None ≡ []
@@ -118,7 +120,8 @@ module _ (next prev : ℕ → Option NodeKey) where
     where
       ends : (rest : List NodeKey) → head ≡ key → IsRun next prev (Some head) (next head.slot) rest last → last ≡ Some key
       ends [] same run2 = run2.1 ∙ ap Some same
-      ends (k ∷ ks) same run2 = let goes : next key.slot ≡ Some k = ap (λ (j : NodeKey). next j.slot) (sym same) ∙ run2.0 in absurd (none-some k (sym none ∙ goes))
+      ends (k ∷ ks) same run2 = let goes : next key.slot ≡ Some k = ap (λ (j : NodeKey). next j.slot) (sym same)
+          ∙ run2.0 in absurd (none-some k (sym none ∙ goes))
 
   -- nothing is after the last
   pub run-last_ends : (before first : Option NodeKey) (keys : List NodeKey) (last : Option NodeKey) (key : NodeKey) →
@@ -162,7 +165,8 @@ module _ (next prev : ℕ → Option NodeKey) where
     where
       after : (rest : List NodeKey) → head ≡ key → IsRun next prev (Some head) (next head.slot) rest last → Contains (head ∷ rest) other ×
           (prev other.slot ≡ Some key)
-      after [] same run2 = let none : next key.slot ≡ None = ap (λ (k : NodeKey). next k.slot) (sym same) ∙ run2.0 in absurd (none-some other (sym none ∙ is))
+      after [] same run2 = let none : next key.slot ≡ None = ap (λ (k : NodeKey). next k.slot) (sym same)
+          ∙ run2.0 in absurd (none-some other (sym none ∙ is))
       after (k ∷ ks) same run2 =
           let it : k ≡ other = some-one k other (sym run2.0 ∙ (ap (λ (j : NodeKey). next j.slot) same ∙ is)) in (
             Contains-tail head other (k ∷ ks) (subst (λ j. Contains (k ∷ ks) j) it (Contains-head k ks)),

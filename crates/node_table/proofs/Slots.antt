@@ -1,11 +1,14 @@
 -- What a change of the slots does to the table that they make.
-use Rattle.std.proofs.Common.{◌≡◌, ◌≢◌, ℕ, zero, suc, ◌+◌, ◌==◌, Bool, true, false, List, [], ◌∷◌, map, Option, Some, None, is_some, IsSome, IfSome, cond, count_by, option_map, arith, refl, ap, sym, ◌∙◌, slice_index_or, slice_set, inl, inr, subst, if◌then◌else◌}
+use Rattle.std.proofs.Common.{◌≡◌, ◌≢◌, ℕ, zero, suc, ◌+◌, ◌==◌, Bool, true, false, List, [], ◌∷◌, map}
+use Rattle.std.proofs.Common.{Option, Some, None, is_some, IsSome, IfSome, cond, count_by, option_map, arith}
+use Rattle.std.proofs.Common.{refl, ap, sym, ◌∙◌, slice_index_or, slice_set, inl, inr, subst, if◌then◌else◌}
 use Rattle.std.proofs.Math.ListN.{get_or-map}
 use Rattle.std.proofs.lemmas.Bool.{cases_eq, eqb-true}
 use Rattle.sm_names.specs.declared.keys.NodeKey.{NodeKey}
 use Rattle.node_table.specs.Table.{Row, Table, row_at, next_at}
 use Rattle.node_table.specs.Changes.{at_parent}
-use Rattle.node_table.specs.Sound.{row_in, rows_of, row_of, core_of, with_children, run_from, next_in, link_in, given_count, entry_in, table_of, EditsRows, at_slot}
+use Rattle.node_table.specs.Sound.{row_in, rows_of, row_of, core_of, with_children, run_from, next_in}
+use Rattle.node_table.specs.Sound.{link_in, given_count, entry_in, table_of, EditsRows, at_slot}
 use Rattle.node_table.specs.declared.slot.Entry.{Entry}
 use Rattle.node_table.specs.declared.slot.Slot.{Slot}
 use Rattle.node_table.specs.declared.slot.Slot.TheVariants.{Retired, Taken}

@@ -4,7 +4,8 @@ use Rattle.std.proofs.lemmas.Bool.{cases_eq}
 use Rattle.slab.specs.Slab.{Slab, get}
 use Rattle.sm_names.specs.declared.keys.NodeKey.{NodeKey}
 use Rattle.node_table.specs.Table.{Row}
-use Rattle.node_table.specs.Sound.{Edits, Relinks, LinksLast, Joins, HasEntry, entry_in, stamp_in, link_in, core_of, with_first, with_last, with_prev, with_next, with_adopted, childless}
+use Rattle.node_table.specs.Sound.{Edits, Relinks, LinksLast, Joins, HasEntry, entry_in, stamp_in, link_in}
+use Rattle.node_table.specs.Sound.{core_of, with_first, with_last, with_prev, with_next, with_adopted, childless}
 use Rattle.node_table.specs.declared.slot.Entry.{Entry}
 use Rattle.node_table.specs.declared.slot.Slot.{Slot}
 use Rattle.node_table.specs.declared.slot.Slot.TheVariants.{Taken}

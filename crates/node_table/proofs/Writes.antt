@@ -1,12 +1,14 @@
 -- What a change that keeps all links does to a table, as a write of one node.
-use Rattle.std.proofs.Common.{◌≡◌, ◌≢◌, ℕ, ◌+◌, ◌==◌, Bool, true, false, List, map, Option, Some, None, is_some, IsSome, cond, option_map, arith, refl, ap, sym, ◌∙◌, slice_index_or, slice_set, inl, inr, subst}
+use Rattle.std.proofs.Common.{◌≡◌, ◌≢◌, ℕ, ◌+◌, ◌==◌, Bool, true, false, List, map, Option, Some, None, is_some, IsSome}
+use Rattle.std.proofs.Common.{cond, option_map, arith, refl, ap, sym, ◌∙◌, slice_index_or, slice_set, inl, inr, subst}
 use Rattle.std.proofs.lemmas.Bool.{cases_eq}
 use Rattle.slab.specs.Slab.{Slab, get, with_value}
 use Rattle.sm_names.specs.declared.keys.NodeKey.{NodeKey}
 use Rattle.node_table.specs.Table.{Row, Table, row_at, node_at, parent_in, children_in, next_at}
 use Rattle.node_table.specs.Changes.{Writes, at_parent, with_node}
 use Rattle.node_table.specs.Lending.{table_with_node}
-use Rattle.node_table.specs.Sound.{row_in, rows_of, run_in, first_in, last_in, prev_in, next_in, link_in, stamp_in, given_count, IsRun, table_of, table_in, IsSound, EditsRows, Edits, at_slot}
+use Rattle.node_table.specs.Sound.{row_in, rows_of, run_in, first_in, last_in, prev_in, next_in, link_in, stamp_in}
+use Rattle.node_table.specs.Sound.{given_count, IsRun, table_of, table_in, IsSound, EditsRows, Edits, at_slot}
 use Rattle.node_table.specs.declared.slot.Entry.{Entry}
 use Rattle.node_table.specs.declared.slot.Slot.{Slot}
 use Rattle.node_table.specs.declared.slot.Slot.TheVariants.{Taken}
@@ -15,7 +17,8 @@ use Rattle.node_table.proofs.Keys.{eq-true, eq-false, same-fields}
 use Rattle.node_table.proofs.Parents.{map-up, map-down}
 use Rattle.node_table.proofs.Links.{IsLinked-same}
 use Rattle.node_table.proofs.Depths.{next-there, slot-there}
-use Rattle.node_table.proofs.Slots.{row-at, is_some-option_map, edit-one, map-write, write-same, write-other, edited-key, edited-count, vacant-before}
+use Rattle.node_table.proofs.Slots.{row-at, is_some-option_map, edit-one, map-write, write-same}
+use Rattle.node_table.proofs.Slots.{write-other, edited-key, edited-count, vacant-before}
 use Rattle.node_table.proofs.Steps.{part-kept, kinds}
 use Rattle.node_table.proofs.Runs.{run-frame}
 use Rattle.node_table.proofs.Chains.{chained_so, runs_short}
@@ -70,7 +73,8 @@ module _ {N : Type 0} (slots : Slab (Slot N)) (nexts : List ℕ) (first count li
 
     -- the written slots show the old table with the node in the key's row
     pub table-written : table_in written nexts first limit ≡ table_with_node (table_in slots nexts first limit) key node
-    table-written = ap (λ (rows : List (Option (Row N))). record { rows = rows; nexts = nexts; first = first; limit = limit; vacant = slots.vacant_key }) rows-written
+    table-written = ap (λ (rows : List (Option (Row N))).
+        record { rows = rows; nexts = nexts; first = first; limit = limit; vacant = slots.vacant_key }) rows-written
 
     -- the write edits the key's row alone
     edits-rows : EditsRows (rows_of slots.slots most) (rows_of written.slots most) (Some key) (with_node node)

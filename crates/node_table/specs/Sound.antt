@@ -74,12 +74,15 @@ module _ {N : Type 0} where
   abbrev pub first_in : List (Option (Slot N)) → ℕ → Option NodeKey
   first_in slots i = link_in (λ (e : Entry N). e.first) (entry_in (slice_index_or slots i None))
 
+  -- the last child of the node in a slot, if it has one
   abbrev pub last_in : List (Option (Slot N)) → ℕ → Option NodeKey
   last_in slots i = link_in (λ (e : Entry N). e.last) (entry_in (slice_index_or slots i None))
 
+  -- the child of its parent before the node in a slot, if there is one
   abbrev pub prev_in : List (Option (Slot N)) → ℕ → Option NodeKey
   prev_in slots i = link_in (λ (e : Entry N). e.prev) (entry_in (slice_index_or slots i None))
 
+  -- the child of its parent after the node in a slot, if there is one
   abbrev pub next_in : List (Option (Slot N)) → ℕ → Option NodeKey
   next_in slots i = link_in (λ (e : Entry N). e.next) (entry_in (slice_index_or slots i None))
 
@@ -162,12 +165,15 @@ module _ {N : Type 0} where
   abbrev pub with_first : Option NodeKey → Entry N → Entry N
   with_first link e = record e { first = link }
 
+  -- the entry with this last child
   abbrev pub with_last : Option NodeKey → Entry N → Entry N
   with_last link e = record e { last = link }
 
+  -- the entry with this child before it
   abbrev pub with_prev : Option NodeKey → Entry N → Entry N
   with_prev link e = record e { prev = link }
 
+  -- the entry with this child after it
   abbrev pub with_next : Option NodeKey → Entry N → Entry N
   with_next link e = record e { next = link }
 

@@ -12,19 +12,17 @@ use Rattle.forest_store.specs.declared.node.Node.{Node}
 use Rattle.forest_store.specs.Nodes.{node_of}
 use Rattle.core_state.specs.Reads.{views_of}
 use Rattle.core_state.specs.State.{Client, State}
-use Rattle.event_facts.specs.Facts.{holders_in}
-use Rattle.script_lines.specs.Labels.{label_text}
-use Rattle.script_labels.specs.Names.{Names, label_of_node, label_of_tracker}
-use Rattle.script_labels.specs.Texts.{node_text}
-use Rattle.script_tales.specs.FactTexts.{buffer_name, holders_text, concat}
-use Rattle.script_pictures.specs.declared.features.Class.{Class}
-use Rattle.script_pictures.specs.declared.picture.Tree.{Tree}
-use Rattle.script_pictures.specs.declared.travel.Travel.{Travel}
-use Rattle.script_pictures.specs.declared.travel.Way.{Way}
-use Rattle.script_pictures.specs.BoxLines.{asked_words, header_text, kind_words, state_words}
-use Rattle.script_pictures.specs.Colors.{edge_text, fill_text, ink_text}
-use Rattle.script_pictures.specs.Features.{class_of, gap_behind, pages_text, place_text}
-use Rattle.script_pictures.specs.Travels.{is_child_of, way_in}
+use Rattle.script_labels.specs.Names.{Names}
+use Rattle.event_texts.specs.FactTexts.{buffer_name, concat}
+use Rattle.picture_model.specs.declared.features.Class.{Class}
+use Rattle.picture_model.specs.declared.features.Link.{Link}
+use Rattle.picture_model.specs.declared.picture.Tree.{Tree}
+use Rattle.picture_model.specs.declared.failure_view.Travel.{Travel}
+use Rattle.picture_model.specs.declared.failure_view.Way.{Way}
+use Rattle.picture_model.specs.BoxLines.{asked_words, fired_words, header_text, kind_words, node_words, state_words}
+use Rattle.picture_model.specs.Colors.{edge_text, fill_text, ink_text}
+use Rattle.picture_model.specs.Features.{class_of, free_words, keepers_words, link_of, pages_text, place_text, sign_text}
+use Rattle.picture_model.specs.Travels.{is_child_of, way_in}
 
 -- ---- the begin of the graph
 
@@ -33,9 +31,11 @@ unfoldable pub graph_words : List ℕ
 graph_words =
     codes "\\n \", labelloc=t, labeljust=l, fontsize=18, fontname=\"DejaVu Sans Mono\", nodesep=0.3, ranksep=0.55];\n"
 
+-- what is set for all boxes
 unfoldable pub box_words : List ℕ
 box_words = codes "  node [shape=box, fontname=\"DejaVu Sans Mono\", fontsize=11, margin=\"0.14,0.08\"];\n"
 
+-- what is set for all links
 unfoldable pub link_words : List ℕ
 link_words = codes "  edge [fontname=\"DejaVu Sans Mono\", fontsize=11, color=\"#808080\"];\n"
 
@@ -79,10 +79,10 @@ abbrev pub asked_line : Option Demand → List ℕ
 asked_line None = []
 asked_line (Some asked) = concat (codes "<br/>" ∷ asked_words asked ∷ [])
 
--- the begin of a box, with the label of its node
+-- the begin of a box, with the sign and the label of its node
 unfoldable pub box_head : Names → Node → List ℕ
 box_head names n = concat
-    (codes "    n" ∷ decimal n.event ∷ codes " [label=<<b>" ∷ label_text (label_of_node names n.key) ∷ codes "</b>" ∷ [])
+    (codes "    n" ∷ decimal n.event ∷ codes " [label=<<b>" ∷ node_words names n ∷ codes "</b>" ∷ [])
 
 -- the lines of a box
 unfoldable pub box_lines : Names → Node → List ℕ
@@ -116,23 +116,18 @@ cells_text names begin held = concat (
     ∷ []
     )
 
--- the live nodes that keep a buffer
-abbrev pub dot_live_words : Names → List NodeKey → List ℕ
-dot_live_words names nodes = if length nodes == 0 then [] else concat (codes "live:" ∷ flat_map (node_text names) nodes ∷ [])
-
 -- the row of a buffer with pages
 unfoldable pub held_row : State → Names → List ℕ → List NodeKey → HeldBuffer → List ℕ
 held_row s names clients strong held = concat (
     cells_text names (codes "<td bgcolor=\"#FAF2CC\">") held
-    ∷ dot_live_words names strong
-    ∷ holders_text names (gap_behind strong) (holders_in s.holds clients held.buffer)
+    ∷ keepers_words s names clients strong held.buffer
     ∷ codes "</td></tr>"
     ∷ []
     )
 
 -- the row of a buffer that gave its pages back at the event
 unfoldable pub freed_row : Names → HeldBuffer → List ℕ
-freed_row names held = concat (cells_text names (codes "<td>") held ∷ codes "free again</td></tr>" ∷ [])
+freed_row names held = concat (cells_text names (codes "<td>") held ∷ codes "home</td></tr>" ∷ [])
 
 -- what is set for the table, and its first row
 unfoldable pub table_words : List ℕ
@@ -173,16 +168,9 @@ cluster_text s names clients tree = concat (
 
 -- ---- the end of the graph
 
--- when a tracker fired
-abbrev pub when_text : ℕ → ℕ → List ℕ
-when_text event fired =
-    let before = concat (codes " fired at event " ∷ decimal fired ∷ []) in
-    if fired == event then codes " fired now" else before
-
--- that a tracker fired, now or before
-unfoldable pub firing_text : Names → ℕ → Fired → List ℕ
-firing_text names event firing = concat
-    (codes "\\ntracker " ∷ label_text (label_of_tracker names firing.tracker) ∷ when_text event firing.event ∷ [])
+-- the line of a tracker that fired
+unfoldable pub firing_text : Names → Fired → List ℕ
+firing_text names firing = concat (codes "\\n" ∷ fired_words names firing ∷ [])
 
 -- that the foot stands below the table of the tree, if it has one
 unfoldable pub rank_text : Tree → List ℕ
@@ -192,20 +180,13 @@ rank_text tree =
 
 -- how many pages are free
 unfoldable pub pool_words : State → List ℕ
-pool_words s = concat (
-    codes "  foot [shape=plaintext, label=\"pool: "
-    ∷ decimal (views_of s).free
-    ∷ codes " of "
-    ∷ decimal s.pool
-    ∷ codes " pages free"
-    ∷ []
-    )
+pool_words s = concat (codes "  foot [shape=plaintext, label=\"pool " ∷ free_words (views_of s).free s.pool ∷ [])
 
 -- the pool, the firings, and the end of the graph
 unfoldable pub graph_foot : State → Names → List Tree → List ℕ
 graph_foot s names trees = concat (
     pool_words s
-    ∷ flat_map (firing_text names s.events) s.trackers.fired
+    ∷ flat_map (firing_text names) s.trackers.fired
     ∷ codes "\"];\n"
     ∷ flat_map rank_text trees
     ∷ codes "}\n"
@@ -243,18 +224,20 @@ dot_way_text (Some (Way.Down step)) = arrow_text (codes "dir=forward") (codes "2
 dot_way_text (Some Way.Stop) = stop_words
 
 -- what stands before that
-abbrev pub link_begin : Node → List ℕ
-link_begin n = if n.attached then codes " [style=dashed, " else codes " ["
+abbrev pub link_begin : Link → List ℕ
+link_begin Link.Normal = codes " ["
+link_begin Link.Attached = codes " [style=dashed, "
+link_begin Link.Dispensable = codes " [style=dotted, "
 
 -- the link from a parent that was born at this event
 abbrev pub link_text : ℕ → Node → Option Way → List ℕ
 link_text above n way = concat (
-    codes "  n" ∷ decimal above ∷ codes " -> n" ∷ decimal n.event ∷ link_begin n ∷ dot_way_text way ∷ codes "];\n" ∷ []
+    codes "  n" ∷ decimal above ∷ codes " -> n" ∷ decimal n.event ∷ link_begin (link_of n) ∷ dot_way_text way ∷ codes "];\n" ∷ []
     )
 
 -- the link of the node to its parent, if it has one
-abbrev pub link_of : List Node → List Travel → Node → List ℕ
-link_of nodes travels n =
+abbrev pub link_to : List Node → List Travel → Node → List ℕ
+link_to nodes travels n =
     option_map_or (λ (above : Node). link_text above.event n (way_in travels n.key)) (parent_among nodes n) []
 
 -- whether the node has no child among these
@@ -281,7 +264,64 @@ table_link_of tree =
 
 -- the links of a tree, and one that keeps its table below it
 unfoldable pub links_text : List Travel → Tree → List ℕ
-links_text travels tree = concat (flat_map (link_of tree.nodes.items travels) tree.nodes.items ∷ table_link_of tree ∷ [])
+links_text travels tree = concat (flat_map (link_to tree.nodes.items travels) tree.nodes.items ∷ table_link_of tree ∷ [])
+
+-- ---- what the signs stand for
+
+-- the begin of the legend, the row of how links look, and the end, which puts the legend below the foot
+unfoldable pub legend_begin : List ℕ
+legend_begin =
+    codes "  subgraph cluster_signs {\n    color=\"#BBBBBB\"; label=\"signs\"; fontsize=11;\n    signs [shape=plain, label=<<table border=\"0\" cellborder=\"0\" cellspacing=\"6\"><tr>"
+
+-- the row of the legend that shows how links look
+unfoldable pub link_signs : List ℕ
+link_signs =
+    codes "<td border=\"3\" color=\"#222222\">thick: gone now</td></tr><tr><td>line: child</td><td>dashes: attached</td><td>dots: dispensable</td><td>thick red: failure up</td><td>red: failure down</td><td>bar: stops</td>"
+
+-- the end of the legend, which puts it below the foot
+unfoldable pub legend_end : List ℕ
+legend_end = codes "</tr></table>>];\n  }\n  foot -> signs [style=invis];\n"
+
+-- how the border of a cell looks
+abbrev pub cell_style : Class → List ℕ
+cell_style Class.Live = codes "solid"
+cell_style Class.Orphan = codes "dashed"
+cell_style Class.Origin = codes "solid"
+cell_style Class.Taken = codes "solid"
+cell_style Class.Ended = codes "dotted"
+
+-- a cell that looks like a box of this class, with its sign and this word
+unfoldable pub sign_cell : Class → List ℕ → List ℕ
+sign_cell class word = concat (
+    codes "<td border=\"2\" style=\""
+    ∷ cell_style class
+    ∷ codes "\" bgcolor=\""
+    ∷ fill_text class
+    ∷ codes "\" color=\""
+    ∷ edge_text class
+    ∷ codes "\"><font color=\""
+    ∷ ink_text class
+    ∷ codes "\">"
+    ∷ sign_text class
+    ∷ word
+    ∷ codes "</font></td>"
+    ∷ []
+    )
+
+-- a cell for each thing that a node is drawn as
+unfoldable pub box_signs : List ℕ
+box_signs = concat (
+    sign_cell Class.Live (codes "live")
+    ∷ sign_cell Class.Orphan (codes " released")
+    ∷ sign_cell Class.Origin (codes " failed, origin")
+    ∷ sign_cell Class.Taken (codes " failed")
+    ∷ sign_cell Class.Ended (codes " ended")
+    ∷ []
+    )
+
+-- what the signs stand for
+unfoldable pub legend_text : List ℕ
+legend_text = concat (legend_begin ∷ box_signs ∷ link_signs ∷ legend_end ∷ [])
 
 -- ---- the picture
 
@@ -294,6 +334,7 @@ unfoldable pub dot_text : State → Names → List ℕ → List Tree → List Tr
 dot_text s names last trees travels = concat (
     graph_head s.events last
     ∷ flat_map (dot_tree s names (map (λ (c : Client). c.id) s.clients) travels) trees
+    ∷ legend_text
     ∷ graph_foot s names trees
     ∷ []
     )

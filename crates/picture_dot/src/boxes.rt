@@ -5,51 +5,50 @@ ghost use Rattle.sm_names.specs.declared.keys.NodeKey.{NodeKey as Key};
 ghost use Rattle.event_facts.specs.KeyMaps.{HasKeys};
 ghost use Rattle.script_labels.specs.Names.{Names};
 ghost use Rattle.script_labels.specs.Tables.{Keeps};
-ghost use Rattle.script_tales.specs.Called.{Calls};
+ghost use Rattle.event_texts.specs.Called.{Calls};
 ghost use Rattle.picture_dot.specs.DotPictures.{asked_line, border_text, box_head, box_lines, box_text, look_text, width_text};
 
 use event_facts::keys_of;
-use event_marks::key_sets::KeySet;
+use event_texts::EventWriter;
+use forced_marks::key_sets::KeySet;
 use forest_store::Node;
-use script_labels::Tables;
-use script_lines::push;
-use script_pictures::colors::{edge_color, fill_color, ink_color};
-use script_pictures::{
-    Class, class_of, push_asked_line, push_kind_line, push_place, push_state_line,
+use picture_model::colors::{edge_color, fill_color, ink_color};
+use picture_model::{
+    Class, class_of, push_asked_line, push_kind_line, push_node_name, push_place, push_state_line,
 };
-use script_tales::Teller;
+use script_labels::Tables;
+use script_lines::{Part, push, push_parts};
 use sm_names::{Constraints, NodeKey};
 use std::alloc::AllocError;
-use text_parts::{Part, push_parts};
 
 // Appends a box for each of the nodes, of which these left at the event.
 pub(crate) fn push_boxes(
     text: &mut Vec<u8>,
-    teller: &Teller,
+    event_writer: &EventWriter,
     nodes: &[Node],
     left: &[NodeKey],
 ) -> Result<(), AllocError>
-    ensures { OnOk result ((names : Names) → Keeps teller.now.session.tables names →
-        Calls teller.now.labels names → text.new.items ≡ text.old.items
+    ensures { OnOk result ((names : Names) → Keeps event_writer.now.session.tables names →
+        Calls event_writer.now.labels names → text.new.items ≡ text.old.items
         ++ flat_map (box_text names left.now) nodes.now) }
 {
     let left = keys_of(*text.allocator(), left)?;
-    push_each_box(text, teller, nodes, &left)
+    push_each_box(text, event_writer, nodes, &left)
 }
 
 // Appends a box for each of the nodes, of which these left at the event.
 fn push_each_box(
     text: &mut Vec<u8>,
-    teller: &Teller,
+    event_writer: &EventWriter,
     nodes: &[Node],
     left: &KeySet,
 ) -> Result<(), AllocError>
-    ensures { OnOk result ((names : Names) → Keeps teller.now.session.tables names →
-        Calls teller.now.labels names → (keys : List Key) → HasKeys left.now keys →
+    ensures { OnOk result ((names : Names) → Keeps event_writer.now.session.tables names →
+        Calls event_writer.now.labels names → (keys : List Key) → HasKeys left.now keys →
         text.new.items ≡ text.old.items ++ flat_map (box_text names keys) nodes.now) }
 {
     for node in nodes {
-        push_box(text, teller, node, left)?;
+        push_box(text, event_writer, node, left)?;
     }
     Ok(())
 }
@@ -58,20 +57,20 @@ fn push_each_box(
 #[tactic(auto, unfolding(crate::specs::DotPictures::box_text))]
 fn push_box(
     text: &mut Vec<u8>,
-    teller: &Teller,
+    event_writer: &EventWriter,
     node: &Node,
     left: &KeySet,
 ) -> Result<(), AllocError>
-    ensures { OnOk result ((names : Names) → Keeps teller.now.session.tables names →
-        Calls teller.now.labels names → (keys : List Key) → HasKeys left.now keys →
+    ensures { OnOk result ((names : Names) → Keeps event_writer.now.session.tables names →
+        Calls event_writer.now.labels names → (keys : List Key) → HasKeys left.now keys →
         text.new.items ≡ text.old.items ++ box_text names keys node.now) }
 {
-    push_head(text, &teller.session.tables, node)?;
-    push_lines(text, teller, node)?;
+    push_head(text, &event_writer.session.tables, node)?;
+    push_lines(text, event_writer, node)?;
     push_look(text, left, node)
 }
 
-// Appends the begin of a box, with the label of its node.
+// Appends the begin of a box, with the sign and the label of its node.
 #[tactic(auto, unfolding(crate::specs::DotPictures::box_head))]
 fn push_head(text: &mut Vec<u8>, tables: &Tables, node: &Node) -> Result<(), AllocError>
     ensures { OnOk result ((names : Names) → Keeps tables.now names →
@@ -83,25 +82,25 @@ fn push_head(text: &mut Vec<u8>, tables: &Tables, node: &Node) -> Result<(), All
             Part::Word("    n"),
             Part::Number(node.event),
             Part::Word(" [label=<<b>"),
-            Part::Name(tables.birth_label(node.key)),
-            Part::Word("</b>"),
         ],
-    )
+    )?;
+    push_node_name(text, tables, node)?;
+    push(text, "</b>")
 }
 
 // Appends the lines of a box.
-fn push_lines(text: &mut Vec<u8>, teller: &Teller, node: &Node) -> Result<(), AllocError>
-    ensures { OnOk result ((names : Names) → Keeps teller.now.session.tables names →
-        Calls teller.now.labels names → text.new.items ≡ text.old.items
+fn push_lines(text: &mut Vec<u8>, event_writer: &EventWriter, node: &Node) -> Result<(), AllocError>
+    ensures { OnOk result ((names : Names) → Keeps event_writer.now.session.tables names →
+        Calls event_writer.now.labels names → text.new.items ≡ text.old.items
         ++ box_lines names node.now) }
 {
     push(text, "<br/>")?;
-    push_state_line(text, &teller.session.tables, node)?;
+    push_state_line(text, &event_writer.session.tables, node)?;
     push(text, "<br/>")?;
-    push_kind_line(text, teller, node)?;
+    push_kind_line(text, event_writer, node)?;
     push_asked(text, node.constraints)?;
     push(text, "<br/>")?;
-    push_place(text, &teller.labels, node)
+    push_place(text, &event_writer.labels, node)
 }
 
 // Appends the line of what is asked for, if something is.

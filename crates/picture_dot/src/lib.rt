@@ -2,6 +2,7 @@
 #![tactic(auto)]
 
 mod boxes;
+mod legend;
 mod links;
 mod picture;
 mod tables;

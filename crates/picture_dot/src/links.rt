@@ -2,19 +2,18 @@
 ghost use Rattle.std.specs.Prelude.{◌≡◌, ◌++◌, IfOk, List, OnOk};
 ghost use Rattle.std.specs.List.{flat_map};
 ghost use Rattle.forest_store.specs.declared.node.Node.{Node as NodeValue};
-ghost use Rattle.script_pictures.specs.declared.travel.Travel.{Travel as Link};
-ghost use Rattle.script_pictures.specs.Kin.{AreParents, FindsNodes};
-ghost use Rattle.script_pictures.specs.Travels.{FindsTravels};
-ghost use Rattle.picture_dot.specs.DotPictures.{arrow_text, link_begin, dot_way_text, leaves_of as leaves_in, link_of, link_text, links_text, middle_of, parent_among, stop_words, table_link, table_link_of};
+ghost use Rattle.picture_model.specs.declared.failure_view.Travel.{Travel as Step};
+ghost use Rattle.picture_model.specs.Kin.{AreParents, FindsNodes};
+ghost use Rattle.picture_model.specs.Travels.{FindsTravels};
+ghost use Rattle.picture_dot.specs.DotPictures.{arrow_text, link_begin, dot_way_text, leaves_of as leaves_in, link_to, link_text, links_text, middle_of, parent_among, stop_words, table_link, table_link_of};
 
 use crate::tables::has_table;
 use event_facts::KeyMap;
-use event_marks::key_sets::KeySet;
+use forced_marks::key_sets::KeySet;
 use forest_store::Node;
-use script_lines::push;
-use script_pictures::{Travel, Tree, Way, nodes_by_key, parents_among, way_of};
+use picture_model::{Link, Travel, Tree, Way, link_of, nodes_by_key, parents_among, way_of};
+use script_lines::{Part, push, push_parts};
 use std::alloc::AllocError;
-use text_parts::{Part, push_parts};
 
 // Appends the links of a tree, and one that keeps its table below it.
 #[tactic(auto, unfolding(crate::specs::DotPictures::links_text))]
@@ -23,8 +22,8 @@ pub(crate) fn push_links(
     tree: &Tree,
     travels: &KeyMap<Travel>,
 ) -> Result<(), AllocError>
-    ensures { OnOk result ((links : List Link) → FindsTravels travels.now links →
-        text.new.items ≡ text.old.items ++ links_text links tree.now) }
+    ensures { OnOk result ((steps : List Step) → FindsTravels travels.now steps →
+        text.new.items ≡ text.old.items ++ links_text steps tree.now) }
 {
     push_node_links(text, &tree.nodes, travels)?;
     push_table_link(text, tree)
@@ -36,8 +35,8 @@ fn push_node_links(
     nodes: &Vec<Node>,
     travels: &KeyMap<Travel>,
 ) -> Result<(), AllocError>
-    ensures { OnOk result ((links : List Link) → FindsTravels travels.now links →
-        text.new.items ≡ text.old.items ++ flat_map (link_of nodes.now.items links) nodes.now.items) }
+    ensures { OnOk result ((steps : List Step) → FindsTravels travels.now steps →
+        text.new.items ≡ text.old.items ++ flat_map (link_to nodes.now.items steps) nodes.now.items) }
 {
     let by_key = nodes_by_key(nodes)?;
     push_each_link(text, nodes, &by_key, travels)
@@ -51,8 +50,8 @@ fn push_each_link(
     travels: &KeyMap<Travel>,
 ) -> Result<(), AllocError>
     ensures { OnOk result ((all : List NodeValue) → FindsNodes by_key.now all →
-        (links : List Link) → FindsTravels travels.now links →
-        text.new.items ≡ text.old.items ++ flat_map (link_of all links) nodes.now) }
+        (steps : List Step) → FindsTravels travels.now steps →
+        text.new.items ≡ text.old.items ++ flat_map (link_to all steps) nodes.now) }
 {
     for node in nodes {
         push_link_of(text, by_key, node, travels)?;
@@ -68,8 +67,8 @@ fn push_link_of(
     travels: &KeyMap<Travel>,
 ) -> Result<(), AllocError>
     ensures { OnOk result ((all : List NodeValue) → FindsNodes by_key.now all →
-        (links : List Link) → FindsTravels travels.now links →
-        text.new.items ≡ text.old.items ++ link_of all links node.now) }
+        (steps : List Step) → FindsTravels travels.now steps →
+        text.new.items ≡ text.old.items ++ link_to all steps node.now) }
 {
     match parent_of(by_key, node) {
         Some(above) => push_link(text, above.event, node, way_of(travels, node.key)),
@@ -104,7 +103,7 @@ fn push_link(
             Part::Number(above),
             Part::Word(" -> n"),
             Part::Number(node.event),
-            Part::Word(begin_of(node)),
+            Part::Word(begin_of(link_of(node))),
         ],
     )?;
     push_way(text, way)?;
@@ -112,13 +111,13 @@ fn push_link(
 }
 
 // What stands before how a link looks.
-fn begin_of(node: &Node) -> &'static str
-    ensures { result.now ≡ link_begin node.now }
+fn begin_of(link: Link) -> &'static str
+    ensures { result.now ≡ link_begin link }
 {
-    if node.attached {
-        " [style=dashed, "
-    } else {
-        " ["
+    match link {
+        Link::Normal => " [",
+        Link::Attached => " [style=dashed, ",
+        Link::Dispensable => " [style=dotted, ",
     }
 }
 

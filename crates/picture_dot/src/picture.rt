@@ -3,25 +3,27 @@ ghost use Rattle.std.specs.Prelude.{◌≡◌, ◌++◌, List, OnOk};
 ghost use Rattle.std.specs.List.{flat_map};
 ghost use Rattle.script_labels.specs.Names.{Names};
 ghost use Rattle.script_labels.specs.Tables.{Keeps};
-ghost use Rattle.script_tales.specs.Called.{Calls};
-ghost use Rattle.script_pictures.specs.declared.travel.Travel.{Travel as Link};
-ghost use Rattle.script_pictures.specs.Travels.{FindsTravels};
-ghost use Rattle.picture_dot.specs.DotPictures.{box_words, cluster_text, dot_text, dot_tree, firing_text, graph_foot, graph_head, graph_words, link_words, pool_words, rank_text, when_text};
+ghost use Rattle.event_texts.specs.Called.{Calls};
+ghost use Rattle.picture_model.specs.declared.failure_view.Travel.{Travel as Link};
+ghost use Rattle.picture_model.specs.Travels.{FindsTravels};
+ghost use Rattle.picture_dot.specs.DotPictures.{box_words, cluster_text, dot_text, dot_tree, firing_text, graph_foot, graph_head, graph_words, link_words, pool_words, rank_text};
 
 use crate::boxes::push_boxes;
+use crate::legend::push_legend;
 use crate::links::push_links;
 use crate::tables::{has_table, push_table_of};
 use event_facts::KeyMap;
+use event_texts::EventWriter;
 use lifetime_core::Core;
+use picture_model::{
+    Picture, Travel, Tree, push_fired, push_free_pages, push_header, travels_by_node,
+};
 use script_labels::{Stop, Tables};
-use script_lines::{push, push_number};
-use script_pictures::{Picture, Travel, Tree, push_header, travels_by_node};
-use script_tales::Teller;
+use script_lines::{Part, push, push_number, push_parts};
 use sm_names::{ClientId, Fired};
 use std::alloc::AllocError;
-use text_parts::{Part, push_parts};
 
-/// Appends the picture; the last event has this line.
+/// Appends the picture, and what its signs stand for; the last event has this line.
 ///
 /// `NoMemory` where memory is refused. Costs O(n log n) for the n nodes of each tree and the n links that
 /// failures followed, a look into a table for each label, and for each buffer a look-up for each client
@@ -29,23 +31,24 @@ use text_parts::{Part, push_parts};
 #[tactic(auto, unfolding(crate::specs::DotPictures::dot_text))]
 pub fn push_dot(
     text: &mut Vec<u8>,
-    teller: &Teller,
+    event_writer: &EventWriter,
     picture: &Picture,
     line: &[u8],
 ) -> Result<(), Stop>
-    ensures { OnOk result ((names : Names) → Keeps teller.now.session.tables names →
-        Calls teller.now.labels names → text.new.items ≡ text.old.items
-        ++ dot_text teller.now.session.core names line.now
+    ensures { OnOk result ((names : Names) → Keeps event_writer.now.session.tables names →
+        Calls event_writer.now.labels names → text.new.items ≡ text.old.items
+        ++ dot_text event_writer.now.session.core names line.now
         picture.now.trees.items picture.now.travels.items) }
 {
-    push_head(text, teller.session.core.events(), line)?;
-    let clients = teller.session.core.clients()?;
+    push_head(text, event_writer.session.core.events(), line)?;
+    let clients = event_writer.session.core.clients()?;
     let travels = travels_by_node(*text.allocator(), &picture.travels)?;
-    push_trees(text, teller, &clients, &picture.trees, &travels)?;
+    push_trees(text, event_writer, &clients, &picture.trees, &travels)?;
+    push_legend(text)?;
     push_foot(
         text,
-        &teller.session.core,
-        &teller.session.tables,
+        &event_writer.session.core,
+        &event_writer.session.tables,
         &picture.trees,
     )?;
     Ok(())
@@ -95,18 +98,18 @@ fn words_for_links() -> &'static str
 // Appends the trees.
 fn push_trees(
     text: &mut Vec<u8>,
-    teller: &Teller,
+    event_writer: &EventWriter,
     clients: &Vec<ClientId>,
     trees: &[Tree],
     travels: &KeyMap<Travel>,
 ) -> Result<(), AllocError>
-    ensures { OnOk result ((names : Names) → Keeps teller.now.session.tables names →
-        Calls teller.now.labels names → (links : List Link) → FindsTravels travels.now links →
+    ensures { OnOk result ((names : Names) → Keeps event_writer.now.session.tables names →
+        Calls event_writer.now.labels names → (links : List Link) → FindsTravels travels.now links →
         text.new.items ≡ text.old.items
-        ++ flat_map (dot_tree teller.now.session.core names clients.now.items links) trees.now) }
+        ++ flat_map (dot_tree event_writer.now.session.core names clients.now.items links) trees.now) }
 {
     for tree in trees {
-        push_tree(text, teller, clients, tree, travels)?;
+        push_tree(text, event_writer, clients, tree, travels)?;
     }
     Ok(())
 }
@@ -115,17 +118,17 @@ fn push_trees(
 #[tactic(auto, unfolding(crate::specs::DotPictures::dot_tree))]
 fn push_tree(
     text: &mut Vec<u8>,
-    teller: &Teller,
+    event_writer: &EventWriter,
     clients: &Vec<ClientId>,
     tree: &Tree,
     travels: &KeyMap<Travel>,
 ) -> Result<(), AllocError>
-    ensures { OnOk result ((names : Names) → Keeps teller.now.session.tables names →
-        Calls teller.now.labels names → (links : List Link) → FindsTravels travels.now links →
+    ensures { OnOk result ((names : Names) → Keeps event_writer.now.session.tables names →
+        Calls event_writer.now.labels names → (links : List Link) → FindsTravels travels.now links →
         text.new.items ≡ text.old.items
-        ++ dot_tree teller.now.session.core names clients.now.items links tree.now) }
+        ++ dot_tree event_writer.now.session.core names clients.now.items links tree.now) }
 {
-    push_cluster(text, teller, clients, tree)?;
+    push_cluster(text, event_writer, clients, tree)?;
     push_links(text, tree, travels)
 }
 
@@ -133,19 +136,19 @@ fn push_tree(
 #[tactic(auto, unfolding(crate::specs::DotPictures::cluster_text))]
 fn push_cluster(
     text: &mut Vec<u8>,
-    teller: &Teller,
+    event_writer: &EventWriter,
     clients: &Vec<ClientId>,
     tree: &Tree,
 ) -> Result<(), AllocError>
-    ensures { OnOk result ((names : Names) → Keeps teller.now.session.tables names →
-        Calls teller.now.labels names → text.new.items ≡ text.old.items
-        ++ cluster_text teller.now.session.core names clients.now.items tree.now) }
+    ensures { OnOk result ((names : Names) → Keeps event_writer.now.session.tables names →
+        Calls event_writer.now.labels names → text.new.items ≡ text.old.items
+        ++ cluster_text event_writer.now.session.core names clients.now.items tree.now) }
 {
     push(text, "  subgraph cluster_")?;
     push_number(text, tree.id)?;
     push(text, " {\n    color=\"#BBBBBB\"; label=\"\";\n")?;
-    push_boxes(text, teller, &tree.nodes, &tree.left)?;
-    push_table_of(text, teller, clients, tree)?;
+    push_boxes(text, event_writer, &tree.nodes, &tree.left)?;
+    push_table_of(text, event_writer, clients, tree)?;
     push(text, "  }\n")
 }
 
@@ -161,7 +164,7 @@ fn push_foot(
         text.new.items ≡ text.old.items ++ graph_foot core.now names trees.now) }
 {
     push_pool(text, core)?;
-    push_firings(text, tables, core.fired(), core.events())?;
+    push_firings(text, tables, core.fired())?;
     push(text, "\"];\n")?;
     push_ranks(text, trees)?;
     push(text, "}\n")
@@ -171,64 +174,29 @@ fn push_foot(
 fn push_pool(text: &mut Vec<u8>, core: &Core) -> Result<(), AllocError>
     ensures { OnOk result (text.new.items ≡ text.old.items ++ pool_words core.now) }
 {
-    push_parts(
-        text,
-        &[
-            Part::Word("  foot [shape=plaintext, label=\"pool: "),
-            Part::Number(core.free_pages() as u64),
-            Part::Word(" of "),
-            Part::Number(core.pages() as u64),
-            Part::Word(" pages free"),
-        ],
-    )
+    push(text, "  foot [shape=plaintext, label=\"pool ")?;
+    push_free_pages(text, core.free_pages(), core.pages())
 }
 
-// Appends the firings, where the last event has this number.
-fn push_firings(
-    text: &mut Vec<u8>,
-    tables: &Tables,
-    fired: &[Fired],
-    event: u64,
-) -> Result<(), AllocError>
+// Appends the trackers that fired so far, each in a line of its own.
+fn push_firings(text: &mut Vec<u8>, tables: &Tables, fired: &[Fired]) -> Result<(), AllocError>
     ensures { OnOk result ((names : Names) → Keeps tables.now names →
-        text.new.items ≡ text.old.items ++ flat_map (firing_text names event) fired.now) }
+        text.new.items ≡ text.old.items ++ flat_map (firing_text names) fired.now) }
 {
     for firing in fired {
-        push_firing(text, tables, *firing, event)?;
+        push_firing(text, tables, *firing)?;
     }
     Ok(())
 }
 
-// Appends that a tracker fired, now or at an event before.
+// Appends the line of a tracker that fired.
 #[tactic(auto, unfolding(crate::specs::DotPictures::firing_text))]
-fn push_firing(
-    text: &mut Vec<u8>,
-    tables: &Tables,
-    firing: Fired,
-    event: u64,
-) -> Result<(), AllocError>
+fn push_firing(text: &mut Vec<u8>, tables: &Tables, firing: Fired) -> Result<(), AllocError>
     ensures { OnOk result ((names : Names) → Keeps tables.now names →
-        text.new.items ≡ text.old.items ++ firing_text names event firing) }
+        text.new.items ≡ text.old.items ++ firing_text names firing) }
 {
-    push_parts(
-        text,
-        &[
-            Part::Word("\\ntracker "),
-            Part::Name(tables.tracker_label(firing.tracker)),
-        ],
-    )?;
-    push_when(text, firing.event, event)
-}
-
-// Appends that it was at this event, the last one or one before.
-fn push_when(text: &mut Vec<u8>, fired: u64, event: u64) -> Result<(), AllocError>
-    ensures { OnOk result (text.new.items ≡ text.old.items ++ when_text event fired) }
-{
-    if fired == event {
-        push(text, " fired now")
-    } else {
-        push_parts(text, &[Part::Word(" fired at event "), Part::Number(fired)])
-    }
+    push(text, "\\n")?;
+    push_fired(text, tables, firing)
 }
 
 // Appends that the foot stands below each table.

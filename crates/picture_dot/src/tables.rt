@@ -3,14 +3,12 @@ ghost use Rattle.std.specs.Prelude.{◌≡◌, ◌++◌, OnOk};
 ghost use Rattle.std.specs.List.{flat_map};
 ghost use Rattle.script_labels.specs.Names.{Names};
 ghost use Rattle.script_labels.specs.Tables.{Keeps};
-ghost use Rattle.script_tales.specs.Called.{Calls};
-ghost use Rattle.picture_dot.specs.DotPictures.{buffers_table, cells_text, dot_live_words, freed_row, has_table as has_table_in, held_row, table_text, table_words};
+ghost use Rattle.event_texts.specs.Called.{Calls};
+ghost use Rattle.picture_dot.specs.DotPictures.{buffers_table, cells_text, freed_row, has_table as has_table_in, held_row, table_text, table_words};
 
-use script_labels::Tables;
+use event_texts::EventWriter;
+use picture_model::{Tree, push_keepers, push_pages};
 use script_lines::{push, push_number};
-use script_pictures::{Tree, gap_behind, push_pages};
-use script_tales::words::push_nodes;
-use script_tales::{Teller, push_holders};
 use sm_names::{ClientId, HeldBuffer, NodeKey};
 use std::alloc::AllocError;
 
@@ -24,16 +22,16 @@ pub(crate) fn has_table(tree: &Tree) -> bool
 // Appends the table of the tree's buffers, if there is one.
 pub(crate) fn push_table_of(
     text: &mut Vec<u8>,
-    teller: &Teller,
+    event_writer: &EventWriter,
     clients: &Vec<ClientId>,
     tree: &Tree,
 ) -> Result<(), AllocError>
-    ensures { OnOk result ((names : Names) → Keeps teller.now.session.tables names →
-        Calls teller.now.labels names → text.new.items ≡ text.old.items
-        ++ buffers_table teller.now.session.core names clients.now.items tree.now) }
+    ensures { OnOk result ((names : Names) → Keeps event_writer.now.session.tables names →
+        Calls event_writer.now.labels names → text.new.items ≡ text.old.items
+        ++ buffers_table event_writer.now.session.core names clients.now.items tree.now) }
 {
     if has_table(tree) {
-        push_table(text, teller, clients, tree)
+        push_table(text, event_writer, clients, tree)
     } else {
         Ok(())
     }
@@ -43,19 +41,19 @@ pub(crate) fn push_table_of(
 #[tactic(auto, unfolding(crate::specs::DotPictures::table_text))]
 fn push_table(
     text: &mut Vec<u8>,
-    teller: &Teller,
+    event_writer: &EventWriter,
     clients: &Vec<ClientId>,
     tree: &Tree,
 ) -> Result<(), AllocError>
-    ensures { OnOk result ((names : Names) → Keeps teller.now.session.tables names →
-        Calls teller.now.labels names → text.new.items ≡ text.old.items
-        ++ table_text teller.now.session.core names clients.now.items tree.now) }
+    ensures { OnOk result ((names : Names) → Keeps event_writer.now.session.tables names →
+        Calls event_writer.now.labels names → text.new.items ≡ text.old.items
+        ++ table_text event_writer.now.session.core names clients.now.items tree.now) }
 {
     push(text, "    b")?;
     push_number(text, tree.id)?;
     push(text, words_for_table())?;
-    push_held_rows(text, teller, clients, tree)?;
-    push_freed_rows(text, teller, &tree.freed)?;
+    push_held_rows(text, event_writer, clients, tree)?;
+    push_freed_rows(text, event_writer, &tree.freed)?;
     push(text, "</table>>];\n")
 }
 
@@ -72,17 +70,17 @@ fn words_for_table() -> &'static str
 // Appends a row for each buffer with pages.
 fn push_held_rows(
     text: &mut Vec<u8>,
-    teller: &Teller,
+    event_writer: &EventWriter,
     clients: &Vec<ClientId>,
     tree: &Tree,
 ) -> Result<(), AllocError>
-    ensures { OnOk result ((names : Names) → Keeps teller.now.session.tables names →
-        Calls teller.now.labels names → text.new.items ≡ text.old.items
-        ++ flat_map (held_row teller.now.session.core names clients.now.items
+    ensures { OnOk result ((names : Names) → Keeps event_writer.now.session.tables names →
+        Calls event_writer.now.labels names → text.new.items ≡ text.old.items
+        ++ flat_map (held_row event_writer.now.session.core names clients.now.items
         tree.now.strong.items) tree.now.held.items) }
 {
     for buffer in &tree.held {
-        push_held_row(text, teller, clients, &tree.strong, *buffer)?;
+        push_held_row(text, event_writer, clients, &tree.strong, *buffer)?;
     }
     Ok(())
 }
@@ -91,81 +89,64 @@ fn push_held_rows(
 #[tactic(auto, unfolding(crate::specs::DotPictures::held_row))]
 fn push_held_row(
     text: &mut Vec<u8>,
-    teller: &Teller,
+    event_writer: &EventWriter,
     clients: &Vec<ClientId>,
     strong: &[NodeKey],
     buffer: HeldBuffer,
 ) -> Result<(), AllocError>
-    ensures { OnOk result ((names : Names) → Keeps teller.now.session.tables names →
-        Calls teller.now.labels names → text.new.items ≡ text.old.items
-        ++ held_row teller.now.session.core names clients.now.items strong.now buffer) }
+    ensures { OnOk result ((names : Names) → Keeps event_writer.now.session.tables names →
+        Calls event_writer.now.labels names → text.new.items ≡ text.old.items
+        ++ held_row event_writer.now.session.core names clients.now.items strong.now buffer) }
 {
-    let (core, labels) = (&teller.session.core, &teller.labels);
-    push_cells(text, teller, buffer, "<td bgcolor=\"#FAF2CC\">")?;
-    push_live(text, &teller.session.tables, strong)?;
-    push_holders(
-        text,
-        core,
-        labels,
-        clients,
-        buffer.buffer,
-        gap_behind(strong),
-    )?;
+    push_cells(text, event_writer, buffer, "<td bgcolor=\"#FAF2CC\">")?;
+    push_keepers(text, event_writer, clients, strong, buffer.buffer)?;
     push(text, "</td></tr>")
 }
 
 // Appends the cells of the buffer's name and pages, each begun so, and the begin of one more.
 fn push_cells(
     text: &mut Vec<u8>,
-    teller: &Teller,
+    event_writer: &EventWriter,
     buffer: HeldBuffer,
     begin: &str,
 ) -> Result<(), AllocError>
-    ensures { OnOk result ((names : Names) → Keeps teller.now.session.tables names →
+    ensures { OnOk result ((names : Names) → Keeps event_writer.now.session.tables names →
         text.new.items ≡ text.old.items ++ cells_text names begin.now buffer) }
 {
     push(text, "<tr>")?;
     push(text, begin)?;
-    teller.push_buffer_name(text, buffer.buffer)?;
+    event_writer.push_buffer_name(text, buffer.buffer)?;
     push(text, "</td>")?;
     push(text, begin)?;
     push_pages(text, buffer.pages)?;
     push(text, "</td><td align=\"left\">")
 }
 
-// Appends the live nodes, if there are some.
-fn push_live(text: &mut Vec<u8>, tables: &Tables, nodes: &[NodeKey]) -> Result<(), AllocError>
-    ensures { OnOk result ((names : Names) → Keeps tables.now names →
-        text.new.items ≡ text.old.items ++ dot_live_words names nodes.now) }
-{
-    if nodes.is_empty() {
-        return Ok(());
-    }
-    push(text, "live:")?;
-    push_nodes(text, tables, nodes)
-}
-
 // Appends a row for each buffer that gave its pages back.
 fn push_freed_rows(
     text: &mut Vec<u8>,
-    teller: &Teller,
+    event_writer: &EventWriter,
     freed: &[HeldBuffer],
 ) -> Result<(), AllocError>
-    ensures { OnOk result ((names : Names) → Keeps teller.now.session.tables names →
+    ensures { OnOk result ((names : Names) → Keeps event_writer.now.session.tables names →
         text.new.items ≡ text.old.items ++ flat_map (freed_row names) freed.now) }
 {
     for buffer in freed {
-        push_freed_row(text, teller, *buffer)?;
+        push_freed_row(text, event_writer, *buffer)?;
     }
     Ok(())
 }
 
 // Appends the row of a buffer that gave its pages back.
 #[tactic(auto, unfolding(crate::specs::DotPictures::freed_row))]
-fn push_freed_row(text: &mut Vec<u8>, teller: &Teller, buffer: HeldBuffer) -> Result<(), AllocError>
-    ensures { OnOk result ((names : Names) → Keeps teller.now.session.tables names →
+fn push_freed_row(
+    text: &mut Vec<u8>,
+    event_writer: &EventWriter,
+    buffer: HeldBuffer,
+) -> Result<(), AllocError>
+    ensures { OnOk result ((names : Names) → Keeps event_writer.now.session.tables names →
         text.new.items ≡ text.old.items ++ freed_row names buffer) }
 {
-    push_cells(text, teller, buffer, "<td>")?;
-    push(text, "free again</td></tr>")
+    push_cells(text, event_writer, buffer, "<td>")?;
+    push(text, "home</td></tr>")
 }

@@ -1,5 +1,6 @@
 -- Nodes by their places, one more at a time.
-use Rattle.std.proofs.Common.{◌≡◌, ◌∙◌, refl, ap, sym, arith, ℕ, suc, ◌+◌, ◌-◌, ◌<◌, ◌≤◌, Bool, true, false, if◌then◌else◌, List, [], ◌∷◌, ◌++◌, append_assoc, append-nil, length, length-append, Option, Some, None}
+use Rattle.std.proofs.Common.{◌≡◌, ◌∙◌, refl, ap, sym, arith, ℕ, suc, ◌+◌, ◌-◌, ◌<◌, ◌≤◌, Bool, true, false, if◌then◌else◌}
+use Rattle.std.proofs.Common.{List, [], ◌∷◌, ◌++◌, append_assoc, append-nil, length, length-append, Option, Some, None}
 use Rattle.std.specs.Option.{option_or}
 use Rattle.sm_names.specs.declared.keys.NodeKey.{NodeKey}
 use Rattle.forest_store.specs.declared.node.Node.{Node}
@@ -32,7 +33,8 @@ column-more parents widths n at old new columns more within pushed taken =
     let left : ℕ = n - (at + 1) in
     let one : n - at ≡ suc left = omega arith in
     (λ i. pushed i ++ columns_from parents widths left (at + 1) (taken i))
-    ∙ (append_assoc columns (column_of old (parent_place parents at) ∷ []) (columns_from parents widths left (at + 1) (taken_columns parents widths at old))
+    ∙ (append_assoc columns (column_of old (parent_place parents at) ∷ [])
+    (columns_from parents widths left (at + 1) (taken_columns parents widths at old))
     ∙ sym (ap (λ (k : ℕ). columns ++ columns_from parents widths k at old) one))
 
 -- none is left
@@ -43,7 +45,8 @@ columns-end parents widths n at free columns all =
     ap (λ (k : ℕ). columns ++ columns_from parents widths k at free) none ∙ append-nil columns
 
 -- one more node, and those behind it are those that are left
-pub box-more : (start : Corner) (parents : List (Option ℕ)) (corners : List Corner) (keys : List NodeKey) (n : Node) (rest later : List Node)
+pub box-more : (start : Corner) (parents : List (Option ℕ)) (corners : List Corner)
+    (keys : List NodeKey) (n : Node) (rest later : List Node)
     (boxes more : List NodeBox) → rest ≡ n ∷ later → more ≡ boxes ++ box_of start parents corners keys (length boxes) n ∷ [] →
     more ++ boxes_from start parents corners keys (length more) later ≡ boxes ++ boxes_from start parents corners keys (length boxes) rest
 box-more start parents corners keys n rest later boxes more is pushed =

@@ -28,6 +28,7 @@ FindsPlaces places nodes = (key : NodeKey) → value_at places key ≡ place_fro
 abbrev pub place_above : List Node → Node → Option ℕ
 place_above nodes n = option_and_then (λ key. place_from key 0 nodes) n.parent
 
+-- for each node the place of its parent in the list, if it has one
 abbrev pub places_above : List Node → List (Option ℕ)
 places_above nodes = map (place_above nodes) nodes
 
@@ -54,6 +55,7 @@ more_above own widths (Some parent) = with_number widths parent (capped_sum (num
 abbrev pub own_width : List ℕ → ℕ → ℕ
 own_width widths at = max (number_at widths at) 1
 
+-- the widths once the node at this place has its own, and its parent has at least that of its children
 unfoldable pub widened : List (Option ℕ) → ℕ → List ℕ → List ℕ
 widened parents at widths = more_above (own_width widths at) (with_number widths at (own_width widths at)) (parent_place parents at)
 
@@ -62,6 +64,7 @@ abbrev pub widened_all : ℕ → List (Option ℕ) → List ℕ → List ℕ
 widened_all zero parents widths = widths
 widened_all (suc n) parents widths = widened_all n parents (widened parents n widths)
 
+-- how many columns each node takes
 unfoldable pub widths_of : List (Option ℕ) → List ℕ
 widths_of parents = widened_all (length parents) parents (replicate (length parents) 0)
 
@@ -70,18 +73,21 @@ abbrev pub depth_below : List ℕ → Option ℕ → ℕ
 depth_below depths None = 0
 depth_below depths (Some parent) = capped_sum (number_at depths parent) 1
 
+-- how many generations each node is below the root
 unfoldable pub depths_of : List (Option ℕ) → List ℕ
 depths_of parents = fold (λ depths parent. depths ++ depth_below depths parent ∷ []) [] parents
 
--- the first column that is free in each node's room, once this node has its columns
+-- the first column of a node: the first that is free in its parent's room
 abbrev pub column_of : List ℕ → Option ℕ → ℕ
 column_of free None = 0
 column_of free (Some parent) = number_at free parent
 
+-- the free columns, once a child of this width stands in the parent's room
 abbrev pub less_above : ℕ → List ℕ → Option ℕ → List ℕ
 less_above width free None = free
 less_above width free (Some parent) = with_number free parent (capped_sum (number_at free parent) width)
 
+-- the free columns once a node of this width stands in its parent's room
 unfoldable pub taken_columns : List (Option ℕ) → List ℕ → ℕ → List ℕ → List ℕ
 taken_columns parents widths at free =
     with_number (less_above (number_at widths at) free (parent_place parents at)) at (column_of free (parent_place parents at))
@@ -92,6 +98,7 @@ columns_from parents widths zero at free = []
 columns_from parents widths (suc n) at free =
     column_of free (parent_place parents at) ∷ columns_from parents widths n (at + 1) (taken_columns parents widths at free)
 
+-- the first column of each node
 unfoldable pub columns_of : List (Option ℕ) → List ℕ → List ℕ
 columns_of parents widths = columns_from parents widths (length parents) 0 (replicate (length parents) 0)
 
@@ -143,5 +150,6 @@ boxes_of start width left nodes =
 unfoldable pub lowest_of : ℕ → List NodeBox → ℕ
 lowest_of start boxes = fold (λ y s. max y s.corner.y) start boxes
 
+-- the last column of all boxes
 unfoldable pub rightmost_of : ℕ → List NodeBox → ℕ
 rightmost_of width boxes = fold (λ x s. max x (capped_sum s.corner.x width)) 0 boxes

@@ -5,5 +5,6 @@ use Rattle.std.specs.Prelude.{ℕ, ◌+◌, ◌*◌, ◌-◌, ◌^◌, min}
 abbrev pub capped_sum : ℕ → ℕ → ℕ
 capped_sum a b = min (a + b) (2 ^ 64 - 1)
 
+-- the product, or the greatest number of 64 bits
 abbrev pub capped_product : ℕ → ℕ → ℕ
 capped_product a b = min (a * b) (2 ^ 64 - 1)

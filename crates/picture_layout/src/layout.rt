@@ -10,7 +10,7 @@ ghost use Rattle.picture_layout.specs.Layouts.{FindsPlaces, box_of, boxes_from, 
 
 use crate::lengths::{minus, plus, times};
 use event_facts::{KeyMap, keys_of};
-use event_marks::key_sets::KeySet;
+use forced_marks::key_sets::KeySet;
 use forest_store::Node;
 use sm_names::NodeKey;
 use std::alloc::{AllocError, Global};

@@ -5,7 +5,7 @@ use Rattle.std.proofs.lemmas.Grind.{flat_map-append}
 use Rattle.std.proofs.lemmas.List.FromFn.{map-range_with_len_more}
 use Rattle.core_state.specs.State.{State}
 use Rattle.script_labels.specs.Names.{Names}
-use Rattle.script_pictures.specs.declared.picture.Tree.{Tree}
+use Rattle.picture_model.specs.declared.picture.Tree.{Tree}
 use Rattle.picture_svg.specs.Bars.{Shown, shown_at, shown_to}
 
 -- none is below 0

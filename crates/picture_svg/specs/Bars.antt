@@ -5,12 +5,10 @@ use Rattle.sm_names.specs.declared.keys.HeldBuffer.{HeldBuffer}
 use Rattle.sm_names.specs.declared.keys.NodeKey.{NodeKey}
 use Rattle.sm_names.specs.declared.rules.TheConstants.{MAX_BUFFERS}
 use Rattle.core_state.specs.State.{State}
-use Rattle.event_facts.specs.Facts.{holders_in}
 use Rattle.script_labels.specs.Names.{Names}
-use Rattle.script_labels.specs.Texts.{node_text}
-use Rattle.script_tales.specs.FactTexts.{buffer_name, holders_text, concat}
-use Rattle.script_pictures.specs.declared.picture.Tree.{Tree}
-use Rattle.script_pictures.specs.Features.{pages_text}
+use Rattle.event_texts.specs.FactTexts.{buffer_name, concat}
+use Rattle.picture_model.specs.declared.picture.Tree.{Tree}
+use Rattle.picture_model.specs.Features.{keepers_words, pages_text}
 use Rattle.picture_layout.specs.declared.layout.TheConstants.{COLUMN_GAP}
 use Rattle.picture_layout.specs.Lengths.{capped_product, capped_sum}
 use Rattle.picture_svg.specs.declared.bars.Bar.{Bar}
@@ -25,6 +23,7 @@ pub record Shown : Type 0 where
   pub fill : List ℕ
   pub dashes : List ℕ
 
+-- what a bar of the code shows
 abbrev pub shown_in : Bar → Shown
 shown_in b = record {
   name = b.name.items;
@@ -38,21 +37,10 @@ shown_in b = record {
 unfoldable pub buffer_line : Names → HeldBuffer → List ℕ
 buffer_line names held = concat (buffer_name names held.buffer ∷ codes "  " ∷ pages_text held.pages ∷ [])
 
--- the live nodes that keep it, if there are some, and what stands before the handles
-abbrev pub live_part : Names → List NodeKey → List ℕ
-live_part names nodes = if length nodes == 0 then [] else concat (codes "live nodes" ∷ flat_map (node_text names) nodes ∷ [])
-
-abbrev pub words_before : List NodeKey → List ℕ
-words_before nodes = if length nodes == 0 then codes "handles: " else codes "; handles: "
-
 -- its holders
 unfoldable pub kept_line : State → Names → List ℕ → List NodeKey → HeldBuffer → List ℕ
-kept_line s names clients strong held = concat (
-    codes "kept by "
-    ∷ live_part names strong
-    ∷ holders_text names (words_before strong) (holders_in s.holds clients held.buffer)
-    ∷ []
-    )
+kept_line s names clients strong held =
+    concat (codes "kept by " ∷ keepers_words s names clients strong held.buffer ∷ [])
 
 -- what is drawn of a buffer with pages
 abbrev pub held_shown : State → Names → List ℕ → List NodeKey → HeldBuffer → Shown
@@ -68,12 +56,13 @@ held_shown s names clients strong held = record {
 abbrev pub freed_shown : Names → HeldBuffer → Shown
 freed_shown names freed = record {
   name = buffer_line names freed;
-  keepers = codes "free again: no handle, no live strong node";
-  letters = 8;
+  keepers = codes "home";
+  letters = 4;
   fill = codes "#FFFFFF";
   dashes = codes "3 3";
 }
 
+-- the held buffer has this index
 abbrev pub has_index : ℕ → HeldBuffer → Bool
 has_index index held = held.buffer.index == index
 
@@ -83,14 +72,17 @@ shown_at s names clients tree index =
     map (held_shown s names clients tree.strong.items) (filter (has_index index) tree.held.items)
     ++ map (freed_shown names) (filter (has_index index) tree.freed.items)
 
+-- the buffers of all indexes
 unfoldable pub shown_to : State → Names → List ℕ → Tree → ℕ → List Shown
 shown_to s names clients tree count = flat_map (λ shown. shown) (map (shown_at s names clients tree) (range_with_len 0 count))
 
+-- the bars of the tree, one for each buffer that is shown, by index
 abbrev pub shown_of : State → Names → List ℕ → Tree → List Shown
 shown_of s names clients tree = shown_to s names clients tree MAX_BUFFERS
 
 -- ---- how they are drawn
 
+-- how a bar is painted
 abbrev pub bar_paint : Shown → Paint
 bar_paint b = record { rounded = 3; fill = b.fill; stroke = codes "#7A6A00"; stroke_width = []; dashes = b.dashes }
 

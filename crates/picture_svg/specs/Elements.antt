@@ -1,6 +1,6 @@
 -- The elements of a vector graphic.
 use Rattle.std.specs.Prelude.{ℕ, ◌==◌, nat_lt, Bool, if◌then◌else◌, List, [], ◌∷◌, codes, decimal, length}
-use Rattle.script_tales.specs.FactTexts.{concat}
+use Rattle.event_texts.specs.FactTexts.{concat}
 use Rattle.picture_svg.specs.declared.elements.Rect.{Rect}
 use Rattle.picture_svg.specs.declared.elements.Style.{Style}
 
@@ -17,15 +17,19 @@ pub record Look : Type 0 where
   pub fill : List ℕ
   pub middle : Bool
 
+-- how a text of this style looks
 abbrev pub look_of : Style → Look
 look_of s = record { size = s.size; bold = s.bold; fill = s.fill.now; middle = s.middle }
 
+-- the look with this size, weight, color and anchor
 abbrev pub look : ℕ → Bool → List ℕ → Bool → Look
 look size bold fill middle = record { size = size; bold = bold; fill = fill; middle = middle }
 
+-- the end of a text's size, with its weight
 abbrev pub weight_text : Bool → List ℕ
 weight_text bold = if bold then codes "\" font-weight=\"bold\"" else codes "\""
 
+-- the end of a text's tag, with its anchor
 abbrev pub anchor_text : Bool → List ℕ
 anchor_text middle = if middle then codes "\" text-anchor=\"middle\">" else codes "\">"
 
@@ -57,6 +61,7 @@ pub record Paint : Type 0 where
   pub stroke_width : List ℕ
   pub dashes : List ℕ
 
+-- how a rectangle of the code is painted
 abbrev pub paint_of : Rect → Paint
 paint_of r = record {
   rounded = r.rounded;
@@ -66,9 +71,11 @@ paint_of r = record {
   dashes = r.dashes.now;
 }
 
+-- the attribute for round corners, or none
 abbrev pub rounded_text : ℕ → List ℕ
 rounded_text rounded = if nat_lt 0 rounded then concat (codes " rx=\"" ∷ decimal rounded ∷ codes "\"" ∷ []) else []
 
+-- the attributes of a shape: corners, colors, width of its line, dashes
 unfoldable pub paint_text : Paint → List ℕ
 paint_text p = concat (
     rounded_text p.rounded
@@ -80,6 +87,7 @@ paint_text p = concat (
     ∷ []
     )
 
+-- the place and the size of a rectangle
 unfoldable pub corner_text : ℕ → ℕ → ℕ → ℕ → List ℕ
 corner_text x y width height = concat (
     codes "<rect x=\""
@@ -100,6 +108,7 @@ rect_text x y width height paint = concat (corner_text x y width height ∷ pain
 
 -- ---- the number of a step, in a circle
 
+-- a circle with the number of a step
 unfoldable pub circle_text : ℕ → ℕ → ℕ → ℕ → List ℕ
 circle_text x y below step = concat (
     codes "<circle cx=\""

@@ -1,5 +1,6 @@
 pub mod Bars
 pub mod Elements
+pub mod Legend
 pub mod Links
 pub mod SvgPictures
 pub mod Trees

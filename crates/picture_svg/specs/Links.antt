@@ -2,10 +2,12 @@
 use Rattle.std.specs.Prelude.{ℕ, ◌-◌, ◌/◌, if◌then◌else◌, List, [], ◌∷◌, codes, decimal, Option, Some, None}
 use Rattle.std.specs.Option.{option_map_or}
 use Rattle.forest_store.specs.declared.node.Node.{Node}
-use Rattle.script_tales.specs.FactTexts.{concat}
-use Rattle.script_pictures.specs.declared.travel.Travel.{Travel}
-use Rattle.script_pictures.specs.declared.travel.Way.{Way}
-use Rattle.script_pictures.specs.Travels.{way_in}
+use Rattle.event_texts.specs.FactTexts.{concat}
+use Rattle.picture_model.specs.declared.features.Link.{Link}
+use Rattle.picture_model.specs.declared.failure_view.Travel.{Travel}
+use Rattle.picture_model.specs.declared.failure_view.Way.{Way}
+use Rattle.picture_model.specs.Features.{link_of}
+use Rattle.picture_model.specs.Travels.{way_in}
 use Rattle.picture_layout.specs.declared.layout.Corner.{Corner}
 use Rattle.picture_layout.specs.declared.layout.TheConstants.{BOX_HEIGHT, ROW_GAP}
 use Rattle.picture_layout.specs.declared.layout.NodeBox.{NodeBox}
@@ -52,21 +54,27 @@ line_color (Some (Way.Down step)) = codes "#D55E00"
 line_color (Some Way.Stop) = codes "#808080"
 line_color None = codes "#808080"
 
+-- the width of a link: wide where a failure climbed it
 abbrev pub line_width : Option Way → List ℕ
 line_width (Some (Way.Up step)) = codes "4"
 line_width (Some (Way.Down step)) = codes "2"
 line_width (Some Way.Stop) = codes "1.5"
 line_width None = codes "1.5"
 
-abbrev pub line_dashes : Node → List ℕ
-line_dashes n = if n.attached then codes "7 5" else []
+-- the dashes of a link: none, or those that the legend names
+abbrev pub line_dashes : Link → List ℕ
+line_dashes Link.Normal = []
+line_dashes Link.Attached = codes "7 5"
+line_dashes Link.Dispensable = codes "2 4"
 
+-- the start of a link: its color and its width
 unfoldable pub line_start : Option Way → List ℕ
 line_start way = concat
     (codes "\" fill=\"none\" stroke=\"" ∷ line_color way ∷ codes "\" stroke-width=\"" ∷ line_width way ∷ codes "\"" ∷ [])
 
-unfoldable pub svg_line : Node → Option Way → List ℕ
-svg_line n way = concat (line_start way ∷ attribute (codes "stroke-dasharray") (line_dashes n) ∷ [])
+-- the attributes of a link's line
+unfoldable pub svg_line : Link → Option Way → List ℕ
+svg_line link way = concat (line_start way ∷ attribute (codes "stroke-dasharray") (line_dashes link) ∷ [])
 
 -- ---- its end
 
@@ -93,14 +101,16 @@ svg_stop left row right x y = concat (
     ∷ decimal y
     ∷ codes "\" font-size=\"12\" font-weight=\"bold\" fill=\""
     ∷ codes "#222222"
-    ∷ codes "\">stops here</text>\n"
+    ∷ codes "\">stops</text>\n"
     ∷ []
     )
 
+-- the end of a link at which a failure stopped
 unfoldable pub svg_stop_end : Corner → List ℕ
 svg_stop_end to = concat
     (codes "/>\n" ∷ svg_stop (to.x - 16) (to.y - 10) (capped_sum to.x 16) (capped_sum to.x 22) (to.y - 6) ∷ [])
 
+-- the end of a link: plain, with an arrow, or with a bar where the failure stopped
 abbrev pub svg_end : Corner → Option Way → List ℕ
 svg_end to None = codes "/>\n"
 svg_end to (Some (Way.Up step)) = svg_arrow to step
@@ -111,12 +121,13 @@ svg_end to (Some Way.Stop) = svg_stop_end to
 
 -- the link of a node, from below its parent's box to above its own, along which failures went so
 unfoldable pub svg_link : Node → Corner → Corner → Option Way → List ℕ
-svg_link n from to way = concat (way_path from to way ∷ svg_line n way ∷ svg_end to way ∷ [])
+svg_link n from to way = concat (way_path from to way ∷ svg_line (link_of n) way ∷ svg_end to way ∷ [])
 
 -- the middle of the lower edge of a box of this width, and of its upper edge
 abbrev pub foot_corner : ℕ → Corner → Corner
 foot_corner width c = record { x = capped_sum c.x (width / 2); y = capped_sum c.y BOX_HEIGHT }
 
+-- the middle of the upper side of a box at this corner
 abbrev pub head_corner : ℕ → Corner → Corner
 head_corner width c = record { x = capped_sum c.x (width / 2); y = c.y }
 

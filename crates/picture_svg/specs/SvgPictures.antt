@@ -9,18 +9,18 @@ use Rattle.forest_store.specs.Forest.{held_by_page}
 use Rattle.core_state.specs.Reads.{views_of}
 use Rattle.core_state.specs.State.{Client, State}
 use Rattle.script_lines.specs.Labels.{label_text}
-use Rattle.script_labels.specs.Names.{Names, label_of_node, label_of_tracker}
-use Rattle.script_tales.specs.FactTexts.{buffer_name, concat}
-use Rattle.script_pictures.specs.declared.features.Class.{Class}
-use Rattle.script_pictures.specs.declared.picture.Picture.{Picture}
-use Rattle.script_pictures.specs.declared.picture.ToldMark.{ToldMark}
-use Rattle.script_pictures.specs.declared.picture.Tree.{Tree}
-use Rattle.script_pictures.specs.BoxLines.{header_text}
-use Rattle.script_pictures.specs.Colors.{edge_text, fill_text}
+use Rattle.script_labels.specs.Names.{Names, label_of_node}
+use Rattle.event_texts.specs.FactTexts.{buffer_name, concat}
+use Rattle.picture_model.specs.declared.picture.Picture.{Picture}
+use Rattle.picture_model.specs.declared.picture.ToldMark.{ToldMark}
+use Rattle.picture_model.specs.declared.picture.Tree.{Tree}
+use Rattle.picture_model.specs.BoxLines.{fired_words, header_text}
+use Rattle.picture_model.specs.Features.{free_words}
 use Rattle.picture_layout.specs.Lengths.{capped_product, capped_sum}
 use Rattle.picture_svg.specs.declared.elements.TheConstants.{MARGIN}
 use Rattle.picture_svg.specs.Elements.{Look, Paint, look, rect_text, words_text}
-use Rattle.picture_svg.specs.Trees.{dashes_text, node_lines, trees_bottom, trees_right, svg_trees}
+use Rattle.picture_svg.specs.Legend.{legend_text}
+use Rattle.picture_svg.specs.Trees.{node_lines, trees_bottom, trees_right, svg_trees}
 
 -- ---- the width of a box
 
@@ -28,15 +28,19 @@ use Rattle.picture_svg.specs.Trees.{dashes_text, node_lines, trees_bottom, trees
 abbrev pub longest_of : List (List ℕ) → ℕ
 longest_of lines = fold (λ most line. max most (length line)) 0 lines
 
+-- the width that a node's name takes, in tenths of a pixel
 abbrev pub name_tenths : Names → NodeKey → ℕ
 name_tenths names node = capped_sum 240 (capped_product 90 (capped_sum (length (label_text (label_of_node names node))) 2))
 
+-- the width that the words below the name take, in tenths
 abbrev pub lines_tenths : Names → Node → ℕ
 lines_tenths names n = capped_sum 240 (capped_product 73 (longest_of (node_lines names n)))
 
+-- the greater of the width so far and that of this node
 abbrev pub node_tenths : Names → ℕ → Node → ℕ
 node_tenths names tenths n = max (max tenths (name_tenths names n.key)) (lines_tenths names n)
 
+-- the greater of the width so far and those of the tree's nodes
 abbrev pub tree_tenths : Names → ℕ → Tree → ℕ
 tree_tenths names tenths tree = fold (node_tenths names) tenths tree.nodes.items
 
@@ -58,23 +62,23 @@ fact_text y l words = words_text MARGIN (y - 12) l words
 abbrev pub mark_look : ToldMark → Look
 mark_look m = look 13 false (if m.fails then codes "#A84300" else codes "#222222") false
 
+-- the first lines of the marks, one below the other
 abbrev pub svg_marks : ℕ → List ToldMark → List ℕ
 svg_marks y [] = []
 svg_marks y (m ∷ ms) = fact_text y (mark_look m) m.line.items ++ svg_marks (capped_sum y 18) ms
 
+-- where the next line stands below those of the marks
 abbrev pub marks_bottom : ℕ → List ToldMark → ℕ
 marks_bottom y [] = y
 marks_bottom y (m ∷ ms) = marks_bottom (capped_sum y 18) ms
 
 -- the trackers that fired, from this row on
-abbrev pub fires_line : Names → Fired → List ℕ
-fires_line names firing = concat (codes "tracker " ∷ label_text (label_of_tracker names firing.tracker) ∷ codes " fires" ∷ [])
-
 abbrev pub svg_fires : Names → ℕ → List Fired → List ℕ
 svg_fires names y [] = []
 svg_fires names y (f ∷ fs) =
-    fact_text y (look 13 false (codes "#222222") false) (fires_line names f) ++ svg_fires names (capped_sum y 18) fs
+    fact_text y (look 13 false (codes "#222222") false) (fired_words names f) ++ svg_fires names (capped_sum y 18) fs
 
+-- where the next line stands below those of the firings
 abbrev pub fires_bottom : ℕ → List Fired → ℕ
 fires_bottom y [] = y
 fires_bottom y (f ∷ fs) = fires_bottom (capped_sum y 18) fs
@@ -85,6 +89,7 @@ fires_bottom y (f ∷ fs) = fires_bottom (capped_sum y 18) fs
 abbrev pub page_width : ℕ → ℕ
 page_width pages = if pages == 0 then 2 else max (min (800 / pages) 24) 2
 
+-- how an interval of the pool is painted
 abbrev pub cell_paint : List ℕ → List ℕ → Paint
 cell_paint fill stroke = record { rounded = 0; fill = fill; stroke = stroke; stroke_width = []; dashes = [] }
 
@@ -111,48 +116,13 @@ svg_held names y held pages = concat (
     )
 
 -- how many pages are free, behind the pool
-abbrev pub free_line_text : ℕ → ℕ → List ℕ
-free_line_text free pages = concat (decimal free ∷ codes " of " ∷ decimal pages ∷ codes " pages free" ∷ [])
-
-unfoldable pub free_words : ℕ → ℕ → ℕ → List ℕ
-free_words y free pages = words_text (capped_sum (MARGIN + 60) (capped_product (page_width pages) pages)) (capped_sum y 14)
-    (look 12 false (codes "#222222") false) (free_line_text free pages)
+unfoldable pub svg_free : ℕ → ℕ → ℕ → List ℕ
+svg_free y free pages = words_text (capped_sum (MARGIN + 60) (capped_product (page_width pages) pages)) (capped_sum y 14)
+    (look 12 false (codes "#222222") false) (free_words free pages)
 
 -- the pool in this row
 unfoldable pub svg_pool : Names → ℕ → List HeldBuffer → ℕ → ℕ → List ℕ
-svg_pool names y held free pages = concat (svg_held names y held pages ∷ free_words y free pages ∷ [])
-
--- ---- the legend
-
--- how a small box of this class looks
-abbrev pub sample_paint : Class → Paint
-sample_paint class = record {
-  rounded = 3;
-  fill = fill_text class;
-  stroke = edge_text class;
-  stroke_width = codes "1.8";
-  dashes = dashes_text class;
-}
-
--- that box, and the word for it
-unfoldable pub sample_text : ℕ → ℕ → Class → List ℕ → List ℕ
-sample_text x y class word = concat (
-    rect_text x y 18 14 (sample_paint class)
-    ∷ words_text (capped_sum x 26) (capped_sum y 12) (look 12 false (codes "#222222") false) word
-    ∷ []
-    )
-
--- what each kind of box stands for
-unfoldable pub legend_text : ℕ → List ℕ
-legend_text y = concat (
-    sample_text MARGIN y Class.Live (codes "live")
-    ∷ sample_text (MARGIN + 78) y Class.Orphan (codes "released")
-    ∷ sample_text (MARGIN + 188) y Class.Origin (codes "failed first")
-    ∷ sample_text (MARGIN + 330) y Class.Taken (codes "fell with it")
-    ∷ sample_text (MARGIN + 472) y Class.Ended (codes "ended")
-    ∷ words_text (MARGIN + 558) (capped_sum y 12) (look 12 false (codes "#222222") false) (codes "thick border: now")
-    ∷ []
-    )
+svg_pool names y held free pages = concat (svg_held names y held pages ∷ svg_free y free pages ∷ [])
 
 -- ---- the whole
 
@@ -177,6 +147,7 @@ frame_text width height = concat (
 abbrev pub clients_of : State → List ℕ
 clients_of s = map (λ (c : Client). c.id) s.clients
 
+-- the trackers that fired at the event of the picture
 abbrev pub fired_then : State → Picture → List Fired
 fired_then s picture = drop picture.fired s.trackers.fired
 
@@ -202,20 +173,24 @@ unfoldable pub pool_row : State → Names → Picture → ℕ
 pool_row s names picture =
     trees_bottom s names (clients_of s) (box_width names picture.trees.items) (trees_row s picture) picture.trees.items
 
+-- where the legend begins, from the top
 abbrev pub legend_row : State → Names → Picture → ℕ
 legend_row s names picture = capped_sum (pool_row s names picture) 44
 
+-- the height of the picture
 abbrev pub height_of : State → Names → Picture → ℕ
-height_of s names picture = capped_sum (legend_row s names picture) (14 + MARGIN)
+height_of s names picture = capped_sum (legend_row s names picture) (36 + MARGIN)
 
 -- the last column of the trees, and the width of the picture
 unfoldable pub last_column : State → Names → Picture → ℕ
 last_column s names picture =
     trees_right s names (clients_of s) (box_width names picture.trees.items) (trees_row s picture) 0 picture.trees.items
 
+-- the right end of all: of the trees, of the pool or of the legend
 abbrev pub right_of : ℕ → ℕ → ℕ
 right_of pages right = max (max right (capped_sum (MARGIN + 60 + 170) (capped_product (page_width pages) pages))) (MARGIN + 558 + 150)
 
+-- the width of the picture
 abbrev pub width_of : State → Names → Picture → ℕ
 width_of s names picture = capped_sum (right_of s.pool (last_column s names picture)) MARGIN
 

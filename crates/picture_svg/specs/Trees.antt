@@ -5,15 +5,14 @@ use Rattle.std.specs.List.{flat_map}
 use Rattle.sm_names.specs.Demands.{Demand}
 use Rattle.forest_store.specs.declared.node.Node.{Node}
 use Rattle.core_state.specs.State.{State}
-use Rattle.script_lines.specs.Labels.{label_text}
-use Rattle.script_labels.specs.Names.{Names, label_of_node}
-use Rattle.script_tales.specs.FactTexts.{concat}
-use Rattle.script_pictures.specs.declared.features.Class.{Class}
-use Rattle.script_pictures.specs.declared.picture.Tree.{Tree}
-use Rattle.script_pictures.specs.declared.travel.Travel.{Travel}
-use Rattle.script_pictures.specs.BoxLines.{asked_words, kind_words, state_words}
-use Rattle.script_pictures.specs.Colors.{edge_text, fill_text, ink_text}
-use Rattle.script_pictures.specs.Features.{class_of, place_text}
+use Rattle.script_labels.specs.Names.{Names}
+use Rattle.event_texts.specs.FactTexts.{concat}
+use Rattle.picture_model.specs.declared.features.Class.{Class}
+use Rattle.picture_model.specs.declared.picture.Tree.{Tree}
+use Rattle.picture_model.specs.declared.failure_view.Travel.{Travel}
+use Rattle.picture_model.specs.BoxLines.{asked_words, kind_words, node_words, state_words}
+use Rattle.picture_model.specs.Colors.{edge_text, fill_text, ink_text}
+use Rattle.picture_model.specs.Features.{class_of, place_text}
 use Rattle.picture_layout.specs.declared.layout.Corner.{Corner}
 use Rattle.picture_layout.specs.declared.layout.TheConstants.{BOX_HEIGHT}
 use Rattle.picture_layout.specs.declared.layout.NodeBox.{NodeBox}
@@ -48,18 +47,6 @@ box_paint left n = record {
   dashes = dashes_text (class_of n);
 }
 
--- a cross or a circle before the name of a node that left, in UTF-8
-abbrev pub sign_text : Class → List ℕ
-sign_text Class.Live = []
-sign_text Class.Orphan = []
-sign_text Class.Origin = 226 ∷ 156 ∷ 149 ∷ 32 ∷ []
-sign_text Class.Taken = 226 ∷ 156 ∷ 149 ∷ 32 ∷ []
-sign_text Class.Ended = 226 ∷ 151 ∷ 139 ∷ 32 ∷ []
-
--- the name of the node
-abbrev pub name_words : Names → Node → List ℕ
-name_words names n = concat (sign_text (class_of n) ∷ label_text (label_of_node names n.key) ∷ [])
-
 -- what it asks for, if it does
 abbrev pub asked_lines : Option Demand → List (List ℕ)
 asked_lines None = []
@@ -81,12 +68,14 @@ svg_lines x y fill (line ∷ lines) = words_text x y (look 12 false fill false) 
 -- the name of a node, and the lines below it, in a box with this corner
 abbrev pub svg_name : Names → Corner → Node → List ℕ
 svg_name names c n =
-    words_text (capped_sum c.x 10) (capped_sum c.y 20) (look 15 true (ink_text (class_of n)) false) (name_words names n)
+    words_text (capped_sum c.x 10) (capped_sum c.y 20) (look 15 true (ink_text (class_of n)) false) (node_words names n)
 
+-- the words below the name in a node's box
 abbrev pub svg_words_below : Names → Corner → Node → List ℕ
 svg_words_below names c n =
     svg_lines (capped_sum c.x 10) (capped_sum c.y 38) (ink_text (class_of n)) (node_lines names n)
 
+-- the words in a node's box
 unfoldable pub svg_box_words : Names → Corner → Node → List ℕ
 svg_box_words names c n = concat (svg_name names c n ∷ svg_words_below names c n ∷ [])
 
@@ -130,6 +119,7 @@ unfoldable pub tree_bottom : State → Names → List ℕ → ℕ → ℕ → Tr
 tree_bottom s names clients width y tree =
     capped_sum (bars_bottom (bars_row width y tree) (shown_of s names clients tree)) 26
 
+-- the last column of a tree with its buffers
 unfoldable pub tree_right : State → Names → List ℕ → ℕ → ℕ → ℕ → Tree → ℕ
 tree_right s names clients width y right tree =
     bars_right width (nodes_right width y right tree) (shown_of s names clients tree)
@@ -141,10 +131,12 @@ svg_trees s names clients travels width y (t ∷ ts) =
     svg_tree s names clients travels width y t
     ++ svg_trees s names clients travels width (tree_bottom s names clients width y t) ts
 
+-- where the next thing stands below the trees
 abbrev pub trees_bottom : State → Names → List ℕ → ℕ → ℕ → List Tree → ℕ
 trees_bottom s names clients width y [] = y
 trees_bottom s names clients width y (t ∷ ts) = trees_bottom s names clients width (tree_bottom s names clients width y t) ts
 
+-- the right end of the trees
 abbrev pub trees_right : State → Names → List ℕ → ℕ → ℕ → ℕ → List Tree → ℕ
 trees_right s names clients width y right [] = right
 trees_right s names clients width y right (t ∷ ts) =

@@ -3,17 +3,15 @@ ghost use Rattle.std.specs.Prelude.{◌≡◌, ◌++◌, codes, IfOk, OnOk, map}
 ghost use Rattle.std.specs.List.{filter};
 ghost use Rattle.script_labels.specs.Names.{Names};
 ghost use Rattle.script_labels.specs.Tables.{Keeps};
-ghost use Rattle.script_tales.specs.Called.{Calls};
-ghost use Rattle.picture_svg.specs.Bars.{bar_text, bars_bottom, bars_right, bars_text, words_column, buffer_line as line_of_buffer, freed_shown, has_index as has_index_in, held_shown, kept_line as line_of_keepers, live_part, shown_at, shown_in, shown_of, words_before as words_before_handles};
+ghost use Rattle.event_texts.specs.Called.{Calls};
+ghost use Rattle.picture_svg.specs.Bars.{bar_text, bars_bottom, bars_right, bars_text, words_column, buffer_line as line_of_buffer, freed_shown, has_index as has_index_in, held_shown, kept_line as line_of_keepers, shown_at, shown_in, shown_of};
 
 use crate::elements::{MARGIN, Rect, plain, push_rect, push_words};
+use event_texts::EventWriter;
 use picture_layout::{COLUMN_GAP, plus, times};
-use script_labels::Tables;
+use picture_model::colors::{EARTH, SAND, WHITE};
+use picture_model::{Tree, push_keepers, push_pages};
 use script_lines::push;
-use script_pictures::colors::{EARTH, SAND, WHITE};
-use script_pictures::{Tree, push_pages};
-use script_tales::words::push_nodes;
-use script_tales::{Teller, push_holders};
 use sm_names::{ClientId, HeldBuffer, MAX_BUFFERS, NodeKey};
 use std::alloc::{AllocError, Global};
 
@@ -40,17 +38,17 @@ pub(crate) struct Extent {
 
 // The buffers of a tree by index, those that gave their pages back among them.
 pub(crate) fn bars_of(
-    teller: &Teller,
+    event_writer: &EventWriter,
     clients: &Vec<ClientId>,
     tree: &Tree,
 ) -> Result<Vec<Bar>, AllocError>
-    ensures { IfOk result (λ bars. (names : Names) → Keeps teller.now.session.tables names →
-        Calls teller.now.labels names → map shown_in bars.items
-        ≡ shown_of teller.now.session.core names clients.now.items tree.now) }
+    ensures { IfOk result (λ bars. (names : Names) → Keeps event_writer.now.session.tables names →
+        Calls event_writer.now.labels names → map shown_in bars.items
+        ≡ shown_of event_writer.now.session.core names clients.now.items tree.now) }
 {
     let mut bars = Vec::new(*clients.allocator());
     for index in 0..INDICES {
-        add_index(&mut bars, teller, clients, tree, index)?;
+        add_index(&mut bars, event_writer, clients, tree, index)?;
     }
     Ok(bars)
 }
@@ -58,35 +56,35 @@ pub(crate) fn bars_of(
 // Puts the buffers with this index behind those that are there.
 fn add_index(
     bars: &mut Vec<Bar>,
-    teller: &Teller,
+    event_writer: &EventWriter,
     clients: &Vec<ClientId>,
     tree: &Tree,
     index: u8,
 ) -> Result<(), AllocError>
-    ensures { OnOk result ((names : Names) → Keeps teller.now.session.tables names →
-        Calls teller.now.labels names → map shown_in bars.new.items ≡ map shown_in bars.old.items
-        ++ shown_at teller.now.session.core names clients.now.items tree.now index) }
+    ensures { OnOk result ((names : Names) → Keeps event_writer.now.session.tables names →
+        Calls event_writer.now.labels names → map shown_in bars.new.items ≡ map shown_in bars.old.items
+        ++ shown_at event_writer.now.session.core names clients.now.items tree.now index) }
 {
-    add_held(bars, teller, clients, tree, index)?;
-    add_freed(bars, teller, &tree.freed, index)
+    add_held(bars, event_writer, clients, tree, index)?;
+    add_freed(bars, event_writer, &tree.freed, index)
 }
 
 // Puts the buffers with pages and this index behind those that are there.
 fn add_held(
     bars: &mut Vec<Bar>,
-    teller: &Teller,
+    event_writer: &EventWriter,
     clients: &Vec<ClientId>,
     tree: &Tree,
     index: u8,
 ) -> Result<(), AllocError>
-    ensures { OnOk result ((names : Names) → Keeps teller.now.session.tables names →
-        Calls teller.now.labels names → map shown_in bars.new.items ≡ map shown_in bars.old.items
-        ++ map (held_shown teller.now.session.core names clients.now.items tree.now.strong.items)
+    ensures { OnOk result ((names : Names) → Keeps event_writer.now.session.tables names →
+        Calls event_writer.now.labels names → map shown_in bars.new.items ≡ map shown_in bars.old.items
+        ++ map (held_shown event_writer.now.session.core names clients.now.items tree.now.strong.items)
         (filter (has_index_in index) tree.now.held.items)) }
 {
     for held in &tree.held {
         if has_index(*held, index) {
-            bars.push(held_bar(teller, clients, &tree.strong, *held)?)?;
+            bars.push(held_bar(event_writer, clients, &tree.strong, *held)?)?;
         }
     }
     Ok(())
@@ -95,17 +93,17 @@ fn add_held(
 // Puts the buffers with this index that gave their pages back behind those that are there.
 fn add_freed(
     bars: &mut Vec<Bar>,
-    teller: &Teller,
+    event_writer: &EventWriter,
     freed: &[HeldBuffer],
     index: u8,
 ) -> Result<(), AllocError>
-    ensures { OnOk result ((names : Names) → Keeps teller.now.session.tables names →
+    ensures { OnOk result ((names : Names) → Keeps event_writer.now.session.tables names →
         map shown_in bars.new.items ≡ map shown_in bars.old.items
         ++ map (freed_shown names) (filter (has_index_in index) freed.now)) }
 {
     for held in freed {
         if has_index(*held, index) {
-            bars.push(freed_bar(*bars.allocator(), teller, *held)?)?;
+            bars.push(freed_bar(*bars.allocator(), event_writer, *held)?)?;
         }
     }
     Ok(())
@@ -120,17 +118,17 @@ fn has_index(held: HeldBuffer, index: u8) -> bool
 
 // A buffer with pages.
 fn held_bar(
-    teller: &Teller,
+    event_writer: &EventWriter,
     clients: &Vec<ClientId>,
     strong: &[NodeKey],
     held: HeldBuffer,
 ) -> Result<Bar, AllocError>
-    ensures { IfOk result (λ bar. (names : Names) → Keeps teller.now.session.tables names →
-        Calls teller.now.labels names → shown_in bar
-        ≡ held_shown teller.now.session.core names clients.now.items strong.now held) }
+    ensures { IfOk result (λ bar. (names : Names) → Keeps event_writer.now.session.tables names →
+        Calls event_writer.now.labels names → shown_in bar
+        ≡ held_shown event_writer.now.session.core names clients.now.items strong.now held) }
 {
-    let name = buffer_line(*clients.allocator(), teller, held)?;
-    let keepers = kept_line(teller, clients, strong, held)?;
+    let name = buffer_line(*clients.allocator(), event_writer, held)?;
+    let keepers = kept_line(event_writer, clients, strong, held)?;
     let letters = keepers.len() as u64;
     Ok(Bar {
         name,
@@ -142,39 +140,47 @@ fn held_bar(
 }
 
 // A buffer that gave its pages back.
-fn freed_bar(alloc: Global, teller: &Teller, freed: HeldBuffer) -> Result<Bar, AllocError>
-    ensures { IfOk result (λ bar. (names : Names) → Keeps teller.now.session.tables names →
+fn freed_bar(
+    alloc: Global,
+    event_writer: &EventWriter,
+    freed: HeldBuffer,
+) -> Result<Bar, AllocError>
+    ensures { IfOk result (λ bar. (names : Names) → Keeps event_writer.now.session.tables names →
         shown_in bar ≡ freed_shown names freed) }
 {
-    let name = buffer_line(alloc, teller, freed)?;
+    let name = buffer_line(alloc, event_writer, freed)?;
     let keepers = words_for_freed(alloc)?;
     Ok(Bar {
         name,
         keepers,
-        letters: 8,
+        letters: 4,
         fill: WHITE,
         dashes: "3 3",
     })
 }
 
-// Who keeps a buffer that gave its pages back.
+// What is said of a buffer that gave its pages back.
 fn words_for_freed(alloc: Global) -> Result<Vec<u8>, AllocError>
     ensures { IfOk result (λ words.
-        words.items ≡ codes "free again: no handle, no live strong node") }
+        words.items ≡ codes "home") }
 {
     let mut words = Vec::new(alloc);
-    push(&mut words, "free again: no handle, no live strong node")?;
+    push(&mut words, "home")?;
     Ok(words)
 }
 
 // The name and the pages of a buffer.
 #[tactic(auto, unfolding(crate::specs::Bars::buffer_line))]
-fn buffer_line(alloc: Global, teller: &Teller, held: HeldBuffer) -> Result<Vec<u8>, AllocError>
-    ensures { IfOk result (λ line. (names : Names) → Keeps teller.now.session.tables names →
+fn buffer_line(
+    alloc: Global,
+    event_writer: &EventWriter,
+    held: HeldBuffer,
+) -> Result<Vec<u8>, AllocError>
+    ensures { IfOk result (λ line. (names : Names) → Keeps event_writer.now.session.tables names →
         line.items ≡ line_of_buffer names held) }
 {
     let mut line = Vec::new(alloc);
-    teller.push_buffer_name(&mut line, held.buffer)?;
+    event_writer.push_buffer_name(&mut line, held.buffer)?;
     push(&mut line, "  ")?;
     push_pages(&mut line, held.pages)?;
     Ok(line)
@@ -183,51 +189,19 @@ fn buffer_line(alloc: Global, teller: &Teller, held: HeldBuffer) -> Result<Vec<u
 // Who keeps a buffer.
 #[tactic(auto, unfolding(crate::specs::Bars::kept_line))]
 fn kept_line(
-    teller: &Teller,
+    event_writer: &EventWriter,
     clients: &Vec<ClientId>,
     strong: &[NodeKey],
     held: HeldBuffer,
 ) -> Result<Vec<u8>, AllocError>
-    ensures { IfOk result (λ line. (names : Names) → Keeps teller.now.session.tables names →
-        Calls teller.now.labels names → line.items
-        ≡ line_of_keepers teller.now.session.core names clients.now.items strong.now held) }
+    ensures { IfOk result (λ line. (names : Names) → Keeps event_writer.now.session.tables names →
+        Calls event_writer.now.labels names → line.items
+        ≡ line_of_keepers event_writer.now.session.core names clients.now.items strong.now held) }
 {
     let mut line = Vec::new(*clients.allocator());
     push(&mut line, "kept by ")?;
-    push_live(&mut line, &teller.session.tables, strong)?;
-    let (core, labels) = (&teller.session.core, &teller.labels);
-    push_holders(
-        &mut line,
-        core,
-        labels,
-        clients,
-        held.buffer,
-        words_before(strong),
-    )?;
+    push_keepers(&mut line, event_writer, clients, strong, held.buffer)?;
     Ok(line)
-}
-
-// Appends the live nodes that keep a buffer, if there are some.
-fn push_live(line: &mut Vec<u8>, tables: &Tables, nodes: &[NodeKey]) -> Result<(), AllocError>
-    ensures { OnOk result ((names : Names) → Keeps tables.now names →
-        line.new.items ≡ line.old.items ++ live_part names nodes.now) }
-{
-    if nodes.is_empty() {
-        return Ok(());
-    }
-    push(line, "live nodes")?;
-    push_nodes(line, tables, nodes)
-}
-
-// What stands before the handles on a buffer that these nodes keep.
-fn words_before(nodes: &[NodeKey]) -> &'static str
-    ensures { result.now ≡ words_before_handles nodes.now }
-{
-    if nodes.is_empty() {
-        "handles: "
-    } else {
-        "; handles: "
-    }
 }
 
 // Draws these buffers from this row on, where a box has this width; answers the row below them, and their last

@@ -4,10 +4,9 @@ ghost use Rattle.picture_layout.specs.Lengths.{capped_sum};
 ghost use Rattle.picture_svg.specs.Elements.{anchor_text, attribute, circle_text, corner_text, look, look_of, paint_of, paint_text, rect_text, rounded_text, weight_text, words_text};
 
 use picture_layout::plus;
-use script_lines::push;
-use script_pictures::colors::{INK, RED};
+use picture_model::colors::{INK, RED};
+use script_lines::{Part, push, push_parts};
 use std::alloc::AllocError;
-use text_parts::{Part, push_parts};
 
 // The margin of a picture.
 pub(crate) const MARGIN: u64 = 28;

@@ -4,6 +4,7 @@
 mod bars;
 mod box_lines;
 mod elements;
+mod legend;
 mod links;
 mod picture;
 mod tree;

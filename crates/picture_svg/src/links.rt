@@ -1,19 +1,18 @@
 //! The links of a tree as a vector graphic.
 ghost use Rattle.std.specs.Prelude.{◌≡◌, ◌++◌, List, OnOk};
 ghost use Rattle.std.specs.List.{flat_map};
-ghost use Rattle.script_pictures.specs.declared.travel.Travel.{Travel as Step};
-ghost use Rattle.script_pictures.specs.Travels.{FindsTravels};
+ghost use Rattle.picture_model.specs.declared.failure_view.Travel.{Travel as Step};
+ghost use Rattle.picture_model.specs.Travels.{FindsTravels};
 ghost use Rattle.picture_svg.specs.Links.{svg_arrow, svg_stop_end, box_link, svg_end, foot_corner, head_corner, line_color, line_dashes, line_start, svg_line, line_width, svg_link, path_text, svg_stop, way_path};
 
 use crate::elements::{push_step, push_word};
 use event_facts::KeyMap;
 use forest_store::Node;
 use picture_layout::{BOX_HEIGHT, Corner, NodeBox, ROW_GAP, minus, plus};
-use script_lines::push;
-use script_pictures::colors::{GREY, INK, RED};
-use script_pictures::{Travel, Way, way_of};
+use picture_model::colors::{GREY, INK, RED};
+use picture_model::{Link, Travel, Way, link_of, way_of};
+use script_lines::{Part, push, push_parts};
 use std::alloc::AllocError;
-use text_parts::{Part, push_parts};
 
 // Draws the links of the nodes, in their order, where a box has this width.
 pub(crate) fn push_links(
@@ -86,17 +85,17 @@ fn push_link(
     ensures { OnOk result (body.new.items ≡ body.old.items ++ svg_link node.now from to way) }
 {
     push_way(body, from, to, way)?;
-    push_line(body, node, way)?;
+    push_line(body, link_of(node), way)?;
     push_end(body, to, way)
 }
 
-// Appends how a link looks.
+// Appends how a link of this kind looks, along which a failure went so.
 #[tactic(auto, unfolding(crate::specs::Links::svg_line))]
-fn push_line(body: &mut Vec<u8>, node: &Node, way: Option<Way>) -> Result<(), AllocError>
-    ensures { OnOk result (body.new.items ≡ body.old.items ++ svg_line node.now way) }
+pub(crate) fn push_line(body: &mut Vec<u8>, link: Link, way: Option<Way>) -> Result<(), AllocError>
+    ensures { OnOk result (body.new.items ≡ body.old.items ++ svg_line link way) }
 {
     push_stroke(body, way)?;
-    push_word(body, "stroke-dasharray", dashes_of(node))
+    push_word(body, "stroke-dasharray", dashes_of(link))
 }
 
 // Appends the colour and the width of a link.
@@ -140,11 +139,15 @@ fn width_of(way: Option<Way>) -> &'static str
     }
 }
 
-// The dashes of the link of a node.
-fn dashes_of(node: &Node) -> &'static str
-    ensures { result.now ≡ line_dashes node.now }
+// The dashes of a link: none, long ones, or dots.
+fn dashes_of(link: Link) -> &'static str
+    ensures { result.now ≡ line_dashes link }
 {
-    if node.attached { "7 5" } else { "" }
+    match link {
+        Link::Normal => "",
+        Link::Attached => "7 5",
+        Link::Dispensable => "2 4",
+    }
 }
 
 // Draws the end of a link, and the step at which a failure followed it.
@@ -244,7 +247,12 @@ fn push_bends(
 
 // Draws a bar from this corner to this column, and at the other corner that a failure stopped.
 #[tactic(auto, unfolding(crate::specs::Links::svg_stop))]
-fn push_stop(body: &mut Vec<u8>, start: Corner, right: u64, words: Corner) -> Result<(), AllocError>
+pub(crate) fn push_stop(
+    body: &mut Vec<u8>,
+    start: Corner,
+    right: u64,
+    words: Corner,
+) -> Result<(), AllocError>
     ensures { OnOk result (body.new.items
         ≡ body.old.items ++ svg_stop start.x start.y right words.x words.y) }
 {
@@ -265,7 +273,7 @@ fn push_stop(body: &mut Vec<u8>, start: Corner, right: u64, words: Corner) -> Re
             Part::Number(words.y),
             Part::Word("\" font-size=\"12\" font-weight=\"bold\" fill=\""),
             Part::Word(INK),
-            Part::Word("\">stops here</text>\n"),
+            Part::Word("\">stops</text>\n"),
         ],
     )
 }

@@ -5,29 +5,34 @@ ghost use Rattle.forest_store.specs.Forest.{held_by_page};
 ghost use Rattle.core_state.specs.Reads.{views_of};
 ghost use Rattle.script_labels.specs.Names.{Names};
 ghost use Rattle.script_labels.specs.Tables.{Keeps};
-ghost use Rattle.script_tales.specs.Called.{Calls};
+ghost use Rattle.event_texts.specs.Called.{Calls};
+ghost use Rattle.picture_model.specs.BoxLines.{fired_words};
+ghost use Rattle.picture_model.specs.Features.{free_words};
 ghost use Rattle.picture_svg.specs.Elements.{look, look_of, rect_text};
 ghost use Rattle.picture_svg.specs.Trees.{line_items};
-ghost use Rattle.picture_svg.specs.SvgPictures.{all_trees, body_text, box_width as width_of_box, cell_name, cell_paint, fact_text, fires_bottom, fires_line, svg_fires, frame_text, framed_text, free_line_text, free_words, height_of, held_cell, svg_held, last_column, legend_text, lines_tenths as tenths_of_lines, longest_of as longest_in, mark_look, marks_bottom, svg_marks, name_tenths as tenths_of_name, node_tenths as tenths_of_node, page_width as width_of_page, pool_row, svg_pool, right_of, sample_paint, sample_text, svg_text, title_text, svg_told, tree_tenths as tenths_of_tree, trees_row, width_of};
+ghost use Rattle.picture_svg.specs.SvgPictures.{all_trees, body_text, box_width as width_of_box, cell_name, cell_paint, fact_text, fires_bottom, svg_fires, frame_text, framed_text, height_of, held_cell, svg_free, svg_held, last_column, lines_tenths as tenths_of_lines, longest_of as longest_in, mark_look, marks_bottom, svg_marks, name_tenths as tenths_of_name, node_tenths as tenths_of_node, page_width as width_of_page, pool_row, svg_pool, right_of, svg_text, title_text, svg_told, tree_tenths as tenths_of_tree, trees_row, width_of};
 
 use crate::bars::Extent;
 use crate::box_lines::node_lines;
 use crate::elements::{MARGIN, Rect, Style, bold, colored, plain, push_rect, push_words};
-use crate::tree::{dashes_of, push_trees};
+use crate::legend::push_legend;
+use crate::tree::push_trees;
 use event_facts::fired_since;
+use event_texts::EventWriter;
+use event_texts::words::push_name;
 use forest_store::Node;
 use picture_layout::{minus, plus, times};
+use picture_model::colors::{DEEP, EARTH, GREY, INK, RED, SAND, WHITE};
+use picture_model::{
+    Picture, ToldMark, Tree, push_fired, push_free_pages, push_header, travels_by_node,
+};
 use script_labels::{Stop, Tables};
-use script_pictures::colors::{DEEP, EARTH, GREY, INK, RED, SAND, WHITE, edge_color, fill_color};
-use script_pictures::{Class, Picture, ToldMark, Tree, push_header, travels_by_node};
-use script_tales::Teller;
-use script_tales::words::push_name;
+use script_lines::{Part, push_parts};
 use sm_names::{Fired, HeldBuffer, NodeKey};
 use std::alloc::{AllocError, Global};
-use text_parts::{Part, push_parts};
 
 /// Appends the picture; the last event has this line. It shows what the event did, the trees, the
-/// pool, and what the colours stand for.
+/// pool, and what its signs stand for.
 ///
 /// `NoMemory` where memory is refused. Costs O(n log n) for the n nodes of each tree and the n links that
 /// failures followed, a look into a table for each label, and for each buffer a look-up for each client
@@ -35,16 +40,16 @@ use text_parts::{Part, push_parts};
 #[tactic(auto, unfolding(crate::specs::SvgPictures::svg_text))]
 pub fn push_svg(
     text: &mut Vec<u8>,
-    teller: &Teller,
+    event_writer: &EventWriter,
     picture: &Picture,
     line: &[u8],
 ) -> Result<(), Stop>
-    ensures { OnOk result ((names : Names) → Keeps teller.now.session.tables names →
-        Calls teller.now.labels names → text.new.items ≡ text.old.items
-        ++ svg_text teller.now.session.core names line.now picture.now) }
+    ensures { OnOk result ((names : Names) → Keeps event_writer.now.session.tables names →
+        Calls event_writer.now.labels names → text.new.items ≡ text.old.items
+        ++ svg_text event_writer.now.session.core names line.now picture.now) }
 {
     let mut body = Vec::new(*text.allocator());
-    let extent = push_body(&mut body, teller, picture, line)?;
+    let extent = push_body(&mut body, event_writer, picture, line)?;
     push_whole(text, extent, &body)?;
     Ok(())
 }
@@ -62,30 +67,30 @@ fn push_whole(text: &mut Vec<u8>, extent: Extent, body: &Vec<u8>) -> Result<(), 
 #[tactic(auto, unfolding(crate::specs::SvgPictures::body_text))]
 fn push_body(
     body: &mut Vec<u8>,
-    teller: &Teller,
+    event_writer: &EventWriter,
     picture: &Picture,
     line: &[u8],
 ) -> Result<Extent, Stop>
-    ensures text { OnOk result ((names : Names) → Keeps teller.now.session.tables names →
-        Calls teller.now.labels names → body.new.items ≡ body.old.items
-        ++ body_text teller.now.session.core names line.now picture.now) }
-    ensures bottom { IfOk result (λ extent. (names : Names) → Keeps teller.now.session.tables names →
-        Calls teller.now.labels names →
-        extent.bottom ≡ height_of teller.now.session.core names picture.now) }
-    ensures right { IfOk result (λ extent. (names : Names) → Keeps teller.now.session.tables names →
-        Calls teller.now.labels names →
-        extent.right ≡ width_of teller.now.session.core names picture.now) }
+    ensures text { OnOk result ((names : Names) → Keeps event_writer.now.session.tables names →
+        Calls event_writer.now.labels names → body.new.items ≡ body.old.items
+        ++ body_text event_writer.now.session.core names line.now picture.now) }
+    ensures bottom { IfOk result (λ extent. (names : Names) → Keeps event_writer.now.session.tables names →
+        Calls event_writer.now.labels names →
+        extent.bottom ≡ height_of event_writer.now.session.core names picture.now) }
+    ensures right { IfOk result (λ extent. (names : Names) → Keeps event_writer.now.session.tables names →
+        Calls event_writer.now.labels names →
+        extent.right ≡ width_of event_writer.now.session.core names picture.now) }
 {
-    push_title(body, teller.session.core.events(), line)?;
-    let row = push_told(body, teller, picture)?;
-    let trees = push_all_trees(body, teller, picture, row)?;
-    push_pool(body, teller, trees.bottom)?;
+    push_title(body, event_writer.session.core.events(), line)?;
+    let row = push_told(body, event_writer, picture)?;
+    let trees = push_all_trees(body, event_writer, picture, row)?;
+    push_pool(body, event_writer, trees.bottom)?;
     let legend = plus(trees.bottom, 44);
     push_legend(body, legend)?;
     Ok(Extent {
-        bottom: plus(legend, 14 + MARGIN),
+        bottom: plus(legend, 36 + MARGIN),
         right: plus(
-            right_column(teller.session.core.pages(), trees.right),
+            right_column(event_writer.session.core.pages(), trees.right),
             MARGIN,
         ),
     })
@@ -103,24 +108,32 @@ fn right_column(pages: u32, trees: u64) -> u64
 #[tactic(auto, unfolding(crate::specs::SvgPictures::all_trees))]
 fn push_all_trees(
     body: &mut Vec<u8>,
-    teller: &Teller,
+    event_writer: &EventWriter,
     picture: &Picture,
     row: u64,
 ) -> Result<Extent, Stop>
-    ensures text { OnOk result ((names : Names) → Keeps teller.now.session.tables names →
-        Calls teller.now.labels names → row ≡ trees_row teller.now.session.core picture.now →
-        body.new.items ≡ body.old.items ++ all_trees teller.now.session.core names picture.now) }
-    ensures bottom { IfOk result (λ extent. (names : Names) → Keeps teller.now.session.tables names →
-        Calls teller.now.labels names → row ≡ trees_row teller.now.session.core picture.now →
-        extent.bottom ≡ pool_row teller.now.session.core names picture.now) }
-    ensures right { IfOk result (λ extent. (names : Names) → Keeps teller.now.session.tables names →
-        Calls teller.now.labels names → row ≡ trees_row teller.now.session.core picture.now →
-        extent.right ≡ last_column teller.now.session.core names picture.now) }
+    ensures text { OnOk result ((names : Names) → Keeps event_writer.now.session.tables names →
+        Calls event_writer.now.labels names → row ≡ trees_row event_writer.now.session.core picture.now →
+        body.new.items ≡ body.old.items ++ all_trees event_writer.now.session.core names picture.now) }
+    ensures bottom { IfOk result (λ extent. (names : Names) → Keeps event_writer.now.session.tables names →
+        Calls event_writer.now.labels names → row ≡ trees_row event_writer.now.session.core picture.now →
+        extent.bottom ≡ pool_row event_writer.now.session.core names picture.now) }
+    ensures right { IfOk result (λ extent. (names : Names) → Keeps event_writer.now.session.tables names →
+        Calls event_writer.now.labels names → row ≡ trees_row event_writer.now.session.core picture.now →
+        extent.right ≡ last_column event_writer.now.session.core names picture.now) }
 {
-    let clients = teller.session.core.clients()?;
+    let clients = event_writer.session.core.clients()?;
     let travels = travels_by_node(*body.allocator(), &picture.travels)?;
-    let width = box_width(teller, &picture.trees)?;
-    let extent = push_trees(body, teller, &clients, &picture.trees, &travels, width, row)?;
+    let width = box_width(event_writer, &picture.trees)?;
+    let extent = push_trees(
+        body,
+        event_writer,
+        &clients,
+        &picture.trees,
+        &travels,
+        width,
+        row,
+    )?;
     Ok(extent)
 }
 
@@ -137,45 +150,50 @@ fn push_framed(text: &mut Vec<u8>, body: &Vec<u8>) -> Result<(), AllocError>
 
 // The width that a box needs: an even number, for the longest line of all boxes.
 #[tactic(auto, unfolding(crate::specs::SvgPictures::box_width))]
-fn box_width(teller: &Teller, trees: &[Tree]) -> Result<u64, AllocError>
-    ensures { IfOk result (λ width. (names : Names) → Keeps teller.now.session.tables names →
-        Calls teller.now.labels names → width ≡ width_of_box names trees.now) }
+fn box_width(event_writer: &EventWriter, trees: &[Tree]) -> Result<u64, AllocError>
+    ensures { IfOk result (λ width. (names : Names) → Keeps event_writer.now.session.tables names →
+        Calls event_writer.now.labels names → width ≡ width_of_box names trees.now) }
 {
-    let tenths = all_tenths(teller, trees)?;
+    let tenths = all_tenths(event_writer, trees)?;
     Ok(plus(tenths, 10) / 10 / 2 * 2)
 }
 
 // The width that the longest line of all boxes needs, in tenths, and at least that of a narrow box.
-fn all_tenths(teller: &Teller, trees: &[Tree]) -> Result<u64, AllocError>
-    ensures { IfOk result (λ tenths. (names : Names) → Keeps teller.now.session.tables names →
-        Calls teller.now.labels names → tenths ≡ fold (tenths_of_tree names) 2000 trees.now) }
+fn all_tenths(event_writer: &EventWriter, trees: &[Tree]) -> Result<u64, AllocError>
+    ensures { IfOk result (λ tenths. (names : Names) → Keeps event_writer.now.session.tables names →
+        Calls event_writer.now.labels names → tenths ≡ fold (tenths_of_tree names) 2000 trees.now) }
 {
     let mut tenths: u64 = 2000;
     for tree in trees {
-        tenths = tree_tenths(teller, tree, tenths)?;
+        tenths = tree_tenths(event_writer, tree, tenths)?;
     }
     Ok(tenths)
 }
 
 // The width that the longest line of the tree's boxes needs, in tenths, or this one.
-fn tree_tenths(teller: &Teller, tree: &Tree, start: u64) -> Result<u64, AllocError>
-    ensures { IfOk result (λ tenths. (names : Names) → Keeps teller.now.session.tables names →
-        Calls teller.now.labels names → tenths ≡ tenths_of_tree names start tree.now) }
+fn tree_tenths(event_writer: &EventWriter, tree: &Tree, start: u64) -> Result<u64, AllocError>
+    ensures { IfOk result (λ tenths. (names : Names) → Keeps event_writer.now.session.tables names →
+        Calls event_writer.now.labels names → tenths ≡ tenths_of_tree names start tree.now) }
 {
     let mut tenths = start;
     for node in &tree.nodes {
-        tenths = node_tenths(*tree.nodes.allocator(), teller, node, tenths)?;
+        tenths = node_tenths(*tree.nodes.allocator(), event_writer, node, tenths)?;
     }
     Ok(tenths)
 }
 
 // The width that the longest line of the node's box needs, in tenths, or this one.
-fn node_tenths(alloc: Global, teller: &Teller, node: &Node, start: u64) -> Result<u64, AllocError>
-    ensures { IfOk result (λ tenths. (names : Names) → Keeps teller.now.session.tables names →
-        Calls teller.now.labels names → tenths ≡ tenths_of_node names start node.now) }
+fn node_tenths(
+    alloc: Global,
+    event_writer: &EventWriter,
+    node: &Node,
+    start: u64,
+) -> Result<u64, AllocError>
+    ensures { IfOk result (λ tenths. (names : Names) → Keeps event_writer.now.session.tables names →
+        Calls event_writer.now.labels names → tenths ≡ tenths_of_node names start node.now) }
 {
-    let head = name_tenths(alloc, &teller.session.tables, node.key)?;
-    let below = lines_tenths(alloc, teller, node)?;
+    let head = name_tenths(alloc, &event_writer.session.tables, node.key)?;
+    let below = lines_tenths(alloc, event_writer, node)?;
     Ok(start.max(head).max(below))
 }
 
@@ -190,11 +208,11 @@ fn name_tenths(alloc: Global, tables: &Tables, node: NodeKey) -> Result<u64, All
 }
 
 // The width that the longest line of the node's box below its name needs, in tenths.
-fn lines_tenths(alloc: Global, teller: &Teller, node: &Node) -> Result<u64, AllocError>
-    ensures { IfOk result (λ tenths. (names : Names) → Keeps teller.now.session.tables names →
-        Calls teller.now.labels names → tenths ≡ tenths_of_lines names node.now) }
+fn lines_tenths(alloc: Global, event_writer: &EventWriter, node: &Node) -> Result<u64, AllocError>
+    ensures { IfOk result (λ tenths. (names : Names) → Keeps event_writer.now.session.tables names →
+        Calls event_writer.now.labels names → tenths ≡ tenths_of_lines names node.now) }
 {
-    let lines = node_lines(alloc, teller, node)?;
+    let lines = node_lines(alloc, event_writer, node)?;
     Ok(plus(240, times(73, longest_of(&lines))))
 }
 
@@ -221,14 +239,18 @@ fn push_title(body: &mut Vec<u8>, event: u64, line: &[u8]) -> Result<(), AllocEr
 
 // Draws what the event did, in a line for each mark and each firing; answers the row of the trees.
 #[tactic(auto, unfolding(crate::specs::SvgPictures::svg_told))]
-fn push_told(body: &mut Vec<u8>, teller: &Teller, picture: &Picture) -> Result<u64, AllocError>
-    ensures text { OnOk result ((names : Names) → Keeps teller.now.session.tables names →
-        body.new.items ≡ body.old.items ++ svg_told teller.now.session.core names picture.now) }
-    ensures row { IfOk result (λ row. row ≡ trees_row teller.now.session.core picture.now) }
+fn push_told(
+    body: &mut Vec<u8>,
+    event_writer: &EventWriter,
+    picture: &Picture,
+) -> Result<u64, AllocError>
+    ensures text { OnOk result ((names : Names) → Keeps event_writer.now.session.tables names →
+        body.new.items ≡ body.old.items ++ svg_told event_writer.now.session.core names picture.now) }
+    ensures row { IfOk result (λ row. row ≡ trees_row event_writer.now.session.core picture.now) }
 {
     let row = push_marks(body, &picture.told, MARGIN + 50)?;
-    let fired = fired_since(&teller.session.core, picture.fired);
-    let below = push_fires(body, &teller.session.tables, fired, row)?;
+    let fired = fired_since(&event_writer.session.core, picture.fired);
+    let below = push_fires(body, &event_writer.session.tables, fired, row)?;
     Ok(plus(below, 8))
 }
 
@@ -272,36 +294,29 @@ fn push_fires(
     let mut y = row;
     let mut rest = fired;
     'firings: while let Some((firing, later)) = rest.split_first() {
-        push_fired(body, tables, *firing, y)?;
+        push_firing(body, tables, *firing, y)?;
         y = plus(y, 18);
         rest = later;
     }
     Ok(y)
 }
 
-// Draws above this row that a tracker fires.
-fn push_fired(body: &mut Vec<u8>, tables: &Tables, firing: Fired, y: u64) -> Result<(), AllocError>
+// Draws above this row that a tracker fired.
+fn push_firing(body: &mut Vec<u8>, tables: &Tables, firing: Fired, y: u64) -> Result<(), AllocError>
     ensures { OnOk result ((names : Names) → Keeps tables.now names → body.new.items
-        ≡ body.old.items ++ fact_text y (look 13 false (codes "#222222") false) (fires_line names firing)) }
+        ≡ body.old.items ++ fact_text y (look 13 false (codes "#222222") false) (fired_words names firing)) }
 {
     let line = firing_line(*body.allocator(), tables, firing)?;
     push_fact(body, y, plain(13), &line)
 }
 
-// That a tracker fires.
+// That a tracker fired, and at which event.
 fn firing_line(alloc: Global, tables: &Tables, firing: Fired) -> Result<Vec<u8>, AllocError>
     ensures { IfOk result (λ line. (names : Names) → Keeps tables.now names →
-        line.items ≡ fires_line names firing) }
+        line.items ≡ fired_words names firing) }
 {
     let mut line = Vec::new(alloc);
-    push_parts(
-        &mut line,
-        &[
-            Part::Word("tracker "),
-            Part::Name(tables.tracker_label(firing.tracker)),
-            Part::Word(" fires"),
-        ],
-    )?;
+    push_fired(&mut line, tables, firing)?;
     Ok(line)
 }
 
@@ -326,15 +341,15 @@ fn page_width(pages: u32) -> u64
 
 // Draws the pages of the pool in this row, and which buffers hold them.
 #[tactic(auto, unfolding(crate::specs::SvgPictures::svg_pool))]
-fn push_pool(body: &mut Vec<u8>, teller: &Teller, y: u64) -> Result<(), Stop>
-    ensures { OnOk result ((names : Names) → Keeps teller.now.session.tables names →
+fn push_pool(body: &mut Vec<u8>, event_writer: &EventWriter, y: u64) -> Result<(), Stop>
+    ensures { OnOk result ((names : Names) → Keeps event_writer.now.session.tables names →
         body.new.items ≡ body.old.items ++ svg_pool names y
-        (held_by_page teller.now.session.core.forest)
-        (views_of teller.now.session.core).free teller.now.session.core.pool) }
+        (held_by_page event_writer.now.session.core.forest)
+        (views_of event_writer.now.session.core).free event_writer.now.session.core.pool) }
 {
-    let core = &teller.session.core;
+    let core = &event_writer.session.core;
     let held = core.held()?;
-    push_held(body, teller, &held, core.pages(), y)?;
+    push_held(body, event_writer, &held, core.pages(), y)?;
     push_free(body, core.free_pages(), core.pages(), y)?;
     Ok(())
 }
@@ -343,17 +358,17 @@ fn push_pool(body: &mut Vec<u8>, teller: &Teller, y: u64) -> Result<(), Stop>
 #[tactic(auto, unfolding(crate::specs::SvgPictures::svg_held))]
 fn push_held(
     body: &mut Vec<u8>,
-    teller: &Teller,
+    event_writer: &EventWriter,
     held: &[HeldBuffer],
     pages: u32,
     y: u64,
 ) -> Result<(), AllocError>
-    ensures { OnOk result ((names : Names) → Keeps teller.now.session.tables names →
+    ensures { OnOk result ((names : Names) → Keeps event_writer.now.session.tables names →
         body.new.items ≡ body.old.items ++ svg_held names y held.now pages) }
 {
     push_words(body, MARGIN, plus(y, 14), bold(12, INK), b"pool")?;
     push_row(body, times(page_width(pages), pages as u64), y)?;
-    push_cells(body, teller, held, page_width(pages), y)
+    push_cells(body, event_writer, held, page_width(pages), y)
 }
 
 // Draws the frame of the pool in this row, with this width.
@@ -380,24 +395,24 @@ fn push_row(body: &mut Vec<u8>, width: u64, y: u64) -> Result<(), AllocError>
 // Draws the pages of these buffers in this row, where a page has this width.
 fn push_cells(
     body: &mut Vec<u8>,
-    teller: &Teller,
+    event_writer: &EventWriter,
     held: &[HeldBuffer],
     cell: u64,
     y: u64,
 ) -> Result<(), AllocError>
-    ensures { OnOk result ((names : Names) → Keeps teller.now.session.tables names →
+    ensures { OnOk result ((names : Names) → Keeps event_writer.now.session.tables names →
         body.new.items ≡ body.old.items ++ flat_map (held_cell names cell y) held.now) }
 {
     for buffer in held {
-        push_cell(body, teller, *buffer, cell, y)?;
+        push_cell(body, event_writer, *buffer, cell, y)?;
     }
     Ok(())
 }
 
 // Puts behind the pool, which has this many pages, how many of them are free.
-#[tactic(auto, unfolding(crate::specs::SvgPictures::free_words))]
+#[tactic(auto, unfolding(crate::specs::SvgPictures::svg_free))]
 fn push_free(body: &mut Vec<u8>, free: u32, pages: u32, y: u64) -> Result<(), AllocError>
-    ensures { OnOk result (body.new.items ≡ body.old.items ++ free_words y free pages) }
+    ensures { OnOk result (body.new.items ≡ body.old.items ++ svg_free y free pages) }
 {
     let line = free_line(*body.allocator(), free, pages)?;
     let end = times(page_width(pages), pages as u64);
@@ -406,18 +421,10 @@ fn push_free(body: &mut Vec<u8>, free: u32, pages: u32, y: u64) -> Result<(), Al
 
 // How many of this many pages are free.
 fn free_line(alloc: Global, free: u32, pages: u32) -> Result<Vec<u8>, AllocError>
-    ensures { IfOk result (λ line. line.items ≡ free_line_text free pages) }
+    ensures { IfOk result (λ line. line.items ≡ free_words free pages) }
 {
     let mut line = Vec::new(alloc);
-    push_parts(
-        &mut line,
-        &[
-            Part::Number(free as u64),
-            Part::Word(" of "),
-            Part::Number(pages as u64),
-            Part::Word(" pages free"),
-        ],
-    )?;
+    push_free_pages(&mut line, free, pages)?;
     Ok(line)
 }
 
@@ -425,18 +432,18 @@ fn free_line(alloc: Global, free: u32, pages: u32) -> Result<Vec<u8>, AllocError
 #[tactic(auto, unfolding(crate::specs::SvgPictures::held_cell))]
 fn push_cell(
     body: &mut Vec<u8>,
-    teller: &Teller,
+    event_writer: &EventWriter,
     held: HeldBuffer,
     cell: u64,
     y: u64,
 ) -> Result<(), AllocError>
-    ensures { OnOk result ((names : Names) → Keeps teller.now.session.tables names →
+    ensures { OnOk result ((names : Names) → Keeps event_writer.now.session.tables names →
         body.new.items ≡ body.old.items ++ held_cell names cell y held) }
 {
     let x = plus(MARGIN + 48, times(cell, held.pages.start as u64));
     let width = times(cell, held.pages.pages as u64);
     push_cell_rect(body, x, y, width)?;
-    push_cell_name(body, teller, held, x, y, width)
+    push_cell_name(body, event_writer, held, x, y, width)
 }
 
 // Draws pages that a buffer holds, from this column on.
@@ -464,20 +471,20 @@ fn push_cell_rect(body: &mut Vec<u8>, x: u64, y: u64, width: u64) -> Result<(), 
 #[tactic(auto, unfolding(crate::specs::SvgPictures::cell_name))]
 fn push_cell_name(
     body: &mut Vec<u8>,
-    teller: &Teller,
+    event_writer: &EventWriter,
     held: HeldBuffer,
     x: u64,
     y: u64,
     width: u64,
 ) -> Result<(), AllocError>
-    ensures { OnOk result ((names : Names) → Keeps teller.now.session.tables names →
+    ensures { OnOk result ((names : Names) → Keeps event_writer.now.session.tables names →
         body.new.items ≡ body.old.items ++ cell_name names x y width held) }
 {
     if width < 44 {
         return Ok(());
     }
     let mut name = Vec::new(*body.allocator());
-    teller.push_buffer_name(&mut name, held.buffer)?;
+    event_writer.push_buffer_name(&mut name, held.buffer)?;
     push_words(body, plus(x, width / 2), plus(y, 14), small(), &name)
 }
 
@@ -491,61 +498,6 @@ fn small() -> Style
         fill: INK,
         middle: true,
     }
-}
-
-// Draws what each kind of box stands for, in this row.
-#[tactic(auto, unfolding(crate::specs::SvgPictures::legend_text))]
-fn push_legend(body: &mut Vec<u8>, y: u64) -> Result<(), AllocError>
-    ensures { OnOk result (body.new.items ≡ body.old.items ++ legend_text y) }
-{
-    push_sample(body, MARGIN, y, Class::Live, "live")?;
-    push_sample(body, MARGIN + 78, y, Class::Orphan, "released")?;
-    push_sample(body, MARGIN + 188, y, Class::Origin, "failed first")?;
-    push_sample(body, MARGIN + 330, y, Class::Taken, "fell with it")?;
-    push_sample(body, MARGIN + 472, y, Class::Ended, "ended")?;
-    push_words(
-        body,
-        MARGIN + 558,
-        plus(y, 12),
-        plain(12),
-        b"thick border: now",
-    )
-}
-
-// Draws a small box of this class, and the word for it.
-#[tactic(auto, unfolding(crate::specs::SvgPictures::sample_text))]
-fn push_sample(
-    body: &mut Vec<u8>,
-    x: u64,
-    y: u64,
-    class: Class,
-    word: &'static str,
-) -> Result<(), AllocError>
-    ensures { OnOk result (body.new.items ≡ body.old.items ++ sample_text x y class word.now) }
-{
-    push_sample_rect(body, x, y, class)?;
-    push_words(body, plus(x, 26), plus(y, 12), plain(12), word.as_bytes())
-}
-
-// Draws a small box of this class.
-fn push_sample_rect(body: &mut Vec<u8>, x: u64, y: u64, class: Class) -> Result<(), AllocError>
-    ensures { OnOk result (body.new.items
-        ≡ body.old.items ++ rect_text x y 18 14 (sample_paint class)) }
-{
-    push_rect(
-        body,
-        &Rect {
-            x,
-            y,
-            width: 18,
-            height: 14,
-            rounded: 3,
-            fill: fill_color(class),
-            stroke: edge_color(class),
-            stroke_width: "1.8",
-            dashes: dashes_of(class),
-        },
-    )
 }
 
 // Appends the begin of a picture of this size.

@@ -3,10 +3,10 @@ ghost use Rattle.std.specs.Prelude.{◌≡◌, ◌++◌, IfOk, List, OnOk, map};
 ghost use Rattle.std.specs.List.{flat_map};
 ghost use Rattle.script_labels.specs.Names.{Names};
 ghost use Rattle.script_labels.specs.Tables.{Keeps};
-ghost use Rattle.script_pictures.specs.declared.travel.Travel.{Travel as Step};
-ghost use Rattle.script_pictures.specs.Travels.{FindsTravels};
-ghost use Rattle.script_tales.specs.Called.{Calls};
-ghost use Rattle.picture_svg.specs.Trees.{bars_row, border_width, box_paint, svg_box, svg_box_words, dashes_text, line_items, nodes_right, svg_lines, svg_name, svg_nodes, svg_words_below, sign_text, tree_bottom, tree_boxes, tree_right, svg_tree, trees_bottom, trees_right, svg_trees};
+ghost use Rattle.picture_model.specs.declared.failure_view.Travel.{Travel as Step};
+ghost use Rattle.picture_model.specs.Travels.{FindsTravels};
+ghost use Rattle.event_texts.specs.Called.{Calls};
+ghost use Rattle.picture_svg.specs.Trees.{bars_row, border_width, box_paint, svg_box, svg_box_words, dashes_text, line_items, nodes_right, svg_lines, svg_name, svg_nodes, svg_words_below, tree_bottom, tree_boxes, tree_right, svg_tree, trees_bottom, trees_right, svg_trees};
 ghost use Rattle.picture_svg.specs.Elements.{rect_text};
 
 use crate::bars::{Extent, bars_of, push_bars};
@@ -14,12 +14,12 @@ use crate::box_lines::{node_lines, node_name};
 use crate::elements::{MARGIN, Rect, bold, colored, push_rect, push_words};
 use crate::links::push_links;
 use event_facts::KeyMap;
+use event_texts::EventWriter;
 use forest_store::Node;
 use picture_layout::{BOX_HEIGHT, Corner, NodeBox, boxes_of, lowest_row, plus, right_edge};
+use picture_model::colors::{edge_color, fill_color, ink_color};
+use picture_model::{Class, Travel, Tree, class_of};
 use script_labels::Tables;
-use script_pictures::colors::{edge_color, fill_color, ink_color};
-use script_pictures::{Class, Travel, Tree, class_of};
-use script_tales::Teller;
 use sm_names::ClientId;
 use std::alloc::AllocError;
 
@@ -34,38 +34,27 @@ pub(crate) fn dashes_of(class: Class) -> &'static str
     }
 }
 
-// The sign before a node's name.
-pub(crate) fn sign_of(class: Class) -> &'static str
-    ensures { result.now ≡ sign_text class }
-{
-    match class {
-        Class::Live | Class::Orphan => "",
-        Class::Origin | Class::Taken => "✕ ",
-        Class::Ended => "○ ",
-    }
-}
-
 // Draws these trees one below the other, from this row on, where a box has this width; answers the row below
 // them, and their last column.
 pub(crate) fn push_trees(
     body: &mut Vec<u8>,
-    teller: &Teller,
+    event_writer: &EventWriter,
     clients: &Vec<ClientId>,
     trees: &[Tree],
     travels: &KeyMap<Travel>,
     width: u64,
     row: u64,
 ) -> Result<Extent, AllocError>
-    ensures text { OnOk result ((names : Names) → Keeps teller.now.session.tables names →
-        Calls teller.now.labels names → (steps : List Step) → FindsTravels travels.now steps →
-        body.new.items ≡ body.old.items ++ svg_trees teller.now.session.core names
+    ensures text { OnOk result ((names : Names) → Keeps event_writer.now.session.tables names →
+        Calls event_writer.now.labels names → (steps : List Step) → FindsTravels travels.now steps →
+        body.new.items ≡ body.old.items ++ svg_trees event_writer.now.session.core names
         clients.now.items steps width row trees.now) }
-    ensures bottom { IfOk result (λ extent. (names : Names) → Keeps teller.now.session.tables names →
-        Calls teller.now.labels names → extent.bottom
-        ≡ trees_bottom teller.now.session.core names clients.now.items width row trees.now) }
-    ensures right { IfOk result (λ extent. (names : Names) → Keeps teller.now.session.tables names →
-        Calls teller.now.labels names → extent.right
-        ≡ trees_right teller.now.session.core names clients.now.items width row 0 trees.now) }
+    ensures bottom { IfOk result (λ extent. (names : Names) → Keeps event_writer.now.session.tables names →
+        Calls event_writer.now.labels names → extent.bottom
+        ≡ trees_bottom event_writer.now.session.core names clients.now.items width row trees.now) }
+    ensures right { IfOk result (λ extent. (names : Names) → Keeps event_writer.now.session.tables names →
+        Calls event_writer.now.labels names → extent.right
+        ≡ trees_right event_writer.now.session.core names clients.now.items width row 0 trees.now) }
 {
     let mut bottom = row;
     let mut right: u64 = 0;
@@ -73,7 +62,7 @@ pub(crate) fn push_trees(
     'trees: while let Some((tree, later)) = rest.split_first() {
         let extent = push_tree(
             body,
-            teller,
+            event_writer,
             clients,
             tree,
             travels,
@@ -91,26 +80,26 @@ pub(crate) fn push_trees(
 // column.
 fn push_tree(
     body: &mut Vec<u8>,
-    teller: &Teller,
+    event_writer: &EventWriter,
     clients: &Vec<ClientId>,
     tree: &Tree,
     travels: &KeyMap<Travel>,
     width: u64,
     above: Extent,
 ) -> Result<Extent, AllocError>
-    ensures text { OnOk result ((names : Names) → Keeps teller.now.session.tables names →
-        Calls teller.now.labels names → (steps : List Step) → FindsTravels travels.now steps →
-        body.new.items ≡ body.old.items ++ svg_tree teller.now.session.core names
+    ensures text { OnOk result ((names : Names) → Keeps event_writer.now.session.tables names →
+        Calls event_writer.now.labels names → (steps : List Step) → FindsTravels travels.now steps →
+        body.new.items ≡ body.old.items ++ svg_tree event_writer.now.session.core names
         clients.now.items steps width above.bottom tree.now) }
-    ensures bottom { IfOk result (λ extent. (names : Names) → Keeps teller.now.session.tables names →
-        Calls teller.now.labels names → extent.bottom
-        ≡ tree_bottom teller.now.session.core names clients.now.items width above.bottom tree.now) }
-    ensures right { IfOk result (λ extent. (names : Names) → Keeps teller.now.session.tables names →
-        Calls teller.now.labels names → extent.right ≡ tree_right teller.now.session.core names
+    ensures bottom { IfOk result (λ extent. (names : Names) → Keeps event_writer.now.session.tables names →
+        Calls event_writer.now.labels names → extent.bottom
+        ≡ tree_bottom event_writer.now.session.core names clients.now.items width above.bottom tree.now) }
+    ensures right { IfOk result (λ extent. (names : Names) → Keeps event_writer.now.session.tables names →
+        Calls event_writer.now.labels names → extent.right ≡ tree_right event_writer.now.session.core names
         clients.now.items width above.bottom above.right tree.now) }
 {
-    let below = push_nodes(body, teller, tree, travels, width, above)?;
-    let bars = bars_of(teller, clients, tree)?;
+    let below = push_nodes(body, event_writer, tree, travels, width, above)?;
+    let bars = bars_of(event_writer, clients, tree)?;
     let extent = push_bars(body, &bars, width, below.bottom, below.right)?;
     Ok(Extent {
         bottom: plus(extent.bottom, 26),
@@ -122,14 +111,14 @@ fn push_tree(
 // column.
 fn push_nodes(
     body: &mut Vec<u8>,
-    teller: &Teller,
+    event_writer: &EventWriter,
     tree: &Tree,
     travels: &KeyMap<Travel>,
     width: u64,
     above: Extent,
 ) -> Result<Extent, AllocError>
-    ensures text { OnOk result ((names : Names) → Keeps teller.now.session.tables names →
-        Calls teller.now.labels names → (steps : List Step) → FindsTravels travels.now steps →
+    ensures text { OnOk result ((names : Names) → Keeps event_writer.now.session.tables names →
+        Calls event_writer.now.labels names → (steps : List Step) → FindsTravels travels.now steps →
         body.new.items ≡ body.old.items ++ svg_nodes names steps width above.bottom tree.now) }
     ensures bottom { IfOk result (λ below. below.bottom ≡ bars_row width above.bottom tree.now) }
     ensures right { IfOk result (λ below.
@@ -137,7 +126,7 @@ fn push_nodes(
 {
     let boxes = boxes_from(tree, width, above.bottom)?;
     push_links(body, &boxes, width, travels)?;
-    push_boxes(body, teller, &boxes, width)?;
+    push_boxes(body, event_writer, &boxes, width)?;
     let row = plus(lowest_row(&boxes, above.bottom), BOX_HEIGHT + 30);
     let right = above.right.max(right_edge(&boxes, width));
     Ok(Extent { bottom: row, right })
@@ -154,16 +143,16 @@ fn boxes_from(tree: &Tree, width: u64, row: u64) -> Result<Vec<NodeBox>, AllocEr
 // Draws the boxes of the nodes.
 fn push_boxes(
     body: &mut Vec<u8>,
-    teller: &Teller,
+    event_writer: &EventWriter,
     boxes: &[NodeBox],
     width: u64,
 ) -> Result<(), AllocError>
-    ensures { OnOk result ((names : Names) → Keeps teller.now.session.tables names →
-        Calls teller.now.labels names →
+    ensures { OnOk result ((names : Names) → Keeps event_writer.now.session.tables names →
+        Calls event_writer.now.labels names →
         body.new.items ≡ body.old.items ++ flat_map (svg_box names width) boxes.now) }
 {
     for node_box in boxes {
-        push_box(body, teller, node_box, width)?;
+        push_box(body, event_writer, node_box, width)?;
     }
     Ok(())
 }
@@ -172,16 +161,16 @@ fn push_boxes(
 #[tactic(auto, unfolding(crate::specs::Trees::svg_box))]
 fn push_box(
     body: &mut Vec<u8>,
-    teller: &Teller,
+    event_writer: &EventWriter,
     node_box: &NodeBox,
     width: u64,
 ) -> Result<(), AllocError>
-    ensures { OnOk result ((names : Names) → Keeps teller.now.session.tables names →
-        Calls teller.now.labels names →
+    ensures { OnOk result ((names : Names) → Keeps event_writer.now.session.tables names →
+        Calls event_writer.now.labels names →
         body.new.items ≡ body.old.items ++ svg_box names width node_box.now) }
 {
     push_border(body, node_box, width)?;
-    push_box_words(body, teller, &node_box.node, node_box.corner)
+    push_box_words(body, event_writer, &node_box.node, node_box.corner)
 }
 
 // Draws the box of a node.
@@ -218,16 +207,16 @@ fn border_of(left: bool) -> &'static str
 #[tactic(auto, unfolding(crate::specs::Trees::svg_box_words))]
 fn push_box_words(
     body: &mut Vec<u8>,
-    teller: &Teller,
+    event_writer: &EventWriter,
     node: &Node,
     corner: Corner,
 ) -> Result<(), AllocError>
-    ensures { OnOk result ((names : Names) → Keeps teller.now.session.tables names →
-        Calls teller.now.labels names →
+    ensures { OnOk result ((names : Names) → Keeps event_writer.now.session.tables names →
+        Calls event_writer.now.labels names →
         body.new.items ≡ body.old.items ++ svg_box_words names corner node.now) }
 {
-    push_name(body, &teller.session.tables, node, corner)?;
-    push_words_below(body, teller, node, corner)
+    push_name(body, &event_writer.session.tables, node, corner)?;
+    push_words_below(body, event_writer, node, corner)
 }
 
 // Puts the name of the node into its box.
@@ -248,15 +237,15 @@ fn push_name(
 // Puts the lines below the name of the node into its box.
 fn push_words_below(
     body: &mut Vec<u8>,
-    teller: &Teller,
+    event_writer: &EventWriter,
     node: &Node,
     corner: Corner,
 ) -> Result<(), AllocError>
-    ensures { OnOk result ((names : Names) → Keeps teller.now.session.tables names →
-        Calls teller.now.labels names →
+    ensures { OnOk result ((names : Names) → Keeps event_writer.now.session.tables names →
+        Calls event_writer.now.labels names →
         body.new.items ≡ body.old.items ++ svg_words_below names corner node.now) }
 {
-    let lines = node_lines(*body.allocator(), teller, node)?;
+    let lines = node_lines(*body.allocator(), event_writer, node)?;
     let fill = ink_color(class_of(node));
     push_lines(body, plus(corner.x, 10), plus(corner.y, 38), fill, &lines)
 }

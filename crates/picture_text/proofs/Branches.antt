@@ -1,11 +1,13 @@
 -- The outline of a tree, one more line at a time.
-use Rattle.std.proofs.Common.{◌≡◌, ◌∙◌, refl, ap, sym, ℕ, zero, ◌+◌, ◌-◌, ◌<◌, ◌≤◌, suc, max, fold, Bool, true, false, ◌&&◌, List, [], ◌∷◌, ◌++◌, append_assoc, append-nil, arith, length, map, reverse}
+use Rattle.std.proofs.Common.{◌≡◌, ◌∙◌, refl, ap, sym, ℕ, zero, ◌+◌, ◌-◌, ◌<◌, ◌≤◌, suc, max, fold, Bool, true, false}
+use Rattle.std.proofs.Common.{◌&&◌, List, [], ◌∷◌, ◌++◌, append_assoc, append-nil, arith, length, map, reverse}
 use Rattle.std.proofs.lemmas.List.{reverse-append}
 use Rattle.std.specs.List.{flat_map}
 use Rattle.script_labels.specs.Names.{Names}
 use Rattle.forest_store.specs.declared.node.Node.{Node}
 use Rattle.picture_text.specs.declared.outline.Row.{Row}
-use Rattle.picture_text.specs.Outlines.{Line, Twig, first_branches, is_end, line_of_row, line_of_branch, outline_from, outline, twig, twigs, twigs_below}
+use Rattle.picture_text.specs.Outlines.{Line, Twig, first_branches, is_end, line_of_row, line_of_branch}
+use Rattle.picture_text.specs.Outlines.{outline_from, outline, twig, twigs, twigs_below}
 use Rattle.picture_text.specs.TextPictures.{row_width, widest, widest_row}
 
 -- a node that another comes behind is not the last
@@ -23,7 +25,8 @@ twigs_more : (stem : List ℕ) (depth : ℕ) (last : Bool) (ns : List Node) (c :
     twigs stem depth last (ns ++ c ∷ []) ≡ twigs stem depth false ns ++ twig c stem depth last ∷ []
 twigs_more stem depth last [] c = refl
 twigs_more stem depth last (n ∷ ns) c =
-    let first : (is_end (ns ++ c ∷ []) && last) ≡ (is_end ns && false) = ap (λ (b : Bool). b && last) (not_end ns c) ∙ sym (never (is_end ns)) in
+    let first : (is_end (ns ++ c ∷ []) && last) ≡ (is_end ns && false) = ap (λ (b : Bool). b && last) (not_end ns c)
+    ∙ sym (never (is_end ns)) in
     λ i. twig n stem depth (first i) ∷ twigs_more stem depth last ns c i
 
 -- what was put on top comes first
@@ -40,10 +43,13 @@ child_more stem depth last all left c old new rest top =
     ∙ ap (λ (ts : List Twig). ts ++ reverse old) (sym (ap (twigs stem depth last) rest ∙ twigs_more stem depth last left c)))
 
 -- the root alone stands first and last
-pub begun : (nodes : List Node) (ts : List Twig) → ts ≡ first_branches nodes → outline_from (length nodes) nodes (reverse ts) ≡ outline nodes
+pub begun : (nodes : List Node) (ts : List Twig) → ts ≡ first_branches nodes →
+    outline_from (length nodes) nodes (reverse ts) ≡ outline nodes
 begun nodes ts is = ap (λ (waiting : List Twig). outline_from (length nodes) nodes (reverse waiting)) is ∙ alone nodes
   where
-    alone : (ns : List Node) → outline_from (length nodes) nodes (reverse (first_branches ns)) ≡ outline_from (length nodes) nodes (first_branches ns)
+    -- by cases: the list is empty, or the root alone
+    alone : (ns : List Node) → outline_from (length nodes) nodes (reverse (first_branches ns))
+        ≡ outline_from (length nodes) nodes (first_branches ns)
     alone [] = refl
     alone (root ∷ others) = refl
 
@@ -66,7 +72,8 @@ lines_none zero nodes = refl
 lines_none (suc n) nodes = refl
 
 -- the lines so far are all lines where no node waits
-pub none_waits : (n : ℕ) (nodes : List Node) (lines : List Line) (ts : List Twig) → ts ≡ [] → lines ++ outline_from n nodes (reverse ts) ≡ lines
+pub none_waits : (n : ℕ) (nodes : List Node) (lines : List Line) (ts : List Twig) → ts ≡ [] →
+    lines ++ outline_from n nodes (reverse ts) ≡ lines
 none_waits n nodes lines ts none =
     ap (λ (l : List Twig). lines ++ outline_from n nodes (reverse l)) none
     ∙ (ap (λ (l : List Line). lines ++ l) (lines_none n nodes) ∙ append-nil lines)
@@ -82,6 +89,7 @@ lines_end count nodes at lines ts all =
 pub widest_lines : (names : Names) (rows : List Row) → widest_row names rows ≡ widest names (map line_of_row rows)
 widest_lines names rows = from rows 0
   where
+    -- by induction on the rows
     from : (rs : List Row) (width : ℕ) → fold (λ width r. max width (row_width names (line_of_row r))) width rs
         ≡ fold (λ width l. max width (row_width names l)) width (map line_of_row rs)
     from [] width = refl

@@ -4,7 +4,7 @@ use Rattle.std.specs.List.{range_with_len}
 use Rattle.std.proofs.lemmas.Grind.{flat_map-append}
 use Rattle.std.proofs.lemmas.List.FromFn.{map-range_with_len_more}
 use Rattle.sm_names.specs.declared.keys.HeldBuffer.{HeldBuffer}
-use Rattle.script_tales.specs.FactTexts.{concat}
+use Rattle.event_texts.specs.FactTexts.{concat}
 use Rattle.picture_text.specs.TextPictures.{sign_of_page, signs_of_pages}
 
 -- one more page

@@ -2,7 +2,9 @@
 use Rattle.std.specs.Prelude.{ℕ, zero, suc, ◌+◌, ◌*◌, ◌-◌, ◌^◌, min, Bool, true, false, ◌==◌, ◌&&◌, if◌then◌else◌, List, [], ◌∷◌, ◌++◌, codes, length}
 use Rattle.std.specs.List.{filter}
 use Rattle.forest_store.specs.declared.node.Node.{Node}
-use Rattle.script_pictures.specs.Travels.{is_child_of}
+use Rattle.picture_model.specs.declared.features.Link.{Link}
+use Rattle.picture_model.specs.Features.{link_of}
+use Rattle.picture_model.specs.Travels.{is_child_of}
 use Rattle.picture_text.specs.declared.outline.Branch.{Branch}
 use Rattle.picture_text.specs.declared.outline.Row.{Row}
 
@@ -31,22 +33,25 @@ branch_of b = record { node = b.node; stem = b.stem.items; depth = b.depth; last
 abbrev pub stem_text : ℕ → Bool → List ℕ
 stem_text depth last = if depth == 0 then [] else if last then codes "    " else (226 ∷ 148 ∷ 130 ∷ 32 ∷ 32 ∷ 32 ∷ [])
 
--- what leads to a node of this kind
-abbrev pub branch_text : Bool → Bool → List ℕ
-branch_text false false = 226 ∷ 148 ∷ 156 ∷ 226 ∷ 148 ∷ 128 ∷ 226 ∷ 148 ∷ 128 ∷ 32 ∷ []
-branch_text false true = 226 ∷ 148 ∷ 156 ∷ 226 ∷ 149 ∷ 140 ∷ 226 ∷ 149 ∷ 140 ∷ 32 ∷ []
-branch_text true false = 226 ∷ 148 ∷ 148 ∷ 226 ∷ 148 ∷ 128 ∷ 226 ∷ 148 ∷ 128 ∷ 32 ∷ []
-branch_text true true = 226 ∷ 148 ∷ 148 ∷ 226 ∷ 149 ∷ 140 ∷ 226 ∷ 149 ∷ 140 ∷ 32 ∷ []
+-- what leads to a node that is the last of its parent's children or not, along this link, in UTF-8: a line, a double line to an
+-- attached node, a wave to a dispensable one
+abbrev pub branch_text : Bool → Link → List ℕ
+branch_text false Link.Normal = 226 ∷ 148 ∷ 156 ∷ 226 ∷ 148 ∷ 128 ∷ 226 ∷ 148 ∷ 128 ∷ 32 ∷ []
+branch_text false Link.Attached = 226 ∷ 148 ∷ 156 ∷ 226 ∷ 149 ∷ 144 ∷ 226 ∷ 149 ∷ 144 ∷ 32 ∷ []
+branch_text false Link.Dispensable = 226 ∷ 148 ∷ 156 ∷ 126 ∷ 126 ∷ 32 ∷ []
+branch_text true Link.Normal = 226 ∷ 148 ∷ 148 ∷ 226 ∷ 148 ∷ 128 ∷ 226 ∷ 148 ∷ 128 ∷ 32 ∷ []
+branch_text true Link.Attached = 226 ∷ 148 ∷ 148 ∷ 226 ∷ 149 ∷ 144 ∷ 226 ∷ 149 ∷ 144 ∷ 32 ∷ []
+branch_text true Link.Dispensable = 226 ∷ 148 ∷ 148 ∷ 126 ∷ 126 ∷ 32 ∷ []
 
 -- the same at this depth: nothing leads to the root
-abbrev pub begin_text : ℕ → Bool → Bool → List ℕ
-begin_text depth last attached = if depth == 0 then [] else branch_text last attached
+abbrev pub begin_text : ℕ → Bool → Link → List ℕ
+begin_text depth last link = if depth == 0 then [] else branch_text last link
 
 -- the line of a node
 abbrev pub line_of_branch : Twig → Line
 line_of_branch t = record {
   node = t.node;
-  lines = t.stem ++ begin_text t.depth t.last t.node.attached;
+  lines = t.stem ++ begin_text t.depth t.last (link_of t.node);
   columns = min (t.depth * 4) (2 ^ 64 - 1);
 }
 

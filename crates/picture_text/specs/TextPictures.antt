@@ -3,7 +3,6 @@ use Rattle.std.specs.Prelude.{ℕ, ◌+◌, ◌-◌, ◌^◌, min, max, fold, Bo
 use Rattle.std.specs.List.{flat_map, list_any, range_with_len}
 use Rattle.sm_names.specs.declared.keys.HeldBuffer.{HeldBuffer}
 use Rattle.sm_names.specs.declared.keys.NodeKey.{NodeKey}
-use Rattle.sm_names.specs.declared.outcomes.Fault.{Fault}
 use Rattle.sm_names.specs.declared.tracking.Fired.{Fired}
 use Rattle.sm_names.specs.Demands.{Demand}
 use Rattle.sm_names.specs.Sameness.{same_key}
@@ -11,28 +10,23 @@ use Rattle.forest_store.specs.declared.node.Node.{Node}
 use Rattle.forest_store.specs.Forest.{held_by_page}
 use Rattle.core_state.specs.Reads.{views_of}
 use Rattle.core_state.specs.State.{Client, State}
-use Rattle.event_facts.specs.Facts.{holders_in}
 use Rattle.script_lines.specs.Labels.{label_text}
 use Rattle.script_labels.specs.Names.{Names, label_of_node}
-use Rattle.script_labels.specs.Texts.{cause_text, fired_text, node_text}
-use Rattle.script_tales.specs.Called.{last_label, other_text}
-use Rattle.script_tales.specs.FactTexts.{buffer_name, holders_text, concat}
-use Rattle.script_pictures.specs.declared.features.Class.{Class}
-use Rattle.script_pictures.specs.declared.picture.Tree.{Tree}
-use Rattle.script_pictures.specs.Features.{class_of, gap_behind, kind_text, pages_text, place_text}
+use Rattle.event_texts.specs.Called.{last_label, other_text}
+use Rattle.event_texts.specs.FactTexts.{buffer_name, concat}
+use Rattle.picture_model.specs.declared.features.Class.{Class}
+use Rattle.picture_model.specs.declared.picture.Tree.{Tree}
+use Rattle.picture_model.specs.BoxLines.{asked_words, fired_words, header_text, state_words}
+use Rattle.picture_model.specs.Features.{class_of, free_words, keepers_words, kind_text, pages_text, place_text, sign_text}
 use Rattle.picture_text.specs.declared.outline.Row.{Row}
 use Rattle.picture_text.specs.Outlines.{Line, line_of_row, outline}
 use Rattle.picture_text.specs.declared.picture.TheConstants.{MOST_DRAWN}
 
 -- ---- the first line
 
--- what stands behind the number of an event
-abbrev pub colon : ℕ → List ℕ
-colon event = if event == 0 then [] else codes ": "
-
 -- the number of the event and its line
 abbrev pub head_text : ℕ → List ℕ → List ℕ
-head_text event line = concat (codes "event " ∷ decimal event ∷ colon event ∷ line ∷ codes "\n" ∷ [])
+head_text event line = concat (header_text event line ∷ codes "\n" ∷ [])
 
 -- ---- the row of a node
 
@@ -64,39 +58,13 @@ spaces taken width = replicate (width - taken) 32
 abbrev pub name_cell : Names → ℕ → Line → List ℕ
 name_cell names width r = concat (r.lines ∷ full_name names r.node.key ∷ spaces (row_width names r) width ∷ [])
 
--- the sign of a node that left: a cross or a dot, in UTF-8
-abbrev pub sign_of_class : Class → List ℕ
-sign_of_class Class.Live = codes " "
-sign_of_class Class.Orphan = codes " "
-sign_of_class Class.Origin = 226 ∷ 156 ∷ 149 ∷ []
-sign_of_class Class.Taken = 226 ∷ 156 ∷ 149 ∷ []
-sign_of_class Class.Ended = 194 ∷ 183 ∷ []
+-- the sign of what a node is drawn as, or a space
+abbrev pub sign_cell : Class → List ℕ
+sign_cell class = if length (sign_text class) == 0 then codes " " else sign_text class
 
 -- whether the node left at the event
 abbrev pub node_mark : List NodeKey → NodeKey → List ℕ
 node_mark left key = if list_any (same_key key) left then codes "! " else codes "  "
-
--- that the node was released before it left
-abbrev pub released_text : Node → List ℕ
-released_text n = if n.released && n.gone then codes "released; " else []
-
--- with whom the node fell, and why
-abbrev pub fallen_text : Names → Fault → List ℕ
-fallen_text names fault = concat (cause_text fault.cause ∷ codes ", origin " ∷ label_text (label_of_node names fault.origin) ∷ [])
-
--- the state of a node of this class that failed so, if it failed
-abbrev pub state_of_class : Names → Class → Option Fault → List ℕ
-state_of_class names Class.Live fault = codes "live"
-state_of_class names Class.Orphan fault = codes "released"
-state_of_class names Class.Ended fault = codes "ended"
-state_of_class names Class.Origin None = codes "ended"
-state_of_class names Class.Origin (Some fault) = cause_text fault.cause
-state_of_class names Class.Taken None = codes "ended"
-state_of_class names Class.Taken (Some fault) = fallen_text names fault
-
--- the state of the node
-abbrev pub state_text : Names → Node → List ℕ
-state_text names n = state_of_class names (class_of n) n.fault
 
 -- that the node is dispensable
 abbrev pub dispensable_text : Node → List ℕ
@@ -109,8 +77,7 @@ weak_text n = if n.weak then codes "; weak" else []
 -- what the node asks for
 abbrev pub asked_text : Option Demand → List ℕ
 asked_text None = []
-asked_text (Some asked) = concat
-    (codes "; asks " ∷ decimal asked.camping ∷ codes " " ∷ decimal asked.at_least ∷ codes " " ∷ decimal asked.size ∷ [])
+asked_text (Some asked) = concat (codes "; " ∷ asked_words asked ∷ [])
 
 -- what is said of the node behind its state
 abbrev pub facts_text : Names → Node → List ℕ
@@ -119,12 +86,12 @@ facts_text names n = concat
 
 -- the signs of a node
 abbrev pub signs_of_node : List NodeKey → Node → List ℕ
-signs_of_node left n = concat (codes "  " ∷ sign_of_class (class_of n) ∷ node_mark left n.key ∷ released_text n ∷ [])
+signs_of_node left n = concat (codes "  " ∷ sign_cell (class_of n) ∷ node_mark left n.key ∷ [])
 
 -- the row of a node, in a tree of this width, of which these nodes left at the event
 abbrev pub row_text : Names → ℕ → List NodeKey → Line → List ℕ
 row_text names width left r = concat
-    (name_cell names width r ∷ signs_of_node left r.node ∷ state_text names r.node ∷ facts_text names r.node ∷ [])
+    (name_cell names width r ∷ signs_of_node left r.node ∷ state_words names r.node ∷ facts_text names r.node ∷ [])
 
 -- the same, of what the program has as a row
 abbrev pub told_row : Names → ℕ → List NodeKey → Row → List ℕ
@@ -132,19 +99,10 @@ told_row names width left r = row_text names width left (line_of_row r)
 
 -- ---- the row of a buffer
 
--- the live nodes that keep a buffer
-abbrev pub live_text : Names → List NodeKey → List ℕ
-live_text names nodes = if length nodes == 0 then [] else concat (codes "live" ∷ flat_map (node_text names) nodes ∷ [])
-
--- the holders of the buffer: live nodes, these clients and parcels
+-- who keeps the buffer: live nodes, these clients and parcels
 abbrev pub keepers_text : State → Names → List ℕ → List NodeKey → HeldBuffer → List ℕ
-keepers_text s names clients strong held = concat (
-    codes "; kept by "
-    ∷ live_text names strong
-    ∷ holders_text names (gap_behind strong) (holders_in s.holds clients held.buffer)
-    ∷ codes "\n"
-    ∷ []
-    )
+keepers_text s names clients strong held =
+    concat (codes "; kept by " ∷ keepers_words s names clients strong held.buffer ∷ codes "\n" ∷ [])
 
 -- the name of the buffer, up to this width, and its pages
 abbrev pub pages_row : Names → ℕ → HeldBuffer → List ℕ
@@ -161,9 +119,13 @@ abbrev pub buffer_row : State → Names → List ℕ → ℕ → List NodeKey �
 buffer_row s names clients width strong held =
     concat (pages_row names width held ∷ keepers_text s names clients strong held ∷ [])
 
+-- the row of a buffer that gave its pages back at the event, in a tree of this width
+abbrev pub freed_row : Names → ℕ → HeldBuffer → List ℕ
+freed_row names width held = concat (pages_row names width held ∷ codes "; home\n" ∷ [])
+
 -- ---- the picture
 
--- a tree behind an empty line: a row for each node, and one for each buffer with pages
+-- a tree behind an empty line: a row for each node, one for each buffer with pages, and one for each that gave its pages back
 abbrev pub tree_text : State → Names → List ℕ → Tree → List ℕ
 tree_text s names clients tree =
     let rows : List Line = outline tree.nodes.items in
@@ -172,6 +134,7 @@ tree_text s names clients tree =
     codes "\n"
     ∷ flat_map (row_text names width tree.left.items) rows
     ∷ flat_map (buffer_row s names clients width tree.strong.items) tree.held.items
+    ∷ flat_map (freed_row names width) tree.freed.items
     ∷ []
     )
 
@@ -191,18 +154,23 @@ signs_of_pages held pages = concat (map (sign_of_page held) (range_with_len 0 pa
 abbrev pub pool_signs : List HeldBuffer → ℕ → List ℕ
 pool_signs held pages = if nat_lt MOST_DRAWN pages then [] else concat (signs_of_pages held pages ∷ codes " " ∷ [])
 
--- how many pages are free
-abbrev pub free_text : State → List ℕ
-free_text s = concat (decimal (views_of s).free ∷ codes " of " ∷ decimal s.pool ∷ codes " free\n" ∷ [])
-
 -- the pool behind an empty line
 abbrev pub pool_text : State → List ℕ
-pool_text s = concat (codes "\npool " ∷ pool_signs (held_by_page s.forest) s.pool ∷ free_text s ∷ [])
+pool_text s = concat (
+    codes "\npool "
+    ∷ pool_signs (held_by_page s.forest) s.pool
+    ∷ free_words (views_of s).free s.pool
+    ∷ codes "\n"
+    ∷ []
+    )
 
--- the trackers that fired, if some did
-abbrev pub fired_line : Names → List Fired → List ℕ
-fired_line names fired =
-    if length fired == 0 then [] else concat (codes "fired" ∷ flat_map (fired_text names) fired ∷ codes "\n" ∷ [])
+-- a line for each tracker that fired
+abbrev pub fired_line : Names → Fired → List ℕ
+fired_line names firing = concat (fired_words names firing ∷ codes "\n" ∷ [])
+
+-- the lines of the trackers that fired
+abbrev pub fired_lines : Names → List Fired → List ℕ
+fired_lines names fired = flat_map (fired_line names) fired
 
 -- the picture of these trees behind the last event, of which this is the line
 unfoldable pub picture_text : State → Names → List ℕ → List Tree → List ℕ
@@ -210,6 +178,6 @@ picture_text s names last trees = concat (
     head_text s.events last
     ∷ flat_map (tree_text s names (map (λ (c : Client). c.id) s.clients)) trees
     ∷ pool_text s
-    ∷ fired_line names s.trackers.fired
+    ∷ fired_lines names s.trackers.fired
     ∷ []
     )

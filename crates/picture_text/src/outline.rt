@@ -1,13 +1,13 @@
 //! The outline of a tree: its nodes, each behind the lines that lead to it.
 ghost use Rattle.std.specs.Prelude.{◌≡◌, ◌++◌, ◌∷◌, [], true, IfOk, OnOk, List, map, reverse};
 ghost use Rattle.forest_store.specs.declared.node.Node.{Node as Kept};
-ghost use Rattle.script_pictures.specs.Kin.{FindsChildren};
+ghost use Rattle.picture_model.specs.Kin.{FindsChildren};
 ghost use Rattle.picture_text.specs.Outlines.{begin_text, branch_of, first_branches, line_of_row, line_of_branch, outline, outline_from, stem_text, twig, twigs, twigs_below};
 
 use event_facts::KeyRows;
 use forest_store::Node;
+use picture_model::{Link, children_by_key, link_of};
 use script_lines::push;
-use script_pictures::children_by_key;
 use std::alloc::{AllocError, Global};
 
 // A node, the lines that lead to it, and how many columns they take.
@@ -206,7 +206,7 @@ fn row_of(next: Branch) -> Result<Row, AllocError>
         last,
     } = next;
     let mut lines = stem;
-    push(&mut lines, begin_words(depth, last, node.attached))?;
+    push(&mut lines, begin_words(depth, last, link_of(&node)))?;
     Ok(Row {
         node,
         lines,
@@ -214,17 +214,19 @@ fn row_of(next: Branch) -> Result<Row, AllocError>
     })
 }
 
-// What leads to a node of this depth.
-fn begin_words(depth: u64, last: bool, attached: bool) -> &'static str
-    ensures { result.now ≡ begin_text depth last attached }
+// What leads to a node of this depth, along this link.
+fn begin_words(depth: u64, last: bool, link: Link) -> &'static str
+    ensures { result.now ≡ begin_text depth last link }
 {
     if depth == 0 {
         return "";
     }
-    match (last, attached) {
-        (false, false) => "├── ",
-        (false, true) => "├╌╌ ",
-        (true, false) => "└── ",
-        (true, true) => "└╌╌ ",
+    match (last, link) {
+        (false, Link::Normal) => "├── ",
+        (false, Link::Attached) => "├══ ",
+        (false, Link::Dispensable) => "├~~ ",
+        (true, Link::Normal) => "└── ",
+        (true, Link::Attached) => "└══ ",
+        (true, Link::Dispensable) => "└~~ ",
     }
 }

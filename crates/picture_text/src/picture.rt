@@ -3,21 +3,19 @@ ghost use Rattle.std.specs.Prelude.{◌≡◌, ◌++◌, OnOk, map};
 ghost use Rattle.std.specs.List.{flat_map, list_any};
 ghost use Rattle.script_labels.specs.Names.{Names};
 ghost use Rattle.script_labels.specs.Tables.{Keeps};
-ghost use Rattle.script_labels.specs.Texts.{fired_text};
-ghost use Rattle.script_tales.specs.Called.{Calls};
+ghost use Rattle.event_texts.specs.Called.{Calls};
 ghost use Rattle.picture_text.specs.Outlines.{line_of_row, outline};
-ghost use Rattle.picture_text.specs.TextPictures.{colon as colon_behind, fired_line, free_text, has_page, head_text, picture_text, pool_signs, pool_text, sign_of_page, signs_of_pages, tree_text};
+ghost use Rattle.picture_text.specs.TextPictures.{fired_line, fired_lines, has_page, head_text, picture_text, pool_signs, pool_text, sign_of_page, signs_of_pages, tree_text};
 
 use crate::outline::{Row, outline_of};
-use crate::rows::{push_held_rows, push_rows, width_of};
+use crate::rows::{push_freed_rows, push_held_rows, push_rows, width_of};
+use event_texts::EventWriter;
 use lifetime_core::Core;
-use script_labels::{Stop, Tables, push_firing};
+use picture_model::{Picture, Tree, push_fired, push_free_pages, push_header};
+use script_labels::{Stop, Tables};
 use script_lines::push;
-use script_pictures::{Picture, Tree};
-use script_tales::Teller;
 use sm_names::{ClientId, Fired, HeldBuffer};
 use std::alloc::AllocError;
-use text_parts::{Part, push_parts};
 
 // The most pages of a pool of which each is drawn.
 const MOST_DRAWN: u32 = 64;
@@ -29,20 +27,20 @@ const MOST_DRAWN: u32 = 64;
 #[tactic(auto, unfolding(crate::specs::TextPictures::picture_text))]
 pub fn push_text(
     text: &mut Vec<u8>,
-    teller: &Teller,
+    event_writer: &EventWriter,
     picture: &Picture,
     line: &[u8],
 ) -> Result<(), Stop>
-    ensures { OnOk result ((names : Names) → Keeps teller.now.session.tables names →
-        Calls teller.now.labels names → text.new.items ≡ text.old.items
-        ++ picture_text teller.now.session.core names line.now picture.now.trees.items) }
+    ensures { OnOk result ((names : Names) → Keeps event_writer.now.session.tables names →
+        Calls event_writer.now.labels names → text.new.items ≡ text.old.items
+        ++ picture_text event_writer.now.session.core names line.now picture.now.trees.items) }
 {
-    let core = &teller.session.core;
+    let core = &event_writer.session.core;
     push_head(text, core.events(), line)?;
     let clients = core.clients()?;
-    push_trees(text, teller, &clients, &picture.trees)?;
+    push_trees(text, event_writer, &clients, &picture.trees)?;
     push_pool(text, core)?;
-    push_fired(text, &teller.session.tables, core.fired())?;
+    push_firings(text, &event_writer.session.tables, core.fired())?;
     Ok(())
 }
 
@@ -50,74 +48,61 @@ pub fn push_text(
 fn push_head(text: &mut Vec<u8>, event: u64, line: &[u8]) -> Result<(), AllocError>
     ensures { OnOk result (text.new.items ≡ text.old.items ++ head_text event line.now) }
 {
-    push_parts(
-        text,
-        &[
-            Part::Word("event "),
-            Part::Number(event),
-            Part::Word(colon(event)),
-            Part::Bytes(line),
-            Part::Word("\n"),
-        ],
-    )
-}
-
-// What stands behind the number of the event.
-fn colon(event: u64) -> &'static str
-    ensures { result.now ≡ colon_behind event }
-{
-    if event == 0 { "" } else { ": " }
+    push_header(text, event, line)?;
+    push(text, "\n")
 }
 
 // Appends the trees, each behind an empty line.
 fn push_trees(
     text: &mut Vec<u8>,
-    teller: &Teller,
+    event_writer: &EventWriter,
     clients: &Vec<ClientId>,
     trees: &[Tree],
 ) -> Result<(), AllocError>
-    ensures { OnOk result ((names : Names) → Keeps teller.now.session.tables names →
-        Calls teller.now.labels names → text.new.items ≡ text.old.items
-        ++ flat_map (tree_text teller.now.session.core names clients.now.items) trees.now) }
+    ensures { OnOk result ((names : Names) → Keeps event_writer.now.session.tables names →
+        Calls event_writer.now.labels names → text.new.items ≡ text.old.items
+        ++ flat_map (tree_text event_writer.now.session.core names clients.now.items) trees.now) }
 {
     for tree in trees {
-        push_tree(text, teller, clients, tree)?;
+        push_tree(text, event_writer, clients, tree)?;
     }
     Ok(())
 }
 
-// Appends a tree, behind an empty line: a row for each node, and one for each buffer with pages.
+// Appends a tree, behind an empty line: a row for each node, one for each buffer with pages, and one for each
+// that gave its pages back.
 fn push_tree(
     text: &mut Vec<u8>,
-    teller: &Teller,
+    event_writer: &EventWriter,
     clients: &Vec<ClientId>,
     tree: &Tree,
 ) -> Result<(), AllocError>
-    ensures { OnOk result ((names : Names) → Keeps teller.now.session.tables names →
-        Calls teller.now.labels names → text.new.items ≡ text.old.items
-        ++ tree_text teller.now.session.core names clients.now.items tree.now) }
+    ensures { OnOk result ((names : Names) → Keeps event_writer.now.session.tables names →
+        Calls event_writer.now.labels names → text.new.items ≡ text.old.items
+        ++ tree_text event_writer.now.session.core names clients.now.items tree.now) }
 {
     let rows = outline_of(&tree.nodes)?;
-    push_grown(text, teller, clients, tree, &rows)
+    push_grown(text, event_writer, clients, tree, &rows)
 }
 
 // Appends a tree, whose nodes have these rows.
 fn push_grown(
     text: &mut Vec<u8>,
-    teller: &Teller,
+    event_writer: &EventWriter,
     clients: &Vec<ClientId>,
     tree: &Tree,
     rows: &Vec<Row>,
 ) -> Result<(), AllocError>
-    ensures { OnOk result ((names : Names) → Keeps teller.now.session.tables names →
-        Calls teller.now.labels names →
+    ensures { OnOk result ((names : Names) → Keeps event_writer.now.session.tables names →
+        Calls event_writer.now.labels names →
         map line_of_row rows.now.items ≡ outline tree.now.nodes.items → text.new.items
-        ≡ text.old.items ++ tree_text teller.now.session.core names clients.now.items tree.now) }
+        ≡ text.old.items ++ tree_text event_writer.now.session.core names clients.now.items tree.now) }
 {
-    let width = width_of(teller, rows)?;
+    let width = width_of(event_writer, rows)?;
     push(text, "\n")?;
-    push_rows(text, teller, rows, &tree.left, width)?;
-    push_held_rows(text, teller, clients, tree, width)
+    push_rows(text, event_writer, rows, &tree.left, width)?;
+    push_held_rows(text, event_writer, clients, tree, width)?;
+    push_freed_rows(text, event_writer, &tree.freed, width)
 }
 
 // Appends the pool, behind an empty line: a sign for each page, and how many are free.
@@ -127,23 +112,9 @@ fn push_pool(text: &mut Vec<u8>, core: &Core) -> Result<(), Stop>
     let held = core.held()?;
     push(text, "\npool ")?;
     push_signs(text, &held, core.pages())?;
-    push_free(text, core)?;
+    push_free_pages(text, core.free_pages(), core.pages())?;
+    push(text, "\n")?;
     Ok(())
-}
-
-// Appends how many pages are free.
-fn push_free(text: &mut Vec<u8>, core: &Core) -> Result<(), AllocError>
-    ensures { OnOk result (text.new.items ≡ text.old.items ++ free_text core.now) }
-{
-    push_parts(
-        text,
-        &[
-            Part::Number(core.free_pages() as u64),
-            Part::Word(" of "),
-            Part::Number(core.pages() as u64),
-            Part::Word(" free\n"),
-        ],
-    )
 }
 
 // Appends a sign for each of this many pages, unless they are many.
@@ -188,26 +159,22 @@ fn is_on(buffer: &HeldBuffer, page: u32) -> bool
     buffer.pages.start <= page && page - buffer.pages.start < buffer.pages.pages
 }
 
-// Appends the trackers that fired so far, if there are some.
-fn push_fired(text: &mut Vec<u8>, tables: &Tables, fired: &[Fired]) -> Result<(), AllocError>
-    ensures { OnOk result ((names : Names) → Keeps tables.now names →
-        text.new.items ≡ text.old.items ++ fired_line names fired.now) }
-{
-    if fired.is_empty() {
-        return Ok(());
-    }
-    push(text, "fired")?;
-    push_firings(text, tables, fired)?;
-    push(text, "\n")
-}
-
-// Appends each of the firings.
+// Appends each of the trackers that fired so far, in a line of its own.
 fn push_firings(text: &mut Vec<u8>, tables: &Tables, fired: &[Fired]) -> Result<(), AllocError>
     ensures { OnOk result ((names : Names) → Keeps tables.now names →
-        text.new.items ≡ text.old.items ++ flat_map (fired_text names) fired.now) }
+        text.new.items ≡ text.old.items ++ fired_lines names fired.now) }
 {
     for firing in fired {
-        push_firing(text, tables, *firing)?;
+        push_fired_line(text, tables, *firing)?;
     }
     Ok(())
+}
+
+// Appends the line of a tracker that fired.
+fn push_fired_line(text: &mut Vec<u8>, tables: &Tables, firing: Fired) -> Result<(), AllocError>
+    ensures { OnOk result ((names : Names) → Keeps tables.now names →
+        text.new.items ≡ text.old.items ++ fired_line names firing) }
+{
+    push_fired(text, tables, firing)?;
+    push(text, "\n")
 }

@@ -5,67 +5,71 @@ ghost use Rattle.sm_names.specs.declared.keys.NodeKey.{NodeKey as Key};
 ghost use Rattle.event_facts.specs.KeyMaps.{HasKeys};
 ghost use Rattle.script_labels.specs.Names.{Names, label_of_node};
 ghost use Rattle.script_labels.specs.Tables.{Keeps};
-ghost use Rattle.script_tales.specs.Called.{Calls, last_label, other_text};
-ghost use Rattle.script_tales.specs.FactTexts.{buffer_name};
+ghost use Rattle.event_texts.specs.Called.{Calls, last_label, other_text};
+ghost use Rattle.event_texts.specs.FactTexts.{buffer_name};
 ghost use Rattle.picture_text.specs.Outlines.{line_of_row};
-ghost use Rattle.picture_text.specs.TextPictures.{asked_text, buffer_row, dispensable_text, facts_text, fallen_text, full_name as full_name_of, in_parentheses, keepers_text, live_text, name_cell, node_mark as mark_in, pages_row, released_text, row_text, row_width as width_of_row, sign_of_class, signs_of_node, spaces, state_text, told_row, weak_text, widest_row};
+ghost use Rattle.picture_text.specs.TextPictures.{asked_text, buffer_row, dispensable_text, facts_text, freed_row, full_name as full_name_of, in_parentheses, keepers_text, name_cell, node_mark as mark_in, pages_row, row_text, row_width as width_of_row, sign_cell as cell_of, signs_of_node, spaces, told_row, weak_text, widest_row};
 
 use crate::outline::Row;
 use event_facts::keys_of;
-use event_marks::key_sets::KeySet;
+use event_texts::EventWriter;
+use forced_marks::key_sets::KeySet;
 use forest_store::Node;
-use script_labels::{Tables, push_cause};
-use script_lines::push;
-use script_pictures::{Class, Tree, class_of, gap_behind, kind_name, push_pages, push_place};
-use script_tales::words::push_nodes;
-use script_tales::{Teller, push_holders};
-use sm_names::{BufferName, ClientId, Constraints, Fault, HeldBuffer, NodeKey};
+use picture_model::{
+    Class, Tree, class_of, class_sign, kind_name, push_asked_line, push_keepers, push_pages,
+    push_place, push_state_line,
+};
+use script_lines::{Part, push, push_parts};
+use sm_names::{BufferName, ClientId, Constraints, HeldBuffer, NodeKey};
 use std::alloc::AllocError;
-use text_parts::{Part, push_parts};
 
 // The width of the widest row: the lines that lead to its node, and the node's name.
-pub(crate) fn width_of(teller: &Teller, rows: &Vec<Row>) -> Result<u64, AllocError>
-    ensures { IfOk result (λ width. (names : Names) → Keeps teller.now.session.tables names →
-        Calls teller.now.labels names → width ≡ widest_row names rows.now.items) }
+pub(crate) fn width_of(event_writer: &EventWriter, rows: &Vec<Row>) -> Result<u64, AllocError>
+    ensures { IfOk result (λ width. (names : Names) → Keeps event_writer.now.session.tables names →
+        Calls event_writer.now.labels names → width ≡ widest_row names rows.now.items) }
 {
     let mut width: u64 = 0;
     for row in rows {
-        width = width.max(row_width(teller, row)?);
+        width = width.max(row_width(event_writer, row)?);
     }
     Ok(width)
 }
 
 // The columns of the lines that lead to the row's node, and of its name.
-fn row_width(teller: &Teller, row: &Row) -> Result<u64, AllocError>
-    ensures { IfOk result (λ width. (names : Names) → Keeps teller.now.session.tables names →
-        Calls teller.now.labels names → width ≡ width_of_row names (line_of_row row.now)) }
+fn row_width(event_writer: &EventWriter, row: &Row) -> Result<u64, AllocError>
+    ensures { IfOk result (λ width. (names : Names) → Keeps event_writer.now.session.tables names →
+        Calls event_writer.now.labels names → width ≡ width_of_row names (line_of_row row.now)) }
 {
-    let name = full_name(teller, row)?;
+    let name = full_name(event_writer, row)?;
     Ok(row.columns.saturating_add(name.len() as u64))
 }
 
 // The label of the birth of the row's node, and in parentheses another under which its end was collected
 // last.
-fn full_name(teller: &Teller, row: &Row) -> Result<Vec<u8>, AllocError>
-    ensures { IfOk result (λ name. (names : Names) → Keeps teller.now.session.tables names →
-        Calls teller.now.labels names → name.items ≡ full_name_of names row.now.node.key) }
+fn full_name(event_writer: &EventWriter, row: &Row) -> Result<Vec<u8>, AllocError>
+    ensures { IfOk result (λ name. (names : Names) → Keeps event_writer.now.session.tables names →
+        Calls event_writer.now.labels names → name.items ≡ full_name_of names row.now.node.key) }
 {
     let mut name = Vec::new(*row.lines.allocator());
-    let tables = &teller.session.tables;
+    let tables = &event_writer.session.tables;
     push_parts(&mut name, &[Part::Name(tables.birth_label(row.node.key))])?;
-    push_other_name(&mut name, teller, row.node.key)?;
+    push_other_name(&mut name, event_writer, row.node.key)?;
     Ok(name)
 }
 
 // Appends the label under which the end of the node was collected last, in parentheses, if it is another
 // than that of its birth.
-fn push_other_name(text: &mut Vec<u8>, teller: &Teller, node: NodeKey) -> Result<(), AllocError>
-    ensures { OnOk result ((names : Names) → Keeps teller.now.session.tables names →
-        Calls teller.now.labels names → text.new.items ≡ text.old.items
+fn push_other_name(
+    text: &mut Vec<u8>,
+    event_writer: &EventWriter,
+    node: NodeKey,
+) -> Result<(), AllocError>
+    ensures { OnOk result ((names : Names) → Keeps event_writer.now.session.tables names →
+        Calls event_writer.now.labels names → text.new.items ≡ text.old.items
         ++ in_parentheses (other_text (last_label names node) (label_of_node names node))) }
 {
     let mut other = Vec::new(*text.allocator());
-    teller.push_other_name(&mut other, node)?;
+    event_writer.push_other_name(&mut other, node)?;
     push_in_parentheses(text, &other)
 }
 
@@ -95,34 +99,34 @@ fn push_spaces(text: &mut Vec<u8>, count: u64) -> Result<(), AllocError>
 // Appends a row for each node, in a tree of this width, of which these nodes left at the event.
 pub(crate) fn push_rows(
     text: &mut Vec<u8>,
-    teller: &Teller,
+    event_writer: &EventWriter,
     rows: &[Row],
     left: &[NodeKey],
     width: u64,
 ) -> Result<(), AllocError>
-    ensures { OnOk result ((names : Names) → Keeps teller.now.session.tables names →
-        Calls teller.now.labels names → text.new.items ≡ text.old.items
+    ensures { OnOk result ((names : Names) → Keeps event_writer.now.session.tables names →
+        Calls event_writer.now.labels names → text.new.items ≡ text.old.items
         ++ flat_map (λ r. row_text names width left.now (line_of_row r)) rows.now) }
 {
     let left = keys_of(*text.allocator(), left)?;
-    push_each_row(text, teller, rows, &left, width)
+    push_each_row(text, event_writer, rows, &left, width)
 }
 
 // Appends a row for each node, in a tree of this width, of which these nodes left at the event.
 fn push_each_row(
     text: &mut Vec<u8>,
-    teller: &Teller,
+    event_writer: &EventWriter,
     rows: &[Row],
     left: &KeySet,
     width: u64,
 ) -> Result<(), AllocError>
-    ensures { OnOk result ((names : Names) → Keeps teller.now.session.tables names →
-        Calls teller.now.labels names → (keys : List Key) → HasKeys left.now keys →
+    ensures { OnOk result ((names : Names) → Keeps event_writer.now.session.tables names →
+        Calls event_writer.now.labels names → (keys : List Key) → HasKeys left.now keys →
         text.new.items ≡ text.old.items
         ++ flat_map (told_row names width keys) rows.now) }
 {
     for row in rows {
-        push_row(text, teller, row, left, width)?;
+        push_row(text, event_writer, row, left, width)?;
     }
     Ok(())
 }
@@ -130,34 +134,39 @@ fn push_each_row(
 // Appends the row of a node.
 fn push_row(
     text: &mut Vec<u8>,
-    teller: &Teller,
+    event_writer: &EventWriter,
     row: &Row,
     left: &KeySet,
     width: u64,
 ) -> Result<(), AllocError>
-    ensures { OnOk result ((names : Names) → Keeps teller.now.session.tables names →
-        Calls teller.now.labels names → (keys : List Key) → HasKeys left.now keys →
+    ensures { OnOk result ((names : Names) → Keeps event_writer.now.session.tables names →
+        Calls event_writer.now.labels names → (keys : List Key) → HasKeys left.now keys →
         text.new.items ≡ text.old.items ++ told_row names width keys row.now) }
 {
-    push_name(text, teller, row, width)?;
+    push_name(text, event_writer, row, width)?;
     push_signs(text, left, &row.node)?;
-    push_state(text, &teller.session.tables, &row.node)?;
-    push_facts(text, teller, &row.node)
+    push_state_line(text, &event_writer.session.tables, &row.node)?;
+    push_facts(text, event_writer, &row.node)
 }
 
 // Appends the lines that lead to the node and its name, up to this width.
-fn push_name(text: &mut Vec<u8>, teller: &Teller, row: &Row, width: u64) -> Result<(), AllocError>
-    ensures { OnOk result ((names : Names) → Keeps teller.now.session.tables names →
-        Calls teller.now.labels names → text.new.items ≡ text.old.items
+fn push_name(
+    text: &mut Vec<u8>,
+    event_writer: &EventWriter,
+    row: &Row,
+    width: u64,
+) -> Result<(), AllocError>
+    ensures { OnOk result ((names : Names) → Keeps event_writer.now.session.tables names →
+        Calls event_writer.now.labels names → text.new.items ≡ text.old.items
         ++ name_cell names width (line_of_row row.now)) }
 {
-    let name = full_name(teller, row)?;
+    let name = full_name(event_writer, row)?;
     let taken = row.columns.saturating_add(name.len() as u64);
     push_parts(text, &[Part::Bytes(&row.lines), Part::Bytes(&name)])?;
     push_spaces(text, width.saturating_sub(taken))
 }
 
-// Appends whether the node left, at this event, or was released.
+// Appends the sign of what the node is drawn as, and whether it left at this event.
 fn push_signs(text: &mut Vec<u8>, left: &KeySet, node: &Node) -> Result<(), AllocError>
     ensures { OnOk result ((keys : List Key) → HasKeys left.now keys →
         text.new.items ≡ text.old.items ++ signs_of_node keys node.now) }
@@ -166,22 +175,18 @@ fn push_signs(text: &mut Vec<u8>, left: &KeySet, node: &Node) -> Result<(), Allo
         text,
         &[
             Part::Word("  "),
-            Part::Word(sign_of(class_of(node))),
+            Part::Word(sign_cell(class_of(node))),
             Part::Word(mark_of(left, node.key)),
-            Part::Word(released_words(node)),
         ],
     )
 }
 
-// The sign of a node's class.
-fn sign_of(class: Class) -> &'static str
-    ensures { result.now ≡ sign_of_class class }
+// The sign of what a node is drawn as, or a space.
+fn sign_cell(class: Class) -> &'static str
+    ensures { result.now ≡ cell_of class }
 {
-    match class {
-        Class::Live | Class::Orphan => " ",
-        Class::Origin | Class::Taken => "✕",
-        Class::Ended => "·",
-    }
+    let sign = class_sign(class);
+    if sign.is_empty() { " " } else { sign }
 }
 
 // Whether the node is one of these, which left at the event.
@@ -191,51 +196,9 @@ fn mark_of(left: &KeySet, key: NodeKey) -> &'static str
     if left.has(key) { "! " } else { "  " }
 }
 
-// That the node was released before it left.
-fn released_words(node: &Node) -> &'static str
-    ensures { result.now ≡ released_text node.now }
-{
-    if node.released && node.gone {
-        "released; "
-    } else {
-        ""
-    }
-}
-
-// Appends the state of the node.
-fn push_state(text: &mut Vec<u8>, tables: &Tables, node: &Node) -> Result<(), AllocError>
-    ensures { OnOk result ((names : Names) → Keeps tables.now names →
-        text.new.items ≡ text.old.items ++ state_text names node.now) }
-{
-    match (class_of(node), node.fault) {
-        (Class::Live, _) => push(text, "live"),
-        (Class::Orphan, _) => push(text, "released"),
-        (Class::Ended, _) => push(text, "ended"),
-        (Class::Origin, None) => push(text, "ended"),
-        (Class::Origin, Some(fault)) => push_cause(text, fault.cause),
-        (Class::Taken, None) => push(text, "ended"),
-        (Class::Taken, Some(fault)) => push_fallen(text, tables, fault),
-    }
-}
-
-// Appends why the node fell, and with whom.
-fn push_fallen(text: &mut Vec<u8>, tables: &Tables, fault: Fault) -> Result<(), AllocError>
-    ensures { OnOk result ((names : Names) → Keeps tables.now names →
-        text.new.items ≡ text.old.items ++ fallen_text names fault) }
-{
-    push_cause(text, fault.cause)?;
-    push_parts(
-        text,
-        &[
-            Part::Word(", origin "),
-            Part::Name(tables.birth_label(fault.origin)),
-        ],
-    )
-}
-
 // Puts what is said of the node behind its state, and the end of its row.
-fn push_facts(text: &mut Vec<u8>, teller: &Teller, node: &Node) -> Result<(), AllocError>
-    ensures { OnOk result ((names : Names) → Calls teller.now.labels names →
+fn push_facts(text: &mut Vec<u8>, event_writer: &EventWriter, node: &Node) -> Result<(), AllocError>
+    ensures { OnOk result ((names : Names) → Calls event_writer.now.labels names →
         text.new.items ≡ text.old.items ++ facts_text names node.now) }
 {
     push_parts(
@@ -249,7 +212,7 @@ fn push_facts(text: &mut Vec<u8>, teller: &Teller, node: &Node) -> Result<(), Al
     )?;
     push_asked(text, node.constraints)?;
     push(text, "; ")?;
-    push_place(text, &teller.labels, node)?;
+    push_place(text, &event_writer.labels, node)?;
     push(text, "\n")
 }
 
@@ -276,17 +239,10 @@ fn push_asked(text: &mut Vec<u8>, asked: Option<Constraints>) -> Result<(), Allo
     ensures { OnOk result (text.new.items ≡ text.old.items ++ asked_text asked) }
 {
     match asked {
-        Some(asked) => push_parts(
-            text,
-            &[
-                Part::Word("; asks "),
-                Part::Number(asked.camping() as u64),
-                Part::Word(" "),
-                Part::Number(asked.at_least() as u64),
-                Part::Word(" "),
-                Part::Number(asked.size() as u64),
-            ],
-        ),
+        Some(asked) => {
+            push(text, "; ")?;
+            push_asked_line(text, asked)
+        }
         None => Ok(()),
     }
 }
@@ -294,18 +250,18 @@ fn push_asked(text: &mut Vec<u8>, asked: Option<Constraints>) -> Result<(), Allo
 // Appends a row for each buffer of the tree with pages.
 pub(crate) fn push_held_rows(
     text: &mut Vec<u8>,
-    teller: &Teller,
+    event_writer: &EventWriter,
     clients: &Vec<ClientId>,
     tree: &Tree,
     width: u64,
 ) -> Result<(), AllocError>
-    ensures { OnOk result ((names : Names) → Keeps teller.now.session.tables names →
-        Calls teller.now.labels names → text.new.items ≡ text.old.items
-        ++ flat_map (buffer_row teller.now.session.core names clients.now.items width
+    ensures { OnOk result ((names : Names) → Keeps event_writer.now.session.tables names →
+        Calls event_writer.now.labels names → text.new.items ≡ text.old.items
+        ++ flat_map (buffer_row event_writer.now.session.core names clients.now.items width
         tree.now.strong.items) tree.now.held.items) }
 {
     for buffer in &tree.held {
-        push_buffer_row(text, teller, clients, tree, *buffer, width)?;
+        push_buffer_row(text, event_writer, clients, tree, *buffer, width)?;
     }
     Ok(())
 }
@@ -313,32 +269,32 @@ pub(crate) fn push_held_rows(
 // Appends the row of a buffer.
 fn push_buffer_row(
     text: &mut Vec<u8>,
-    teller: &Teller,
+    event_writer: &EventWriter,
     clients: &Vec<ClientId>,
     tree: &Tree,
     buffer: HeldBuffer,
     width: u64,
 ) -> Result<(), AllocError>
-    ensures { OnOk result ((names : Names) → Keeps teller.now.session.tables names →
-        Calls teller.now.labels names → text.new.items ≡ text.old.items
-        ++ buffer_row teller.now.session.core names clients.now.items width
+    ensures { OnOk result ((names : Names) → Keeps event_writer.now.session.tables names →
+        Calls event_writer.now.labels names → text.new.items ≡ text.old.items
+        ++ buffer_row event_writer.now.session.core names clients.now.items width
         tree.now.strong.items buffer) }
 {
-    push_pages_row(text, teller, buffer, width)?;
-    push_keepers(text, teller, clients, &tree.strong, buffer)
+    push_pages_row(text, event_writer, buffer, width)?;
+    push_kept_by(text, event_writer, clients, &tree.strong, buffer)
 }
 
 // Appends the name of the buffer and its pages.
 fn push_pages_row(
     text: &mut Vec<u8>,
-    teller: &Teller,
+    event_writer: &EventWriter,
     buffer: HeldBuffer,
     width: u64,
 ) -> Result<(), AllocError>
-    ensures { OnOk result ((names : Names) → Keeps teller.now.session.tables names →
+    ensures { OnOk result ((names : Names) → Keeps event_writer.now.session.tables names →
         text.new.items ≡ text.old.items ++ pages_row names width buffer) }
 {
-    push_buffer_name(text, teller, buffer.buffer, width)?;
+    push_buffer_name(text, event_writer, buffer.buffer, width)?;
     push(text, "     ")?;
     push_pages(text, buffer.pages)
 }
@@ -346,16 +302,16 @@ fn push_pages_row(
 // Appends the name of the buffer, up to this width.
 fn push_buffer_name(
     text: &mut Vec<u8>,
-    teller: &Teller,
+    event_writer: &EventWriter,
     buffer: BufferName,
     width: u64,
 ) -> Result<(), AllocError>
-    ensures { OnOk result ((names : Names) → Keeps teller.now.session.tables names →
+    ensures { OnOk result ((names : Names) → Keeps event_writer.now.session.tables names →
         text.new.items ≡ text.old.items
         ++ (buffer_name names buffer ++ spaces (length (buffer_name names buffer)) width)) }
 {
     let mut name = Vec::new(*text.allocator());
-    teller.push_buffer_name(&mut name, buffer)?;
+    event_writer.push_buffer_name(&mut name, buffer)?;
     push_padded(text, &name, width)
 }
 
@@ -369,39 +325,48 @@ fn push_padded(text: &mut Vec<u8>, words: &[u8], width: u64) -> Result<(), Alloc
 }
 
 // Appends the holders of the buffer, where these nodes are strong and live.
-fn push_keepers(
+fn push_kept_by(
     text: &mut Vec<u8>,
-    teller: &Teller,
+    event_writer: &EventWriter,
     clients: &Vec<ClientId>,
     strong: &[NodeKey],
     buffer: HeldBuffer,
 ) -> Result<(), AllocError>
-    ensures { OnOk result ((names : Names) → Keeps teller.now.session.tables names →
-        Calls teller.now.labels names → text.new.items ≡ text.old.items
-        ++ keepers_text teller.now.session.core names clients.now.items strong.now buffer) }
+    ensures { OnOk result ((names : Names) → Keeps event_writer.now.session.tables names →
+        Calls event_writer.now.labels names → text.new.items ≡ text.old.items
+        ++ keepers_text event_writer.now.session.core names clients.now.items strong.now buffer) }
 {
-    let (core, labels) = (&teller.session.core, &teller.labels);
     push(text, "; kept by ")?;
-    push_live(text, &teller.session.tables, strong)?;
-    push_holders(
-        text,
-        core,
-        labels,
-        clients,
-        buffer.buffer,
-        gap_behind(strong),
-    )?;
+    push_keepers(text, event_writer, clients, strong, buffer.buffer)?;
     push(text, "\n")
 }
 
-// Appends the live nodes, if there are some.
-fn push_live(text: &mut Vec<u8>, tables: &Tables, nodes: &[NodeKey]) -> Result<(), AllocError>
-    ensures { OnOk result ((names : Names) → Keeps tables.now names →
-        text.new.items ≡ text.old.items ++ live_text names nodes.now) }
+// Appends a row for each of these buffers, which gave their pages back.
+pub(crate) fn push_freed_rows(
+    text: &mut Vec<u8>,
+    event_writer: &EventWriter,
+    freed: &[HeldBuffer],
+    width: u64,
+) -> Result<(), AllocError>
+    ensures { OnOk result ((names : Names) → Keeps event_writer.now.session.tables names →
+        text.new.items ≡ text.old.items ++ flat_map (freed_row names width) freed.now) }
 {
-    if nodes.is_empty() {
-        return Ok(());
+    for buffer in freed {
+        push_freed_row(text, event_writer, *buffer, width)?;
     }
-    push(text, "live")?;
-    push_nodes(text, tables, nodes)
+    Ok(())
+}
+
+// Appends the row of a buffer that gave its pages back.
+fn push_freed_row(
+    text: &mut Vec<u8>,
+    event_writer: &EventWriter,
+    buffer: HeldBuffer,
+    width: u64,
+) -> Result<(), AllocError>
+    ensures { OnOk result ((names : Names) → Keeps event_writer.now.session.tables names →
+        text.new.items ≡ text.old.items ++ freed_row names width buffer) }
+{
+    push_pages_row(text, event_writer, buffer, width)?;
+    push(text, "; home\n")
 }

@@ -7,7 +7,8 @@ use Rattle.script_lines.specs.declared.label.Label.{Label}
 use Rattle.script_labels.specs.declared.act.Binds.{Binds}
 use Rattle.script_labels.specs.Names.{names_after}
 use Rattle.script_labels.specs.Texts.{reply_text}
-use Rattle.record_texts.specs.Records.{Scribe, binds_of, call_text, entry_text, labels_after, next_label, record_from, scribe_after, scribe_noted, scribe_with_client}
+use Rattle.record_texts.specs.Records.{Scribe, binds_of, call_text, entry_text, labels_after, next_label}
+use Rattle.record_texts.specs.Records.{record_from, scribe_after, scribe_noted, scribe_with_client}
 
 -- what holds in any case holds at Ok
 pub ok-always : {T E : Type 0} (result : Result T E) (P : Type 0) → P → OnOk result P
@@ -20,7 +21,8 @@ ok-weaker (Ok value) P Q so holds = so holds
 ok-weaker (Err error) P Q so holds = tt
 
 -- a client that joined is called by its label
-pub joins : (s : Scribe) (binds : Binds) (reply : Reply) (client : ℕ) (label : Label) → binds ≡ Binds.Client label → reply ≡ Reply.Joined client →
+pub joins : (s : Scribe) (binds : Binds) (reply : Reply) (client : ℕ) (label : Label) →
+    binds ≡ Binds.Client label → reply ≡ Reply.Joined client →
     scribe_with_client (record s { names = names_after s.names binds reply }) client label ≡ scribe_noted s binds reply
 joins s binds reply client label is-bound is-told = rw is-bound (rw is-told refl)
 
@@ -29,19 +31,24 @@ pub is-entry : (old one two three new : List ℕ) (s : Scribe) (next : Option La
     binds ≡ binds_of next event entry.1 → one ≡ old ++ call_text s binds entry.0 entry.1 → two ≡ one ++ codes "\n  " →
     three ≡ two ++ reply_text s.names binds entry.2 → new ≡ three ++ codes "\n" → new ≡ old ++ entry_text s next event entry
 is-entry old one two three new s next event entry binds is call gap reply end =
-    subst (λ (b : Binds). new ≡ old ++ (call_text s b entry.0 entry.1 ++ codes "\n  " ++ reply_text s.names b entry.2 ++ codes "\n")) is whole
+    subst (λ (b : Binds). new
+    ≡ old ++ (call_text s b entry.0 entry.1 ++ codes "\n  " ++ reply_text s.names b entry.2 ++ codes "\n")) is whole
   where
+    -- the line of the call
     line : List ℕ
     line = call_text s binds entry.0 entry.1
 
+    -- by the text of the call and two spaces on a new line
     up-to-gap : two ≡ old ++ (line ++ codes "\n  ")
     up-to-gap = gap ∙ ap (λ (t : List ℕ). t ++ codes "\n  ") call ∙ append_assoc old line (codes "\n  ")
 
+    -- by the text of the reply behind it
     up-to-reply : three ≡ old ++ (line ++ codes "\n  " ++ reply_text s.names binds entry.2)
     up-to-reply =
         reply ∙ ap (λ (t : List ℕ). t ++ reply_text s.names binds entry.2) up-to-gap
         ∙ append_assoc old (line ++ codes "\n  ") (reply_text s.names binds entry.2)
 
+    -- by the end of the line behind it
     whole : new ≡ old ++ (line ++ codes "\n  " ++ reply_text s.names binds entry.2 ++ codes "\n")
     whole =
         end ∙ ap (λ (t : List ℕ). t ++ codes "\n") up-to-reply
@@ -54,8 +61,10 @@ pub goes-on : (front text written : List ℕ) (s : Scribe) (labels left : List L
     front ≡ written ++ record_from (scribe_after s next event entry) left (event + 1) later
 goes-on front text written s labels left next event entry rest later so is first put after =
     subst (λ (ls : List Label). front ≡ written ++ record_from (scribe_after s next event entry) ls (event + 1) later) (sym after)
-    (there ∙ ap (λ (t : List ℕ). t ++ record_from (scribe_after s next event entry) (labels_after labels entry.1) (event + 1) later) (sym put))
+    (there ∙ ap (λ (t : List ℕ). t ++ record_from (scribe_after s next event entry) (labels_after labels entry.1) (event + 1) later)
+    (sym put))
   where
+    -- the text so far, with that of the entry joined to it
     here : front ≡ (text ++ entry_text s (next_label labels) event entry)
         ++ record_from (scribe_after s (next_label labels) event entry) (labels_after labels entry.1) (event + 1) later
     here =
@@ -63,6 +72,7 @@ goes-on front text written s labels left next event entry rest later so is first
         ∙ sym (append_assoc text (entry_text s (next_label labels) event entry)
         (record_from (scribe_after s (next_label labels) event entry) (labels_after labels entry.1) (event + 1) later))
 
+    -- by the label that the call binds
     there : front ≡ (text ++ entry_text s next event entry)
         ++ record_from (scribe_after s next event entry) (labels_after labels entry.1) (event + 1) later
     there =

@@ -1,12 +1,14 @@
 -- The loop over the lines of a script that is drawn.
-use Rattle.std.proofs.Common.{◌≡◌, ◌≢◌, ℕ, ◌+◌, ◌-◌, ◌^◌, ◌<◌, ◌≤◌, min, ◌==◌, Bool, true, false, List, [], ◌∷◌, ◌++◌, length, length-append, take, drop, append_assoc, refl, sym, ap, ◌∙◌, subst, Some, None, inl, inr, arith}
+use Rattle.std.proofs.Common.{◌≡◌, ◌≢◌, ℕ, ◌+◌, ◌-◌, ◌^◌, ◌<◌, ◌≤◌, min, ◌==◌, Bool, true, false, List, [], ◌∷◌, ◌++◌, length}
+use Rattle.std.proofs.Common.{length-append, take, drop, append_assoc, refl, sym, ap, ◌∙◌, subst, Some, None, inl, inr, arith}
 use Rattle.std.specs.List.{position}
 use Rattle.script_lines.specs.declared.TheConstants.{MOST_BYTES}
 use Rattle.script_lines.specs.Pieces.{whole_lines, last_part}
 use Rattle.script_lines.proofs.Piecing.{is_end}
-use Rattle.script_faults.specs.declared.fault.ReportFault.{ReportFault}
-use Rattle.script_faults.specs.Faults.{IsBadLine}
-use Rattle.script_faults.proofs.LinesTaken.{AreTaken, last-number, next-number, none-left, rest-all, taken-all, taken-at, taken-more, taken-none, taken-room}
+use Rattle.report_io.specs.declared.fault.ReportFault.{ReportFault}
+use Rattle.report_io.specs.Faults.{IsBadLine}
+use Rattle.report_io.proofs.LinesTaken.{AreTaken, last-number, next-number, none-left, rest-all}
+use Rattle.report_io.proofs.LinesTaken.{taken-all, taken-at, taken-more, taken-none, taken-room}
 use Rattle.sm_script.specs.Scenes.{Setting}
 use Rattle.sm_script.proofs.Taking.{some_behind}
 use Rattle.script_draw.specs.declared.draw.Scroll.{Scroll}
@@ -68,7 +70,8 @@ halted-lines setting until scroll script ReportFault.NoMemory stop = stop
 
 -- the last line has no end
 halted-at-end : (setting : Setting) (until : Until) (scroll : Scroll) (script : List ℕ) (number : ℕ) (fault : ReportFault)
-    (far : Reached setting until scroll (whole_lines script)) → IsAhead until setting.pool (whole_lines script) far.scene → last_part script ≢ [] →
+    (far : Reached setting until scroll (whole_lines script)) →
+    IsAhead until setting.pool (whole_lines script) far.scene → last_part script ≢ [] →
     number ≡ length (whole_lines script) + 1 → IsBadLine number fault → PlayLinesHalt setting until scroll script fault
 halted-at-end setting until scroll script number ReportFault.ReadFault far ahead some numbered is = absurd is
 halted-at-end setting until scroll script number ReportFault.TooLong far ahead some numbered is = absurd is

@@ -1,38 +1,42 @@
 -- The outcome of a drawing once its picture is written.
-use Rattle.std.proofs.Common.{◌≡◌, ℕ, ◌+◌, ◌<◌, ◌≤◌, Bool, true, false, List, [], ◌∷◌, ◌++◌, length, append-nil, sym, ap, subst, Option, Some, None, inl, inr}
+use Rattle.std.proofs.Common.{◌≡◌, ℕ, ◌+◌, ◌<◌, ◌≤◌, Bool, true, false, List, [], ◌∷◌, ◌++◌}
+use Rattle.std.proofs.Common.{length, append-nil, sym, ap, subst, Option, Some, None, inl, inr}
 use Rattle.std.proofs.KnownBytes.{Keeps-refl}
 use Rattle.std.specs.Prelude.{Ok, Err, Result, OnOk, IfErr, option_map}
 use Rattle.std.specs.Io.KnownBytes.{Consumes, IsAtEnd}
 use Rattle.script_lines.specs.declared.TheConstants.{MOST_BYTES}
 use Rattle.script_lines.specs.Pieces.{whole_lines}
-use Rattle.script_faults.specs.declared.fault.ReportFault.{ReportFault}
-use Rattle.script_faults.specs.declared.fault.Sought.{Sought}
-use Rattle.script_faults.specs.Faults.{IsReported}
-use Rattle.script_faults.specs.Streams.{IsUnread}
+use Rattle.report_io.specs.declared.fault.ReportFault.{ReportFault}
+use Rattle.report_io.specs.declared.fault.Sought.{Sought}
+use Rattle.report_io.specs.Faults.{IsReported}
+use Rattle.report_io.specs.Streams.{IsUnread}
 use Rattle.script_labels.specs.Names.{Names}
 use Rattle.sm_script.specs.Scenes.{Setting}
 use Rattle.script_labels.specs.Tables.{Keeps as KeepsNames}
-use Rattle.script_tales.specs.Called.{Calls}
+use Rattle.event_texts.specs.Called.{Calls}
 use Rattle.script_draw.specs.declared.draw.Format.{Format}
 use Rattle.script_draw.specs.declared.draw.Scroll.{Scroll}
 use Rattle.script_draw.specs.declared.draw.View.{View}
-use Rattle.script_draw.specs.Draws.{AreAll, Draws, EndsDrawn, PictureBefore, IsMissing, IsPicture, IsPictured, IsUnplayed, IsUnwritten, LinesDrawn, PictureLinesStop, Pictures, drawing_status}
+use Rattle.script_draw.specs.Draws.{AreAll, Draws, EndsDrawn, PictureBefore, IsMissing, IsPicture, IsPictured}
+use Rattle.script_draw.specs.Draws.{IsUnplayed, IsUnwritten, LinesDrawn, PictureLinesStop, Pictures, drawing_status}
 use Rattle.script_draw.specs.declared.draw.Until.{Until}
 use Rattle.script_draw.specs.Played.{ComesBefore, IsAhead, LeadsToScene, asked_number, found, is_reached, wanted}
 use Rattle.script_draw.specs.Reached.{PlayEnds, PlayHalted, IsPlayedOn, PlayLinesHalt, Reached, stops_at_line}
 use Rattle.sm_names.specs.Marks.{Entry}
 use Rattle.core_state.specs.Shown.{Shows}
-use Rattle.script_pictures.specs.Albums.{KnowsKept}
+use Rattle.picture_model.specs.PictureStates.{KnowsKept}
 use Rattle.script_draw.proofs.Playing.{far-reaches, reached-is}
 
 -- a picture of the core is one of what happened so far
 pub pictures-so-far : (format : Format) (setting : Setting) (until : Until) (scroll : Scroll) (lines : List (List ℕ))
     (far : Reached setting until scroll lines) (blank text : List ℕ) → blank ≡ [] →
-    ((names : Names) → KeepsNames scroll.teller.session.tables names → Calls scroll.teller.labels names → blank ≡ [] →
-    (history : List Entry) → Shows scroll.teller.session.core history → KnowsKept scroll.teller.session.core scroll.album →
-    IsPicture format scroll.teller.session.core names scroll.line.items scroll.event text) → Pictures format setting far.scene scroll.line.items text
+    ((names : Names) → KeepsNames scroll.event_writer.session.tables names → Calls scroll.event_writer.labels names → blank ≡ [] →
+    (history : List Entry) → Shows scroll.event_writer.session.core history →
+    KnowsKept scroll.event_writer.session.core scroll.picture_state →
+    IsPicture format scroll.event_writer.session.core names scroll.line.items scroll.event text) →
+    Pictures format setting far.scene scroll.line.items text
 pictures-so-far format setting until scroll lines far blank text none on = record {
-  core = scroll.teller.session.core;
+  core = scroll.event_writer.session.core;
   shows = far.knows.is_at.shows;
   pool = far.pool;
   event = scroll.event;
@@ -73,7 +77,8 @@ module _ (setting : Setting) (view : View) (scroll : Scroll) (old new : Option (
 
   -- the picture of the lines that are asked for
   pub drawn-all : (all_found : Bool) (played : IsPlayedOn setting view.until all_found scroll script) →
-      AreAll (asked_number view.until) script played.lines (found view.until setting.pool played.lines played.reached.scene) → (result : Result (Unit {0}) ReportFault) →
+      AreAll (asked_number view.until) script played.lines (found view.until setting.pool played.lines played.reached.scene) →
+      (result : Result (Unit {0}) ReportFault) →
       OnOk result (IsWritten view.format scroll old new) → IfErr result (IsRefused view.format scroll old new) →
       LinesDrawn setting view old new script result
   drawn-all all_found played all (Ok done) ok err = record {
@@ -93,7 +98,8 @@ module _ (setting : Setting) (view : View) (scroll : Scroll) (old new : Option (
   -- what is left of the lines before a stop
   abbrev Left : Type 0
   Left = (lines : List (List ℕ)) (far : Reached setting view.until scroll lines) → IsAhead view.until setting.pool lines far.scene →
-      PictureBefore (asked_number view.until) (found view.until setting.pool lines far.scene) view.format setting far.scene scroll.line.items old new
+      PictureBefore (asked_number view.until)
+      (found view.until setting.pool lines far.scene) view.format setting far.scene scroll.line.items old new
 
   -- a line that halts the play leaves the picture that `left` gives of the lines before it
   halted-left : (fault : ReportFault) (stop : PlayHalted setting view.until scroll (whole_lines script) fault) → Left →
@@ -132,7 +138,8 @@ module _ (setting : Setting) (view : View) (scroll : Scroll) (old new : Option (
 
   -- a line stopped the script, and the picture of those before went out
   pub none-asked : wanted view.until ≡ None → (fault : ReportFault) → stops_at_line fault ≡ true →
-      PlayLinesHalt setting view.until scroll script fault → IsWritten view.format scroll old new → PictureLinesStop setting view old new script fault
+      PlayLinesHalt setting view.until scroll script fault → IsWritten view.format scroll old new →
+      PictureLinesStop setting view old new script fault
   none-asked none fault test stop ok = stop-left fault test stop (λ lines far ahead.
       subst (λ (at : Option ℕ). PictureBefore at (found view.until setting.pool lines far.scene) view.format setting far.scene
       scroll.line.items old new) (sym (ap (option_map (λ (w : Sought × ℕ). w.1)) none))
@@ -184,20 +191,25 @@ pub all-played : (setting : Setting) (until : Until) (all_found : Bool) (scroll 
     AreAll (asked_number until) script played.lines (found until setting.pool played.lines played.reached.scene)
 all-played setting until all_found scroll script played is = by all_found played.ends
   where
+    -- since the last line was asked for, not a number
     number_is : asked_number until ≡ None
     number_is = ap (option_map (λ (w : Sought × ℕ). w.1)) is
 
+    -- how many lines were played
     count : ℕ
     count = found until setting.pool played.lines played.reached.scene
 
-    by : (b : Bool) → PlayEnds b until setting.pool script played.lines played.reached.scene → AreAll (asked_number until) script played.lines count
+    -- by cases: no number can be reached, so all lines were played
+    by : (b : Bool) → PlayEnds b until setting.pool script played.lines played.reached.scene →
+        AreAll (asked_number until) script played.lines count
     by true reached =
         let never : is_reached None count ≡ true = subst (λ (n : Option ℕ). is_reached n count ≡ true) number_is reached in
         absurd (cc)
     by false rest = subst (λ (n : Option ℕ). AreAll n script played.lines count) (sym number_is) (rest.0, rest.1)
 
 -- the lines up to what is asked for were played
-pub all-found : (setting : Setting) (until : Until) (scroll : Scroll) (script : List ℕ) (played : IsPlayedOn setting until true scroll script)
+pub all-found : (setting : Setting) (until : Until) (scroll : Scroll) (script : List ℕ)
+    (played : IsPlayedOn setting until true scroll script)
     (w : Sought × ℕ) → wanted until ≡ Some w → 0 < w.1 →
     AreAll (asked_number until) script played.lines (found until setting.pool played.lines played.reached.scene)
 all-found setting until scroll script played w is some =

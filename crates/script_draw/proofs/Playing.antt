@@ -1,16 +1,17 @@
 -- A script that is played on by one line, or stops at it.
-use Rattle.std.proofs.Common.{◌≡◌, ◌≢◌, ℕ, ◌+◌, ◌<◌, ◌≤◌, ◌==◌, true, false, List, [], ◌∷◌, ◌++◌, length, length-append, refl, sym, ap, ◌∙◌, subst, Option, Some, None, inl, arith}
+use Rattle.std.proofs.Common.{◌≡◌, ◌≢◌, ℕ, ◌+◌, ◌<◌, ◌≤◌, ◌==◌, true, false, List, [], ◌∷◌, ◌++◌, length}
+use Rattle.std.proofs.Common.{length-append, refl, sym, ap, ◌∙◌, subst, Option, Some, None, inl, arith}
 use Rattle.std.proofs.lemmas.Bool.Decides.{nat_tests}
 use Rattle.std.specs.Prelude.{Ok, Err, Result, IfErr, codes, nat_le}
 use Rattle.sm_names.specs.declared.messages.Call.{Call}
 use Rattle.sm_names.specs.Bounds.{Bound}
 use Rattle.sm_names.specs.Marks.{events}
 use Rattle.sm_names.specs.Timelines.{timeline}
-use Rattle.script_faults.specs.declared.fault.ReportFault.{ReportFault}
-use Rattle.script_faults.specs.Faults.{IsFaultOf}
-use Rattle.script_faults.specs.IndentedLines.{is_indented, unindented}
+use Rattle.report_io.specs.declared.fault.ReportFault.{ReportFault}
+use Rattle.report_io.specs.Faults.{IsFaultOf}
+use Rattle.report_io.specs.IndentedLines.{is_indented, unindented}
 use Rattle.sm_script.proofs.Settings.{legal-in}
-use Rattle.script_faults.proofs.Unindented.{unindented-more, unindented-skip}
+use Rattle.report_io.proofs.Unindented.{unindented-more, unindented-skip}
 use Rattle.script_labels.specs.declared.act.Act.{Act}
 use Rattle.script_labels.specs.declared.act.Binds.{Binds}
 use Rattle.script_labels.specs.declared.stop.Stop.{Stop}
@@ -18,13 +19,14 @@ use Rattle.script_labels.specs.Names.{act_in}
 use Rattle.sm_script.specs.Scenes.{Answers, Plays, Rests, Scene, Setting, as_line, first_scene, next_scene}
 use Rattle.script_labels.specs.Texts.{reply_text, view_text}
 use Rattle.sm_script.proofs.Playing.{plays-more}
-use Rattle.script_tales.specs.Called.{Knows}
-use Rattle.script_tales.specs.Failing.{failures}
-use Rattle.script_pictures.proofs.Showing.{knows-none}
+use Rattle.event_texts.specs.Called.{Knows}
+use Rattle.event_texts.specs.Failing.{failures}
+use Rattle.picture_model.proofs.Showing.{knows-none}
 use Rattle.script_draw.specs.Draws.{IsLast}
 use Rattle.script_draw.specs.declared.draw.Scroll.{Scroll}
 use Rattle.script_draw.specs.declared.draw.Until.{Until}
-use Rattle.script_draw.specs.Played.{ComesBefore, IsAhead, IsWithin, Played, Begins, Passes, Looks, Makes, LeadsToScene, WasAhead, asked_number, found, is_call, is_reached}
+use Rattle.script_draw.specs.Played.{ComesBefore, IsAhead, IsWithin, Played, Begins, Passes, Looks, Makes}
+use Rattle.script_draw.specs.Played.{LeadsToScene, WasAhead, asked_number, found, is_call, is_reached}
 use Rattle.script_draw.specs.Reached.{AsksFor, PlayHalts, PlayHalted, IsHeldUp, LineMakesCall, Reached}
 
 -- a line that makes no event gives some text, and changes nothing
@@ -142,8 +144,8 @@ abbrev PlayedAhead : Until → ℕ → List (List ℕ) → Scene → List ℕ �
 PlayedAhead until pool lines scene last = (played : Played lines scene last) × WasAhead until pool lines scene last played
 
 -- no line was played
-pub far-none : (setting : Setting) (until : Until) (scroll : Scroll) → scroll.teller.session.core.pool ≡ setting.pool →
-    scroll.teller.session.core.limits ≡ setting.limits → scroll.limits ≡ setting.limits → Knows scroll.teller first_scene →
+pub far-none : (setting : Setting) (until : Until) (scroll : Scroll) → scroll.event_writer.session.core.pool ≡ setting.pool →
+    scroll.event_writer.session.core.limits ≡ setting.limits → scroll.limits ≡ setting.limits → Knows scroll.event_writer first_scene →
     scroll.line.items ≡ [] → scroll.event ≡ None → Reached setting until scroll []
 far-none setting until scroll pool limits bound knows none quiet =
     let so_far : PlayedAhead until setting.pool [] first_scene scroll.line.items =
@@ -155,7 +157,7 @@ far-none setting until scroll pool limits bound knows none quiet =
       scene = first_scene;
       played = so_far.0;
       knows = knows;
-      kept = knows-none scroll.teller.session.core scroll.album knows.is_at.shows;
+      kept = knows-none scroll.event_writer.session.core scroll.picture_state knows.is_at.shows;
       last = subst (IsLast setting.pool []) (sym quiet) refl;
       within = within-none until setting.pool;
       ahead = so_far.1;
@@ -169,7 +171,7 @@ module _ (setting : Setting) (until : Until) (scroll : Scroll) (lines : List (Li
     texts = (played-plays setting.pool lines far.scene scroll.line.items far.played).0;
     leads = record {
       plays = (played-plays setting.pool lines far.scene scroll.line.items far.played).1;
-      legal = legal-in setting scroll.teller.session far.scene far.pool far.limits far.knows.is_at;
+      legal = legal-in setting scroll.event_writer.session far.scene far.pool far.limits far.knows.is_at;
     };
   }
 
@@ -212,12 +214,12 @@ module _ (setting : Setting) (until : Until) (scroll : Scroll) (lines : List (Li
     far-make next line client call binds whole good made =
         let event = made.made.event in
         let scene = next_scene far.scene client call binds event.reply in
-        let knows : Knows next.teller scene = made.made.knows far.scene far.knows in
+        let knows : Knows next.event_writer scene = made.made.knows far.scene far.knows in
         let same = made.setting far.scene far.knows.is_at in
-        let pool_is : next.teller.session.core.pool ≡ setting.pool = same.pool ∙ far.pool in
-        let counted : next.teller.failures ≡ failures (timeline setting.pool scene.history) =
+        let pool_is : next.event_writer.session.core.pool ≡ setting.pool = same.pool ∙ far.pool in
+        let counted : next.event_writer.failures ≡ failures (timeline setting.pool scene.history) =
         knows.failed ∙ ap (λ (p : ℕ). failures (timeline p scene.history)) pool_is in
-        let counted_before : scroll.teller.failures ≡ failures (timeline setting.pool far.scene.history) =
+        let counted_before : scroll.event_writer.failures ≡ failures (timeline setting.pool far.scene.history) =
         far.knows.failed ∙ ap (λ (p : ℕ). failures (timeline p far.scene.history)) far.pool in
         let so_far : PlayedAhead until setting.pool (lines ++ line ∷ []) scene next.line.items =
         subst (PlayedAhead until setting.pool (lines ++ line ∷ []) scene) (sym made.line_is)
@@ -231,7 +233,7 @@ module _ (setting : Setting) (until : Until) (scroll : Scroll) (lines : List (Li
           knows = knows;
           kept = made.kept far.scene far.knows far.kept;
           last = subst (IsLast setting.pool scene.history) (sym made.made.kept) (record {
-            before = scroll.teller.session.core;
+            before = scroll.event_writer.session.core;
             pool_is = far.pool;
             earlier = far.scene.history;
             shows = far.knows.is_at.shows;
@@ -243,7 +245,7 @@ module _ (setting : Setting) (until : Until) (scroll : Scroll) (lines : List (Li
           within = within-more until setting.pool lines line far.scene scene
               (one-more (length far.scene.history) (length scene.history)
               (length-append far.scene.history ((client, call, event.reply) ∷ [])))
-              (same-few scroll.teller.failures next.teller.failures _ _ counted_before counted made.failures) before;
+              (same-few scroll.event_writer.failures next.event_writer.failures _ _ counted_before counted made.failures) before;
           ahead = so_far.1;
         }
 
@@ -317,9 +319,9 @@ held-on (Err stop) scroll line act asks held = λ setting until lines far. held 
 pub held-full : (setting : Setting) (until : Until) (scroll : Scroll) (lines : List (List ℕ)) (far : Reached setting until scroll lines)
     (line : List ℕ) (client : ℕ) (call : Call) (binds : Binds) → is_indented line ≡ false →
     act_in far.scene.names line ≡ Some (Act.Ask client call binds) →
-    nat_le scroll.limits.events scroll.teller.session.core.events ≡ true → IsHeldUp setting far.scene line Stop.HistoryFull
+    nat_le scroll.limits.events scroll.event_writer.session.core.events ≡ true → IsHeldUp setting far.scene line Stop.HistoryFull
 held-full setting until scroll lines far line client call binds whole good full =
-    let most : scroll.limits.events ≤ scroll.teller.session.core.events = grind (arith, nat_tests) in (
+    let most : scroll.limits.events ≤ scroll.event_writer.session.core.events = grind (arith, nat_tests) in (
       whole,
       record {
         client = client;
@@ -329,6 +331,6 @@ held-full setting until scroll lines far line client call binds whole good full 
         full =
             subst (λ (p : ℕ). setting.limits.events ≤ events (timeline p far.scene.history)) far.pool
             (subst (λ (n : ℕ). setting.limits.events ≤ n) far.knows.is_at.shows.shown.events
-            (subst (λ (l : Bound). l.events ≤ scroll.teller.session.core.events) far.bound most));
+            (subst (λ (l : Bound). l.events ≤ scroll.event_writer.session.core.events) far.bound most));
       },
     )

@@ -9,18 +9,18 @@ use Rattle.event_facts.specs.declared.event.Event.{Event}
 use Rattle.script_lines.specs.declared.TheConstants.{MOST_BYTES}
 use Rattle.script_lines.specs.Pieces.{whole_lines, last_part}
 use Rattle.script_lines.specs.Written.{WritesPart}
-use Rattle.script_faults.specs.declared.fault.ReportFault.{ReportFault}
-use Rattle.script_faults.specs.declared.fault.Sought.{Sought}
-use Rattle.script_faults.specs.Faults.{IsReported, fault_status}
-use Rattle.script_faults.specs.IndentedLines.{is_indented}
+use Rattle.report_io.specs.declared.fault.ReportFault.{ReportFault}
+use Rattle.report_io.specs.declared.fault.Sought.{Sought}
+use Rattle.report_io.specs.Faults.{IsReported, fault_status}
+use Rattle.report_io.specs.IndentedLines.{is_indented}
 use Rattle.script_labels.specs.Names.{Names, act_in}
 use Rattle.sm_script.specs.Runs.{IsOver}
 use Rattle.sm_script.specs.Scenes.{Scene, Setting}
-use Rattle.script_tales.specs.Tellings.{IsEventOf}
-use Rattle.script_pictures.specs.declared.album.Album.{Album}
-use Rattle.script_pictures.specs.declared.picture.Picture.{Picture}
-use Rattle.script_pictures.specs.Albums.{KnowsKept}
-use Rattle.script_pictures.specs.Shown.{ShowsEvent, ShowsKept}
+use Rattle.event_texts.specs.Tellings.{IsEventOf}
+use Rattle.picture_model.specs.declared.picture_state.PictureState.{PictureState}
+use Rattle.picture_model.specs.declared.picture.Picture.{Picture}
+use Rattle.picture_model.specs.PictureStates.{KnowsKept}
+use Rattle.picture_model.specs.Shown.{ShowsEvent, ShowsKept}
 use Rattle.script_draw.specs.declared.draw.Format.{Format}
 use Rattle.script_draw.specs.declared.draw.View.{View}
 use Rattle.script_draw.specs.declared.draw.Until.{Until}
@@ -35,13 +35,13 @@ picture_in Format.Text s names last p = picture_text s names last p.trees.items
 picture_in Format.Dot s names last p = dot_text s names last p.trees.items p.travels.items
 picture_in Format.Svg s names last p = svg_text s names last p
 
--- the text is the picture, in this format, of a core in this state behind this event, where labels stand for this: it shows what an
--- album knows that knows each node that the core keeps, and no such node is missing
+-- the text is the picture, in this format, of a core in this state behind this event, where labels stand for this: it shows what
+-- some picture state knows, which knows each node that the core keeps, so that none of these is missing
 pub record IsPicture (format : Format) (s : State) (names : Names) (last : List ℕ) (event : Option Event) (text : List ℕ) : Type 0 where
-  pub album : Album
-  pub knows : KnowsKept s album
+  pub picture_state : PictureState
+  pub knows : KnowsKept s picture_state
   pub picture : Picture
-  pub shows : ShowsEvent s names album event picture
+  pub shows : ShowsEvent s names picture_state event picture
   pub kept : ShowsKept s picture.trees.items
   pub text_is : text ≡ picture_in format s names last picture
 

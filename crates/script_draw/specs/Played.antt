@@ -3,13 +3,13 @@ use Rattle.std.specs.Prelude.{ℕ, ◌≡◌, ◌+◌, ◌<◌, ◌≤◌, ◌==
 use Rattle.sm_names.specs.declared.messages.Call.{Call}
 use Rattle.sm_names.specs.declared.messages.Reply.{Reply}
 use Rattle.sm_names.specs.Timelines.{timeline}
-use Rattle.script_faults.specs.declared.fault.Sought.{Sought}
-use Rattle.script_faults.specs.IndentedLines.{is_indented, unindented}
+use Rattle.report_io.specs.declared.fault.Sought.{Sought}
+use Rattle.report_io.specs.IndentedLines.{is_indented, unindented}
 use Rattle.script_labels.specs.declared.act.Act.{Act}
 use Rattle.script_labels.specs.declared.act.Binds.{Binds}
 use Rattle.script_labels.specs.Names.{act_in}
 use Rattle.sm_script.specs.Scenes.{LeadsTo, Scene, Setting, first_scene, next_scene}
-use Rattle.script_tales.specs.Failing.{failures}
+use Rattle.event_texts.specs.Failing.{failures}
 use Rattle.script_draw.specs.declared.draw.Until.{Until}
 
 -- the act is a call, which makes an event

@@ -1,8 +1,8 @@
 -- How far a script is played that is drawn. No public clause cites this module.
 use Rattle.std.specs.Prelude.{ℕ, ◌≡◌, ◌≢◌, ◌⊎◌, ◌+◌, ◌≤◌, Bool, true, false, List, [], ◌∷◌, ◌++◌, length, Some, None, Option}
 use Rattle.script_lines.specs.Pieces.{whole_lines, last_part}
-use Rattle.script_faults.specs.declared.fault.ReportFault.{ReportFault}
-use Rattle.script_faults.specs.IndentedLines.{is_indented}
+use Rattle.report_io.specs.declared.fault.ReportFault.{ReportFault}
+use Rattle.report_io.specs.IndentedLines.{is_indented}
 use Rattle.sm_names.specs.declared.messages.Call.{Call}
 use Rattle.script_labels.specs.declared.act.Act.{Act}
 use Rattle.script_labels.specs.declared.act.Binds.{Binds}
@@ -12,10 +12,10 @@ use Rattle.sm_script.specs.Runs.{IsOver}
 use Rattle.sm_script.specs.Scenes.{Scene, Setting, next_scene}
 use Rattle.sm_script.specs.Sessions.{IsAt, IsSameSetting}
 use Rattle.event_facts.specs.declared.event.Event.{Event}
-use Rattle.script_tales.specs.declared.teller.Teller.{Teller}
-use Rattle.script_tales.specs.Called.{Knows}
-use Rattle.script_tales.specs.Tellings.{IsEventOf}
-use Rattle.script_pictures.specs.Albums.{KnowsKept}
+use Rattle.event_texts.specs.declared.event_writer.EventWriter.{EventWriter}
+use Rattle.event_texts.specs.Called.{Knows}
+use Rattle.event_texts.specs.Tellings.{IsEventOf}
+use Rattle.picture_model.specs.PictureStates.{KnowsKept}
 use Rattle.script_draw.specs.declared.draw.Scroll.{Scroll}
 use Rattle.script_draw.specs.Draws.{IsLast, PictureFault}
 use Rattle.script_draw.specs.declared.draw.Until.{Until}
@@ -23,13 +23,13 @@ use Rattle.script_draw.specs.Played.{IsAhead, IsWithin, Played, WasAhead, asked_
 
 -- these lines were played, which have no more of what is sought than is asked for, and before the last of them fewer
 pub record Reached (setting : Setting) (until : Until) (scroll : Scroll) (lines : List (List ℕ)) : Type 0 where
-  pub pool : scroll.teller.session.core.pool ≡ setting.pool
-  pub limits : scroll.teller.session.core.limits ≡ setting.limits
+  pub pool : scroll.event_writer.session.core.pool ≡ setting.pool
+  pub limits : scroll.event_writer.session.core.limits ≡ setting.limits
   pub bound : scroll.limits ≡ setting.limits
   pub scene : Scene
   pub played : Played lines scene scroll.line.items
-  pub knows : Knows scroll.teller scene
-  pub kept : KnowsKept scroll.teller.session.core scroll.album
+  pub knows : Knows scroll.event_writer scene
+  pub kept : KnowsKept scroll.event_writer.session.core scroll.picture_state
   pub last : IsLast setting.pool scene.history scroll.event
   pub within : IsWithin (asked_number until) (found until setting.pool lines scene)
   pub ahead : WasAhead until setting.pool lines scene scroll.line.items played
@@ -40,7 +40,7 @@ PlaysLine old new line = (setting : Setting) (until : Until) (lines : List (List
     IsAhead until setting.pool lines far.scene → Reached setting until new (lines ++ line ∷ [])
 
 -- the call was made between the two moments, and its event is the last
-pub record MakesEvent (old new : Teller) (last : Option Event) (client : ℕ) (call : Call) (binds : Binds) : Type 0 where
+pub record MakesEvent (old new : EventWriter) (last : Option Event) (client : ℕ) (call : Call) (binds : Binds) : Type 0 where
   pub event : Event
   pub is : IsEventOf old.session.core client call event
   pub kept : last ≡ Some event
@@ -48,13 +48,13 @@ pub record MakesEvent (old new : Teller) (last : Option Event) (client : ℕ) (c
 
 -- the line made this call between the two moments
 pub record LineMakesCall (old new : Scroll) (client : ℕ) (call : Call) (binds : Binds) (line : List ℕ) : Type 0 where
-  pub setting : (scene : Scene) → IsAt old.teller.session scene → IsSameSetting old.teller.session new.teller.session
+  pub setting : (scene : Scene) → IsAt old.event_writer.session scene → IsSameSetting old.event_writer.session new.event_writer.session
   pub limits : new.limits ≡ old.limits
-  pub failures : new.teller.failures ≤ old.teller.failures + 1
+  pub failures : new.event_writer.failures ≤ old.event_writer.failures + 1
   pub line_is : new.line.items ≡ line
-  pub made : MakesEvent old.teller new.teller new.event client call binds
-  pub kept : (scene : Scene) → Knows old.teller scene → KnowsKept old.teller.session.core old.album →
-      KnowsKept new.teller.session.core new.album
+  pub made : MakesEvent old.event_writer new.event_writer new.event client call binds
+  pub kept : (scene : Scene) → Knows old.event_writer scene → KnowsKept old.event_writer.session.core old.picture_state →
+      KnowsKept new.event_writer.session.core new.picture_state
 
 -- the line is not indented, and asks for this act
 pub record AsksFor (scene : Scene) (line : List ℕ) (act : Act) : Type 0 where

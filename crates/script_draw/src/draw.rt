@@ -9,24 +9,24 @@ ghost use Rattle.script_labels.specs.Names.{Names};
 ghost use Rattle.sm_script.specs.Scenes.{Scene, Setting};
 ghost use Rattle.sm_script.specs.Sessions.{IsAt, IsSameSetting};
 ghost use Rattle.script_labels.specs.Tables.{Keeps};
-ghost use Rattle.script_tales.specs.Called.{Calls, Knows};
-ghost use Rattle.script_tales.specs.Tellings.{IsEventOf};
-ghost use Rattle.script_pictures.specs.Albums.{KnowsKept};
+ghost use Rattle.event_texts.specs.Called.{Calls, Knows};
+ghost use Rattle.event_texts.specs.Tellings.{IsEventOf};
+ghost use Rattle.picture_model.specs.PictureStates.{KnowsKept};
 ghost use Rattle.script_draw.specs.Draws.{Draws, IsPicture, IsPictured, IsUnwritten, LinesDrawn, picture_in};
 ghost use Rattle.script_draw.specs.Played.{IsAhead, asked_number, found, is_reached, wanted};
 ghost use Rattle.script_draw.specs.Reached.{AsksFor, PlaysLine, PlayHalts, IsHeldUp, IsPlayedOn, PlayLinesHalt, LineMakesCall, MakesEvent, Reached, stops_at_line};
 
 use event_facts::Event;
+use event_texts::EventWriter;
 use picture_dot::push_dot;
+use picture_model::{Picture, PictureState, named_collection, picture_of};
 use picture_svg::push_svg;
 use picture_text::push_text;
-use script_faults::{
+use report_io::{
     ReportFault, Sought, behind, fault_of, is_indented, put_out, read_script, unended,
 };
 use script_labels::{Act, Binds, Stop};
 use script_lines::{MOST_BYTES, line_end};
-use script_pictures::{Album, Picture, named_collection, picture_of};
-use script_tales::Teller;
 use sm_names::{Call, ClientId, CollectionId, Limits, MAX_PAGES, NoMemory};
 use std::alloc::Global;
 use std::io::{Read, Write};
@@ -65,8 +65,8 @@ pub struct View {
 // A script that is played up to some event.
 #[derive(Drop)]
 struct Scroll {
-    teller: Teller,
-    album: Album,
+    event_writer: EventWriter,
+    picture_state: PictureState,
     limits: Limits,
     // The last event, its line and its reply.
     event: Option<Event>,
@@ -266,34 +266,34 @@ fn push_picture(
     scroll: &Scroll,
     format: Format,
 ) -> Result<(), Stop>
-    ensures { OnOk result ((names : Names) → Keeps scroll.now.teller.session.tables names →
-        Calls scroll.now.teller.labels names → text.old.items ≡ [] →
-        (history : List Entry) → Shows scroll.now.teller.session.core history →
-        KnowsKept scroll.now.teller.session.core scroll.now.album →
-        IsPicture format scroll.now.teller.session.core names scroll.now.line.items
+    ensures { OnOk result ((names : Names) → Keeps scroll.now.event_writer.session.tables names →
+        Calls scroll.now.event_writer.labels names → text.old.items ≡ [] →
+        (history : List Entry) → Shows scroll.now.event_writer.session.core history →
+        KnowsKept scroll.now.event_writer.session.core scroll.now.picture_state →
+        IsPicture format scroll.now.event_writer.session.core names scroll.now.line.items
         scroll.now.event text.new.items) }
 {
     let event = scroll.event.as_ref();
-    let picture = picture_of(alloc, &scroll.teller, &scroll.album, event)?;
-    push_format(text, &scroll.teller, &picture, &scroll.line, format)
+    let picture = picture_of(alloc, &scroll.event_writer, &scroll.picture_state, event)?;
+    push_format(text, &scroll.event_writer, &picture, &scroll.line, format)
 }
 
 // Appends the picture, where the last event has this line.
 fn push_format(
     text: &mut Vec<u8>,
-    teller: &Teller,
+    event_writer: &EventWriter,
     picture: &Picture,
     line: &[u8],
     format: Format,
 ) -> Result<(), Stop>
-    ensures { OnOk result ((names : Names) → Keeps teller.now.session.tables names →
-        Calls teller.now.labels names → text.new.items ≡ text.old.items
-        ++ picture_in format teller.now.session.core names line.now picture.now) }
+    ensures { OnOk result ((names : Names) → Keeps event_writer.now.session.tables names →
+        Calls event_writer.now.labels names → text.new.items ≡ text.old.items
+        ++ picture_in format event_writer.now.session.core names line.now picture.now) }
 {
     match format {
-        Format::Text => push_text(text, teller, picture, line),
-        Format::Dot => push_dot(text, teller, picture, line),
-        Format::Svg => push_svg(text, teller, picture, line),
+        Format::Text => push_text(text, event_writer, picture, line),
+        Format::Dot => push_dot(text, event_writer, picture, line),
+        Format::Svg => push_svg(text, event_writer, picture, line),
     }
 }
 
@@ -339,11 +339,11 @@ impl Scroll {
         ensures { IfOk result (λ scroll. (until : Asked) →
             Reached (record { pool = pages; limits = limits }) until scroll []) }
     {
-        let teller = Teller::new(alloc, seed, pages, limits)?;
+        let event_writer = EventWriter::new(alloc, seed, pages, limits)?;
         let line = Vec::new(alloc);
         Ok(Scroll {
-            teller,
-            album: Album::new(alloc),
+            event_writer,
+            picture_state: PictureState::new(alloc),
             limits,
             event: None,
             line,
@@ -359,9 +359,9 @@ impl Scroll {
     {
         match until {
             Until::Last => false,
-            Until::Event(number) => number == self.teller.session.core.events(),
+            Until::Event(number) => number == self.event_writer.session.core.events(),
             Until::Line(number) => number == lines,
-            Until::Failure(number) => number == self.teller.failures,
+            Until::Failure(number) => number == self.event_writer.failures,
         }
     }
 
@@ -375,7 +375,13 @@ impl Scroll {
     {
         match self.take_line(alloc, line) {
             Ok(()) => Ok(()),
-            Err(stop) => Err(fault_of(alloc, stop, &self.teller.session.tables, number, line)),
+            Err(stop) => Err(fault_of(
+                alloc,
+                stop,
+                &self.event_writer.session.tables,
+                number,
+                line,
+            )),
         }
     }
 
@@ -390,7 +396,7 @@ impl Scroll {
         if is_indented(line) {
             return Ok(());
         }
-        match self.teller.session.read(line) {
+        match self.event_writer.session.read(line) {
             Some(act) => self.take_act(alloc, act, line),
             None => Err(Stop::BadLine),
         }
@@ -427,9 +433,9 @@ impl Scroll {
 
     // Whether as many events were made as may be.
     fn is_full(&self) -> bool
-        ensures { result ≡ nat_le self.now.limits.events self.now.teller.session.core.events }
+        ensures { result ≡ nat_le self.now.limits.events self.now.event_writer.session.core.events }
     {
-        self.limits.events() <= self.teller.session.core.events()
+        self.limits.events() <= self.event_writer.session.core.events()
     }
 
     // Makes one more call, that of this line. It fails for want of memory alone.
@@ -463,25 +469,25 @@ impl Scroll {
         call: Call,
         binds: Binds,
     ) -> Result<(), Stop>
-        ensures setting { OnOk result ((scene : Scene) → IsAt self.old.teller.session scene →
-            IsSameSetting self.old.teller.session self.new.teller.session) }
+        ensures setting { OnOk result ((scene : Scene) → IsAt self.old.event_writer.session scene →
+            IsSameSetting self.old.event_writer.session self.new.event_writer.session) }
         ensures limits { OnOk result (self.new.limits ≡ self.old.limits) }
         ensures made { OnOk result
-            (MakesEvent self.old.teller self.new.teller self.new.event client call binds) }
-        ensures kept { OnOk result ((scene : Scene) → Knows self.old.teller scene →
-            KnowsKept self.old.teller.session.core self.old.album →
-            KnowsKept self.new.teller.session.core self.new.album) }
+            (MakesEvent self.old.event_writer self.new.event_writer self.new.event client call binds) }
+        ensures kept { OnOk result ((scene : Scene) → Knows self.old.event_writer scene →
+            KnowsKept self.old.event_writer.session.core self.old.picture_state →
+            KnowsKept self.new.event_writer.session.core self.new.picture_state) }
         ensures failures { OnOk result
-            (self.new.teller.failures ≤ self.old.teller.failures + 1) }
+            (self.new.event_writer.failures ≤ self.old.event_writer.failures + 1) }
     {
-        let named = named_collection(&self.teller.session.core, &call);
+        let named = named_collection(&self.event_writer.session.core, &call);
         let event = self
-            .teller
+            .event_writer
             .take(alloc, client, call, binds, &mut self.reply)?;
         keep(
             alloc,
-            &self.teller,
-            &mut self.album,
+            &self.event_writer,
+            &mut self.picture_state,
             &mut self.event,
             named,
             event,
@@ -490,11 +496,11 @@ impl Scroll {
     }
 }
 
-// Takes the event into the album, where its call named this collection, and keeps it as the last.
+// Takes the event into the picture state, where its call named this collection, and keeps it as the last.
 fn keep(
     alloc: Global,
-    teller: &Teller,
-    album: &mut Album,
+    event_writer: &EventWriter,
+    picture_state: &mut PictureState,
     last: &mut Option<Event>,
     named: Option<CollectionId>,
     event: Event,
@@ -502,11 +508,11 @@ fn keep(
     ensures last { OnOk result (last.new ≡ Some event) }
     ensures kept { OnOk result ((old : State) (client : ℕ) (call : CallMade) (history : List Entry) →
         Shows old history → IsEventOf old client call event →
-        teller.now.session.core.pool ≡ old.pool →
-        Shows teller.now.session.core (history ++ (client, call, event.reply) ∷ []) →
-        KnowsKept old album.old → KnowsKept teller.now.session.core album.new) }
+        event_writer.now.session.core.pool ≡ old.pool →
+        Shows event_writer.now.session.core (history ++ (client, call, event.reply) ∷ []) →
+        KnowsKept old picture_state.old → KnowsKept event_writer.now.session.core picture_state.new) }
 {
-    let updated = album.update(alloc, &teller.session.core, named, &event);
+    let updated = picture_state.update(alloc, &event_writer.session.core, named, &event);
     *last = Some(event);
     updated
 }

@@ -7,4 +7,4 @@ mod program;
 
 pub use draw::{Format, Until, View, draw_script};
 pub use program::draw_to_exit;
-pub use script_faults::ReportFault;
+pub use report_io::ReportFault;

@@ -4,7 +4,7 @@ ghost use Rattle.std.specs.Process.{exit_status};
 ghost use Rattle.script_draw.specs.Draws.{EndsDrawn};
 
 use crate::draw::{View, draw_script};
-use script_faults::end_with;
+use report_io::end_with;
 use script_lines::Pages;
 use sm_names::{Limits, MAX_COLLECTIONS, MAX_EVENTS, MAX_HANDLES, MAX_NODES, MAX_TRACKERS};
 use std::alloc::Global;

@@ -1,5 +1,6 @@
 -- The labels of a line of bytes have no end of a line.
-use Rattle.std.proofs.Common.{◌≡◌, ℕ, ◌+◌, ◌==◌, ◌&&◌, ◌||◌, nat_le, nat_lt, not, if◌then◌else◌, Bool, true, false, List, [], ◌∷◌, ◌++◌, length, Option, Some, None, refl, ap, ◌∙◌, arith}
+use Rattle.std.proofs.Common.{◌≡◌, ℕ, ◌==◌, ◌&&◌, ◌||◌, nat_le, nat_lt, not, if◌then◌else◌, Bool, true}
+use Rattle.std.proofs.Common.{false, List, [], ◌∷◌, ◌++◌, length, Option, Some, None, refl, ap, ◌∙◌, arith}
 use Rattle.std.proofs.lemmas.Bool.Decides.{nat_tests}
 use Rattle.sm_names.specs.declared.call_parts.Product.{Product}
 use Rattle.sm_names.specs.declared.call_rows.CallKind.{CallKind}
@@ -15,7 +16,8 @@ use Rattle.script_lines.specs.declared.label.Label.{Label}
 use Rattle.script_lines.specs.declared.line.Line.{Line}
 use Rattle.script_lines.specs.declared.line.Request.{Request}
 use Rattle.script_lines.specs.Labels.{is_digit, is_label, is_letter, label_of, packed, text_of_label}
-use Rattle.script_lines.specs.Lines.{argument_read, ask_of, asked_of, at_end, binds_read, call_read, first_read, is_silent, line_of, object_read, poll_of, request_of, said_of, show_of, view_of}
+use Rattle.script_lines.specs.Lines.{argument_read, ask_of, asked_of, at_end, binds_read, call_read, first_read}
+use Rattle.script_lines.specs.Lines.{is_silent, line_of, object_read, poll_of, request_of, said_of, show_of, view_of}
 use Rattle.script_lines.specs.Words.{words}
 use Rattle.script_lines.proofs.Digits.{spelled-word}
 
@@ -72,6 +74,7 @@ label-inner (first ∷ others) e =
 pub label-clean : (word : List ℕ) → IfSome (label_of word) IsClean
 label-clean word = by (is_label word) refl
   where
+    -- by cases: a label is spelled by its word, which has no end of a line
     by : (t : Bool) → is_label word ≡ t → IfSome (if t then Some (record { code = packed word }) else None) IsClean
     by true is = ap is_inner (spelled-word word is) ∙ label-inner word is
     by false is = tt

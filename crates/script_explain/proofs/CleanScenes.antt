@@ -1,5 +1,6 @@
 -- The replies of a script's lines are lines, and begin with no space.
-use Rattle.std.proofs.Common.{◌≡◌, ℕ, zero, suc, ◌+◌, ◌/◌, ◌%◌, ◌==◌, nat_lt, not, if◌then◌else◌, Bool, true, false, List, [], ◌∷◌, map, Option, Some, None, refl, sym, subst, inl, inr, arith}
+use Rattle.std.proofs.Common.{◌≡◌, ℕ, zero, suc, ◌+◌, ◌/◌, ◌%◌, ◌==◌, nat_lt, not, if◌then◌else◌, Bool, true}
+use Rattle.std.proofs.Common.{false, List, [], ◌∷◌, map, Option, Some, None, refl, sym, subst, inl, inr, arith}
 use Rattle.std.proofs.lemmas.Bool.Decides.{nat_tests}
 use Rattle.std.specs.Prelude.{IfSome}
 use Rattle.std.specs.Fmt.{decimal, digits, digits_onto, digit_glyph}
@@ -35,14 +36,17 @@ use Rattle.script_lines.specs.declared.line.Request.{Request}
 use Rattle.script_lines.specs.declared.line.View.{View}
 use Rattle.script_lines.specs.Labels.{label_text, text_of_label}
 use Rattle.script_lines.specs.Lines.{line_of}
-use Rattle.script_faults.specs.IndentedLines.{is_indented}
+use Rattle.report_io.specs.IndentedLines.{is_indented}
 use Rattle.script_labels.specs.declared.act.Act.{Act}
 use Rattle.script_labels.specs.declared.act.Binds.{Binds}
-use Rattle.script_labels.specs.Names.{Names, Place, act_binding, act_in, act_of, ask_by, call_named, labelled_client, first_label, for_new, for_tracker, label_of_node, label_of_root, label_of_tracker, names_after, labelled_tracker}
+use Rattle.script_labels.specs.Names.{Names, Place, act_binding, act_in, act_of, ask_by, call_named, labelled_client, first_label}
+use Rattle.script_labels.specs.Names.{for_new, for_tracker, label_of_node, label_of_root, label_of_tracker, names_after, labelled_tracker}
 use Rattle.sm_script.specs.Scenes.{Answers, ActGives, IsPolled, Scene, as_line}
 use Rattle.script_lines.specs.LineTexts.{strength_name}
-use Rattle.script_labels.specs.Texts.{bound_text, buffer_text, cause_text, failure_name, fired_text, held_text, member_text, node_text, numbered, reply_text, view_text}
-use Rattle.script_explain.proofs.CleanLabels.{IsCleanBinds, IsCleanLine, and-left, and-right, inner-append, is_inner, line-clean, some-if, some-map, some-then, some-then-of}
+use Rattle.script_labels.specs.Texts.{bound_text, buffer_text, cause_text, failure_name, fired_text}
+use Rattle.script_labels.specs.Texts.{held_text, member_text, node_text, numbered, reply_text, view_text}
+use Rattle.script_explain.proofs.CleanLabels.{IsCleanBinds, IsCleanLine, and-left, and-right, inner-append}
+use Rattle.script_explain.proofs.CleanLabels.{is_inner, line-clean, some-if, some-map, some-then, some-then-of}
 
 -- ---- numbers
 
@@ -277,7 +281,8 @@ reply-plain names clean binds inner Reply.Pending = record { inner = refl; whole
 reply-plain names clean binds inner (Reply.Allocated count size) =
     record { inner = numbered-inner count (decimal size) (decimal-inner size); whole = refl }
 reply-plain names clean binds inner (Reply.Taken collection strength set) = record {
-  inner = inner-append (strength_name strength) (flat_map (member_text names set) (names_of collection MAX_BUFFERS)) (strength-inner strength)
+  inner = inner-append (strength_name strength) (flat_map (member_text names set) (names_of collection MAX_BUFFERS))
+      (strength-inner strength)
       (flat-inner (member_text names set) (names_of collection MAX_BUFFERS) (member-inner names clean set));
   whole = refl;
 }
@@ -287,7 +292,8 @@ reply-plain names clean binds inner (Reply.Refused refusal) =
 reply-plain names clean binds inner (Reply.Misused misuse) =
     record { inner = numbered-inner (misuse_number misuse) (misuse_name misuse) (misuse-inner misuse); whole = refl }
 reply-plain names clean binds inner (Reply.PeerClosed cause origin) = record {
-  inner = inner-append (cause_text cause) (32 ∷ label_text (label_of_node names origin)) (cause-inner cause) (node-inner names clean origin);
+  inner = inner-append (cause_text cause) (32 ∷ label_text (label_of_node names origin))
+      (cause-inner cause) (node-inner names clean origin);
   whole = refl;
 }
 

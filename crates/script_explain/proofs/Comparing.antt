@@ -1,29 +1,32 @@
 -- A comparison that is extended by one line, or stops at it.
-use Rattle.std.proofs.Common.{◌≡◌, ◌≢◌, ℕ, ◌+◌, ◌-◌, ◌^◌, ◌<◌, ◌≤◌, min, Bool, true, false, if◌then◌else◌, List, [], ◌∷◌, ◌++◌, drop, length, length-append, append_assoc, refl, sym, ap, ◌∙◌, subst, Option, Some, None, inl, inr, arith}
+use Rattle.std.proofs.Common.{◌≡◌, ◌≢◌, ℕ, ◌+◌, ◌-◌, ◌^◌, ◌<◌, ◌≤◌, min, Bool, true, false, if◌then◌else◌, List, [], ◌∷◌, ◌++◌, drop}
+use Rattle.std.proofs.Common.{length, length-append, append_assoc, refl, sym, ap, ◌∙◌, subst, Option, Some, None, inl, inr, arith}
 use Rattle.std.proofs.KnownBytes.{Keeps-refl}
 use Rattle.std.specs.Prelude.{Ok, Err, Result, IfOk, IfErr}
 use Rattle.std.specs.Io.KnownBytes.{Consumes, IsAtEnd}
 use Rattle.script_lines.specs.declared.TheConstants.{MOST_BYTES}
 use Rattle.script_lines.specs.Pieces.{whole_lines, last_part}
-use Rattle.script_faults.specs.declared.fault.ReportFault.{ReportFault}
-use Rattle.script_faults.specs.Faults.{IsBadLine, IsFaultOf, IsReported}
-use Rattle.script_faults.specs.IndentedLines.{behind_indent, indented, is_indented, unindented}
-use Rattle.script_faults.specs.Streams.{IsUnread}
+use Rattle.report_io.specs.declared.fault.ReportFault.{ReportFault}
+use Rattle.report_io.specs.Faults.{IsBadLine, IsFaultOf, IsReported}
+use Rattle.report_io.specs.IndentedLines.{behind_indent, indented, is_indented, unindented}
+use Rattle.report_io.specs.Streams.{IsUnread}
 use Rattle.sm_script.proofs.Settings.{legal-in, over-in}
-use Rattle.script_faults.proofs.Unindented.{unindented-more, unindented-skip}
+use Rattle.report_io.proofs.Unindented.{unindented-more, unindented-skip}
 use Rattle.script_labels.specs.declared.stop.Stop.{Stop}
 use Rattle.sm_script.specs.Scenes.{Plays as PlaysLines, Rests, Scene, Setting, as_line, first_scene}
 use Rattle.sm_script.specs.Sessions.{IsAt, IsStopped}
-use Rattle.script_tales.specs.declared.teller.Teller.{Teller}
-use Rattle.script_tales.specs.Called.{Knows}
-use Rattle.script_tales.specs.LostLines.{LossLines, Recalls}
-use Rattle.script_tales.specs.Tellings.{TellsLine}
+use Rattle.event_texts.specs.declared.event_writer.EventWriter.{EventWriter}
+use Rattle.event_texts.specs.Called.{Knows}
+use Rattle.event_texts.specs.Deeds.{KeptLines, Recalls, no_lines}
+use Rattle.event_texts.specs.Tellings.{TellsLine}
 use Rattle.script_explain.proofs.LineTold.{answers-in, tells-in}
 use Rattle.sm_script.proofs.Playing.{plays-more}
 use Rattle.script_explain.specs.declared.check.Comparison.{Comparison}
 use Rattle.script_explain.specs.declared.check.Outcome.{Outcome}
 use Rattle.script_explain.specs.declared.check.Verdict.{Verdict}
-use Rattle.script_explain.specs.Comparisons.{Agreement, Agrees, Begins, Remarks, Replies, Plays, Checks, Difference, EndsChecked, FullAgreement, IsJudged, IsRemark, IsSaid, IsUnchecked, IsVerdict, ComparisonLinesStop, TranscriptPlace, Records, ComparisonStopped, checking_status, lines_with, told_difference}
+use Rattle.script_explain.specs.Comparisons.{Agreement, Agrees, Begins, Remarks, Replies, Plays, Checks, Difference, EndsChecked}
+use Rattle.script_explain.specs.Comparisons.{FullAgreement, IsJudged, IsRemark, IsSaid, IsUnchecked, IsVerdict, ComparisonLinesStop}
+use Rattle.script_explain.specs.Comparisons.{TranscriptPlace, Records, ComparisonStopped, checking_status, lines_with, told_difference}
 use Rattle.script_explain.specs.Progress.{CheckHalted, Compared, Ended, comparison_place, lines_counted}
 
 -- the lines that are not indented are played, one after another
@@ -88,10 +91,10 @@ count-line lines most [] small few next is = is
 count-line lines most (byte ∷ more) small few next is = count-up lines most small few next is
 
 -- the place of these parts
-abbrev place : Scene → LossLines → ℕ → List ℕ → List ℕ → List ℕ → ℕ → ℕ → TranscriptPlace
-place scene losses number line reply facts lines replies = record {
+abbrev place : Scene → KeptLines → ℕ → List ℕ → List ℕ → List ℕ → ℕ → ℕ → TranscriptPlace
+place scene kept number line reply facts lines replies = record {
   scene = scene;
-  losses = losses;
+  kept = kept;
   number = number;
   line = line;
   reply = reply;
@@ -101,11 +104,11 @@ place scene losses number line reply facts lines replies = record {
 }
 
 -- two places whose parts are the same
-same-place : (scene : Scene) (losses : LossLines) (n m : ℕ) (l k r s f g : List ℕ) (a b c d : ℕ) → n ≡ m → l ≡ k → r ≡ s → f ≡ g →
-    a ≡ b → c ≡ d → place scene losses n l r f a c ≡ place scene losses m k s g b d
-same-place scene losses n m l k r s f g a b c d p q t w u v = λ i. record {
+same-place : (scene : Scene) (kept : KeptLines) (n m : ℕ) (l k r s f g : List ℕ) (a b c d : ℕ) → n ≡ m → l ≡ k → r ≡ s → f ≡ g →
+    a ≡ b → c ≡ d → place scene kept n l r f a c ≡ place scene kept m k s g b d
+same-place scene kept n m l k r s f g a b c d p q t w u v = λ i. record {
   scene = scene;
-  losses = losses;
+  kept = kept;
   number = p i;
   line = q i;
   reply = t i;
@@ -116,19 +119,19 @@ same-place scene losses n m l k r s f g a b c d p q t w u v = λ i. record {
 
 module _ (setting : Setting) (c : Comparison) (lines : List (List ℕ)) (far : Compared setting c lines) where
   -- the lines so far agree
-  abbrev pub far-agreed : Agreement setting lines (comparison_place c far.scene far.losses)
+  abbrev pub far-agreed : Agreement setting lines (comparison_place c far.scene far.kept)
   far-agreed = record {
     agrees = far.agrees;
-    texts = (agrees-plays setting.pool lines (comparison_place c far.scene far.losses) far.agrees).0;
+    texts = (agrees-plays setting.pool lines (comparison_place c far.scene far.kept) far.agrees).0;
     leads = record {
-      plays = (agrees-plays setting.pool lines (comparison_place c far.scene far.losses) far.agrees).1;
-      legal = legal-in setting c.teller.session far.scene far.pool far.limits far.knows.is_at;
+      plays = (agrees-plays setting.pool lines (comparison_place c far.scene far.kept) far.agrees).1;
+      legal = legal-in setting c.event_writer.session far.scene far.pool far.limits far.knows.is_at;
     };
   }
 
   -- the numbers of played lines and of compared replies are at most the number of compared lines
-  few : AreFew lines (comparison_place c far.scene far.losses)
-  few = agrees-few setting.pool lines (comparison_place c far.scene far.losses) far.agrees
+  few : AreFew lines (comparison_place c far.scene far.kept)
+  few = agrees-few setting.pool lines (comparison_place c far.scene far.kept) far.agrees
 
   -- a remark is passed over
   pub far-remark : (line : List ℕ) → IsRemark line → Compared setting c (lines ++ line ∷ [])
@@ -136,20 +139,20 @@ module _ (setting : Setting) (c : Comparison) (lines : List (List ℕ)) (far : C
     pool = far.pool;
     limits = far.limits;
     scene = far.scene;
-    losses = far.losses;
-    agrees = Remarks lines line (comparison_place c far.scene far.losses) far.agrees remark;
+    kept = far.kept;
+    agrees = Remarks lines line (comparison_place c far.scene far.kept) far.agrees remark;
     knows = far.knows;
     recalls = far.recalls;
   }
 
   -- one more line was played
   pub far-play : (next : Comparison) (line : List ℕ) (number : ℕ) → is_indented line ≡ false → number ≡ length lines + 1 →
-      number ≤ MOST_BYTES → ((scene : Scene) (losses : LossLines) → Knows c.teller scene → Recalls c.teller losses →
-      TellsLine c.teller next.teller number line next.reply.items next.facts.items scene losses) → next.number ≡ number →
+      number ≤ MOST_BYTES → ((scene : Scene) (kept : KeptLines) → Knows c.event_writer scene → Recalls c.event_writer kept →
+      TellsLine c.event_writer next.event_writer number line next.reply.items next.facts.items scene kept) → next.number ≡ number →
       next.line.items ≡ line → next.lines ≡ lines_counted c.lines next.reply.items → next.replies ≡ c.replies →
       Compared setting next (lines ++ line ∷ [])
   far-play next line number whole numbered small tells its_number its_line its_lines its_replies =
-      let told = tells far.scene far.losses far.knows far.recalls in
+      let told = tells far.scene far.kept far.knows far.recalls in
       let step = told.advances in
       let reply = next.reply.items in
       let facts = next.facts.items in
@@ -159,13 +162,13 @@ module _ (setting : Setting) (c : Comparison) (lines : List (List ℕ)) (far : C
         pool = step.setting.pool ∙ far.pool;
         limits = step.setting.limits ∙ far.limits;
         scene = step.next;
-        losses = told.later;
+        kept = told.later;
         agrees = subst (Agrees setting.pool (lines ++ line ∷ []))
             (sym (same-place step.next told.later next.number (length lines + 1) next.line.items line reply reply facts facts
             next.lines (lines_with c.lines reply) next.replies c.replies (its_number ∙ numbered) its_line refl refl count its_replies))
-            (Plays lines line reply facts (comparison_place c far.scene far.losses) step.next told.later far.agrees whole
-            (answers-in setting.pool c.teller next.teller line reply far.scene far.pool step)
-            (tells-in setting.pool c.teller next.teller number line reply facts far.scene far.losses (length lines + 1) far.pool
+            (Plays lines line reply facts (comparison_place c far.scene far.kept) step.next told.later far.agrees whole
+            (answers-in setting.pool c.event_writer next.event_writer line reply far.scene far.pool step)
+            (tells-in setting.pool c.event_writer next.event_writer number line reply facts far.scene far.kept (length lines + 1) far.pool
             far.knows.is_at numbered told));
         knows = record { is_at = step.is_at; calls = told.calls; failed = told.failed };
         recalls = told.recalls;
@@ -173,36 +176,37 @@ module _ (setting : Setting) (c : Comparison) (lines : List (List ℕ)) (far : C
 
   -- one more reply was compared, and is the machine's
   pub far-reply : (next : Comparison) (line reply : List ℕ) (number : ℕ) → Records line reply → number ≡ length lines + 1 →
-      number ≤ MOST_BYTES → c.reply.items ≡ as_line reply → next.teller ≡ c.teller → next.number ≡ c.number →
+      number ≤ MOST_BYTES → c.reply.items ≡ as_line reply → next.event_writer ≡ c.event_writer → next.number ≡ c.number →
       next.line.items ≡ c.line.items → next.reply.items ≡ c.reply.items → next.facts.items ≡ c.facts.items →
       next.lines ≡ c.lines → next.replies ≡ min (c.replies + 1) (2 ^ 64 - 1) → Compared setting next (lines ++ line ∷ [])
-  far-reply next line reply number records numbered small same its_teller its_number its_line its_reply its_facts its_lines
+  far-reply next line reply number records numbered small same its_event_writer its_number its_line its_reply its_facts its_lines
       its_replies =
       let count : next.replies ≡ c.replies + 1 =
       count-up c.replies (length lines) few.replies_few (omega (arith, numbered, small)) next.replies its_replies in
       record {
-        pool = ap (λ (t : Teller). t.session.core.pool) its_teller ∙ far.pool;
-        limits = ap (λ (t : Teller). t.session.core.limits) its_teller ∙ far.limits;
+        pool = ap (λ (t : EventWriter). t.session.core.pool) its_event_writer ∙ far.pool;
+        limits = ap (λ (t : EventWriter). t.session.core.limits) its_event_writer ∙ far.limits;
         scene = far.scene;
-        losses = far.losses;
+        kept = far.kept;
         agrees = subst (Agrees setting.pool (lines ++ line ∷ []))
-            (sym (same-place far.scene far.losses next.number c.number next.line.items c.line.items next.reply.items c.reply.items
+            (sym (same-place far.scene far.kept next.number c.number next.line.items c.line.items next.reply.items c.reply.items
             next.facts.items c.facts.items next.lines c.lines next.replies (c.replies + 1) its_number its_line its_reply its_facts
             its_lines count))
-            (Replies lines line reply (comparison_place c far.scene far.losses) far.agrees records same);
-        knows = subst (λ (t : Teller). Knows t far.scene) (sym its_teller) far.knows;
-        recalls = subst (λ (t : Teller). Recalls t far.losses) (sym its_teller) far.recalls;
+            (Replies lines line reply (comparison_place c far.scene far.kept) far.agrees records same);
+        knows = subst (λ (t : EventWriter). Knows t far.scene) (sym its_event_writer) far.knows;
+        recalls = subst (λ (t : EventWriter). Recalls t far.kept) (sym its_event_writer) far.recalls;
       }
 
   -- one more reply was compared, and is another
   pub far-differs : (line reply text : List ℕ) → Records line reply → c.reply.items ≢ as_line reply → 0 < c.lines →
-      text ≡ told_difference c.number c.line.items c.reply.items reply ++ indented c.facts.items → Difference setting (lines ++ line ∷ []) text
+      text ≡ told_difference c.number c.line.items c.reply.items reply ++ indented c.facts.items →
+      Difference setting (lines ++ line ∷ []) text
   far-differs line reply text records other some said = record {
     before = lines;
     line = line;
     after = [];
     split = refl;
-    at = comparison_place c far.scene far.losses;
+    at = comparison_place c far.scene far.kept;
     agreed = far-agreed;
     some_played = some;
     reply = reply;
@@ -213,7 +217,8 @@ module _ (setting : Setting) (c : Comparison) (lines : List (List ℕ)) (far : C
 
   -- a line was not played
   pub far-unplayed : (line : List ℕ) (stop : Stop) (number : ℕ) (fault : ReportFault) → is_indented line ≡ false →
-      ((scene : Scene) → IsAt c.teller.session scene → IsStopped c.teller.session line scene stop) → IsFaultOf number stop fault →
+      ((scene : Scene) → IsAt c.event_writer.session scene → IsStopped c.event_writer.session line scene stop) →
+      IsFaultOf number stop fault →
       number ≡ length lines + 1 → CheckHalted setting (lines ++ line ∷ []) fault
   far-unplayed line stop number ReportFault.ReadFault whole why is numbered = absurd is
   far-unplayed line stop number ReportFault.TooLong whole why is numbered = absurd is
@@ -224,21 +229,21 @@ module _ (setting : Setting) (c : Comparison) (lines : List (List ℕ)) (far : C
     line = line;
     after = [];
     split = refl;
-    at = comparison_place c far.scene far.losses;
+    at = comparison_place c far.scene far.kept;
     agreed = far-agreed;
-    why = (is.1 ∙ numbered, inl (whole, subst (IsStopped c.teller.session line far.scene) is.0 (why far.scene far.knows.is_at)));
+    why = (is.1 ∙ numbered, inl (whole, subst (IsStopped c.event_writer.session line far.scene) is.0 (why far.scene far.knows.is_at)));
   }
   far-unplayed line stop number ReportFault.HistoryFull whole why is numbered = record {
     before = lines;
     line = line;
     after = [];
     split = refl;
-    at = comparison_place c far.scene far.losses;
+    at = comparison_place c far.scene far.kept;
     agreed = far-agreed;
     why = (
       whole,
-      over-in setting c.teller.session far.scene line far.pool far.limits
-          (subst (IsStopped c.teller.session line far.scene) is (why far.scene far.knows.is_at)),
+      over-in setting c.event_writer.session far.scene line far.pool far.limits
+          (subst (IsStopped c.event_writer.session line far.scene) is (why far.scene far.knows.is_at)),
     );
   }
   far-unplayed line stop number ReportFault.NoMemory whole why is numbered = tt
@@ -256,7 +261,7 @@ module _ (setting : Setting) (c : Comparison) (lines : List (List ℕ)) (far : C
     line = line;
     after = [];
     split = refl;
-    at = comparison_place c far.scene far.losses;
+    at = comparison_place c far.scene far.kept;
     agreed = far-agreed;
     why = (is ∙ numbered, inr (reply, records, none));
   }
@@ -324,7 +329,7 @@ unchecked-at-end setting c script number (ReportFault.Missing sought n) far some
 unchecked-at-end setting c script number (ReportFault.BadLine n reason) far some numbered is = inr (record {
   unended = some;
   numbered = is ∙ numbered;
-  at = comparison_place c far.scene far.losses;
+  at = comparison_place c far.scene far.kept;
   agreed = far-agreed setting c (whole_lines script) far;
 })
 unchecked-at-end setting c script number ReportFault.NoMemory far some numbered is = tt
@@ -362,7 +367,8 @@ module _ (setting : Setting) (left_before left old : Option (List ℕ)) where
   module _ (new : Option (List ℕ)) (script : List ℕ) (taken : Consumes left_before left script) (end : IsAtEnd left)
       (within : length script ≤ MOST_BYTES) where
     -- a fault in comparing a transcript that came in whole is an outcome of the check
-    checks-stopped : (fault : ReportFault) → ComparisonStopped setting old new script fault → Checks setting left_before left old new (Err fault)
+    checks-stopped : (fault : ReportFault) → ComparisonStopped setting old new script fault →
+        Checks setting left_before left old new (Err fault)
     checks-stopped ReportFault.ReadFault stop = absurd stop.0
     checks-stopped ReportFault.TooLong stop = absurd stop.0
     checks-stopped (ReportFault.Missing sought n) stop = absurd stop.0
@@ -386,16 +392,17 @@ ends_checked setting left_before left old new told_before told outcome status ch
     record { outcome = outcome; checks = checks; status_is = is; reported = reported }
 
 -- no line was compared
-pub compared-none : (setting : Setting) (c : Comparison) → c.teller.session.core.pool ≡ setting.pool →
-    c.teller.session.core.limits ≡ setting.limits → Knows c.teller first_scene → Recalls c.teller [] → c.number ≡ 0 →
+pub compared-none : (setting : Setting) (c : Comparison) → c.event_writer.session.core.pool ≡ setting.pool →
+    c.event_writer.session.core.limits ≡ setting.limits → Knows c.event_writer first_scene →
+    Recalls c.event_writer no_lines → c.number ≡ 0 →
     c.line.items ≡ [] → c.reply.items ≡ [] → c.facts.items ≡ [] → c.lines ≡ 0 → c.replies ≡ 0 → Compared setting c []
 compared-none setting c pool limits knows recalls its_number its_line its_reply its_facts its_lines its_replies = record {
   pool = pool;
   limits = limits;
   scene = first_scene;
-  losses = [];
+  kept = no_lines;
   agrees = subst (Agrees setting.pool [])
-      (sym (same-place first_scene [] c.number 0 c.line.items [] c.reply.items [] c.facts.items [] c.lines 0 c.replies 0 its_number
+      (sym (same-place first_scene no_lines c.number 0 c.line.items [] c.reply.items [] c.facts.items [] c.lines 0 c.replies 0 its_number
       its_line its_reply its_facts its_lines its_replies)) Begins;
   knows = knows;
   recalls = recalls;
@@ -403,13 +410,15 @@ compared-none setting c pool limits knows recalls its_number its_line its_reply 
 
 -- all agrees, and the text of that was put
 pub agreed-fully : (setting : Setting) (c : Comparison) (script text : List ℕ) (verdict : Verdict) → Ended setting c script Outcome.Agrees →
-    ((scene : Scene) (losses : LossLines) → IsSaid verdict (comparison_place c scene losses) c.text.items text) →
+    ((scene : Scene) (kept : KeptLines) → IsSaid verdict (comparison_place c scene kept) c.text.items text) →
     IsVerdict setting script text verdict
-agreed-fully setting c script text verdict ended said = by verdict (said ended.0.scene ended.0.losses)
+agreed-fully setting c script text verdict ended said = by verdict (said ended.0.scene ended.0.kept)
   where
+    -- where the comparison ended
     at : TranscriptPlace
-    at = comparison_place c ended.0.scene ended.0.losses
+    at = comparison_place c ended.0.scene ended.0.kept
 
+    -- each part, from where the comparison ended
     fully : (v : Verdict) → IsSaid v at c.text.items text → FullAgreement setting script text v
     fully v so = record {
       ended = ended.1;
@@ -418,6 +427,7 @@ agreed-fully setting c script text verdict ended said = by verdict (said ended.0
       said = subst (λ (t : List ℕ). IsSaid v at t text) ended.2 so;
     }
 
+    -- by cases on the verdict: one that differs is no full agreement
     by : (v : Verdict) → IsSaid v at c.text.items text → IsVerdict setting script text v
     by Verdict.Agrees so = fully Verdict.Agrees so
     by Verdict.Empty so = fully Verdict.Empty so
@@ -427,6 +437,7 @@ agreed-fully setting c script text verdict ended said = by verdict (said ended.0
 pub behind-none : (line : List ℕ) → None ≡ behind_indent line → is_indented line ≡ false
 behind-none line is = by (is_indented line) is
   where
+    -- by cases on the test
     by : (t : Bool) → None ≡ (if t then Some (drop 2 line) else None) → t ≡ false
     by true e = absurd (cc)
     by false e = refl
@@ -435,6 +446,7 @@ behind-none line is = by (is_indented line) is
 pub behind-some : (line text : List ℕ) → Some text ≡ behind_indent line → (is_indented line ≡ true) × (text ≡ drop 2 line)
 behind-some line text is = by (is_indented line) is
   where
+    -- by cases on the test
     by : (t : Bool) → Some text ≡ (if t then Some (drop 2 line) else None) → (t ≡ true) × (text ≡ drop 2 line)
     by true e = (refl, cc)
     by false e = absurd (cc)

@@ -1,24 +1,26 @@
 -- Loops over the lines of a script.
-use Rattle.std.proofs.Common.{◌≡◌, ℕ, ◌+◌, ◌-◌, ◌^◌, ◌<◌, ◌≤◌, min, ◌==◌, Bool, true, false, List, [], ◌∷◌, ◌++◌, length, length-append, take, drop, refl, sym, ◌∙◌, subst, Option, Some, None, arith}
+use Rattle.std.proofs.Common.{◌≡◌, ℕ, ◌+◌, ◌-◌, ◌^◌, ◌<◌, ◌≤◌, min, ◌==◌, Bool, true, false, List, [], ◌∷◌, ◌++◌}
+use Rattle.std.proofs.Common.{length, length-append, take, drop, refl, sym, ◌∙◌, subst, Option, Some, None, arith}
 use Rattle.std.specs.List.{position}
 use Rattle.script_lines.specs.declared.TheConstants.{MOST_BYTES}
 use Rattle.script_lines.specs.Pieces.{whole_lines, last_part}
 use Rattle.script_lines.proofs.Piecing.{is_end}
-use Rattle.script_faults.specs.declared.fault.ReportFault.{ReportFault}
-use Rattle.script_faults.specs.Faults.{IsBadLine}
-use Rattle.script_faults.proofs.LinesTaken.{AreTaken, last-number, next-number, none-left, rest-all, taken-all, taken-at, taken-more, taken-none, taken-room}
+use Rattle.report_io.specs.declared.fault.ReportFault.{ReportFault}
+use Rattle.report_io.specs.Faults.{IsBadLine}
+use Rattle.report_io.proofs.LinesTaken.{AreTaken, last-number, next-number, none-left, rest-all}
+use Rattle.report_io.proofs.LinesTaken.{taken-all, taken-at, taken-more, taken-none, taken-room}
 use Rattle.sm_script.specs.Scenes.{Setting}
 use Rattle.sm_script.proofs.Taking.{some_behind}
-use Rattle.script_tales.specs.declared.teller.Teller.{Teller}
 use Rattle.script_explain.specs.declared.check.Comparison.{Comparison}
 use Rattle.script_explain.specs.declared.check.Outcome.{Outcome}
+use Rattle.script_explain.specs.declared.seen.Seen.{Seen}
 use Rattle.script_explain.specs.Comparisons.{Difference, ComparisonLinesStop}
 use Rattle.script_explain.specs.Progress.{CheckHalted, Compared, Ended, Explained, Halted, Judges, LinesHalted, ExplainedSoFar}
 use Rattle.script_explain.proofs.Comparing.{difference-more, unchecked-at-end, unchecked-lines, unchecked-more}
 use Rattle.script_explain.proofs.Outcomes.{halted-at-end, halted-lines, halted-more}
 
 -- some lines were explained, and their number is this
-pub record Along (only : Bool) (script rest : List ℕ) (number : ℕ) (first : Teller) (mid : Option (List ℕ)) (before : List ℕ) (now : Teller)
+pub record Along (only : Bool) (script rest : List ℕ) (number : ℕ) (first : Seen) (mid : Option (List ℕ)) (before : List ℕ) (now : Seen)
     (new : Option (List ℕ)) (after : List ℕ) : Type 0 where
   pub taken : List (List ℕ)
   pub takes : AreTaken script rest taken
@@ -26,7 +28,7 @@ pub record Along (only : Bool) (script rest : List ℕ) (number : ℕ) (first : 
   pub explained : Explained only first mid before now new after [] taken
 
 -- none was
-pub along-none : (only : Bool) (script : List ℕ) (first : Teller) (mid : Option (List ℕ)) (before : List ℕ) →
+pub along-none : (only : Bool) (script : List ℕ) (first : Seen) (mid : Option (List ℕ)) (before : List ℕ) →
     Along only script script 0 first mid before first mid before
 along-none only script first mid before = record {
   taken = [];
@@ -35,7 +37,7 @@ along-none only script first mid before = record {
   explained = λ setting old far. far;
 }
 
-module _ (only : Bool) (script rest : List ℕ) (number : ℕ) (first : Teller) (mid : Option (List ℕ)) (before : List ℕ) (now : Teller)
+module _ (only : Bool) (script rest : List ℕ) (number : ℕ) (first : Seen) (mid : Option (List ℕ)) (before : List ℕ) (now : Seen)
     (new : Option (List ℕ)) (after : List ℕ) (along : Along only script rest number first mid before now new after)
     (small : length script ≤ MOST_BYTES) where
   module _ (at : ℕ) (found : position is_end rest ≡ Some at) (within : at < length rest) (count : ℕ)
@@ -46,8 +48,9 @@ module _ (only : Bool) (script rest : List ℕ) (number : ℕ) (first : Teller) 
         (taken-room script rest along.taken along.takes at within) small counted
 
     -- one more was
-    pub along-more : (next : Teller) (newer : Option (List ℕ)) (later left : List ℕ) → left ≡ drop (at + 1) rest →
-        ((lines : List (List ℕ)) → count ≡ length lines + 1 → Explained only now new after next newer later lines (take at rest ∷ [])) → Along only script left count first mid before next newer later
+    pub along-more : (next : Seen) (newer : Option (List ℕ)) (later left : List ℕ) → left ≡ drop (at + 1) rest →
+        ((lines : List (List ℕ)) → count ≡ length lines + 1 → Explained only now new after next newer later lines (take at rest ∷ [])) →
+        Along only script left count first mid before next newer later
     along-more next newer later left is step = record {
       taken = along.taken ++ take at rest ∷ [];
       takes = subst (λ (r : List ℕ). AreTaken script r (along.taken ++ take at rest ∷ [])) (sym is)

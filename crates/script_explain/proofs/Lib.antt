@@ -5,5 +5,7 @@ pub mod Comparing
 pub mod Going
 pub mod LineTold
 pub mod Outcomes
+pub mod Seeing
+pub mod Summing
 pub mod Telling
 pub mod ToldLines

@@ -1,17 +1,21 @@
 -- The outcome of an explanation once its text is written.
-use Rattle.std.proofs.Common.{◌≡◌, ◌≢◌, ℕ, ◌+◌, ◌≤◌, Bool, List, [], ◌∷◌, ◌++◌, length, append_assoc, append-nil, refl, sym, ap, ◌∙◌, subst, Option, inl, inr, arith}
+use Rattle.std.proofs.Common.{◌≡◌, ◌≢◌, ℕ, ◌+◌, ◌≤◌, Bool, List, [], ◌∷◌, ◌++◌, length, append_assoc}
+use Rattle.std.proofs.Common.{append-nil, refl, sym, ap, ◌∙◌, subst, Option, inl, inr, arith}
 use Rattle.std.proofs.KnownBytes.{Appends-nil, Appends-trans, Keeps-refl}
 use Rattle.std.specs.Prelude.{Ok, Err, Result, OnOk, IfErr}
 use Rattle.std.specs.Io.KnownBytes.{Appends, Consumes, IsAtEnd}
 use Rattle.script_lines.specs.declared.TheConstants.{MOST_BYTES}
 use Rattle.script_lines.specs.Pieces.{whole_lines, last_part}
 use Rattle.script_lines.specs.Written.{WritesPart}
-use Rattle.script_faults.specs.declared.fault.ReportFault.{ReportFault}
-use Rattle.script_faults.specs.Faults.{IsBadLine, IsReported}
-use Rattle.script_faults.specs.Streams.{IsUnread}
-use Rattle.script_tales.specs.declared.teller.Teller.{Teller}
+use Rattle.report_io.specs.declared.fault.ReportFault.{ReportFault}
+use Rattle.report_io.specs.Faults.{IsBadLine, IsReported}
+use Rattle.report_io.specs.Streams.{IsUnread}
 use Rattle.sm_script.specs.Scenes.{Rests, Setting, first_scene}
-use Rattle.script_explain.specs.Explanations.{EndsExplained, Explains, ExplanationCutOff, IsExplained, IsUnexplained, ExplanationLinesStop, LinesTold, explaining_status}
+use Rattle.event_texts.specs.Deeds.{no_lines}
+use Rattle.script_explain.specs.declared.explain.Scope.{Scope}
+use Rattle.script_explain.specs.declared.seen.Seen.{Seen}
+use Rattle.script_explain.specs.Explanations.{EndsExplained, Explains, ExplanationCutOff, IsExplained, IsUnexplained}
+use Rattle.script_explain.specs.Explanations.{ExplanationLinesStop, LinesTold, WholeTold, explaining_status}
 use Rattle.script_explain.specs.Progress.{Halted, IsHalted, LinesHalted, ExplainedSoFar}
 use Rattle.script_explain.specs.Tales.{Begins}
 use Rattle.script_explain.proofs.Telling.{far-pending, pending-cut, pending-told}
@@ -27,7 +31,8 @@ part-none old new text none part =
     subst (Appends old new) (nil-front part.done part.rest (sym none ∙ part.split)) part.written
 
 -- nothing more went out
-cut-same : (setting : Setting) (only : Bool) (old mid new : Option (List ℕ)) (lines : List (List ℕ)) → ExplanationCutOff setting only old mid lines →
+cut-same : (setting : Setting) (only : Bool) (old mid new : Option (List ℕ)) (lines : List (List ℕ)) →
+    ExplanationCutOff setting only old mid lines →
     Appends mid new [] → ExplanationCutOff setting only old new lines
 cut-same setting only old mid new lines cut out = record {
   before = cut.before;
@@ -56,7 +61,8 @@ cut-more setting only old new lines all more is cut = record {
   written = cut.written;
 }
 
-module _ (setting : Setting) (only : Bool) (old new : Option (List ℕ)) (pending : List ℕ) (lines all more : List (List ℕ)) (is : all ≡ lines ++ more) where
+module _ (setting : Setting) (only : Bool) (old new : Option (List ℕ)) (pending : List ℕ)
+    (lines all more : List (List ℕ)) (is : all ≡ lines ++ more) where
   -- a line of the first lines that halts the explanation also halts that of all lines
   halted-on : (fault : ReportFault) → IsHalted setting only old new pending lines fault → IsHalted setting only old new pending all fault
   halted-on fault stop = record {
@@ -96,24 +102,24 @@ halted-lines setting only old new pending script ReportFault.HistoryFull stop = 
 halted-lines setting only old new pending script ReportFault.NoMemory stop = stop
 
 -- the last line has no end
-pub halted-at-end : (setting : Setting) (only : Bool) (teller : Teller) (old new : Option (List ℕ)) (pending script : List ℕ) (number : ℕ)
-    (fault : ReportFault) → ExplainedSoFar setting only teller old new pending (whole_lines script) → last_part script ≢ [] →
+pub halted-at-end : (setting : Setting) (only : Bool) (seen : Seen) (old new : Option (List ℕ)) (pending script : List ℕ) (number : ℕ)
+    (fault : ReportFault) → ExplainedSoFar setting only seen old new pending (whole_lines script) → last_part script ≢ [] →
     number ≡ length (whole_lines script) + 1 → IsBadLine number fault → LinesHalted setting only old new pending script fault
-halted-at-end setting only teller old new pending script number ReportFault.ReadFault far some numbered is = absurd is
-halted-at-end setting only teller old new pending script number ReportFault.TooLong far some numbered is = absurd is
-halted-at-end setting only teller old new pending script number ReportFault.WriteFault far some numbered is = absurd is
-halted-at-end setting only teller old new pending script number ReportFault.HistoryFull far some numbered is = absurd is
-halted-at-end setting only teller old new pending script number (ReportFault.Missing sought n) far some numbered is = absurd is
-halted-at-end setting only teller old new pending script number (ReportFault.BadLine n reason) far some numbered is = inr (record {
+halted-at-end setting only seen old new pending script number ReportFault.ReadFault far some numbered is = absurd is
+halted-at-end setting only seen old new pending script number ReportFault.TooLong far some numbered is = absurd is
+halted-at-end setting only seen old new pending script number ReportFault.WriteFault far some numbered is = absurd is
+halted-at-end setting only seen old new pending script number ReportFault.HistoryFull far some numbered is = absurd is
+halted-at-end setting only seen old new pending script number (ReportFault.Missing sought n) far some numbered is = absurd is
+halted-at-end setting only seen old new pending script number (ReportFault.BadLine n reason) far some numbered is = inr (record {
   unended = some;
   numbered = is ∙ numbered;
-  so_far = far-pending setting only teller old new pending (whole_lines script) far;
+  so_far = far-pending setting only seen old new pending (whole_lines script) far;
 })
-halted-at-end setting only teller old new pending script number ReportFault.NoMemory far some numbered is = record {
+halted-at-end setting only seen old new pending script number ReportFault.NoMemory far some numbered is = record {
   before = whole_lines script;
   after = [];
   split = sym (append-nil (whole_lines script));
-  so_far = far-pending setting only teller old new pending (whole_lines script) far;
+  so_far = far-pending setting only seen old new pending (whole_lines script) far;
 }
 
 module _ (setting : Setting) (only : Bool) (old mid new : Option (List ℕ)) (pending script : List ℕ) where
@@ -167,26 +173,28 @@ module _ (setting : Setting) (only : Bool) (old mid new : Option (List ℕ)) (pe
   lines-cut ReportFault.WriteFault stop part =
       cut-same setting only old mid new (whole_lines script) stop.1 (part-none mid new pending stop.0 part)
   lines-cut (ReportFault.BadLine n reason) (inl stop) part = stop-cut (ReportFault.BadLine n reason) stop part
-  lines-cut (ReportFault.BadLine n reason) (inr stop) part = subst (ExplanationCutOff setting only old new) (append-nil (whole_lines script))
+  lines-cut (ReportFault.BadLine n reason) (inr stop) part =
+      subst (ExplanationCutOff setting only old new) (append-nil (whole_lines script))
       (pending-cut setting only old mid pending (whole_lines script) stop.so_far new [] part)
   lines-cut ReportFault.HistoryFull stop part = stop-cut ReportFault.HistoryFull stop part
   lines-cut ReportFault.NoMemory stop part = subst (ExplanationCutOff setting only old new) (sym stop.split)
       (pending-cut setting only old mid pending stop.before stop.so_far new stop.after part)
 
-  module _ (teller : Teller) (result : Result (Unit {0}) ReportFault)
-      (ok : OnOk result (ExplainedSoFar setting only teller old mid pending (whole_lines script)))
+  module _ (seen : Seen) (result : Result (Unit {0}) ReportFault)
+      (ok : OnOk result (ExplainedSoFar setting only seen old mid pending (whole_lines script)))
       (whole : OnOk result (last_part script ≡ [])) (err : IfErr result (LinesHalted setting only old mid pending script)) where
     -- all of the text went out
     pub told-out : Appends mid new pending → LinesTold setting only old new script result
     told-out out = by result ok whole err
       where
         -- a success explains all whole lines, and a fault explains those before its stop
-        by : (r : Result (Unit {0}) ReportFault) → OnOk r (ExplainedSoFar setting only teller old mid pending (whole_lines script)) →
-            OnOk r (last_part script ≡ []) → IfErr r (LinesHalted setting only old mid pending script) → LinesTold setting only old new script r
+        by : (r : Result (Unit {0}) ReportFault) → OnOk r (ExplainedSoFar setting only seen old mid pending (whole_lines script)) →
+            OnOk r (last_part script ≡ []) → IfErr r (LinesHalted setting only old mid pending script) →
+            LinesTold setting only old new script r
         by (Ok done) far end stop = (
           end,
           pending-told setting only old mid pending (whole_lines script)
-              (far-pending setting only teller old mid pending (whole_lines script) far) new out,
+              (far-pending setting only seen old mid pending (whole_lines script) far) new out,
         )
         by (Err fault) far end stop = lines-stop fault stop out
 
@@ -194,11 +202,11 @@ module _ (setting : Setting) (only : Bool) (old mid new : Option (List ℕ)) (pe
     pub told-cut : WritesPart mid new pending → ExplanationCutOff setting only old new (whole_lines script)
     told-cut part = by result ok err
       where
-        by : (r : Result (Unit {0}) ReportFault) → OnOk r (ExplainedSoFar setting only teller old mid pending (whole_lines script)) →
+        by : (r : Result (Unit {0}) ReportFault) → OnOk r (ExplainedSoFar setting only seen old mid pending (whole_lines script)) →
             IfErr r (LinesHalted setting only old mid pending script) → ExplanationCutOff setting only old new (whole_lines script)
         by (Ok done) far stop = subst (ExplanationCutOff setting only old new) (append-nil (whole_lines script))
             (pending-cut setting only old mid pending (whole_lines script)
-            (far-pending setting only teller old mid pending (whole_lines script) far) new [] part)
+            (far-pending setting only seen old mid pending (whole_lines script) far) new [] part)
         by (Err fault) far stop = lines-cut fault stop part
 
 -- nothing is explained by nothing
@@ -208,25 +216,26 @@ told-none setting only old = record {
   explains = record {
     replies = [];
     scene = first_scene;
-    losses = [];
+    kept = no_lines;
     tells = Begins;
     leads = record { plays = Rests first_scene; legal = record { answers = tt; within = omega arith } };
   };
   written = Appends-nil old;
 }
 
-module _ (setting : Setting) (only : Bool) (left_before left old : Option (List ℕ)) where
+module _ (setting : Setting) (scope : Scope) (left_before left old : Option (List ℕ)) where
   -- memory was refused before any line was explained
   pub explains-refused : (script : List ℕ) (fault : ReportFault) → fault ≡ ReportFault.NoMemory → Consumes left_before left script →
-      Explains setting only left_before left old old (Err fault)
+      Explains setting scope left_before left old old (Err fault)
   explains-refused script fault is taken = rw is (record {
     script = script;
     taken = taken;
-    outcome = record { before = []; after = whole_lines script; split = refl; told = told-none setting only old };
+    outcome = record { before = []; after = whole_lines script; split = refl; told = told-none setting scope.only_failures old };
   })
 
   -- the script did not come in
-  pub explains-unread : (fault : ReportFault) → IsUnread left_before left fault → Explains setting only left_before left old old (Err fault)
+  pub explains-unread : (fault : ReportFault) → IsUnread left_before left fault →
+      Explains setting scope left_before left old old (Err fault)
   explains-unread ReportFault.ReadFault came =
       record { script = came.bytes; taken = came.taken; outcome = (came.within, Keeps-refl old) }
   explains-unread ReportFault.TooLong came =
@@ -239,9 +248,9 @@ module _ (setting : Setting) (only : Bool) (left_before left old : Option (List 
 
   module _ (new : Option (List ℕ)) (script : List ℕ) (taken : Consumes left_before left script) (end : IsAtEnd left)
       (within : length script ≤ MOST_BYTES) where
-    -- the script came in, and its lines were explained
-    pub explains-told : (result : Result (Unit {0}) ReportFault) → LinesTold setting only old new script result →
-        Explains setting only left_before left old new result
+    -- the script came in, and what is in the scope was told
+    pub explains-told : (result : Result (Unit {0}) ReportFault) → WholeTold setting scope old new script result →
+        Explains setting scope left_before left old new result
     explains-told (Ok done) told = record { script = script; taken = taken; outcome = (end, within, told.0, told.1) }
     explains-told (Err ReportFault.ReadFault) told = absurd told
     explains-told (Err ReportFault.TooLong) told = absurd told
@@ -252,9 +261,9 @@ module _ (setting : Setting) (only : Bool) (left_before left old : Option (List 
     explains-told (Err ReportFault.NoMemory) told = record { script = script; taken = taken; outcome = told }
 
 -- a status that tells the outcome, and a line that tells its fault
-pub ends_explained : (setting : Setting) (only : Bool) (left_before left old new told_before told : Option (List ℕ))
-    (outcome : Result (Unit {0}) ReportFault) (status : ℕ) → Explains setting only left_before left old new outcome →
+pub ends_explained : (setting : Setting) (scope : Scope) (left_before left old new told_before told : Option (List ℕ))
+    (outcome : Result (Unit {0}) ReportFault) (status : ℕ) → Explains setting scope left_before left old new outcome →
     status ≡ explaining_status outcome → IsReported told_before told outcome →
-    EndsExplained setting only left_before left old new told_before told status
-ends_explained setting only left_before left old new told_before told outcome status explains is reported =
+    EndsExplained setting scope left_before left old new told_before told status
+ends_explained setting scope left_before left old new told_before told outcome status explains is reported =
     record { outcome = outcome; explains = explains; status_is = is; reported = reported }

@@ -1,5 +1,6 @@
 -- The lines of a text that explains lines.
-use Rattle.std.proofs.Common.{◌≡◌, ℕ, ◌+◌, ◌==◌, ◌&&◌, not, if◌then◌else◌, Bool, true, false, List, [], ◌∷◌, ◌++◌, length, map, drop, append_assoc, append-nil, refl, sym, ap, ◌∙◌, subst}
+use Rattle.std.proofs.Common.{◌≡◌, ℕ, ◌+◌, ◌==◌, ◌&&◌, not, if◌then◌else◌, Bool, true, false, List, [], ◌∷◌}
+use Rattle.std.proofs.Common.{◌++◌, length, map, drop, append_assoc, append-nil, refl, sym, ap, ◌∙◌, subst}
 use Rattle.std.proofs.lemmas.Grind.{flat_map-append}
 use Rattle.std.proofs.lemmas.List.Elements.{filter-append}
 use Rattle.std.proofs.lemmas.List.Folds.{list_all-append}
@@ -7,13 +8,16 @@ use Rattle.std.specs.Prelude.{codes}
 use Rattle.std.specs.List.{flat_map, list_all}
 use Rattle.script_lines.specs.Pieces.{lines_from, rest_from, whole_lines, last_part}
 use Rattle.script_lines.proofs.Piecing.{lines-append, rest-append}
-use Rattle.script_faults.specs.IndentedLines.{fact_line, indented, is_indented, unindented}
-use Rattle.sm_script.specs.Scenes.{Scene, as_line, first_scene}
-use Rattle.script_tales.specs.LostLines.{LossLines}
+use Rattle.report_io.specs.IndentedLines.{fact_line, indented, is_indented, unindented}
+use Rattle.sm_script.specs.Scenes.{Scene, Setting, as_line, first_scene}
+use Rattle.event_texts.specs.Deeds.{KeptLines}
+use Rattle.event_texts.specs.Failing.{failing_events}
+use Rattle.event_texts.specs.SummaryTexts.{summary_text}
+use Rattle.script_explain.specs.Explanations.{IsSummaryIf}
 use Rattle.script_explain.specs.Tales.{ExplainsLines, Begins, Passes, Goes, indent, numbered_facts, replies_in, told_line}
 use Rattle.script_explain.proofs.CleanLabels.{and-left, and-right, inner-append, is_inner}
 use Rattle.script_explain.proofs.CleanScenes.{AreClean, IsReply, NoReply, OneReply, answers-clean}
-use Rattle.script_faults.proofs.Unindented.{unindented-more, unindented-skip}
+use Rattle.report_io.proofs.Unindented.{unindented-more, unindented-skip}
 
 -- the text consists of these whole lines
 record IsWhole (text : List ℕ) (lines : List (List ℕ)) : Type 0 where
@@ -66,6 +70,7 @@ lines-inner : (front text : List ℕ) → is_inner front ≡ true → list_all i
 lines-inner front [] inner = refl
 lines-inner front (x ∷ text) inner = by (λ other ok. lines-inner other text ok) (x == 10) refl
   where
+    -- by cases: a line that ends is whole, and any other byte extends it
     by : ((other : List ℕ) → is_inner other ≡ true → list_all is_inner (lines_from other text) ≡ true) →
         (t : Bool) → (x == 10) ≡ t → list_all is_inner (if t then front ∷ lines_from [] text else lines_from (front ++ x ∷ []) text) ≡ true
     by rest true is = rw inner (rest [] refl)
@@ -162,13 +167,15 @@ replies-append a b =
     flat_map-append (λ line. if is_indented line && not (is_indented (drop 2 line)) then as_line (drop 2 line) else []) a b
 
 -- each line that is not indented adds itself, its reply and its facts, by induction on the lines
-told-has : (pool : ℕ) (lines : List (List ℕ)) (text replies : List ℕ) (scene : Scene) (losses : LossLines) →
-    ExplainsLines pool false first_scene lines text replies scene losses → list_all is_inner lines ≡ true → Has lines text replies scene
-told-has pool lines text replies scene losses Begins inner =
+told-has : (pool : ℕ) (lines : List (List ℕ)) (text replies : List ℕ) (scene : Scene) (kept : KeptLines) →
+    ExplainsLines pool false first_scene lines text replies scene kept → list_all is_inner lines ≡ true → Has lines text replies scene
+told-has pool lines text replies scene kept Begins inner =
     record { all = []; whole = whole-nil; script = refl; answers = refl; clean = record { nodes = refl; trackers = refl } }
-told-has pool lines text replies scene losses (Passes before line said given there known so_far skip) inner =
-    let both : (list_all is_inner before && list_all is_inner (line ∷ [])) ≡ true = sym (list_all-append is_inner before (line ∷ [])) ∙ inner in
-    let rest = told-has pool before said given there known so_far (and-left (list_all is_inner before) (list_all is_inner (line ∷ [])) both) in
+told-has pool lines text replies scene kept (Passes before line said given there known so_far skip) inner =
+    let both : (list_all is_inner before && list_all is_inner (line ∷ [])) ≡ true =
+    sym (list_all-append is_inner before (line ∷ [])) ∙ inner in
+    let rest = told-has pool before said given there known so_far
+    (and-left (list_all is_inner before) (list_all is_inner (line ∷ [])) both) in
     record {
       all = rest.all;
       whole = rest.whole;
@@ -176,11 +183,13 @@ told-has pool lines text replies scene losses (Passes before line said given the
       answers = rest.answers;
       clean = rest.clean;
     }
-told-has pool lines text replies scene losses
+told-has pool lines text replies scene kept
     (Goes before line said given reply facts there next known later so_far bare answers tells) inner =
     let its : List ℕ = numbered_facts (length next.history) (length before + 1) facts in
-    let both : (list_all is_inner before && list_all is_inner (line ∷ [])) ≡ true = sym (list_all-append is_inner before (line ∷ [])) ∙ inner in
-    let rest = told-has pool before said given there known so_far (and-left (list_all is_inner before) (list_all is_inner (line ∷ [])) both) in
+    let both : (list_all is_inner before && list_all is_inner (line ∷ [])) ≡ true =
+    sym (list_all-append is_inner before (line ∷ [])) ∙ inner in
+    let rest = told-has pool before said given there known so_far
+    (and-left (list_all is_inner before) (list_all is_inner (line ∷ [])) both) in
     let last : is_inner line ≡ true = and-left (is_inner line) true
     (and-right (list_all is_inner before) (list_all is_inner (line ∷ [])) both) in
     let cleanly = answers-clean pool there rest.clean line reply next answers in
@@ -211,21 +220,44 @@ told-has pool lines text replies scene losses
     }
 
 -- the lines of the script are those that are not indented, and the replies those that are indented by two spaces
-pub script-told : (pool : ℕ) (script text replies : List ℕ) (scene : Scene) (losses : LossLines) →
-    ExplainsLines pool false first_scene (whole_lines script) text replies scene losses → unindented (whole_lines text) ≡ unindented (whole_lines script)
-script-told pool script text replies scene losses tells =
-    let has = told-has pool (whole_lines script) text replies scene losses tells (lines-inner [] script refl) in
+pub script-told : (pool : ℕ) (script text replies : List ℕ) (scene : Scene) (kept : KeptLines) →
+    ExplainsLines pool false first_scene (whole_lines script) text replies scene kept →
+    unindented (whole_lines text) ≡ unindented (whole_lines script)
+script-told pool script text replies scene kept tells =
+    let has = told-has pool (whole_lines script) text replies scene kept tells (lines-inner [] script refl) in
     ap unindented has.whole.lines_are ∙ has.script
 
 -- the lines of an explanation that begin with two spaces, but not with four, are the replies
-pub replies-told : (pool : ℕ) (script text replies : List ℕ) (scene : Scene) (losses : LossLines) →
-    ExplainsLines pool false first_scene (whole_lines script) text replies scene losses → replies_in (whole_lines text) ≡ replies
-replies-told pool script text replies scene losses tells =
-    let has = told-has pool (whole_lines script) text replies scene losses tells (lines-inner [] script refl) in
+pub replies-told : (pool : ℕ) (script text replies : List ℕ) (scene : Scene) (kept : KeptLines) →
+    ExplainsLines pool false first_scene (whole_lines script) text replies scene kept → replies_in (whole_lines text) ≡ replies
+replies-told pool script text replies scene kept tells =
+    let has = told-has pool (whole_lines script) text replies scene kept tells (lines-inner [] script refl) in
     ap replies_in has.whole.lines_are ∙ has.answers
 
 -- the text of an explanation consists of whole lines: nothing stands behind the last of them
-pub text-whole : (pool : ℕ) (script text replies : List ℕ) (scene : Scene) (losses : LossLines) →
-    ExplainsLines pool false first_scene (whole_lines script) text replies scene losses → last_part text ≡ []
-text-whole pool script text replies scene losses tells =
-    (told-has pool (whole_lines script) text replies scene losses tells (lines-inner [] script refl)).whole.ends
+pub text-whole : (pool : ℕ) (script text replies : List ℕ) (scene : Scene) (kept : KeptLines) →
+    ExplainsLines pool false first_scene (whole_lines script) text replies scene kept → last_part text ≡ []
+text-whole pool script text replies scene kept tells =
+    (told-has pool (whole_lines script) text replies scene kept tells (lines-inner [] script refl)).whole.ends
+
+-- the lines of a summary begin with four spaces, so that they are no lines of a script
+summary-lines : (text summary facts : List ℕ) → last_part text ≡ [] → summary ≡ indented facts →
+    unindented (whole_lines (text ++ summary)) ≡ unindented (whole_lines text)
+summary-lines text summary facts ends is =
+    let shown_facts : List (List ℕ) = map shown (whole_lines facts) in
+    let whole : IsWhole (text ++ summary) (whole_lines text ++ shown_facts) =
+    subst (λ (s : List ℕ). IsWhole (text ++ s) (whole_lines text ++ shown_facts)) (sym is)
+    (whole-append text (indented facts) (whole_lines text) shown_facts (record { lines_are = refl; ends = ends })
+    (whole-facts (whole_lines facts) (lines-inner [] facts refl))) in
+    ap unindented whole.lines_are
+    ∙ filter-append (λ l. not (is_indented l)) (whole_lines text) shown_facts
+    ∙ ap (λ back. unindented (whole_lines text) ++ back) (facts-indented (whole_lines facts))
+    ∙ append-nil (unindented (whole_lines text))
+
+-- a summary adds no line to the script, if there is one
+pub summed-script : (setting : Setting) (scene : Scene) (text summary : List ℕ) (asked : Bool) → IsSummaryIf asked setting scene summary →
+    last_part text ≡ [] → unindented (whole_lines (text ++ summary)) ≡ unindented (whole_lines text)
+summed-script setting scene text summary true is ends =
+    summary-lines text summary (summary_text scene.names is.last (failing_events setting.pool scene.history)) ends is.told
+summed-script setting scene text summary false is ends =
+    ap (λ (s : List ℕ). unindented (whole_lines (text ++ s))) is ∙ ap (λ (t : List ℕ). unindented (whole_lines t)) (append-nil text)

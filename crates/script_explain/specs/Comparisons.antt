@@ -4,15 +4,15 @@ use Rattle.std.specs.Io.KnownBytes.{Appends, Consumes, IsAtEnd, Keeps}
 use Rattle.script_lines.specs.declared.TheConstants.{MOST_BYTES}
 use Rattle.script_lines.specs.Pieces.{whole_lines, last_part}
 use Rattle.script_lines.specs.Written.{WritesPart}
-use Rattle.script_faults.specs.declared.fault.ReportFault.{ReportFault}
-use Rattle.script_faults.specs.Faults.{IsReported, fault_status}
-use Rattle.script_faults.specs.IndentedLines.{indented, is_indented, unindented}
-use Rattle.text_parts.specs.Parts.{plural_end}
+use Rattle.report_io.specs.declared.fault.ReportFault.{ReportFault}
+use Rattle.report_io.specs.Faults.{IsReported, fault_status}
+use Rattle.report_io.specs.IndentedLines.{indented, is_indented, unindented}
+use Rattle.script_lines.specs.Parts.{plural_end}
 use Rattle.script_labels.specs.Names.{act_in}
 use Rattle.sm_script.specs.Runs.{IsOver}
 use Rattle.sm_script.specs.Scenes.{Answers, LeadsTo, Scene, Setting, as_line, first_scene}
-use Rattle.script_tales.specs.LostLines.{LossLines}
-use Rattle.script_tales.specs.Tellings.{Tells}
+use Rattle.event_texts.specs.Deeds.{KeptLines, no_lines}
+use Rattle.event_texts.specs.Tellings.{Tells}
 use Rattle.script_explain.specs.declared.check.Verdict.{Verdict}
 
 -- the line says nothing: it begins with four spaces
@@ -28,7 +28,7 @@ Records line reply = (is_indented line ≡ true) × (is_indented (drop 2 line) �
 -- have a reply, and how many replies compared
 pub record TranscriptPlace : Type 0 where
   pub scene : Scene
-  pub losses : LossLines
+  pub kept : KeptLines
   pub number : ℕ
   pub line : List ℕ
   pub reply : List ℕ
@@ -39,7 +39,7 @@ pub record TranscriptPlace : Type 0 where
 -- no line was played
 abbrev pub start : TranscriptPlace
 start =
-    record { scene = first_scene; losses = []; number = 0; line = []; reply = []; facts = []; lines = 0; replies = 0 }
+    record { scene = first_scene; kept = no_lines; number = 0; line = []; reply = []; facts = []; lines = 0; replies = 0 }
 
 -- one more line that has a reply is counted
 abbrev pub lines_with : ℕ → List ℕ → ℕ
@@ -47,10 +47,10 @@ lines_with lines [] = lines
 lines_with lines (byte ∷ more) = lines + 1
 
 -- one more line was played, that of this number, with this reply and these facts
-abbrev pub played : TranscriptPlace → ℕ → List ℕ → List ℕ → List ℕ → Scene → LossLines → TranscriptPlace
-played at number line reply facts next losses = record {
+abbrev pub played : TranscriptPlace → ℕ → List ℕ → List ℕ → List ℕ → Scene → KeptLines → TranscriptPlace
+played at number line reply facts next kept = record {
   scene = next;
-  losses = losses;
+  kept = kept;
   number = number;
   line = line;
   reply = reply;
@@ -71,9 +71,9 @@ pub data Agrees (pool : ℕ) : List (List ℕ) → TranscriptPlace → Type 0 wh
       Agrees pool (lines ++ line ∷ []) at
   Replies : (lines : List (List ℕ)) (line reply : List ℕ) (at : TranscriptPlace) → Agrees pool lines at → Records line reply →
       at.reply ≡ as_line reply → Agrees pool (lines ++ line ∷ []) (compared at)
-  Plays : (lines : List (List ℕ)) (line reply facts : List ℕ) (at : TranscriptPlace) (next : Scene) (later : LossLines) →
+  Plays : (lines : List (List ℕ)) (line reply facts : List ℕ) (at : TranscriptPlace) (next : Scene) (later : KeptLines) →
       Agrees pool lines at → is_indented line ≡ false → (answers : Answers pool at.scene line reply next) →
-      Tells pool at.scene next (length lines + 1) line answers.act at.losses later facts →
+      Tells pool at.scene next (length lines + 1) line answers.act at.kept later facts →
       Agrees pool (lines ++ line ∷ []) (played at (length lines + 1) line reply facts next later)
 
 -- the lines agree with a machine whose history is legal, and whose calls are those of the lines that are not indented

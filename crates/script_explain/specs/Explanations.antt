@@ -1,16 +1,21 @@
 -- What an explanation of a script leaves.
-use Rattle.std.specs.Prelude.{◌≡◌, ◌≢◌, ◌⊎◌, ℕ, ◌+◌, ◌<◌, ◌≤◌, Bool, false, List, [], ◌∷◌, ◌++◌, length, None, Ok, Err, Option, Result, MatchResult}
+use Rattle.std.specs.Prelude.{◌≡◌, ◌≢◌, ◌⊎◌, ℕ, ◌+◌, ◌<◌, ◌≤◌, Bool, true, false, List, [], ◌∷◌, ◌++◌, length, None, Ok, Err, Option, Result, MatchResult}
 use Rattle.std.specs.Io.KnownBytes.{Appends, Consumes, IsAtEnd, Keeps}
 use Rattle.script_lines.specs.declared.TheConstants.{MOST_BYTES}
 use Rattle.script_lines.specs.Pieces.{whole_lines, last_part}
 use Rattle.script_lines.specs.Written.{WritesPart}
-use Rattle.script_faults.specs.declared.fault.ReportFault.{ReportFault}
-use Rattle.script_faults.specs.Faults.{IsReported, fault_status}
-use Rattle.script_faults.specs.IndentedLines.{is_indented, unindented}
+use Rattle.report_io.specs.declared.fault.ReportFault.{ReportFault}
+use Rattle.report_io.specs.Faults.{IsReported, fault_status}
+use Rattle.report_io.specs.IndentedLines.{indented, is_indented, unindented}
 use Rattle.script_labels.specs.Names.{act_in}
 use Rattle.sm_script.specs.Runs.{IsOver}
 use Rattle.sm_script.specs.Scenes.{LeadsTo, Scene, Setting, first_scene}
-use Rattle.script_tales.specs.LostLines.{LossLines}
+use Rattle.core_state.specs.Shown.{Shows}
+use Rattle.core_state.specs.State.{State}
+use Rattle.event_texts.specs.Deeds.{KeptLines}
+use Rattle.event_texts.specs.Failing.{failing_events}
+use Rattle.event_texts.specs.SummaryTexts.{summary_text}
+use Rattle.script_explain.specs.declared.explain.Scope.{Scope}
 use Rattle.script_explain.specs.Tales.{ExplainsLines}
 
 -- the text explains these lines: their replies are those of a legal history whose calls are those of the lines that are not
@@ -18,8 +23,8 @@ use Rattle.script_explain.specs.Tales.{ExplainsLines}
 pub record Explanation (setting : Setting) (only : Bool) (lines : List (List ℕ)) (text : List ℕ) : Type 0 where
   pub replies : List ℕ
   pub scene : Scene
-  pub losses : LossLines
-  pub tells : ExplainsLines setting.pool only first_scene lines text replies scene losses
+  pub kept : KeptLines
+  pub tells : ExplainsLines setting.pool only first_scene lines text replies scene kept
   pub leads : LeadsTo setting (unindented lines) replies scene
 
 -- what was written explains exactly these lines
@@ -82,21 +87,65 @@ LinesTold setting only old new script result = MatchResult result
     (λ _. (last_part script ≡ []) × IsExplained setting only old new (whole_lines script))
     (ExplanationLinesStop setting only old new script)
 
--- why an explanation stopped, where these bytes were read: no line is explained before all are read
-abbrev pub ExplanationStops : Setting → Bool → Option (List ℕ) → Option (List ℕ) → Option (List ℕ) → List ℕ → ReportFault → Type 0
-ExplanationStops setting only left old new script ReportFault.ReadFault = (length script ≤ MOST_BYTES) × Keeps old new
-ExplanationStops setting only left old new script ReportFault.TooLong = (MOST_BYTES < length script) × Keeps old new
-ExplanationStops setting only left old new script ReportFault.NoMemory =
-    ExplanationLinesStop setting only old new script ReportFault.NoMemory
-ExplanationStops setting only left old new script fault = IsAtEnd left × ExplanationLinesStop setting only old new script fault
+-- the text is the summary of this scene: of a core that shows its history, and of the events in which nodes failed, each line of it
+-- behind four spaces
+pub record IsSummary (setting : Setting) (scene : Scene) (summary : List ℕ) : Type 0 where
+  pub last : State
+  pub pool_is : last.pool ≡ setting.pool
+  pub shows : Shows last scene.history
+  pub told : summary ≡ indented (summary_text scene.names last (failing_events setting.pool scene.history))
 
--- these bytes were read, and their lines were explained. Without a fault they are all that there is
-pub record Explains (setting : Setting) (only : Bool) (left_before left old new : Option (List ℕ)) (result : Result (Unit {0}) ReportFault) : Type 0 where
+-- the text is the summary, if one is asked for, and else empty
+abbrev pub IsSummaryIf : Bool → Setting → Scene → List ℕ → Type 0
+IsSummaryIf true setting scene summary = IsSummary setting scene summary
+IsSummaryIf false setting scene summary = summary ≡ []
+
+-- a text that explains these lines, and the summary behind it, if one is asked for
+pub record Whole (setting : Setting) (scope : Scope) (lines : List (List ℕ)) : Type 0 where
+  pub text : List ℕ
+  pub explains : Explanation setting scope.only_failures lines text
+  pub summary : List ℕ
+  pub summarizes : IsSummaryIf scope.has_summary setting explains.scene summary
+
+-- all that is asked for of these lines was written
+pub record IsToldWhole (setting : Setting) (scope : Scope) (old new : Option (List ℕ)) (lines : List (List ℕ)) : Type 0 where
+  pub whole : Whole setting scope lines
+  pub written : Appends old new (whole.text ++ whole.summary)
+
+-- all lines are explained, and a part of that and of the summary was written
+pub record SummaryCutOff (setting : Setting) (scope : Scope) (old new : Option (List ℕ)) (script : List ℕ) : Type 0 where
+  pub asked : scope.has_summary ≡ true
+  pub ended : last_part script ≡ []
+  pub whole : Whole setting scope (whole_lines script)
+  pub written : WritesPart old new (whole.text ++ whole.summary)
+
+-- why not all was told of a script that was read
+abbrev pub WholeStop : Setting → Scope → Option (List ℕ) → Option (List ℕ) → List ℕ → ReportFault → Type 0
+WholeStop setting scope old new script ReportFault.WriteFault =
+    ExplanationCutOff setting scope.only_failures old new (whole_lines script) ⊎ SummaryCutOff setting scope old new script
+WholeStop setting scope old new script fault = ExplanationLinesStop setting scope.only_failures old new script fault
+
+-- what came of telling a script that was read: without a fault all of it was told, and the summary, if one is asked for
+abbrev pub WholeTold : Setting → Scope → Option (List ℕ) → Option (List ℕ) → List ℕ → Result (Unit {0}) ReportFault → Type 0
+WholeTold setting scope old new script result = MatchResult result
+    (λ _. (last_part script ≡ []) × IsToldWhole setting scope old new (whole_lines script))
+    (WholeStop setting scope old new script)
+
+-- why an explanation stopped, where these bytes were read: no line is explained before all are read
+abbrev pub ExplanationStops : Setting → Scope → Option (List ℕ) → Option (List ℕ) → Option (List ℕ) → List ℕ → ReportFault → Type 0
+ExplanationStops setting scope left old new script ReportFault.ReadFault = (length script ≤ MOST_BYTES) × Keeps old new
+ExplanationStops setting scope left old new script ReportFault.TooLong = (MOST_BYTES < length script) × Keeps old new
+ExplanationStops setting scope left old new script ReportFault.NoMemory =
+    WholeStop setting scope old new script ReportFault.NoMemory
+ExplanationStops setting scope left old new script fault = IsAtEnd left × WholeStop setting scope old new script fault
+
+-- these bytes were read, and of their lines what is in the scope was told. Without a fault they are all that there is
+pub record Explains (setting : Setting) (scope : Scope) (left_before left old new : Option (List ℕ)) (result : Result (Unit {0}) ReportFault) : Type 0 where
   pub script : List ℕ
   pub taken : Consumes left_before left script
   pub outcome : MatchResult result
-      (λ _. IsAtEnd left × (length script ≤ MOST_BYTES) × (last_part script ≡ []) × IsExplained setting only old new (whole_lines script))
-      (ExplanationStops setting only left old new script)
+      (λ _. IsAtEnd left × (length script ≤ MOST_BYTES) × (last_part script ≡ []) × IsToldWhole setting scope old new (whole_lines script))
+      (ExplanationStops setting scope left old new script)
 
 -- the status that the program ends with: 0 where all of the script was explained
 abbrev pub explaining_status : Result (Unit {0}) ReportFault → ℕ
@@ -104,8 +153,8 @@ explaining_status (Ok done) = 0
 explaining_status (Err fault) = fault_status fault
 
 -- a script was explained, with this outcome: the status is its status, and its fault, if there is one, was told
-pub record EndsExplained (setting : Setting) (only : Bool) (left_before left old new told_before told : Option (List ℕ)) (status : ℕ) : Type 0 where
+pub record EndsExplained (setting : Setting) (scope : Scope) (left_before left old new told_before told : Option (List ℕ)) (status : ℕ) : Type 0 where
   pub outcome : Result (Unit {0}) ReportFault
-  pub explains : Explains setting only left_before left old new outcome
+  pub explains : Explains setting scope left_before left old new outcome
   pub status_is : status ≡ explaining_status outcome
   pub reported : IsReported told_before told outcome

@@ -1,15 +1,19 @@
 -- How far an explanation and a comparison have come. No public clause cites this module.
-use Rattle.std.specs.Prelude.{◌≡◌, ◌≢◌, ◌⊎◌, ℕ, ◌+◌, ◌-◌, ◌^◌, min, ◌==◌, ◌||◌, not, Bool, false, List, [], ◌∷◌, ◌++◌, length, Option}
+use Rattle.std.specs.Prelude.{◌≡◌, ◌≢◌, ◌⊎◌, ℕ, ◌+◌, ◌-◌, ◌^◌, min, ◌==◌, ◌||◌, not, if◌then◌else◌, Bool, false, List, [], ◌∷◌, ◌++◌, length, Option}
 use Rattle.std.specs.Io.KnownBytes.{Appends}
 use Rattle.script_lines.specs.Pieces.{whole_lines, last_part}
-use Rattle.script_faults.specs.declared.fault.ReportFault.{ReportFault}
-use Rattle.script_faults.specs.IndentedLines.{is_indented}
+use Rattle.script_lines.specs.Written.{WritesPart}
+use Rattle.report_io.specs.declared.fault.ReportFault.{ReportFault}
+use Rattle.report_io.specs.IndentedLines.{indented, is_indented}
 use Rattle.sm_script.specs.Scenes.{Scene, Setting, first_scene}
-use Rattle.script_tales.specs.declared.teller.Teller.{Teller}
-use Rattle.script_tales.specs.Called.{Knows}
-use Rattle.script_tales.specs.LostLines.{LossLines, Recalls}
+use Rattle.event_texts.specs.declared.event_writer.EventWriter.{EventWriter}
+use Rattle.event_texts.specs.Failing.{failing_events}
+use Rattle.event_texts.specs.SummaryTexts.{summary_text}
+use Rattle.event_texts.specs.Called.{Knows}
+use Rattle.event_texts.specs.Deeds.{KeptLines, Recalls}
 use Rattle.script_explain.specs.declared.check.Comparison.{Comparison}
 use Rattle.script_explain.specs.declared.check.Outcome.{Outcome}
+use Rattle.script_explain.specs.declared.seen.Seen.{Seen}
 use Rattle.script_explain.specs.Comparisons.{Agrees, Difference, IsUnchecked, TranscriptPlace}
 use Rattle.script_explain.specs.Explanations.{Explanation, ExplanationCutOff, ExplanationFault}
 use Rattle.script_explain.specs.Tales.{ExplainsLines, if_told, numbered_facts, told_line}
@@ -17,31 +21,37 @@ use Rattle.script_explain.specs.Tales.{ExplainsLines, if_told, numbered_facts, t
 -- ---- explanations
 
 -- these lines were explained; their text was written, but for what is pending
-pub record ExplainedSoFar (setting : Setting) (only : Bool) (teller : Teller) (old new : Option (List ℕ)) (pending : List ℕ)
+pub record ExplainedSoFar (setting : Setting) (only : Bool) (seen : Seen) (old new : Option (List ℕ)) (pending : List ℕ)
     (lines : List (List ℕ)) : Type 0 where
-  pub pool : teller.session.core.pool ≡ setting.pool
-  pub limits : teller.session.core.limits ≡ setting.limits
+  pub pool : seen.event_writer.session.core.pool ≡ setting.pool
+  pub limits : seen.event_writer.session.core.limits ≡ setting.limits
   pub text : List ℕ
   pub replies : List ℕ
   pub scene : Scene
-  pub losses : LossLines
-  pub tells : ExplainsLines setting.pool only first_scene lines text replies scene losses
-  pub knows : Knows teller scene
-  pub recalls : Recalls teller losses
+  pub kept : KeptLines
+  pub tells : ExplainsLines setting.pool only first_scene lines text replies scene kept
+  pub knows : Knows seen.event_writer scene
+  pub recalls : Recalls seen.event_writer kept
+  pub failing : seen.failing.items ≡ failing_events setting.pool scene.history
   pub done : List ℕ
   pub split : text ≡ done ++ pending
   pub written : Appends old new done
 
--- what the line of this number adds to the text, by what the teller counted before it and behind it
-abbrev pub told_between : Bool → Teller → Teller → ℕ → List ℕ → List ℕ → List ℕ → List ℕ
+-- what the line of this number adds to the text, by what the event writer counted before it and behind it
+abbrev pub told_between : Bool → EventWriter → EventWriter → ℕ → List ℕ → List ℕ → List ℕ → List ℕ
 told_between only old new number line reply facts =
     if_told (not only || not (new.failures == old.failures))
     (told_line line reply (numbered_facts new.session.core.events number facts))
 
+-- the number of the last event, if nodes failed in more events than these
+abbrev pub failing_since : ℕ → EventWriter → List ℕ
+failing_since before event_writer =
+    if event_writer.failures == before then [] else event_writer.session.core.events ∷ []
+
 -- these lines more were explained between the two moments, where those were before
-abbrev pub Explained : Bool → Teller → Option (List ℕ) → List ℕ → Teller → Option (List ℕ) → List ℕ → List (List ℕ) → List (List ℕ) → Type 0
-Explained only teller mid before next new after lines more = (setting : Setting) (old : Option (List ℕ)) →
-    ExplainedSoFar setting only teller old mid before lines → ExplainedSoFar setting only next old new after (lines ++ more)
+abbrev pub Explained : Bool → Seen → Option (List ℕ) → List ℕ → Seen → Option (List ℕ) → List ℕ → List (List ℕ) → List (List ℕ) → Type 0
+Explained only seen mid before next new after lines more = (setting : Setting) (old : Option (List ℕ)) →
+    ExplainedSoFar setting only seen old mid before lines → ExplainedSoFar setting only next old new after (lines ++ more)
 
 -- the lines are explained; what is not pending was written
 pub record IsPending (setting : Setting) (only : Bool) (old new : Option (List ℕ)) (pending : List ℕ) (lines : List (List ℕ)) : Type 0 where
@@ -91,13 +101,23 @@ LinesHalted setting only old new pending script (ReportFault.BadLine n reason) =
     ⊎ HasNoEnd setting only old new pending script n
 LinesHalted setting only old new pending script fault = Halted setting only old new pending (whole_lines script) fault
 
+-- the summary of what is known in this scene, each line of it behind four spaces
+abbrev pub seen_summary : Seen → Scene → List ℕ
+seen_summary seen scene = indented (summary_text scene.names seen.event_writer.session.core seen.failing.items)
+
+-- why this summary was not written: a part of it was, or nothing
+abbrev pub SummaryHalted : Option (List ℕ) → Option (List ℕ) → List ℕ → ReportFault → Type 0
+SummaryHalted old new summary ReportFault.WriteFault = WritesPart old new summary
+SummaryHalted old new summary ReportFault.NoMemory = Appends old new []
+SummaryHalted old new summary _ = ⊥
+
 -- ---- comparisons
 
 -- the place where the comparison is
-abbrev pub comparison_place : Comparison → Scene → LossLines → TranscriptPlace
-comparison_place c scene losses = record {
+abbrev pub comparison_place : Comparison → Scene → KeptLines → TranscriptPlace
+comparison_place c scene kept = record {
   scene = scene;
-  losses = losses;
+  kept = kept;
   number = c.number;
   line = c.line.items;
   reply = c.reply.items;
@@ -108,13 +128,13 @@ comparison_place c scene losses = record {
 
 -- these lines were compared, and agree
 pub record Compared (setting : Setting) (c : Comparison) (lines : List (List ℕ)) : Type 0 where
-  pub pool : c.teller.session.core.pool ≡ setting.pool
-  pub limits : c.teller.session.core.limits ≡ setting.limits
+  pub pool : c.event_writer.session.core.pool ≡ setting.pool
+  pub limits : c.event_writer.session.core.limits ≡ setting.limits
   pub scene : Scene
-  pub losses : LossLines
-  pub agrees : Agrees setting.pool lines (comparison_place c scene losses)
-  pub knows : Knows c.teller scene
-  pub recalls : Recalls c.teller losses
+  pub kept : KeptLines
+  pub agrees : Agrees setting.pool lines (comparison_place c scene kept)
+  pub knows : Knows c.event_writer scene
+  pub recalls : Recalls c.event_writer kept
 
 -- how many lines were played that have a reply, where one more has this reply
 abbrev pub lines_counted : ℕ → List ℕ → ℕ

@@ -2,11 +2,11 @@
 use Rattle.std.specs.Prelude.{◌≡◌, ℕ, ◌+◌, ◌==◌, Bool, true, false, ◌&&◌, ◌||◌, not, if◌then◌else◌, List, [], ◌∷◌, ◌++◌, codes, decimal, drop, length}
 use Rattle.std.specs.List.{flat_map}
 use Rattle.sm_names.specs.Timelines.{timeline}
-use Rattle.script_faults.specs.IndentedLines.{indented, is_indented}
+use Rattle.report_io.specs.IndentedLines.{indented, is_indented}
 use Rattle.sm_script.specs.Scenes.{Answers, Scene, as_line}
-use Rattle.script_tales.specs.Failing.{failures}
-use Rattle.script_tales.specs.LostLines.{LossLines}
-use Rattle.script_tales.specs.Tellings.{Tells}
+use Rattle.event_texts.specs.Failing.{failures}
+use Rattle.event_texts.specs.Deeds.{KeptLines, no_lines}
+use Rattle.event_texts.specs.Tellings.{Tells}
 
 -- what stands before a reply: two spaces, if there is one
 abbrev pub indent : List ℕ → List ℕ
@@ -43,15 +43,15 @@ replies_in lines = flat_map
 -- these lines, one after another, are explained by this text, give these replies, and lead to the last scene, where these lines
 -- made nodes fail. An indented line is passed over; any other is answered as a line of a script is, and the facts of its event are
 -- told, or nothing is, where only failures are told and no node failed in it
-pub data ExplainsLines (pool : ℕ) (only : Bool) (first : Scene) : List (List ℕ) → List ℕ → List ℕ → Scene → LossLines → Type 0 where
-  Begins : ExplainsLines pool only first [] [] [] first []
-  Passes : (lines : List (List ℕ)) (line text replies : List ℕ) (scene : Scene) (losses : LossLines) →
-      ExplainsLines pool only first lines text replies scene losses → is_indented line ≡ true →
-      ExplainsLines pool only first (lines ++ line ∷ []) text replies scene losses
-  Goes : (lines : List (List ℕ)) (line text replies reply facts : List ℕ) (scene next : Scene) (losses later : LossLines) →
-      ExplainsLines pool only first lines text replies scene losses → is_indented line ≡ false →
+pub data ExplainsLines (pool : ℕ) (only : Bool) (first : Scene) : List (List ℕ) → List ℕ → List ℕ → Scene → KeptLines → Type 0 where
+  Begins : ExplainsLines pool only first [] [] [] first no_lines
+  Passes : (lines : List (List ℕ)) (line text replies : List ℕ) (scene : Scene) (kept : KeptLines) →
+      ExplainsLines pool only first lines text replies scene kept → is_indented line ≡ true →
+      ExplainsLines pool only first (lines ++ line ∷ []) text replies scene kept
+  Goes : (lines : List (List ℕ)) (line text replies reply facts : List ℕ) (scene next : Scene) (kept later : KeptLines) →
+      ExplainsLines pool only first lines text replies scene kept → is_indented line ≡ false →
       (answers : Answers pool scene line reply next) →
-      Tells pool scene next (length lines + 1) line answers.act losses later facts →
+      Tells pool scene next (length lines + 1) line answers.act kept later facts →
       ExplainsLines pool only first (lines ++ line ∷ [])
       (text ++ if_told (is_told only pool scene next) (told_line line reply (numbered_facts (length next.history) (length lines + 1) facts)))
       (replies ++ reply) next later

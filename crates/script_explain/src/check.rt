@@ -1,24 +1,23 @@
 //! The replies that a transcript has, compared with those of a machine.
 ghost use Rattle.std.specs.Prelude.{◌≡◌, ◌≢◌, ◌↔◌, ◌^◌, ◌<◌, ◌≤◌, ◌+◌, [], ◌∷◌, ◌++◌, List, ℕ, IfErr, IfOk, IsTrue, OnOk, false, length};
-ghost use Rattle.script_faults.specs.IndentedLines.{indented, is_indented as is_indented_line};
+ghost use Rattle.report_io.specs.IndentedLines.{indented, is_indented as is_indented_line};
 ghost use Rattle.script_lines.specs.Pieces.{last_part, whole_lines};
 ghost use Rattle.sm_script.specs.Scenes.{Scene, Setting, as_line};
 ghost use Rattle.sm_script.specs.Sessions.{Advances, IsAt, IsStopped};
-ghost use Rattle.script_tales.specs.LostLines.{LossLines};
-ghost use Rattle.script_faults.specs.declared.fault.ReportFault.{ReportFault as Fault};
+ghost use Rattle.event_texts.specs.Deeds.{KeptLines};
+ghost use Rattle.report_io.specs.declared.fault.ReportFault.{ReportFault as Fault};
 ghost use Rattle.script_explain.specs.Comparisons.{Checks, IsJudged, IsSaid, IsVerdict, ComparisonLinesStop, Records, ComparisonStopped, agreement_text, legal_text, replies_word, told_difference};
 ghost use Rattle.script_explain.specs.Progress.{CheckHalted, Compared, Ended, Judges, comparison_place, lines_counted};
 
-use script_faults::{
+use event_texts::EventWriter;
+use report_io::{
     ReportFault, bad_line, behind, behind_indent, fault_of, is_indented, push_indented, put_out,
     read_script, unended,
 };
-use script_lines::{MOST_BYTES, line_end, push};
-use script_tales::Teller;
+use script_lines::{MOST_BYTES, Part, line_end, push, push_parts};
 use sm_names::{Limits, MAX_PAGES, NoMemory};
 use std::alloc::{AllocError, Global};
 use std::io::{Read, Write};
-use text_parts::{Part, push_parts};
 
 /// The result of comparing a transcript.
 #[derive(Clone, Copy)]
@@ -41,7 +40,7 @@ enum Outcome {
 // A transcript that is compared, up to some line.
 #[derive(Drop)]
 struct Comparison {
-    teller: Teller,
+    event_writer: EventWriter,
     // The last line that was played, its number, what the machine answered, and the facts of its event.
     number: u64,
     line: Vec<u8>,
@@ -124,12 +123,12 @@ impl Comparison {
             Compared (record { pool = pages; limits = limits }) c []) }
         ensures no_text { IfOk result (λ c. c.text.items ≡ []) }
     {
-        let teller = Teller::new(alloc, seed, pages, limits)?;
+        let event_writer = EventWriter::new(alloc, seed, pages, limits)?;
         let line = Vec::new(alloc);
         let reply = Vec::new(alloc);
         let facts = Vec::new(alloc);
         Ok(Comparison {
-            teller,
+            event_writer,
             number: 0,
             line,
             reply,
@@ -158,8 +157,8 @@ impl Comparison {
 
     // The verdict where all replies agree: appends it.
     fn agree(&mut self) -> Result<Verdict, ReportFault>
-        ensures ok { IfOk result (λ verdict. (scene : Scene) (losses : LossLines) →
-            IsSaid verdict (comparison_place self.old scene losses) self.old.text.items self.new.text.items) }
+        ensures ok { IfOk result (λ verdict. (scene : Scene) (kept : KeptLines) →
+            IsSaid verdict (comparison_place self.old scene kept) self.old.text.items self.new.text.items) }
         ensures err { IfErr result (λ fault. fault ≡ Fault.NoMemory) }
     {
         if self.lines == 0 {
@@ -242,14 +241,16 @@ impl Comparison {
             Err(_) => return Err(ReportFault::NoMemory),
         }
         match self
-            .teller
+            .event_writer
             .answer(alloc, number, line, &mut self.reply, &mut self.facts)
         {
             Ok(()) => {
                 self.lines = counted(self.lines, &self.reply);
                 Ok(())
             }
-            Err(stop) => { Err(fault_of(alloc, stop, &self.teller.session.tables, number, line)) }
+            Err(stop) => {
+                Err(fault_of(alloc, stop, &self.event_writer.session.tables, number, line))
+            }
         }
     }
 
@@ -289,8 +290,8 @@ impl Comparison {
 
     // Appends that all replies agree.
     fn push_agreement(&mut self) -> Result<(), AllocError>
-        ensures { OnOk result ((scene : Scene) (losses : LossLines) → self.new.text.items
-            ≡ self.old.text.items ++ agreement_text (comparison_place self.old scene losses)) }
+        ensures { OnOk result ((scene : Scene) (kept : KeptLines) → self.new.text.items
+            ≡ self.old.text.items ++ agreement_text (comparison_place self.old scene kept)) }
     {
         push_parts(
             &mut self.text,

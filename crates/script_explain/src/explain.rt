@@ -7,31 +7,31 @@ ghost use Rattle.script_lines.specs.Pieces.{last_part, whole_lines};
 ghost use Rattle.script_lines.specs.Written.{WritesPart};
 ghost use Rattle.sm_script.specs.Scenes.{Scene, Setting, first_scene};
 ghost use Rattle.sm_script.specs.Sessions.{IsAt, IsStopped};
-ghost use Rattle.script_tales.specs.Called.{Knows};
-ghost use Rattle.script_tales.specs.LostLines.{LossLines, Recalls};
-ghost use Rattle.script_tales.specs.Tellings.{TellsLine};
-ghost use Rattle.script_explain.specs.Explanations.{Explains, LinesTold};
-ghost use Rattle.script_explain.specs.Progress.{Explained, Halted, LinesHalted, ExplainedSoFar, told_between};
+ghost use Rattle.event_texts.specs.Called.{Knows};
+ghost use Rattle.event_texts.specs.Deeds.{KeptLines, Recalls};
+ghost use Rattle.event_texts.specs.Tellings.{TellsLine};
+ghost use Rattle.script_explain.specs.Explanations.{Explains, LinesTold, WholeTold};
+ghost use Rattle.script_explain.specs.Progress.{Explained, Halted, LinesHalted, ExplainedSoFar, failing_since, told_between};
 ghost use Rattle.script_explain.specs.Tales.{indent, line_with_reply, numbered_facts, told_line};
 
-use script_faults::{
+use crate::seen::Seen;
+use crate::summary::put_summary;
+use report_io::{
     ReportFault, behind, fault_of, is_indented, push_indented, put_out, read_script, unended,
 };
 use script_labels::Stop;
-use script_lines::{MOST_BYTES, line_end, write_out};
-use script_tales::Teller;
+use script_lines::{MOST_BYTES, Part, line_end, push_parts, write_out};
 use sm_names::{Limits, MAX_PAGES, NoMemory};
 use std::alloc::{AllocError, Global};
 use std::io::{Read, Write};
-use text_parts::{Part, push_parts};
 
 // How many bytes of text are collected before they are written.
 const ENOUGH: usize = 65_536;
 
-// A teller, and the text of the lines so far that is still to go out.
+// What is known of the lines so far, and that of their text that is still to go out.
 #[derive(Drop)]
 struct Explainer {
-    teller: Teller,
+    seen: Seen,
     text: Vec<u8>,
     // Those of the line at hand: its reply, its facts, these behind the numbers of event and line, and its
     // text.
@@ -41,17 +41,28 @@ struct Explainer {
     piece: Vec<u8>,
 }
 
+/// How much is told of a script.
+#[derive(Clone, Copy)]
+pub struct Scope {
+    /// Only the lines whose event made a node fail.
+    pub only_failures: bool,
+    /// A summary too, behind the lines.
+    pub has_summary: bool,
+}
+
 /// Runs the script that the reader holds against a new core with a pool of `pages` pages, and writes each
 /// line as it is, two spaces and the line's reply, if it has one, and four spaces and each fact that its
 /// event came to, behind one with the numbers of the event and of the line. With `only_failures` it writes
 /// only the lines whose event made a node fail. Lines that begin with two spaces are passed over: they count as lines. The whole script
-/// is read before any line is judged.
+/// is read before any line is judged. With `has_summary` a summary follows, behind four spaces: how many events
+/// there were, in which nodes failed, how many pages are held and who keeps them, and which trackers wait.
 ///
-/// On a fault, the output is the text of the whole lines before the one at which it came:
+/// On a fault there is no summary, and the output is the text of the whole lines before the one at which it
+/// came:
 /// - `ReadFault`, `TooLong`: the reader failed, or the script has more than `MOST_BYTES` bytes; nothing
 ///   was written.
 /// - `WriteFault`: the writer failed, or took nothing, or could not be flushed. A first part of the text
-///   was written.
+///   was written, or all of it and a first part of the summary.
 /// - `BadLine`: this line is bad, or is the last one and has no end.
 /// - `HistoryFull`: the line makes a call, and as many events were made as may be.
 /// - `NoMemory`: memory was refused.
@@ -59,7 +70,7 @@ struct Explainer {
 /// Labels and the core's counts are hashed from the seed, best of random bytes: it changes what a line
 /// costs, and nothing that is written. A line that changes no collection costs what `run_script` costs and
 /// its text; any other a copy of its collection, a list of the held buffers, and for each step that it
-/// forces O(n log n) for the n nodes of the collection.
+/// forces O(n log n) for the n nodes of the collection. A summary costs what `EventWriter::push_summary` does.
 pub fn explain_script<R: Read, W: Write>(
     alloc: Global,
     seed: [u8; 16],
@@ -67,10 +78,10 @@ pub fn explain_script<R: Read, W: Write>(
     writer: &mut W,
     pages: u32,
     limits: Limits,
-    only_failures: bool,
+    scope: Scope,
 ) -> Result<(), ReportFault>
     requires { (1 ≤ pages) × (pages ≤ MAX_PAGES) }
-    ensures { Explains (record { pool = pages; limits = limits }) only_failures
+    ensures { Explains (record { pool = pages; limits = limits }) scope
         (R.remaining reader.old) (R.remaining reader.new)
         (W.contents writer.old) (W.contents writer.new) result }
 {
@@ -79,8 +90,32 @@ pub fn explain_script<R: Read, W: Write>(
         Err(fault) => return Err(fault),
     };
     match Explainer::new(alloc, seed, pages, limits) {
-        Ok(mut explainer) => explain_all(alloc, &mut explainer, writer, &script, only_failures),
+        Ok(mut explainer) => explain_whole(alloc, &mut explainer, writer, &script, scope),
         Err(_) => Err(ReportFault::NoMemory),
+    }
+}
+
+// Explains the lines, and writes all of their text, and the summary behind it, if one is asked for.
+fn explain_whole<W: Write>(
+    alloc: Global,
+    explainer: &mut Explainer,
+    writer: &mut W,
+    script: &[u8],
+    scope: Scope,
+) -> Result<(), ReportFault>
+    requires { length script.now ≤ MOST_BYTES }
+    ensures { (setting : Setting) → ExplainedSoFar setting scope.only_failures explainer.old.seen
+        (W.contents writer.old) (W.contents writer.old) explainer.old.text.items [] →
+        WholeTold setting scope (W.contents writer.old) (W.contents writer.new) script.now result }
+{
+    match explain_all(alloc, explainer, writer, script, scope.only_failures) {
+        Ok(()) => {}
+        Err(fault) => return Err(fault),
+    }
+    if scope.has_summary {
+        put_summary(alloc, &explainer.seen, writer)
+    } else {
+        Ok(())
     }
 }
 
@@ -93,9 +128,14 @@ fn explain_all<W: Write>(
     only_failures: bool,
 ) -> Result<(), ReportFault>
     requires { length script.now ≤ MOST_BYTES }
-    ensures { (setting : Setting) → ExplainedSoFar setting only_failures explainer.old.teller
+    ensures told { (setting : Setting) → ExplainedSoFar setting only_failures explainer.old.seen
         (W.contents writer.old) (W.contents writer.old) explainer.old.text.items [] →
         LinesTold setting only_failures (W.contents writer.old) (W.contents writer.new) script.now result }
+    ensures far { OnOk result ((setting : Setting) → ExplainedSoFar setting only_failures
+        explainer.old.seen (W.contents writer.old) (W.contents writer.old) explainer.old.text.items [] →
+        ExplainedSoFar setting only_failures explainer.new.seen (W.contents writer.old)
+        (W.contents writer.new) [] (whole_lines script.now)) }
+    ensures whole { OnOk result (last_part script.now ≡ []) }
 {
     let told = explain_lines(alloc, explainer, writer, script, only_failures);
     match put_out(writer, &explainer.text) {
@@ -114,12 +154,12 @@ fn explain_lines<W: Write>(
 ) -> Result<(), ReportFault>
     requires { length script.now ≤ MOST_BYTES }
     ensures ok { OnOk result (Explained only_failures
-        explainer.old.teller (W.contents writer.old) explainer.old.text.items
-        explainer.new.teller (W.contents writer.new) explainer.new.text.items
+        explainer.old.seen (W.contents writer.old) explainer.old.text.items
+        explainer.new.seen (W.contents writer.new) explainer.new.text.items
         [] (whole_lines script.now)) }
     ensures whole { OnOk result (last_part script.now ≡ []) }
     ensures err { IfErr result (λ fault. (setting : Setting) (old : Option (List ℕ)) →
-        ExplainedSoFar setting only_failures explainer.old.teller
+        ExplainedSoFar setting only_failures explainer.old.seen
         old (W.contents writer.old) explainer.old.text.items [] →
         LinesHalted setting only_failures old (W.contents writer.new) explainer.new.text.items script.now fault) }
 {
@@ -144,13 +184,13 @@ impl Explainer {
     fn new(alloc: Global, seed: [u8; 16], pages: u32, limits: Limits) -> Result<Explainer, NoMemory>
         requires { (1 ≤ pages) × (pages ≤ MAX_PAGES) }
         ensures { IfOk result (λ explainer. (old : Option (List ℕ)) (only : Bool) →
-            ExplainedSoFar (record { pool = pages; limits = limits }) only explainer.teller
+            ExplainedSoFar (record { pool = pages; limits = limits }) only explainer.seen
             old old explainer.text.items []) }
     {
-        let teller = Teller::new(alloc, seed, pages, limits)?;
+        let seen = Seen::new(alloc, seed, pages, limits)?;
         let text = Vec::new(alloc);
         Ok(Explainer {
-            teller,
+            seen,
             text,
             reply: Vec::new(alloc),
             facts: Vec::new(alloc),
@@ -170,12 +210,12 @@ impl Explainer {
     ) -> Result<(), ReportFault>
         ensures ok { OnOk result ((lines : List (List ℕ)) → number ≡ length lines + 1 →
             Explained only_failures
-            self.old.teller (W.contents writer.old) self.old.text.items
-            self.new.teller (W.contents writer.new) self.new.text.items
+            self.old.seen (W.contents writer.old) self.old.text.items
+            self.new.seen (W.contents writer.new) self.new.text.items
             lines (line.now ∷ [])) }
         ensures err { IfErr result (λ fault. (setting : Setting) (old : Option (List ℕ))
             (lines : List (List ℕ)) →
-            ExplainedSoFar setting only_failures self.old.teller
+            ExplainedSoFar setting only_failures self.old.seen
             old (W.contents writer.old) self.old.text.items lines → number ≡ length lines + 1 →
             Halted setting only_failures old (W.contents writer.new) self.new.text.items
             (lines ++ line.now ∷ []) fault) }
@@ -186,7 +226,8 @@ impl Explainer {
         match self.explain(alloc, number, line, only_failures) {
             Ok(()) => {}
             Err(stop) => {
-                return Err(fault_of(alloc, stop, &self.teller.session.tables, number, line));
+                let tables = &self.seen.event_writer.session.tables;
+                return Err(fault_of(alloc, stop, tables, number, line));
             }
         }
         if self.text.len() <= ENOUGH {
@@ -205,26 +246,28 @@ impl Explainer {
         only_failures: bool,
     ) -> Result<(), Stop>
         ensures text { OnOk result (self.new.text.items ≡ self.old.text.items
-            ++ told_between only_failures self.old.teller self.new.teller number line.now
-            self.new.reply.items self.new.facts.items) }
-        ensures tells { OnOk result ((scene : Scene) (losses : LossLines) →
-            Knows self.old.teller scene → Recalls self.old.teller losses → TellsLine
-            self.old.teller self.new.teller number line.now self.new.reply.items
-            self.new.facts.items scene losses) }
+            ++ told_between only_failures self.old.seen.event_writer self.new.seen.event_writer number
+            line.now self.new.reply.items self.new.facts.items) }
+        ensures tells { OnOk result ((scene : Scene) (kept : KeptLines) →
+            Knows self.old.seen.event_writer scene → Recalls self.old.seen.event_writer kept →
+            TellsLine self.old.seen.event_writer self.new.seen.event_writer number line.now
+            self.new.reply.items self.new.facts.items scene kept) }
+        ensures failing { OnOk result (self.new.seen.failing.items ≡ self.old.seen.failing.items
+            ++ failing_since self.old.seen.event_writer.failures self.new.seen.event_writer) }
         ensures kept { OnErr result (self.new.text.items ≡ self.old.text.items) }
         ensures err { IfErr result (λ stop. (scene : Scene) →
-            IsAt self.old.teller.session scene →
-            IsStopped self.old.teller.session line.now scene stop) }
+            IsAt self.old.seen.event_writer.session scene →
+            IsStopped self.old.seen.event_writer.session line.now scene stop) }
     {
-        let failures = self.teller.failures;
+        let failures = self.seen.event_writer.failures;
         match self
-            .teller
+            .seen
             .answer(alloc, number, line, &mut self.reply, &mut self.facts)
         {
             Ok(()) => {}
             Err(stop) => return Err(stop),
         }
-        if is_told(only_failures, failures, self.teller.failures) {
+        if is_told(only_failures, failures, self.seen.event_writer.failures) {
             match self.tell(number, line) {
                 Ok(()) => Ok(()),
                 Err(_) => Err(Stop::NoMemory),
@@ -239,13 +282,13 @@ impl Explainer {
     fn tell(&mut self, number: u64, line: &[u8]) -> Result<(), AllocError>
         ensures text { OnOk result (self.new.text.items ≡ self.old.text.items
             ++ told_line line.now self.old.reply.items (numbered_facts
-            self.old.teller.session.core.events number self.old.facts.items)) }
+            self.old.seen.event_writer.session.core.events number self.old.facts.items)) }
         ensures kept { OnErr result (self.new.text.items ≡ self.old.text.items) }
-        ensures teller { self.new.teller ≡ self.old.teller }
+        ensures seen { self.new.seen ≡ self.old.seen }
         ensures reply { self.new.reply ≡ self.old.reply }
         ensures facts { self.new.facts ≡ self.old.facts }
     {
-        let event = self.teller.session.core.events();
+        let event = self.seen.event_writer.session.core.events();
         self.numbered.clear();
         self.piece.clear();
         push_numbered(&mut self.numbered, event, number, &self.facts)?;
@@ -255,7 +298,7 @@ impl Explainer {
 
     // Writes the text, and leaves none.
     fn write_so_far<W: Write>(&mut self, writer: &mut W) -> Result<(), ReportFault>
-        ensures same { self.new.teller ≡ self.old.teller }
+        ensures same { self.new.seen ≡ self.old.seen }
         ensures empty { self.new.text.items ≡ [] }
         ensures ok { OnOk result
             (Appends (W.contents writer.old) (W.contents writer.new) self.old.text.items) }

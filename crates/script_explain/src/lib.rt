@@ -5,8 +5,10 @@ mod check;
 mod explain;
 pub mod laws;
 mod program;
+mod seen;
+mod summary;
 
 pub use check::{Verdict, check_script};
-pub use explain::explain_script;
+pub use explain::{Scope, explain_script};
 pub use program::{check_to_exit, explain_to_exit};
-pub use script_faults::ReportFault;
+pub use report_io::ReportFault;

@@ -5,8 +5,8 @@ ghost use Rattle.script_explain.specs.Comparisons.{EndsChecked};
 ghost use Rattle.script_explain.specs.Explanations.{EndsExplained};
 
 use crate::check::{Verdict, check_script};
-use crate::explain::explain_script;
-use script_faults::end_with;
+use crate::explain::{Scope, explain_script};
+use report_io::end_with;
 use script_lines::Pages;
 use sm_names::{Limits, MAX_COLLECTIONS, MAX_EVENTS, MAX_HANDLES, MAX_NODES, MAX_TRACKERS};
 use std::alloc::Global;
@@ -19,7 +19,7 @@ const DIFFERS: u8 = 6;
 // The status of one of which no line was played.
 const EMPTY: u8 = 7;
 
-/// Explains the script that the reader holds, or only its failures, with these pages and the greatest limits, as
+/// Explains of the script that the reader holds what is in the scope, with these pages and the greatest limits, as
 /// `explain_script` does, and answers the status that a program is to end with: 0 where the script came
 /// to its end, and else the status of the fault, which is reported as one line on `faults`, as far as
 /// that takes it. Costs what `explain_script` costs.
@@ -30,7 +30,7 @@ pub fn explain_to_exit<R: Read, W: Write, F: Write>(
     writer: &mut W,
     faults: &mut F,
     pages: Pages,
-    only_failures: bool,
+    scope: Scope,
 ) -> ExitCode
     ensures most { exit_status result ≤ 4 }
     ensures ends { EndsExplained (record {
@@ -42,7 +42,7 @@ pub fn explain_to_exit<R: Read, W: Write, F: Write>(
         trackers = MAX_TRACKERS;
         handles = MAX_HANDLES;
       };
-    }) only_failures
+    }) scope
         (R.remaining reader.old) (R.remaining reader.new)
         (W.contents writer.old) (W.contents writer.new)
         (F.contents faults.old) (F.contents faults.new) (exit_status result) }
@@ -54,7 +54,7 @@ pub fn explain_to_exit<R: Read, W: Write, F: Write>(
         writer,
         pages.count,
         Limits::full(),
-        only_failures,
+        scope,
     ) {
         Ok(()) => ExitCode::SUCCESS,
         Err(fault) => end_with(alloc, faults, &fault),

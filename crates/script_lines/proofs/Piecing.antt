@@ -1,5 +1,6 @@
 -- The lines of bytes that come in pieces.
-use Rattle.std.proofs.Common.{◌≡◌, ℕ, suc, ◌+◌, ◌==◌, Bool, true, false, cond, not, nat_lt, if◌then◌else◌, List, [], ◌∷◌, ◌++◌, length, take, drop, append_assoc, append-nil, refl, sym, ap, ◌∙◌, subst, Some, None, arith}
+use Rattle.std.proofs.Common.{◌≡◌, ℕ, suc, ◌+◌, ◌==◌, Bool, true, false, cond, not, nat_lt, if◌then◌else◌, List, [], ◌∷◌, ◌++◌}
+use Rattle.std.proofs.Common.{length, take, drop, append_assoc, append-nil, refl, sym, ap, ◌∙◌, subst, Some, None, arith}
 use Rattle.std.specs.List.{position, position_or_len}
 use Rattle.std.proofs.lemmas.Bool.Decides.{nat_tests}
 use Rattle.script_lines.specs.Pieces.{lines_from, rest_from}
@@ -54,6 +55,7 @@ ends_at_first : (front xs : List ℕ) → nat_lt (position_or_len is_end xs) (le
 ends_at_first front [] within = absurd (cc)
 ends_at_first front (x ∷ xs) within = by (ends_at_first (front ++ x ∷ []) xs) (x == 10) refl within
   where
+    -- by cases: this byte ends the line, or one behind it does
     by : (nat_lt (position_or_len is_end xs) (length xs) ≡ true → Ends (front ++ x ∷ []) xs (position_or_len is_end xs)) →
         (t : Bool) → (x == 10) ≡ t → nat_lt (cond (not t) (1 + position_or_len is_end xs) 0) (length (x ∷ xs)) ≡ true →
         Ends front (x ∷ xs) (cond (not t) (1 + position_or_len is_end xs) 0)
@@ -81,6 +83,7 @@ unended_where_none : (front xs : List ℕ) → nat_lt (position_or_len is_end xs
 unended_where_none front [] beyond = record { lines = refl; rest = sym (append-nil front) }
 unended_where_none front (x ∷ xs) beyond = by (unended_where_none (front ++ x ∷ []) xs) (x == 10) refl beyond
   where
+    -- by cases: this byte would end the line, so it extends the front
     by : (nat_lt (position_or_len is_end xs) (length xs) ≡ false → Unended (front ++ x ∷ []) xs) →
         (t : Bool) → (x == 10) ≡ t → nat_lt (cond (not t) (1 + position_or_len is_end xs) 0) (length (x ∷ xs)) ≡ false →
         Unended front (x ∷ xs)

@@ -3,6 +3,7 @@ pub mod Labels
 pub mod LineTexts
 pub mod Lines
 pub mod Numbers
+pub mod Parts
 pub mod Pieces
 pub mod Words
 pub mod Written

@@ -84,10 +84,12 @@ abbrev pub size_read : List ℕ → List ℕ → List (List ℕ) → Option (Arg
 size_read camping at_least words =
     first_read (λ size. option_map Argument.Constraints (demand_of camping at_least size)) words
 
+-- constraints behind their first word
 abbrev pub at_least_read : List ℕ → List (List ℕ) → Option (Argument Label × List (List ℕ))
 at_least_read camping [] = None
 at_least_read camping (at_least ∷ rest) = size_read camping at_least rest
 
+-- constraints: three words
 abbrev pub constraints_read : List (List ℕ) → Option (Argument Label × List (List ℕ))
 constraints_read [] = None
 constraints_read (camping ∷ rest) = at_least_read camping rest
@@ -96,6 +98,7 @@ constraints_read (camping ∷ rest) = at_least_read camping rest
 abbrev pub receiver_read : Strength → List (List ℕ) → Option (Argument Label × List (List ℕ))
 receiver_read strength words = first_read (λ word. option_map (Argument.Gift strength) (label_of word)) words
 
+-- a gift: a strength, and the client that gets it
 abbrev pub gift_read : List (List ℕ) → Option (Argument Label × List (List ℕ))
 gift_read [] = None
 gift_read (word ∷ rest) = option_and_then (λ strength. receiver_read strength rest) (strength_named word)

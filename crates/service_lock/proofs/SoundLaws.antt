@@ -34,7 +34,8 @@ pub begins : (pages : ℕ) (asked : Bound) (core : State) (limits : Bound) (hist
     events.total ≡ 0 → strong.total ≡ 0 → strong.carried ≡ 0 → weak.total ≡ 0 → weak.carried ≡ 0 →
     strong.left ≡ events.left → weak.left ≡ events.left →
     StateInvariant pages asked core limits history events strong weak
-begins pages asked core limits history events strong weak none shows paged as_asked limited no_event no_strong no_strong_parcel no_weak no_weak_parcel strong_cut weak_cut =
+begins pages asked core limits history events strong weak none shows paged as_asked limited no_event no_strong
+    no_strong_parcel no_weak no_weak_parcel strong_cut weak_cut =
     let start : StateInvariant pages asked core limits [] events strong weak = record {
       asked = (paged, as_asked);
       shown = shows;

@@ -14,13 +14,15 @@ same_parts : (made call : Call) → Some made ≡ Some call → parts_of call �
 same_parts made call is = let same : made ≡ call = cc in ap parts_of (sym same)
 
 -- a call on nothing
-bare : (of : CallKind) (made : Call) → parts_of made ≡ parts of Object.Nothing Argument.Nothing → (object : Object NodeKey BufferName) (argument : Argument ℕ)
+bare : (of : CallKind) (made : Call) → parts_of made ≡ parts of Object.Nothing Argument.Nothing →
+    (object : Object NodeKey BufferName) (argument : Argument ℕ)
     (call : Call) → only object argument made ≡ Some call → parts_of call ≡ parts of object argument
 bare of made so Object.Nothing Argument.Nothing call is = same_parts made call is ∙ so
 bare of made so _ _ call is = cc
 
 -- a call on an end that says nothing else
-plain_end : (of : CallKind) (made : NodeKey → Call) → ((key : NodeKey) → parts_of (made key) ≡ parts of (Object.Node key) Argument.Nothing) →
+plain_end : (of : CallKind) (made : NodeKey → Call) →
+    ((key : NodeKey) → parts_of (made key) ≡ parts of (Object.Node key) Argument.Nothing) →
     (object : Object NodeKey BufferName) (argument : Argument ℕ) (call : Call) → option_map made (plain_key object argument) ≡ Some call →
     parts_of call ≡ parts of object argument
 plain_end of made so (Object.Node key) Argument.Nothing call is = same_parts (made key) call is ∙ so key
@@ -31,7 +33,8 @@ plain_end of made so _ _ call is = cc
 -- a call on a handle that says nothing else
 plain_handle : (of : CallKind) (made : BufferName → Call) →
     ((buffer : BufferName) → parts_of (made buffer) ≡ parts of (Object.Buffer buffer) Argument.Nothing) →
-    (object : Object NodeKey BufferName) (argument : Argument ℕ) (call : Call) → option_map made (plain_buffer object argument) ≡ Some call →
+    (object : Object NodeKey BufferName) (argument : Argument ℕ) (call : Call) →
+    option_map made (plain_buffer object argument) ≡ Some call →
     parts_of call ≡ parts of object argument
 plain_handle of made so (Object.Buffer buffer) Argument.Nothing call is = same_parts (made buffer) call is ∙ so buffer
 plain_handle of made so Object.Nothing Argument.Nothing call is = cc
@@ -39,7 +42,8 @@ plain_handle of made so (Object.Node key) Argument.Nothing call is = cc
 plain_handle of made so _ _ call is = cc
 
 -- a call of any kind: the object and the argument that make it are its own
-pub made : (kind : CallKind) (object : Object NodeKey BufferName) (argument : Argument ℕ) (call : Call) → call_made kind object argument ≡ Some call →
+pub made : (kind : CallKind) (object : Object NodeKey BufferName) (argument : Argument ℕ) (call : Call) →
+    call_made kind object argument ≡ Some call →
     parts_of call ≡ parts kind object argument
 made CallKind.Join object argument call is = bare CallKind.Join Call.Join refl object argument call is
 made CallKind.Shut object argument call is = bare CallKind.Shut Call.Shut refl object argument call is
@@ -51,7 +55,8 @@ made CallKind.Give (Object.Node key) (Argument.Client x) call is = same_parts (C
 made CallKind.Give object argument call is = cc
 made CallKind.Collect object argument call is = bare CallKind.Collect Call.Collect refl object argument call is
 made CallKind.Bind object argument call is = plain_end CallKind.Bind Call.Bind (λ key. refl) object argument call is
-made CallKind.SetDispensable object argument call is = plain_end CallKind.SetDispensable Call.SetDispensable (λ key. refl) object argument call is
+made CallKind.SetDispensable object argument call is =
+    plain_end CallKind.SetDispensable Call.SetDispensable (λ key. refl) object argument call is
 made CallKind.SetWeak object argument call is = plain_end CallKind.SetWeak Call.SetWeak (λ key. refl) object argument call is
 made CallKind.SetWeakOk (Object.Node key) (Argument.Children x) call is = same_parts (Call.SetWeakOk key x) call is
 made CallKind.SetWeakOk object argument call is = cc
@@ -65,7 +70,8 @@ made CallKind.DupHandle (Object.Buffer buffer) (Argument.Strength strength) call
 made CallKind.DupHandle object argument call is = cc
 made CallKind.DropHandle (Object.Buffer buffer) (Argument.Strength strength) call is = same_parts (Call.DropHandle buffer strength) call is
 made CallKind.DropHandle object argument call is = cc
-made CallKind.GiveHandle (Object.Buffer buffer) (Argument.Gift strength to) call is = same_parts (Call.GiveHandle buffer strength to) call is
+made CallKind.GiveHandle (Object.Buffer buffer) (Argument.Gift strength to) call is =
+    same_parts (Call.GiveHandle buffer strength to) call is
 made CallKind.GiveHandle object argument call is = cc
 made CallKind.TrackNode object argument call is = plain_end CallKind.TrackNode Call.TrackNode (λ key. refl) object argument call is
 made CallKind.TrackLifetime (Object.Node key) (Argument.Most x) call is = same_parts (Call.TrackLifetime key x) call is

@@ -29,6 +29,7 @@ at_rest pool s h =
     let n = first_none (ending s) (abandoned s) (initial_allocation pool s) (logical_allocation s) h in
     record { none_ends = n.0; none_abandoned = n.1; none_waits = from (root_left s.members) n.2; no_head = n.3 }
   where
+    -- by cases on the root: with none nothing waits, and one that waits would give a mark
     from : (o : Option Member) → option_and_then (λ root.
         when (not root.allocated && is_ready root.key s.members) (outcome root.key (initial_failure pool s (asked s.members)))) o ≡ None →
         option_map_or (λ (root : Member). not root.allocated && is_ready root.key s.members) o false ≡ false
@@ -40,6 +41,7 @@ at_rest pool s h =
 pub none_forced : (pool : ℕ) (s : Standing) → AtRest s → forced pool s ≡ None
 none_forced pool s r = rw (r.none_ends, r.none_abandoned, from (root_left s.members) r.none_waits, r.no_head) refl
   where
+    -- by cases on the root: where it does not wait, no mark is given
     from : (o : Option Member) → option_map_or (λ (root : Member). not root.allocated && is_ready root.key s.members) o false ≡ false →
         option_and_then (λ root. when (not root.allocated && is_ready root.key s.members)
         (outcome root.key (initial_failure pool s (asked s.members)))) o ≡ None

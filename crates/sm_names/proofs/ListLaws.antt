@@ -1,5 +1,6 @@
 -- Elements of lists, and how many pass a test.
-use Rattle.std.proofs.Common.{ℕ, zero, suc, ◌≡◌, ◌≤◌, ◌<◌, ◌+◌, refl, ap, sym, ◌∙◌, Bool, true, false, ◌&&◌, ◌||◌, cond, ◌⊎◌, inl, inr, List, [], ◌∷◌, ◌++◌, length, get_or, map, reverse, Option, Some, None, is_some, arith}
+use Rattle.std.proofs.Common.{ℕ, zero, suc, ◌≡◌, ◌≤◌, ◌<◌, ◌+◌, refl, ap, sym, ◌∙◌, Bool, true, false, ◌&&◌, ◌||◌, cond, ◌⊎◌}
+use Rattle.std.proofs.Common.{inl, inr, List, [], ◌∷◌, ◌++◌, length, get_or, map, reverse, Option, Some, None, is_some, arith}
 use Rattle.std.proofs.lemmas.List.{reverse-append}
 use Rattle.std.specs.List.{list_all, list_any, find, filter}
 use Rattle.sm_names.proofs.SamenessLaws.{and_both, and_left, and_right, either_way, none_is, or_left, or_right, or_none_left, or_none_right}
@@ -19,6 +20,7 @@ In-filter test (y ∷ ys) x h =
       | inr e ↦ let on : In x (filter test ys) = rw e at h in let r = In-filter test ys x on in (inr r.0, r.1)
     ]
   where
+    -- restates the hypothesis with `≡` and `In`, so that it can be split
     at_true : (x ≡ y) ⊎ In x (filter test ys) → (x ≡ y) ⊎ In x (filter test ys)
     at_true h = h
 
@@ -59,6 +61,7 @@ In-find test (y ∷ ys) x h =
       | inr e ↦ let r = In-find test ys x (rw e at h) in (inr r.0, r.1)
     ]
   where
+    -- since `Some` is injective
     some_is : Some y ≡ Some x → y ≡ x
     some_is h = cc
 

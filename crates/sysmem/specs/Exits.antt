@@ -1,18 +1,18 @@
--- What parting with a client makes of a core of C.
+-- What the vanishing of a client makes of a core of C.
 use Rattle.std.specs.Prelude.{ℕ, ◌≡◌, Option, Some, None, IsSomeAnd}
 use Rattle.core_state.specs.State.{State}
-use Rattle.client_exit.specs.declared.exit.PartFault.{PartFault}
-use Rattle.client_exit.specs.Parting.{ExitStops}
+use Rattle.core_vanish.specs.declared.exit.VanishFault.{VanishFault}
+use Rattle.core_vanish.specs.Vanishing.{ExitStops}
 
 -- the code of a fault
-abbrev pub fault_code : PartFault → ℕ
-fault_code PartFault.NoSuchClient = 9
-fault_code PartFault.HistoryFull = 5
-fault_code PartFault.NoMemory = 6
+abbrev pub fault_code : VanishFault → ℕ
+fault_code VanishFault.NoSuchClient = 9
+fault_code VanishFault.HistoryFull = 5
+fault_code VanishFault.NoMemory = 6
 
 -- this many events were made, and then no more for the reason that the code tells
 pub record StoppedBy (old new : State) (client count code : ℕ) : Type 0 where
-  pub fault : PartFault
+  pub fault : VanishFault
   pub told : code ≡ fault_code fault
   pub stops : ExitStops old new client count fault
 

@@ -1,27 +1,27 @@
 //! The exit of a client.
 ghost use Rattle.std.specs.Prelude.{◌≡◌, ◌↔◌, ◌≢◌, ◌≤◌, None, IsSomeAnd, true};
-ghost use Rattle.client_exit.specs.Parting.{Exits};
+ghost use Rattle.core_vanish.specs.Vanishing.{Exits};
 ghost use Rattle.sysmem.specs.Codes.{is_among, vanish_codes};
 ghost use Rattle.sysmem.specs.Exits.{IsExitStopped, StoppedBy, fault_code};
 
 use crate::codes::{DONE, HISTORY_FULL, NO_CLIENT, NO_MEMORY, NOT_OPEN};
 use crate::handle::{Handle, put, take};
-use client_exit::{PartFault, part_with};
+use core_vanish::{VanishFault, vanish};
 use lifetime_core::Core;
 use sm_names::ClientId;
 use std::alloc::Global;
 
 // The code of a fault.
-fn fault_code(fault: PartFault) -> u32
+fn fault_code(fault: VanishFault) -> u32
     ensures value { result ≡ fault_code fault }
     ensures failed { result ≢ 0 }
     ensures open { result ≢ 1 }
     ensures codes { is_among vanish_codes result ≡ true }
 {
     match fault {
-        PartFault::NoSuchClient => NO_CLIENT,
-        PartFault::HistoryFull => HISTORY_FULL,
-        PartFault::NoMemory => NO_MEMORY,
+        VanishFault::NoSuchClient => NO_CLIENT,
+        VanishFault::HistoryFull => HISTORY_FULL,
+        VanishFault::NoMemory => NO_MEMORY,
     }
 }
 
@@ -33,7 +33,7 @@ fn part(core: &mut Core, client: ClientId, events: &mut u64) -> u32
     ensures full { result ≡ 5 → core.new.limits.events ≤ core.new.events }
     ensures codes { is_among vanish_codes result ≡ true }
 {
-    match part_with(core, client) {
+    match vanish(core, client) {
         Ok(parted) => {
             *events = parted.events;
             DONE
@@ -52,7 +52,7 @@ fn part(core: &mut Core, client: ClientId, events: &mut u64) -> u32
 /// `NOT_OPEN` if the handle has no core: nothing is written then. `NO_CLIENT` if no such client joined:
 /// its Shut was refused, which is one event. `HISTORY_FULL` if the limit allows no further event,
 /// `NO_MEMORY` if memory is refused: the earlier events stand, and another call makes the rest. Costs what
-/// `client_exit::part_with` costs.
+/// `core_vanish::vanish` costs.
 #[unsafe(no_mangle)]
 pub extern "C" fn sysmem_vanish(
     alloc: Global,

@@ -1,5 +1,5 @@
 //! Names of the numbers for C.
-ghost use Rattle.std.specs.Prelude.{◌≡◌, ◌≢◌, length, []};
+ghost use Rattle.std.specs.Prelude.{◌≡◌, ◌≢◌, ◌↔◌, ◌⊎◌, length, []};
 ghost use Rattle.sysmem.specs.Arrays.{text_in, written_over};
 ghost use Rattle.sysmem.specs.Names.{cause_name, code_name, misuse_at, name, refusal_at};
 
@@ -121,7 +121,8 @@ pub extern "C" fn sysmem_name(about: u32, number: u32, out: &mut [u8], count: &m
     ensures done { result ≡ 0 →
         (out.new ≡ written_over (text_in (name about number) (length out.old)) out.old)
         × (count.new ≡ length (name about number)) }
-    ensures none { result ≢ 0 → name about number ≡ [] }
+    ensures codes { (result ≡ 0) ⊎ (result ≡ 8) }
+    ensures none { (result ≡ 8) ↔ (name about number ≡ []) }
     ensures failed { result ≢ 0 → (out.new ≡ out.old) × (count.new ≡ count.old) }
 {
     let text = name(about, number).as_bytes();

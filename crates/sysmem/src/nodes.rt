@@ -140,6 +140,7 @@ pub extern "C" fn sysmem_nodes(
     count: &mut u64,
 ) -> u32
     ensures same { handle.new.place.core ≡ handle.old.place.core }
+    ensures codes { (result ≡ 0) ⊎ ((result ≡ 1) ⊎ (result ≡ 6)) }
     ensures not_open { (result ≡ 1) ↔ (handle.old.place.core ≡ None) }
     ensures done { result ≡ 0 → IsSomeAnd handle.old.place.core
         (λ core. (out.new ≡ written_over (map node_words (all_nodes core.forest)) out.old)
@@ -233,6 +234,7 @@ pub extern "C" fn sysmem_given(
     size: &mut u32,
 ) -> u32
     ensures same { handle.new.place.core ≡ handle.old.place.core }
+    ensures codes { (result ≡ 0) ⊎ (result ≡ 1) }
     ensures not_open { (result ≡ 1) ↔ (handle.old.place.core ≡ None) }
     ensures done { result ≡ 0 → IsSomeAnd handle.old.place.core (λ core.
         (count.new ≡ option_map_or (λ (b : Buffers). b.count) (buffers_in core collection) 0)
@@ -273,6 +275,7 @@ pub extern "C" fn sysmem_open_handles(
     count: &mut u32,
 ) -> u32
     ensures same { handle.new.place.core ≡ handle.old.place.core }
+    ensures codes { (result ≡ 0) ⊎ ((result ≡ 1) ⊎ (result ≡ 4)) }
     ensures not_open { (result ≡ 1) ↔ (handle.old.place.core ≡ None) }
     ensures done { result ≡ 0 → IsSomeAnd handle.old.place.core (λ core.
         IsSomeAnd (said_strength strength)
@@ -325,6 +328,7 @@ pub extern "C" fn sysmem_handles_in_parcels(
     count: &mut u32,
 ) -> u32
     ensures same { handle.new.place.core ≡ handle.old.place.core }
+    ensures codes { (result ≡ 0) ⊎ ((result ≡ 1) ⊎ (result ≡ 4)) }
     ensures not_open { (result ≡ 1) ↔ (handle.old.place.core ≡ None) }
     ensures done { result ≡ 0 → IsSomeAnd handle.old.place.core (λ core.
         IsSomeAnd (said_strength strength)

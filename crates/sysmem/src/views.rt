@@ -119,6 +119,7 @@ pub extern "C" fn sysmem_live(
     count: &mut u64,
 ) -> u32
     ensures same { handle.new.place.core ≡ handle.old.place.core }
+    ensures codes { (result ≡ 0) ⊎ ((result ≡ 1) ⊎ (result ≡ 6)) }
     ensures not_open { (result ≡ 1) ↔ (handle.old.place.core ≡ None) }
     ensures done { result ≡ 0 → IsSomeAnd handle.old.place.core
         (λ core. (out.new ≡ written_over (map key_words (views_of core).live) out.old)
@@ -145,6 +146,7 @@ pub extern "C" fn sysmem_held(
     count: &mut u64,
 ) -> u32
     ensures same { handle.new.place.core ≡ handle.old.place.core }
+    ensures codes { (result ≡ 0) ⊎ ((result ≡ 1) ⊎ (result ≡ 6)) }
     ensures not_open { (result ≡ 1) ↔ (handle.old.place.core ≡ None) }
     ensures done { result ≡ 0 → IsSomeAnd handle.old.place.core (λ core.
         (out.new ≡ written_over (map held_words (views_of core).held) out.old)
@@ -172,6 +174,7 @@ pub extern "C" fn sysmem_fired(
     count: &mut u64,
 ) -> u32
     ensures same { handle.new.place.core ≡ handle.old.place.core }
+    ensures codes { (result ≡ 0) ⊎ (result ≡ 1) }
     ensures not_open { (result ≡ 1) ↔ (handle.old.place.core ≡ None) }
     ensures done { result ≡ 0 → IsSomeAnd handle.old.place.core
         (λ core. (out.new ≡ written_over (map fired_words (views_of core).fired) out.old)
@@ -195,6 +198,7 @@ pub extern "C" fn sysmem_fired_from(
     count: &mut u64,
 ) -> u32
     ensures same { handle.new.place.core ≡ handle.old.place.core }
+    ensures codes { (result ≡ 0) ⊎ (result ≡ 1) }
     ensures not_open { (result ≡ 1) ↔ (handle.old.place.core ≡ None) }
     ensures done { result ≡ 0 → IsSomeAnd handle.old.place.core
         (λ core. (out.new
@@ -256,6 +260,7 @@ pub extern "C" fn sysmem_is_live(
     live: &mut u32,
 ) -> u32
     ensures same { handle.new.place.core ≡ handle.old.place.core }
+    ensures codes { (result ≡ 0) ⊎ (result ≡ 1) }
     ensures not_open { (result ≡ 1) ↔ (handle.old.place.core ≡ None) }
     ensures done { result ≡ 0 → IsSomeAnd handle.old.place.core
         (λ core. live.new ≡ (if is_live_in core (key_from_words key.now) then 1 else 0)) }
@@ -282,6 +287,7 @@ pub extern "C" fn sysmem_cause(
     origin: &mut KeyWords,
 ) -> u32
     ensures same { handle.new.place.core ≡ handle.old.place.core }
+    ensures codes { (result ≡ 0) ⊎ ((result ≡ 1) ⊎ (result ≡ 7)) }
     ensures not_open { (result ≡ 1) ↔ (handle.old.place.core ≡ None) }
     ensures done { result ≡ 0 → IsSomeAnd handle.old.place.core
         (λ core. IsSomeAnd (fault_in core (key_from_words key.now))
@@ -310,6 +316,7 @@ pub extern "C" fn sysmem_cause(
 #[unsafe(no_mangle)]
 pub extern "C" fn sysmem_free_pages(alloc: Global, handle: &mut Handle, pages: &mut u32) -> u32
     ensures same { handle.new.place.core ≡ handle.old.place.core }
+    ensures codes { (result ≡ 0) ⊎ (result ≡ 1) }
     ensures not_open { (result ≡ 1) ↔ (handle.old.place.core ≡ None) }
     ensures done { result ≡ 0 → IsSomeAnd handle.old.place.core
         (λ core. pages.new ≡ (views_of core).free) }
@@ -327,6 +334,7 @@ pub extern "C" fn sysmem_free_pages(alloc: Global, handle: &mut Handle, pages: &
 #[unsafe(no_mangle)]
 pub extern "C" fn sysmem_events(alloc: Global, handle: &mut Handle, events: &mut u64) -> u32
     ensures same { handle.new.place.core ≡ handle.old.place.core }
+    ensures codes { (result ≡ 0) ⊎ (result ≡ 1) }
     ensures not_open { (result ≡ 1) ↔ (handle.old.place.core ≡ None) }
     ensures done { result ≡ 0 → IsSomeAnd handle.old.place.core
         (λ core. events.new ≡ core.events) }
@@ -345,6 +353,7 @@ pub extern "C" fn sysmem_events(alloc: Global, handle: &mut Handle, events: &mut
 #[unsafe(no_mangle)]
 pub extern "C" fn sysmem_remaining(alloc: Global, handle: &mut Handle, events: &mut u64) -> u32
     ensures same { handle.new.place.core ≡ handle.old.place.core }
+    ensures codes { (result ≡ 0) ⊎ (result ≡ 1) }
     ensures not_open { (result ≡ 1) ↔ (handle.old.place.core ≡ None) }
     ensures done { result ≡ 0 → IsSomeAnd handle.old.place.core
         (λ core. events.new + core.events ≡ core.limits.events) }

@@ -2,11 +2,14 @@
 use Rattle.std.specs.Prelude.{◌≡◌, ◌⊎◌, ℕ, Bool, true, false, List, Option, Some, None, codes, option_map}
 use Rattle.clap.specs.Matches.{subcommand_name_of}
 use Rattle.clap.specs.declared.parser.matches.ArgMatches.{ArgMatches}
-use Rattle.command_line.specs.Asked.{AreAsked, HasFailures, HasFormat, HasRecord, HasUntil, IsFile, IsTask, subcommand_text, value_text}
+use Rattle.command_line.specs.Asked.{AreAsked, HasFailures, HasFormat, HasPatience, HasRecord, HasSearch, HasSummary, HasUntil, IsFile, IsTask, subcommand_text, value_text}
 use Rattle.command_line.specs.declared.request.Request.{Request}
 use Rattle.command_line.specs.declared.task.Format.{Format as AskedFormat}
+use Rattle.command_line.specs.declared.task.Search.{Search}
 use Rattle.command_line.specs.declared.task.Task.{Task}
 use Rattle.command_line.specs.declared.task.Until.{Until as AskedUntil}
+use Rattle.outcome_runs.specs.declared.job.Job.{Job}
+use Rattle.outcome_runs.specs.Endings.{EndsExplored}
 use Rattle.script_draw.specs.Draws.{EndsDrawn}
 use Rattle.script_draw.specs.declared.draw.Format.{Format}
 use Rattle.script_draw.specs.declared.draw.Until.{Until}
@@ -16,11 +19,17 @@ use Rattle.sm_script.specs.Endings.{Ends}
 use Rattle.sm_script.specs.Scenes.{Setting}
 use Rattle.thread_runs.specs.Endings.{EndsThreads, program_limits}
 use Rattle.thread_runs.specs.declared.job.Output.{Output}
+use Rattle.thread_runs.specs.declared.job.TheConstants.{MOST_REPEATS}
 
 -- what a run of actors writes: its record too, if that is asked for
 abbrev pub output_for : Bool → Output
 output_for true = Output.Transcript
 output_for false = Output.Report
+
+-- how many times more an actor makes a step at most: it is patient if that is asked for
+abbrev pub repeats_for : Bool → ℕ
+repeats_for true = MOST_REPEATS
+repeats_for false = 0
 
 -- the format that is asked for, as `script_draw` names it
 abbrev pub format_for : AskedFormat → Format
@@ -35,6 +44,10 @@ until_for (AskedUntil.Event number) = Until.Event number
 until_for (AskedUntil.Line number) = Until.Line number
 until_for (AskedUntil.Failure number) = Until.Failure number
 
+-- the search that is asked for, as `outcome_runs` names it
+abbrev pub job_for : ℕ → Search → Job
+job_for pages search = record { pages = pages; once = search.once; outcome = search.outcome; states = search.states }
+
 -- a pool of this many pages, and the greatest limits
 abbrev pub setting_of : ℕ → Setting
 setting_of pages = record { pool = pages; limits = program_limits }
@@ -45,6 +58,7 @@ pub record Streams : Type 0 where
   pub written : Option (List ℕ)
   pub told : Option (List ℕ)
 
+-- the streams after a task: what is left of the input, and what was written to each output
 abbrev pub streams : Option (List ℕ) → Option (List ℕ) → Option (List ℕ) → Streams
 streams left written told = record { left = left; written = written; told = told }
 
@@ -52,15 +66,17 @@ streams left written told = record { left = left; written = written; told = told
 abbrev pub IsPlayed : Task → ℕ → Streams → Streams → ℕ → Type 0
 IsPlayed Task.Run pages before after status =
     Ends (setting_of pages) before.left after.left before.written after.written before.told after.told status
-IsPlayed (Task.Threads has_record) pages before after status =
-    EndsThreads (output_for has_record) pages before.left after.left before.written after.written before.told after.told status
-IsPlayed (Task.Explain only_failures) pages before after status =
-    EndsExplained (setting_of pages) only_failures before.left after.left before.written after.written before.told after.told status
+IsPlayed (Task.Threads has_record is_patient) pages before after status =
+    EndsThreads (output_for has_record) (repeats_for is_patient) pages before.left after.left before.written after.written before.told after.told status
+IsPlayed (Task.Explain only_failures has_summary) pages before after status =
+    EndsExplained (setting_of pages) (record { only_failures = only_failures; has_summary = has_summary }) before.left after.left before.written after.written before.told after.told status
 IsPlayed (Task.Draw view) pages before after status =
     EndsDrawn (setting_of pages) (record { format = format_for view.format; until = until_for view.until })
     before.left after.left before.written after.written before.told after.told status
 IsPlayed Task.Check pages before after status =
     EndsChecked (setting_of pages) before.left after.left before.written after.written before.told after.told status
+IsPlayed (Task.Explore search) pages before after status =
+    EndsExplored (job_for pages search) before.left after.left before.written after.written before.told after.told status
 
 -- the script was in a file, whose bytes are these: the input is as before
 pub record PlaysFile (task : Task) (pages : ℕ) (before after : Streams) (status : ℕ) : Type 0 where
@@ -83,7 +99,11 @@ pub record IsAsked (matches : ArgMatches) (request : Request) : Type 0 where
   pub until : HasUntil (value_text (codes "at") matches) (value_text (codes "line") matches) (value_text (codes "failure") matches)
       request.task
   pub failures : HasFailures (value_text (codes "failures") matches) request.task
+  pub summary : HasSummary (value_text (codes "summary") matches) request.task
   pub record_asked : HasRecord (value_text (codes "record") matches) request.task
+  pub patience : HasPatience (value_text (codes "patient") matches) request.task
+  pub search : HasSearch (value_text (codes "once") matches) (value_text (codes "outcome") matches) (value_text (codes "states") matches)
+      request.task
   pub file : IsFile (subcommand_text (codes "file") matches) (option_map (λ name. name.now) request.file)
 
 -- what the matches ask for was done

@@ -1,5 +1,5 @@
 -- The statuses that the program ends with before it runs a script.
-use Rattle.std.specs.Prelude.{ℕ}
+use Rattle.std.specs.Prelude.{ℕ, ◌≡◌, ◌⊎◌}
 use Rattle.std.specs.declared.io.ErrorKind.{ErrorKind as IoKind}
 use Rattle.clap.specs.declared.error.kind.ErrorKind.{ErrorKind}
 
@@ -14,3 +14,7 @@ refusal_status _ = 2
 abbrev pub unread_status : IoKind → ℕ
 unread_status IoKind.OutOfMemory = 4
 unread_status _ = 2
+
+-- a status of words that can't be read or kept
+abbrev pub IsUnreadStatus : ℕ → Type 0
+IsUnreadStatus status = (status ≡ 4) ⊎ (status ≡ 2)

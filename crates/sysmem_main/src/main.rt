@@ -1,22 +1,25 @@
 //! The program: `sysmem run` answers a script, `sysmem threads` runs its clients side by side, `sysmem
-//! explain` and `sysmem draw` say what its events did, `sysmem check` compares a transcript.
+//! explain` and `sysmem draw` say what its events did, `sysmem check` compares a transcript, `sysmem explore` tells
+//! all outcomes.
 #![tactic(auto)]
 
 mod messages;
 
-ghost use Rattle.std.specs.Prelude.{◌≡◌, MatchResult, option_map};
+ghost use Rattle.std.specs.Prelude.{◌≡◌, IfErr, MatchResult, option_map};
 ghost use Rattle.std.specs.Process.{exit_status};
 ghost use Rattle.std.specs.IoError.{error_kind};
 ghost use Rattle.clap.specs.Words.{kind_of};
-ghost use Rattle.sysmem_main.specs.Jobs.{IsAnswered, IsPlayed, IsRead, format_for, output_for, streams, until_for};
-ghost use Rattle.sysmem_main.specs.Statuses.{refusal_status, unread_status};
+ghost use Rattle.sysmem_main.specs.Jobs.{IsAnswered, IsPlayed, IsRead, format_for, job_for, output_for, repeats_for, streams, until_for};
+ghost use Rattle.sysmem_main.specs.Statuses.{IsUnreadStatus, refusal_status, unread_status};
 
 use clap::error::ErrorKind;
 use clap::{ArgMatches, Error};
-use command_line::{Format, Request, Task, Until, View, command, request_of};
+use command_line::{Format, Request, Search, Task, Until, View, command, request_of};
 use messages::{Misplaced, NAME, NO_COMMAND, Unopened, misplaced_file, reason_of};
+use outcome_runs::explore_to_exit;
 use script_draw::draw_to_exit;
-use script_explain::{check_to_exit, explain_to_exit};
+use script_explain::{Scope, check_to_exit, explain_to_exit};
+use script_lines::Pages;
 use sm_script::run_to_exit;
 use std::alloc::Global;
 use std::fs::{Files, OpenFile};
@@ -27,7 +30,7 @@ use std::sync::Wait;
 use std::thread::Threads;
 use std::time::Clock;
 use std::{env, fs, io};
-use thread_runs::{Job, Output, run_threads_to_exit};
+use thread_runs::{Job, MOST_REPEATS, Output, run_threads_to_exit};
 
 // The status of what clap says of the words.
 fn status_of(kind: ErrorKind) -> u8
@@ -102,9 +105,26 @@ fn random_seed(rt: &impl RandomSource) -> [u8; 16] {
 }
 
 // The words of the command line, or the status that the program ends with where they can't be read.
-fn words_of(rt: &HostRuntime) -> Result<Vec<String>, ExitCode> {
-    match env::args(rt) {
-        Ok(args) => match args.collect(rt.alloc()) {
+fn words_of(rt: &HostRuntime) -> Result<Vec<String>, ExitCode>
+    ensures { IfErr result (λ status. IsUnreadStatus (exit_status status)) }
+{
+    words_in(rt, rt.alloc(), env::args(rt))
+}
+
+// The words that were read, or the status for why they could not be, or could not be kept.
+fn words_in(
+    rt: &impl Eprint,
+    alloc: Global,
+    read: io::Result<env::Args>,
+) -> Result<Vec<String>, ExitCode>
+    ensures { MatchResult read
+        (λ args. MatchResult result (λ words. words.items ≡ args.rest.items)
+        (λ status. exit_status status ≡ 4))
+        (λ error. MatchResult result (λ words. ⊥)
+        (λ status. exit_status status ≡ unread_status (error_kind error))) }
+{
+    match read {
+        Ok(args) => match args.collect(alloc) {
             Ok(words) => Ok(words),
             Err(_) => Err(no_memory(rt)),
         },
@@ -240,18 +260,36 @@ fn play<H: Threads + Wait + Clock + Sync, R: Read, W: Write, F: Write>(
     let pages = request.pages;
     match request.task {
         Task::Run => run_to_exit(alloc, seed, reader, writer, faults, pages),
-        Task::Threads { has_record } => {
+        Task::Threads {
+            has_record,
+            is_patient,
+        } => {
             let output = output_of(has_record);
-            let job = Job { pages, output };
+            let repeats = repeats_of(is_patient);
+            let job = Job {
+                pages,
+                repeats,
+                output,
+            };
             run_threads_to_exit(host, alloc, seed, reader, writer, faults, job)
         }
-        Task::Explain { only_failures } => {
-            explain_to_exit(alloc, seed, reader, writer, faults, pages, only_failures)
+        Task::Explain {
+            only_failures,
+            has_summary,
+        } => {
+            let scope = Scope {
+                only_failures,
+                has_summary,
+            };
+            explain_to_exit(alloc, seed, reader, writer, faults, pages, scope)
         }
         Task::Draw(view) => {
             draw_to_exit(alloc, seed, reader, writer, faults, pages, drawn(view))
         }
         Task::Check => check_to_exit(alloc, seed, reader, writer, faults, pages),
+        Task::Explore(search) => {
+            explore_to_exit(alloc, seed, reader, writer, faults, job_of(pages, search))
+        }
     }
 }
 
@@ -263,6 +301,25 @@ fn output_of(has_record: bool) -> Output
         Output::Transcript
     } else {
         Output::Report
+    }
+}
+
+// How many times more an actor makes a step at most while nothing is there for it.
+fn repeats_of(is_patient: bool) -> u64
+    ensures { result ≡ repeats_for is_patient }
+{
+    if is_patient { MOST_REPEATS } else { 0 }
+}
+
+// The search that is asked for, as `outcome_runs` names it.
+fn job_of(pages: Pages, search: Search) -> outcome_runs::Job
+    ensures { result ≡ job_for pages.count search }
+{
+    outcome_runs::Job {
+        pages: pages.count,
+        once: search.once,
+        outcome: search.outcome,
+        states: search.states,
     }
 }
 

@@ -10,7 +10,7 @@ pub(crate) const NAME: &str = "sysmem: ";
 
 /// What is said where no command is given.
 pub(crate) const NO_COMMAND: &str = "\
-sysmem: a command is missing: run, threads, explain, draw or check; sysmem --help describes them";
+sysmem: a command is missing: run, threads, explain, draw, check or explore; sysmem --help describes them";
 
 /// A file that can't be opened, and why.
 #[derive(Clone, Copy)]

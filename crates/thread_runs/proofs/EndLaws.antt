@@ -3,9 +3,9 @@ use Rattle.std.proofs.Common.{◌≡◌, ℕ, List, [], ◌∷◌, ◌++◌, Opt
 use Rattle.std.proofs.lemmas.List.{reverse-append, reverse-reverse}
 use Rattle.std.specs.List.{AllZip}
 use Rattle.std.specs.Option.{option_or}
-use Rattle.client_parting.specs.declared.gathering.Holding.{Holding}
-use Rattle.client_parting.specs.Gatherings.{ids_of}
-use Rattle.client_parting.specs.Partings.{Remains}
+use Rattle.client_vanish.specs.declared.gathering.Holding.{Holding}
+use Rattle.client_vanish.specs.Gatherings.{ids_of}
+use Rattle.client_vanish.specs.Vanishings.{Remains}
 use Rattle.client_ends.specs.Clients.{Seen}
 use Rattle.client_actors.specs.declared.gate.ActorEnd.{ActorEnd}
 use Rattle.client_actors.specs.ActorEnds.{end_id}

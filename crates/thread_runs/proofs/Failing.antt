@@ -1,7 +1,7 @@
 -- Why nothing is told of a run of actors.
 use Rattle.std.proofs.Common.{ℕ, List, Option, refl}
 use Rattle.sm_names.specs.Bounds.{Bound}
-use Rattle.client_parting.specs.declared.fault.GatherFault.{GatherFault}
+use Rattle.client_vanish.specs.declared.fault.GatherFault.{GatherFault}
 use Rattle.actor_scripts.specs.declared.actor_list.ActorList.{ActorList}
 use Rattle.actor_scripts.specs.ActorLists.{actors_of}
 use Rattle.actor_scripts.specs.Reads.{ReadsActors as IsReadAs}
@@ -10,7 +10,7 @@ use Rattle.thread_runs.specs.declared.job.Output.{Output}
 use Rattle.thread_runs.specs.Gathered.{IsLate}
 use Rattle.thread_runs.specs.Runs.{HasNoReport, IsRead, RunFails}
 
-module _ (output : Output) (pages : ℕ) (limits : Bound) (before after old : Option (List ℕ)) where
+module _ (output : Output) (repeats pages : ℕ) (limits : Bound) (before after old : Option (List ℕ)) where
   module _ (list : ActorList) (so : IsReadAs before after list) where
     -- the actors that the reader returns are those of the script that it read
     pub read-as : IsRead before after (actors_of list)
@@ -21,7 +21,7 @@ module _ (output : Output) (pages : ℕ) (limits : Bound) (before after old : Op
     none = record { company = actors_of list; read = read-as; silent = refl }
 
     -- nothing is told of the actors
-    pub fails-late : (told : ThreadsFault) → IsLate told → RunFails output pages limits before after old old told
+    pub fails-late : (told : ThreadsFault) → IsLate told → RunFails output repeats pages limits before after old old told
     fails-late ThreadsFault.ReadFault late = absurd late
     fails-late ThreadsFault.WriteFault late = absurd late
     fails-late (ThreadsFault.BadLine number) late = absurd late

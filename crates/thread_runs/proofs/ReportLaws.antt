@@ -9,11 +9,11 @@ use Rattle.event_laws.specs.Lines.{client_line}
 use Rattle.event_laws.specs.Members.{joined}
 use Rattle.event_laws.specs.Parts.{part}
 use Rattle.service_lock.specs.States.{IsSetUpWith, View}
-use Rattle.client_parting.specs.declared.gathering.Holding.{Holding}
-use Rattle.client_parting.specs.declared.gathering.Report.{Report}
-use Rattle.client_parting.specs.declared.fault.GatherFault.{GatherFault}
-use Rattle.client_parting.specs.Gatherings.{IsGatherReport, IsSo, Matches, ids_of}
-use Rattle.client_parting.specs.Partings.{Remains}
+use Rattle.client_vanish.specs.declared.gathering.Holding.{Holding}
+use Rattle.client_vanish.specs.declared.gathering.Report.{Report}
+use Rattle.client_vanish.specs.declared.fault.GatherFault.{GatherFault}
+use Rattle.client_vanish.specs.Gatherings.{IsGatherReport, IsSo, Matches, ids_of}
+use Rattle.client_vanish.specs.Vanishings.{Remains}
 use Rattle.actor_scripts.specs.declared.step.ActorScript.{ActorScript}
 use Rattle.actor_scripts.specs.declared.actor_list.ActorList.{ActorList}
 use Rattle.actor_scripts.specs.ActorLists.{actors_of, steps_of}
@@ -34,19 +34,21 @@ clients-of history [] = refl
 clients-of history (client ∷ clients) = ap (λ (l : List ℕ). client ∷ l) (clients-of history clients)
 
 -- an actor that vanished, whose own list is its part of the record
-was-played : (history : List Entry) (clients : List ℕ) (script : ActorScript) (wreck remains : Remains) →
-    HasFinished clients script.steps.items wreck →
-    remains ≡ wreck → remains.client.own ≡ part remains.client.id history → IsPlayed history clients (steps_of script) remains.client.id
-was-played history clients script wreck remains played is own = record {
+was-played : (history : List Entry) (clients : List ℕ) (repeats : ℕ) (script : ActorScript) (wreck remains : Remains) →
+    HasFinished clients repeats script.steps.items wreck →
+    remains ≡ wreck → remains.client.own ≡ part remains.client.id history →
+    IsPlayed history clients repeats (steps_of script) remains.client.id
+was-played history clients repeats script wreck remains played is own = record {
   left = remains;
   its_id = refl;
   its_part = own;
-  played = subst (HasFinished clients script.steps.items) (sym is) played;
+  played = subst (HasFinished clients repeats script.steps.items) (sym is) played;
 }
 
 module _ {E S W : Type 0} where
   -- what was gathered is told
-  pub tells : (output : Output) (pages : ℕ) (limits : Bound) (s : View) (labels : List Label) (parts : List (Holding E S W)) (report : Report)
+  pub tells : (output : Output) (pages : ℕ) (limits : Bound) (s : View) (labels : List Label)
+      (parts : List (Holding E S W)) (report : Report)
       (text : List ℕ) → IsSetUpWith pages limits s.pool s.limits → IsGatherReport s parts report →
       map line_client report.lines.items ≡ ids_of parts → text ≡ told_text output labels s.history →
       TellsRecord output pages limits s labels parts text
@@ -74,35 +76,37 @@ module _ {E S W : Type 0} where
       ∙ clients-of s.history (joined s.history) in
       inr (subst (λ (ids : List ℕ). first_stray ids (ids_of parts) ≡ Some client) lines stray)
 
-  module _ (history : List Entry) (clients : List ℕ) where
+  module _ (history : List Entry) (clients : List ℕ) (repeats : ℕ) where
     -- each of the actors is such a one
     were-played : (scripts : List ActorScript) (ends : List (ActorEnd E S W)) (parts : List (Holding E S W)) →
-        AllZip (IsEndOf clients) scripts ends →
+        AllZip (IsEndOf clients repeats) scripts ends →
         AllZip IsLeft ends parts → first_fault ends ≡ None → AllByRecursion (Matches history) parts →
-        AllZip (IsPlayed history clients) (map steps_of scripts) (ids_of parts)
+        AllZip (IsPlayed history clients repeats) (map steps_of scripts) (ids_of parts)
     were-played [] [] [] ran left well own = tt
     were-played [] [] (part ∷ parts) ran left well own = absurd left
     were-played [] (end ∷ ends) parts ran left well own = absurd ran
     were-played (script ∷ scripts) [] parts ran left well own = absurd ran
     were-played (script ∷ scripts) (end ∷ ends) [] ran left well own = absurd left
     were-played (script ∷ scripts) (ActorEnd.Wrecked wreck ∷ ends) (Holding.Wrecked remains ∷ parts) ran left well own =
-        (was-played history clients script wreck remains ran.0 left.0 own.0, were-played scripts ends parts ran.1 left.1 well own.1)
+        (was-played history clients repeats script wreck remains ran.0 left.0 own.0, were-played scripts ends parts ran.1 left.1 well own.1)
     were-played (script ∷ scripts) (ActorEnd.Wrecked wreck ∷ ends) (Holding.Present one its ∷ parts) ran left well own = absurd left.0
     were-played (script ∷ scripts) (ActorEnd.Stopped client held fault ∷ ends) (part ∷ parts) ran left well own = cc
     were-played (script ∷ scripts) (ActorEnd.NotStarted client ∷ ends) (part ∷ parts) ran left well own = cc
 
   -- it is told of the list
-  pub is-told : (output : Output) (pages : ℕ) (limits : Bound) (list : ActorList) (ends : List (ActorEnd E S W)) (parts : List (Holding E S W)) → HaveRun list.scripts.items ends →
-      AllZip IsLeft ends parts → first_fault ends ≡ None → (text : List ℕ) → ((s : View) × TellsRecord output pages limits s list.labels.items parts text) →
-      IsRunText output pages limits (actors_of list) text
-  is-told output pages limits list ends parts ran left well text (s, so) = record {
+  pub is-told : (output : Output) (repeats pages : ℕ) (limits : Bound) (list : ActorList) (ends : List (ActorEnd E S W))
+      (parts : List (Holding E S W)) → HaveRun repeats list.scripts.items ends →
+      AllZip IsLeft ends parts → first_fault ends ≡ None → (text : List ℕ) →
+      ((s : View) × TellsRecord output pages limits s list.labels.items parts text) →
+      IsRunText output repeats pages limits (actors_of list) text
+  is-told output repeats pages limits list ends parts ran left well text (s, so) = record {
     history = s.history;
     legal = so.legal;
     played =
         let their : map end_id ends ≡ joined s.history = ids-left ends parts left ∙ sym so.ordered in
-        let played = were-played s.history (joined s.history) list.scripts.items ends parts
-        (subst (λ (ids : List ℕ). AllZip (IsEndOf ids) list.scripts.items ends) their ran) left well
+        let played = were-played s.history (joined s.history) repeats list.scripts.items ends parts
+        (subst (λ (ids : List ℕ). AllZip (IsEndOf ids repeats) list.scripts.items ends) their ran) left well
         (recursion_from_All (Matches s.history) parts so.own_lists) in
-        subst (AllZip (IsPlayed s.history (joined s.history)) (map steps_of list.scripts.items)) (sym so.ordered) played;
+        subst (AllZip (IsPlayed s.history (joined s.history) repeats) (map steps_of list.scripts.items)) (sym so.ordered) played;
     told = so.told;
   }

@@ -2,7 +2,7 @@
 use Rattle.std.specs.Prelude.{ℕ, List, ◌∷◌, ◌++◌, codes}
 use Rattle.std.specs.Fmt.{decimal}
 use Rattle.actor_scripts.specs.declared.fault.ActorScriptFault.{ActorScriptFault}
-use Rattle.client_parting.specs.declared.fault.GatherFault.{GatherFault}
+use Rattle.client_vanish.specs.declared.fault.GatherFault.{GatherFault}
 use Rattle.thread_runs.specs.declared.fault.ThreadsFault.{ThreadsFault}
 
 -- what a fault is told as

@@ -9,10 +9,10 @@ use Rattle.event_laws.specs.declared.line.ClientLine.{ClientLine}
 use Rattle.event_laws.specs.Members.{joined}
 use Rattle.service_lock.specs.States.{View}
 use Rattle.script_lines.specs.declared.label.Label.{Label}
-use Rattle.client_parting.specs.declared.fault.GatherFault.{GatherFault}
-use Rattle.client_parting.specs.declared.gathering.Holding.{Holding}
-use Rattle.client_parting.specs.Gatherings.{IsSo, Matches, ids_of}
-use Rattle.client_parting.specs.Partings.{held_in, sorted}
+use Rattle.client_vanish.specs.declared.fault.GatherFault.{GatherFault}
+use Rattle.client_vanish.specs.declared.gathering.Holding.{Holding}
+use Rattle.client_vanish.specs.Gatherings.{IsSo, Matches, ids_of}
+use Rattle.client_vanish.specs.Vanishings.{held_in, sorted}
 use Rattle.client_actors.specs.declared.gate.ActorEnd.{ActorEnd}
 use Rattle.thread_runs.specs.declared.fault.ThreadsFault.{ThreadsFault}
 use Rattle.thread_runs.specs.declared.job.Output.{Output}

@@ -6,7 +6,7 @@ ghost use Rattle.thread_runs.specs.Gathered.{IsLeft, end_fault, first_fault, ste
 use crate::fault::ThreadsFault;
 use client_actors::ActorEnd;
 use client_ends::Held;
-use client_parting::Holding;
+use client_vanish::Holding;
 use service_lock::Setup;
 use sm_names::StepFault;
 use std::alloc::Global;
@@ -57,7 +57,7 @@ pub(crate) fn part_all<E: Setup, S: Ledger, W: Ledger>(
     let mut ends = ends;
     let mut found = None;
     ends.reverse();
-    'parting: while let Some(end) = ends.pop() {
+    'vanishing: while let Some(end) = ends.pop() {
         let (part, fault) = part_of(alloc, end);
         parts.push_reserved(part);
         found = found.or(fault);

@@ -3,7 +3,7 @@ ghost use Rattle.std.specs.Prelude.{◌≡◌};
 ghost use Rattle.thread_runs.specs.Faults.{threads_fault_status};
 
 use actor_scripts::ActorScriptFault;
-use client_parting::GatherFault;
+use client_vanish::GatherFault;
 use std::fmt;
 use thiserror::Error;
 

@@ -11,11 +11,16 @@ pub enum Output {
     Transcript,
 }
 
-/// The pages of the pool, and what is written.
+/// How many times more a patient actor makes a step at most: it is made at most 100,000 times.
+pub const MOST_REPEATS: u64 = 99_999;
+
+/// The pages of the pool, what is written, and how patient the actors are.
 #[derive(Clone, Copy)]
 pub struct Job {
     /// The size of the pool.
     pub pages: Pages,
+    /// How many times more a step is made at most while nothing is there for it.
+    pub repeats: u64,
     /// What is written once all actors have ended.
     pub output: Output,
 }

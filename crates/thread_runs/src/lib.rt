@@ -9,6 +9,6 @@ mod report;
 mod run;
 
 pub use fault::ThreadsFault;
-pub use job::{Job, Output};
+pub use job::{Job, MOST_REPEATS, Output};
 pub use program::run_threads_to_exit;
 pub use run::run_threads;

@@ -29,7 +29,7 @@ pub fn run_threads_to_exit<I: Read, O: Write, F: Write, R: Threads + Wait + Cloc
     faults: &mut F,
     job: Job,
 ) -> ExitCode
-    ensures { EndsThreads job.output job.pages.count (I.remaining reader.old)
+    ensures { EndsThreads job.output job.repeats job.pages.count (I.remaining reader.old)
         (I.remaining reader.new)
         (O.contents writer.old) (O.contents writer.new)
         (F.contents faults.old) (F.contents faults.new) (exit_status result) }

@@ -1,7 +1,7 @@
 //! The actors run, and what they leave is reported.
 ghost use Rattle.std.specs.Prelude.{◌≡◌, ◌++◌, IfErr, IfOk, OnOk, length, map};
 ghost use Rattle.actor_scripts.specs.ActorLists.{actors_of};
-ghost use Rattle.client_parting.specs.Gatherings.{ids_of};
+ghost use Rattle.client_vanish.specs.Gatherings.{ids_of};
 ghost use Rattle.event_laws.specs.Lines.{lines_of};
 ghost use Rattle.service_lock.specs.States.{IsSetUpWith, View};
 ghost use Rattle.service_lock.specs.Units.{AreFor};
@@ -14,7 +14,7 @@ use crate::job::{Output, Setting};
 use actor_reports::push_report;
 use actor_scripts::ActorList;
 use client_actors::{Gate, run_actors};
-use client_parting::{GatherFault, Holding, Report, compare, end_service};
+use client_vanish::{GatherFault, Holding, Report, compare, end_service};
 use event_laws::ClientLine;
 use record_texts::push_record;
 use script_lines::{Label, LabelHash};
@@ -27,10 +27,12 @@ use std::sync::ledger::{Blank, Ledger};
 use std::thread::Threads;
 use std::time::Clock;
 
-// How the end of a run is written: what is asked for, and how labels are hashed meanwhile.
+// How a run goes: what is written at its end, how many times more a step is made at most, and how labels are
+// hashed meanwhile.
 #[derive(Clone, Copy)]
 struct OutputStyle {
     output: Output,
+    repeats: u64,
     hash: LabelHash,
 }
 
@@ -156,14 +158,15 @@ fn run_all<
     list: &ActorList,
 ) -> (Vec<Holding<E, S, W>>, Result<Vec<u8>, ThreadsFault>)
     ensures ok { IfOk result.1 (λ text.
-        IsRunText style.output E.pages E.limits (actors_of list.now) text.items) }
+        IsRunText style.output style.repeats E.pages E.limits (actors_of list.now) text.items) }
     ensures late { IfErr result.1 IsLate }
 {
     let mut parts = match Vec::with_capacity(alloc, list.scripts.len()) {
         Ok(parts) => parts,
         Err(_) => return (Vec::new(alloc), Err(ThreadsFault::NoMemory)),
     };
-    match run_actors(rt, alloc, service, &Silent, list.scripts.as_slice()) {
+    let scripts = list.scripts.as_slice();
+    match run_actors(rt, alloc, service, &Silent, scripts, style.repeats) {
         Ok(ends) => match part_all(alloc, ends, &mut parts) {
             Some(fault) => (parts, Err(fault)),
             None => tell(rt, alloc, service, style, list.labels.as_slice(), parts),
@@ -190,8 +193,8 @@ fn run_on<
 ) -> Result<Vec<u8>, ThreadsFault>
     requires blanks { AreFor E.name E.parts S.name S.parts W.name W.parts blanks }
     requires asked { IsSetUpWith E.pages E.limits setting.job.pages.count setting.limits }
-    ensures ok { IfOk result (λ text. IsRunText setting.job.output setting.job.pages.count
-        setting.limits (actors_of list.now) text.items) }
+    ensures ok { IfOk result (λ text. IsRunText setting.job.output setting.job.repeats
+        setting.job.pages.count setting.limits (actors_of list.now) text.items) }
     ensures late { IfErr result IsLate }
 {
     let Setting { seed, job, limits } = setting;
@@ -199,6 +202,7 @@ fn run_on<
         Ok(service) => {
             let style = OutputStyle {
                 output: job.output,
+                repeats: job.repeats,
                 hash: LabelHash::new(seed),
             };
             let (parts, told) = run_all(rt, alloc, &service, style, list);
@@ -216,8 +220,8 @@ pub(crate) fn tell_all<R: Threads + Wait + Clock + Sync>(
     setting: Setting,
     list: &ActorList,
 ) -> Result<Vec<u8>, ThreadsFault>
-    ensures ok { IfOk result (λ text. IsRunText setting.job.output setting.job.pages.count
-        setting.limits (actors_of list.now) text.items) }
+    ensures ok { IfOk result (λ text. IsRunText setting.job.output setting.job.repeats
+        setting.job.pages.count setting.limits (actors_of list.now) text.items) }
     ensures late { IfErr result IsLate }
 {
     let blanks = BlankBooks {

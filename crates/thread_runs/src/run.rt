@@ -19,6 +19,8 @@ use std::time::Clock;
 /// Runs the script of actors that the reader holds, each actor in a thread of its own, against a new
 /// service with a pool of this many pages, and writes the report of what they leave, or also their record.
 ///
+/// A step for which nothing is there is made again, at most as often as the job says.
+///
 /// The whole script is read before any line is judged, and all lines are judged before any actor
 /// starts. Nothing is written before all actors have ended and all that they left was gathered. The
 /// writer is flushed at the end. In every case the service is ended with all that is left.
@@ -52,7 +54,7 @@ pub fn run_threads<I: Read, O: Write, R: Threads + Wait + Clock + Sync>(
     job: Job,
     limits: Limits,
 ) -> Result<(), ThreadsFault>
-    ensures { RunsThreads job.output job.pages.count limits (I.remaining reader.old)
+    ensures { RunsThreads job.output job.repeats job.pages.count limits (I.remaining reader.old)
         (I.remaining reader.new) (O.contents writer.old) (O.contents writer.new) result }
 {
     let list = match read_actors(alloc, LabelHash::new(seed), reader) {

@@ -1,5 +1,6 @@
 -- What is left once the last row is taken out, where that was attached just now.
-use Rattle.std.proofs.Common.{◌≡◌, ◌≢◌, ℕ, ◌+◌, ◌<◌, ◌≤◌, Bool, true, false, ◌==◌, if◌then◌else◌, List, [], ◌∷◌, ◌++◌, map, length, count_by, cond, Option, Some, None, refl, sym, ap, subst, ◌∙◌, arith, append-nil}
+use Rattle.std.proofs.Common.{◌≡◌, ◌≢◌, ℕ, ◌+◌, ◌<◌, ◌≤◌, Bool, true, false, ◌==◌, if◌then◌else◌, List, [], ◌∷◌, ◌++◌, map}
+use Rattle.std.proofs.Common.{length, count_by, cond, Option, Some, None, refl, sym, ap, subst, ◌∙◌, arith, append-nil}
 use Rattle.std.specs.List.{filter_map, cons_option, AllByRecursion}
 use Rattle.std.specs.Option.{option_map_or, option_to_list}
 use Rattle.std.proofs.lemmas.Bool.{eqb-true, eq-eqb}
@@ -43,7 +44,8 @@ front_rises [] row rising = tt
 front_rises (other ∷ rows) row rising = (front_of (λ (r : TrackerRow). other.id < r.id) rows row rising.0, front_rises rows row rising.1)
 
 -- what waits of rows with low ids has a low id
-waits_low : (n id cell : ℕ) (state : RowState) (has : Bool) (more : List Waiting) → id < n → AllByRecursion (λ (t : Waiting). t.id < n) more →
+waits_low : (n id cell : ℕ) (state : RowState) (has : Bool) (more : List Waiting) → id < n →
+    AllByRecursion (λ (t : Waiting). t.id < n) more →
     AllByRecursion (λ (t : Waiting). t.id < n) (cons_option (waiting_of_row (row_of id cell state has)) more)
 waits_low n id cell (Waits place c) has more low all = (low, all)
 waits_low n id cell (Over event) has more low all = all
@@ -167,7 +169,8 @@ none_last id [] row other none = (other, tt)
 none_last id (r ∷ rows) row other none = (none.0, none_last id rows row other none.1)
 
 -- a row that waits has no firing
-waits_untold : (id cell : ℕ) (state : RowState) (has : Bool) (tracker : Waiting) → waiting_of_row (row_of id cell state has) ≡ Some tracker →
+waits_untold : (id cell : ℕ) (state : RowState) (has : Bool) (tracker : Waiting) →
+    waiting_of_row (row_of id cell state has) ≡ Some tracker →
     (firing_of_row (row_of id cell state has) ≡ None) × (is_waiting (row_of id cell state has) ≡ true)
 waits_untold id cell (Waits place c) has tracker e = (refl, refl)
 waits_untold id cell (Over event) has tracker e = cc
@@ -250,7 +253,8 @@ module _ (limit capacity spare : ℕ) (rows left : List TrackerRow) (fired : Lis
     (sound : TableInvariant limit rows fired
     capacity spare old) where
   -- the row that was taken out
-  popped : (o : Option TrackerRow) → rows ≡ left ++ option_to_list o → (o ≡ None → rows ≡ []) → (before : TrackerTable) (tracker : Waiting) →
+  popped : (o : Option TrackerRow) → rows ≡ left ++ option_to_list o → (o ≡ None → rows ≡ []) →
+      (before : TrackerTable) (tracker : Waiting) →
       Attaches before (table_of limit rows fired) tracker →
       (row : TrackerRow) × (rows ≡ left ++ row ∷ [])
   popped (Some row) is none before tracker attaches = (row, is)

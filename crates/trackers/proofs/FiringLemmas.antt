@@ -1,5 +1,6 @@
 -- What a visit of one row and its firing leave.
-use Rattle.std.proofs.Common.{◌≡◌, ◌≢◌, ℕ, ◌<◌, Bool, true, false, if◌then◌else◌, List, [], ◌∷◌, ◌++◌, length, get_or, set, option_to_list, Option, Some, None, IsSomeAnd, refl, sym, ap, subst, ◌∙◌, arith, append-nil}
+use Rattle.std.proofs.Common.{◌≡◌, ◌≢◌, ℕ, ◌<◌, Bool, true, false, if◌then◌else◌, List, [], ◌∷◌, ◌++◌, length, get_or, set}
+use Rattle.std.proofs.Common.{option_to_list, Option, Some, None, IsSomeAnd, refl, sym, ap, subst, ◌∙◌, arith, append-nil}
 use Rattle.std.specs.Bool.{OnTrue}
 use Rattle.std.proofs.lemmas.List.{length_push, get_or_push, get_or_append_left, set-get_or}
 use Rattle.sm_names.specs.declared.tracking.Fired.{Fired}
@@ -9,7 +10,8 @@ use Rattle.trackers.specs.declared.place.Stage.{Stage}
 use Rattle.trackers.specs.declared.place.Stage.TheVariants.{InSlot, Untaken, Taken}
 use Rattle.trackers.specs.Row.{TrackerRow, RowState, Waits, Over, WaitingRow, is_waiting}
 use Rattle.trackers.specs.Held.{is_met, row_after, fires}
-use Rattle.trackers.specs.Places.{Slots, slot_at, firing_or_none, row_in, row_over, row_as, row_at, rows_of, IsKept, IsKeptAt, IsHere, IsFiredAt, RowsInvariant}
+use Rattle.trackers.specs.Places.{Slots, slot_at, firing_or_none, row_in, row_over, row_as, row_at}
+use Rattle.trackers.specs.Places.{rows_of, IsKept, IsKeptAt, IsHere, IsFiredAt, RowsInvariant}
 use Rattle.trackers.proofs.SlotLemmas.{rows_long, row_there, kept_there, in_slot, at_place}
 use Rattle.trackers.proofs.Walks.{row_of}
 
@@ -17,7 +19,8 @@ use Rattle.trackers.proofs.Walks.{row_of}
 
 module _ (slots : Slots) (fired : List Fired) (number name : ℕ) (known : Option Fired) (stage : Stage) (was_set : Bool) where
   -- its row is one that fired, of which the reader is here or was taken
-  over_as : (b : Bool) → stage ≡ (if b then Untaken else Taken was_set) → row_as slots fired number name stage ≡ row_over name b (firing_or_none fired number)
+  over_as : (b : Bool) → stage ≡ (if b then Untaken else Taken was_set) →
+      row_as slots fired number name stage ≡ row_over name b (firing_or_none fired number)
   over_as true is = ap (row_as slots fired number name) is
   over_as false is = ap (row_as slots fired number name) is
 
@@ -36,10 +39,12 @@ in_slot_row slots fired number name stage o stage_is is = ap (row_as slots fired
 fired_in : (slots' : Slots) (fired : List Fired) (number' name name' event : ℕ) (known' : Option Fired) (stage' : Stage) (was_set : Bool)
     (firing : Fired) (o : Option WaitingRow) →
     IsSomeAnd o (λ (row : WaitingRow). row.cell ≡ name) → number' ≡ length fired → name' ≡ name →
-    stage' ≡ (if (row_in o).has_reader then Untaken else Taken was_set) → OnTrue was_set (known' ≡ Some firing) → firing ≡ record { tracker = (row_in o).id; event = event } →
+    stage' ≡ (if (row_in o).has_reader then Untaken else Taken was_set) → OnTrue was_set (known' ≡ Some firing) →
+    firing ≡ record { tracker = (row_in o).id; event = event } →
     (row_as slots' (fired ++ firing ∷ []) number' name' stage' ≡ record (row_in o) { state = Over event })
     × IsKept slots' (fired ++ firing ∷ []) number' name' known' stage'
-fired_in slots' fired number' name name' event known' stage' was_set firing None here number_is name_is stage_is told firing_is = absurd here
+fired_in slots' fired number' name name' event known' stage' was_set firing None here number_is name_is stage_is told firing_is =
+    absurd here
 fired_in slots' fired number' name name' event known' stage' was_set firing (Some w) here number_is name_is stage_is told firing_is =
     let last : firing_or_none (fired ++ firing ∷ []) number' ≡ firing =
     get_or_push fired firing (record { tracker = 0; event = 0 }) number' (sym number_is) in (
@@ -67,13 +72,15 @@ fired_row slots slots' fired place place' event firing here in_slot number_is ce
     )
 
 -- a place of which the row waits is in its slot
-waits_in : (slots : Slots) (fired : List Fired) (number name : ℕ) (stage : Stage) → is_waiting (row_as slots fired number name stage) ≡ true → stage ≡ InSlot
+waits_in : (slots : Slots) (fired : List Fired) (number name : ℕ) (stage : Stage) →
+    is_waiting (row_as slots fired number name stage) ≡ true → stage ≡ InSlot
 waits_in slots fired number name InSlot waits = refl
 waits_in slots fired number name Untaken waits = absurd (cc)
 waits_in slots fired number name (Taken was_set) waits = absurd (cc)
 
 -- a place that names a firing has a row that is over, so one whose row waits names a slot
-pub in_slot_of_waiting : (slots : Slots) (fired : List Fired) (place : Place) → is_waiting (row_at slots fired place) ≡ true → place.stage ≡ InSlot
+pub in_slot_of_waiting : (slots : Slots) (fired : List Fired) (place : Place) →
+    is_waiting (row_at slots fired place) ≡ true → place.stage ≡ InSlot
 in_slot_of_waiting slots fired place waits = waits_in slots fired place.number place.note.cell place.stage waits
 
 -- the row of a place has the cell that this names
@@ -81,6 +88,7 @@ cell_as : (slots : Slots) (fired : List Fired) (number name : ℕ) (known : Opti
     IsKept slots fired number name known stage → (row_as slots fired number name stage).cell ≡ name
 cell_as slots fired number name known InSlot kept = cell_in (slot_at slots number) kept
   where
+    -- by cases: without a row none has the name
     cell_in : (o : Option WaitingRow) → IsSomeAnd o (λ (row : WaitingRow). row.cell ≡ name) → (row_in o).cell ≡ name
     cell_in (Some row) kept = kept
     cell_in None kept = absurd kept
@@ -101,19 +109,23 @@ module _ (slots : Slots) (fired : List Fired) (places : List Place) (at : ℕ) (
 
   -- the place names its cell
   pub cell_here : (row_at slots fired place).cell ≡ place.note.cell
-  cell_here = cell_as slots fired place.number place.note.cell place.note.known place.stage (kept_there slots fired places at place is inside sound.kept)
+  cell_here = cell_as slots fired place.number place.note.cell place.note.known place.stage
+      (kept_there slots fired places at place is inside sound.kept)
 
   module _ (waits : (d : TrackerRow) → is_waiting (get_or (rows_of slots fired places) at d) ≡ true) where
     -- where the row waits, the place names a slot
     pub names_slot : place.stage ≡ InSlot
-    names_slot = in_slot_of_waiting slots fired place (ap is_waiting (sym (row_here (row_at slots fired place))) ∙ waits (row_at slots fired place))
+    names_slot = in_slot_of_waiting slots fired place (ap is_waiting (sym (row_here (row_at slots fired place)))
+        ∙ waits (row_at slots fired place))
 
     -- with the row in it
     pub slot_here : IsHere slots place
-    slot_here = in_slot slots fired place.number place.note.cell place.note.known place.stage (kept_there slots fired places at place is inside sound.kept) names_slot
+    slot_here = in_slot slots fired place.number place.note.cell place.note.known place.stage
+        (kept_there slots fired places at place is inside sound.kept) names_slot
 
     -- and after the firing that row alone is another
-    pub fired_all : (slots' : Slots) (place' : Place) (event : ℕ) (firing : Fired) → place'.number ≡ length fired → place'.note.cell ≡ place.note.cell →
+    pub fired_all : (slots' : Slots) (place' : Place) (event : ℕ) (firing : Fired) →
+        place'.number ≡ length fired → place'.note.cell ≡ place.note.cell →
         IsFiredAt (row_in (slot_at slots place.number)).has_reader firing place' →
         firing ≡ record { tracker = (row_in (slot_at slots place.number)).id; event = event } →
         ((n : ℕ) → n ≢ place.number → slot_at slots' n ≡ slot_at slots n) →

@@ -1,5 +1,6 @@
 -- What is left of the table once the trackers that fired are forgotten.
-use Rattle.std.proofs.Common.{◌≡◌, ◌≢◌, ℕ, ◌+◌, ◌<◌, ◌≤◌, Bool, true, false, ◌==◌, ◌||◌, if◌then◌else◌, cond, List, [], ◌∷◌, ◌++◌, map, length, count_by, option_to_list, Option, Some, None, refl, sym, ap, ◌∙◌, append-nil, arith}
+use Rattle.std.proofs.Common.{◌≡◌, ◌≢◌, ℕ, ◌+◌, ◌<◌, ◌≤◌, Bool, true, false, ◌==◌, ◌||◌, if◌then◌else◌, cond, List, [], ◌∷◌, ◌++◌}
+use Rattle.std.proofs.Common.{map, length, count_by, option_to_list, Option, Some, None, refl, sym, ap, ◌∙◌, append-nil, arith}
 use Rattle.std.specs.List.{filter, filter_map, cons_option, list_any, AllByRecursion}
 use Rattle.std.specs.Option.{option_map_or}
 use Rattle.std.proofs.lemmas.List.{length_push}
@@ -12,7 +13,8 @@ use Rattle.trackers.specs.declared.waiting.Waiting.{Waiting}
 use Rattle.trackers.specs.Table.{Cell, firing_of, forgetful, is_unfired}
 use Rattle.trackers.specs.Row.{TrackerRow, RowState, Waits, Over, is_waiting, waiting_of_row, firing_of_row}
 use Rattle.trackers.specs.WaitIndex.{WaitIndex, Wish, entries_of, weigh}
-use Rattle.trackers.specs.Held.{AreHeld, IdsRise, IsIndexed, NoneHas, TableInvariant, cell_of_row, table_of, untaken_of_row, wish_of_row, wishes_from}
+use Rattle.trackers.specs.Held.{AreHeld, IdsRise, IsIndexed, NoneHas, TableInvariant}
+use Rattle.trackers.specs.Held.{cell_of_row, table_of, untaken_of_row, wish_of_row, wishes_from}
 use Rattle.trackers.specs.Places.{IsKept, IsKeptAt, RowsInvariant, Slots, in_slot, row_as, row_at, rows_of}
 use Rattle.trackers.proofs.FoundLemmas.{other_id, same_id, table_with}
 use Rattle.trackers.proofs.IndexLemmas.{asked_push}
@@ -46,10 +48,12 @@ kept_count test (x ∷ xs) =
       | false ↦ omega (arith, kept_count test xs)
     ] ∙ sym (sum_by-cons (λ y. cond (test y) 1 0) x xs)
 
+-- by induction: each that is kept passes again
 kept_again : {X : Type 0} (test : X → Bool) (xs : List X) → count_by test (filter test xs) ≡ count_by test xs
 kept_again test [] = refl
 kept_again test (x ∷ xs) = at (test x) refl (kept_again test xs) ∙ sym (sum_by-cons (λ y. cond (test y) 1 0) x xs)
   where
+    -- by cases: one that passes is counted on both sides, and another on neither
     at : (b : Bool) → test x ≡ b → count_by test (filter test xs) ≡ count_by test xs →
         count_by test (cond b (x ∷ filter test xs) (filter test xs)) ≡ cond (test x) 1 0 + count_by test xs
     at true e more = sum_by-cons (λ y. cond (test y) 1 0) x (filter test xs) ∙ ap (λ n. cond (test x) 1 0 + n) more
@@ -84,7 +88,8 @@ module _ (slots : Slots) (fired : List Fired) where
   rows_kept (p ∷ ps) = map_cond (row_at slots []) (in_slot p.stage) p (filter is_in_slot ps)
       ∙ elim p.stage as (λ s. cond (in_slot s) (row_as slots [] p.number p.note.cell s ∷ rows_of slots [] (filter is_in_slot ps))
       (rows_of slots [] (filter is_in_slot ps)) ≡ cond (is_waiting (row_as slots fired p.number p.note.cell s))
-      (row_as slots fired p.number p.note.cell s ∷ filter is_waiting (rows_of slots fired ps)) (filter is_waiting (rows_of slots fired ps))) [
+      (row_as slots fired p.number p.note.cell s ∷ filter is_waiting (rows_of slots fired ps))
+      (filter is_waiting (rows_of slots fired ps))) [
         | InSlot ↦ ap (λ l. row_as slots fired p.number p.note.cell InSlot ∷ l) (rows_kept ps)
         | Untaken ↦ rows_kept ps
         | Taken was_set ↦ rows_kept ps
@@ -97,6 +102,7 @@ module _ (slots : Slots) (fired : List Fired) where
   names_kept number name known Untaken is kept = let no : false ≡ true = is in cc
   names_kept number name known (Taken was_set) is kept = let no : false ≡ true = is in cc
 
+  -- by induction: a place that names a slot names it whatever has fired
   all_named : (places : List Place) → AllByRecursion (IsKeptAt slots fired) places →
       AllByRecursion (IsKeptAt slots []) (filter is_in_slot places)
   all_named [] all = tt
@@ -129,15 +135,19 @@ places_kept slots fired places sound = record {
 untold : (row : TrackerRow) → is_waiting row ≡ true → None ≡ firing_of_row row
 untold row waits = at row.id row.state waits
   where
+    -- by cases: a tracker that is over does not wait
     at : (id : ℕ) (state : RowState) → is_waiting (row_of id row.cell state row.has_reader) ≡ true →
         None ≡ firing_of_row (row_of id row.cell state row.has_reader)
     at id (Waits place condition) is = refl
     at id (Over event) is = let no : false ≡ true = is in cc
 
-untold_all : (rows : List TrackerRow) → AllByRecursion (λ (row : TrackerRow). firing_of [] row.id ≡ firing_of_row row) (filter is_waiting rows)
+-- by induction: the rows that are left wait, and nothing fired in an empty list
+untold_all : (rows : List TrackerRow) →
+    AllByRecursion (λ (row : TrackerRow). firing_of [] row.id ≡ firing_of_row row) (filter is_waiting rows)
 untold_all [] = tt
 untold_all (row ∷ rows) = at (is_waiting row) refl (untold_all rows)
   where
+    -- by cases: only a row that waits is left
     at : (b : Bool) → is_waiting row ≡ b →
         AllByRecursion (λ (r : TrackerRow). firing_of [] r.id ≡ firing_of_row r) (filter is_waiting rows) →
         AllByRecursion (λ (r : TrackerRow). firing_of [] r.id ≡ firing_of_row r)
@@ -169,11 +179,15 @@ rest_waits : (rows : List TrackerRow) → filter_map waiting_of_row (filter is_w
 rest_waits [] = refl
 rest_waits (row ∷ rows) = at row.id row.cell row.state row.has_reader (rest_waits rows)
   where
+    -- by cases: a tracker that waits is in both lists, and one that is over in neither
     at : (id cell : ℕ) (state : RowState) (has : Bool) →
-        filter_map waiting_of_row (filter is_waiting rows) ≡ filter_map waiting_of_row rows → filter_map waiting_of_row (cond (is_waiting (row_of id cell state has))
-        (row_of id cell state has ∷ filter is_waiting rows) (filter is_waiting rows)) ≡ cons_option (waiting_of_row (row_of id cell state has))
+        filter_map waiting_of_row (filter is_waiting rows) ≡ filter_map waiting_of_row rows →
+        filter_map waiting_of_row (cond (is_waiting (row_of id cell state has))
+        (row_of id cell state has ∷ filter is_waiting rows) (filter is_waiting rows))
+        ≡ cons_option (waiting_of_row (row_of id cell state has))
         (filter_map waiting_of_row rows)
-    at id cell (Waits place condition) has more = ap (λ (l : List Waiting). record { id = id; collection = place; condition = condition } ∷ l) more
+    at id cell (Waits place condition) has more =
+        ap (λ (l : List Waiting). record { id = id; collection = place; condition = condition } ∷ l) more
     at id cell (Over event) has more = more
 
 -- no tracker of rows with higher ids has this one
@@ -182,7 +196,9 @@ none_waits : (id : ℕ) (rows : List TrackerRow) → AllByRecursion (λ (r : Tra
 none_waits id [] above = refl
 none_waits id (row ∷ rows) above = at row.id row.cell row.state row.has_reader above.0 (none_waits id rows above.1)
   where
-    at : (i cell : ℕ) (state : RowState) (has : Bool) → id < i → is_unfired (filter_map waiting_of_row rows) id ≡ false → is_unfired (cons_option (waiting_of_row (row_of i cell state has))
+    -- by cases: a row that waits has a higher id
+    at : (i cell : ℕ) (state : RowState) (has : Bool) → id < i → is_unfired (filter_map waiting_of_row rows) id ≡ false →
+        is_unfired (cons_option (waiting_of_row (row_of i cell state has))
         (filter_map waiting_of_row rows)) id ≡ false
     at i cell (Waits place condition) has less more = rw (other_id i id (λ same. omega (arith, less, same))) more
     at i cell (Over event) has less more = more
@@ -197,6 +213,7 @@ told_on : (t : TrackerRow) (unfired : List Waiting) (rows : List TrackerRow) →
 told_on t unfired [] above all = tt
 told_on t unfired (row ∷ rows) above all = (at t.id t.cell t.state t.has_reader above.0, told_on t unfired rows above.1 all.1)
   where
+    -- by cases: a row that waits has a lower id, so it is not the one that is looked up
     at : (i cell : ℕ) (state : RowState) (has : Bool) → i < row.id →
         is_unfired (cons_option (waiting_of_row (row_of i cell state has)) unfired) row.id ≡ is_waiting row
     at i cell (Waits place condition) has less = rw (other_id i row.id (λ same. omega (arith, less, same))) all.0
@@ -207,11 +224,13 @@ told_here : (row : TrackerRow) (rows : List TrackerRow) → AllByRecursion (λ (
     IsTold (cons_option (waiting_of_row row) (filter_map waiting_of_row rows)) row
 told_here row rows above = at row.id row.cell row.state row.has_reader above
   where
+    -- by cases: a row that waits finds itself, and no row behind it has the id of one that is over
     at : (i cell : ℕ) (state : RowState) (has : Bool) → AllByRecursion (λ (r : TrackerRow). i < r.id) rows →
         IsTold (cons_option (waiting_of_row (row_of i cell state has)) (filter_map waiting_of_row rows)) (row_of i cell state has)
     at i cell (Waits place condition) has up = rw (same_id i) refl
     at i cell (Over event) has up = none_waits i rows up
 
+-- by induction: each row is told of itself, and the ids behind it are higher
 all_told : (rows : List TrackerRow) → IdsRise rows → AllByRecursion (IsTold (filter_map waiting_of_row rows)) rows
 all_told [] rising = tt
 all_told (row ∷ rows) rising =
@@ -232,7 +251,8 @@ module _ (unfired : List Waiting) where
   untaken_left (row ∷ rows) all = at row.has_reader (is_waiting row) all.0 (untaken_left rows all.1)
     where
       at : (has b : Bool) → is_unfired unfired row.id ≡ b →
-          filter_map untaken_of_row (filter is_waiting rows) ≡ filter (is_unfired unfired) (filter_map untaken_of_row rows) → filter_map untaken_of_row (cond b (record row { has_reader = has } ∷ filter is_waiting rows) (filter is_waiting rows))
+          filter_map untaken_of_row (filter is_waiting rows) ≡ filter (is_unfired unfired) (filter_map untaken_of_row rows) →
+          filter_map untaken_of_row (cond b (record row { has_reader = has } ∷ filter is_waiting rows) (filter is_waiting rows))
           ≡ filter (is_unfired unfired) (cons_option (untaken_of_row (record row { has_reader = has })) (filter_map untaken_of_row rows))
       at true true e more = rw e (ap (λ l. row.id ∷ l) more)
       at true false e more = rw e more
@@ -279,7 +299,8 @@ module _ (rows : List TrackerRow) (place : ℕ) (index : WaitIndex) (so : IsPart
 
   -- or one more that waits
   pub indexed_more : (t : Waiting) (new : WaitIndex) → waiting_of_row row ≡ Some t →
-      ((c : ℕ) (f : Wish → ℕ) → weigh f (entries_of new c) ≡ (if c == t.collection then f (t.condition, place) + weigh f (entries_of index c)
+      ((c : ℕ) (f : Wish → ℕ) →
+      weigh f (entries_of new c) ≡ (if c == t.collection then f (t.condition, place) + weigh f (entries_of index c)
       else weigh f (entries_of index c))) → IsPartIndexed (rows ++ row ∷ []) (place + 1) new
   indexed_more t new is indexed = record {
     at = λ c f. at c f ∙ ap (λ l. weigh f (wishes_from c 0 l)) (sym kept);

@@ -1,5 +1,6 @@
 -- Rows by their ids: where one stands, what is found there, and what its change leaves.
-use Rattle.std.proofs.Common.{◌≡◌, ◌≢◌, ◌↔◌, ℕ, zero, suc, ◌+◌, ◌<◌, Bool, true, false, ◌==◌, List, [], ◌∷◌, map, length, get_or, set, Option, Some, None, IfSome, count_by, cond, if◌then◌else◌, refl, sym, ap, ◌∙◌, arith}
+use Rattle.std.proofs.Common.{◌≡◌, ◌≢◌, ◌↔◌, ℕ, zero, suc, ◌+◌, ◌<◌, Bool, true, false, ◌==◌, List, [], ◌∷◌, map, length}
+use Rattle.std.proofs.Common.{get_or, set, Option, Some, None, IfSome, count_by, cond, if◌then◌else◌, refl, sym, ap, ◌∙◌, arith}
 use Rattle.std.specs.List.{filter_map, cons_option, AllByRecursion}
 use Rattle.std.specs.Bool.{OnTrue}
 use Rattle.std.proofs.lemmas.List.Elements.{All-from_recursion}
@@ -10,7 +11,8 @@ use Rattle.trackers.specs.declared.waiting.Waiting.{Waiting}
 use Rattle.trackers.specs.Table.{TrackerTable, Reader, Cell, firing_of, cell_of, is_untaken, without_id, reader_of}
 use Rattle.trackers.specs.WaitIndex.{WaitIndex, weigh}
 use Rattle.trackers.specs.Row.{TrackerRow, is_waiting, waiting_of_row, firing_of_row, reader_of_row}
-use Rattle.trackers.specs.Held.{cell_of_row, untaken_of_row, wish_of_row, wishes_from, IdsRise, AreHeld, TableInvariant, NoneHas, Found, here, later, table_of}
+use Rattle.trackers.specs.Held.{cell_of_row, untaken_of_row, wish_of_row, wishes_from, IdsRise}
+use Rattle.trackers.specs.Held.{AreHeld, TableInvariant, NoneHas, Found, here, later, table_of}
 
 -- the test of an id against itself
 pub same_id : (i : ℕ) → (i == i) ≡ true
@@ -76,7 +78,8 @@ module _ (id : ℕ) where
       filter_map untaken_of_row rows
   none_without [] none = refl
   none_without (row ∷ rows) none =
-      elim row.has_reader as (λ b. without_id (cons_option (if b then Some row.id else None) (filter_map untaken_of_row rows)) id ≡ cons_option
+      elim row.has_reader as (λ b. without_id (cons_option (if b then Some row.id else None) (filter_map untaken_of_row rows)) id
+      ≡ cons_option
       (if b then Some row.id else None) (filter_map untaken_of_row rows)) [
         | true ↦ rw (other_id row.id id none.0) (ap (λ l. row.id ∷ l) (none_without rows none.1))
         | false ↦ none_without rows none.1

@@ -1,5 +1,6 @@
 -- What a sweep leaves of the rows, and what it shows.
-use Rattle.std.proofs.Common.{option_to_list, get_or, ◌≡◌, ◌≢◌, ℕ, ◌+◌, ◌<◌, Bool, true, false, not, ◌==◌, List, [], ◌∷◌, ◌++◌, map, length, Option, Some, None, count_by, cond, if◌then◌else◌, refl, sym, ap, subst, ◌∙◌, arith, length-append}
+use Rattle.std.proofs.Common.{option_to_list, get_or, ◌≡◌, ◌≢◌, ℕ, ◌+◌, ◌<◌, Bool, true, false, not, ◌==◌, List, [], ◌∷◌, ◌++◌, map}
+use Rattle.std.proofs.Common.{length, Option, Some, None, count_by, cond, if◌then◌else◌, refl, sym, ap, subst, ◌∙◌, arith, length-append}
 use Rattle.std.specs.List.{filter, filter_map, cons_option, AllByRecursion}
 use Rattle.std.proofs.lemmas.List.{length-map, get_or-map}
 use Rattle.std.proofs.lemmas.List.Elements.{All-from_recursion, recursion_from_All}
@@ -155,7 +156,8 @@ module _ (w : World) (e : ℕ) where
   none_after id (row ∷ rows) none = (rw (id_after w e row) at none.0, none_after id rows none.1)
 
   -- each firing is of a row that waited
-  pub count_after : (rows : List TrackerRow) → length (filter_map (fires w e) rows) + count_by is_waiting (map (row_after w e) rows) ≡ count_by
+  pub count_after : (rows : List TrackerRow) →
+      length (filter_map (fires w e) rows) + count_by is_waiting (map (row_after w e) rows) ≡ count_by
       is_waiting rows
   count_after [] = refl
   count_after (row ∷ rows) =
@@ -173,7 +175,8 @@ module _ (w : World) (e : ℕ) where
   -- each firing is found under its id
   told_after : (fired : List Fired) (rows : List TrackerRow) → IdsRise rows →
       AllByRecursion (λ (r : TrackerRow). firing_of fired r.id ≡ firing_of_row r) rows →
-      AllByRecursion (λ (r : TrackerRow). firing_of (fired ++ filter_map (fires w e) rows) r.id ≡ firing_of_row r) (map (row_after w e) rows)
+      AllByRecursion (λ (r : TrackerRow). firing_of (fired ++ filter_map (fires w e) rows) r.id
+      ≡ firing_of_row r) (map (row_after w e) rows)
   told_after fired rows rising told = recursion_from_All _ (map (row_after w e) rows) (λ k d within.
       let below : k < length rows = omega (arith, length-map rows (row_after w e)) in
       let row : TrackerRow = get_or rows k d in
@@ -182,7 +185,8 @@ module _ (w : World) (e : ℕ) where
       told_row fired (filter_map (fires w e) rows) row.id row.cell row.state row.has_reader (All-from_recursion (λ (r : TrackerRow).
       firing_of fired r.id ≡ firing_of_row r) rows told k d below) (found_fires row.id found) in
       let IsTold : TrackerRow → Type 0 = λ r. firing_of (fired ++ filter_map (fires w e) rows) r.id ≡ firing_of_row r in
-      subst IsTold (sym (get_or-map (row_after w e) rows k d d below)) (ap (firing_of (fired ++ filter_map (fires w e) rows)) (id_after w e row)
+      subst IsTold (sym (get_or-map (row_after w e) rows k d d below))
+      (ap (firing_of (fired ++ filter_map (fires w e) rows)) (id_after w e row)
       ∙ now))
 
   -- the rows stay sound over an event
@@ -190,7 +194,13 @@ module _ (w : World) (e : ℕ) where
       AreHeld limit (map (row_after w e) rows) (fired ++ filter_map (fires w e) rows) capacity
   held_after limit fired capacity rows held = record {
     rising = rising_after rows held.rising;
-    counted = omega (arith, held.counted, count_after rows, length-append fired (filter_map (fires w e) rows), length-map rows (row_after w e));
+    counted = omega (
+      arith,
+      held.counted,
+      count_after rows,
+      length-append fired (filter_map (fires w e) rows),
+      length-map rows (row_after w e),
+    );
     room = omega (arith, held.room, length-map rows (row_after w e));
     within = omega (arith, held.within, count_after rows);
     told = told_after fired rows held.rising held.told;

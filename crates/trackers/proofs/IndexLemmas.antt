@@ -1,5 +1,6 @@
 -- The index: what a sweep needs of it, and what it leaves.
-use Rattle.std.proofs.Common.{◌≡◌, ◌≢◌, ℕ, suc, ◌+◌, ◌≤◌, Bool, true, false, not, ◌==◌, List, [], ◌∷◌, ◌++◌, map, length, count_by, option_to_list, Option, Some, None, cond, if◌then◌else◌, refl, sym, ap, ◌∙◌, arith}
+use Rattle.std.proofs.Common.{◌≡◌, ◌≢◌, ℕ, suc, ◌+◌, ◌≤◌, Bool, true, false, not, ◌==◌, List, [], ◌∷◌, ◌++◌, map, length}
+use Rattle.std.proofs.Common.{count_by, option_to_list, Option, Some, None, cond, if◌then◌else◌, refl, sym, ap, ◌∙◌, arith}
 use Rattle.std.specs.List.{filter, filter_map, cons_option, AllByRecursion}
 use Rattle.std.specs.List.Sorted.{IsPermutation, IsNonDecreasing}
 use Rattle.std.proofs.lemmas.Bool.Decides.{nat_tests}
@@ -11,7 +12,8 @@ use Rattle.trackers.specs.Row.{TrackerRow, RowState, Waits, Over, is_waiting, wa
 use Rattle.trackers.specs.WaitIndex.{WaitIndex, Wish, SameElements, met_in, entries_of, is_wish_met, unmet_in, weigh}
 use Rattle.trackers.specs.Held.{row_after, wish_of_row, wishes_from, IsIndexed, MetPlaces, none, pass, pick}
 use Rattle.trackers.proofs.Walks.{row_of}
-use Rattle.trackers.proofs.Weights.{DoRise, alike_filter, alike_map, alike_moved, do_rise, rising_same, weigh_filter, weigh_length, weigh_less, weigh_map}
+use Rattle.trackers.proofs.Weights.{DoRise, alike_filter, alike_map, alike_moved, do_rise}
+use Rattle.trackers.proofs.Weights.{rising_same, weigh_filter, weigh_length, weigh_less, weigh_map}
 
 -- a test that fails tells two numbers apart
 apart : (m n : ℕ) → (m == n) ≡ false → n ≢ m
@@ -106,7 +108,8 @@ module _ (w : World) (place : ℕ) where
 
 -- no more than wait
 one_asked : (place n id cell : ℕ) (state : RowState) (has : Bool) (more : List Wish) →
-    length (cons_option (wish_of_row place n (row_of id cell state has)) more) ≤ cond (is_waiting (row_of id cell state has)) 1 0 + length more
+    length (cons_option (wish_of_row place n (row_of id cell state has)) more)
+    ≤ cond (is_waiting (row_of id cell state has)) 1 0 + length more
 one_asked place n id cell (Over event) has more = omega arith
 one_asked place n id cell (Waits p c) has more =
     elim (place == p) as (λ b. length (cons_option (if b then Some (c, n) else None) more) ≤ 1 + length more)
@@ -169,7 +172,8 @@ module _ (w : World) (e : ℕ) where
       wish_of_row collection n (row_after w e (row_of id cell (Waits p c) has)) ≡ (if collection == p then Some (c, n) else None)) [
         | true ↦ λ same.
             let other : (collection == p) ≡ false = grind (arith, nat_tests) in
-            elim (holds w c) as (λ b. wish_of_row collection n (if b then row_of id cell (Over e) has else row_of id cell (Waits p c) has) ≡ (if
+            elim (holds w c) as (λ b.
+            wish_of_row collection n (if b then row_of id cell (Over e) has else row_of id cell (Waits p c) has) ≡ (if
             collection == p then Some (c, n) else None)) [ true ↦ rw other refl | false ↦ refl ]
         | false ↦ λ e. rw (elsewhere.0 (apart place p e)) refl
       ] refl

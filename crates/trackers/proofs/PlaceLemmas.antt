@@ -44,7 +44,8 @@ module _ (slots : Slots) (fired : List Fired) (places : List Place) (rising : Id
         (row : TrackerRow) × Found id (rows_of slots fired places) at row
     found_id place is within same = (
       row_at slots fired place,
-      subst (λ i. Found i (rows_of slots fired places) at (row_at slots fired place)) same (found_there slots fired places at place is within rising),
+      subst (λ i. Found i (rows_of slots fired places) at (row_at slots fired place)) same
+          (found_there slots fired places at place is within rising),
     )
 
     -- no row has it: those before are less, and the one at this place, if there is one, is greater

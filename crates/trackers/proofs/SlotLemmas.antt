@@ -1,5 +1,6 @@
 -- What a change of one place, its slot and the firings leaves of the rows.
-use Rattle.std.proofs.Common.{◌≡◌, ◌≢◌, ℕ, zero, suc, ◌<◌, ◌≤◌, Bool, true, false, List, [], ◌∷◌, ◌++◌, map, length, get_or, set, option_to_list, Option, Some, None, IsSomeAnd, refl, sym, ap, subst, ◌∙◌, arith}
+use Rattle.std.proofs.Common.{◌≡◌, ◌≢◌, ℕ, zero, suc, ◌<◌, ◌≤◌, Bool, true, false, List, [], ◌∷◌, ◌++◌, map, length}
+use Rattle.std.proofs.Common.{get_or, set, option_to_list, Option, Some, None, IsSomeAnd, refl, sym, ap, subst, ◌∙◌, arith}
 use Rattle.std.specs.Bool.{OnTrue}
 use Rattle.std.specs.List.{AllByRecursion}
 use Rattle.std.proofs.lemmas.List.{map_push, length-map, get_or_default, same_from_push}
@@ -10,7 +11,8 @@ use Rattle.trackers.specs.declared.place.Stage.{Stage}
 use Rattle.trackers.specs.declared.place.Stage.TheVariants.{InSlot, Untaken, Taken}
 use Rattle.trackers.specs.Row.{TrackerRow, KeptRows, WaitingRow, row_of_waiting}
 use Rattle.trackers.specs.Held.{IdsRise, NoneHas, Found, here, later}
-use Rattle.trackers.specs.Places.{Slots, slot_at, firing_or_none, row_in, row_over, row_as, row_at, rows_of, IsKept, IsKeptAt, RowsInvariant, Leaves, Names}
+use Rattle.trackers.specs.Places.{Slots, slot_at, firing_or_none, row_in, row_over, row_as}
+use Rattle.trackers.specs.Places.{row_at, rows_of, IsKept, IsKeptAt, RowsInvariant, Leaves, Names}
 use Rattle.trackers.proofs.FoundLemmas.{found_at}
 use Rattle.trackers.proofs.AttachLemmas.{rising_push, fresh}
 use Rattle.trackers.proofs.DetachLemmas.{front_of, below_last, front_rises}
@@ -44,7 +46,8 @@ module _ (slots : Slots) (fired : List Fired) (places : List Place) (at : ℕ) (
   kept_there kept = subst (IsKeptAt slots fired) is (All-from_recursion (IsKeptAt slots fired) places kept at place within)
 
   -- its row is found there
-  pub found_there : IdsRise (rows_of slots fired places) → Found (row_at slots fired place).id (rows_of slots fired places) at (row_at slots fired place)
+  pub found_there : IdsRise (rows_of slots fired places) →
+      Found (row_at slots fired place).id (rows_of slots fired places) at (row_at slots fired place)
   found_there rising = subst (λ (r : TrackerRow). Found r.id (rows_of slots fired places) at r) (row_there (row_at slots fired place))
       (found_at (rows_of slots fired places) rising at (row_at slots fired place) rows_within)
 
@@ -87,7 +90,8 @@ module _ (slots : Slots) (fired : List Fired) (number name : ℕ) (known : Optio
 
 -- two places of one slot have one row
 same_slot : (slots : Slots) (fired : List Fired) (number name : ℕ) (stage : Stage) (number' name' : ℕ) (stage' : Stage) →
-    stage ≡ InSlot → stage' ≡ InSlot → number ≡ number' → (row_as slots fired number name stage).id ≡ (row_as slots fired number' name' stage').id
+    stage ≡ InSlot → stage' ≡ InSlot → number ≡ number' →
+    (row_as slots fired number name stage).id ≡ (row_as slots fired number' name' stage').id
 same_slot slots fired number name stage number' name' stage' one two same = rw (one, two, same) refl
 
 module _ (slots slots' : Slots) (fired fired' : List Fired) (longer : length fired ≤ length fired')
@@ -111,7 +115,8 @@ module _ (slots slots' : Slots) (fired fired' : List Fired) (longer : length fir
 
   module _ (place : Place) (leaves : Leaves slots slots' place) where
     -- a place of another id has another slot
-    apart : (q : Place) → (row_at slots fired q).id ≢ (row_at slots fired place).id → q.stage ≡ InSlot → slot_at slots' q.number ≡ slot_at slots q.number
+    apart : (q : Place) → (row_at slots fired q).id ≢ (row_at slots fired place).id → q.stage ≡ InSlot →
+        slot_at slots' q.number ≡ slot_at slots q.number
     apart q differ stage = leaves q.number (λ stage' same.
         differ (same_slot slots fired q.number q.note.cell q.stage place.number place.note.cell place.stage stage stage' same))
 
@@ -140,7 +145,8 @@ module _ (slots slots' : Slots) (fired fired' : List Fired) (longer : length fir
         ((λ i. first.0 i ∷ more.0 i), (first.1, more.1))
 
     -- the rows stay sound
-    pub at_place : (places : List Place) → RowsInvariant slots fired places → (at : ℕ) → get_or places at place ≡ place → at < length places →
+    pub at_place : (places : List Place) → RowsInvariant slots fired places → (at : ℕ) →
+        get_or places at place ≡ place → at < length places →
         (place' : Place) → IsKeptAt slots' fired' place' → (row_at slots' fired' place').id ≡ (row_at slots fired place).id →
         (rows_of slots' fired' (set places at place') ≡ set (rows_of slots fired places) at (row_at slots' fired' place'))
         × RowsInvariant slots' fired' (set places at place')
@@ -150,7 +156,8 @@ module _ (slots slots' : Slots) (fired fired' : List Fired) (longer : length fir
           all.0,
           record {
             kept = all.1;
-            rising = subst IdsRise (sym all.0) (set_rising (row_at slots fired place).id (row_at slots' fired' place') same found sound.rising);
+            rising = subst IdsRise (sym all.0)
+                (set_rising (row_at slots fired place).id (row_at slots' fired' place') same found sound.rising);
           },
         )
 
@@ -159,12 +166,14 @@ module _ (slots slots' : Slots) (fired fired' : List Fired) (longer : length fir
 -- without the last place the rows are those before it
 pub rows_popped : (slots slots' : Slots) (fired : List Fired) (init : List Place) (place : Place) →
     RowsInvariant slots fired (init ++ place ∷ []) → Leaves slots slots' place →
-    (rows_of slots fired (init ++ place ∷ []) ≡ rows_of slots' fired init ++ row_at slots fired place ∷ []) × RowsInvariant slots' fired init
+    (rows_of slots fired (init ++ place ∷ []) ≡ rows_of slots' fired init ++ row_at slots fired place ∷ [])
+    × RowsInvariant slots' fired init
 rows_popped slots slots' fired init place sound leaves =
     let pushed : rows_of slots fired (init ++ place ∷ []) ≡ rows_of slots fired init ++ row_at slots fired place ∷ [] =
     map_push (row_at slots fired) init place in
     let rising = subst IdsRise pushed sound.rising in
-    let none = fresh (row_at slots fired place).id (rows_of slots fired init) (below_last (rows_of slots fired init) (row_at slots fired place) rising) in
+    let none = fresh (row_at slots fired place).id (rows_of slots fired init)
+    (below_last (rows_of slots fired init) (row_at slots fired place) rising) in
     let stay = others slots slots' fired fired (omega arith) (λ n l. refl) place leaves init none
     (front_of (IsKeptAt slots fired) init place sound.kept) in (
       pushed ∙ ap (λ l. l ++ row_at slots fired place ∷ []) (sym stay.0),
@@ -177,7 +186,8 @@ rows_popped slots slots' fired init place sound leaves =
 module _ (slots slots' : Slots) (fired : List Fired) (key : ℕ) (row : WaitingRow) (vacant : slot_at slots key ≡ None)
     (put : slot_at slots' key ≡ Some row) (rest : (n : ℕ) → n ≢ key → slot_at slots' n ≡ slot_at slots n) where
   -- no place names the empty slot
-  not_vacant : (number name : ℕ) (known : Option Fired) (stage : Stage) → IsKept slots fired number name known stage → stage ≡ InSlot → number ≢ key
+  not_vacant : (number name : ℕ) (known : Option Fired) (stage : Stage) →
+      IsKept slots fired number name known stage → stage ≡ InSlot → number ≢ key
   not_vacant number name known InSlot kept stage same =
       subst (λ (o : Option WaitingRow). IsSomeAnd o (λ (row : WaitingRow). row.cell ≡ name)) (ap (slot_at slots) same ∙ vacant) kept
   not_vacant number name known Untaken kept stage same = absurd (cc)
@@ -226,6 +236,7 @@ pub unpushed : (old new : List TrackerRow) (row : TrackerRow) (o : Option Tracke
 unpushed old new row (Some other) is none = sym (same_from_push old new row other is).0
 unpushed old new row None is none = absurd (not_empty old (none refl))
   where
+    -- by cases: both lists have an element
     not_empty : (rows : List TrackerRow) → rows ++ row ∷ [] ≡ [] → ⊥
     not_empty [] e = cc
     not_empty (r ∷ rows) e = cc

@@ -1,5 +1,6 @@
 -- What the lists of a collection hold once one of them changes.
-use Rattle.std.proofs.Common.{◌≡◌, ℕ, zero, suc, ◌+◌, ◌<◌, ◌≤◌, true, false, not, ◌==◌, nat_le, List, [], ◌∷◌, ◌++◌, map, length, get_or, set, take, drop, cond, if◌then◌else◌, refl, sym, ap, ◌∙◌, arith, append_assoc, append-nil}
+use Rattle.std.proofs.Common.{◌≡◌, ℕ, zero, suc, ◌+◌, ◌<◌, ◌≤◌, true, false, not, ◌==◌, nat_le, List, [], ◌∷◌, ◌++◌, map, length}
+use Rattle.std.proofs.Common.{get_or, set, take, drop, cond, if◌then◌else◌, refl, sym, ap, ◌∙◌, arith, append_assoc, append-nil}
 use Rattle.std.specs.BinaryHeap.{heap_items, heap_len}
 use Rattle.std.specs.List.{filter, insert, AllByRecursion}
 use Rattle.std.specs.List.Sorted.{IsPermutation}
@@ -8,7 +9,8 @@ use Rattle.std.proofs.lemmas.List.{drop_more, nil_from_length, take_more, take-a
 use Rattle.sm_names.specs.declared.tracking.Condition.{Condition}
 use Rattle.sm_names.specs.Trackers.{World, holds}
 use Rattle.trackers.specs.declared.wait_list.WaitList.{WaitList}
-use Rattle.trackers.specs.WaitIndex.{TakesMet, Wish, wishes_of, at_most, met_in, entries_in, is_filled, is_wish_met, unmet_in, weigh, weigh_at, wish_at}
+use Rattle.trackers.specs.WaitIndex.{TakesMet, Wish, wishes_of, at_most, met_in, entries_in}
+use Rattle.trackers.specs.WaitIndex.{is_filled, is_wish_met, unmet_in, weigh, weigh_at, wish_at}
 use Rattle.trackers.proofs.Weights.{alike_map, alike_moved, weigh_append, weigh_filter, weigh_map}
 
 -- ---- the widest of a list
@@ -110,7 +112,8 @@ entries_filled (q ∷ qs) = elim (is_filled q) as (λ b. is_filled q ≡ b →
 -- the wishes of the first lists come before those of the second
 pub entries_append : (xs ys : List WaitList) → entries_in (xs ++ ys) ≡ entries_in xs ++ entries_in ys
 entries_append [] ys = refl
-entries_append (x ∷ xs) ys = ap (λ l. wishes_of x ++ l) (entries_append xs ys) ∙ sym (append_assoc (wishes_of x) (entries_in xs) (entries_in ys))
+entries_append (x ∷ xs) ys = ap (λ l. wishes_of x ++ l) (entries_append xs ys)
+    ∙ sym (append_assoc (wishes_of x) (entries_in xs) (entries_in ys))
 
 -- one list more
 pub weigh_push : (f : Wish → ℕ) (qs : List WaitList) (q : WaitList) →
@@ -139,7 +142,8 @@ weigh_halves f qs at = ap (λ l. weigh f (entries_in l)) (sym (take-append-drop 
 weigh_set : (f : Wish → ℕ) (qs : List WaitList) (at : ℕ) (q d : WaitList) → at < length qs →
     weigh f (entries_in (set qs at q)) + weigh f (wishes_of (get_or qs at d)) ≡ weigh f (entries_in qs) + weigh f (wishes_of q)
 weigh_set f [] at q d within = absurd (omega arith)
-weigh_set f (x ∷ xs) zero q d within = omega (arith, weigh_append f (wishes_of q) (entries_in xs), weigh_append f (wishes_of x) (entries_in xs))
+weigh_set f (x ∷ xs) zero q d within =
+    omega (arith, weigh_append f (wishes_of q) (entries_in xs), weigh_append f (wishes_of x) (entries_in xs))
 weigh_set f (x ∷ xs) (suc at) q d within =
     omega (
       arith,

@@ -1,5 +1,7 @@
 -- The walk over the rows that are due: what is done, where it stands, and what it leaves.
-use Rattle.std.proofs.Common.{◌≡◌, ℕ, ◌+◌, ◌<◌, ◌≤◌, Bool, true, false, List, [], ◌∷◌, ◌++◌, map, length, get_or, set, drop, Option, Some, None, count_by, cond, if◌then◌else◌, refl, sym, ap, subst, ◌∙◌, arith, length-append, append-nil, append_assoc, option_to_list, IsTrue}
+use Rattle.std.proofs.Common.{◌≡◌, ℕ, ◌+◌, ◌<◌, ◌≤◌, Bool, true, false, List, [], ◌∷◌, ◌++◌, map, length, get_or}
+use Rattle.std.proofs.Common.{set, drop, Option, Some, None, count_by, cond, if◌then◌else◌, refl, sym, ap, subst}
+use Rattle.std.proofs.Common.{◌∙◌, arith, length-append, append-nil, append_assoc, option_to_list, IsTrue}
 use Rattle.std.specs.List.{filter_map, cons_option}
 use Rattle.std.proofs.lemmas.List.{map-append, map_push, length-map, get_or_at, set_at, drop_more}
 use Rattle.std.proofs.lemmas.List.Sums.{sum_by-set}
@@ -138,7 +140,8 @@ module _ (w : World) (e : ℕ) (start : List TrackerRow) (had : List Fired) wher
     }
 
   -- rows of which none is due stay
-  none_due : (n : ℕ) (todo : List TrackerRow) → MetPlaces w n todo [] → (map (row_after w e) todo ≡ todo) × (filter_map (fires w e) todo ≡ [])
+  none_due : (n : ℕ) (todo : List TrackerRow) → MetPlaces w n todo [] →
+      (map (row_after w e) todo ≡ todo) × (filter_map (fires w e) todo ≡ [])
   none_due n [] reach = (refl, refl)
   none_due n (row ∷ todo) (pass unmet reach) =
       let more = none_due (n + 1) todo reach in (

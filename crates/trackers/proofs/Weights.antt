@@ -1,5 +1,6 @@
 -- Lists that have the same elements, each as often.
-use Rattle.std.proofs.Common.{◌≡◌, ℕ, suc, ◌+◌, ◌<◌, ◌≤◌, Bool, true, false, ◌==◌, List, [], ◌∷◌, ◌++◌, map, length, get_or, cond, if◌then◌else◌, refl, sym, ap, ◌∙◌, arith}
+use Rattle.std.proofs.Common.{◌≡◌, ℕ, suc, ◌+◌, ◌<◌, ◌≤◌, Bool, true, false, ◌==◌, List, [], ◌∷◌, ◌++◌}
+use Rattle.std.proofs.Common.{map, length, get_or, cond, if◌then◌else◌, refl, sym, ap, ◌∙◌, arith}
 use Rattle.std.specs.Prelude.{⊤}
 use Rattle.std.specs.List.{filter, sum_by, AllByRecursion}
 use Rattle.std.specs.List.Sorted.{IsPermutation, IsNonDecreasing}
@@ -121,6 +122,7 @@ do_rise (x ∷ xs) sorted = (
   do_rise xs (λ i j d le within. sorted (suc i) (suc j) d (omega (arith, le)) (omega (arith, within))),
 )
   where
+    -- by induction on the elements: each has its index
     first : (n : ℕ) (ys : List ℕ) → ((k : ℕ) (d : ℕ) → k < length ys → x ≤ get_or ys k d) → AllByRecursion (λ (y : ℕ). x ≤ y) ys
     first n [] at = tt
     first n (y ∷ ys) at = (at 0 y (omega arith), first n ys (λ k d within. at (suc k) d (omega (arith, within))))

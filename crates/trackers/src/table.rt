@@ -56,7 +56,7 @@ impl Model for Trackers {
 }
 
 impl Trackers {
-    /// No trackers, of which this many may wait at once. It takes no memory.
+    /// No trackers, of which this many may wait at once. Takes no memory.
     pub fn new(alloc: Global, limit: u32) -> Trackers
         ensures { result ≡ empty limit }
     {
@@ -97,7 +97,7 @@ impl Trackers {
         }
     }
 
-    /// How many trackers wait. It takes no memory and O(1) time.
+    /// How many trackers wait. Takes no memory and O(1) time.
     pub fn waiting(&self) -> usize
         ensures { result ≡ length self.now.unfired }
     {
@@ -105,7 +105,7 @@ impl Trackers {
     }
 
     /// Takes out again the tracker that was attached last, under this collection, before any sweep:
-    /// all is as it was before that. It takes no memory, and a pass over the trackers that wait
+    /// all is as it was before that. Takes no memory, and a pass over the trackers that wait
     /// under the collection.
     pub fn detach(&mut self, collection: CollectionId)
         requires last { (before : TrackerTable) × (tracker : Waiting)
@@ -118,7 +118,7 @@ impl Trackers {
     }
 
     /// Fires the trackers that wait and whose condition holds, by rising id, at this event, which
-    /// concerned one collection: under another none holds. It takes no memory. It looks up that
+    /// concerned one collection: under another none holds. Takes no memory. It looks up that
     /// collection, and makes one test for each node of which trackers wait under it, for each node of
     /// which lifetimes are waited for, and for each buffer, whatever numbers of buffers the lifetimes
     /// allow and however many wait for the same. Each that fires costs a test more, is sorted among
@@ -151,7 +151,7 @@ impl Trackers {
     /// Forgets the trackers that fired: their firings, and those of their readers that were not taken. A
     /// reader that was taken still reads its firing.
     ///
-    /// `NoMemory` if a new index of those that wait is refused; then nothing changed. It costs a pass over
+    /// `NoMemory` if a new index of those that wait is refused; then nothing changed. Costs a pass over
     /// the trackers that fired since the last time, and the logarithm of how many wait for each that
     /// does.
     pub fn forget_fired(&mut self) -> Result<(), NoMemory>
@@ -169,7 +169,7 @@ impl Trackers {
     }
 
     /// The reader of the tracker with this id: `Some` once for each that was attached, and else
-    /// `None`. It knows the firing if there was one. It takes no memory, and a binary search among
+    /// `None`. It knows the firing if there was one. Takes no memory, and a binary search among
     /// all that were ever attached.
     pub fn take_tracker(&mut self, id: TrackerId) -> Option<Tracker>
         ensures tracker { result ≡ (if is_untaken self.old.untaken id
@@ -191,7 +191,7 @@ impl Trackers {
     /// another had set the cell, what that holds. Nothing but the firing sets a cell, so that the
     /// answer is `true` wherever there was one; but no contract of a cell says so. A body that always
     /// answers `false` breaks this contract. Both sides are `&mut`, since what is known of a cell is
-    /// read through one; neither changes. It takes no memory, and a binary search.
+    /// read through one; neither changes. Takes no memory, and a binary search.
     pub fn agree(&mut self, tracker: &mut Tracker) -> bool
         requires own { cell_of self.old.cells tracker.old.tracker ≡ Some tracker.old.cell }
         ensures waiting { firing_of self.old.fired tracker.old.tracker ≡ None → result ≡ false }

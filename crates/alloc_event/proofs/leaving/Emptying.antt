@@ -1,5 +1,9 @@
 -- What stays true of a forest without a collection that has no node.
-use Rattle.alloc_event.proofs.Common.{◌≡◌, ℕ, zero, suc, ◌+◌, ◌<◌, ◌==◌, Bool, true, false, not, List, [], ◌∷◌, ◌++◌, map, length, Option, Some, None, option_map, cond, refl, sym, ap, ◌∙◌, arith, filter, find, AllByRecursion, option_map_or, eqb-true, NodeKey, and_left, some-injective, Table, Entry, Node, Collection, Shelf, shelf_of, shelves_of, place_in, AreRising, IsStored, collection_in, nodes_with, forest_of, all_keys, are_filed, collection_at, is_left, collection_is}
+use Rattle.alloc_event.proofs.Common.{◌≡◌, ℕ, zero, suc, ◌+◌, ◌<◌, ◌==◌, Bool, true, false, not, List, [], ◌∷◌, ◌++◌, map, length}
+use Rattle.alloc_event.proofs.Common.{Option, Some, None, option_map, cond, refl, sym, ap, ◌∙◌, arith, filter, find}
+use Rattle.alloc_event.proofs.Common.{AllByRecursion, option_map_or, eqb-true, NodeKey, and_left, some-injective, Table, Entry}
+use Rattle.alloc_event.proofs.Common.{Node, Collection, Shelf, shelf_of, shelves_of, place_in, AreRising, IsStored, collection_in}
+use Rattle.alloc_event.proofs.Common.{nodes_with, forest_of, all_keys, are_filed, collection_at, is_left, collection_is}
 use Rattle.std.specs.List.{remove}
 use Rattle.std.proofs.lemmas.Bool.{ne_eqb}
 use Rattle.forest_store.proofs.shelves.Showing.{filed-length, filed_found}

@@ -1,5 +1,7 @@
 -- What stays true of a forest where the end of a node is put elsewhere.
-use Rattle.alloc_event.proofs.Common.{◌≡◌, ◌≢◌, true, map, Some, option_map, refl, sym, ap, subst, List, AllByRecursion, NodeKey, Table, node_at, Entry, Node, with_nodes, Shelf, are_filed, forest_of, shelves_of, is_over, IsStored, Writes, table_with_node, same_key-equal, on_collections, with_end}
+use Rattle.alloc_event.proofs.Common.{◌≡◌, ◌≢◌, true, map, Some, option_map, refl, sym, ap, subst, List, AllByRecursion}
+use Rattle.alloc_event.proofs.Common.{NodeKey, Table, node_at, Entry, Node, with_nodes, Shelf, are_filed, forest_of, shelves_of}
+use Rattle.alloc_event.proofs.Common.{is_over, IsStored, Writes, table_with_node, same_key-equal, on_collections, with_end}
 use Rattle.node_table.proofs.Keys.{same_key-apart}
 use Rattle.forest_store.specs.declared.node.End.{End}
 use Rattle.forest_store.specs.Calm.{AreCounted}

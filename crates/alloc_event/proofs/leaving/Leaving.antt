@@ -1,5 +1,10 @@
 -- What stays true of a forest without one node.
-use Rattle.alloc_event.proofs.Common.{◌≡◌, ◌≢◌, ℕ, zero, suc, ◌+◌, ◌<◌, ◌==◌, Bool, true, false, ◌||◌, not, List, [], ◌∷◌, ◌++◌, map, length, get_or, Option, Some, None, option_map, is_some, cond, refl, sym, ap, subst, ◌∙◌, arith, filter, AllByRecursion, option_map_or, eqb-true, false≢true, NodeKey, same_key, and_left, some-injective, Table, node_at, Entry, Node, with_nodes, Shelf, shelf_of, shelves_of, place_in, AreRising, IsStored, collection_in, all_keys, are_filed, is_of, none_in, shelf_found, same_key-equal, looked-kept, get_or_default, place_is}
+use Rattle.alloc_event.proofs.Common.{◌≡◌, ◌≢◌, ℕ, zero, suc, ◌+◌, ◌<◌, ◌==◌, Bool, true, false, ◌||◌, not, List, [], ◌∷◌}
+use Rattle.alloc_event.proofs.Common.{◌++◌, map, length, get_or, Option, Some, None, option_map, is_some, cond, refl, sym, ap}
+use Rattle.alloc_event.proofs.Common.{subst, ◌∙◌, arith, filter, AllByRecursion, option_map_or, eqb-true, false≢true, NodeKey}
+use Rattle.alloc_event.proofs.Common.{same_key, and_left, some-injective, Table, node_at, Entry, Node, with_nodes, Shelf}
+use Rattle.alloc_event.proofs.Common.{shelf_of, shelves_of, place_in, AreRising, IsStored, collection_in, all_keys, are_filed}
+use Rattle.alloc_event.proofs.Common.{is_of, none_in, shelf_found, same_key-equal, looked-kept, get_or_default, place_is}
 use Rattle.std.specs.List.{list_all, list_any}
 use Rattle.sm_names.proofs.SamenessLaws.{and_right, either_way, same_key-true}
 use Rattle.forest_store.specs.Shelves.{is_filed, IsWhole, TakesOut}
@@ -202,7 +207,8 @@ set_without t key {node} new (x ∷ es) was filed rising told is =
     (λ n on own. set_without t key new es was (and_right _ _ filed) rising.1 on own) told
 
 -- so where the entry at the place lost the key
-pub set_forgotten : (t : Table Node) (key : NodeKey) {node : Node} (old new : Entry) (es : List Entry) {at : ℕ} → node_at t key ≡ Some node →
+pub set_forgotten : (t : Table Node) (key : NodeKey) {node : Node} (old new : Entry) (es : List Entry) {at : ℕ} →
+    node_at t key ≡ Some node →
     IsStored t (shelves_of es) → place_in node.collection es ≡ Some at → old ≡ get_or es at old →
     shelf_of new ≡ shelf_without key (shelf_of old) → shelves_of (set es at new) ≡ map (shelf_without key) (shelves_of es)
 set_forgotten t key old new es {at} was kept told is own = set_without t key new es was kept.filed kept.rising told

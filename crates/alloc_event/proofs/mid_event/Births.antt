@@ -1,5 +1,10 @@
 -- A birth, after which the forced steps are made at the place of the collection.
-use Rattle.alloc_event.proofs.Common.{◌≡◌, ℕ, ◌==◌, refl, ap, sym, ◌∙◌, subst, true, false, List, [], ◌∷◌, map, get_or, Option, Some, None, find, HeldBuffer, NodeKey, Table, Change, Entry, Node, Unit, Collection, IsStored, Shelf, collection_in, forest_of, nodes_with, place_in, shelves_of, is_of, Handles, collection_or_new, Holdings, MayClose, AreServedByGiven, none_in, place_is, get_or_default, sorted_by, Finishes, Gives, with_birth, before_is, IsForest, Closes, is_some, false≢true, node_at, collection_at, collection_none}
+use Rattle.alloc_event.proofs.Common.{◌≡◌, ℕ, ◌==◌, refl, ap, sym, ◌∙◌, subst, true, false, List, [], ◌∷◌, map, get_or}
+use Rattle.alloc_event.proofs.Common.{Option, Some, None, find, HeldBuffer, NodeKey, Table, Change, Entry, Node, Unit}
+use Rattle.alloc_event.proofs.Common.{Collection, IsStored, Shelf, collection_in, forest_of, nodes_with, place_in}
+use Rattle.alloc_event.proofs.Common.{shelves_of, is_of, Handles, collection_or_new, Holdings, MayClose, AreServedByGiven}
+use Rattle.alloc_event.proofs.Common.{none_in, place_is, get_or_default, sorted_by, Finishes, Gives, with_birth, before_is}
+use Rattle.alloc_event.proofs.Common.{IsForest, Closes, is_some, false≢true, node_at, collection_at, collection_none}
 use Rattle.forest_store.specs.Forest.{IsPoolOf}
 use Rattle.std.proofs.lemmas.Bool.{eq-eqb}
 use Rattle.sm_names.proofs.ListLaws.{In, In-find}
@@ -39,6 +44,7 @@ placed_there : (t : Table Node) (id : ℕ) (es : List Entry) → is_some (collec
     (at : ℕ) × (place_in id es ≡ Some at)
 placed_there t id es there = from (place_in id es) refl
   where
+    -- by cases: without a place no entry has the id, and so no collection is found
     from : (o : Option ℕ) → place_in id es ≡ o → (at : ℕ) × (place_in id es ≡ Some at)
     from (Some at) is = (at, is)
     from None is = absurd (false≢true (sym (ap is_some (collection_none t es id (none_in id es is))) ∙ there))
@@ -144,7 +150,8 @@ module _ {t mid : Table Node} {es born_es : List Entry} {us : List Unit} (forest
 
   -- once the last steps are made, the node is born with all that this forces
   pub born_closed : {handles : Handles} {pool left : Holdings} {now : Table Node} {behind : List Entry} {last : List Unit} →
-      Closes handles pool left mid now born_es behind last id → left.size ≡ pool.size → IsBorn handles pool left t now es behind last id b key
+      Closes handles pool left mid now born_es behind last id → left.size ≡ pool.size →
+      IsBorn handles pool left t now es behind last id b key
   born_closed {handles} {pool} {now} {behind} closed size = record {
     finishes = joined t ss after refl
         (shown ∙ ap (λ (c : Collection). put c (map (collection_in t) ss)) (sym after_is)) (λ c settles. settles)

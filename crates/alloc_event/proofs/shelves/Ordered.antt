@@ -1,5 +1,6 @@
 -- The live nodes and the buffers of a forest, in order, told by its table and its entries.
-use Rattle.alloc_event.proofs.Common.{ℕ, ◌≡◌, refl, ap, ◌∙◌, nat_lt, cond, true, false, List, [], ◌∷◌, ◌++◌, map, filter, Table, Entry, HeldBuffer, Node, Shelf, all_keys, forest_of, nodes_with, shelves_of, sorted_by, nodes_of_all}
+use Rattle.alloc_event.proofs.Common.{ℕ, ◌≡◌, refl, ap, ◌∙◌, nat_lt, cond, true, false, List, [], ◌∷◌, ◌++◌, map, filter, Table, Entry}
+use Rattle.alloc_event.proofs.Common.{HeldBuffer, Node, Shelf, all_keys, forest_of, nodes_with, shelves_of, sorted_by, nodes_of_all}
 use Rattle.forest_store.specs.Questions.{is_live_node}
 use Rattle.std.specs.List.{flat_map}
 use Rattle.sm_names.specs.Words.{insert_by}

@@ -1,6 +1,7 @@
 -- Which events change a collection, and which change none.
 use Rattle.std.proofs.lemmas.Bool.{false≢true}
-use Rattle.std.proofs.Common.{ℕ, ◌≡◌, ◌≤◌, ◌<◌, refl, ap, sym, ◌∙◌, subst, Bool, true, false, cond, not, inl, inr, [], ◌∷◌, Some, None, arith, is_some}
+use Rattle.std.proofs.Common.{ℕ, ◌≡◌, ◌≤◌, ◌<◌, refl, ap, sym, ◌∙◌, subst, Bool, true, false}
+use Rattle.std.proofs.Common.{cond, not, inl, inr, [], ◌∷◌, Some, None, arith, is_some}
 use Rattle.std.specs.Option.{option_map, option_and_then}
 use Rattle.sm_names.specs.declared.keys.BufferName.{BufferName}
 use Rattle.sm_names.specs.declared.keys.NodeKey.{NodeKey}
@@ -37,7 +38,8 @@ use Rattle.forest_store.specs.Settling.{no_key}
 use Rattle.core_state.specs.Shown.{IsAfter, node_after}
 use Rattle.core_state.specs.State.{HandleCounts, State}
 use Rattle.core_state.specs.Steps.{Work, at_collection, at_node, done_to, drop_at, loss_at, work_of}
-use Rattle.core_state.proofs.forced.Beginning.{IsFound, at_found, effect_starts, loss_starts, nothing_starts, root_starts, child_starts, attached_starts}
+use Rattle.core_state.proofs.forced.Beginning.{IsFound, at_found, effect_starts, loss_starts}
+use Rattle.core_state.proofs.forced.Beginning.{nothing_starts, root_starts, child_starts, attached_starts}
 use Rattle.core_state.proofs.nodes.Called.{said}
 use Rattle.core_state.proofs.forced.CallStep.{IsIdle}
 use Rattle.core_state.proofs.forced.Dropping.{stays, took_last}

@@ -11,11 +11,14 @@ use Rattle.sm_names.specs.declared.outcomes.Buffers.{Buffers}
 use Rattle.sm_names.specs.declared.outcomes.Fault.{Fault}
 use Rattle.sm_names.specs.declared.outcomes.Misuse.{Misuse}
 use Rattle.sm_names.specs.declared.outcomes.Refusal.{Refusal}
-use Rattle.sm_names.specs.Answers.{OpenEnd, Readings, answer, answers_first, closing, collected, effect, end_in_transit, end_named, misuse, misuse_of, misused_if, no_end, no_handle, peer_closed, refused_if, shut_client, unknown_client, wrong_kind, makes_collection, makes_node, makes_tracker, too_many_handles}
+use Rattle.sm_names.specs.Answers.{OpenEnd, Readings, answer, answers_first, closing, collected, effect, end_in_transit, end_named}
+use Rattle.sm_names.specs.Answers.{misuse, misuse_of, misused_if, no_end, no_handle, peer_closed, refused_if, shut_client}
+use Rattle.sm_names.specs.Answers.{unknown_client, wrong_kind, makes_collection, makes_node, makes_tracker, too_many_handles}
 use Rattle.sm_names.specs.Bounds.{Bound}
 use Rattle.sm_names.specs.Timelines.{key_of}
 use Rattle.sm_names.specs.Words.{first_some}
-use Rattle.history_laws.proofs.RejectLaws.{Rejects, is_refusal, rejects_if, unknown_rejects, shut_rejects, no_end_rejects, in_transit_rejects, wrong_kind_rejects}
+use Rattle.history_laws.proofs.RejectLaws.{Rejects, is_refusal, rejects_if, unknown_rejects, shut_rejects}
+use Rattle.history_laws.proofs.RejectLaws.{no_end_rejects, in_transit_rejects, wrong_kind_rejects}
 use Rattle.core_state.specs.Kinds.{fits_call, is_answered}
 
 -- ---- what the table says
@@ -38,6 +41,7 @@ collected-fits r [] = refl
 collected-fits r (Parcel.Handle buffer strength ∷ more) = refl
 collected-fits r (Parcel.End key ∷ more) = by (r.end_of key)
   where
+    -- by cases: an end is collected, or the reply is Empty, and both fit
     by : (o : Option OpenEnd) → fits_call Call.Collect (option_map_or (λ (e : OpenEnd). Reply.Collected key e.kind e.collection) o
         Reply.Empty) ≡ true
     by None = refl
@@ -77,6 +81,7 @@ Fits call line = (reply : Reply) → line ≡ Some reply → fits_call call repl
 refusal-fits : (call : Call) (line : Option Reply) → Rejects line → Fits call line
 refusal-fits call line rejects reply is = by reply (rejects reply is)
   where
+    -- by cases: a refusal fits each call
     by : (reply : Reply) → is_refusal reply ≡ true → fits_call call reply ≡ true
     by (Reply.Refused refusal) h = refl
     by _ h = absurd (false≢true h)
@@ -102,12 +107,14 @@ closed-fits call (Some f) named reply is =
 peer-fits : (r : Readings) (call : Call) → Fits call (peer_closed r call)
 peer-fits r call reply is = by (key_of call) refl
   where
+    -- by cases: without an end no failure is told, and with one its call can be told of it
     at : (o : Option OpenEnd) → is_some (key_of call) ≡ true →
         option_and_then (λ (e : OpenEnd). option_map (λ (f : Fault). Reply.PeerClosed f.cause f.origin) e.fault) o ≡ Some reply →
         fits_call call reply ≡ true
     at None named e = cc
     at (Some end) named e = closed-fits call end.fault named reply e
 
+    -- by cases: a call that names no node is told of no failure
     by : (o : Option NodeKey) → key_of call ≡ o → fits_call call reply ≡ true
     by None none = let no : None ≡ Some reply = rw none at is in cc
     by (Some key) some = at (option_and_then r.end_of (key_of call)) (ap is_some some) is
@@ -131,6 +138,7 @@ misuse_of-fits e _ = λ reply is. cc
 misuse-fits : (r : Readings) (call : Call) → Fits call (misuse r call)
 misuse-fits r call reply is = by (option_and_then r.end_of (key_of call)) is
   where
+    -- by cases: without an end there is no misuse, and with one the call is told of it
     by : (o : Option OpenEnd) → option_and_then (λ (e : OpenEnd). misuse_of e call) o ≡ Some reply → fits_call call reply ≡ true
     by None e = cc
     by (Some end) e = misuse_of-fits end call reply e

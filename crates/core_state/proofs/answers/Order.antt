@@ -4,7 +4,8 @@ use Rattle.std.specs.Option.{option_and_then, option_or}
 use Rattle.sm_names.specs.declared.keys.NodeKey.{NodeKey}
 use Rattle.sm_names.specs.declared.messages.Call.{Call}
 use Rattle.sm_names.specs.declared.messages.Reply.{Reply}
-use Rattle.sm_names.specs.Answers.{Readings, answers_first, end_named, unknown_client, shut_client, no_end, end_in_transit, closing, peer_closed, wrong_kind, misuse, no_handle, limits_met}
+use Rattle.sm_names.specs.Answers.{Readings, answers_first, end_named, unknown_client, shut_client, no_end}
+use Rattle.sm_names.specs.Answers.{end_in_transit, closing, peer_closed, wrong_kind, misuse, no_handle, limits_met}
 use Rattle.sm_names.specs.Bounds.{Bound}
 use Rattle.sm_names.specs.Timelines.{key_of}
 use Rattle.sm_names.specs.Words.{first_some}
@@ -36,6 +37,7 @@ pub lines_in_order : (limits : Bound) (r : Readings) (client : ℕ) (call : Call
     (first_some (limits_met limits r call))
 lines_in_order limits r client call = by (unknown_client r client call) (shut_client r client call)
   where
+    -- by cases: the first reply that there is, is the first of all
     by : (a b : Option Reply) → first_some (a ∷ b ∷ (of_named r client call ++ limits_met limits r call))
         ≡ option_or (option_or (option_or a b) (first_some (of_named r client call))) (first_some (limits_met limits r call))
     by (Some x) b = refl
@@ -53,6 +55,7 @@ pub end_of_named : (s : State) (call : Call) (on : Named) (there : Option Node) 
     end_named (readings_of s) call ≡ option_and_then (open_end_in s) there
 end_of_named s call on there key is = rw (key, is) (by (key_in on))
   where
+    -- by cases on the key
     by : (o : Option NodeKey) → option_and_then (end_in s) o ≡ option_and_then (open_end_in s) (option_and_then (node_at s.forest) o)
     by None = refl
     by (Some k) = refl

@@ -5,7 +5,8 @@ use Rattle.sm_names.specs.declared.keys.NodeKey.{NodeKey}
 use Rattle.sm_names.specs.declared.messages.Call.{Call}
 use Rattle.sm_names.specs.declared.messages.Reply.{Reply}
 use Rattle.sm_names.specs.declared.outcomes.Fault.{Fault}
-use Rattle.sm_names.specs.Answers.{OpenEnd, Readings, answer, effect, closing, no_end, is_anothers, refused_if, unknown_client, shut_client, end_in_transit, peer_closed, wrong_kind, misuse, no_handle, limits_met}
+use Rattle.sm_names.specs.Answers.{OpenEnd, Readings, answer, effect, closing, no_end, is_anothers, refused_if, unknown_client}
+use Rattle.sm_names.specs.Answers.{shut_client, end_in_transit, peer_closed, wrong_kind, misuse, no_handle, limits_met}
 use Rattle.sm_names.specs.declared.outcomes.Refusal.{Refusal}
 use Rattle.sm_names.specs.Bounds.{Bound}
 use Rattle.sm_names.specs.Timelines.{key_of}

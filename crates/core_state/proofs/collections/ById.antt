@@ -1,5 +1,6 @@
 -- Collections by their ids.
-use Rattle.std.proofs.Common.{ℕ, ◌≡◌, ◌≢◌, ◌<◌, ◌≤◌, refl, ap, sym, ◌∙◌, subst, Bool, true, false, ◌==◌, not, nat_lt, if◌then◌else◌, List, [], ◌∷◌, map, Some, ◌⊎◌, inl, inr, arith}
+use Rattle.std.proofs.Common.{ℕ, ◌≡◌, ◌≢◌, ◌<◌, ◌≤◌, refl, ap, sym, ◌∙◌, subst, Bool, true, false, ◌==◌}
+use Rattle.std.proofs.Common.{not, nat_lt, if◌then◌else◌, List, [], ◌∷◌, map, Some, ◌⊎◌, inl, inr, arith}
 use Rattle.std.proofs.lemmas.Bool.{eqb-true, eqb-false, eq-eqb, ltb-true, ltb-false}
 use Rattle.std.specs.List.{find, AllByRecursion}
 use Rattle.sm_names.proofs.ListLaws.{In}
@@ -47,12 +48,15 @@ put_from new (d ∷ cs) c there =
       ]
     ]
   where
+    -- restates the hypothesis with the list as it is then
     at_same : In c (new ∷ cs) → (c ≡ new) ⊎ In c cs
     at_same h = h
 
+    -- restates the hypothesis with the list as it is then
     at_before : In c (new ∷ d ∷ cs) → (c ≡ new) ⊎ In c (d ∷ cs)
     at_before h = h
 
+    -- restates the hypothesis with the list as it is then
     at_behind : In c (d ∷ put new cs) → (c ≡ d) ⊎ In c (put new cs)
     at_behind h = h
 
@@ -87,6 +91,7 @@ put_rises new (c ∷ cs) rise =
       ]
     ]
   where
+    -- since ids that differ and do not exceed are smaller
     less_by : (c.id == new.id) ≡ false → nat_lt new.id c.id ≡ false → c.id < new.id
     less_by apart behind = let differ : c.id ≢ new.id =
         eqb-false c.id new.id apart in let order : c.id ≤ new.id = ltb-false new.id c.id behind in omega arith
@@ -110,6 +115,7 @@ found_by_id (d ∷ cs) c id rise (inr on) is =
 stays : (c : Collection) (rest : List Collection) → IsTidy c → (if not (is_left (tidied c)) then tidied c ∷ rest else rest) ≡ c ∷ rest
 stays c rest tidy = by (tidied c) tidy.tidied tidy.kept
   where
+    -- by the two facts about it
     by : (t : Collection) → t ≡ c → is_left c ≡ false → (if not (is_left t) then t ∷ rest else rest) ≡ c ∷ rest
     by t same kept = rw (same, kept) refl
 
@@ -125,17 +131,20 @@ pub others_tidy : (id : ℕ) (cs : List Collection) → Rise (ids cs) → ((c : 
 others_tidy id [] rise tidy = refl
 others_tidy id (c ∷ cs) rise tidy = by (c.id == id) refl (others_tidy id cs rise.1 (λ d on. tidy d (inr on)))
   where
+    -- since ids rise, no other has this id, so all others are tidy
     rest_tidy : c.id ≡ id → without_over cs ≡ cs
     rest_tidy is = all_tidy cs (λ d on. tidy d (inr on) (false_if (d.id == id) (λ same.
         let equal : d.id ≡ id = eqb-true d.id id same in
         let less : c.id < d.id = later_apart c cs d rise.0 on in
         absurd (omega arith))))
 
+    -- by cases: nothing is left of it, or it is tidied
     pick : (left : Bool) (t : Collection) (rest : List Collection) → rest ≡ cs →
         (if left then cs else t ∷ cs) ≡ (if not left then t ∷ rest else rest)
     pick true t rest same = sym same
     pick false t rest same = ap (λ (ds : List Collection). t ∷ ds) (sym same)
 
+    -- by cases: this collection is the one to look at and the others are tidy, or it is tidy itself
     by : (here : Bool) → (c.id == id) ≡ here → without_over_in id cs ≡ without_over cs → without_over_in id (c ∷ cs) ≡ without_over (c ∷ cs)
     by true is on = rw is (pick (is_left (tidied c)) (tidied c) (without_over cs) (rest_tidy (eqb-true c.id id is)))
     by false is on = rw is (ap (λ (ds : List Collection). c ∷ ds) on ∙ sym (stays c (without_over cs) (tidy c (inl refl) is)))

@@ -59,6 +59,7 @@ forced_in : (pool ours : ℕ) (marks : Timeline) (mark : Mark) → IsWhole marks
     IsIn marks ours mark
 forced_in pool ours marks mark w e = by_why mark (forced_why pool ours marks mark e)
   where
+    -- by cases on why the mark is forced: each is at a node of the collection
     by_why : (mark : Mark) → Why pool ours marks mark → IsIn marks ours mark
     by_why _ (No_live b on its free none) = of_ours marks ours w b on its
     by_why _ (Fails b cause on its free) = of_ours marks ours w b on its

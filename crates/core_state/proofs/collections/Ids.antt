@@ -1,5 +1,6 @@
 -- The ids of collections, the earliest first: they rise, and a new one comes last.
-use Rattle.std.proofs.Common.{ℕ, ◌≡◌, ◌≤◌, ◌+◌, refl, ap, sym, ◌∙◌, subst, Bool, inl, inr, List, [], ◌∷◌, ◌++◌, map, reverse, Option, Some, None, is_none, arith}
+use Rattle.std.proofs.Common.{ℕ, ◌≡◌, ◌≤◌, ◌+◌, refl, ap, sym, ◌∙◌, subst, Bool, inl, inr, List}
+use Rattle.std.proofs.Common.{[], ◌∷◌, ◌++◌, map, reverse, Option, Some, None, is_none, arith}
 use Rattle.std.proofs.lemmas.List.{reverse-append, map-append, append-nil}
 use Rattle.std.proofs.lemmas.List.Elements.{filter-append}
 use Rattle.std.specs.List.{filter, cons_option}
@@ -70,6 +71,7 @@ ids_rise pool limits _ Stays = tt
 ids_rise pool limits _ (Answers before client reply call g answer) =
     from (ids_rise pool limits before g) (birth_at (events before + 1) (Called client reply call)) refl
   where
+    -- since a birth has the number of an event that was
     early : (n : ℕ) → In n (ids (births before)) → n ≤ events before
     early n on =
         let r = id_root (births before) n on in
@@ -77,6 +79,7 @@ ids_rise pool limits _ (Answers before client reply call g answer) =
         let y : r.0.collection ≡ n = r.3 in
         omega (arith, x, y)
 
+    -- by cases: a new root has the newest id, and a child has the id of its parent
     from : IsRising (ids (births before)) → (o : Option Birth) → birth_at (events before + 1) (Called client reply call) ≡ o →
         IsRising (ids (cons_option o (births before)))
     from rise None e = rise

@@ -13,7 +13,8 @@ use Rattle.sm_names.specs.Marks.{Mark, Timeline, Called, Loss, Allocated, Ended}
 use Rattle.sm_names.specs.Members.{member, members, births_in, some_strong_live}
 use Rattle.sm_names.specs.declared.keys.HeldBuffer.{HeldBuffer}
 use Rattle.sm_names.specs.Timelines.{held, placed, layout_at}
-use Rattle.history_laws.proofs.IsolationLaws.{fault_loss, of_ours, not_initial, members_loss, members_end, members_allocation, buffers_allocation, birth_of_collection}
+use Rattle.history_laws.proofs.IsolationLaws.{fault_loss, of_ours, not_initial, members_loss, members_end}
+use Rattle.history_laws.proofs.IsolationLaws.{members_allocation, buffers_allocation, birth_of_collection}
 use Rattle.history_laws.proofs.LayoutLaws.{layout_given}
 use Rattle.sm_names.proofs.ListLaws.{In, In-filter, map-In, map-at, filter-swap, filter-In, filter-none, filter-less}
 use Rattle.sm_names.proofs.SamenessLaws.{either_way, both_ways}

@@ -1,5 +1,6 @@
 -- The collections that are kept, each of which has one root.
-use Rattle.std.proofs.Common.{ℕ, ◌≡◌, ◌+◌, refl, ap, sym, ◌∙◌, subst, Bool, true, false, not, ◌&&◌, ◌==◌, ◌⊎◌, inl, inr, List, [], ◌∷◌, reverse, Option, Some, None, is_some, is_none}
+use Rattle.std.proofs.Common.{ℕ, ◌≡◌, ◌+◌, refl, ap, sym, ◌∙◌, subst, Bool, true, false, not, ◌&&◌, ◌==◌}
+use Rattle.std.proofs.Common.{◌⊎◌, inl, inr, List, [], ◌∷◌, reverse, Option, Some, None, is_some, is_none}
 use Rattle.std.proofs.lemmas.Bool.{eqb-true, eq-eqb, not-true}
 use Rattle.std.specs.List.{find, list_any}
 use Rattle.std.specs.Option.{option_map_or}
@@ -48,6 +49,7 @@ has_root (c ∷ older) together b (inr on) = root_stays c older b.collection (ha
 has_root (c ∷ older) together b (inl here) =
     subst (λ (x : Birth). HasRoot (c ∷ older) x.collection) (sym here) (above (λ q on. has_root older together.1 q on) c.parent refl)
   where
+    -- by cases: it is a root, or the collection of its parent has one
     above : ((q : Birth) → In q older → HasRoot older q.collection) → (o : Option NodeKey) → c.parent ≡ o → HasRoot (c ∷ older) c.collection
     above older_has None up = record { root = c; there = inl refl; is_root = up; ours = refl }
     above older_has (Some p) up =
@@ -66,6 +68,7 @@ buffers_root (mark ∷ before) collection given =
       | inr e ↦ born (buffers_root before collection (rw e at given))
     ]
   where
+    -- since an older birth stays
     born : HasRoot (births before) collection → HasRoot (births (mark ∷ before)) collection
     born r = record {
       root = r.root;
@@ -74,6 +77,7 @@ buffers_root (mark ∷ before) collection given =
       ours = r.ours;
     }
 
+    -- by cases: the birth of the head is the root, and without it nothing is given
     of_birth : (head : NodeKey) (o : Option Birth) → birth_of before head ≡ o →
         option_map_or (λ (b : Birth). is_none b.parent && b.collection == collection) o false ≡ true → HasRoot (births before) collection
     of_birth head None e h = cc
@@ -85,6 +89,7 @@ buffers_root (mark ∷ before) collection given =
           ours = eqb-true b.collection collection (and_right (is_none b.parent) (b.collection == collection) h);
         }
 
+    -- by cases on the mark: only an allocation gives buffers
     first : (m : Mark) → is_initial before collection m ≡ true → HasRoot (births (mark ∷ before)) collection
     first (Allocated head) e = born (of_birth head (birth_of before head) refl e)
     first (Called client reply call) e = cc
@@ -95,6 +100,7 @@ buffers_root (mark ∷ before) collection given =
 left_given : (marks : Timeline) (collection : ℕ) → (left marks collection == 0) ≡ false → is_some (buffers_of marks collection) ≡ true
 left_given marks collection some = from (buffers_of marks collection) refl
   where
+    -- by cases: without buffers nothing is left
     from : (o : Option Buffers) → buffers_of marks collection ≡ o → is_some (buffers_of marks collection) ≡ true
     from None e =
         let none : left marks collection ≡ 0 = rw e refl in
@@ -127,6 +133,7 @@ times_only p (c ∷ older) b sound (inl here) is only =
     let none : times p older ≡ 0 = times-zero p older (λ d there. fails d there (either_way (p d))) in
     rw (e, none) refl
   where
+    -- since a second one that passes would be the newest node again
     fails : (d : Birth) → In d older → ((p d ≡ true) ⊎ (p d ≡ false)) → p d ≡ false
     fails d there (inr e) = e
     fails d there (inl e) =

@@ -1,5 +1,6 @@
 -- An end gets a new holder and the nodes that are over are forgotten: the marks keep just the remaining nodes.
-use Rattle.std.proofs.Common.{ℕ, ◌≡◌, refl, ap, sym, ◌∙◌, Bool, true, false, not, ◌&&◌, ◌||◌, ◌==◌, ◌⊎◌, inl, inr, List, [], ◌∷◌, map, length, Option, Some, None, arith}
+use Rattle.std.proofs.Common.{ℕ, ◌≡◌, refl, ap, sym, ◌∙◌, Bool, true, false, not, ◌&&◌, ◌||◌, ◌==◌}
+use Rattle.std.proofs.Common.{◌⊎◌, inl, inr, List, [], ◌∷◌, map, length, Option, Some, None, arith}
 use Rattle.std.proofs.lemmas.Bool.{eqb-true}
 use Rattle.std.specs.List.{filter}
 use Rattle.sm_names.specs.declared.keys.NodeKey.{NodeKey}
@@ -71,10 +72,12 @@ finished_kept pool limits marks grown o f w k is each =
     (λ d on. asks d (each d on)) (λ d on kept. makes d kept (each d on))
     ∙ ap (map (collection_after pool marks)) (sym (kept_are marks)))
   where
+    -- by cases: where nothing changed it is kept as before, and elsewhere neither keeps it
     asks : (d : ℕ) → ComesTo pool o w k marks d → (k d && not (is_left (finished o (w d)))) ≡ is_kept_collection marks d
     asks d (inl t) = (λ i. t.0 i && not (is_left (t.1 i))) ∙ left_after pool limits marks grown d
     asks d (inr t) = rw t.0 (sym t.1)
 
+    -- by cases: where nothing changed it is what it was, and elsewhere it is not kept
     makes : (d : ℕ) → is_kept_collection marks d ≡ true → ComesTo pool o w k marks d → finished o (w d) ≡ collection_after pool marks d
     makes d kept (inl t) = t.1
     makes d kept (inr t) = let clash : false ≡ true = sym t.1 ∙ kept in cc
@@ -103,6 +106,7 @@ over_mark marks mark node over =
     let t : spent (mark ∷ marks) node ≡ true = or_right (spends node mark) (spent marks node) p.1 in
     rw (g, t) refl
   where
+    -- by cases on both switches
     parts : (g t : Bool) → (not g || not t) ≡ false → (g ≡ true) × (t ≡ true)
     parts true true h = (refl, refl)
     parts true false h = cc
@@ -133,6 +137,7 @@ finished_is pool limits marks later g others o c m held = λ i. record {
   held = held i;
 }
   where
+    -- by cases: a node that is not kept before is over later
     asks : (n : Node) → In n (nodes_after later c.id) → (is_kept marks n.key && not (is_over n)) ≡ not (is_over n)
     asks n on =
         let b = In-map (node_after later) (births_in later c.id) n on in
@@ -146,6 +151,7 @@ finished_is pool limits marks later g others o c m held = λ i. record {
               rw (e, now) refl
         ]
 
+    -- by filtering twice, which is filtering by both tests
     nodes : filter (λ n. not (is_over n)) (map (placed_node (place_of o)) c.nodes) ≡ filter (λ n. not (is_over n)) (nodes_after later c.id)
     nodes =
         ap (filter (λ n. not (is_over n))) m.nodes

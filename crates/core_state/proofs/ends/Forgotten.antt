@@ -1,5 +1,6 @@
 -- A collection is forgotten exactly where nothing of it is left.
-use Rattle.std.proofs.Common.{ℕ, suc, arith, ◌≡◌, ◌<◌, refl, ap, sym, ◌∙◌, subst, Bool, true, false, cond, not, ◌&&◌, ◌||◌, ◌==◌, List, [], ◌∷◌, length}
+use Rattle.std.proofs.Common.{ℕ, suc, arith, ◌≡◌, ◌<◌, refl, ap, sym, ◌∙◌, subst, Bool, true}
+use Rattle.std.proofs.Common.{false, cond, not, ◌&&◌, ◌||◌, ◌==◌, List, [], ◌∷◌, length}
 use Rattle.std.proofs.lemmas.Bool.{eqb-true}
 use Rattle.std.specs.List.{list_any, filter}
 use Rattle.sm_names.specs.declared.keys.BufferName.{BufferName}
@@ -80,6 +81,7 @@ left_after pool limits marks g collection =
     (λ i. not (nodes i && pages i)) ∙ parts (list_any (λ (b : Birth). b.collection == collection && is_kept marks b.node) (births marks))
     (left marks collection == 0)
   where
+    -- by cases on the first switch
     parts : (a b : Bool) → not (not a && b) ≡ (a || not b)
     parts true b = refl
     parts false b = refl

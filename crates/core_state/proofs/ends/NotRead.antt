@@ -1,5 +1,6 @@
 -- The forced steps read nothing of ends: they are the same, and come to the same, wherever the ends are.
-use Rattle.std.proofs.Common.{ℕ, ◌≡◌, refl, ap, sym, ◌∙◌, subst, Bool, true, false, cond, not, ◌||◌, ◌&&◌, ◌++◌, List, [], ◌∷◌, map, reverse, Option, Some, None, is_none}
+use Rattle.std.proofs.Common.{ℕ, ◌≡◌, refl, ap, sym, ◌∙◌, subst, Bool, true, false, cond, not, ◌||◌}
+use Rattle.std.proofs.Common.{◌&&◌, ◌++◌, List, [], ◌∷◌, map, reverse, Option, Some, None, is_none}
 use Rattle.std.specs.List.{filter}
 use Rattle.std.specs.Option.{option_map, option_map_or}
 use Rattle.sm_names.specs.declared.keys.Interval.{Interval}
@@ -18,7 +19,8 @@ use Rattle.sm_names.proofs.ListLaws.{map-map}
 use Rattle.forest_store.specs.declared.node.End.{End}
 use Rattle.forest_store.specs.declared.node.Node.{Node}
 use Rattle.forest_store.specs.Forest.{Collection, pages_in, with_nodes}
-use Rattle.forest_store.specs.Nodes.{above_among, member_of, members_of, node_of, is_of, is_taken, lost, after_loss, given_buffers, after_allocation, ended, after_end}
+use Rattle.forest_store.specs.Nodes.{above_among, member_of, members_of, node_of, is_of, is_taken, lost}
+use Rattle.forest_store.specs.Nodes.{after_loss, given_buffers, after_allocation, ended, after_end}
 use Rattle.forest_store.specs.Settling.{Handles, Settles, Rests, Forces, made, standing, is_root_of, given_back}
 use Rattle.core_state.proofs.lists.Maps.{filter-map, find-map, map-reverse}
 

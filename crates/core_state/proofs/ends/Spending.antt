@@ -1,5 +1,6 @@
 -- An end is spent, and the nodes that are over are forgotten.
-use Rattle.std.proofs.Common.{ℕ, ◌≡◌, refl, ap, sym, ◌∙◌, subst, Bool, true, false, ◌==◌, ◌&&◌, not, if◌then◌else◌, List, [], ◌∷◌, ◌++◌, length, map, Option, Some, None, arith}
+use Rattle.std.proofs.Common.{ℕ, ◌≡◌, refl, ap, sym, ◌∙◌, subst, Bool, true, false, ◌==◌, ◌&&◌, not}
+use Rattle.std.proofs.Common.{if◌then◌else◌, List, [], ◌∷◌, ◌++◌, length, map, Option, Some, None, arith}
 use Rattle.std.proofs.lemmas.Bool.{eqb-true}
 use Rattle.std.specs.List.{flat_map}
 use Rattle.sm_names.specs.declared.keys.NodeKey.{NodeKey}
@@ -45,6 +46,7 @@ held_left : (cs : List Collection) → flat_map (λ (c : Collection). c.held) (w
 held_left [] = refl
 held_left (c ∷ cs) = by (is_left (tidied c)) refl (held_left cs)
   where
+    -- by cases: a collection that is left out holds no pages, and any other keeps them
     by : (left : Bool) → is_left (tidied c) ≡ left → flat_map (λ (d : Collection). d.held) (without_over cs) ≡ flat_map (λ (d : Collection).
         d.held) cs →
         flat_map (λ (d : Collection). d.held) (if not left then tidied c ∷ without_over cs else without_over cs) ≡ c.held ++ flat_map
@@ -68,6 +70,7 @@ spent_id (Some key) c = refl
 other_node : (key : NodeKey) (n : Node) → same_key key n.key ≡ false → with_end key End.Spent n ≡ n
 other_node key n apart = λ i. record n { end = ends i }
   where
+    -- since the keys differ
     ends : (if same_key key n.key then End.Spent else n.end) ≡ n.end
     ends = rw apart refl
 

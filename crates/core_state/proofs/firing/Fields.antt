@@ -1,5 +1,6 @@
 -- What an event keeps of the trackers.
-use Rattle.std.proofs.Common.{ℕ, ◌≡◌, ◌<◌, ◌≤◌, ◌+◌, refl, ap, sym, ◌∙◌, subst, Bool, true, false, nat_le, if◌then◌else◌, length, ◌⊎◌, inl, inr, [], ◌∷◌, Option, Some, None, is_some, IfSome, arith}
+use Rattle.std.proofs.Common.{ℕ, ◌≡◌, ◌<◌, ◌≤◌, ◌+◌, refl, ap, sym, ◌∙◌, subst, Bool, true, false, nat_le}
+use Rattle.std.proofs.Common.{if◌then◌else◌, length, ◌⊎◌, inl, inr, [], ◌∷◌, Option, Some, None, is_some, IfSome, arith}
 use Rattle.std.proofs.lemmas.Bool.{leb-false, false≢true}
 use Rattle.std.specs.List.{All}
 use Rattle.sm_names.specs.declared.messages.Call.{Call}
@@ -105,11 +106,12 @@ module _ (s : State) (call : Call) (asked : Reply) (limits : Bound) (client : �
 pub attached_from : (old new : TrackerTable) (o : Option Waiting) → GainsTracker old o new → (t : Waiting) → In t new.unfired →
     In t old.unfired ⊎ (o ≡ Some t)
 attached_from old new None gains t on = inl (subst (λ (x : TrackerTable). In t x.unfired) gains on)
-attached_from old new (Some w) gains t on = elim (In-append old.unfired (w ∷ []) t (subst (λ (x : TrackerTable). In t x.unfired) gains.next on)) [
-  | inl before ↦ inl before
-  | inr (inl is) ↦ inr (ap Some (sym is))
-  | inr (inr none) ↦ absurd none
-]
+attached_from old new (Some w) gains t on =
+    elim (In-append old.unfired (w ∷ []) t (subst (λ (x : TrackerTable). In t x.unfired) gains.next on)) [
+      | inl before ↦ inl before
+      | inr (inl is) ↦ inr (ap Some (sym is))
+      | inr (inr none) ↦ absurd none
+    ]
 
 -- ---- the collection that is changed
 
@@ -129,9 +131,11 @@ new_elsewhere w None (Some n) t is here other =
     subst (λ (x : Waiting). is_due w x ≡ false) same
     (not_looked (holds w n.condition) (λ h. other (h ∙ ap (λ (x : Waiting). Some x.collection) same)))
   where
+    -- since `Some` is injective
     one : {x : Waiting} → Some x ≡ Some t → x ≡ t
     one h = cc
 
+    -- by cases: it would be looked for
     not_looked : (b : Bool) → ((if b then Some n.collection else None) ≡ Some n.collection → ⊥) → b ≡ false
     not_looked true other = absurd (other refl)
     not_looked false other = refl

@@ -1,5 +1,6 @@
 -- The trackers of the next state are those of the marks.
-use Rattle.std.proofs.Common.{ℕ, ◌≡◌, ◌+◌, refl, ap, sym, ◌∙◌, subst, true, false, not, ◌||◌, ◌==◌, inl, inr, List, [], ◌∷◌, ◌++◌, map, Option, Some, None}
+use Rattle.std.proofs.Common.{ℕ, ◌≡◌, ◌+◌, refl, ap, sym, ◌∙◌, subst, true, false, not, ◌||◌}
+use Rattle.std.proofs.Common.{◌==◌, inl, inr, List, [], ◌∷◌, ◌++◌, map, Option, Some, None}
 use Rattle.std.proofs.lemmas.List.{append-nil, map-append}
 use Rattle.std.proofs.lemmas.List.Folds.{list_any-append}
 use Rattle.std.specs.List.{list_any, filter, cons_option}
@@ -129,7 +130,8 @@ module _ (s : State) (marks : Timeline) (shown : IsAfter s marks) (limits : Boun
     waiting =
         sym (filter-map (λ u. not (is_tracked_met w u)) tracked_as t.unfired)
         ∙ (ap (filter (λ u. not (is_tracked_met w u))) asks.waiting
-        ∙ (filter-In (λ u. not (is_tracked_met w u)) (λ u. not (is_tracked_met (world later) u)) (trackers_to_test marks entry) (λ u on. ap not (due u on))
+        ∙ (filter-In (λ u. not (is_tracked_met w u)) (λ u. not (is_tracked_met (world later) u))
+        (trackers_to_test marks entry) (λ u on. ap not (due u on))
         ∙ sym (waiting_next s.pool limits marks entry grown answer)));
     untaken = asks.untaken;
   }
@@ -139,12 +141,15 @@ module _ (s : State) (marks : Timeline) (shown : IsAfter s marks) (limits : Boun
       due = recalled_due s.pool limits marks later entry w grown (grows_after s.pool limits marks marks entry Stays answer) answer seen
 
       named_fired : map (firing_in (events (after s.pool marks (client, call, reply)))) (filter (is_due_in w) t.unfired) ≡ map
-          (tracked_firing (events (after s.pool marks (client, call, reply)))) (filter (is_tracked_met w) (trackers_to_test marks (client, call, reply)))
+          (tracked_firing (events (after s.pool marks (client, call, reply))))
+          (filter (is_tracked_met w) (trackers_to_test marks (client, call, reply)))
       named_fired =
           sym (map-map (tracked_firing (events later)) tracked_as (filter (is_due_in w) t.unfired))
-          ∙ ap (map (tracked_firing (events later))) (sym (filter-map (is_tracked_met w) tracked_as t.unfired) ∙ ap (filter (is_tracked_met w)) asks.waiting)
+          ∙ ap (map (tracked_firing (events later))) (sym (filter-map (is_tracked_met w) tracked_as t.unfired)
+          ∙ ap (filter (is_tracked_met w)) asks.waiting)
 
-      due_fire : filter (is_tracked_met w) (trackers_to_test marks (client, call, reply)) ≡ filter (is_tracked_met (world (after s.pool marks (client, call, reply))))
+      due_fire : filter (is_tracked_met w) (trackers_to_test marks (client, call, reply))
+          ≡ filter (is_tracked_met (world (after s.pool marks (client, call, reply))))
           (trackers_to_test marks (client, call, reply))
       due_fire = filter-In (is_tracked_met w) (is_tracked_met (world later)) (trackers_to_test marks entry) due
 

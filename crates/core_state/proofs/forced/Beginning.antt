@@ -1,5 +1,6 @@
 -- How an event begins in the collection that it changes.
-use Rattle.std.proofs.Common.{ℕ, ◌≡◌, ◌<◌, ◌+◌, refl, ap, sym, ◌∙◌, subst, Bool, true, false, not, ◌++◌, inl, inr, ◌⊎◌, List, [], ◌∷◌, map, Option, Some, None, arith}
+use Rattle.std.proofs.Common.{ℕ, ◌≡◌, ◌<◌, ◌+◌, refl, ap, sym, ◌∙◌, subst, Bool, true, false, not}
+use Rattle.std.proofs.Common.{◌++◌, inl, inr, ◌⊎◌, List, [], ◌∷◌, map, Option, Some, None, arith}
 use Rattle.std.specs.List.{cons_option}
 use Rattle.std.specs.Option.{option_map_or, unwrap_or}
 use Rattle.sm_names.specs.declared.keys.NodeKey.{NodeKey}

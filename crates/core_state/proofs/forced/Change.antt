@@ -28,6 +28,7 @@ pub amid_worked : (pool : ℕ) (handles : Handles) (f worked : Forest) (t : Task
     IsAmid worked t.collection t.spends
 amid_worked pool handles f worked t key sound may work = by t.change refl
   where
+    -- by cases: without a change the forest is as it was, and with one it is settled after it
     by : (o : Option Change) → t.change ≡ o → IsAmid worked t.collection t.spends
     by None is =
         let same : worked ≡ f =

@@ -1,5 +1,6 @@
 -- What a call changes fits the collection that it changes.
-use Rattle.std.proofs.Common.{ℕ, ◌≡◌, refl, ap, sym, ◌∙◌, subst, true, false, ◌==◌, ◌&&◌, not, nat_lt, [], Option, Some, None, ◌⊎◌, inl, inr, arith}
+use Rattle.std.proofs.Common.{ℕ, ◌≡◌, refl, ap, sym, ◌∙◌, subst, true, false, ◌==◌, ◌&&◌}
+use Rattle.std.proofs.Common.{not, nat_lt, [], Option, Some, None, ◌⊎◌, inl, inr, arith}
 use Rattle.std.proofs.lemmas.Bool.{eqb-true}
 use Rattle.std.specs.List.{list_any}
 use Rattle.std.specs.Option.{option_map_or, unwrap_or}
@@ -38,25 +39,33 @@ work_of_effect : (s : State) (client : ℕ) (a b : NodeKey) (call : Call) →
 work_of_effect s client a b Call.OpenRoot = refl
 work_of_effect s client a b (Call.Duplicate key) = by ((readings_of s).end_of key)
   where
+    -- by cases: the work does not read the new key
     by : (o : Option OpenEnd) →
-        work_of s client (Call.Duplicate key) (option_map_or (λ (e : OpenEnd). Reply.Token a e.collection) o (Reply.Refused Refusal.NoSuchEnd))
-        ≡ work_of s client (Call.Duplicate key) (option_map_or (λ (e : OpenEnd). Reply.Token b e.collection) o (Reply.Refused Refusal.NoSuchEnd))
+        work_of s client (Call.Duplicate key)
+        (option_map_or (λ (e : OpenEnd). Reply.Token a e.collection) o (Reply.Refused Refusal.NoSuchEnd))
+        ≡ work_of s client (Call.Duplicate key)
+        (option_map_or (λ (e : OpenEnd). Reply.Token b e.collection) o (Reply.Refused Refusal.NoSuchEnd))
     by None = refl
     by (Some e) = refl
 work_of_effect s client a b (Call.AttachToken key) = by ((readings_of s).end_of key)
   where
+    -- by cases: the work does not read the new key
     by : (o : Option OpenEnd) →
-        work_of s client (Call.AttachToken key) (option_map_or (λ (e : OpenEnd). Reply.Token a e.collection) o (Reply.Refused Refusal.NoSuchEnd))
-        ≡ work_of s client (Call.AttachToken key) (option_map_or (λ (e : OpenEnd). Reply.Token b e.collection) o (Reply.Refused Refusal.NoSuchEnd))
+        work_of s client (Call.AttachToken key)
+        (option_map_or (λ (e : OpenEnd). Reply.Token a e.collection) o (Reply.Refused Refusal.NoSuchEnd))
+        ≡ work_of s client (Call.AttachToken key)
+        (option_map_or (λ (e : OpenEnd). Reply.Token b e.collection) o (Reply.Refused Refusal.NoSuchEnd))
     by None = refl
     by (Some e) = refl
 work_of_effect s client a b _ = refl
 
 -- nor does what any call changes
 pub work_of_any : (s : State) (client : ℕ) (a b : NodeKey) (call : Call) →
-    work_of s client call (answer s.limits (readings_of s) client a call) ≡ work_of s client call (answer s.limits (readings_of s) client b call)
+    work_of s client call (answer s.limits (readings_of s) client a call)
+    ≡ work_of s client call (answer s.limits (readings_of s) client b call)
 work_of_any s client a b call = by (first_some (answers_first s.limits (readings_of s) client call))
   where
+    -- by cases: a refusal makes no node, and what takes effect does not depend on its key
     by : (o : Option Reply) → work_of s client call (unwrap_or o (effect (readings_of s) client a call))
         ≡ work_of s client call (unwrap_or o (effect (readings_of s) client b call))
     by None = work_of_effect s client a b call
@@ -65,9 +74,11 @@ work_of_any s client a b call = by (first_some (answers_first s.limits (readings
 -- ---- the nodes of the collection
 
 -- a node of the collection with this id, if it is there
-or_new_in : (f : Forest) (id : ℕ) (n : Node) → In n (collection_or_new f id).nodes → (c : Collection) × In c f.collections × In n c.nodes × (c.id ≡ id)
+or_new_in : (f : Forest) (id : ℕ) (n : Node) → In n (collection_or_new f id).nodes →
+    (c : Collection) × In c f.collections × In n c.nodes × (c.id ≡ id)
 or_new_in f id n there = by (collection_at f id) refl there
   where
+    -- by cases: a collection that is not there has no node, and one that is found has the id by which it was looked up
     by : (o : Option Collection) → collection_at f id ≡ o →
         In n (unwrap_or o (record { id = id; nodes = []; buffers = None; held = [] })).nodes →
         (c : Collection) × In c f.collections × In n c.nodes × (c.id ≡ id)
@@ -81,6 +92,7 @@ pub fresh_key : (f : Forest) → IsSound f → (id : ℕ) (key : NodeKey) → gi
     list_any (is_of key) (collection_or_new f id).nodes ≡ false
 fresh_key f sound id key fresh = by (either_way (list_any (is_of key) (collection_or_new f id).nodes))
   where
+    -- by cases: a node of the key would make the key given, which it is not
     by : (list_any (is_of key) (collection_or_new f id).nodes ≡ true) ⊎ (list_any (is_of key) (collection_or_new f id).nodes ≡ false) →
         list_any (is_of key) (collection_or_new f id).nodes ≡ false
     by (inr none) = none
@@ -111,7 +123,9 @@ tracker_room f sound id Change.Nothing may = refl
 tracker_room f sound id (Change.Effect key effect) may =
     all_on (has_tracker_room key effect) (collection_or_new f id).nodes (each effect refl)
   where
-    small : (n : Node) → In n (collection_or_new f id).nodes → effect ≡ Effect.Tracked → key ≡ n.key → (o : Option Node) → node_at f key ≡ o →
+    -- by cases: the node is there in this collection, so it is the same, and its trackers are few
+    small : (n : Node) → In n (collection_or_new f id).nodes → effect ≡ Effect.Tracked →
+        key ≡ n.key → (o : Option Node) → node_at f key ≡ o →
         option_map_or (λ (m : Node). m.collection == id && not m.gone) o false ≡ true → nat_lt n.trackers MAX_NODE_TRACKERS ≡ true
     small n n_in is same None at there = cc
     small n n_in is same (Some m) at there =
@@ -120,12 +134,14 @@ tracker_room f sound id (Change.Effect key effect) may =
         let few = may.trackers key m (ap (Change.Effect key) is) at in
         rw it (grind (arith, few))
 
+    -- by cases: the effect is on this node, which has room, or on another
     tracked : (n : Node) → In n (collection_or_new f id).nodes → effect ≡ Effect.Tracked → has_tracker_room key Effect.Tracked n ≡ true
     tracked n n_in is = elim (either_way (same_key key n.key)) [
       | inl e ↦ rw e (small n n_in is (same_key-true key n.key e) (node_at f key) refl may.named)
       | inr e ↦ rw e refl
     ]
 
+    -- by cases on the effect: only Tracked makes a tracker
     each : (e : Effect) → effect ≡ e → (n : Node) → In n (collection_or_new f id).nodes → has_tracker_room key e n ≡ true
     each Effect.Tracked is n n_in = tracked n n_in is
     each Effect.Bound is n n_in = refl
@@ -166,6 +182,7 @@ is_fitting s now client call asked same whole told w work =
       fresh = fresh_key s.forest whole.sound w.collection;
     })
   where
+    -- from the answer, which is the same in both states
     may : MayChange s.forest w.collection w.change
     may = (well s.limits s client call asked
         (record { whole = whole; told = subst (λ (x : State). asked ≡ answer x.limits (readings_of x) client no_key call) (sym same) told })

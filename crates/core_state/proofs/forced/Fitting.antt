@@ -10,7 +10,8 @@ use Rattle.sm_names.proofs.ListLaws.{In, In-front, In-map-back}
 use Rattle.forest_store.specs.declared.change.Change.{Change}
 use Rattle.forest_store.specs.declared.node.Node.{Node}
 use Rattle.forest_store.specs.Forest.{Collection, pages_in, with_nodes}
-use Rattle.forest_store.specs.Nodes.{affected, after_allocation, ended, given_buffers, is_taken, lost, members_of, new_child, new_root, node_of}
+use Rattle.forest_store.specs.Nodes.{affected, after_allocation, ended, given_buffers}
+use Rattle.forest_store.specs.Nodes.{is_taken, lost, members_of, new_child, new_root, node_of}
 use Rattle.forest_store.specs.Settling.{Handles, Settles, Rests, Forces, changed, is_root_of, made}
 use Rattle.forest_store.proofs.changes.Altering.{same_affected}
 

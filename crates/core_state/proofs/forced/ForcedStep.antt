@@ -1,5 +1,6 @@
 -- One forced mark, in a state and in the history that it follows.
-use Rattle.std.proofs.Common.{ℕ, ◌≡◌, refl, ap, sym, ◌∙◌, subst, Bool, true, false, not, ◌==◌, ◌++◌, inl, inr, List, [], ◌∷◌, map, Option, Some, None, is_some, is_none}
+use Rattle.std.proofs.Common.{ℕ, ◌≡◌, refl, ap, sym, ◌∙◌, subst, Bool, true, false, not, ◌==◌, ◌++◌}
+use Rattle.std.proofs.Common.{inl, inr, List, [], ◌∷◌, map, Option, Some, None, is_some, is_none}
 use Rattle.std.proofs.lemmas.Bool.{eqb-true, eq-eqb}
 use Rattle.std.proofs.lemmas.List.Elements.{filter-append}
 use Rattle.std.specs.List.{list_any, filter}

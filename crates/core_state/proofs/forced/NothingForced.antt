@@ -1,5 +1,6 @@
 -- An event that changes no node, but for an end: nothing is forced.
-use Rattle.std.proofs.Common.{ℕ, zero, suc, ◌≡◌, refl, ap, sym, ◌∙◌, true, not, ◌==◌, nat_lt, inl, inr, List, [], ◌∷◌, map, Option, Some, None, arith}
+use Rattle.std.proofs.Common.{ℕ, zero, suc, ◌≡◌, refl, ap, sym, ◌∙◌, true, not, ◌==◌, nat_lt}
+use Rattle.std.proofs.Common.{inl, inr, List, [], ◌∷◌, map, Option, Some, None, arith}
 use Rattle.std.proofs.lemmas.Bool.{lt-ltb, not-false}
 use Rattle.std.specs.List.{list_any, filter, cons_option}
 use Rattle.std.specs.Option.{option_map_or}
@@ -47,6 +48,7 @@ standing_alike : (f g : Handles) → ((buffer : BufferName) (strength : Strength
     standing f others c ≡ standing g others c
 standing_alike f g alike others c = λ i. record (standing g others c) { strong_open = list_any (λ b. same b i) (buffer_names c) }
   where
+    -- since both are open or neither is
     same : (b : BufferName) → nat_lt 0 (f b Strength.Strong) ≡ nat_lt 0 (g b Strength.Strong)
     same b = some_is (f b Strength.Strong) ∙ (ap not (alike b Strength.Strong) ∙ sym (some_is (g b Strength.Strong)))
 

@@ -1,5 +1,6 @@
 -- A collection of a state follows the marks that the state shows, and one more event.
-use Rattle.std.proofs.Common.{ℕ, ◌≡◌, ◌≤◌, ◌<◌, refl, ap, sym, ◌∙◌, subst, Bool, true, not, ◌==◌, ◌++◌, inl, inr, List, [], ◌∷◌, map, Option, Some, None, is_some, arith}
+use Rattle.std.proofs.Common.{ℕ, ◌≡◌, ◌≤◌, ◌<◌, refl, ap, sym, ◌∙◌, subst, Bool, true, not, ◌==◌}
+use Rattle.std.proofs.Common.{◌++◌, inl, inr, List, [], ◌∷◌, map, Option, Some, None, is_some, arith}
 use Rattle.std.proofs.lemmas.Bool.{eqb-true}
 use Rattle.std.proofs.lemmas.List.{map-append}
 use Rattle.std.proofs.lemmas.List.Elements.{filter-append}

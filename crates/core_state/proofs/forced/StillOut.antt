@@ -1,5 +1,6 @@
 -- No held buffer is home between events, and each is one of its collection.
-use Rattle.std.proofs.Common.{ℕ, ◌≡◌, ◌+◌, refl, ap, sym, ◌∙◌, subst, Bool, true, false, ◌==◌, if◌then◌else◌, inl, inr, List, [], ◌∷◌, Option, Some, None, IfSome, is_some, arith}
+use Rattle.std.proofs.Common.{ℕ, ◌≡◌, ◌+◌, refl, ap, sym, ◌∙◌, subst, Bool, true, false, ◌==◌, if◌then◌else◌}
+use Rattle.std.proofs.Common.{inl, inr, List, [], ◌∷◌, Option, Some, None, IfSome, is_some, arith}
 use Rattle.std.proofs.lemmas.Bool.{eq-eqb}
 use Rattle.std.specs.List.{list_all}
 use Rattle.std.specs.Option.{option_map, option_map_or}
@@ -42,6 +43,7 @@ asked_by : (s : State) (client : ℕ) (buffer : BufferName) (strength : Strength
     × (w.collection ≡ buffer.collection))
 asked_by s client buffer strength Reply.Done = from _ (collection_at s.forest buffer.collection)
   where
+    -- by cases: nothing is asked of a collection that is not there, or of one where nothing came home
     from : (b : Bool) (o : Option Collection) →
         IfSome (if b then None else option_map (λ (c : Collection). record { collection = buffer.collection; change = Change.Nothing }) o)
         (λ (w : Work). (w.change ≡ Change.Nothing) × (w.collection ≡ buffer.collection))
@@ -61,12 +63,14 @@ asks_only s client (Call.DropHandle buffer strength) asked task work =
     by task (subst (λ (o : Option Work). IfSome o (λ (w : Work). (w.change ≡ Change.Nothing) × (w.collection ≡ buffer.collection)))
     (sym work) (asked_by s client buffer strength asked))
   where
+    -- by cases: without a change there is nothing to say
     at : (t : Task) (o : Option Change) →
         IfSome (option_map (λ x. record { collection = t.collection; change = x }) o) (λ (w : Work). (w.change ≡ Change.Nothing)
         × (w.collection ≡ buffer.collection)) → IfSome o (λ change. (change ≡ Change.Nothing) × (t.collection ≡ buffer.collection))
     at t None is = tt
     at t (Some change) is = is
 
+    -- by cases: without a task there is nothing to say
     by : (task : Option Task) → IfSome (work_in task) (λ (w : Work). (w.change ≡ Change.Nothing) × (w.collection ≡ buffer.collection)) →
         IfSome task (λ (t : Task). IfSome t.change (λ change. (change ≡ Change.Nothing) × (t.collection ≡ buffer.collection)))
     by None is = tt
@@ -85,6 +89,7 @@ pub others_stay : (old new : Counts) (f : Forest) (client : ℕ) (call : Call) (
     OthersStay (total new) f call task
 others_stay old new f client (Call.DropHandle buffer strength) asked task out moves may asks = by task may asks
   where
+    -- by the other direction of the comparison
     apart : (b : BufferName) → same_buffer b buffer ≡ false → same_buffer buffer b ≡ false
     apart b other = false_if (same_buffer buffer b) (λ e.
         let same : buffer ≡ b = same_buffer-true buffer b e in
@@ -92,17 +97,20 @@ others_stay old new f client (Call.DropHandle buffer strength) asked task out mo
         ∙ and_both (buffer.collection == buffer.collection) (buffer.index == buffer.index) (eq-eqb buffer.collection buffer.collection refl)
         (eq-eqb buffer.index buffer.index refl)) other)
 
+    -- by cases: only a Drop that is Done drops a handle, and that of its own buffer
     not_dropped : (b : BufferName) (s : Strength) (asked : Reply) → same_buffer buffer b ≡ false →
         drops anyone b s (Called client asked (Call.DropHandle buffer strength)) ≡ false
     not_dropped b s Reply.Done other = rw other refl
     not_dropped b s _ other = refl
 
+    -- by cases: no reply to a Drop opens a handle
     not_opened : (b : BufferName) (s : Strength) (asked : Reply) →
         opens anyone b s (Called client asked (Call.DropHandle buffer strength)) ≡ false
     not_opened b s Reply.Done = refl
     not_opened b s (Reply.Taken collection taken set) = refl
     not_opened b s _ = refl
 
+    -- by arithmetic: nothing of another buffer was dropped or opened
     still : (b : BufferName) (s : Strength) → same_buffer b buffer ≡ false → total new b s ≡ total old b s
     still b s other =
         let mark : Mark = Called client asked (Call.DropHandle buffer strength) in
@@ -112,6 +120,7 @@ others_stay old new f client (Call.DropHandle buffer strength) asked task out mo
         let won : one_if (opens anyone b s mark) ≡ 0 = ap one_if (not_opened b s asked) in
         omega (arith, sum, lost, won)
 
+    -- each other buffer has as many open handles as before, so it is out as before
     others : (c : Collection) → In c f.collections → are_others_out (total new) buffer c ≡ true
     others c on = all_of _ c.held (λ h held. elim (either_way (same_buffer h.buffer buffer)) [
       | inl e ↦ rw e refl
@@ -122,11 +131,13 @@ others_stay old new f client (Call.DropHandle buffer strength) asked task out mo
           rw (e, away) refl
     ])
 
+    -- by cases: a collection that is found is one of all
     found : (o : Option Collection) → collection_at f buffer.collection ≡ o → is_some o ≡ true →
         option_map_or (are_others_out (total new) buffer) o false ≡ true
     found None is there = cc
     found (Some c) is there = others c (In-find (λ (x : Collection). x.id == buffer.collection) f.collections c is).0
 
+    -- by cases: a change is in the collection of the buffer, which is there
     at : (t : Task) (o : Option Change) → IfSome o (MayChange f t.collection) →
         IfSome o (λ change. (change ≡ Change.Nothing) × (t.collection ≡ buffer.collection)) → is_some o ≡ true →
         option_map_or (are_others_out (total new) buffer) (collection_at f buffer.collection) false ≡ true
@@ -136,6 +147,7 @@ others_stay old new f client (Call.DropHandle buffer strength) asked task out mo
         subst (λ (x : Change). fits f t.collection x ≡ true) asks.0 may.named in
         found (collection_at f buffer.collection) refl (ap (λ (id : ℕ). is_some (collection_at f id)) (sym asks.1) ∙ here)
 
+    -- by cases: without a task there is nothing to say
     by : (task : Option Task) → IfSome task (MayDo f) → AsksOnly (Call.DropHandle buffer strength) task →
         OthersStay (total new) f (Call.DropHandle buffer strength) task
     by None may asks = tt

@@ -1,5 +1,6 @@
 -- What an answered call may do to the forest.
-use Rattle.std.proofs.Common.{ℕ, ◌≡◌, ◌<◌, ◌≤◌, ◌+◌, refl, ap, sym, ◌∙◌, subst, Bool, true, false, ◌==◌, ◌||◌, nat_le, Option, Some, None, is_some, if◌then◌else◌, ◌⊎◌, inl, inr, arith}
+use Rattle.std.proofs.Common.{ℕ, ◌≡◌, ◌<◌, ◌≤◌, ◌+◌, refl, ap, sym, ◌∙◌, subst, Bool, true, false, ◌==◌}
+use Rattle.std.proofs.Common.{◌||◌, nat_le, Option, Some, None, is_some, if◌then◌else◌, ◌⊎◌, inl, inr, arith}
 use Rattle.std.proofs.lemmas.Bool.{eqb-true, eq-eqb, leb-false}
 use Rattle.std.specs.Option.{option_map_or}
 use Rattle.std.proofs.Math.Bool.{and-false}
@@ -50,6 +51,7 @@ pub end_at : (s : State) (n : Node) (e : OpenEnd) → (if is_spent n.end then No
     (is_spent n.end ≡ false) × (e ≡ open_end_of s n)
 end_at s n e is = by (is_spent n.end) refl
   where
+    -- by cases: a spent end is not read
     by : (b : Bool) → is_spent n.end ≡ b → (is_spent n.end ≡ false) × (e ≡ open_end_of s n)
     by true gone = let none : None ≡ Some e = rw gone at is in cc
     by false here = let some : Some (open_end_of s n) ≡ Some e = rw here at is in (here, cc)
@@ -106,6 +108,7 @@ is_in f key n at here = rw (at, eq-eqb n.collection n.collection refl, here) ref
 not_there : (f : Forest) (most id : ℕ) → AreUpTo most f → most < id → collection_at f id ≡ None
 not_there f most id below above = by (none_or_some (collection_at f id))
   where
+    -- by cases: a collection that is found would have an id up to the greatest
     by : (collection_at f id ≡ None) ⊎ ((c : Collection) × (collection_at f id ≡ Some c)) → collection_at f id ≡ None
     by (inl none) = none
     by (inr some) =
@@ -213,6 +216,7 @@ root_well limits s client key c known w work =
       births = refl;
     })
   where
+    -- since `Token` is injective
     token_is : {a b : NodeKey} {x y : ℕ} → Reply.Token a x ≡ Reply.Token b y → x ≡ y
     token_is h = cc
 
@@ -244,6 +248,7 @@ child_well limits s client call attached above key c is going makes tells known 
       births = refl;
     })
   where
+    -- since `Token` is injective
     token_is : {a b : NodeKey} {x y : ℕ} → Reply.Token a x ≡ Reply.Token b y → x ≡ y
     token_is h = cc
 
@@ -297,13 +302,16 @@ done_well : (limits : Bound) (s : State) (client : ℕ) (call : Call) → Known 
 done_well limits s client (Call.Bind key) known w work =
     effect_well limits s client (Call.Bind key) Reply.Done known key Effect.Bound refl refl refl refl refl (λ k n h. cc) w work
 done_well limits s client (Call.SetDispensable key) known w work =
-    effect_well limits s client (Call.SetDispensable key) Reply.Done known key Effect.Dispensable refl refl refl refl refl (λ k n h. cc) w work
+    effect_well limits s client (Call.SetDispensable key) Reply.Done known key Effect.Dispensable refl refl refl refl refl
+    (λ k n h. cc) w work
 done_well limits s client (Call.SetWeak key) known w work = effect_well limits s client (Call.SetWeak key) Reply.Done known key Effect.Weak
     refl refl refl refl refl (λ k n h. cc) w work
 done_well limits s client (Call.SetWeakOk key children) known w work =
-    effect_well limits s client (Call.SetWeakOk key children) Reply.Done known key (Effect.WeakOk children) refl refl refl refl refl (λ k n h. cc) w work
+    effect_well limits s client (Call.SetWeakOk key children) Reply.Done known key
+    (Effect.WeakOk children) refl refl refl refl refl (λ k n h. cc) w work
 done_well limits s client (Call.SetConstraints key demand) known w work =
-    effect_well limits s client (Call.SetConstraints key demand) Reply.Done known key (Effect.Constrained demand) refl refl refl refl refl (λ k n h. cc) w work
+    effect_well limits s client (Call.SetConstraints key demand) Reply.Done known key
+    (Effect.Constrained demand) refl refl refl refl refl (λ k n h. cc) w work
 done_well limits s client (Call.Release key) known w work =
     effect_well limits s client (Call.Release key) Reply.Done known key Effect.Released refl refl refl refl refl (λ k n h.
     cc) w work
@@ -322,10 +330,13 @@ well limits s client (Call.AttachToken above) (Reply.Token key c) known w work =
 well limits s client call (Reply.Misused m) known w work = misused_well limits s client call m known w work
 well limits s client call Reply.Done known w work = done_well limits s client call known w work
 well limits s client (Call.Take key) (Reply.Taken c strength set) known w work =
-    effect_well limits s client (Call.Take key) (Reply.Taken c strength set) known key Effect.Taken refl refl refl refl refl (λ k n h. cc) w work
+    effect_well limits s client (Call.Take key) (Reply.Taken c strength set) known key Effect.Taken refl refl refl refl refl
+    (λ k n h. cc) w work
 well limits s client (Call.TrackNode key) (Reply.Tracker id) known w work =
-    effect_well limits s client (Call.TrackNode key) (Reply.Tracker id) known key Effect.Tracked refl refl refl refl refl (λ k n is at. few k n is at) w work
+    effect_well limits s client (Call.TrackNode key) (Reply.Tracker id) known key Effect.Tracked refl refl refl refl refl
+    (λ k n is at. few k n is at) w work
   where
+    -- since the key is that of the call, whose node has room for a tracker by the answer
     few : (k : NodeKey) (n : Node) → Change.Effect key Effect.Tracked ≡ Change.Effect k Effect.Tracked → node_at s.forest k ≡ Some n →
         n.trackers < MAX_NODE_TRACKERS
     few k n is at = let same : key ≡ k = cc in few_trackers limits s client key id known n (rw same at)

@@ -1,5 +1,6 @@
 -- The handles that an event may move.
-use Rattle.std.proofs.Common.{ℕ, ◌≡◌, ◌<◌, ◌+◌, refl, ap, sym, ◌∙◌, subst, Bool, true, false, cond, ◌==◌, ◌&&◌, nat_lt, not, if◌then◌else◌, inl, inr, List, [], ◌∷◌, Option, Some, None, arith}
+use Rattle.std.proofs.Common.{ℕ, ◌≡◌, ◌<◌, ◌+◌, refl, ap, sym, ◌∙◌, subst, Bool, true, false, cond, ◌==◌, ◌&&◌}
+use Rattle.std.proofs.Common.{nat_lt, not, if◌then◌else◌, inl, inr, List, [], ◌∷◌, Option, Some, None, arith}
 use Rattle.std.proofs.lemmas.Bool.{eqb-true, eq-eqb, leb-false}
 use Rattle.std.proofs.lemmas.List.Sums.{sum_by-cons}
 use Rattle.std.proofs.lemmas.Nat.Bits.{bit_at-zero}
@@ -69,10 +70,12 @@ may_open : (limits : Bound) (s : State) (id : ℕ) (strength : Strength) → s.h
 may_open limits s id strength limit none =
     by (collection_at s.forest id) (λ c is. eqb-true c.id id (In-find (λ (x : Collection). x.id == id) s.forest.collections c is).1) none
   where
+    -- the buffers of the collection that are not doomed
     opened : Option Collection → List BufferName
     opened o = option_map_or (λ (c : Collection).
         filter (λ b. not (is_doomed (total s.holds b Strength.Strong) (some_strong_live (members_of c.nodes)))) (buffer_names c)) o []
 
+    -- by cases: without a collection the set is empty
     by : (o : Option Collection) → ((c : Collection) → o ≡ Some c → c.id ≡ id) →
         list_any (is_at_limit limits (readings_of s) strength) (opened o) ≡ false →
         CanOpen s.holds id strength (set_of (opened o))
@@ -97,6 +100,7 @@ first_handle r [] buffer strength is = cc
 first_handle r (Parcel.Handle name given ∷ more) buffer strength is = (more, cc)
 first_handle r (Parcel.End key ∷ more) buffer strength is = by (r.end_of key) is
   where
+    -- by cases: an end is collected as such, or the reply is Empty
     by : (o : Option OpenEnd) → Reply.CollectedHandle buffer strength ≡ option_map_or (λ (e : OpenEnd).
         Reply.Collected key e.kind e.collection) o Reply.Empty →
         (rest : List Parcel) × (Parcel.End key ∷ more ≡ Parcel.Handle buffer strength ∷ rest)
@@ -108,6 +112,7 @@ pub client_of : (s : State) (client : ℕ) (p : Parcel) (more : List Parcel) →
     (c : Client) × In c s.clients × (c.id ≡ client) × (c.waiting ≡ p ∷ more)
 client_of s client p more is = by (joined_client s client) refl is
   where
+    -- by cases: a client that is not there has no parcels, and one that is found has the id by which it was looked up
     by : (o : Option Client) → joined_client s client ≡ o → option_map_or (λ (c : Client). c.waiting) o [] ≡ p ∷ more →
         (c : Client) × In c s.clients × (c.id ≡ client) × (c.waiting ≡ p ∷ more)
     by None found h = cc
@@ -125,7 +130,8 @@ module _ (limits : Bound) (s : State) (client : ℕ) (sent : AreSent s.clients (
 
   -- a handle that is collected was in a parcel
   was_moving : (buffer : BufferName) (strength : Strength) →
-      Reply.CollectedHandle buffer strength ≡ answer limits (readings_of s) client no_key Call.Collect → 0 < moving_count s.holds buffer strength
+      Reply.CollectedHandle buffer strength ≡ answer limits (readings_of s) client no_key Call.Collect →
+      0 < moving_count s.holds buffer strength
   was_moving buffer strength told =
       let head = first_handle (readings_of s) ((readings_of s).waiting client) buffer strength
       (took Call.Collect (Reply.CollectedHandle buffer strength) refl refl told).answered in

@@ -1,7 +1,8 @@
 -- What opening and closing handles does to the counts.
-use Rattle.std.proofs.Common.{ℕ, zero, suc, ◌≡◌, ◌+◌, ◌-◌, ◌/◌, ◌^◌, ◌<◌, ◌≤◌, ◌==◌, ◌&&◌, nat_lt, refl, sym, subst, ap, ◌∙◌, Bool, true, false, if◌then◌else◌, arith}
+use Rattle.std.proofs.Common.{ℕ, zero, suc, ◌≡◌, ◌+◌, ◌-◌, ◌/◌, ◌^◌, ◌<◌, ◌≤◌, ◌==◌, ◌&&◌, nat_lt}
+use Rattle.std.proofs.Common.{refl, sym, subst, ap, ◌∙◌, Bool, true, false, if◌then◌else◌, arith}
 use Rattle.std.specs.Int.{bit_at}
-use Rattle.std.proofs.lemmas.Bool.{eqb-true, eq-eqb}
+use Rattle.std.proofs.lemmas.Bool.{eqb-false, eqb-true, eq-eqb}
 use Rattle.std.proofs.lemmas.Grind.{common_steps}
 use Rattle.sm_names.specs.declared.keys.BufferName.{BufferName}
 use Rattle.sm_names.specs.declared.keys.Strength.{Strength}
@@ -29,6 +30,18 @@ of-le-total holds client buffer strength =
       weight_at-le-sum_by (share hold.kind) (same_hold hold) hold (same_hold-one hold) holds.rows,
       weight_at-share hold.kind hold (row_at holds.rows hold) true (same_kind-refl hold.kind),
     )
+
+-- where something is left of a set of 64, its end is not reached
+pub something_left : (set end : ℕ) → set < 2 ^ 64 → end ≤ 64 → (set / 2 ^ end ≡ 0 → ⊥) → end + 1 ≤ 64
+something_left set end fits within some = by (end == 64) refl
+  where
+    by : (last : Bool) → (end == 64) ≡ last → end + 1 ≤ 64
+    by true is =
+        let none : set / 2 ^ 64 ≡ 0 = omega (arith, fits) in
+        absurd (some (ap (λ n. set / 2 ^ n) (eqb-true end 64 is) ∙ none))
+    by false is =
+        let other = eqb-false end 64 is in
+        omega (arith, within, other)
 
 -- counts that agree everywhere are the same
 pub same_counts : (old new : Counts) → ((c : ℕ) (b : BufferName) (s : Strength) → of new c b s ≡ of old c b s) →
@@ -74,7 +87,8 @@ module _ (client : ℕ) (buffer : BufferName) (strength : Strength) where
 
 -- one handle more
 pub opens_one : (old new : Counts) (client : ℕ) (buffer : BufferName) (strength : Strength) →
-    Sets old new client buffer strength (of old client buffer strength + 1) (moving_count old buffer strength) (total old buffer strength + 1) →
+    Sets old new client buffer strength (of old client buffer strength + 1)
+    (moving_count old buffer strength) (total old buffer strength + 1) →
     Opens old new client (is_the buffer strength)
 opens_one old new client buffer strength sets = record {
   counts = λ c b s. up (client == c && is_the buffer strength b s) (sets.counts c b s) (one_hold client buffer strength (of old) c b s);
@@ -84,7 +98,8 @@ opens_one old new client buffer strength sets = record {
 
 -- one handle less, where there was one
 pub closes_one : (old mid new : Counts) (client : ℕ) (buffer : BufferName) (strength : Strength) → 0 < of old client buffer strength →
-    Sets old mid client buffer strength (of old client buffer strength - 1) (moving_count old buffer strength) (total old buffer strength - 1) →
+    Sets old mid client buffer strength (of old client buffer strength - 1)
+    (moving_count old buffer strength) (total old buffer strength - 1) →
     Tidies mid new client buffer strength →
     Opens new old client (is_the buffer strength)
 closes_one old mid new client buffer strength some sets tidies = record {

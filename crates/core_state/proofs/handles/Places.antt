@@ -50,7 +50,8 @@ pub places_tidied : (old new : Counts) (client : ℕ) (buffer : BufferName) (str
 places_tidied old new client buffer strength tidies has = omega (arith, tidies.sent, tidies.places, has)
 
 -- a place more changes no count
-pub moves_reserved : (before old new : Counts) (mark : Mark) → old ≡ record before { places = before.places + 1 } → MovesHandles old new mark →
+pub moves_reserved : (before old new : Counts) (mark : Mark) → old ≡ record before { places = before.places + 1 } →
+    MovesHandles old new mark →
     MovesHandles before new mark
 moves_reserved before old new mark reserved moves =
     let there = subst (λ (counts : Counts). MovesHandles counts new mark) reserved moves in

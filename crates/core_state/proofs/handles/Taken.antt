@@ -1,5 +1,6 @@
 -- A Take is never answered with an empty set.
-use Rattle.std.proofs.Common.{ℕ, zero, suc, ◌≡◌, ◌<◌, refl, ap, sym, ◌∙◌, subst, Bool, true, false, cond, not, ◌&&◌, ◌==◌, nat_lt, ◌⊎◌, inl, inr, List, [], ◌∷◌, ◌++◌, Option, Some, None, is_some, is_none, arith}
+use Rattle.std.proofs.Common.{ℕ, zero, suc, ◌≡◌, ◌<◌, refl, ap, sym, ◌∙◌, subst, Bool, true, false, cond, not, ◌&&◌, ◌==◌}
+use Rattle.std.proofs.Common.{nat_lt, ◌⊎◌, inl, inr, List, [], ◌∷◌, ◌++◌, Option, Some, None, is_some, is_none, arith}
 use Rattle.std.proofs.lemmas.Bool.{eqb-true, eq-eqb, lt-ltb, ltb-true}
 use Rattle.std.proofs.lemmas.Nat.Bits.{bit_at-zero}
 use Rattle.std.specs.Int.{bit_at}
@@ -41,7 +42,8 @@ use Rattle.history_laws.proofs.LifeLaws.{IsOrdered, ordered, members_on, whole}
 use Rattle.sm_names.proofs.ListLaws.{In, In-find, In-list_any, In-map, is_some-find, In-any}
 use Rattle.sm_names.proofs.ForcedLaws.{at_rest}
 use Rattle.history_laws.proofs.RestLaws.{every_rests}
-use Rattle.sm_names.proofs.SamenessLaws.{and_left, and_right, both_ways, either_way, false_if, none_or_some, not_none, same_key-true, map-Some, none_if, same_strength-refl}
+use Rattle.sm_names.proofs.SamenessLaws.{and_left, and_right, both_ways, either_way, false_if, none_or_some}
+use Rattle.sm_names.proofs.SamenessLaws.{not_none, same_key-true, map-Some, none_if, same_strength-refl}
 use Rattle.history_laws.proofs.SettledLaws.{find_birth, member_birth, Why, Initial, Logical, forced_why}
 use Rattle.history_laws.proofs.SumLaws.{one}
 use Rattle.history_laws.proofs.TakeLaws.{took, none_key}

@@ -1,5 +1,6 @@
 -- The buffers that a Take opens, one after another.
-use Rattle.std.proofs.Common.{ℕ, suc, ◌≡◌, ◌<◌, ◌≤◌, ◌+◌, ◌-◌, ◌*◌, ◌%◌, ◌^◌, refl, ap, ◌∙◌, Bool, true, false, not, ◌&&◌, ◌||◌, ◌==◌, cond, List, [], ◌∷◌, map, Option, Some, None, arith}
+use Rattle.std.proofs.Common.{ℕ, suc, ◌≡◌, ◌<◌, ◌≤◌, ◌+◌, ◌-◌, ◌*◌, ◌%◌, ◌^◌, refl, ap, ◌∙◌, Bool, true, false}
+use Rattle.std.proofs.Common.{not, ◌&&◌, ◌||◌, ◌==◌, cond, List, [], ◌∷◌, map, Option, Some, None, arith}
 use Rattle.std.proofs.Math.Nat.{pow-succ'}
 use Rattle.std.proofs.Math.Pow.{pow_mono}
 use Rattle.std.proofs.lemmas.Bool.{eqb-true}
@@ -39,6 +40,7 @@ pub all_to_open : (s : State) (id : ℕ) (given : Buffers) → buffers_in s id �
 all_to_open s id given there =
     by (collection_at s.forest id) (λ c is. eqb-true c.id id (In-find (λ (x : Collection). x.id == id) s.forest.collections c is).1) there
   where
+    -- by cases: a collection that is not there has no buffers
     by : (o : Option Collection) → ((c : Collection) → o ≡ Some c → c.id ≡ id) →
         option_map_or (λ (c : Collection). c.buffers) o None ≡ Some given →
         kept_from s id (option_map_or (λ (c : Collection). some_strong_live (members_of c.nodes)) o false) 0 given.count
@@ -63,6 +65,7 @@ pub next_passes : (test : BufferName → Bool) (s : State) (id : ℕ) (strong_li
 next_passes test s id strong_live i n more =
     ap (list_any test) (next_kept s id strong_live i n more) ∙ by (keeps_buffer s strong_live (record { collection = id; index = i }))
   where
+    -- by cases: the next one is kept, or left out
     by : (b : Bool) → let name : BufferName =
         record { collection = id; index = i } in let on : List BufferName = kept_from s id strong_live (i + 1) n in
         list_any test (cond b (name ∷ on) on) ≡ ((b && test name) || list_any test on)
@@ -76,6 +79,7 @@ pub next_bit : (s : State) (id : ℕ) (strong_live : Bool) (i n : ℕ) → i < n
 next_bit s id strong_live i n more =
     ap set_of (next_kept s id strong_live i n more) ∙ by (keeps_buffer s strong_live (record { collection = id; index = i }))
   where
+    -- by cases: the next one is kept and adds its bit, or left out
     by : (b : Bool) → let name : BufferName =
         record { collection = id; index = i } in let on : List BufferName = kept_from s id strong_live (i + 1) n in
         set_of (cond b (name ∷ on) on) ≡ cond b (2 ^ i) 0 + set_of on

@@ -1,5 +1,6 @@
 -- What an event does to the counts of handles, and how it is undone.
-use Rattle.std.proofs.Common.{ℕ, ◌≡◌, ◌+◌, ◌-◌, ◌<◌, ◌≤◌, ◌^◌, ◌==◌, ◌&&◌, nat_lt, refl, sym, ap, ◌∙◌, ◌⊎◌, inl, inr, ◌↔◌, Result, Ok, Err, OnOk, IsErrOf, IsOkUnless, Bool, false, arith}
+use Rattle.std.proofs.Common.{ℕ, ◌≡◌, ◌+◌, ◌-◌, ◌<◌, ◌≤◌, ◌^◌, ◌==◌, ◌&&◌, nat_lt, refl, sym, ap, ◌∙◌, ◌⊎◌}
+use Rattle.std.proofs.Common.{inl, inr, ◌↔◌, Result, Ok, Err, OnOk, IsErrOf, IsOkUnless, Bool, false, arith}
 use Rattle.std.specs.Int.{bit_at}
 use Rattle.std.proofs.lemmas.Bool.{cases_lt, false≢true}
 use Rattle.std.proofs.lemmas.Grind.{common_steps}
@@ -17,7 +18,7 @@ use Rattle.event_laws.proofs.HandleEventLaws.{idle_gains, idle_loses, idle_opens
 use Rattle.buffer_holds.specs.Changes.{Sets}
 use Rattle.buffer_holds.specs.declared.fault.HoldFault.{HoldFault}
 use Rattle.buffer_holds.specs.Counts.{Counts, of, moving_count, total}
-use Rattle.core_state.specs.declared.hands.TheConstants.{SET_BITS}
+use Rattle.core_state.specs.declared.handle_changes.TheConstants.{SET_BITS}
 use Rattle.core_state.specs.Hands.{MovesHandles, Opens, collects_handle, is_the, is_in_set_below}
 use Rattle.core_state.specs.State.{counts_of}
 use Rattle.core_state.proofs.handles.Opening.{same_counts, up, down, still, one_hold, one_kind, of-le-total}
@@ -60,10 +61,12 @@ unmoved none neither goes = let same = goes.adds_up in let n = ap one_if none in
 
 -- a number of 64 bits has no bit but those below the 64th
 all_below : (collection : ℕ) (strength : Strength) (set : ℕ) → set < 2 ^ 64 → (b : BufferName) (s : Strength) →
-    (collection == b.collection && (same_strength strength s && bit_at set b.index == 1)) ≡ is_in_set_below collection strength set SET_BITS b s
+    (collection == b.collection && (same_strength strength s && bit_at set b.index == 1))
+    ≡ is_in_set_below collection strength set SET_BITS b s
 all_below collection strength set fits b s =
     ap (λ t. collection == b.collection && (same_strength strength s && t)) (by (cases_lt b.index SET_BITS))
   where
+    -- by cases: past the 64th each bit is 0
     by : (b.index < SET_BITS) ⊎ (SET_BITS ≤ b.index) → (bit_at set b.index == 1) ≡ (bit_at set b.index == 1 && nat_lt b.index SET_BITS)
     by (inl below) = grind (arith, common_steps)
     by (inr above) = let none : bit_at set b.index ≡ 0 = bit_at_above set SET_BITS b.index fits above in rw none refl
@@ -76,7 +79,8 @@ module _ (client : ℕ) (key : NodeKey) (collection : ℕ) (strength : Strength)
     each = λ c b s. goes_up (client == c && is_in_set_below collection strength set SET_BITS b s) _ (or_false _
         ∙ ap (λ t. client == c && t) (all_below collection strength set fits b s)) (opened.counts c b s);
     in_parcels = λ b s. goes_not (opened.parcels b s);
-    in_all = λ b s. goes_up (is_in_set_below collection strength set SET_BITS b s) _ (all_below collection strength set fits b s) (opened.totals b s);
+    in_all = λ b s. goes_up (is_in_set_below collection strength set SET_BITS b s) _
+        (all_below collection strength set fits b s) (opened.totals b s);
   }
 
   -- and no other
@@ -86,7 +90,8 @@ module _ (client : ℕ) (key : NodeKey) (collection : ℕ) (strength : Strength)
     counts = λ c b s. gained (client == c && is_in_set_below collection strength set SET_BITS b s) _ (or_false _
         ∙ ap (λ t. client == c && t) (all_below collection strength set fits b s)) (moves.each c b s);
     parcels = λ b s. neither (moves.in_parcels b s);
-    totals = λ b s. gained (is_in_set_below collection strength set SET_BITS b s) _ (all_below collection strength set fits b s) (moves.in_all b s);
+    totals = λ b s. gained (is_in_set_below collection strength set SET_BITS b s) _
+        (all_below collection strength set fits b s) (moves.in_all b s);
   }
 
 -- ---- one handle
@@ -107,12 +112,14 @@ module _ (client : ℕ) (buffer : BufferName) (strength : Strength) where
 
   -- a DropHandle drops one
   pub moves_dropped : (old new : Counts) → 0 < of old client buffer strength →
-      Sets old new client buffer strength (of old client buffer strength - 1) (moving_count old buffer strength) (total old buffer strength - 1) →
+      Sets old new client buffer strength (of old client buffer strength - 1)
+      (moving_count old buffer strength) (total old buffer strength - 1) →
       MovesHandles old new (Called client Reply.Done (Call.DropHandle buffer strength))
   moves_dropped old new some sets = record {
     each = λ c b s. goes_down (is_its c b s) _ (or_false _) (down (is_its c b s) some (sets.counts c b s) (one_hold client buffer strength
         (of old) c b s));
-    in_parcels = λ b s. goes_not (still (is_the buffer strength b s) (sets.parcels b s) (one_kind client buffer strength (moving_count old) b s));
+    in_parcels = λ b s. goes_not
+        (still (is_the buffer strength b s) (sets.parcels b s) (one_kind client buffer strength (moving_count old) b s));
     in_all = λ b s. goes_down (is_the buffer strength b s) _ refl
         (down (is_the buffer strength b s) (omega (arith, of-le-total old client buffer strength)) (sets.totals b s)
         (one_kind client buffer strength (total old) b s));
@@ -120,7 +127,8 @@ module _ (client : ℕ) (buffer : BufferName) (strength : Strength) where
 
   -- and is undone by one more
   pub undrops : (before old new : Counts) → MovesHandles before old (Called client Reply.Done (Call.DropHandle buffer strength)) →
-      Sets old new client buffer strength (of old client buffer strength + 1) (moving_count old buffer strength) (total old buffer strength + 1) →
+      Sets old new client buffer strength (of old client buffer strength + 1)
+      (moving_count old buffer strength) (total old buffer strength + 1) →
       counts_of new ≡ counts_of before
   undrops before old new moves sets = same_counts before new
       (λ c b s. up (is_its c b s) (sets.counts c b s) (one_hold client buffer strength (of old) c b s)
@@ -132,7 +140,8 @@ module _ (client : ℕ) (buffer : BufferName) (strength : Strength) where
 
   -- a GiveHandle puts one into a parcel
   pub moves_given : (to : ℕ) (old new : Counts) → 0 < of old client buffer strength →
-      Sets old new client buffer strength (of old client buffer strength - 1) (moving_count old buffer strength + 1) (total old buffer strength) →
+      Sets old new client buffer strength (of old client buffer strength - 1)
+      (moving_count old buffer strength + 1) (total old buffer strength) →
       MovesHandles old new (Called client Reply.Done (Call.GiveHandle buffer strength to))
   moves_given to old new some sets = record {
     each = λ c b s. goes_down (is_its c b s) _ refl (down (is_its c b s) some (sets.counts c b s) (one_hold client buffer strength (of old)
@@ -146,7 +155,8 @@ module _ (client : ℕ) (buffer : BufferName) (strength : Strength) where
   -- and is undone by taking one out
   pub ungives : (to : ℕ) (before old new : Counts) → 0 < moving_count old buffer strength →
       MovesHandles before old (Called client Reply.Done (Call.GiveHandle buffer strength to)) →
-      Sets old new client buffer strength (of old client buffer strength + 1) (moving_count old buffer strength - 1) (total old buffer strength) →
+      Sets old new client buffer strength (of old client buffer strength + 1)
+      (moving_count old buffer strength - 1) (total old buffer strength) →
       counts_of new ≡ counts_of before
   ungives to before old new some moves sets = same_counts before new
       (λ c b s. up (is_its c b s) (sets.counts c b s) (one_hold client buffer strength (of old) c b s)
@@ -159,7 +169,8 @@ module _ (client : ℕ) (buffer : BufferName) (strength : Strength) where
 
   -- a Collect takes one out of a parcel
   pub moves_collected : (old new : Counts) → 0 < moving_count old buffer strength →
-      Sets old new client buffer strength (of old client buffer strength + 1) (moving_count old buffer strength - 1) (total old buffer strength) →
+      Sets old new client buffer strength (of old client buffer strength + 1)
+      (moving_count old buffer strength - 1) (total old buffer strength) →
       MovesHandles old new (Called client (Reply.CollectedHandle buffer strength) Call.Collect)
   moves_collected old new some sets = record {
     each = λ c b s. goes_up (is_its c b s) _ refl (up (is_its c b s) (sets.counts c b s) (one_hold client buffer strength (of old) c b s));

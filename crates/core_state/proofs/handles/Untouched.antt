@@ -36,7 +36,8 @@ pub record Stays (holds : Counts) (client : ℕ) (call : Call) (reply : Reply) :
 
 module _ (holds : Counts) (client : ℕ) (reply : Reply) where
   -- where the event is about no handles, only what would be undone is left to show
-  stays : (call : Call) → is_about_handles (Called client reply call) ≡ false → CanUndo holds client call reply → Stays holds client call reply
+  stays : (call : Call) → is_about_handles (Called client reply call) ≡ false →
+      CanUndo holds client call reply → Stays holds client call reply
   stays call idle undo = record { moves = moves_none holds (Called client reply call) idle; undo = undo }
 
   -- a Take that is not answered Taken
@@ -52,7 +53,8 @@ module _ (holds : Counts) (client : ℕ) (reply : Reply) where
   -- a DropHandle that is not done
   pub drop_stays : (buffer : BufferName) (strength : Strength) → (reply ≡ Reply.Done → ⊥) →
       Stays holds client (Call.DropHandle buffer strength) reply
-  drop_stays buffer strength undone = stays (Call.DropHandle buffer strength) (not_dropped client reply buffer strength undone) (by reply undone)
+  drop_stays buffer strength undone =
+      stays (Call.DropHandle buffer strength) (not_dropped client reply buffer strength undone) (by reply undone)
     where
       by : (reply : Reply) → (reply ≡ Reply.Done → ⊥) → CanUndo holds client (Call.DropHandle buffer strength) reply
       by Reply.Done undone = absurd (undone refl)

@@ -1,5 +1,6 @@
 -- What an event does to the clients, and what is known of a client that has not joined.
-use Rattle.std.proofs.Common.{ℕ, ◌≡◌, refl, ap, sym, ◌∙◌, subst, Bool, true, false, not, ◌||◌, inl, inr, List, [], ◌∷◌, ◌++◌, drop, map, reverse, Option, Some, None, is_some}
+use Rattle.std.proofs.Common.{ℕ, ◌≡◌, refl, ap, sym, ◌∙◌, subst, Bool, true, false, not, ◌||◌, inl, inr}
+use Rattle.std.proofs.Common.{List, [], ◌∷◌, ◌++◌, drop, map, reverse, Option, Some, None, is_some}
 use Rattle.std.proofs.lemmas.Bool.{eqb-true, false≢true}
 use Rattle.std.proofs.lemmas.List.{append-nil, map-append, reverse-append}
 use Rattle.std.specs.List.{cons_option}
@@ -39,6 +40,7 @@ shuts_joined limits marks caller (Reply.Shut waiting) Call.Shut answer client h 
     took_effect_all limits (readings marks) caller none_key Call.Shut (Reply.Shut waiting) refl refl answer.told in
     ap (has_joined marks) (sym (eqb-true caller client h)) ∙ known (has_joined marks caller) t.known
   where
+    -- by cases: a client that has not joined would be refused
     known : (b : Bool) → refused_if (not b || false) Refusal.NoSuchClient ≡ None → b ≡ true
     known true none = refl
     known false none = cc

@@ -32,6 +32,7 @@ unchanged client (Reply.Collected key kind collection) Call.Collect rows none = 
 unchanged client (Reply.CollectedHandle buffer strength) Call.Collect rows none = cc
 unchanged client _ _ rows none = sym (stays rows)
   where
+    -- by induction: each row gets no parcel more
     stays : (rows : List Client) → map (λ (c : Client). record c { waiting = c.waiting ++ [] }) rows ++ [] ≡ rows
     stays [] = refl
     stays (c ∷ rows) = λ i. record c { waiting = append-nil c.waiting i } ∷ stays rows i

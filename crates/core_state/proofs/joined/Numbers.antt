@@ -19,6 +19,7 @@ answered : (limits : Bound) (r : Readings) (client : ℕ) (new : NodeKey) (call 
 answered limits r client new (Call.Close key) reply effective told =
     inr ((passed limits r client new (Call.Close key) reply key told (stands reply effective) refl).closed Reply.Done refl)
   where
+    -- by cases: a refusal has no effect
     stands : (reply : Reply) → took_effect reply ≡ true → is_refusal reply ≡ false
     stands (Reply.Refused refusal) h = cc
     stands _ h = refl
@@ -30,6 +31,7 @@ pub joined_number : (limits : Bound) (r : Readings) (client : ℕ) (new : NodeKe
 joined_number limits r client new Call.Join made told =
     number (took_effect_all limits r client new Call.Join (Reply.Joined made) refl refl told).answered
   where
+    -- since `Joined` is injective
     number : Reply.Joined made ≡ Reply.Joined (r.events + 1) → made ≡ r.events + 1
     number is = cc
 joined_number limits r client new call made told =

@@ -1,5 +1,6 @@
 -- The rows of the clients, by rising ids.
-use Rattle.std.proofs.Common.{ℕ, zero, suc, ◌≡◌, ◌<◌, ◌≤◌, ◌==◌, ◌||◌, refl, sym, ap, ◌∙◌, inl, inr, Bool, true, false, cond, List, [], ◌∷◌, length, get_or, set, map, arith, Option, Some, None, is_some, Result, Ok, Err, Bor}
+use Rattle.std.proofs.Common.{ℕ, zero, suc, ◌≡◌, ◌<◌, ◌≤◌, ◌==◌, ◌||◌, refl, sym, ap, ◌∙◌, inl, inr, Bool, true, false, cond}
+use Rattle.std.proofs.Common.{List, [], ◌∷◌, length, get_or, set, map, arith, Option, Some, None, is_some, Result, Ok, Err, Bor}
 use Rattle.std.specs.List.{find, list_any, position, position_or_len, slice_get, AllByRecursion}
 use Rattle.std.specs.List.Sorted.{IsSearchInRange, IsBinarySearchResult, IsNonDecreasingBy, IsPartitionPoint}
 use Rattle.std.specs.Option.{option_copied}
@@ -99,7 +100,8 @@ module _ (client : ℕ) where
   -- a binary search by the id finds the row of the client
   pub search_places : (rows : List Client) (r : Result ℕ ℕ) → AreRising rows → IsSearchInRange r (length rows) →
       IsBinarySearchResult (λ (c : Client). nat_cmp c.id client) rows r → result_ok r ≡ position is_its rows
-  search_places rows (Ok at) rise within found = stands_at rows at (new_client 0) rise within (ranked _ client _ (sym (found (new_client 0))))
+  search_places rows (Ok at) rise within found =
+      stands_at rows at (new_client 0) rise within (ranked _ client _ (sym (found (new_client 0))))
   search_places rows (Err at) rise within found =
       let sides = found (comparisons_rise rows rise) in
       let past : length rows ≤ position_or_len is_its rows = elim (cases_lt (position_or_len is_its rows) (length rows)) [

@@ -1,5 +1,6 @@
 -- The nodes above a node, read of births and of the nodes that are kept.
-use Rattle.std.proofs.Common.{ℕ, ◌≡◌, refl, ap, sym, ◌∙◌, Bool, true, false, ◌&&◌, ◌==◌, inl, inr, List, [], ◌∷◌, map, reverse, Option, Some, None}
+use Rattle.std.proofs.Common.{ℕ, ◌≡◌, refl, ap, sym, ◌∙◌, Bool, true, false, ◌&&◌, ◌==◌}
+use Rattle.std.proofs.Common.{inl, inr, List, [], ◌∷◌, map, reverse, Option, Some, None}
 use Rattle.std.proofs.lemmas.Bool.{eq-eqb}
 use Rattle.std.proofs.lemmas.List.{reverse-reverse}
 use Rattle.std.specs.List.{list_any, filter}
@@ -47,6 +48,7 @@ line_kept marks kept (b ∷ older) key whole =
           ]
     ]
   where
+    -- by cases: a root has none above it, and a parent is kept since it is on the line
     from : (o : Option NodeKey) → ((c : Birth) → In c older →
         list_any (same_key c.node) (key ∷ option_map_or (λ p. p ∷ ancestors older p) o []) ≡ true → kept c ≡ true) →
         ((p : NodeKey) → ((c : Birth) → In c older → list_any (same_key c.node) (p ∷ ancestors older p) ≡ true → kept c ≡ true) →
@@ -116,6 +118,7 @@ above_kept keep marks collection w keeps b on ours here =
     ap (λ (ns : List Node). above_among ns b.node) (kept_reverse keep marks collection)
     ∙ line_kept marks (is_kept_of keep collection) (births marks) b.node kept
   where
+    -- each birth on the line is not gone and of the collection, since the node below is
     kept : (c : Birth) → In c (births marks) → list_any (same_key c.node) (b.node ∷ ancestors (births marks) b.node) ≡ true →
         is_kept_of keep collection c ≡ true
     kept c there h =

@@ -100,6 +100,7 @@ highest-left marks collection w b here =
     (λ k on. any-left (λ (n : Member). same_key n.key k && blocks n) is_left (members marks collection) (λ n there lost.
     never k on n there lost))
   where
+    -- a node on the line is not gone, and one that is gone is not among those that are left
     never : (k : NodeKey) → In k (b.node ∷ ancestors (births marks) b.node) → (n : Member) → In n (members marks collection) →
         is_left n ≡ false → (same_key n.key k && blocks n) ≡ false
     never k on n there lost =

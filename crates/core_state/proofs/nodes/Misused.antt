@@ -6,7 +6,8 @@ use Rattle.sm_names.specs.declared.messages.Call.{Call}
 use Rattle.sm_names.specs.declared.messages.Reply.{Reply}
 use Rattle.sm_names.specs.declared.outcomes.Fault.{Fault}
 use Rattle.sm_names.specs.declared.outcomes.Misuse.{Misuse}
-use Rattle.sm_names.specs.Answers.{OpenEnd, Readings, IsAnswer, effect, closing, peer_closed, wrong_kind, misuse, no_handle, limits_met, end_named, key_told}
+use Rattle.sm_names.specs.Answers.{OpenEnd, Readings, IsAnswer, effect, closing, peer_closed}
+use Rattle.sm_names.specs.Answers.{wrong_kind, misuse, no_handle, limits_met, end_named, key_told}
 use Rattle.sm_names.specs.Bounds.{Bound}
 use Rattle.sm_names.specs.Ends.{spent}
 use Rattle.sm_names.specs.Losses.{fault, gone}
@@ -41,6 +42,7 @@ not_closed : (r : Readings) (call : Call) (rest : List (Option Reply)) (e : Repl
     Reply.Misused m ≡ unwrap_or (first_some (peer_closed r call ∷ rest)) e → peer_closed r call ≡ None
 not_closed r call rest e m h = from (end_named r call) h
   where
+    -- by cases: a node that failed would be answered PeerClosed before
     from : (o : Option OpenEnd) → Reply.Misused m ≡ unwrap_or (first_some (option_and_then (λ (x : OpenEnd).
         option_map (λ (f : Fault). Reply.PeerClosed f.cause f.origin) x.fault) o ∷ rest)) e →
         option_and_then (λ (x : OpenEnd). option_map (λ (f : Fault). Reply.PeerClosed f.cause f.origin) x.fault) o ≡ None

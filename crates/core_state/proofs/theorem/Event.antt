@@ -33,10 +33,12 @@ may_do limits s client call asked (Some t) known work there = record {
   there = there;
 }
   where
+    -- since the call is answered so, and this is its work
     at : (change : Change) → t.change ≡ Some change → Well s call asked (record { collection = t.collection; change = change })
     at change is = well limits s client call asked known (record { collection = t.collection; change = change }) (sym work
         ∙ ap (work_on t.collection) is)
 
+    -- by cases: without a change there is nothing to say
     may : (o : Option Change) → t.change ≡ o → IfSome o (MayChange s.forest t.collection)
     may None is = tt
     may (Some change) is = (at change is).may
@@ -80,6 +82,7 @@ token_told limits s client Call.OpenRoot first key c known =
     ap (Reply.Token key) (number first no_key c (s.events + 1) all.answered)
     ∙ sym (passes limits (readings_of s) client no_key key Call.OpenRoot (Reply.Token first c) all refl)
   where
+    -- since `Token` is injective
     number : (a b : NodeKey) (x y : ℕ) → Reply.Token a x ≡ Reply.Token b y → x ≡ y
     number a b x y is = cc
 token_told limits s client (Call.Duplicate above) first key c known =
@@ -87,6 +90,7 @@ token_told limits s client (Call.Duplicate above) first key c known =
     child ((readings_of s).end_of above) all.answered
     ∙ sym (passes limits (readings_of s) client no_key key (Call.Duplicate above) (Reply.Token first c) all refl)
   where
+    -- by cases: the reply has the collection of the end, whatever the new key is
     child : (o : Option OpenEnd) → Reply.Token first c ≡ option_map_or (λ (e : OpenEnd). Reply.Token no_key e.collection) o
         (Reply.Refused Refusal.NoSuchEnd) →
         Reply.Token key c ≡ option_map_or (λ (e : OpenEnd). Reply.Token key e.collection) o (Reply.Refused Refusal.NoSuchEnd)
@@ -97,6 +101,7 @@ token_told limits s client (Call.AttachToken above) first key c known =
     child ((readings_of s).end_of above) all.answered
     ∙ sym (passes limits (readings_of s) client no_key key (Call.AttachToken above) (Reply.Token first c) all refl)
   where
+    -- by cases: the reply has the collection of the end, whatever the new key is
     child : (o : Option OpenEnd) → Reply.Token first c ≡ option_map_or (λ (e : OpenEnd). Reply.Token no_key e.collection) o
         (Reply.Refused Refusal.NoSuchEnd) →
         Reply.Token key c ≡ option_map_or (λ (e : OpenEnd). Reply.Token key e.collection) o (Reply.Refused Refusal.NoSuchEnd)
@@ -124,6 +129,7 @@ pub is_keyed : (limits : Bound) (handles : Handles) (s : State) (client : ℕ) (
     work_in task ≡ work_of s client call asked → Reworked s.pool handles s.forest (work_in task) key worked → IsKeyed s asked key
 is_keyed limits handles s client call asked task key worked known work done = by (work_in task) refl done
   where
+    -- by cases: without work nothing is made, and with work the key is new exactly if a node is born
     by : (o : Option Work) → work_in task ≡ o → Reworked s.pool handles s.forest o key worked → IsKeyed s asked key
     by None is done = record {
       both = ap is_some done.1 ∙ sym (untold limits s client call asked known (sym work ∙ is));
@@ -170,6 +176,7 @@ pub worked_is : (handles : Handles) (s : State) (client : ℕ) (call : Call) (as
 worked_is handles s client call asked task key worked work made done =
     rw (same_work s client call asked key, new_is s asked key made, ← work) (by (work_in task) done)
   where
+    -- by cases: without work all stays
     by : (o : Option Work) → Reworked s.pool handles s.forest o key worked → Worked s handles o key worked
     by None done = done.0
     by (Some w) settled = settled

@@ -1,6 +1,7 @@
 -- What the parts of an event come to.
 use Rattle.std.proofs.lemmas.Bool.{false≢true}
-use Rattle.std.proofs.Common.{ℕ, ◌≡◌, ◌+◌, refl, ap, sym, ◌∙◌, subst, true, false, ◌||◌, List, [], ◌∷◌, Option, Some, None, IfSome, is_some, if◌then◌else◌}
+use Rattle.std.proofs.Common.{ℕ, ◌≡◌, ◌+◌, refl, ap, sym, ◌∙◌, subst, true, false, ◌||◌, List}
+use Rattle.std.proofs.Common.{[], ◌∷◌, Option, Some, None, IfSome, is_some, if◌then◌else◌}
 use Rattle.std.specs.Option.{option_map_or, option_or}
 use Rattle.sm_names.specs.declared.keys.NodeKey.{NodeKey}
 use Rattle.sm_names.specs.declared.messages.Call.{Call}
@@ -25,12 +26,14 @@ use Rattle.core_state.specs.Hands.{collects_handle}
 use Rattle.core_state.specs.Reads.{open_end_of, readings_of, world_in}
 use Rattle.core_state.specs.State.{State, counts_of}
 use Rattle.core_state.specs.Steps.{Follows, GainsTracker, end_by, swept, tracker_by, with_place, without_over, work_of}
-use Rattle.core_state.specs.Tasks.{DoesSome, MayDo, Parts, Reworked, SpendsThere, TakesEffect, carried_by, with_key, end_placed, spent_by, spent_in, spent_place, takes_room, work_in, work_on}
+use Rattle.core_state.specs.Tasks.{DoesSome, MayDo, Parts, Reworked, SpendsThere, TakesEffect, carried_by, with_key}
+use Rattle.core_state.specs.Tasks.{end_placed, spent_by, spent_in, spent_place, takes_room, work_in, work_on}
 use Rattle.core_state.specs.Whole.{CanCarry, CanFinish}
 use Rattle.core_state.proofs.forced.Known.{IsKnown}
 use Rattle.core_state.proofs.forced.Change.{can_finish}
 use Rattle.core_state.proofs.handles.Moves.{moved}
-use Rattle.core_state.proofs.theorem.Event.{IsKeyed, is_answer, is_keyed, may_do, same_clients, same_end, same_handles, same_tracker, worked_is}
+use Rattle.core_state.proofs.theorem.Event.{IsKeyed, is_answer, is_keyed, may_do, same_clients}
+use Rattle.core_state.proofs.theorem.Event.{same_end, same_handles, same_tracker, worked_is}
 use Rattle.core_state.proofs.forced.Whole.{Known, Named, end_at, named}
 
 -- ---- no task
@@ -40,6 +43,7 @@ pub no_task : (task : Option Task) → IfSome task DoesSome → work_in task ≡
 no_task None some work spends = refl
 no_task (Some t) some work spends = by t.change t.spends some work spends
   where
+    -- by cases: the task changes something or spends an end
     by : (change : Option Change) (spends : Option NodeKey) → (is_some change || is_some spends) ≡ true →
         work_on t.collection change ≡ None → spends ≡ None → Some t ≡ None
     by (Some x) key some work spends = cc
@@ -110,12 +114,14 @@ carried_there s client Call.Collect (Reply.Collected key kind collection) place 
       refl,
     )
   where
+    -- by cases: an end that is not there is not collected
     of : (k : NodeKey) (o : Option OpenEnd) → (readings_of s).end_of k ≡ o →
         Reply.Collected key kind collection ≡ option_map_or (λ (e : OpenEnd). Reply.Collected k e.kind e.collection) o Reply.Empty →
         (n : Node) × (node_at s.forest key ≡ Some n) × (is_spent n.end ≡ false)
     of k None there told = cc
     of k (Some e) there told = let same : k ≡ key = cc in collected_end s key e (ap (readings_of s).end_of (sym same) ∙ there)
 
+    -- by cases on the first parcel: only an end is answered Collected
     by : (parcels : List Parcel) → Reply.Collected key kind collection ≡ collected (readings_of s) parcels →
         (n : Node) × (node_at s.forest key ≡ Some n) × (is_spent n.end ≡ false)
     by [] told = cc
@@ -220,7 +226,8 @@ module _ (s : State) (client : ℕ) (call : Call) (asked reply : Reply) (task : 
               takes.work).0 in
               (there.0.0, rw same there.0.1, there.0.2, there.1)
 
-      module _ (forest : Forest) (trackers : TrackerTable) (collections : forest.collections ≡ without_over (with_place (end_placed task carried)
+      module _ (forest : Forest) (trackers : TrackerTable)
+          (collections : forest.collections ≡ without_over (with_place (end_placed task carried)
           parts.forest).collections) (keys : SameKeys parts.forest forest)
           (sweeps : trackers ≡ swept (world_in parts.forest (total parts.holds)) (s.events + 1) parts.trackers) where
         -- the state after the event

@@ -89,7 +89,8 @@ module _ (s : State) (client : ℕ) (call : Call) (asked reply : Reply) (task : 
         is_due (world_in parts.forest (total parts.holds)) t ≡ false) parts.trackers.unfired (λ t on other.
         elsewhere all marks core.whole.shows.shown s.limits grown core.whole.filed client reply call (behind core.gone parts.trackers)
         (gains_recall core.gone s.trackers parts.trackers (tracker_by s.forest call reply) gains) answer
-        (every_rests s.pool s.limits core.whole.history core.whole.shows.legal.answers) (total parts.holds) counts parts.forest work_of_all t on
+        (every_rests s.pool s.limits core.whole.history core.whole.shows.legal.answers)
+        (total parts.holds) counts parts.forest work_of_all t on
         (λ is. other ((λ i. looked_in (world_in parts.forest (total parts.holds)) (changed i) (tracks i)) ∙ is)))
       where
         work : Worked s (total parts.holds) (work_of s client call reply) (new_key reply) parts.forest
@@ -107,7 +108,8 @@ module _ (s : State) (client : ℕ) (call : Call) (asked reply : Reply) (task : 
         gains = subst (λ (o : Option Waiting). GainsTracker s.trackers o parts.trackers) tracks takes.trackers
 
         changed_by_call : changed_by task ≡ option_map (λ (w : Work). w.collection) (work_of s client call reply)
-        changed_by_call = rw takes.told (ap (option_map (λ (w : Work). w.collection)) (b.work ∙ sym (same_work s client call asked takes.key)))
+        changed_by_call = rw takes.told
+            (ap (option_map (λ (w : Work). w.collection)) (b.work ∙ sym (same_work s client call asked takes.key)))
 
         changed : changed_by task ≡ option_map (λ (w : Work). w.collection) (work_of all client call reply)
         changed = changed_by_call ∙ ap (option_map (λ (w : Work). w.collection)) (sym (work_recalls core.gone s client call reply))

@@ -1,5 +1,6 @@
 -- How a collection of a state follows a history.
-use Rattle.std.proofs.Common.{ℕ, ◌≡◌, refl, ap, sym, ◌∙◌, Bool, true, not, ◌&&◌, ◌==◌, ◌++◌, inl, inr, List, [], ◌∷◌, map, Option, Some, None, is_some, is_none, nat_lt}
+use Rattle.std.proofs.Common.{ℕ, ◌≡◌, refl, ap, sym, ◌∙◌, Bool, true, not, ◌&&◌, ◌==◌, ◌++◌, inl}
+use Rattle.std.proofs.Common.{inr, List, [], ◌∷◌, map, Option, Some, None, is_some, is_none, nat_lt}
 use Rattle.std.proofs.lemmas.Bool.{eqb-true}
 use Rattle.std.specs.List.{list_any, filter}
 use Rattle.std.specs.Option.{option_map_or, option_and_then}

@@ -1,6 +1,7 @@
 -- A core shows a legal history, but for the firings that it forgot, and an event keeps it so.
 use Rattle.std.proofs.lemmas.Bool.{false≢true}
-use Rattle.std.proofs.Common.{ℕ, ◌≡◌, ◌<◌, ◌≤◌, ◌+◌, ◌^◌, refl, ap, sym, ◌∙◌, subst, not, inl, inr, List, ◌∷◌, ◌++◌, Option, Some, None, is_some, arith, []}
+use Rattle.std.proofs.Common.{ℕ, ◌≡◌, ◌<◌, ◌≤◌, ◌+◌, ◌^◌, refl, ap, sym, ◌∙◌, subst, not, inl}
+use Rattle.std.proofs.Common.{inr, List, ◌∷◌, ◌++◌, Option, Some, None, is_some, arith, []}
 use Rattle.std.specs.List.{All}
 use Rattle.std.proofs.lemmas.List.Elements.{All-nil}
 use Rattle.sm_names.specs.declared.messages.Call.{Call}
@@ -89,7 +90,8 @@ attached_limit old new None gains = ap (λ (t : TrackerTable). t.limit) gains
 attached_limit old new (Some t) gains = ap (λ (x : TrackerTable). x.limit) gains.next
 
 module _ (before : Holdings) (old new : State) (client : ℕ) (call : Call) (reply : Reply)
-    (answers : IsAnswer old.limits (readings_of old) client call reply) (f : Follows old new client call reply) (core : IsWholeCore before old) where
+    (answers : IsAnswer old.limits (readings_of old) client call reply) (f : Follows old new client call reply)
+    (core : IsWholeCore before old) where
   -- the marks of the history that the old state shows
   abbrev marks : Timeline
   marks = timeline old.pool core.history

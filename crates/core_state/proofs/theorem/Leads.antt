@@ -1,5 +1,6 @@
 -- What several events lead to, one after another.
-use Rattle.std.proofs.Common.{ℕ, ◌≡◌, ◌<◌, ◌≤◌, ◌↔◌, refl, ap, sym, ◌∙◌, subst, Bool, true, false, nat_le, List, [], ◌∷◌, ◌++◌, length, get_or, append_assoc, Option, Some, None, Result, Ok, Err}
+use Rattle.std.proofs.Common.{ℕ, ◌≡◌, ◌<◌, ◌≤◌, ◌↔◌, refl, ap, sym, ◌∙◌, subst, Bool, true, false, nat_le, List}
+use Rattle.std.proofs.Common.{[], ◌∷◌, ◌++◌, length, get_or, append_assoc, Option, Some, None, Result, Ok, Err}
 use Rattle.std.proofs.lemmas.Bool.{leb-false, leb-true}
 use Rattle.std.proofs.lemmas.List.{append-nil}
 use Rattle.std.specs.List.{cons_option}
@@ -84,6 +85,7 @@ leads_untaken old new (first ∷ more) leads =
     ∙ (append_assoc old.trackers.untaken (cons_option (tracker_told first.2) []) (trackers_told more)
     ∙ ap (λ (l : List ℕ). old.trackers.untaken ++ l) (both (tracker_told first.2))))
   where
+    -- by cases on the tracker that is told of
     both : (o : Option ℕ) → cons_option o [] ++ trackers_told more ≡ cons_option o (trackers_told more)
     both None = refl
     both (Some id) = refl
@@ -111,6 +113,7 @@ leads_more old mid new calls replies reply d less before next =
 room_left : (most count : ℕ) → ((most ≤ count) → ⊥) → count < most
 room_left most count never = by (nat_le most count) refl
   where
+    -- by cases on the test
     by : (b : Bool) → nat_le most count ≡ b → count < most
     by true full = absurd (never (leb-true most count full))
     by false less = leb-false most count less

@@ -1,5 +1,6 @@
 -- What a state keeps true of its fields since it shows a legal history.
-use Rattle.std.proofs.Common.{ℕ, ◌≡◌, ◌≤◌, ◌<◌, ◌+◌, refl, ap, sym, ◌∙◌, subst, Bool, true, false, cond, ◌||◌, ◌&&◌, ◌==◌, not, nat_le, if◌then◌else◌, inl, inr, List, ◌∷◌, ◌++◌, map, reverse, Option, Some, None, is_some, arith, []}
+use Rattle.std.proofs.Common.{ℕ, ◌≡◌, ◌≤◌, ◌<◌, ◌+◌, refl, ap, sym, ◌∙◌, subst, Bool, true, false, cond, ◌||◌, ◌&&◌, ◌==◌, not}
+use Rattle.std.proofs.Common.{nat_le, if◌then◌else◌, inl, inr, List, ◌∷◌, ◌++◌, map, reverse, Option, Some, None, is_some, arith, []}
 use Rattle.std.proofs.lemmas.Bool.{not-true, eqb-true, false≢true}
 use Rattle.std.proofs.lemmas.List.{reverse-append}
 use Rattle.std.proofs.lemmas.List.Sums.{sum_by-cons, sum_by-append}
@@ -64,6 +65,7 @@ rise_is : (ns : List ℕ) → IsRising ns → Rise ns
 rise_is [] rising = tt
 rise_is (n ∷ ns) rising = (each ns rising.0, rise_is ns rising.1)
   where
+    -- by induction: each is an element
     each : (ms : List ℕ) → ((m : ℕ) → In m ms → n < m) → AllByRecursion (λ m. n < m) ms
     each [] above = tt
     each (m ∷ ms) above = (above m (inl refl), each ms (λ k on. above k (inr on)))
@@ -90,6 +92,7 @@ clients_rise pool limits _ Stays = tt
 clients_rise pool limits _ (Answers before client reply call g answer) =
     by (clients_rise pool limits before g) (joined_at (Called client reply call)) refl
   where
+    -- by cases: who joins has the number of this event, which is greater than all before
     by : IsRising (reverse (clients before)) → (o : Option ℕ) → joined_at (Called client reply call) ≡ o →
         IsRising (reverse (clients (Called client reply call ∷ before)))
     by rise None is = rw is rise
@@ -309,7 +312,8 @@ module _ (s : State) (marks : Timeline) (shown : IsAfter s marks) (limits : Boun
       elim (either_way (is_kept_collection marks buffer.collection)) [
         | inl kept ↦
             rw (collection_kept s marks shown limits grown buffer.collection kept)
-            ((λ i. is_some (buffers_of marks buffer.collection) && is_doomed (totals_are s marks shown limits grown i buffer Strength.Strong)
+            ((λ i. is_some (buffers_of marks buffer.collection) && is_doomed
+            (totals_are s marks shown limits grown i buffer Strength.Strong)
             (strong_live_is s.pool marks buffer.collection i)) ∙ here)
         | inr lost ↦ rw (collection_forgotten s marks shown limits grown buffer.collection lost) refl
       ]

@@ -72,10 +72,12 @@ module _ (gone : List Fired) (old new : State) (client : ℕ) (call : Call) (rep
   -- so each history that the old state shows but for these firings goes on
   pub goes_on_but : Makes old new (client, call, reply) → (history : List Entry) → ShowsBut gone old history →
       ShowsBut gone new (history ++ (client, call, reply) ∷ [])
-  goes_on_but makes = goes_on (recalling gone old) (recalling gone new) client call reply makes.answer (follows_recalls makes.after) makes.room
+  goes_on_but makes = goes_on (recalling gone old) (recalling gone new) client call reply makes.answer
+      (follows_recalls makes.after) makes.room
 
 -- ---- several events
 
+-- by induction on the entries: each event keeps it, whatever is left out
 pub leads_on_but : (gone : List Fired) (old : State) (entries : List Entry) (new : State) → Leads old entries new →
     (history : List Entry) → ShowsBut gone old history → ShowsBut gone new (history ++ entries)
 leads_on_but gone old [] new same history shows = rw (append-nil history, same) shows

@@ -1,6 +1,7 @@
 -- Which trackers an event has to look at: a tracker elsewhere is not due.
 use Rattle.std.proofs.lemmas.Bool.{false≢true}
-use Rattle.std.proofs.Common.{ℕ, ◌≡◌, refl, ap, sym, ◌∙◌, subst, Bool, false, ◌&&◌, ◌==◌, not, inl, inr, ◌∷◌, Option, Some, None, is_some, option_map, []}
+use Rattle.std.proofs.Common.{ℕ, ◌≡◌, refl, ap, sym, ◌∙◌, subst, Bool, false, ◌&&◌, ◌==◌, not}
+use Rattle.std.proofs.Common.{inl, inr, ◌∷◌, Option, Some, None, is_some, option_map, []}
 use Rattle.std.specs.List.{All}
 use Rattle.std.specs.Option.{option_map_or}
 use Rattle.sm_names.specs.declared.keys.NodeKey.{NodeKey}
@@ -120,7 +121,8 @@ module _ (s : State) (marks : Timeline) (shown : IsAfter s marks) (limits : Boun
               let asked : In (tracked_as t) (trackers_to_test marks (client, call, reply)) =
               subst (In (tracked_as t)) asks.waiting (In-map-back tracked_as attached.unfired t on) in
               let of = (starts s marks shown limits grown client reply call answer w e).of in
-              recalled_due s.pool limits marks (after s.pool marks (client, call, reply)) (client, call, reply) (world_in worked handles) grown
+              recalled_due s.pool limits marks (after s.pool marks (client, call, reply))
+              (client, call, reply) (world_in worked handles) grown
               (grows_after s.pool limits marks marks (client, call, reply) Stays answer) answer
               (recalled s.pool limits marks grown (client, call, reply) worked handles
               (seen_later s marks shown limits grown client reply call answer rests handles counts worked work)) (tracked_as t) asked

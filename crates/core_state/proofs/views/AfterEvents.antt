@@ -1,5 +1,6 @@
 -- After the work of an event the forest has what trackers look at.
-use Rattle.std.proofs.Common.{ℕ, ◌≡◌, ◌+◌, refl, ap, sym, ◌∙◌, subst, Bool, true, false, cond, not, ◌||◌, ◌==◌, inl, inr, List, [], ◌∷◌, length, map, Option, None}
+use Rattle.std.proofs.Common.{ℕ, ◌≡◌, ◌+◌, refl, ap, sym, ◌∙◌, subst, Bool, true, false, cond}
+use Rattle.std.proofs.Common.{not, ◌||◌, ◌==◌, inl, inr, List, [], ◌∷◌, length, map, Option, None}
 use Rattle.std.proofs.lemmas.Bool.{eqb-true}
 use Rattle.sm_names.specs.declared.keys.Interval.{Interval}
 use Rattle.sm_names.specs.declared.messages.Call.{Call}
@@ -43,7 +44,8 @@ use Rattle.core_state.proofs.collections.Roots.{HasRoot, kept_root}
 use Rattle.core_state.proofs.views.Forests.{AreStanding, Stands, standing_seen}
 use Rattle.core_state.proofs.views.ForTrackers.{IsSeen}
 use Rattle.core_state.proofs.forced.Settled.{counts_on}
-use Rattle.core_state.proofs.forced.Work.{Starts, grown_later, kept_elsewhere, out_held, out_listed, out_matches, same_elsewhere, worked_are}
+use Rattle.core_state.proofs.forced.Work.{Starts, grown_later, kept_elsewhere, out_held}
+use Rattle.core_state.proofs.forced.Work.{out_listed, out_matches, same_elsewhere, worked_are}
 
 module _ (s : State) (marks : Timeline) (shown : IsAfter s marks) (limits : Bound) (grown : Grows s.pool limits [] marks) (client : ℕ)
     (reply : Reply) (call : Call)

@@ -51,6 +51,7 @@ strong_members nodes =
 strong_kept : (nodes : List Node) → list_any is_strong_live (filter (λ n. not (is_over n)) nodes) ≡ list_any is_strong_live nodes
 strong_kept nodes = any-left is_strong_live (λ n. not (is_over n)) nodes (λ n on over. dead n.gone n.released n.weak (is_spent n.end) over)
   where
+    -- by cases: a strong node that is over is gone
     dead : (g r w s : Bool) → not (g && s) ≡ false → ((not g && not r) && not w) ≡ false
     dead true r w s over = refl
     dead false r w s over = cc

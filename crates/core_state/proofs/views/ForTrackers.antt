@@ -1,5 +1,6 @@
 -- What trackers look at in a forest, once the work of an event is done, is what the marks tell.
-use Rattle.std.proofs.Common.{ℕ, ◌≡◌, ◌≢◌, refl, ap, sym, ◌∙◌, Bool, true, false, not, ◌&&◌, ◌||◌, ◌==◌, ◌⊎◌, inl, inr, [], length, Option, Some, None, is_some, arith}
+use Rattle.std.proofs.Common.{ℕ, ◌≡◌, ◌≢◌, refl, ap, sym, ◌∙◌, Bool, true, false, not, ◌&&◌, ◌||◌}
+use Rattle.std.proofs.Common.{◌==◌, ◌⊎◌, inl, inr, [], length, Option, Some, None, is_some, arith}
 use Rattle.std.proofs.lemmas.Bool.{eqb-true, eqb-false, eq-eqb}
 use Rattle.std.specs.Option.{option_map_or}
 use Rattle.sm_names.specs.declared.keys.BufferName.{BufferName}
@@ -66,6 +67,7 @@ pub record IsSeen (worked : Forest) (handles : Handles) (marks later : Timeline)
 pub over_gone : (marks : Timeline) (key : NodeKey) → is_kept marks key ≡ false → gone marks key ≡ true
 over_gone marks key over = from (gone marks key) (spent marks key) over
   where
+    -- by cases: only a node that is gone is not kept
     from : (g t : Bool) → (not g || not t) ≡ false → g ≡ true
     from true t h = refl
     from false t h = cc
@@ -74,6 +76,7 @@ over_gone marks key over = from (gone marks key) (spent marks key) over
 pub none_left : (marks : Timeline) (id : ℕ) → is_kept_collection marks id ≡ false → left marks id ≡ 0
 none_left marks id lost = from (left marks id == 0) refl (or_none_right _ (not (left marks id == 0)) lost)
   where
+    -- by cases: a buffer that is left keeps its collection
     from : (b : Bool) → (left marks id == 0) ≡ b → not b ≡ false → left marks id ≡ 0
     from true e h = eqb-true (left marks id) 0 e
     from false e h = cc
@@ -95,6 +98,7 @@ all_home pool limits marks grown buffer lost given =
     (record { given = given; none_open = unopened Strength.Strong; none_strong = none_strong marks buffer.collection lost }))
     (eq-eqb (open_total marks buffer Strength.Weak) 0 (unopened Strength.Weak))
   where
+    -- since an open handle keeps its collection
     unopened : (strength : Strength) → open_total marks buffer strength ≡ 0
     unopened strength = elim (either_way (open_total marks buffer strength == 0)) [
       | inl e ↦ eqb-true _ _ e

@@ -1,5 +1,6 @@
 -- Which buffers are seen as held.
-use Rattle.std.proofs.Common.{ℕ, ◌≡◌, ◌≤◌, ◌<◌, ◌+◌, refl, ap, sym, ◌∙◌, subst, true, false, not, ◌&&◌, ◌==◌, nat_lt, nat_le, inl, inr, List, [], ◌∷◌, map, arith}
+use Rattle.std.proofs.Common.{ℕ, ◌≡◌, ◌≤◌, ◌<◌, ◌+◌, refl, ap, sym, ◌∙◌, subst, true, false, not}
+use Rattle.std.proofs.Common.{◌&&◌, ◌==◌, nat_lt, nat_le, inl, inr, List, [], ◌∷◌, map, arith}
 use Rattle.std.proofs.lemmas.Bool.{eqb-true, lt-ltb, ltb-true}
 use Rattle.std.proofs.lemmas.List.Folds.{flat_map-map}
 use Rattle.std.specs.List.{flat_map, list_any, sum_by}
@@ -96,6 +97,7 @@ apart_numbered : (hs : List HeldBuffer) → AreApart (map (λ (h : HeldBuffer). 
 apart_numbered [] apart paged = tt
 apart_numbered (h ∷ hs) apart paged = ((λ k on same. meet k on same), apart_numbered hs apart.1 (λ k on. paged k (inr on)))
   where
+    -- since two intervals with one start, each with a page, meet
     meet : (k : HeldBuffer) → In k hs → k.pages.start ≡ h.pages.start → ⊥
     meet k on same =
         let here : 0 < h.pages.pages = paged h (inl refl) in

@@ -1,6 +1,7 @@
 -- Which nodes are seen as live, and how others failed.
 use Rattle.std.proofs.lemmas.Bool.{false≢true}
-use Rattle.std.proofs.Common.{ℕ, ◌≡◌, ◌≤◌, ◌+◌, refl, ap, sym, ◌∙◌, Bool, true, false, cond, not, ◌&&◌, ◌||◌, inl, inr, List, [], ◌∷◌, map, reverse, Option, Some, None, is_some, arith}
+use Rattle.std.proofs.Common.{ℕ, ◌≡◌, ◌≤◌, ◌+◌, refl, ap, sym, ◌∙◌, Bool, true, false, cond, not, ◌&&◌, ◌||◌}
+use Rattle.std.proofs.Common.{inl, inr, List, [], ◌∷◌, map, reverse, Option, Some, None, is_some, arith}
 use Rattle.std.specs.List.{filter, cons_option}
 use Rattle.std.specs.Option.{option_map_or}
 use Rattle.sm_names.specs.declared.keys.NodeKey.{NodeKey}
@@ -30,7 +31,8 @@ use Rattle.core_state.specs.Shown.{IsAfter, node_after}
 use Rattle.core_state.specs.State.{State}
 use Rattle.core_state.proofs.lists.Maps.{filter-map, filter-filter, filter-reverse}
 use Rattle.core_state.proofs.lists.Reorderings.{Mixed, mixed_filter}
-use Rattle.core_state.proofs.views.Nodes.{kept_births, kept_by_collection, all_nodes_are, mixed_births, node_kept, node_forgotten, node_unknown}
+use Rattle.core_state.proofs.views.Nodes.{kept_births, kept_by_collection, all_nodes_are}
+use Rattle.core_state.proofs.views.Nodes.{mixed_births, node_kept, node_forgotten, node_unknown}
 use Rattle.core_state.proofs.lists.ByNumber.{AreFalling, falling_filter, falling_numbered, sorted_falling, sorted-mixed}
 
 -- ---- births come one after another
@@ -62,6 +64,7 @@ pub births_fall : (marks : Timeline) → AreFalling (λ (b : Birth). b.event) (b
 births_fall [] = tt
 births_fall (mark ∷ before) = from (births_fall before) (birth_at (events before + 1) mark) refl
   where
+    -- by cases: the newest birth is of this event, and the others are older
     from : AreFalling (λ (b : Birth). b.event) (births before) → (o : Option Birth) → birth_at (events before + 1) mark ≡ o →
         AreFalling (λ (b : Birth). b.event) (cons_option o (births before))
     from old None e = old

@@ -1,5 +1,6 @@
 -- The nodes and collections that a core keeps, as the marks make them.
-use Rattle.std.proofs.Common.{ℕ, ◌≡◌, refl, ap, sym, ◌∙◌, Bool, true, false, cond, not, ◌&&◌, ◌||◌, ◌==◌, ◌⊎◌, inl, inr, List, [], map, reverse, Option, Some, None}
+use Rattle.std.proofs.Common.{ℕ, ◌≡◌, refl, ap, sym, ◌∙◌, Bool, true, false, cond, not, ◌&&◌, ◌||◌}
+use Rattle.std.proofs.Common.{◌==◌, ◌⊎◌, inl, inr, List, [], map, reverse, Option, Some, None}
 use Rattle.std.proofs.lemmas.List.Folds.{flat_map-map}
 use Rattle.std.specs.List.{find, filter, flat_map}
 use Rattle.std.specs.Option.{option_map}
@@ -26,7 +27,8 @@ use Rattle.forest_store.specs.Nodes.{is_of, is_over, is_spent}
 use Rattle.core_state.specs.Shown.{IsAfter, end_after, node_after, collection_after, kept_ids}
 use Rattle.core_state.specs.State.{State}
 use Rattle.core_state.proofs.lists.Parts.{mixed_turned}
-use Rattle.core_state.proofs.lists.Maps.{filter-map, filter-reverse, map-flat_map, flat_map-same, find-map, find_only, find_none, find_number}
+use Rattle.core_state.proofs.lists.Maps.{filter-map, filter-reverse, map-flat_map, flat_map-same}
+use Rattle.core_state.proofs.lists.Maps.{find-map, find_only, find_none, find_number}
 use Rattle.core_state.proofs.lists.Reorderings.{Mixed, In-mixed, In-mixed_back}
 use Rattle.core_state.proofs.collections.Roots.{listed_once, listed_kept}
 
@@ -47,6 +49,7 @@ pub not_over : (marks : Timeline) (b : Birth) → not (is_over (node_after marks
 not_over marks b = ap (λ (s : Bool). not (gone marks b.node && s)) (spent_end marks b.node)
     ∙ either (gone marks b.node) (spent marks b.node)
   where
+    -- by cases on both switches
     either : (g s : Bool) → not (g && s) ≡ (not g || not s)
     either true s = refl
     either false s = refl

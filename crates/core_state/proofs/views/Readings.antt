@@ -1,5 +1,6 @@
 -- What answers read of a core's state is what they read of the marks.
-use Rattle.std.proofs.Common.{ℕ, ◌≡◌, refl, ap, sym, ◌∙◌, Bool, true, false, cond, ◌&&◌, ◌||◌, ◌==◌, List, [], ◌∷◌, reverse, length, Option, Some, None, is_none}
+use Rattle.std.proofs.Common.{ℕ, ◌≡◌, refl, ap, sym, ◌∙◌, Bool, true, false, cond, ◌&&◌, ◌||◌}
+use Rattle.std.proofs.Common.{◌==◌, List, [], ◌∷◌, reverse, length, Option, Some, None, is_none}
 use Rattle.std.proofs.lemmas.List.{reverse-append, length-map, length-reverse}
 use Rattle.std.proofs.lemmas.List.Sums.{length-filter}
 use Rattle.std.specs.List.{find, filter, list_any}
@@ -35,6 +36,7 @@ any-reverse p (x ∷ xs) =
     ap (list_any p) (reverse-append (x ∷ []) xs)
     ∙ (list_any-append p (reverse xs) (x ∷ []) ∙ (ap (λ (b : Bool). b || (p x || false)) (any-reverse p xs) ∙ turned (list_any p xs) (p x)))
   where
+    -- by cases on both switches
     turned : (a b : Bool) → (a || (b || false)) ≡ (b || a)
     turned true true = refl
     turned true false = refl

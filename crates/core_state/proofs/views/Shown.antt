@@ -1,5 +1,6 @@
 -- What is read and seen of a state that shows a history.
-use Rattle.std.proofs.Common.{ℕ, ◌≡◌, refl, ap, ◌∙◌, Bool, true, false, ◌==◌, not, cond, List, [], ◌∷◌, ◌++◌, length, map, reverse, Option, Some, None}
+use Rattle.std.proofs.Common.{ℕ, ◌≡◌, refl, ap, ◌∙◌, Bool, true, false, ◌==◌, not, cond}
+use Rattle.std.proofs.Common.{List, [], ◌∷◌, ◌++◌, length, map, reverse, Option, Some, None}
 use Rattle.std.proofs.lemmas.List.Folds.{flat_map-map}
 use Rattle.std.specs.List.{filter, flat_map}
 use Rattle.std.specs.Option.{option_map, option_map_or}
@@ -147,5 +148,6 @@ module _ (s : State) (history : List Entry) (shows : Shows s history) where
 
   -- a node, if it is kept
   pub node_shown : (key : NodeKey) → node_at s.forest key
-      ≡ cond (is_kept (timeline s.pool history) key) (option_map (node_after (timeline s.pool history)) (birth_of (timeline s.pool history) key)) None
+      ≡ cond (is_kept (timeline s.pool history) key)
+      (option_map (node_after (timeline s.pool history)) (birth_of (timeline s.pool history) key)) None
   node_shown key = node_is s (timeline s.pool history) shows.shown s.limits grown key

@@ -1,11 +1,15 @@
 -- Nodes of units that are given their buffers, one after another.
-use Rattle.forest_steps.proofs.Common.{◌≡◌, refl, ap, sym, ◌∙◌, Bool, true, false, ◌||◌, if◌then◌else◌, List, [], ◌∷◌, ◌++◌, Option, Some, None, option_map, list_any, NodeKey, same_key, false_if, same_key-refl, same_key-true, Table, node_at, Node, list_any-append, Writes, table_with_node, given_all, IsGivenAt, given_at, IsSameNode, arith, look-changed, parents-written}
+use Rattle.forest_steps.proofs.Common.{◌≡◌, refl, ap, sym, ◌∙◌, Bool, true, false, ◌||◌, if◌then◌else◌, List, [], ◌∷◌, ◌++◌}
+use Rattle.forest_steps.proofs.Common.{Option, Some, None, option_map, list_any, NodeKey, same_key, false_if, same_key-refl}
+use Rattle.forest_steps.proofs.Common.{same_key-true, Table, node_at, Node, list_any-append, Writes, table_with_node}
+use Rattle.forest_steps.proofs.Common.{given_all, IsGivenAt, given_at, IsSameNode, arith, look-changed, parents-written}
 use Rattle.forest_steps.proofs.tables.Rows.{same_on}
 
 -- each node is as it was otherwise
 pub same_given : (heads keys : List NodeKey) (n : Node) → IsSameNode (given_at heads keys n) n
 same_given heads keys n = from (list_any (same_key n.key) keys)
   where
+    -- by cases on the test: only the allocation is written
     from : (b : Bool) → IsSameNode (if b then given_all heads n else n) n
     from true = record { key = refl; parent = refl; attached = refl; collection = refl; head = refl }
     from false = record { key = refl; parent = refl; attached = refl; collection = refl; head = refl }
@@ -38,6 +42,7 @@ given_twice : (heads : List NodeKey) (k : NodeKey) (n : Node) (b : Bool) →
     given_at heads (k ∷ []) (if b then given_all heads n else n) ≡ (if b || (same_key n.key k || false) then given_all heads n else n)
 given_twice heads k n true = from (same_key n.key k || false)
   where
+    -- by cases on the test: the allocation is set already
     from : (b : Bool) → (if b then given_all heads (given_all heads n) else given_all heads n) ≡ given_all heads n
     from true = λ i. record n { allocated = or_twice (list_any (same_key n.head) heads) n.allocated i }
     from false = refl
@@ -52,6 +57,7 @@ given_more {t} {heads} {k} {keys} before one = record {
   same = same_on before.same one.same;
 }
   where
+    -- by cases: a node is at one of the keys, or at the one more
     by : (o : Option Node) → option_map (given_at heads (k ∷ [])) (option_map (given_at heads keys) o)
         ≡ option_map (given_at heads (keys ++ k ∷ [])) o
     by None = refl

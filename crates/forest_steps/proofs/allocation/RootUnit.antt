@@ -1,5 +1,8 @@
 -- The unit of a root that is allocated, with those that follow: what is forced besides stays as it was, and no attached unit is next.
-use Rattle.forest_steps.proofs.Common.{◌≡◌, refl, ap, sym, ◌∙◌, true, not, ◌&&◌, ◌||◌, inl, inr, is_none, is_some, drop, List, [], ◌∷◌, Option, Some, None, list_all, list_any, find, option_and_then, NodeKey, same_key, when, In, and_left, Node, waiting, Collection, is_ready_node, is_root_left, given_all, IsSound, all-In, after_all, find_map}
+use Rattle.forest_steps.proofs.Common.{◌≡◌, refl, ap, sym, ◌∙◌, true, not, ◌&&◌, ◌||◌, inl, inr, is_none, is_some, drop}
+use Rattle.forest_steps.proofs.Common.{List, [], ◌∷◌, Option, Some, None, list_all, list_any, find, option_and_then}
+use Rattle.forest_steps.proofs.Common.{NodeKey, same_key, when, In, and_left, Node, waiting, Collection, is_ready_node}
+use Rattle.forest_steps.proofs.Common.{is_root_left, given_all, IsSound, all-In, after_all, find_map}
 use Rattle.std.specs.Option.{option_map}
 
 -- only the first node may be a root
@@ -11,6 +14,7 @@ root_found (n ∷ ns) one r (inl is) root =
     rw here (ap Some (sym is))
 root_found (n ∷ ns) one r (inr on) root = absurd (never r.parent (and_left _ _ root) (all-In _ ns r on one))
   where
+    -- by cases on the parent
     never : (o : Option NodeKey) → is_none o ≡ true → is_some o ≡ true → ⊥
     never None a b = cc
     never (Some p) a b = cc

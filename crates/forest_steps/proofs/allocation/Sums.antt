@@ -1,5 +1,10 @@
 -- What units ask for that are to be allocated, and what is reserved besides.
-use Rattle.forest_steps.proofs.Common.{◌≡◌, ℕ, refl, ap, sym, ◌∙◌, Bool, true, false, not, ◌&&◌, if◌then◌else◌, ◌⊎◌, inl, inr, List, [], ◌∷◌, map, Option, Some, None, nat_lt, cons_option, option_and_then, NodeKey, Demand, In, In-list_any, both_ways, either_way, false_if, In-any, Table, node_at, Node, nodes_with, filter_map, greatest, written, demands_of, has_buffers, asked_with, is_in_some, arith, le-ltb, ltb-false, ◌≤◌, ◌+◌, ◌||◌, list_any, sum_by, option_map_or, same_key, reserved_count, given_all, camped, after_all, camped_sum, amount_map}
+use Rattle.forest_steps.proofs.Common.{◌≡◌, ℕ, refl, ap, sym, ◌∙◌, Bool, true, false, not, ◌&&◌, if◌then◌else◌, ◌⊎◌, inl, inr}
+use Rattle.forest_steps.proofs.Common.{List, [], ◌∷◌, map, Option, Some, None, nat_lt, cons_option, option_and_then, NodeKey}
+use Rattle.forest_steps.proofs.Common.{Demand, In, In-list_any, both_ways, either_way, false_if, In-any, Table, node_at, Node}
+use Rattle.forest_steps.proofs.Common.{nodes_with, filter_map, greatest, written, demands_of, has_buffers, asked_with}
+use Rattle.forest_steps.proofs.Common.{is_in_some, arith, le-ltb, ltb-false, ◌≤◌, ◌+◌, ◌||◌, list_any, sum_by, option_map_or}
+use Rattle.forest_steps.proofs.Common.{same_key, reserved_count, given_all, camped, after_all, camped_sum, amount_map}
 use Rattle.forest_store.proofs.lists.Filters.{above_greatest}
 use Rattle.forest_store.proofs.tallies.Reserved.{camped_if, amount_both, reserved_is}
 
@@ -11,6 +16,7 @@ pub joined : {A : Type 0} (look : NodeKey → Option Node) (f : Node → Option 
 joined look f [] = refl
 joined {A = A} look f (k ∷ ks) = ap (cons_option (option_and_then f (look k))) (joined _ f ks) ∙ by (look k)
   where
+    -- by cases: a key that finds no node makes nothing
     by : (o : Option Node) → cons_option (option_and_then f o) (filter_map f (filter_map look ks))
         ≡ filter_map f (cons_option o (filter_map look ks))
     by None = refl
@@ -40,6 +46,7 @@ pub asked_of : (test : Node → Bool) (ns : List Node) (d : Demand) → In d (de
 asked_of test [] d on = absurd on
 asked_of test (n ∷ ns) d on = by (λ there. asked_of _ ns d there) (if test n then n.constraints else None) refl on
   where
+    -- by cases: the first node made it, or one behind it
     by : (In d (demands_of test ns) → (m : Node) × In m ns × ((if test m then m.constraints else None) ≡ Some d)) →
         (o : Option Demand) → (if test n then n.constraints else None) ≡ o → In d (cons_option o (demands_of test ns)) →
         (m : Node) × In m (n ∷ ns) × ((if test m then m.constraints else None) ≡ Some d)
@@ -53,6 +60,7 @@ asked_back test (m ∷ ns) n (inl same) is =
     rw ((λ i. if test (sym same i) then (sym same i).constraints else None) ∙ is) (inl refl)
 asked_back test (m ∷ ns) n {d} (inr on) is = by (if test m then m.constraints else None) (asked_back _ ns n on is)
   where
+    -- by cases: the demand of the first node stands before it
     by : (o : Option Demand) → In d (demands_of test ns) → In d (cons_option o (demands_of test ns))
     by None there = there
     by (Some e) there = inr there
@@ -91,10 +99,12 @@ reserved_same f nodes gone given asks =
     (λ i. if not (gone n on i) && given n on i then (f n).constraints else None)
     ∙ by n (either_way n.allocated) (asks n on))
   where
+    -- by cases on the test
     none : (b : Bool) (x y : Option Demand) → (if b && false then x else None) ≡ (if b && false then y else None)
     none true x y = refl
     none false x y = refl
 
+    -- by cases: a node that is served keeps its demand, and any other counts for nothing
     by : (n : Node) → (n.allocated ≡ true) ⊎ (n.allocated ≡ false) → (n.allocated ≡ true → (f n).constraints ≡ n.constraints) →
         (if not n.gone && n.allocated then (f n).constraints else None) ≡ (if not n.gone && n.allocated then n.constraints else None)
     by n h k = grind arith

@@ -1,5 +1,17 @@
 -- A collection of which a handle was dropped: nothing is forced in it, and only one buffer is freed.
-use Rattle.forest_steps.proofs.Common.{◌≡◌, ℕ, ◌<◌, ◌==◌, zero, suc, Bool, true, false, ◌&&◌, not, nat_lt, List, [], ◌∷◌, ◌++◌, map, length, get_or, set, Option, Some, None, option_map, refl, sym, ap, subst, ◌∙◌, ◌⊎◌, inl, inr, arith, find, filter, AllByRecursion, option_map_or, Interval, HeldBuffer, either_way, Table, node_at, Entry, Node, Unit, has_strong, Collection, IsStored, IsWhole, Shelf, collection_in, forest_of, nodes_with, place_in, put_shelf, shelf_of, shelves_of, members_of, is_root_left, Handles, collection_or_new, put, get_or_default, unwrap_or, BufferName, Strength, is_home, sorted_by, AreCounted, IsCounted, HaveUnits, decided, mark_of, are_rest_out, has_given_root, all_held, beside, collection_at, pages_in, Finishes, Stores, stored, starts_differ, by_page, given_few, is_held_strongly, is_out, pages_held, given_back, none_calm, forced_made, still_decided, found_filed, found_put, found_whole, start_of, shelves_put, IsPlace, place_is, set_put, put-map, collection_is, shelf_found, and-false, same_buffer-true, filter-list_all, Rests, found_counted, strong_told, kept-put, list_all, is_filed, strong_count, ◌||◌, list_any, Member, is_strong, member_of}
+use Rattle.forest_steps.proofs.Common.{◌≡◌, ℕ, ◌<◌, ◌==◌, zero, suc, Bool, true, false, ◌&&◌, not, nat_lt, List, [], ◌∷◌, ◌++◌}
+use Rattle.forest_steps.proofs.Common.{map, length, get_or, set, Option, Some, None, option_map, refl, sym, ap, subst, ◌∙◌, ◌⊎◌}
+use Rattle.forest_steps.proofs.Common.{inl, inr, arith, find, filter, AllByRecursion, option_map_or, Interval, HeldBuffer}
+use Rattle.forest_steps.proofs.Common.{either_way, Table, node_at, Entry, Node, Unit, has_strong, Collection, IsStored, IsWhole}
+use Rattle.forest_steps.proofs.Common.{Shelf, collection_in, forest_of, nodes_with, place_in, put_shelf, shelf_of, shelves_of}
+use Rattle.forest_steps.proofs.Common.{members_of, is_root_left, Handles, collection_or_new, put, get_or_default, unwrap_or}
+use Rattle.forest_steps.proofs.Common.{BufferName, Strength, is_home, sorted_by, AreCounted, IsCounted, HaveUnits, decided}
+use Rattle.forest_steps.proofs.Common.{mark_of, are_rest_out, has_given_root, all_held, beside, collection_at, pages_in, Finishes}
+use Rattle.forest_steps.proofs.Common.{Stores, stored, starts_differ, by_page, given_few, is_held_strongly, is_out, pages_held}
+use Rattle.forest_steps.proofs.Common.{given_back, none_calm, forced_made, still_decided, found_filed, found_put, found_whole}
+use Rattle.forest_steps.proofs.Common.{start_of, shelves_put, IsPlace, place_is, set_put, put-map, collection_is, shelf_found}
+use Rattle.forest_steps.proofs.Common.{and-false, same_buffer-true, filter-list_all, Rests, found_counted, strong_told, kept-put}
+use Rattle.forest_steps.proofs.Common.{list_all, is_filed, strong_count, ◌||◌, list_any, Member, is_strong, member_of}
 use Rattle.sm_names.specs.Members.{some_strong_live, is_live as lives}
 use Rattle.forest_store.proofs.quiescence.Resting.{root_first}
 use Rattle.forest_store.proofs.quiescence.Watched.{strong_lives}
@@ -67,18 +79,21 @@ nothing_stored t = record {
   same = record { first = refl; nexts = refl; limit = refl; len = refl };
 }
   where
+    -- by cases: nothing is written in either
     same : (o : Option Node) → option_map (stored []) o ≡ o
     same None = refl
     same (Some n) = refl
 
 -- what is read twice at a place
-pub one_entry : (es : List Entry) (id : ℕ) {at : ℕ} (x y : Entry) → place_in id es ≡ Some at → x ≡ get_or es at x → y ≡ get_or es at y → x ≡ y
+pub one_entry : (es : List Entry) (id : ℕ) {at : ℕ} (x y : Entry) → place_in id es ≡ Some at →
+    x ≡ get_or es at x → y ≡ get_or es at y → x ≡ y
 one_entry es id {at} x y told is also = is ∙ get_or_default es at x y (place_is id es at told).within ∙ sym also
 
 -- a strong node is live by the count, the root has no buffers, or a strong handle is open on these
 pub kept_root : (t : Table Node) (e : Entry) (strong_open : Bool) → list_all (is_filed t e.id) e.keys.items ≡ true →
     IsWhole (collection_in t (shelf_of e)) → e.strong ≡ strong_count (nodes_with t e.keys.items) →
-    (nat_lt 0 e.strong ≡ true) ⊎ ((has_given_root t e.keys.items && not strong_open) ≡ false) → (has_strong (nodes_with t e.keys.items) ≡ true)
+    (nat_lt 0 e.strong ≡ true) ⊎ ((has_given_root t e.keys.items && not strong_open) ≡ false) →
+    (has_strong (nodes_with t e.keys.items) ≡ true)
     ⊎ ((option_map_or (λ (root : Node). root.allocated) (find is_root_left (nodes_with t e.keys.items)) false && not strong_open) ≡ false)
 kept_root t e strong_open filed whole counts (inl some) = inl (strong_lives (nodes_with t e.keys.items) e.strong some counts)
 kept_root t e strong_open filed whole counts (inr none) = inr (elim (either_way (has_given_root t e.keys.items)) [

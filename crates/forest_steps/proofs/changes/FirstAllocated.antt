@@ -1,5 +1,8 @@
 -- A shelf that is put in the place of another with its id.
-use Rattle.forest_steps.proofs.Common.{◌≡◌, ◌≢◌, ◌<◌, ◌==◌, nat_lt, refl, ap, ◌∙◌, true, false, inl, inr, List, [], ◌∷◌, map, Some, arith, eq-eqb, eqb-false, eqb-true, AllByRecursion, find, In, In-find, either_way, Table, Node, Unit, AreUnits, AreRising, Shelf, collection_in, nodes_with, put_shelf, put, le-ltb, map-In, HasUnits, all_at}
+use Rattle.forest_steps.proofs.Common.{◌≡◌, ◌≢◌, ◌<◌, ◌==◌, nat_lt, refl, ap, ◌∙◌, true, false, inl, inr, List, []}
+use Rattle.forest_steps.proofs.Common.{◌∷◌, map, Some, arith, eq-eqb, eqb-false, eqb-true, AllByRecursion, find}
+use Rattle.forest_steps.proofs.Common.{In, In-find, either_way, Table, Node, Unit, AreUnits, AreRising, Shelf}
+use Rattle.forest_steps.proofs.Common.{collection_in, nodes_with, put_shelf, put, le-ltb, map-In, HasUnits, all_at}
 
 -- ---- one shelf in the place of another with its id
 

@@ -1,5 +1,8 @@
 -- What takes the root takes all that is left of a collection, and nothing is forced in one that is gone.
-use Rattle.forest_steps.proofs.Common.{◌≡◌, refl, ap, sym, ◌∙◌, Bool, true, false, inl, inr, List, [], ◌∷◌, drop, Option, Some, None, is_some, find, list_all, list_any, option_map_or, NodeKey, Buffers, In, and_left, and_right, both_ways, Node, strong_count, is_left_of, are_rooted, decided, hangs_on, all-In, still_decided, left_node, arith, all_on, or_right, same_key, is_held, is_next_except, waits_among, are_held_except}
+use Rattle.forest_steps.proofs.Common.{◌≡◌, refl, ap, sym, ◌∙◌, Bool, true, false, inl, inr, List, [], ◌∷◌, drop, Option, Some, None}
+use Rattle.forest_steps.proofs.Common.{is_some, find, list_all, list_any, option_map_or, NodeKey, Buffers, In, and_left, and_right}
+use Rattle.forest_steps.proofs.Common.{both_ways, Node, strong_count, is_left_of, are_rooted, decided, hangs_on, all-In, still_decided}
+use Rattle.forest_steps.proofs.Common.{left_node, arith, all_on, or_right, same_key, is_held, is_next_except, waits_among, are_held_except}
 use Rattle.forest_store.proofs.failures.GoneNodes.{strong_gone}
 
 -- ---- nodes that are all gone
@@ -61,6 +64,7 @@ all_hang P nodes root below [] assert_disjoint rooted n on here = absurd on
 all_hang P nodes root below (m ∷ older) assert_disjoint rooted n on here =
     by (all_hang P nodes root below older (λ x there. assert_disjoint x (inr there)) (and_right _ _ rooted)) on
   where
+    -- by cases: a root, or a node that hangs on one of which it holds
     from : ((x : Node) → In x older → x.gone ≡ false → P x) → (o : Option NodeKey) → n.parent ≡ o →
         option_map_or (is_left_of older) o true ≡ true → P n
     from rest None up stays = root n (assert_disjoint n on) here up
@@ -68,6 +72,7 @@ all_hang P nodes root below (m ∷ older) assert_disjoint rooted n on here =
         let x = left_node older p stays in
         below x.node n (assert_disjoint n on) here (up ∙ ap Some (sym x.is)) (rest x.node x.on x.here)
 
+    -- by cases: it is the newest, which hangs on an older one, or one of the older ones
     by : ((x : Node) → In x older → x.gone ≡ false → P x) → In n (m ∷ older) → P n
     by rest (inl is) =
         let first : hangs_on older n ≡ true = rw is (and_left _ _ rooted) in

@@ -1,5 +1,11 @@
 -- What a failure takes of a table of nodes is what a loss takes of their collection.
-use Rattle.forest_steps.proofs.Common.{◌≡◌, refl, ap, sym, ◌∙◌, subst, Bool, true, false, ◌&&◌, inl, inr, List, [], ◌∷◌, map, reverse, Option, Some, None, is_some, list_any, option_map_or, NodeKey, same_key, In, In-find, In-list_any, In-map, In-map-back, same_key-refl, same_key-true, In-any, Table, node_at, parent_at, Node, is_left_of, is_of, members_of, node_of, same_key-equal, Contains-from_any, list_any-from_Contains, Fault, blocks, Member, is_under, map-In, IsChain, same_key-comm, blocked_at, above_among, after_loss, is_taken, lost, member_of, IsTied, is_blocking, is_below, in_all, AreOne, IsLeft, left_in, left_node, arith, ◌↔◌, Reach, In-filter, In-filter-back}
+use Rattle.forest_steps.proofs.Common.{◌≡◌, refl, ap, sym, ◌∙◌, subst, Bool, true, false, ◌&&◌, inl, inr, List, [], ◌∷◌, map}
+use Rattle.forest_steps.proofs.Common.{reverse, Option, Some, None, is_some, list_any, option_map_or, NodeKey, same_key, In, In-find}
+use Rattle.forest_steps.proofs.Common.{In-list_any, In-map, In-map-back, same_key-refl, same_key-true, In-any, Table, node_at}
+use Rattle.forest_steps.proofs.Common.{parent_at, Node, is_left_of, is_of, members_of, node_of, same_key-equal, Contains-from_any}
+use Rattle.forest_steps.proofs.Common.{list_any-from_Contains, Fault, blocks, Member, is_under, map-In, IsChain, same_key-comm}
+use Rattle.forest_steps.proofs.Common.{blocked_at, above_among, after_loss, is_taken, lost, member_of, IsTied, is_blocking, is_below}
+use Rattle.forest_steps.proofs.Common.{in_all, AreOne, IsLeft, left_in, left_node, arith, ◌↔◌, Reach, In-filter, In-filter-back}
 use Rattle.forest_store.proofs.tables.Rooted.{line_of, HasLine}
 use Rattle.std.specs.Cmp.{IsEquivalence}
 use Rattle.sm_names.specs.Changes.{highest}

@@ -1,5 +1,8 @@
 -- What the allocation of a root unit makes of a collection and of the pool.
-use Rattle.forest_steps.proofs.Common.{ℕ, ◌+◌, ◌≡◌, refl, ap, sym, ◌∙◌, subst, List, [], ◌∷◌, ◌++◌, map, length, Some, Interval, NodeKey, Buffers, HeldBuffer, Collection, range_with_len, names, Mark, places, pages_of, with_buffers, Places, mark_of, pages_in, after_allocation, by_page, laid, name_of, made, arith, append_assoc, laid_out, IsPlacing, any_sorted}
+use Rattle.forest_steps.proofs.Common.{ℕ, ◌+◌, ◌≡◌, refl, ap, sym, ◌∙◌, subst, List, [], ◌∷◌, ◌++◌, map, length, Some}
+use Rattle.forest_steps.proofs.Common.{Interval, NodeKey, Buffers, HeldBuffer, Collection, range_with_len, names, Mark}
+use Rattle.forest_steps.proofs.Common.{places, pages_of, with_buffers, Places, mark_of, pages_in, after_allocation}
+use Rattle.forest_steps.proofs.Common.{by_page, laid, name_of, made, arith, append_assoc, laid_out, IsPlacing, any_sorted}
 use Rattle.std.proofs.lemmas.List.{map-append}
 use Rattle.sm_names.specs.Apart.{at_pages}
 use Rattle.sm_names.proofs.PlaceLaws.{places_same}

@@ -1,5 +1,7 @@
 -- The pages of the pool, of one collection and of those beside it.
-use Rattle.forest_steps.proofs.Common.{◌≡◌, true, List, [], ◌∷◌, ◌++◌, map, refl, sym, ap, ◌∙◌, Interval, HeldBuffer, Table, Node, Collection, Shelf, AreRising, put_shelf, collection_in, forest_of, put, flat_map, sorted_by, all_held, pages_in, beside, starts_differ, start_of, put-map, parted-sorted}
+use Rattle.forest_steps.proofs.Common.{◌≡◌, true, List, [], ◌∷◌, ◌++◌, map, refl, sym, ap, ◌∙◌, Interval, HeldBuffer, Table}
+use Rattle.forest_steps.proofs.Common.{Node, Collection, Shelf, AreRising, put_shelf, collection_in, forest_of, put, flat_map}
+use Rattle.forest_steps.proofs.Common.{sorted_by, all_held, pages_in, beside, starts_differ, start_of, put-map, parted-sorted}
 use Rattle.forest_store.proofs.shelves.Putting.{pages_held, pages-put}
 
 -- the pool of a forest holds the pages of a collection and those beside it
@@ -33,6 +35,7 @@ pool_stays held t now before behind same is =
     is ∙ ap (λ hs. sorted_by start_of (map (λ (h : HeldBuffer). h.pages) hs))
     (from before ∙ ap (λ ss. all_held (forest_of now ss)) (sym same))
   where
+    -- by induction on the shelves: what is held stands in them, not in the table
     from : (ss : List Shelf) → all_held (forest_of t ss) ≡ all_held (forest_of now ss)
     from [] = refl
     from (s ∷ ss) = ap (λ hs. s.held ++ hs) (from ss)

@@ -1,5 +1,9 @@
 -- A buffer that gives its pages back leaves those of the others in order.
-use Rattle.forest_steps.proofs.Common.{ℕ, ◌+◌, ◌≡◌, ◌<◌, refl, ap, sym, ◌∙◌, subst, Bool, true, false, ◌&&◌, ◌==◌, nat_lt, cond, List, [], ◌∷◌, ◌++◌, length, take, drop, get_or, inl, inr, arith, eq-eqb, not-true, filter, Interval, and_both, and_left, either_way, HeldBuffer, by_page, pages_held, list_any, or_left, or_right, list_any-append, Contains-from_any, Contains, append_assoc, at_drop_more, in_order, any_sorted, starts_differ, parted-sorted, parted-in_order, or_none_left, or_none_right}
+use Rattle.forest_steps.proofs.Common.{ℕ, ◌+◌, ◌≡◌, ◌<◌, refl, ap, sym, ◌∙◌, subst, Bool, true, false, ◌&&◌, ◌==◌, nat_lt, cond}
+use Rattle.forest_steps.proofs.Common.{List, [], ◌∷◌, ◌++◌, length, take, drop, get_or, inl, inr, arith, eq-eqb, not-true, filter}
+use Rattle.forest_steps.proofs.Common.{Interval, and_both, and_left, either_way, HeldBuffer, by_page, pages_held, list_any, or_left}
+use Rattle.forest_steps.proofs.Common.{or_right, list_any-append, Contains-from_any, Contains, append_assoc, at_drop_more, in_order}
+use Rattle.forest_steps.proofs.Common.{any_sorted, starts_differ, parted-sorted, parted-in_order, or_none_left, or_none_right}
 use Rattle.buffer_pool.specs.Holdings.{without}
 use Rattle.forest_store.proofs.lists.ByPage.{put_in, front, behind}
 use Rattle.forest_store.specs.Starts.{begins_with}
@@ -97,6 +101,7 @@ kept_past out held i h within =
     ∙ (append_assoc (filter out (take i held)) (cond (out (get_or held i h)) (get_or held i h ∷ []) []) (drop (i + 1) held)
     ∙ from (out (get_or held i h)))
   where
+    -- by cases: the buffer passes, or is left out
     from : (b : Bool) → filter out (take i held) ++ (cond b (get_or held i h ∷ []) [] ++ drop (i + 1) held)
         ≡ cond b (filter out (take i held) ++ get_or held i h ∷ drop (i + 1) held)
         (filter out (take i held) ++ drop (i + 1) held)

@@ -1,5 +1,7 @@
 -- A binary search of keys in order finds each key that is there.
-use Rattle.forest_steps.proofs.Common.{◌≡◌, ℕ, suc, ◌<◌, inl, inr, refl, ap, sym, ◌∙◌, subst, List, [], ◌∷◌, length, get_or, arith, list_any, NodeKey, same_key, In, In-list_any, false_if, same_key-refl, same_key-true, In-any, Result, Ok, Err, In-get_or}
+use Rattle.forest_steps.proofs.Common.{◌≡◌, ℕ, suc, ◌<◌, inl, inr, refl, ap, sym, ◌∙◌, subst, List, [], ◌∷◌}
+use Rattle.forest_steps.proofs.Common.{length, get_or, arith, list_any, NodeKey, same_key, In, In-list_any}
+use Rattle.forest_steps.proofs.Common.{false_if, same_key-refl, same_key-true, In-any, Result, Ok, Err, In-get_or}
 use Rattle.std.proofs.Common.{is_ok}
 use Rattle.std.specs.List.Sorted.{IsBinarySearchResult, IsSearchInRange, IsSorted}
 use Rattle.std.specs.Ordering.{nat_cmp, ordering_then}

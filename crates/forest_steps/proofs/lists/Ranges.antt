@@ -1,5 +1,6 @@
 -- A loop over the buffers of a collection.
-use Rattle.forest_steps.proofs.Common.{ℕ, ◌≡◌, ◌+◌, ◌<◌, ◌∙◌, zero, suc, ap, Bool, true, ◌||◌, map, arith, list_any, range_with_len, or-true, ◌-◌}
+use Rattle.forest_steps.proofs.Common.{ℕ, ◌≡◌, ◌+◌, ◌<◌, ◌∙◌, zero, suc, ap, Bool, true, ◌||◌}
+use Rattle.forest_steps.proofs.Common.{map, arith, list_any, range_with_len, or-true, ◌-◌}
 
 -- the test of the next one, and of those after it
 pub any_from : {A : Type 0} (test : A → Bool) (f : ℕ → A) (i n : ℕ) → i < n →

@@ -1,5 +1,7 @@
 -- Lists of which one is taken out, and those that a filter leaves.
-use Rattle.forest_steps.proofs.Common.{ℕ, zero, suc, ◌+◌, ◌≡◌, ◌<◌, ◌∙◌, ◌≤◌, refl, sym, ap, true, false, inl, inr, Bool, List, [], ◌∷◌, ◌++◌, length, take, drop, get_or, arith, filter, list_all, and_both, and_left, and_right, either_way, at_drop_more}
+use Rattle.forest_steps.proofs.Common.{ℕ, zero, suc, ◌+◌, ◌≡◌, ◌<◌, ◌∙◌, ◌≤◌, refl, sym, ap, true, false, inl}
+use Rattle.forest_steps.proofs.Common.{inr, Bool, List, [], ◌∷◌, ◌++◌, length, take, drop, get_or, arith, filter}
+use Rattle.forest_steps.proofs.Common.{list_all, and_both, and_left, and_right, either_way, at_drop_more}
 use Rattle.std.proofs.lemmas.List.{take-append-drop}
 use Rattle.std.specs.List.{remove}
 

@@ -1,6 +1,15 @@
 -- An effect on one node: the store agrees again, where no count changes and where those that were worked out are written.
-use Rattle.forest_steps.proofs.Common.{arith, ◌≡◌, ◌+◌, ◌<◌, ◌==◌, is_none, refl, ap, sym, ◌∙◌, subst, true, false, not, ◌&&◌, ◌||◌, List, map, length, set, Option, Some, None, eq-eqb, find, list_all, list_any, option_map_or, NodeKey, same_key, times, In, In-map-back, and_both, false_if, same_key-true, In-any, Table, node_at, Effect, Entry, Node, Unit, over_except, strong_count, lives_in, unit_at, waits_in, Shelf, is_filed, nodes_with, shelf_of, affected, is_live_node, reserved_count, same_key-equal, Writes, table_with_node, row_at, is_unready, is_strong, camped, StoreAgrees, any_map, all-In, found_whole, same_affected, remains_affected, IsSameNode, IsSome, set-get_or, bit, is_plain, EffectMade, is_head_left, alone_affected, head, plain_affected, node_is, look-changed, ℕ, EffectCounts, AreCounts, decremented, live_before, strong_before, unready_before}
-use Rattle.forest_store.proofs.changes.Effecting.{at_key, live_is, look, strong_is, unready_is, alone, beside_same, has_one, kept_now, nodes_now, on, same, stays_one, units_join}
+use Rattle.forest_steps.proofs.Common.{arith, ◌≡◌, ◌+◌, ◌<◌, ◌==◌, is_none, refl, ap, sym, ◌∙◌, subst, true, false, not, ◌&&◌, ◌||◌}
+use Rattle.forest_steps.proofs.Common.{List, map, length, set, Option, Some, None, eq-eqb, find, list_all, list_any, option_map_or}
+use Rattle.forest_steps.proofs.Common.{NodeKey, same_key, times, In, In-map-back, and_both, false_if, same_key-true, In-any, Table}
+use Rattle.forest_steps.proofs.Common.{node_at, Effect, Entry, Node, Unit, over_except, strong_count, lives_in, unit_at, waits_in}
+use Rattle.forest_steps.proofs.Common.{Shelf, is_filed, nodes_with, shelf_of, affected, is_live_node, reserved_count, same_key-equal}
+use Rattle.forest_steps.proofs.Common.{Writes, table_with_node, row_at, is_unready, is_strong, camped, StoreAgrees, any_map, all-In}
+use Rattle.forest_steps.proofs.Common.{found_whole, same_affected, remains_affected, IsSameNode, IsSome, set-get_or, bit, is_plain}
+use Rattle.forest_steps.proofs.Common.{EffectMade, is_head_left, alone_affected, head, plain_affected, node_is, look-changed, ℕ}
+use Rattle.forest_steps.proofs.Common.{EffectCounts, AreCounts, decremented, live_before, strong_before, unready_before}
+use Rattle.forest_store.proofs.changes.Effecting.{at_key, live_is, look, strong_is, unready_is, alone, beside_same}
+use Rattle.forest_store.proofs.changes.Effecting.{has_one, kept_now, nodes_now, on, same, stays_one, units_join}
 use Rattle.forest_store.specs.Unforced.{MayAffect}
 use Rattle.std.proofs.lemmas.List.{length-set}
 use Rattle.std.specs.Option.{option_map}
@@ -62,7 +71,8 @@ module _ {t : Table Node} {us : List Unit} {ss : List Shelf} {e : Entry} (store 
     units = store.units;
   }
 
-  module _ {now : Table Node} (becomes_it : now ≡ table_with_node t key (affected key effect n)) (writes_it : Writes t now key (affected key effect n))
+  module _ {now : Table Node} (becomes_it : now ≡ table_with_node t key (affected key effect n))
+      (writes_it : Writes t now key (affected key effect n))
     where
       -- a node after the effect, which changes only the node with the key
       abbrev made : Node → Node
@@ -155,8 +165,10 @@ module _ {t : Table Node} {us : List Unit} {ss : List Shelf} {e : Entry} (store 
             kept = kept_now t now us key effect n was becomes writes ss s e.strong may_here;
             found = subst (λ (x : Shelf). find (λ (y : Shelf). y.id == x.id) ss ≡ Some x) (sym shelf) store.found;
             units = units_join t now us key effect n was becomes writes ss s e.strong may_here (set us n.head.slot next)
-                (stays_one t now us key effect n was becomes writes ss s e.strong may_here within_here next live_next unready_next below_next)
-                (has_one t now us key effect n was becomes writes ss s e.strong may_here within_here next live_next unready_next below_next);
+                (stays_one t now us key effect n was becomes writes ss s e.strong may_here
+                within_here next live_next unready_next below_next)
+                (has_one t now us key effect n was becomes writes ss s e.strong may_here
+                within_here next live_next unready_next below_next);
             inside = inside_now next;
             strong = strong ∙ ap strong_count (sym members_now);
             reserved = reserved ∙ ap reserved_count (sym members_now);
@@ -179,7 +191,8 @@ module _ {t : Table Node} {us : List Unit} {ss : List Shelf} {e : Entry} (store 
         }
 
       -- an effect that changes no count: the unit and the entry are counted as they were
-      pub plain_here : is_plain effect ≡ true → is_strong (affected key effect n) ≡ is_strong n → EffectMade t now us ss e e key effect n.head
+      pub plain_here : is_plain effect ≡ true → is_strong (affected key effect n) ≡ is_strong n →
+          EffectMade t now us ss e e key effect n.head
       plain_here plain strong_same =
           let p = plain_affected key _ plain n in
           let live_same : bit (is_live_node (made n)) ≡ bit (is_live_node n) = λ i. bit (not (p.gone i) && not (p.released i)) in
@@ -191,7 +204,8 @@ module _ {t : Table Node} {us : List Unit} {ss : List Shelf} {e : Entry} (store 
           let waits = unready_is t now us key _ n was becomes writes ss s _ may_here within_here in
           let strongs = strong_is t now us key _ n was becomes writes ss s _ may_here in
           let live : (unit_at us n.head.slot).live ≡ times (lives_in n.head) (map made members) = omega (arith, lives, live_same) in
-          let unready : (unit_at us n.head.slot).unready ≡ times (waits_in n.head) (map made members) = omega (arith, waits, unready_same) in
+          let unready : (unit_at us n.head.slot).unready ≡ times (waits_in n.head) (map made members) =
+          omega (arith, waits, unready_same) in
           let strong : e.strong ≡ strong_count (map made members) = omega (arith, strongs, strong_bit) in
           let reserved : e.reserved ≡ reserved_count (map made members) = omega (arith, reserved_here, camps, store.reserved) in
           rw (set-get_or us n.head.slot no_unit) at

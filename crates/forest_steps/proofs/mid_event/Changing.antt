@@ -1,6 +1,19 @@
 -- One node of a calm collection changes by an effect: only its own unit may be held by nothing then, or come to its turn, and by the counts
 -- perhaps none.
-use Rattle.forest_steps.proofs.Common.{◌≡◌, refl, ap, sym, ◌∙◌, true, false, not, ◌&&◌, ◌||◌, ◌⊎◌, inl, inr, is_none, List, [], ◌∷◌, map, Option, Some, None, not-true, list_any, list_all, find, option_map_or, option_and_then, NodeKey, same_key, when, In, In-list_any, In-map, In-map-back, and_both, and_left, and_right, both_ways, either_way, false_if, or_left, or_right, same_key-refl, same_key-true, all_on, In-any, Node, is_next_node, is_ready_node, is_root_left, is_head, or-true, list_any-map, hangs_in, is_allocated_node, any_map, all-In, IsSameNode, arith, are_held_except, holds_unit, is_held, is_next_except, waits_among, find_map, ◌<◌, ◌==◌, subst, times, Table, node_at, Effect, Entry, Unit, strong_count, unit_at, waits_in, Shelf, collection_in, nodes_with, shelf_of, affected, Writes, table_with_node, is_unready, is_strong, has_buffers, same_affected, remains_affected, in_shelf, distinct_one, EffectMade, AfterEffect, MidEvent, alone_affected, head, plain_affected, Bool, eqb-false, parent_at, waiting, Handles, Settles, or_none_left, or_none_right, heads_below, is_held_by, unit_of, is_kept_by, times_map, or_first, EffectCounts, after_effect, PropagatedFrom, AreCounts, AreCountsThen, KeepsCounts, below_held, either_holds, lives_held, below_mapped, may_force, strong_then, hangs_mapped}
+use Rattle.forest_steps.proofs.Common.{◌≡◌, refl, ap, sym, ◌∙◌, true, false, not, ◌&&◌, ◌||◌, ◌⊎◌, inl, inr, is_none, List, [], ◌∷◌}
+use Rattle.forest_steps.proofs.Common.{map, Option, Some, None, not-true, list_any, list_all, find, option_map_or, option_and_then}
+use Rattle.forest_steps.proofs.Common.{NodeKey, same_key, when, In, In-list_any, In-map, In-map-back, and_both, and_left, and_right}
+use Rattle.forest_steps.proofs.Common.{both_ways, either_way, false_if, or_left, or_right, same_key-refl, same_key-true, all_on}
+use Rattle.forest_steps.proofs.Common.{In-any, Node, is_next_node, is_ready_node, is_root_left, is_head, or-true, list_any-map}
+use Rattle.forest_steps.proofs.Common.{hangs_in, is_allocated_node, any_map, all-In, IsSameNode, arith, are_held_except, holds_unit}
+use Rattle.forest_steps.proofs.Common.{is_held, is_next_except, waits_among, find_map, ◌<◌, ◌==◌, subst, times, Table, node_at}
+use Rattle.forest_steps.proofs.Common.{Effect, Entry, Unit, strong_count, unit_at, waits_in, Shelf, collection_in, nodes_with}
+use Rattle.forest_steps.proofs.Common.{shelf_of, affected, Writes, table_with_node, is_unready, is_strong, has_buffers}
+use Rattle.forest_steps.proofs.Common.{same_affected, remains_affected, in_shelf, distinct_one, EffectMade, AfterEffect, MidEvent}
+use Rattle.forest_steps.proofs.Common.{alone_affected, head, plain_affected, Bool, eqb-false, parent_at, waiting, Handles, Settles}
+use Rattle.forest_steps.proofs.Common.{or_none_left, or_none_right, heads_below, is_held_by, unit_of, is_kept_by, times_map}
+use Rattle.forest_steps.proofs.Common.{or_first, EffectCounts, after_effect, PropagatedFrom, AreCounts, AreCountsThen, KeepsCounts}
+use Rattle.forest_steps.proofs.Common.{below_held, either_holds, lives_held, below_mapped, may_force, strong_then, hangs_mapped}
 use Rattle.std.specs.Option.{option_map}
 use Rattle.forest_store.proofs.quiescence.Keeping.{some_pass}
 use Rattle.forest_store.specs.Due.{has_buffers_at, is_due_at}

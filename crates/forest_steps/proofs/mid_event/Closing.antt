@@ -1,8 +1,19 @@
 -- The last steps: the root of buffers that are abandoned is lost, and the pages of buffers that are home go back.
-use Rattle.forest_steps.proofs.Common.{◌≡◌, ◌<◌, ℕ, ◌⊎◌, inl, inr, refl, ap, sym, ◌∙◌, subst, Bool, true, false, not, nat_lt, ◌&&◌, ◌++◌, List, [], map, get_or, set, Option, Some, None, option_map, arith, eqb-true, lt-ltb, not-true, filter, list_all, HeldBuffer, Interval, NodeKey, Cause, forced, and_left, and_right, both_ways, either_way, some-injective, Table, Change, Entry, Node, Unit, has_strong, Collection, with_nodes, IsStored, IsWhole, Shelf, collection_in, forest_of, nodes_with, place_in, shelf_of, shelves_of, Handles, Settles, standing, le-ltb, get_or-set_same, get_or_default, Fault, Loss, sorted_by, Holdings, AreCounted, IsCounted, HaveUnits, decided, mark_of, has_given_root, all_held, beside, pages_in, after_loss, IsSettledIn, is_kept_by, starts_differ, by_page, is_held_strongly, is_out, pages_held, Forces, forced_made, still_decided, found_filed, start_of, place_is, set_put, left_in, slice_get, set-set, filter-list_all, Closes, IsClosed, MayClose, IsBeside, MidEvent, AfterRemoval, Reaches, MayGo, is_abandoned_in, strong_told, counted_set, all_on}
+use Rattle.forest_steps.proofs.Common.{◌≡◌, ◌<◌, ℕ, ◌⊎◌, inl, inr, refl, ap, sym, ◌∙◌, subst, Bool, true, false, not, nat_lt, ◌&&◌, ◌++◌}
+use Rattle.forest_steps.proofs.Common.{List, [], map, get_or, set, Option, Some, None, option_map, arith, eqb-true, lt-ltb, not-true}
+use Rattle.forest_steps.proofs.Common.{filter, list_all, HeldBuffer, Interval, NodeKey, Cause, forced, and_left, and_right, both_ways}
+use Rattle.forest_steps.proofs.Common.{either_way, some-injective, Table, Change, Entry, Node, Unit, has_strong, Collection, with_nodes}
+use Rattle.forest_steps.proofs.Common.{IsStored, IsWhole, Shelf, collection_in, forest_of, nodes_with, place_in, shelf_of, shelves_of}
+use Rattle.forest_steps.proofs.Common.{Handles, Settles, standing, le-ltb, get_or-set_same, get_or_default, Fault, Loss, sorted_by}
+use Rattle.forest_steps.proofs.Common.{Holdings, AreCounted, IsCounted, HaveUnits, decided, mark_of, has_given_root, all_held, beside}
+use Rattle.forest_steps.proofs.Common.{pages_in, after_loss, IsSettledIn, is_kept_by, starts_differ, by_page, is_held_strongly, is_out}
+use Rattle.forest_steps.proofs.Common.{pages_held, Forces, forced_made, still_decided, found_filed, start_of, place_is, set_put, left_in}
+use Rattle.forest_steps.proofs.Common.{slice_get, set-set, filter-list_all, Closes, IsClosed, MayClose, IsBeside, MidEvent, AfterRemoval}
+use Rattle.forest_steps.proofs.Common.{Reaches, MayGo, is_abandoned_in, strong_told, counted_set, all_on}
 use Rattle.std.proofs.lemmas.Bool.{ltb-true}
 use Rattle.forest_store.specs.Resting.{is_at_rest}
-use Rattle.forest_steps.proofs.changes.Dropped.{IsReturned, finishes_so, one_entry, pool_at, pool_so, stored_so, strong_keeps, units_so, kept_root}
+use Rattle.forest_steps.proofs.changes.Dropped.{IsReturned, finishes_so, one_entry, pool_at, pool_so}
+use Rattle.forest_steps.proofs.changes.Dropped.{stored_so, strong_keeps, units_so, kept_root}
 use Rattle.forest_steps.proofs.failures.AllGone.{AreGone, none_decides, none_strong}
 use Rattle.forest_steps.proofs.intervals.Pools.{pool_stays}
 use Rattle.forest_store.proofs.shelves.Counted.{counted_put}
@@ -230,7 +241,8 @@ module _ {handles : Handles} {t : Table Node} {us : List Unit} {es : List Entry}
             Change.Nothing refl
             (subst (λ d. Reaches pool.size handles (beside (forest_of t ss) id) d (collection_in now (shelf_of new)))
             (sym (here_is t es id old told is))
-            (subst (λ (s : Shelf). Reaches pool.size handles (beside (forest_of t ss) id) (collection_in t (shelf_of old)) (collection_in now s))
+            (subst (λ (s : Shelf). Reaches pool.size handles (beside (forest_of t ss) id)
+            (collection_in t (shelf_of old)) (collection_in now s))
             (sym closed.shelf) (closed.leads pool.size (beside (forest_of t ss) id))))
             (subst (λ xs. IsSettledIn handles pool left now now mid xs id Change.Nothing) twice
             (record {
@@ -259,7 +271,8 @@ module _ {handles : Handles} {t : Table Node} {us : List Unit} {es : List Entry}
       let closed : IsClosed handles t t us (shelves_of es) old old = closed_still _
       (rw none at under_is) (inl live) in
       closes closed old refl
-      (sym (filter-list_all _ _ (all_on (is_out handles (nat_lt 0 old.strong)) old.held.items (λ h on. ap not (strong_keeps _ _ _ live))))) _ _ parted
+      (sym (filter-list_all _ _
+      (all_on (is_out handles (nat_lt 0 old.strong)) old.held.items (λ h on. ap not (strong_keeps _ _ _ live))))) _ _ parted
       (pages_mid closed _ parted of)
 
   -- where none does, but the collection rests without one, nothing is either

@@ -1,5 +1,11 @@
 -- An effect that was worked out, and forces nothing by its counts, is all that is made.
-use Rattle.forest_steps.proofs.Common.{◌≡◌, ℕ, refl, ap, sym, ◌∙◌, subst, true, false, List, [], map, get_or, set, Option, Some, None, NodeKey, Table, node_at, Change, Effect, Entry, Node, Unit, with_nodes, waiting, Shelf, collection_in, forest_of, nodes_with, place_in, shelf_of, shelves_of, affected, Handles, get_or-set_same, Holdings, Writes, table_with_node, IsPoolOf, starts_differ, is_kept_by, StoreAgrees, none_calm, place_is, set-set, EffectCounts, is_plain, after_effect, Closes, EffectMade, MidEvent, PropagatedFrom, AreCountsThen, KeepsCounts, IsOutcomeAt, IsReadyAt, tracker_room, plain_affected, may_force, strong_then}
+use Rattle.forest_steps.proofs.Common.{◌≡◌, ℕ, refl, ap, sym, ◌∙◌, subst, true, false, List, [], map, get_or, set, Option, Some}
+use Rattle.forest_steps.proofs.Common.{None, NodeKey, Table, node_at, Change, Effect, Entry, Node, Unit, with_nodes, waiting}
+use Rattle.forest_steps.proofs.Common.{Shelf, collection_in, forest_of, nodes_with, place_in, shelf_of, shelves_of, affected}
+use Rattle.forest_steps.proofs.Common.{Handles, get_or-set_same, Holdings, Writes, table_with_node, IsPoolOf, starts_differ}
+use Rattle.forest_steps.proofs.Common.{is_kept_by, StoreAgrees, none_calm, place_is, set-set, EffectCounts, is_plain}
+use Rattle.forest_steps.proofs.Common.{after_effect, Closes, EffectMade, MidEvent, PropagatedFrom, AreCountsThen, KeepsCounts}
+use Rattle.forest_steps.proofs.Common.{IsOutcomeAt, IsReadyAt, tracker_room, plain_affected, may_force, strong_then}
 use Rattle.forest_store.specs.declared.store.NodeStore.{NodeStore}
 use Rattle.forest_steps.specs.declared.node_effect.NodeEffect.{NodeEffect}
 use Rattle.forest_steps.specs.NodeEffects.{IsWorkedOut, MayMake, keeps_counts}

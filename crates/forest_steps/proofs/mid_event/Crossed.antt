@@ -1,5 +1,12 @@
 -- Where nodes fail, each unit except the one right above them is held as it was, and none becomes pending by it.
-use Rattle.forest_steps.proofs.Common.{◌≡◌, refl, ap, sym, ◌∙◌, subst, Bool, true, false, not, ◌&&◌, ◌||◌, ◌⊎◌, inl, inr, List, ◌∷◌, map, Option, Some, None, arith, not-true, list_any, list_all, option_map_or, NodeKey, same_key, In, In-list_any, In-map, In-map-back, and_both, and_left, and_right, both_ways, either_way, false_if, same_key-true, some-injective, In-any, all_on, Node, is_left_of, waiting, Collection, IsWhole, is_of, is_next_node, is_ready_node, is_root_left, is_head, or-true, or_none_right, or_none_left, is_allocated_node, left_parent, all-In, IsSameNode, is_none, or_cases, or_left, or_right, same_key-refl, hangs_in, are_held_except, holds_unit, is_held, is_next_except, waits_among, hangs_mapped}
+use Rattle.forest_steps.proofs.Common.{◌≡◌, refl, ap, sym, ◌∙◌, subst, Bool, true, false, not, ◌&&◌, ◌||◌, ◌⊎◌, inl, inr, List}
+use Rattle.forest_steps.proofs.Common.{◌∷◌, map, Option, Some, None, arith, not-true, list_any, list_all, option_map_or, NodeKey}
+use Rattle.forest_steps.proofs.Common.{same_key, In, In-list_any, In-map, In-map-back, and_both, and_left, and_right, both_ways}
+use Rattle.forest_steps.proofs.Common.{either_way, false_if, same_key-true, some-injective, In-any, all_on, Node, is_left_of}
+use Rattle.forest_steps.proofs.Common.{waiting, Collection, IsWhole, is_of, is_next_node, is_ready_node, is_root_left, is_head}
+use Rattle.forest_steps.proofs.Common.{or-true, or_none_right, or_none_left, is_allocated_node, left_parent, all-In, IsSameNode}
+use Rattle.forest_steps.proofs.Common.{is_none, or_cases, or_left, or_right, same_key-refl, hangs_in, are_held_except}
+use Rattle.forest_steps.proofs.Common.{holds_unit, is_held, is_next_except, waits_among, hangs_mapped}
 use Rattle.forest_steps.proofs.tables.Upward.{own_head, still_here, by_unit}
 use Rattle.forest_steps.proofs.mid_event.RootLost.{waits_was}
 
@@ -89,7 +96,8 @@ module _ {c : Collection} {falls : NodeKey → Bool} {top above : Node} (way : A
         || (x.attached && hangs_same m.key x e i))) ∙ holds)))
     by_holder m x on out holds (inl e) =
         let here : x.gone ≡ false = not-true _ (and_left _ _ holds) in
-        inl (elim (or_cases (same_key x.head m.key && not x.released) (x.attached && hangs_in nodes m.key x) (and_right (not x.gone) _ holds)) [
+        inl (elim (or_cases (same_key x.head m.key && not x.released) (x.attached && hangs_in nodes m.key x)
+        (and_right (not x.gone) _ holds)) [
           | inl own ↦
               (crossed x on here e _
               (same_key-true _ _ (and_left (same_key x.head m.key) _ own)) out).0
@@ -192,7 +200,8 @@ module _ {c : Collection} {falls : NodeKey → Bool} {top above : Node} (way : A
           list_all (is_ready_node k) now) (sym (made.same n).key) ∙ and_right _ _ three)))))
 
       -- a head that is next after was next before
-      pub next_but : (pending : List NodeKey) → list_any (is_next_except pending nodes) nodes ≡ false → list_any (is_next_except pending now) now ≡ false
+      pub next_but : (pending : List NodeKey) → list_any (is_next_except pending nodes) nodes ≡ false →
+          list_any (is_next_except pending now) now ≡ false
       next_but pending none = false_if _ (λ e.
           let x = In-list_any _ now e in
           let y = In-map f _ x.0 x.1 in

@@ -1,5 +1,15 @@
 -- Where nothing holds a unit, the counts tell how far up nothing but the unit below holds one, and the highest of those ends.
-use Rattle.forest_steps.proofs.Common.{◌≡◌, ℕ, zero, suc, ◌≤◌, refl, ap, sym, ◌∙◌, subst, Bool, true, false, ◌||◌, ◌==◌, is_some, inl, inr, List, [], ◌∷◌, ◌++◌, length, reverse, Option, Some, None, option_map, arith, eq-eqb, eqb-true, not-true, cons_option, find, list_any, option_and_then, Interval, NodeKey, forced, same_key, times, when, In, In-find, In-list_any, and_both, and_left, and_right, either_way, or_right, same_key-true, all_on, Table, node_at, Entry, Node, Unit, lives_in, unit_at, Collection, Shelf, all_keys, collection_in, nodes_with, shelf_of, is_deserted_node, Handles, Settles, standing, is_head, ltb-false, or_none_left, or_none_right, table_len, heads_below, is_held_by, unit_of, Ends, decided, mark_of, pages_in, after_end, is_below, Forces, forced_made, all-In, in_all, looked_there, distinct_one, left_in, left_node, left_parent, length-reverse, Ended, climbed, AfterSteps, MidEvent, AfterRemoval, MayGo, are_held_except, holds_unit, is_head_left, is_held, below_held, either_holds, lives_held, above_short, when-Some, ◌+◌, ◌⊎◌, option_map_or, ◌-◌}
+use Rattle.forest_steps.proofs.Common.{◌≡◌, ℕ, zero, suc, ◌≤◌, refl, ap, sym, ◌∙◌, subst, Bool, true, false, ◌||◌, ◌==◌, is_some, inl}
+use Rattle.forest_steps.proofs.Common.{inr, List, [], ◌∷◌, ◌++◌, length, reverse, Option, Some, None, option_map, arith, eq-eqb, eqb-true}
+use Rattle.forest_steps.proofs.Common.{not-true, cons_option, find, list_any, option_and_then, Interval, NodeKey, forced, same_key, times}
+use Rattle.forest_steps.proofs.Common.{when, In, In-find, In-list_any, and_both, and_left, and_right, either_way, or_right, same_key-true}
+use Rattle.forest_steps.proofs.Common.{all_on, Table, node_at, Entry, Node, Unit, lives_in, unit_at, Collection, Shelf, all_keys}
+use Rattle.forest_steps.proofs.Common.{collection_in, nodes_with, shelf_of, is_deserted_node, Handles, Settles, standing, is_head}
+use Rattle.forest_steps.proofs.Common.{ltb-false, or_none_left, or_none_right, table_len, heads_below, is_held_by, unit_of, Ends, decided}
+use Rattle.forest_steps.proofs.Common.{mark_of, pages_in, after_end, is_below, Forces, forced_made, all-In, in_all, looked_there}
+use Rattle.forest_steps.proofs.Common.{distinct_one, left_in, left_node, left_parent, length-reverse, Ended, climbed, AfterSteps}
+use Rattle.forest_steps.proofs.Common.{MidEvent, AfterRemoval, MayGo, are_held_except, holds_unit, is_head_left, is_held, below_held}
+use Rattle.forest_steps.proofs.Common.{either_holds, lives_held, above_short, when-Some, ◌+◌, ◌⊎◌, option_map_or, ◌-◌}
 use Rattle.forest_steps.specs.Climbing.{unit_over, is_held_once}
 use Rattle.forest_steps.proofs.tables.Upward.{line, step, shorter, in_unit_below, head_there}
 use Rattle.std.proofs.lemmas.List.{length-append}
@@ -15,7 +25,8 @@ module _ (t : Table Node) (us : List Unit) where
   stays (suc n) head none = ap (λ o. option_map_or (climbed n t us) o head) none
 
   -- and continues there where there is
-  pub goes_on : (n : ℕ) (head : NodeKey) {over : NodeKey} → unit_over t us head ≡ Some over → climbed (suc n) t us head ≡ climbed n t us over
+  pub goes_on : (n : ℕ) (head : NodeKey) {over : NodeKey} → unit_over t us head ≡ Some over →
+      climbed (suc n) t us head ≡ climbed n t us over
   goes_on n head is = ap (λ o. option_map_or (climbed n t us) o head) is
 
   -- one step more was made
@@ -52,6 +63,7 @@ few_nodes : (t : Table Node) (keys : List NodeKey) → length (nodes_with t keys
 few_nodes t [] = omega arith
 few_nodes t (k ∷ ks) = from (node_at t k) (few_nodes t ks)
   where
+    -- by cases: a key that finds no node adds none
     from : (o : Option Node) → length (nodes_with t ks) ≤ length ks → length (cons_option o (nodes_with t ks)) ≤ length (k ∷ ks)
     from None few = omega arith
     from (Some n) few = omega arith

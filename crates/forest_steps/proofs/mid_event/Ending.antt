@@ -1,7 +1,17 @@
 -- Units one above another that nothing holds but the one below: their heads alone are deserted, and the highest is the first. Once it
 -- ended with all below it, something holds each unit.
-use Rattle.forest_steps.proofs.Common.{◌≡◌, ℕ, zero, suc, ◌+◌, ◌<◌, ◌≤◌, refl, ap, sym, ◌∙◌, subst, Bool, true, false, not, ◌&&◌, ◌||◌, ◌⊎◌, inl, inr, List, [], ◌∷◌, length, reverse, Option, Some, arith, not-true, find, list_any, option_map_or, NodeKey, same_key, times, In, In-list_any, In-map, In-map-back, and_both, and_left, and_right, both_ways, either_way, false_if, or_cases, or_left, or_right, same_key-refl, same_key-true, some-injective, all_on, In-any, Node, lives_in, is_left_of, is_of, is_deserted_node, is_live_node, are_distinct, is_head, same_key-equal, list_any-map, hangs_in, heads_below, after_end, ended, is_below, count_none, all-In, AreOne, distinct_one, left_in, left_parent, Collection, IsWhole, length-reverse, are_held_except, holds_unit, is_held, above_short, ◌++◌, if◌then◌else◌, None, are_rooted, In-reverse, In-reverse-back, or_none_left, or_none_right, same_key-comm, above_among, hangs_on, left_node, found_by_key, reverse-append, one_line}
-use Rattle.forest_steps.proofs.tables.Upward.{line, step, shorter, in_unit_below, below_through, below_self, below_parent, still_here, up, chain}
+use Rattle.forest_steps.proofs.Common.{◌≡◌, ℕ, zero, suc, ◌+◌, ◌<◌, ◌≤◌, refl, ap, sym, ◌∙◌, subst, Bool, true, false, not, ◌&&◌, ◌||◌}
+use Rattle.forest_steps.proofs.Common.{◌⊎◌, inl, inr, List, [], ◌∷◌, length, reverse, Option, Some, arith, not-true, find, list_any}
+use Rattle.forest_steps.proofs.Common.{option_map_or, NodeKey, same_key, times, In, In-list_any, In-map, In-map-back, and_both, and_left}
+use Rattle.forest_steps.proofs.Common.{and_right, both_ways, either_way, false_if, or_cases, or_left, or_right, same_key-refl}
+use Rattle.forest_steps.proofs.Common.{same_key-true, some-injective, all_on, In-any, Node, lives_in, is_left_of, is_of, is_deserted_node}
+use Rattle.forest_steps.proofs.Common.{is_live_node, are_distinct, is_head, same_key-equal, list_any-map, hangs_in, heads_below}
+use Rattle.forest_steps.proofs.Common.{after_end, ended, is_below, count_none, all-In, AreOne, distinct_one, left_in, left_parent}
+use Rattle.forest_steps.proofs.Common.{Collection, IsWhole, length-reverse, are_held_except, holds_unit, is_held, above_short, ◌++◌}
+use Rattle.forest_steps.proofs.Common.{if◌then◌else◌, None, are_rooted, In-reverse, In-reverse-back, or_none_left, or_none_right}
+use Rattle.forest_steps.proofs.Common.{same_key-comm, above_among, hangs_on, left_node, found_by_key, reverse-append, one_line}
+use Rattle.forest_steps.proofs.tables.Upward.{line, step, shorter, in_unit_below, below_through}
+use Rattle.forest_steps.proofs.tables.Upward.{below_self, below_parent, still_here, up, chain}
 use Rattle.sm_names.proofs.ListLaws.{times-zero}
 use Rattle.forest_store.specs.Questions.{lives_below}
 use Rattle.forest_store.proofs.tallies.Holding.{dead_deserted}
@@ -23,10 +33,12 @@ one_counts p (n ∷ ns) a b one on too ha hb = elim (either_way (p n)) [
       one_counts p ns a b rest (later e a on ha) (later e b too hb) ha hb
 ]
   where
+    -- by cases: it is the first, or it would pass among the others
     first : list_any p ns ≡ false → (m : Node) → In m (n ∷ ns) → p m ≡ true → m ≡ n
     first none m (inl is) h = is
     first none m (inr there) h = both_ways _ (In-any p ns m there h) none
 
+    -- by cases: the first does not pass
     later : p n ≡ false → (m : Node) → In m (n ∷ ns) → p m ≡ true → In m ns
     later e m (inl is) h = both_ways _ (sym (ap p is) ∙ h) e
     later e m (inr there) h = there
@@ -38,10 +50,12 @@ alone_counts p [] distinct a on h alone = absurd on
 alone_counts p (n ∷ ns) distinct a on h alone =
     from on (λ there. alone_counts p ns (and_right _ _ distinct) a there h (λ b t. alone b (inr t)))
   where
+    -- since no two nodes have one key
     apart : (m : Node) → In m ns → m.key ≡ n.key → ⊥
     apart m there is =
         both_ways _ (In-any _ ns m there (same_key-equal _ _ is)) (not-true _ (and_left _ _ distinct))
 
+    -- by cases: it is the first and none behind passes, or it is behind and the first does not pass
     from : In a (n ∷ ns) → (In a ns → times p ns ≡ 1) → times p (n ∷ ns) ≡ 1
     from (inl is) later =
         let here : p n ≡ true = sym (ap p is) ∙ h in
@@ -82,6 +96,7 @@ match-append : {A : Type 0} (p : A → Bool) (ys : List A) (x : A) → last_matc
 match-append p [] x = refl
 match-append p (y ∷ ys) x = rw (match-append p ys x) (from (p x))
   where
+    -- by cases on the test
     from : (b : Bool) → option_map_or Some (if b then Some x else last_match p ys) (if p y then Some y else None)
         ≡ (if b then Some x else option_map_or Some (last_match p ys) (if p y then Some y else None))
     from true = refl
@@ -170,7 +185,8 @@ module _ {c : Collection} (whole : IsWhole c) where
             (λ m om hm. linked m (within m (inr om)) hm) older (λ m om. om) (and_right (hangs_on older n) (are_rooted older) rooted')
             y.0.key (left_in older y.0 y.1 here.0) in
             let lines : line whole y.0.key ≡ above_among older y.0.key =
-            one_line (up whole) y.0.key (line whole y.0.key) (above_among older y.0.key) (chain whole y.0.key (left_in nodes y.0 (within y.0 (inr y.1)) here.0))
+            one_line (up whole) y.0.key (line whole y.0.key) (above_among older y.0.key)
+            (chain whole y.0.key (left_in nodes y.0 (within y.0 (inr y.1)) here.0))
             short.chain in
             elim (or_cases (same_key top.key y.0.key) (list_any (same_key top.key) (line whole y.0.key)) here.1) [
               | inl same ↦
@@ -414,7 +430,8 @@ module _ {c : Collection} (whole : IsWhole c) where
               = ap length (step whole x.node x.on x.here u.1) in
               let more : length (line whole y.key) ≤ length (line whole p) =
               shorter whole y.key p (left_in nodes y on here) left at in
-              let z = In-list_any (lives_below nodes x.node.key) nodes (lives fuel x.node x.on x.here (or_right _ _ b.0) b.1 (omega arith)) in
+              let z = In-list_any (lives_below nodes x.node.key) nodes
+              (lives fuel x.node x.on x.here (or_right _ _ b.0) b.1 (omega arith)) in
               let live : is_live_node z.0 ≡ true = and_left _ _ z.2 in
               In-any _ _ z.0 z.1 (and_both _ _ live (below_through whole _ _ _
               (left_in _ z.0 z.1 (not-true _ (and_left _ _ live))) (left_in _ _ x.on x.here) (and_right _ _ z.2) under))

@@ -1,5 +1,16 @@
 -- Nodes that went in their places while forced steps are made, and the counts of those that are left.
-use Rattle.forest_steps.proofs.Common.{◌≡◌, ◌≢◌, ◌+◌, ◌<◌, ◌==◌, refl, ap, sym, ◌∙◌, subst, Bool, true, false, not, ◌&&◌, ◌||◌, inl, inr, List, map, reverse, length, Option, Some, None, option_map, arith, eqb-false, eqb-true, AllByRecursion, find, list_all, list_any, option_map_or, NodeKey, same_key, times, In, In-find, In-list_any, In-map, In-map-back, both_ways, either_way, false_if, same_key-true, In-any, Table, node_at, parent_at, Node, Unit, over_except, strong_count, AreUnits, lives_in, unit_at, waits_in, Collection, with_nodes, IsStored, IsWhole, Shelf, collection_in, is_filed, nodes_with, shelf_of, reserved_count, are_rooted, is_head, Entry, Contains-from_any, list_any-from_Contains, and-false, blocked_at, Going, HasUnits, hangs_in, heads_below, unit_of, IsTaken, gone_by, Stores, all_of, stored, is_blocking, GoTogether, found_whole, times_map, in_looked, in_all, looked_there, in_shelf, all_at, all-In, IsSameNode, Up, StoreAgrees, or_none_right, unreckoned, given_of, goes_in, goes_not, goes_of, gone_of, same_of, all_in, hangs_mapped, looked-map, one_shelf, IsSound-map, kept-with, IsGoneSo, went_now}
+use Rattle.forest_steps.proofs.Common.{◌≡◌, ◌≢◌, ◌+◌, ◌<◌, ◌==◌, refl, ap, sym, ◌∙◌, subst, Bool, true, false, not, ◌&&◌, ◌||◌, inl}
+use Rattle.forest_steps.proofs.Common.{inr, List, map, reverse, length, Option, Some, None, option_map, arith, eqb-false, eqb-true}
+use Rattle.forest_steps.proofs.Common.{AllByRecursion, find, list_all, list_any, option_map_or, NodeKey, same_key, times, In, In-find}
+use Rattle.forest_steps.proofs.Common.{In-list_any, In-map, In-map-back, both_ways, either_way, false_if, same_key-true, In-any}
+use Rattle.forest_steps.proofs.Common.{Table, node_at, parent_at, Node, Unit, over_except, strong_count, AreUnits, lives_in, unit_at}
+use Rattle.forest_steps.proofs.Common.{waits_in, Collection, with_nodes, IsStored, IsWhole, Shelf, collection_in, is_filed}
+use Rattle.forest_steps.proofs.Common.{nodes_with, shelf_of, reserved_count, are_rooted, is_head, Entry, Contains-from_any}
+use Rattle.forest_steps.proofs.Common.{list_any-from_Contains, and-false, blocked_at, Going, HasUnits, hangs_in, heads_below, unit_of}
+use Rattle.forest_steps.proofs.Common.{IsTaken, gone_by, Stores, all_of, stored, is_blocking, GoTogether, found_whole, times_map}
+use Rattle.forest_steps.proofs.Common.{in_looked, in_all, looked_there, in_shelf, all_at, all-In, IsSameNode, Up, StoreAgrees}
+use Rattle.forest_steps.proofs.Common.{or_none_right, unreckoned, given_of, goes_in, goes_not, goes_of, gone_of, same_of, all_in}
+use Rattle.forest_steps.proofs.Common.{hangs_mapped, looked-map, one_shelf, IsSound-map, kept-with, IsGoneSo, went_now}
 use Rattle.forest_store.specs.Counts.{HasUnit, AreUnitsExcept, head_above}
 use Rattle.forest_steps.proofs.tables.Upward.{head_there}
 use Rattle.forest_store.specs.LossMarks.{untallied}

@@ -1,5 +1,8 @@
 -- What a fault takes is removed from its collection, and what nothing holds then ends.
-use Rattle.forest_steps.proofs.Common.{◌≡◌, ap, sym, ◌∙◌, subst, true, false, inl, is_some, List, [], Option, Some, None, NodeKey, Table, node_at, Entry, Node, Unit, with_nodes, Shelf, collection_in, nodes_with, shelf_of, Handles, Settles, Fault, after_loss, in_all, looked_there, option_copied, AreOrEnd, AfterLoss, AfterSteps, AfterRemoval, Reaches, is_head_left}
+use Rattle.forest_steps.proofs.Common.{◌≡◌, ap, sym, ◌∙◌, subst, true, false, inl, is_some, List, [], Option, Some, None}
+use Rattle.forest_steps.proofs.Common.{NodeKey, Table, node_at, Entry, Node, Unit, with_nodes, Shelf, collection_in}
+use Rattle.forest_steps.proofs.Common.{nodes_with, shelf_of, Handles, Settles, Fault, after_loss, in_all, looked_there}
+use Rattle.forest_steps.proofs.Common.{option_copied, AreOrEnd, AfterLoss, AfterSteps, AfterRemoval, Reaches, is_head_left}
 use Rattle.std.proofs.Common.{Bor}
 use Rattle.forest_steps.proofs.tables.Rows.{same_on}
 use Rattle.forest_steps.proofs.mid_event.EndAbove.{head_left}

@@ -1,5 +1,9 @@
 -- Nodes of which some went: none may come to its turn that might not before.
-use Rattle.forest_steps.proofs.Common.{◌≡◌, refl, ap, sym, ◌∙◌, subst, Bool, true, false, not, ◌||◌, ◌⊎◌, inl, inr, is_none, is_some, List, map, Option, Some, None, not-true, list_all, NodeKey, same_key, In, In-map-back, and_both, and_left, and_right, both_ways, either_way, false_if, same_key-true, all_on, Node, waiting, Collection, is_ready_node, heads_itself, or-true, Fault, is_under, after_loss, ended, is_taken, lost, member_of, IsSound, GoTogether, all-In, head_own, AreClosed, AreOrEnd, is_coming, IsSameNode}
+use Rattle.forest_steps.proofs.Common.{◌≡◌, refl, ap, sym, ◌∙◌, subst, Bool, true, false, not, ◌||◌, ◌⊎◌, inl, inr, is_none, is_some}
+use Rattle.forest_steps.proofs.Common.{List, map, Option, Some, None, not-true, list_all, NodeKey, same_key, In, In-map-back, and_both}
+use Rattle.forest_steps.proofs.Common.{and_left, and_right, both_ways, either_way, false_if, same_key-true, all_on, Node, waiting}
+use Rattle.forest_steps.proofs.Common.{Collection, is_ready_node, heads_itself, or-true, Fault, is_under, after_loss, ended, is_taken}
+use Rattle.forest_steps.proofs.Common.{lost, member_of, IsSound, GoTogether, all-In, head_own, AreClosed, AreOrEnd, is_coming, IsSameNode}
 use Rattle.sm_names.proofs.ListLaws.{map-map}
 use Rattle.forest_steps.proofs.mid_event.RootLost.{waits_was}
 use Rattle.forest_steps.proofs.turns.Gifts.{closed_mapped}
@@ -89,7 +93,8 @@ module _ {c : Collection} (sound : IsSound c) {f : Node → Node} (only : OnlyGo
           let unit : m.head ≡ h.key = same_key-true _ _ same in
           let stays : (f m).gone ≡ false =
           together.spared (f m) (f h) (In-map-back f _ m there) (In-map-back f _ h on)
-          ((only.same m).head ∙ (unit ∙ sym (only.same h).key)) ((only.same h).head ∙ (own ∙ sym (only.same h).key)) here (only.allocated h ∙ waits) in
+          ((only.same m).head ∙ (unit ∙ sym (only.same h).key)) ((only.same h).head
+          ∙ (own ∙ sym (only.same h).key)) here (only.allocated h ∙ waits) in
           (λ i. (here_was m stays ∙ sym stays) i || (not (same_key (sym (only.same m).head i) h.key)
           || (sym (only.released m) i || is_some (sym (only.constraints m) i))))
           ∙ all-In _ now _ (In-map-back f _ m there) all

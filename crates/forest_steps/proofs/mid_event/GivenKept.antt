@@ -1,5 +1,15 @@
 -- A node has buffers only where its collection was given some: so it is after each step and each change.
-use Rattle.forest_steps.proofs.Common.{◌≡◌, ◌==◌, if◌then◌else◌, ℕ, refl, ap, sym, ◌∙◌, subst, Bool, true, false, not, ◌&&◌, ◌||◌, inl, inr, List, [], ◌∷◌, ◌++◌, map, Option, Some, None, option_map, is_none, filter, find, list_any, option_map_or, Interval, NodeKey, Cause, forced, when, In, In-find, In-list_any, In-map, both_ways, either_way, false_if, In-any, Table, Change, Effect, Entry, Node, Unit, has_strong, Collection, with_nodes, IsStored, Shelf, collection_in, forest_of, affected, are_distinct, is_deserted_node, is_root_left, Handles, Settles, collection_or_new, put, standing, list_any-append, unwrap_or, Failure, Fault, outcome, Mark, Loss, places, pages_of, Holdings, HaveUnits, Decision, Ends, Loses, Places, decided, first_step, mark_of, wanted_by, collection_at, pages_in, Finishes, IsOutcomeIn, ended, given_buffers, is_taken, lost, has_buffers, Forces, changed, is_birth, is_root_of, made, no_key, forced_made, found_by_key, all_at, arith, Allocated, Ended, IsServedByGiven, Rests, cases_place, losing, first_some, remains_affected, waiting, Buffers, or_both}
+use Rattle.forest_steps.proofs.Common.{◌≡◌, ◌==◌, if◌then◌else◌, ℕ, refl, ap, sym, ◌∙◌, subst, Bool, true, false, not, ◌&&◌, ◌||◌, inl}
+use Rattle.forest_steps.proofs.Common.{inr, List, [], ◌∷◌, ◌++◌, map, Option, Some, None, option_map, is_none, filter, find, list_any}
+use Rattle.forest_steps.proofs.Common.{option_map_or, Interval, NodeKey, Cause, forced, when, In, In-find, In-list_any, In-map, both_ways}
+use Rattle.forest_steps.proofs.Common.{either_way, false_if, In-any, Table, Change, Effect, Entry, Node, Unit, has_strong, Collection}
+use Rattle.forest_steps.proofs.Common.{with_nodes, IsStored, Shelf, collection_in, forest_of, affected, are_distinct, is_deserted_node}
+use Rattle.forest_steps.proofs.Common.{is_root_left, Handles, Settles, collection_or_new, put, standing, list_any-append, unwrap_or}
+use Rattle.forest_steps.proofs.Common.{Failure, Fault, outcome, Mark, Loss, places, pages_of, Holdings, HaveUnits, Decision, Ends, Loses}
+use Rattle.forest_steps.proofs.Common.{Places, decided, first_step, mark_of, wanted_by, collection_at, pages_in, Finishes, IsOutcomeIn}
+use Rattle.forest_steps.proofs.Common.{ended, given_buffers, is_taken, lost, has_buffers, Forces, changed, is_birth, is_root_of, made}
+use Rattle.forest_steps.proofs.Common.{no_key, forced_made, found_by_key, all_at, arith, Allocated, Ended, IsServedByGiven, Rests}
+use Rattle.forest_steps.proofs.Common.{cases_place, losing, first_some, remains_affected, waiting, Buffers, or_both}
 use Rattle.std.proofs.Common.{IfSome}
 use Rattle.sm_names.specs.Marks.{Called}
 use Rattle.forest_store.specs.Calm.{IsForest}
@@ -191,6 +201,7 @@ pub given_at : (t : Table Node) (ss : List Shelf) (id : ℕ) → AreServedByGive
     IsServedByGiven (collection_or_new (forest_of t ss) id)
 given_at t ss id all = from (collection_at (forest_of t ss) id) refl
   where
+    -- by cases: an empty collection has no nodes, and one that is found is one of all
     from : (o : Option Collection) → collection_at (forest_of t ss) id ≡ o →
         IsServedByGiven (unwrap_or o (record { id = id; nodes = []; buffers = None; held = [] }))
     from None is = λ none. refl
@@ -225,6 +236,7 @@ pub given_some : (p : Collection → Bool) (cs : List Collection) → AreServedB
 given_some p [] all = tt
 given_some p (c ∷ cs) all = from (p c) (given_some p cs all.1)
   where
+    -- by cases on the test
     from : (b : Bool) → AreServedByGiven (filter p cs) → AreServedByGiven (if b then c ∷ filter p cs else filter p cs)
     from true on = (all.0, on)
     from false on = on
@@ -234,6 +246,7 @@ pub given_over : (id : ℕ) (cs : List Collection) → AreServedByGiven cs → A
 given_over id [] all = tt
 given_over id (c ∷ cs) all = from (c.id == id) (is_left (tidied c)) (given_over id cs all.1)
   where
+    -- by cases: this collection is tidied or left out, and the others stay
     from : (here bare : Bool) → AreServedByGiven (without_over_in id cs) →
         AreServedByGiven (if here then (if bare then cs else tidied c ∷ cs) else c ∷ without_over_in id cs)
     from here bare h = grind (arith, none-filter)

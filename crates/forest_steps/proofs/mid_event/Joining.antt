@@ -1,5 +1,12 @@
 -- Steps that were made one after another, joined: what the later ones finish, the earlier ones did.
-use Rattle.forest_steps.proofs.Common.{◌≡◌, ◌≢◌, ℕ, zero, suc, ◌+◌, ◌==◌, ◌⊎◌, arith, inl, inr, nat_lt, refl, ap, sym, ◌∙◌, subst, true, false, not, List, [], ◌∷◌, map, get_or, set, Option, Some, None, option_map, eq-eqb, filter, find, NodeKey, In, either_way, some-injective, Table, Change, Entry, Node, Unit, Collection, IsStored, Shelf, collection_in, forest_of, place_in, put_shelf, shelf_of, shelves_of, Handles, collection_or_new, put, get_or-set_same, get_or_default, flat_map, Holdings, AreCountedExcept, beside, pages_in, Finishes, IsOutcomeIn, IsSettledIn, changed_in, given_back, is_birth, shelves_put, place_is, set_put, collection_is, shelf_found, Closes, MayClose, IsBeside, MidEvent, Reaches, is_abandoned_in, cases_place}
+use Rattle.forest_steps.proofs.Common.{◌≡◌, ◌≢◌, ℕ, zero, suc, ◌+◌, ◌==◌, ◌⊎◌, arith, inl, inr, nat_lt, refl, ap, sym, ◌∙◌, subst}
+use Rattle.forest_steps.proofs.Common.{true, false, not, List, [], ◌∷◌, map, get_or, set, Option, Some, None, option_map, eq-eqb}
+use Rattle.forest_steps.proofs.Common.{filter, find, NodeKey, In, either_way, some-injective, Table, Change, Entry, Node, Unit}
+use Rattle.forest_steps.proofs.Common.{Collection, IsStored, Shelf, collection_in, forest_of, place_in, put_shelf, shelf_of}
+use Rattle.forest_steps.proofs.Common.{shelves_of, Handles, collection_or_new, put, get_or-set_same, get_or_default, flat_map}
+use Rattle.forest_steps.proofs.Common.{Holdings, AreCountedExcept, beside, pages_in, Finishes, IsOutcomeIn, IsSettledIn}
+use Rattle.forest_steps.proofs.Common.{changed_in, given_back, is_birth, shelves_put, place_is, set_put, collection_is}
+use Rattle.forest_steps.proofs.Common.{shelf_found, Closes, MayClose, IsBeside, MidEvent, Reaches, is_abandoned_in, cases_place}
 use Rattle.forest_store.proofs.shelves.Counted.{moved, set_shelves}
 use Rattle.forest_store.proofs.tallies.Slots.{changed_id, or_new_id, settles_id}
 use Rattle.forest_steps.proofs.tables.Rows.{same_on}
@@ -70,9 +77,11 @@ place_set id (suc n) (e ∷ es) new own told = elim (either_way (e.id == id)) [
       rw (other, place_set id n es new own (behind_is (place_in id es) n behind)) (ap Some (omega arith))
 ]
   where
+    -- since 0 is no successor
     zero_suc : (k : ℕ) → Some 0 ≡ Some (suc k) → ⊥
     zero_suc k e = let same : 0 ≡ suc k = some-injective 0 _ e in omega arith
 
+    -- by cases: a place one further on comes of the place behind
     behind_is : (o : Option ℕ) (k : ℕ) → option_map (λ m. m + 1) o ≡ Some (suc k) → o ≡ Some k
     behind_is None k e = cc
     behind_is (Some m) k e = let same : m + 1 ≡ suc k = some-injective _ _ e in ap Some (omega arith)
@@ -82,6 +91,7 @@ pub but_beside : {t now : Table Node} {id : ℕ} (es : List Entry) → IsBeside 
     AreCountedExcept now id es
 but_beside {t} {now} {id} es by all = from es (λ x on differ. by.others x on differ) all
   where
+    -- by induction: each other collection is as it was in the table
     from : (xs : List Entry) → ((x : Shelf) → In x (shelves_of xs) → x.id ≢ id → collection_in now x ≡ collection_in t x) →
         AreCountedExcept t id xs → AreCountedExcept now id xs
     from [] each but = tt
@@ -109,7 +119,8 @@ pub here_is : (t : Table Node) (es : List Entry) (id : ℕ) {at : ℕ} (e : Entr
 here_is t es id e told is = grind (arith, collection_is, shelf_here)
 
 -- a change keeps the id of the collection
-pub changed_own : (t : Table Node) (es : List Entry) (id : ℕ) (change : Change) → is_birth change ≡ false → (changed_in t es id change).id ≡ id
+pub changed_own : (t : Table Node) (es : List Entry) (id : ℕ) (change : Change) →
+    is_birth change ≡ false → (changed_in t es id change).id ≡ id
 changed_own t es id change birth = changed_id _ _ _ birth ∙ or_new_id (forest_of t (shelves_of es)) id
 
 -- ---- what was finished from a state that steps led to

@@ -1,5 +1,7 @@
 -- Forced steps one after another, and the units that had their turn so far.
-use Rattle.forest_steps.proofs.Common.{◌≡◌, ℕ, ◌∙◌, ap, subst, refl, true, false, List, [], ◌∷◌, Some, NodeKey, Buffers, Table, Entry, Node, Unit, Shelf, collection_in, nodes_with, Handles, PendingUnit, AreTurns, IsBeside, AfterSteps, MidEvent, Reaches, is_abandoned_in, turn_heads, waits_among}
+use Rattle.forest_steps.proofs.Common.{◌≡◌, ℕ, ◌∙◌, ap, subst, refl, true, false, List, [], ◌∷◌, Some, NodeKey, Buffers, Table}
+use Rattle.forest_steps.proofs.Common.{Entry, Node, Unit, Shelf, collection_in, nodes_with, Handles, PendingUnit, AreTurns}
+use Rattle.forest_steps.proofs.Common.{IsBeside, AfterSteps, MidEvent, Reaches, is_abandoned_in, turn_heads, waits_among}
 use Rattle.forest_steps.proofs.tables.Rows.{same_on}
 
 -- ---- steps one after another
@@ -24,7 +26,8 @@ led_none handles under = record {
 -- steps, and then more of them
 pub led_on : {handles : Handles} {t u now : Table Node} {us vs : List Unit} {ss : List Shelf} {old e new : Entry}
     {unheld pending loose' due' : List NodeKey} →
-    AfterSteps handles t u us ss old e unheld pending → AfterSteps handles u now vs ss e new loose' due' → AfterSteps handles t now vs ss old new loose' due'
+    AfterSteps handles t u us ss old e unheld pending → AfterSteps handles u now vs ss e new loose' due' →
+    AfterSteps handles t now vs ss old new loose' due'
 led_on {handles} {u} {now} one two = record {
   under = two.under;
   shelf = two.shelf ∙ one.shelf;
@@ -37,7 +40,8 @@ led_on {handles} {u} {now} one two = record {
 -- ---- turns
 
 -- the units before these had their turn
-abbrev pub HaveTurns : Handles → Table Node → Table Node → List Unit → List Unit → Entry → Entry → Buffers → List PendingUnit → List PendingUnit → Type 0
+abbrev pub HaveTurns : Handles → Table Node → Table Node → List Unit → List Unit → Entry → Entry →
+    Buffers → List PendingUnit → List PendingUnit → Type 0
 HaveTurns handles t now us vs old new buffers all left =
     (ss : List Shelf) → MidEvent t us ss old [] (turn_heads all) → AreTurns t old.keys.items all →
     waits_among [] (nodes_with t old.keys.items) ≡ true → old.buffers ≡ Some buffers →
@@ -58,7 +62,8 @@ Takes handles t now us vs old new buffers head =
     AfterSteps handles t now vs ss old new [] (turn_heads ws)
     × (AreTurns now old.keys.items ws × (waits_among [] (nodes_with now old.keys.items) ≡ true))
 
-module _ (handles : Handles) (t u now : Table Node) (us vs ws : List Unit) (old e new : Entry) (buffers : Buffers) (all : List PendingUnit) where
+module _ (handles : Handles) (t u now : Table Node) (us vs ws : List Unit) (old e new : Entry)
+    (buffers : Buffers) (all : List PendingUnit) where
   -- one more had
   pub turns_more : (w : PendingUnit) (left : List PendingUnit) → HaveTurns handles t u us vs old e buffers all (w ∷ left) →
       (e.buffers ≡ Some buffers → is_abandoned_in handles u e ≡ false) → Takes handles u now vs ws e new buffers w.head →

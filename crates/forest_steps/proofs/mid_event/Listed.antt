@@ -1,5 +1,12 @@
 -- What a walk over one unit finds: each of its nodes, so that what these ask for is what the unit asks for.
-use Rattle.forest_steps.proofs.Common.{◌≡◌, ℕ, ◌==◌, refl, ap, sym, ◌∙◌, subst, Bool, true, false, not, ◌&&◌, inl, inr, List, Option, Some, None, arith, not-true, find, list_any, sum_by, option_map_or, NodeKey, Buffers, Demand, same_key, In, and_left, and_right, both_ways, either_way, false_if, same_key-true, Table, node_at, parent_at, Effect, Node, affected, IsStored, Shelf, nodes_with, reserved_count, same_key-equal, Contains-from_any, list_any-from_Contains, filter_map, greatest, Writes, Below, Top, Within, stopped_at, Going, late_failure, demands_of, is_in_unit, same_affected, in_looked, IsBareHead, key_listed, head_own, in_all, looked_there, in_shelf, camped_sum, and-false, ◌↔◌, Contains, refusal, IsUnitListed, asked_there, parents-written, amount_within}
+use Rattle.forest_steps.proofs.Common.{◌≡◌, ℕ, ◌==◌, refl, ap, sym, ◌∙◌, subst, Bool, true, false, not, ◌&&◌, inl, inr, List, Option}
+use Rattle.forest_steps.proofs.Common.{Some, None, arith, not-true, find, list_any, sum_by, option_map_or, NodeKey, Buffers, Demand}
+use Rattle.forest_steps.proofs.Common.{same_key, In, and_left, and_right, both_ways, either_way, false_if, same_key-true, Table}
+use Rattle.forest_steps.proofs.Common.{node_at, parent_at, Effect, Node, affected, IsStored, Shelf, nodes_with, reserved_count}
+use Rattle.forest_steps.proofs.Common.{same_key-equal, Contains-from_any, list_any-from_Contains, filter_map, greatest, Writes}
+use Rattle.forest_steps.proofs.Common.{Below, Top, Within, stopped_at, Going, late_failure, demands_of, is_in_unit, same_affected}
+use Rattle.forest_steps.proofs.Common.{in_looked, IsBareHead, key_listed, head_own, in_all, looked_there, in_shelf, camped_sum}
+use Rattle.forest_steps.proofs.Common.{and-false, ◌↔◌, Contains, refusal, IsUnitListed, asked_there, parents-written, amount_within}
 use Rattle.forest_steps.proofs.tables.Upward.{own_head, by_unit}
 use Rattle.std.specs.Option.{option_map}
 use Rattle.forest_steps.proofs.failures.Ties.{key_equivalence}
@@ -135,11 +142,13 @@ listed_written {t} {now} {key} effect was named writes {head} {keys} listed = re
   once = listed.once;
 }
   where
+    -- by cases on the node: the effect does not write it
     attached : (o : Option Node) → option_map_or (λ (m : Node). m.attached) (option_map (affected key effect) o) false
         ≡ option_map_or (λ (m : Node). m.attached) o false
     attached None = refl
     attached (Some m) = (same_affected key _ m).attached
 
+    -- since the effect writes neither links nor whether a node is attached
     stopped : (x : NodeKey) → stopped_at (λ (m : Node). m.attached) now head x ≡ stopped_at (λ (m : Node). m.attached) t head x
     stopped x =
         ap (λ b. not (same_key x head) && b)

@@ -1,5 +1,13 @@
 -- The units that may come to their turn by one, in a list: from what a walk finds to the order of their places.
-use Rattle.forest_steps.proofs.Common.{◌≡◌, ℕ, suc, ◌<◌, ◌≤◌, ◌==◌, nat_lt, refl, ap, sym, ◌∙◌, subst, Bool, true, false, not, ◌⊎◌, inl, inr, get_or, length, List, [], ◌∷◌, ◌++◌, map, Some, None, arith, eqb-true, lt-ltb, not-true, find, list_any, option_map_or, NodeKey, same_key, In-list_any, In-map, In-map-back, and_both, and_left, and_right, both_ways, either_way, false_if, or_cases, or_right, same_key-refl, same_key-true, some-injective, In-any, Table, node_at, parent_at, Entry, Node, Unit, AreUnits, unit_at, IsStored, Shelf, collection_in, nodes_with, shelf_of, Below, Top, Within, Going, HasUnits, Hangs, Roots, is_head_at, is_waiting_head, in_looked, key_listed, node_there, in_shelf, slice_get, In-get_or, PendingUnit, AreHeads, IsGathered, hangs_below, is_ready_head, AreClosed, ArePlacedIfThere, AreTurns, MidEvent, is_head_left, turn_heads, eq-eqb}
+use Rattle.forest_steps.proofs.Common.{◌≡◌, ℕ, suc, ◌<◌, ◌≤◌, ◌==◌, nat_lt, refl, ap, sym, ◌∙◌, subst, Bool, true, false, not, ◌⊎◌, inl}
+use Rattle.forest_steps.proofs.Common.{inr, get_or, length, List, [], ◌∷◌, ◌++◌, map, Some, None, arith, eqb-true, lt-ltb, not-true}
+use Rattle.forest_steps.proofs.Common.{find, list_any, option_map_or, NodeKey, same_key, In-list_any, In-map, In-map-back, and_both}
+use Rattle.forest_steps.proofs.Common.{and_left, and_right, both_ways, either_way, false_if, or_cases, or_right, same_key-refl}
+use Rattle.forest_steps.proofs.Common.{same_key-true, some-injective, In-any, Table, node_at, parent_at, Entry, Node, Unit, AreUnits}
+use Rattle.forest_steps.proofs.Common.{unit_at, IsStored, Shelf, collection_in, nodes_with, shelf_of, Below, Top, Within, Going}
+use Rattle.forest_steps.proofs.Common.{HasUnits, Hangs, Roots, is_head_at, is_waiting_head, in_looked, key_listed, node_there, in_shelf}
+use Rattle.forest_steps.proofs.Common.{slice_get, In-get_or, PendingUnit, AreHeads, IsGathered, hangs_below, is_ready_head, AreClosed}
+use Rattle.forest_steps.proofs.Common.{ArePlacedIfThere, AreTurns, MidEvent, is_head_left, turn_heads, eq-eqb}
 use Rattle.forest_store.proofs.changes.Altering.{Some-shelf}
 use Rattle.forest_store.proofs.allocation.Before.{closed_below}
 use Rattle.std.proofs.Common.{filter}
@@ -37,7 +45,8 @@ in_turn_from (w ∷ ws) rising = (
 )
 
 -- one more is placed
-pub placed_more : (keys : List NodeKey) (ws : List PendingUnit) (w : PendingUnit) (vs : List PendingUnit) → vs ≡ ws ++ w ∷ [] → ArePlacedIfThere keys ws →
+pub placed_more : (keys : List NodeKey) (ws : List PendingUnit) (w : PendingUnit) (vs : List PendingUnit) →
+    vs ≡ ws ++ w ∷ [] → ArePlacedIfThere keys ws →
     (list_any (same_key w.head) keys ≡ true → IsPlace keys w.head w.place) → ArePlacedIfThere keys vs
 placed_more keys ws w vs is before more v on there =
     elim (In-append ws _ v (rw is at on)) [
@@ -207,14 +216,16 @@ module _ {t : Table Node} {ss : List Shelf} (kept : IsStored t ss) {s : Shelf} (
     pub first_is : (place : ℕ) × (rest : List PendingUnit) × (vs ≡ record { place = place; head = k } ∷ rest)
     first_is = from vs refl
       where
-        from : (us' : List PendingUnit) → vs ≡ us' → (place : ℕ) × (rest : List PendingUnit) × (vs ≡ record { place = place; head = k } ∷ rest)
+        from : (us' : List PendingUnit) → vs ≡ us' →
+            (place : ℕ) × (rest : List PendingUnit) × (vs ≡ record { place = place; head = k } ∷ rest)
         from [] e = absurd (subst (λ (l : List PendingUnit). In its_turn.0 l) e its_turn.1)
         from (w ∷ rest) e = elim (later w (subst (λ l. In w l) (sym e) (inl refl))) [
           | inl is ↦ (w.place, rest, e ∙ λ i. record { place = w.place; head = is i } ∷ rest)
           | inr less ↦
               let turns = in_turn_from (w ∷ rest) (subst (λ l. IsNonDecreasingBy (λ (v : PendingUnit). v.place) l) e rising) in
               elim (subst (λ l. In its_turn.0 l) e its_turn.1) [
-                | inl same ↦ let eq : its_turn.0.place ≡ w.place = ap (λ (v : PendingUnit). v.place) same in absurd (omega (arith, less, eq))
+                | inl same ↦ let eq : its_turn.0.place ≡ w.place = ap (λ (v : PendingUnit). v.place) same in
+                    absurd (omega (arith, less, eq))
                 | inr on ↦ let most = turns.0 its_turn.0 on in absurd (omega (arith, less, most))
               ]
         ]

@@ -1,5 +1,11 @@
 -- Whether an attached unit is next, which its head, the node above it and the counts tell, while forced steps are being made.
-use Rattle.forest_steps.proofs.Common.{◌≡◌, ℕ, refl, ap, sym, ◌∙◌, subst, Bool, true, false, not, inl, inr, List, [], ◌∷◌, Option, Some, None, eq-eqb, not-true, list_all, list_any, option_map_or, NodeKey, same_key, times, In, In-list_any, and_both, and_left, and_right, both_ways, either_way, false_if, same_key-true, all_on, In-any, Table, node_at, parent_at, Entry, Node, Unit, unit_at, waits_in, waiting, Shelf, nodes_with, is_next_node, is_ready_node, same_key-equal, row_at, unit_of, is_allocated_node, is_waiting_head, count_none, arith, or_first, IsSome, PendingUnit, has_turn_at, is_next_there, MidEvent, is_head_left, is_next_except, turn_heads, waits_among, or_left}
+use Rattle.forest_steps.proofs.Common.{◌≡◌, ℕ, refl, ap, sym, ◌∙◌, subst, Bool, true, false, not, inl, inr, List, [], ◌∷◌, Option}
+use Rattle.forest_steps.proofs.Common.{Some, None, eq-eqb, not-true, list_all, list_any, option_map_or, NodeKey, same_key, times, In}
+use Rattle.forest_steps.proofs.Common.{In-list_any, and_both, and_left, and_right, both_ways, either_way, false_if, same_key-true}
+use Rattle.forest_steps.proofs.Common.{all_on, In-any, Table, node_at, parent_at, Entry, Node, Unit, unit_at, waits_in, waiting, Shelf}
+use Rattle.forest_steps.proofs.Common.{nodes_with, is_next_node, is_ready_node, same_key-equal, row_at, unit_of, is_allocated_node}
+use Rattle.forest_steps.proofs.Common.{is_waiting_head, count_none, arith, or_first, IsSome, PendingUnit, has_turn_at, is_next_there}
+use Rattle.forest_steps.proofs.Common.{MidEvent, is_head_left, is_next_except, turn_heads, waits_among, or_left}
 use Rattle.forest_store.specs.UnitAllocation.{has_buffers_there}
 use Rattle.forest_steps.proofs.turns.Gifts.{not_this}
 use Rattle.forest_steps.proofs.mid_event.Ready.{none_next, under_with, unit_told}
@@ -17,7 +23,8 @@ none_waits nodes h = grind arith
 
 -- only these are next, where only these were but for some that are not
 pub next_fewer : (nodes : List Node) (pending few : List NodeKey) → list_any (is_next_except pending nodes) nodes ≡ false →
-    ((n : Node) → In n nodes → is_next_node nodes n ≡ true → list_any (same_key n.key) pending ≡ true → list_any (same_key n.key) few ≡ true) →
+    ((n : Node) → In n nodes → is_next_node nodes n ≡ true → list_any (same_key n.key) pending ≡ true →
+    list_any (same_key n.key) few ≡ true) →
     list_any (is_next_except few nodes) nodes ≡ false
 next_fewer nodes pending few next each = false_if _ (λ h.
     let x = In-list_any _ _ h in

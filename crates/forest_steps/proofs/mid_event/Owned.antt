@@ -1,5 +1,8 @@
 -- What a failure takes of a table is of one collection, where parents are.
-use Rattle.forest_steps.proofs.Common.{◌≡◌, ℕ, sym, ◌∙◌, true, List, Some, NodeKey, same_key-true, Table, node_at, parent_at, Node, nodes_with, Contains-from_any, Up, IsForest, blocked_at, IsTaken, all_of, is_blocking, arith, Reach, ◌==◌, refl, ap, Bool, ◌||◌, [], ◌∷◌, Option, None, cons_option, list_any, option_map_or, same_key, and_both, or_right, same_key-refl}
+use Rattle.forest_steps.proofs.Common.{◌≡◌, ℕ, sym, ◌∙◌, true, List, Some, NodeKey, same_key-true, Table, node_at}
+use Rattle.forest_steps.proofs.Common.{parent_at, Node, nodes_with, Contains-from_any, Up, IsForest, blocked_at, IsTaken}
+use Rattle.forest_steps.proofs.Common.{all_of, is_blocking, arith, Reach, ◌==◌, refl, ap, Bool, ◌||◌, [], ◌∷◌, Option, None}
+use Rattle.forest_steps.proofs.Common.{cons_option, list_any, option_map_or, same_key, and_both, or_right, same_key-refl}
 use Rattle.sm_names.specs.Losses.{Down, Origin}
 use Rattle.forest_steps.proofs.tables.Rows.{row_node, child_node}
 
@@ -15,6 +18,7 @@ own_all t id (k ∷ ks) each =
     by (own_all t id ks (λ key on. each key (or_right _ _ on))) (node_at t k)
     (each k (ap (λ b. b || list_any (same_key k) ks) (same_key-refl k)))
   where
+    -- by cases: a key that finds no node adds none
     by : all_of id (nodes_with t ks) ≡ true → (o : Option Node) → option_map_or (λ (n : Node). n.collection == id) o true ≡ true →
         all_of id (cons_option o (nodes_with t ks)) ≡ true
     by rest None own = rest

@@ -1,5 +1,12 @@
 -- A loss or an effect that is made on its collection, with all that it forces.
-use Rattle.forest_steps.proofs.Common.{◌≡◌, refl, ap, sym, ◌∙◌, subst, Bool, true, false, not, ◌&&◌, ◌||◌, ◌⊎◌, inl, inr, List, [], ◌∷◌, Option, Some, None, not-true, list_any, option_map_or, NodeKey, same_key, In, In-list_any, In-map, In-map-back, and_both, and_left, and_right, either_way, same_key-true, all_on, In-any, Table, Effect, Entry, Node, Unit, waiting, Collection, IsWhole, Shelf, collection_in, nodes_with, shelf_of, is_of, Handles, Settles, is_head, arith, Fault, or_none_right, after_end, after_loss, ended, all-In, found_whole, distinct_one, IsSameNode, or_first, after_effect, AreOrEnd, AfterEffect, IsBeside, AfterLoss, AfterSteps, PropagatedFrom, AfterPropagation, MidEvent, Reaches, are_held_except, holds_unit, is_head_left, is_held, waits_among, hangs_mapped}
+use Rattle.forest_steps.proofs.Common.{◌≡◌, refl, ap, sym, ◌∙◌, subst, Bool, true, false, not, ◌&&◌, ◌||◌, ◌⊎◌, inl, inr, List, [], ◌∷◌}
+use Rattle.forest_steps.proofs.Common.{Option, Some, None, not-true, list_any, option_map_or, NodeKey, same_key, In, In-list_any}
+use Rattle.forest_steps.proofs.Common.{In-map, In-map-back, and_both, and_left, and_right, either_way, same_key-true, all_on, In-any}
+use Rattle.forest_steps.proofs.Common.{Table, Effect, Entry, Node, Unit, waiting, Collection, IsWhole, Shelf, collection_in, nodes_with}
+use Rattle.forest_steps.proofs.Common.{shelf_of, is_of, Handles, Settles, is_head, arith, Fault, or_none_right, after_end, after_loss}
+use Rattle.forest_steps.proofs.Common.{ended, all-In, found_whole, distinct_one, IsSameNode, or_first, after_effect, AreOrEnd}
+use Rattle.forest_steps.proofs.Common.{AfterEffect, IsBeside, AfterLoss, AfterSteps, PropagatedFrom, AfterPropagation, MidEvent}
+use Rattle.forest_steps.proofs.Common.{Reaches, are_held_except, holds_unit, is_head_left, is_held, waits_among, hangs_mapped}
 use Rattle.forest_steps.proofs.mid_event.Fewer.{only_ended, waits_on}
 use Rattle.forest_steps.proofs.mid_event.Leading.{beside_on, led_none, led_on}
 use Rattle.forest_steps.proofs.mid_event.NextThere.{wait_among}
@@ -27,7 +34,8 @@ same_ended : (ns : List Node) (top : NodeKey) (n : Node) → IsSameNode (ended n
 same_ended ns top n = record { key = refl; parent = refl; attached = refl; collection = refl; head = refl }
 
 -- a node with a key is there still
-pub key_stays : (old now : List Node) → AreOrEnd old now → (key : NodeKey) → list_any (is_of key) old ≡ true → list_any (is_of key) now ≡ true
+pub key_stays : (old now : List Node) → AreOrEnd old now → (key : NodeKey) →
+    list_any (is_of key) old ≡ true → list_any (is_of key) now ≡ true
 key_stays old now (inl same) key there = rw same there
 key_stays old now (inr ends) key there =
     let x = In-list_any _ old there in
@@ -66,6 +74,7 @@ record IsWaiting (ns : List Node) (key : NodeKey) : Type 0 where
 waiting_is : (ns : List Node) (key : NodeKey) → waits_among (key ∷ []) ns ≡ true → (waiting ns ≡ None) ⊎ IsWaiting ns key
 waiting_is ns key root = from (waiting ns) refl root
   where
+    -- by cases: none waits, or the one that waits is among the keys, of which there is one
     from : (o : Option Node) → waiting ns ≡ o → option_map_or (λ (n : Node). list_any (same_key n.key) (key ∷ [])) o true ≡ true →
         (o ≡ None) ⊎ IsWaiting ns key
     from None is h = inl refl
@@ -120,7 +129,8 @@ module _ {t mid : Table Node} {us : List Unit} {ss : List Shelf} {e e1 : Entry} 
   pub still_left : is_head_left (nodes_with mid e1.keys.items) head ≡ true
   still_left = subst (λ (s : Shelf). is_head_left (nodes_with mid s.keys) head ≡ true) (sym affected.shelf) affected.left
 
-  module _ {handles : Handles} {then : Table Node} {vs : List Unit} {e2 : Entry} (led : AfterSteps handles mid then vs ss e1 e2 [] (head ∷ []))
+  module _ {handles : Handles} {then : Table Node} {vs : List Unit} {e2 : Entry}
+      (led : AfterSteps handles mid then vs ss e1 e2 [] (head ∷ []))
       (ends : AreOrEnd (nodes_with mid e1.keys.items) (nodes_with then e1.keys.items)) where
     -- the collection's nodes right after the effect
     abbrev nodes : List Node
@@ -142,7 +152,8 @@ module _ {t mid : Table Node} {us : List Unit} {ss : List Shelf} {e e1 : Entry} 
     none_waits_then : (are_held_except [] nodes ≡ true → waiting nodes ≡ None) → waits_among [] (nodes_with then e2.keys.items) ≡ true
     none_waits_then waits =
         root_none (found_whole mid _ ss _ affected.under.store.kept.whole affected.under.store.found)
-        (found_whole then e2.id ss (shelf_of e2) led.under.store.kept.whole led.under.store.found) _ affected.under.held still_left ends_then
+        (found_whole then e2.id ss (shelf_of e2) led.under.store.kept.whole led.under.store.found)
+        _ affected.under.held still_left ends_then
         led.under.held led.under.root (rw were waits)
 
     -- what more is led to comes of the effect

@@ -1,5 +1,11 @@
 -- A collection that is under way with no unit loose or due is calm, and a calm one is such.
-use Rattle.forest_steps.proofs.Common.{◌≡◌, ◌<◌, ℕ, ◌==◌, refl, ap, sym, ◌∙◌, subst, true, false, inl, List, [], map, length, get_or, Option, Some, None, find, list_any, option_map_or, NodeKey, Buffers, same_key, In-list_any, In-any, Table, node_at, Entry, Node, Unit, AreUnits, waiting, IsStored, IsWhole, Shelf, collection_in, nodes_with, place_in, shelf_of, shelves_of, is_deserted_node, is_next_node, Handles, AreCounted, IsCounted, HaveUnits, has_buffers, none_calm, found_whole, counted_but, place_is, arith, MayClose, MidEvent, is_next_except, found_counted, are_held_except, waits_among, unit_at, unit_of, In, in_all, all_at, In-map-back, In-find}
+use Rattle.forest_steps.proofs.Common.{◌≡◌, ◌<◌, ℕ, ◌==◌, refl, ap, sym, ◌∙◌, subst, true, false, inl, List, [], map, length}
+use Rattle.forest_steps.proofs.Common.{get_or, Option, Some, None, find, list_any, option_map_or, NodeKey, Buffers, same_key}
+use Rattle.forest_steps.proofs.Common.{In-list_any, In-any, Table, node_at, Entry, Node, Unit, AreUnits, waiting, IsStored, IsWhole}
+use Rattle.forest_steps.proofs.Common.{Shelf, collection_in, nodes_with, place_in, shelf_of, shelves_of, is_deserted_node}
+use Rattle.forest_steps.proofs.Common.{is_next_node, Handles, AreCounted, IsCounted, HaveUnits, has_buffers, none_calm, found_whole}
+use Rattle.forest_steps.proofs.Common.{counted_but, place_is, arith, MayClose, MidEvent, is_next_except, found_counted}
+use Rattle.forest_steps.proofs.Common.{are_held_except, waits_among, unit_at, unit_of, In, in_all, all_at, In-map-back, In-find}
 use Rattle.forest_store.proofs.quiescence.Calming.{later, AreNone, calm_none}
 use Rattle.std.proofs.Math.Bool.{and-true}
 use Rattle.sm_names.proofs.ListLaws.{find-none, none-find}
@@ -38,7 +44,8 @@ pub under_with : {t : Table Node} {us : List Unit} {ss : List Shelf} {e : Entry}
 under_with under held next root = record { store = under.store; bare = under.bare; held = held; next = next; root = root }
 
 -- no node is deserted where no unit is loose
-pub no_end_under : {t : Table Node} {us : List Unit} {ss : List Shelf} {e : Entry} {pending : List NodeKey} → MidEvent t us ss e [] pending →
+pub no_end_under : {t : Table Node} {us : List Unit} {ss : List Shelf} {e : Entry} {pending : List NodeKey} →
+    MidEvent t us ss e [] pending →
     find (is_deserted_node (nodes_with t e.keys.items)) (nodes_with t e.keys.items) ≡ None
 no_end_under {t} {e} under =
     let whole = whole_under under in
@@ -55,6 +62,7 @@ none_under {t} {e} under = record {
   no_head = from e.buffers;
 }
   where
+    -- by cases on the buffers: no node is next
     from : (o : Option Buffers) → later (nodes_with t e.keys.items) o ≡ None
     from o = grind (arith, find-none, next_none)
 
@@ -116,7 +124,8 @@ module _ {t : Table Node} (us : List Unit) {ss : List Shelf} {e : Entry} (kept :
   }
 
 -- the collection to which a change may be made
-pub ready_under : {t : Table Node} (us : List Unit) (es : List Entry) (id : ℕ) {at : ℕ} (e : Entry) → place_in id es ≡ Some at → e ≡ get_or es at e →
+pub ready_under : {t : Table Node} (us : List Unit) (es : List Entry) (id : ℕ) {at : ℕ} (e : Entry) →
+    place_in id es ≡ Some at → e ≡ get_or es at e →
     IsStored t (shelves_of es) → AreCounted t es → HaveUnits us t es →
     ((key : NodeKey) (n : Node) → node_at t key ≡ Some n → key.slot < length us) →
     (e.buffers ≡ None → list_any has_buffers (nodes_with t e.keys.items) ≡ false) →
@@ -129,7 +138,8 @@ ready_under {t} us es id {at} e told is kept all units inside bare =
     (found_counted t id es e all (place.found e ∙ ap Some (sym is))) units inside bare
 
 -- and it may be closed
-pub ready_close : (handles : Handles) {t : Table Node} {us : List Unit} (es : List Entry) (id : ℕ) {at : ℕ} {e : Entry} → place_in id es ≡ Some at →
+pub ready_close : (handles : Handles) {t : Table Node} {us : List Unit} (es : List Entry) (id : ℕ) {at : ℕ} {e : Entry} →
+    place_in id es ≡ Some at →
     e ≡ get_or es at e → AreCounted t es → MidEvent t us (shelves_of es) e [] [] → MayClose handles t us es at
 ready_close handles {t} es id {at} {e} told is all under = record {
   entry = e;

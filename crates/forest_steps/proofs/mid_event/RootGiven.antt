@@ -1,5 +1,14 @@
 -- The root's unit is allocated with its buffers, and the attached units that follow have their turns.
-use Rattle.forest_steps.proofs.Common.{◌≡◌, ◌≢◌, ℕ, ◌==◌, nat_lt, refl, ap, sym, ◌∙◌, subst, Bool, true, false, not, ◌&&◌, is_none, inl, inr, List, [], ◌∷◌, map, Option, Some, None, eqb-true, find, list_any, option_map_or, HeldBuffer, NodeKey, Buffers, same_key, In, and_both, either_way, or_left, same_key-refl, same_key-true, In-any, Table, Entry, Node, Unit, over_except, strong_count, AreUnits, waiting, Collection, IsStored, IsWhole, Shelf, collection_in, nodes_with, put_shelf, shelf_of, is_of, reserved_count, Handles, Settles, is_head, same_key-equal, is_strong, after_allocation, given_few, IsGivenAt, given_at, any_map, times_map, all-In, found_put, IsBareHead, in_all, looked_there, arith, or_false, AllocationOutcome, PendingUnit, IsComing, IsRooted, first_made, shelf_then, IsUnitListed, AreTurns, AfterPropagation, MidEvent, are_held_except, is_head_left, is_next_except, turn_heads, waits_among, kept-put}
+use Rattle.forest_steps.proofs.Common.{◌≡◌, ◌≢◌, ℕ, ◌==◌, nat_lt, refl, ap, sym, ◌∙◌, subst, Bool, true, false, not, ◌&&◌, is_none}
+use Rattle.forest_steps.proofs.Common.{inl, inr, List, [], ◌∷◌, map, Option, Some, None, eqb-true, find, list_any, option_map_or}
+use Rattle.forest_steps.proofs.Common.{HeldBuffer, NodeKey, Buffers, same_key, In, and_both, either_way, or_left, same_key-refl}
+use Rattle.forest_steps.proofs.Common.{same_key-true, In-any, Table, Entry, Node, Unit, over_except, strong_count, AreUnits}
+use Rattle.forest_steps.proofs.Common.{waiting, Collection, IsStored, IsWhole, Shelf, collection_in, nodes_with, put_shelf}
+use Rattle.forest_steps.proofs.Common.{shelf_of, is_of, reserved_count, Handles, Settles, is_head, same_key-equal, is_strong}
+use Rattle.forest_steps.proofs.Common.{after_allocation, given_few, IsGivenAt, given_at, any_map, times_map, all-In, found_put}
+use Rattle.forest_steps.proofs.Common.{IsBareHead, in_all, looked_there, arith, or_false, AllocationOutcome, PendingUnit, IsComing}
+use Rattle.forest_steps.proofs.Common.{IsRooted, first_made, shelf_then, IsUnitListed, AreTurns, AfterPropagation, MidEvent}
+use Rattle.forest_steps.proofs.Common.{are_held_except, is_head_left, is_next_except, turn_heads, waits_among, kept-put}
 use Rattle.forest_steps.proofs.changes.Dropped.{nothing_stored}
 use Rattle.forest_steps.proofs.changes.FirstAllocated.{all_there, found_there, units_there}
 use Rattle.forest_steps.proofs.allocation.RootUnit.{waits_none}
@@ -8,7 +17,8 @@ use Rattle.forest_steps.proofs.mid_event.NextThere.{next_fewer, wait_among}
 use Rattle.forest_steps.proofs.mid_event.Ready.{whole_under, under_with}
 use Rattle.forest_steps.proofs.mid_event.RootLost.{IsReadyRoot, ready_root}
 use Rattle.forest_steps.proofs.mid_event.Turns.{hangs_more, turns_behind}
-use Rattle.forest_steps.proofs.mid_event.UnitGiven.{IsUnitGiven, closed_given, f, given_is, held_then, next_parts, next_then, served, unit_given, was_there}
+use Rattle.forest_steps.proofs.mid_event.UnitGiven.{IsUnitGiven, closed_given, f, given_is, held_then}
+use Rattle.forest_steps.proofs.mid_event.UnitGiven.{next_parts, next_then, served, unit_given, was_there}
 use Rattle.forest_steps.proofs.tables.Rows.{same_on}
 use Rattle.forest_steps.proofs.tables.Upward.{own_head}
 
@@ -23,10 +33,12 @@ in_put new (s ∷ ss) x on differ = elim (either_way (s.id == new.id)) [
   ])
 ]
   where
+    -- by cases: the shelf with the id is not this one, which stays behind
     by : In x (s ∷ ss) → s.id ≡ new.id → In x (new ∷ ss)
     by (inl is) same = absurd (differ (ap (λ (y : Shelf). y.id) is ∙ same))
     by (inr there) same = inr there
 
+    -- by cases: the first shelf stays, and the others are behind it
     rest : (In x ss → In x (put_shelf new ss)) → In x (s ∷ ss) → In x (s ∷ put_shelf new ss)
     rest more (inl is) = inl is
     rest more (inr there) = inr (more there)
@@ -39,6 +51,7 @@ under_due {t} {e} {few} more all under =
     under_with under under.held (next_fewer (nodes_with t e.keys.items) few _ under.next (λ n on is h. all n.key h))
     (from (waiting (nodes_with t e.keys.items)) under.root)
   where
+    -- by cases: the node that waits is among few, and these are among more
     from : (o : Option Node) → option_map_or (λ (n : Node). list_any (same_key n.key) few) o true ≡ true →
         option_map_or (λ (n : Node). list_any (same_key n.key) more) o true ≡ true
     from None h = refl
@@ -65,6 +78,7 @@ module _ {t now : Table Node} {us : List Unit} {ss : List Shelf} {e : Entry} {k 
   abbrev s' : Shelf
   s' = record { id = e.id; keys = e.keys.items; buffers = Some buffers; held = held }
 
+  -- the shelves once the new one is put
   abbrev ss' : List Shelf
   ss' = put_shelf s' ss
 
@@ -127,7 +141,8 @@ module _ {t now : Table Node} {us : List Unit} {ss : List Shelf} {e : Entry} {k 
   kept' : IsStored t ss'
   kept' =
       let put_same : put_shelf (shelf_of e) ss ≡ ss = found_put s ss u.store.kept.rising u.store.found in
-      kept-put t t e.id [] (nothing_stored t) u.store.kept.named refl refl s' s ss refl refl u.store.kept.rising (rw put_same u.store.kept) tt tt
+      kept-put t t e.id [] (nothing_stored t) u.store.kept.named refl refl s' s ss refl refl u.store.kept.rising
+      (rw put_same u.store.kept) tt tt
       (all_there s s' refl _ ss u.store.kept.rising u.store.found whole' u.store.kept.whole)
 
   -- the shelf is found where it was put
@@ -181,7 +196,8 @@ module _ {t now : Table Node} {us : List Unit} {ss : List Shelf} {e : Entry} {k 
 
     -- ---- under way
 
-    module _ (new : Entry) (shelf : shelf_of new ≡ s') (strong : new.strong ≡ e.strong) (garbage_known : new.garbage_known ≡ e.garbage_known)
+    module _ (new : Entry) (shelf : shelf_of new ≡ s') (strong : new.strong ≡ e.strong)
+        (garbage_known : new.garbage_known ≡ e.garbage_known)
         (garbage : new.garbage.items ≡ e.garbage.items)
         (reserved : new.reserved ≡ reserved_count (after_allocation k (nodes_with t e.keys.items))) where
       -- the same nodes, by the same keys

@@ -1,5 +1,10 @@
 -- A root whose unit becomes ready, and is lost instead.
-use Rattle.forest_steps.proofs.Common.{◌≡◌, refl, ap, sym, ◌∙◌, subst, true, false, not, ◌&&◌, inl, List, [], ◌∷◌, Option, Some, None, not-true, find, list_all, option_and_then, NodeKey, Cause, when, In, In-find, and_left, and_right, Table, Entry, Node, Unit, waiting, with_nodes, Shelf, collection_in, nodes_with, put_shelf, shelf_of, is_ready_node, is_root_left, Handles, Failure, after_loss, found_put, left_in, arith, AllocationOutcome, IsComing, IsRooted, MidEvent, AfterRemoval, MayGo, when-Some, none_if, map, and_both, In-map, is_some, drop}
+use Rattle.forest_steps.proofs.Common.{◌≡◌, refl, ap, sym, ◌∙◌, subst, true, false, not, ◌&&◌, inl, List, [], ◌∷◌, Option}
+use Rattle.forest_steps.proofs.Common.{Some, None, not-true, find, list_all, option_and_then, NodeKey, Cause, when, In}
+use Rattle.forest_steps.proofs.Common.{In-find, and_left, and_right, Table, Entry, Node, Unit, waiting, with_nodes, Shelf}
+use Rattle.forest_steps.proofs.Common.{collection_in, nodes_with, put_shelf, shelf_of, is_ready_node, is_root_left, Handles}
+use Rattle.forest_steps.proofs.Common.{Failure, after_loss, found_put, left_in, arith, AllocationOutcome, IsComing, IsRooted}
+use Rattle.forest_steps.proofs.Common.{MidEvent, AfterRemoval, MayGo, when-Some, none_if, map, and_both, In-map, is_some, drop}
 use Rattle.forest_steps.proofs.failures.AllGone.{AreGone, held_gone, next_gone, root_gone}
 use Rattle.forest_steps.proofs.mid_event.Ready.{whole_under, under_with}
 use Rattle.forest_steps.proofs.mid_event.Roots.{all_lost}
@@ -20,6 +25,7 @@ pub record IsReadyRoot (nodes : List Node) (root : Node) : Type 0 where
 pub ready_root : (nodes : List Node) {root : Node} → waiting nodes ≡ Some root → IsReadyRoot nodes root
 ready_root nodes {root} waits = from (find is_root_left nodes) refl waits
   where
+    -- by cases: without a root none waits, and one that waits passed each test
     from : (o : Option Node) → find is_root_left nodes ≡ o →
         option_and_then (λ (r : Node). when (not r.allocated && list_all (is_ready_node r.key) nodes) r) o ≡ Some root →
         IsReadyRoot nodes root

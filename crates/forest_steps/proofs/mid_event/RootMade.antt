@@ -1,5 +1,12 @@
 -- An effect makes the root's unit ready: what is forced then.
-use Rattle.forest_steps.proofs.Common.{◌≡◌, ℕ, refl, ap, sym, ◌∙◌, subst, Bool, true, false, not, ◌||◌, inl, inr, is_none, ◌⊎◌, List, [], ◌∷◌, ◌++◌, map, Option, Some, None, find, list_any, HeldBuffer, Interval, NodeKey, Buffers, Cause, same_key, when, either_way, same_key-true, all_on, Table, Entry, Node, Unit, has_strong, Collection, Shelf, nodes_with, is_deserted_node, Failure, outcome, names, places, pages_of, first_some, Holdings, with_buffers, Decision, Loses, Places, decided, first_step, mark_of, wanted_by, pages_in, after_allocation, IsSound, by_page, made, all-In, arith, Result, Ok, Err, laid_out, AllocationOutcome, IsPlacing, IsComing, IsAllocationOutcome, first_made, wants_of, MidEvent, holds_unit, is_held}
+use Rattle.forest_steps.proofs.Common.{◌≡◌, ℕ, refl, ap, sym, ◌∙◌, subst, Bool, true, false, not, ◌||◌, inl, inr, is_none, ◌⊎◌}
+use Rattle.forest_steps.proofs.Common.{List, [], ◌∷◌, ◌++◌, map, Option, Some, None, find, list_any, HeldBuffer, Interval}
+use Rattle.forest_steps.proofs.Common.{NodeKey, Buffers, Cause, same_key, when, either_way, same_key-true, all_on, Table}
+use Rattle.forest_steps.proofs.Common.{Entry, Node, Unit, has_strong, Collection, Shelf, nodes_with, is_deserted_node, Failure}
+use Rattle.forest_steps.proofs.Common.{outcome, names, places, pages_of, first_some, Holdings, with_buffers, Decision, Loses}
+use Rattle.forest_steps.proofs.Common.{Places, decided, first_step, mark_of, wanted_by, pages_in, after_allocation, IsSound}
+use Rattle.forest_steps.proofs.Common.{by_page, made, all-In, arith, Result, Ok, Err, laid_out, AllocationOutcome, IsPlacing}
+use Rattle.forest_steps.proofs.Common.{IsComing, IsAllocationOutcome, first_made, wants_of, MidEvent, holds_unit, is_held}
 use Rattle.std.specs.Option.{IfSome}
 use Rattle.forest_store.specs.Decisions.{IsStep}
 use Rattle.forest_store.proofs.quiescence.Steps.{decided_steps}

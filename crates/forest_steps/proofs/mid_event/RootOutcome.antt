@@ -1,5 +1,15 @@
 -- An effect makes the root's unit ready, and the allocation and all that follows are made: the forest then.
-use Rattle.forest_steps.proofs.Common.{◌≡◌, ℕ, refl, ap, sym, ◌∙◌, subst, true, false, inl, inr, List, [], ◌∷◌, ◌++◌, map, get_or, set, Some, None, option_map, find, list_any, sum_by, HeldBuffer, Interval, NodeKey, Demand, forced, Table, Change, Effect, Entry, Node, Unit, has_strong, waiting, Collection, with_nodes, Shelf, collection_in, forest_of, nodes_with, place_in, put_shelf, shelf_of, shelves_of, affected, is_deserted_node, reserved_count, Handles, collection_or_new, put, standing, get_or-set_same, Mark, sorted_by, Holdings, first_step, mark_of, wanted_by, IsPoolOf, all_held, beside, pages_in, IsOpen, Finishes, after_allocation, IsOutcomeIn, IsReady, IsSettledIn, changed_in, starts_differ, by_page, asked_with, Forces, changed, made, no_key, forced_made, start_of, counted_but, shelves_put, IsPlace, place_is, set_put, arith, AllocationOutcome, Closes, MayClose, IsComing, IsPlanned, IsRooted, IsAllocationOutcome, comes_first, first_made, shelf_then, wants_of, AfterEffect, IsBeside, MidEvent, Reaches, are_held_except, holds_unit}
+use Rattle.forest_steps.proofs.Common.{◌≡◌, ℕ, refl, ap, sym, ◌∙◌, subst, true, false, inl, inr, List, [], ◌∷◌, ◌++◌, map, get_or}
+use Rattle.forest_steps.proofs.Common.{set, Some, None, option_map, find, list_any, sum_by, HeldBuffer, Interval, NodeKey, Demand}
+use Rattle.forest_steps.proofs.Common.{forced, Table, Change, Effect, Entry, Node, Unit, has_strong, waiting, Collection, with_nodes}
+use Rattle.forest_steps.proofs.Common.{Shelf, collection_in, forest_of, nodes_with, place_in, put_shelf, shelf_of, shelves_of}
+use Rattle.forest_steps.proofs.Common.{affected, is_deserted_node, reserved_count, Handles, collection_or_new, put, standing}
+use Rattle.forest_steps.proofs.Common.{get_or-set_same, Mark, sorted_by, Holdings, first_step, mark_of, wanted_by, IsPoolOf, all_held}
+use Rattle.forest_steps.proofs.Common.{beside, pages_in, IsOpen, Finishes, after_allocation, IsOutcomeIn, IsReady, IsSettledIn}
+use Rattle.forest_steps.proofs.Common.{changed_in, starts_differ, by_page, asked_with, Forces, changed, made, no_key, forced_made}
+use Rattle.forest_steps.proofs.Common.{start_of, counted_but, shelves_put, IsPlace, place_is, set_put, arith, AllocationOutcome}
+use Rattle.forest_steps.proofs.Common.{Closes, MayClose, IsComing, IsPlanned, IsRooted, IsAllocationOutcome, comes_first, first_made}
+use Rattle.forest_steps.proofs.Common.{shelf_then, wants_of, AfterEffect, IsBeside, MidEvent, Reaches, are_held_except, holds_unit}
 use Rattle.forest_steps.specs.declared.initial_allocation.Plan.{Plan}
 use Rattle.forest_store.specs.Calm.{put_in}
 use Rattle.forest_steps.specs.InitialAllocation.{IsReservedThen}
@@ -12,7 +22,8 @@ use Rattle.forest_steps.proofs.mid_event.Joining.{but_beside, but_set, here_is, 
 use Rattle.forest_steps.proofs.mid_event.Ready.{no_end_under}
 use Rattle.forest_steps.proofs.mid_event.RootMade.{coming_decided, step_made, under_held}
 use Rattle.forest_steps.proofs.mid_event.Stepping.{node_there}
-use Rattle.forest_steps.proofs.mid_event.RootReady.{comes_coming, comes_held, none_waits_held, strong_then, sound_then, reserved_alone, wanted_then, reserved_then}
+use Rattle.forest_steps.proofs.mid_event.RootReady.{comes_coming, comes_held, none_waits_held, strong_then}
+use Rattle.forest_steps.proofs.mid_event.RootReady.{sound_then, reserved_alone, wanted_then, reserved_then}
 
 -- the shelf's id and keys stay
 then_id : (v : AllocationOutcome) (s : Shelf) → (shelf_then v s).id ≡ s.id
@@ -126,7 +137,8 @@ module _ (handles : Handles) {t : Table Node} {es : List Entry} {id at : ℕ} {o
       ∙ ((λ i. wants_of (strong_then key effect planned.was opens i)
       (wanted_then key effect planned.was opens comes planned.listed i)))
 
-  module _ (before between : Holdings) (verdict : AllocationOutcome) (found : IsAllocationOutcome before between id old.held.items plan.wants verdict) where
+  module _ (before between : Holdings) (verdict : AllocationOutcome)
+      (found : IsAllocationOutcome before between id old.held.items plan.wants verdict) where
     module _ (parted : starts_differ before.held ≡ true)
         (of : before.held ≡ sorted_by start_of (map (λ (h : HeldBuffer). h.pages) (all_held (forest_of t (shelves_of es)))))
         {then : Table Node} {units : List Unit} {new : Entry}
@@ -150,7 +162,8 @@ module _ (handles : Handles) {t : Table Node} {es : List Entry} {id at : ℕ} {o
       -- the verdict is what the step makes
       step : (made before.size others mark c1 ≡ first_made n.head verdict c1)
           × (between.held ≡ by_page (pages_in (first_made n.head verdict c1) ++ others))
-      step = step_made (sound_then key effect planned.was opens) coming1 no_end1 before between others beside_is plan.wants wants_are verdict
+      step = step_made (sound_then key effect planned.was opens) coming1 no_end1 before
+          between others beside_is plan.wants wants_are verdict
           (subst (λ i. IsAllocationOutcome before between i old.held.items plan.wants verdict) (sym own_id) found)
 
       -- what is decided is what is forced

@@ -1,6 +1,19 @@
 -- By the counts an effect makes the root's unit ready exactly where its nodes tell so; a walk over the unit alone tells what these ask
 -- for with the effect, and what is reserved once it is allocated.
-use Rattle.forest_steps.proofs.Common.{◌≡◌, ℕ, ◌+◌, ◌==◌, nat_lt, refl, ap, sym, ◌∙◌, Bool, true, false, not, ◌&&◌, ◌||◌, is_none, inl, inr, List, [], ◌∷◌, map, Option, Some, None, arith, not-true, list_all, list_any, option_and_then, option_map_or, NodeKey, same_key, times, when, In, In-map, In-map-back, and_both, and_left, and_right, both_ways, either_way, same_key-refl, same_key-true, all_on, Table, node_at, Change, Effect, Node, Unit, lives_in, unit_at, waits_in, has_strong, waiting, Shelf, collection_in, nodes_with, affected, is_live_node, is_ready_node, is_root_left, is_head, hangs_in, heads_below, is_unready, unit_of, IsOpen, is_strong, count_none, none_calm, all-In, same_affected, remains_affected, IsSameNode, all_at, or-true, unit_then, bit, IsComing, comes_first, is_bare_root, is_held_ready, are_held_except, holds_unit, decremented, live_before, strong_before, unready_before, below_mapped, subst, if◌then◌else◌, sum_by, Demand, false_if, reserved_count, greatest, map-In, Going, wanted_by, after_allocation, demands_of, is_in_unit, asked_with, is_in_some, in_looked, IsBareHead, key_listed, in_all, looked_there, camped_sum, or_false, IsUnitListed, amount_map, amount_within, Cause, written, given_buffers, has_buffers, IsSound, allocated_with, In-find, with_nodes, IsWhole, IsLeft, distinct_one, left_node, alone_affected, IsSound-map}
+use Rattle.forest_steps.proofs.Common.{◌≡◌, ℕ, ◌+◌, ◌==◌, nat_lt, refl, ap, sym, ◌∙◌, Bool, true, false, not, ◌&&◌, ◌||◌, is_none, inl}
+use Rattle.forest_steps.proofs.Common.{inr, List, [], ◌∷◌, map, Option, Some, None, arith, not-true, list_all, list_any, option_and_then}
+use Rattle.forest_steps.proofs.Common.{option_map_or, NodeKey, same_key, times, when, In, In-map, In-map-back, and_both, and_left}
+use Rattle.forest_steps.proofs.Common.{and_right, both_ways, either_way, same_key-refl, same_key-true, all_on, Table, node_at, Change}
+use Rattle.forest_steps.proofs.Common.{Effect, Node, Unit, lives_in, unit_at, waits_in, has_strong, waiting, Shelf, collection_in}
+use Rattle.forest_steps.proofs.Common.{nodes_with, affected, is_live_node, is_ready_node, is_root_left, is_head, hangs_in, heads_below}
+use Rattle.forest_steps.proofs.Common.{is_unready, unit_of, IsOpen, is_strong, count_none, none_calm, all-In, same_affected}
+use Rattle.forest_steps.proofs.Common.{remains_affected, IsSameNode, all_at, or-true, unit_then, bit, IsComing, comes_first, is_bare_root}
+use Rattle.forest_steps.proofs.Common.{is_held_ready, are_held_except, holds_unit, decremented, live_before, strong_before, unready_before}
+use Rattle.forest_steps.proofs.Common.{below_mapped, subst, if◌then◌else◌, sum_by, Demand, false_if, reserved_count, greatest, map-In}
+use Rattle.forest_steps.proofs.Common.{Going, wanted_by, after_allocation, demands_of, is_in_unit, asked_with, is_in_some, in_looked}
+use Rattle.forest_steps.proofs.Common.{IsBareHead, key_listed, in_all, looked_there, camped_sum, or_false, IsUnitListed, amount_map}
+use Rattle.forest_steps.proofs.Common.{amount_within, Cause, written, given_buffers, has_buffers, IsSound, allocated_with, In-find}
+use Rattle.forest_steps.proofs.Common.{with_nodes, IsWhole, IsLeft, distinct_one, left_node, alone_affected, IsSound-map}
 use Rattle.std.proofs.lemmas.Bool.{ne_eqb}
 use Rattle.forest_store.proofs.allocation.Before.{whole_before}
 use Rattle.forest_steps.proofs.tables.Upward.{head_there, own_head}
@@ -11,7 +24,8 @@ use Rattle.forest_store.proofs.tallies.Amounts.{times_changed}
 use Rattle.forest_store.proofs.tallies.Reckoning.{lives_own, waits_own}
 use Rattle.forest_steps.proofs.mid_event.RootLost.{IsReadyRoot, ready_root, waits_was}
 use Rattle.forest_steps.specs.First.{wanted_of}
-use Rattle.forest_steps.proofs.allocation.Sums.{reserved_all, asked_back, asked_is, asked_of, asks_passes, joined, mapped, reserved_same, greatest_same}
+use Rattle.forest_steps.proofs.allocation.Sums.{reserved_all, asked_back, asked_is, asked_of, asks_passes}
+use Rattle.forest_steps.proofs.allocation.Sums.{joined, mapped, reserved_same, greatest_same}
 use Rattle.forest_steps.proofs.mid_event.UnitGiven.{given_is}
 use Rattle.forest_steps.proofs.mid_event.Listed.{key_within, of_unit}
 use Rattle.forest_steps.specs.InitialAllocation.{has_buffers_then}
@@ -31,6 +45,7 @@ ready_told head (n ∷ ns) = elim (either_way (is_ready_node head n)) [
   | inr e ↦ rw e (above (times (waits_in head) ns))
 ]
   where
+    -- since it is more than 0
     above : (k : ℕ) → (k + 1 == 0) ≡ false
     above k = ne_eqb (k + 1) 0 (λ e. omega (arith, e))
 
@@ -44,9 +59,11 @@ holds_told nodes head (n ∷ ns) =
     ∙ ap (λ b. b || list_any (holds_unit nodes head) ns)
     (one n.gone n.released (same_key n.head head) (n.attached && hangs_in nodes head n)))
   where
+    -- by arithmetic of switches
     mix : (a b c d : Bool) → ((a || c) || (b || d)) ≡ ((a || b) || (c || d))
     mix a b c d = grind arith
 
+    -- by arithmetic of switches
     one : (g r s h : Bool) → (((not g && not r) && s) || (not g && h)) ≡ (not g && ((s && not r) || h))
     one g r s h = grind arith
 
@@ -168,7 +185,8 @@ module _ {t : Table Node} {us : List Unit} (key : NodeKey) (effect : Effect) {n 
       (count_is _ ∙ ap (λ k. k + bit (is_strong (f n))) (sym opens.strong))) ∙ some_told _ now
 
   -- the effect concerns the one node with its key
-  written_is : (ns : List Node) → ((m : Node) → In m ns → In m nodes) → map (written (affected key effect n)) ns ≡ map (affected key effect) ns
+  written_is : (ns : List Node) → ((m : Node) → In m ns → In m nodes) →
+      map (written (affected key effect n)) ns ≡ map (affected key effect) ns
   written_is ns within = map-In _ f _ (λ m there.
       let swap : same_key (f n).key m.key ≡ same_key n.key m.key = ap (λ j. same_key j m.key) (same n).key in
       elim (either_way (same_key n.key m.key)) [
@@ -343,7 +361,8 @@ module _ {t : Table Node} {us : List Unit} (key : NodeKey) (effect : Effect) {n 
           ≡ reserved_count (after_allocation n.head (map (affected key effect) (nodes_with t s.keys)))
       reserved_alone none =
           let before : reserved_count now ≡ 0 = sym reserved_is ∙ none in
-          let unit : sum_by (λ (d : Demand). d.camping) (demands_of (is_in_some (n.head ∷ [])) now) ≡ sum_by (λ (d : Demand). d.camping) all =
+          let unit : sum_by (λ (d : Demand). d.camping) (demands_of (is_in_some (n.head ∷ [])) now)
+          ≡ sum_by (λ (d : Demand). d.camping) all =
           (λ i. sum_by (λ (d : Demand). d.camping) (demands_of (λ (m : Node). not m.gone && or_false (same_key m.head n.head) i) now)) in
           let given = reserved_all now (n.head ∷ []) bare_now in
           let same_given : reserved_count (after_allocation n.head now) ≡ reserved_count now + sum_by (λ (d : Demand). d.camping)

@@ -1,5 +1,9 @@
 -- The root of a collection: what its loss takes, and that it is lost where the buffers are abandoned.
-use Rattle.forest_steps.proofs.Common.{◌≡◌, refl, ap, sym, ◌∙◌, subst, Bool, true, false, ◌&&◌, inl, inr, List, [], ◌∷◌, reverse, Option, Some, None, not-true, find, option_map_or, NodeKey, Buffers, Cause, In, In-map, and_left, and_right, either_way, or_left, or_right, Table, node_at, Node, has_strong, Collection, IsWhole, nodes_with, is_deserted_node, is_root_left, Fault, In-reverse, In-reverse-back, Loses, decided, has_given_root, above_among, after_loss, is_taken, is_below, found_by_key, left_in, arith, one_line}
+use Rattle.forest_steps.proofs.Common.{◌≡◌, refl, ap, sym, ◌∙◌, subst, Bool, true, false, ◌&&◌, inl, inr, List, [], ◌∷◌, reverse, Option}
+use Rattle.forest_steps.proofs.Common.{Some, None, not-true, find, option_map_or, NodeKey, Buffers, Cause, In, In-map, and_left, and_right}
+use Rattle.forest_steps.proofs.Common.{either_way, or_left, or_right, Table, node_at, Node, has_strong, Collection, IsWhole, nodes_with}
+use Rattle.forest_steps.proofs.Common.{is_deserted_node, is_root_left, Fault, In-reverse, In-reverse-back, Loses, decided, has_given_root}
+use Rattle.forest_steps.proofs.Common.{above_among, after_loss, is_taken, is_below, found_by_key, left_in, arith, one_line}
 use Rattle.forest_steps.proofs.tables.Upward.{below_parent, below_self, chain, up}
 use Rattle.forest_steps.proofs.failures.AllGone.{AreGone, all_hang, one_root}
 
@@ -54,6 +58,7 @@ pub given_root : (t : Table Node) → ((key : NodeKey) (n : Node) → node_at t 
 given_root t named [] given = let no : false ≡ true = given in absurd (cc)
 given_root t named (k ∷ ks) given = from (node_at t k) refl given
   where
+    -- by cases: the first key finds no node, or a root with buffers
     from : (o : Option Node) → node_at t k ≡ o → option_map_or (λ (n : Node). is_root_left n && n.allocated) o false ≡ true →
         IsGivenRoot t (k ∷ ks)
     from None is h = let no : false ≡ true = h in absurd (cc)

@@ -1,5 +1,12 @@
 -- Steps that were made from a collection to which a change was made, joined to the whole event.
-use Rattle.forest_steps.proofs.Common.{◌≡◌, ℕ, zero, suc, ◌<◌, length, arith, true, false, refl, ap, subst, ◌∙◌, List, [], ◌∷◌, ◌++◌, map, set, get_or, Option, Some, None, HeldBuffer, NodeKey, Interval, Table, node_at, Change, Entry, Node, Unit, IsStored, Shelf, collection_in, forest_of, place_in, shelf_of, shelves_of, Handles, sorted_by, Holdings, row_at, AreCountedExcept, IsPoolOf, all_held, beside, IsOutcomeIn, IsReady, changed_in, given_few, changed, is_birth, no_key, found_whole, counted_but, place_is, shelf_found, IsSome, Closes, MayClose, IsServedByGiven, PropagatedFrom, MidEvent, Reaches, node_is, inl, inr, sym, cons_option, list_any, same_key, In, or_cases, same_key-true, AreUnits, all_keys, nodes_with, list_any-append, in_all, HaveUnits, IsOutcomeAt, IsReadyAt}
+use Rattle.forest_steps.proofs.Common.{◌≡◌, ℕ, zero, suc, ◌<◌, length, arith, true, false, refl, ap, subst, ◌∙◌, List, [], ◌∷◌, ◌++◌}
+use Rattle.forest_steps.proofs.Common.{map, set, get_or, Option, Some, None, HeldBuffer, NodeKey, Interval, Table, node_at, Change}
+use Rattle.forest_steps.proofs.Common.{Entry, Node, Unit, IsStored, Shelf, collection_in, forest_of, place_in, shelf_of, shelves_of}
+use Rattle.forest_steps.proofs.Common.{Handles, sorted_by, Holdings, row_at, AreCountedExcept, IsPoolOf, all_held, beside, IsOutcomeIn}
+use Rattle.forest_steps.proofs.Common.{IsReady, changed_in, given_few, changed, is_birth, no_key, found_whole, counted_but, place_is}
+use Rattle.forest_steps.proofs.Common.{shelf_found, IsSome, Closes, MayClose, IsServedByGiven, PropagatedFrom, MidEvent, Reaches}
+use Rattle.forest_steps.proofs.Common.{node_is, inl, inr, sym, cons_option, list_any, same_key, In, or_cases, same_key-true, AreUnits}
+use Rattle.forest_steps.proofs.Common.{all_keys, nodes_with, list_any-append, in_all, HaveUnits, IsOutcomeAt, IsReadyAt}
 use Rattle.forest_store.specs.Settling.{is_there as is_there_in}
 use Rattle.forest_store.proofs.changes.Altering.{change_kept}
 use Rattle.forest_store.proofs.shelves.Entries.{none_in}
@@ -22,6 +29,7 @@ pub inside_of : {t : Table Node} (us : List Unit) (es : List Entry) → IsStored
     (key : NodeKey) {n : Node} → node_at t key ≡ Some n → key.slot < length us
 inside_of {t} us es kept units key {n} is = from (shelves_of es) units (kept.there key n is)
   where
+    -- by induction: the shelf with the key has the counts of its unit
     from : (ss : List Shelf) → AreUnits us (map (collection_in t) ss) → list_any (same_key key) (all_keys ss) ≡ true →
         key.slot < length us
     from [] all h = let no : false ≡ true = h in absurd (cc)
@@ -59,10 +67,12 @@ pub row_there : {t : Table Node} {ss : List Shelf} → IsStored t ss → (id : �
 row_there {t} {ss} kept id key there = grind (arith, node_is)
 
 -- and it is that node, which is not gone, and of the collection
-pub node_there : {t : Table Node} {ss : List Shelf} → IsStored t ss → (id : ℕ) (key : NodeKey) → is_there_in (forest_of t ss) id key ≡ true →
+pub node_there : {t : Table Node} {ss : List Shelf} → IsStored t ss → (id : ℕ) (key : NodeKey) →
+    is_there_in (forest_of t ss) id key ≡ true →
     (n : Node) × (node_at t key ≡ Some n) × (n.gone ≡ false) × (n.collection ≡ id)
 node_there {t} {ss} kept id key there = by (node_at t key) refl
   where
+    -- by cases on the node: the test says each part of one that is there
     by : (o : Option Node) → node_at t key ≡ o → (n : Node) × (node_at t key ≡ Some n) × (n.gone ≡ false) × (n.collection ≡ id)
     by o h = grind (arith, node_is)
 
@@ -93,7 +103,8 @@ module _ (handles : Handles) {t : Table Node} {us : List Unit} {es : List Entry}
 
   -- ---- steps that were made from these nodes
 
-  module _ {between : List Node} (made : changed change no_key (collection_in t (shelf_of e)) ≡ record (collection_in t (shelf_of e)) { nodes = between })
+  module _ {between : List Node}
+      (made : changed change no_key (collection_in t (shelf_of e)) ≡ record (collection_in t (shelf_of e)) { nodes = between })
       {mid : Table Node} {after : List Unit} {new : Entry} (played : PropagatedFrom handles between t mid after (shelves_of es) e new) where
     -- the shelf is the same, so the list of shelves stays
     shelves : shelves_of (set es at new) ≡ shelves_of es
@@ -115,7 +126,8 @@ module _ (handles : Handles) {t : Table Node} {us : List Unit} {es : List Entry}
     placed_played = place_set id at es new new_id told
 
     -- the pool speaks of held buffers alone, which stay
-    pub pool_played : (pool : Holdings) → IsPoolOf pool (forest_of t (shelves_of es)) → IsPoolOf pool (forest_of mid (shelves_of (set es at new)))
+    pub pool_played : (pool : Holdings) → IsPoolOf pool (forest_of t (shelves_of es)) →
+        IsPoolOf pool (forest_of mid (shelves_of (set es at new)))
     pool_played pool of = rw shelves (pool_same pool t mid (shelves_of es) of)
 
     -- the steps lead from the changed collection on
@@ -162,14 +174,16 @@ module _ (handles : Handles) {t : Table Node} {us : List Unit} {es : List Entry}
   pub begins_at : MidEvent t us (shelves_of es) e [] []
   begins_at = begins handles e may.place is may.ready birth
 
-  module _ {between : List Node} (made : changed change no_key (collection_in t (shelf_of e)) ≡ record (collection_in t (shelf_of e)) { nodes = between })
+  module _ {between : List Node}
+      (made : changed change no_key (collection_in t (shelf_of e)) ≡ record (collection_in t (shelf_of e)) { nodes = between })
       {mid : Table Node} {after : List Unit} {new : Entry} (played : PropagatedFrom handles between t mid after (shelves_of es) e new) where
     -- what is due is what is abandoned, or nothing
     pub may_finish : MayClose handles mid after (set es at new) at
     may_finish = may_play _ e may.place is may.ready birth made played
 
     -- the held buffers stay
-    pub pool_there : (pool : Holdings) → IsPoolOf pool (forest_of t (shelves_of es)) → IsPoolOf pool (forest_of mid (shelves_of (set es at new)))
+    pub pool_there : (pool : Holdings) → IsPoolOf pool (forest_of t (shelves_of es)) →
+        IsPoolOf pool (forest_of mid (shelves_of (set es at new)))
     pool_there = pool_played _ e may.place is may.ready birth made played
 
     -- once what comes last is made, all is

@@ -1,5 +1,9 @@
 -- The highest node that a failure takes stands first of what it takes, and its parent stays.
-use Rattle.forest_steps.proofs.Common.{◌≡◌, ◌==◌, refl, ap, sym, ◌∙◌, subst, Bool, true, false, ◌⊎◌, inl, inr, List, [], ◌∷◌, length, Some, arith, find, list_any, option_map_or, NodeKey, same_key, In, both_ways, either_way, false_if, same_key-true, Table, parent_at, Node, is_left_of, IsStored, Shelf, nodes_with, Contains-from_any, list_any-from_Contains, flat_map, Up, IsForest, blocked_at, IsTaken, is_below, is_blocking, IsLeft, left_in, left_node, left_parent}
+use Rattle.forest_steps.proofs.Common.{◌≡◌, ◌==◌, refl, ap, sym, ◌∙◌, subst, Bool, true, false, ◌⊎◌, inl, inr, List, [], ◌∷◌}
+use Rattle.forest_steps.proofs.Common.{length, Some, arith, find, list_any, option_map_or, NodeKey, same_key, In, both_ways}
+use Rattle.forest_steps.proofs.Common.{either_way, false_if, same_key-true, Table, parent_at, Node, is_left_of, IsStored}
+use Rattle.forest_steps.proofs.Common.{Shelf, nodes_with, Contains-from_any, list_any-from_Contains, flat_map, Up, IsForest}
+use Rattle.forest_steps.proofs.Common.{blocked_at, IsTaken, is_below, is_blocking, IsLeft, left_in, left_node, left_parent}
 use Rattle.forest_steps.proofs.tables.Upward.{below_self, line, step, shorter, in_unit_below, below_through}
 use Rattle.std.specs.List.{Contains}
 use Rattle.node_table.specs.Table.{children_at}

@@ -1,6 +1,21 @@
 -- An attached unit that comes to its turn, of those that may: whether it is next, that no other is before it, and that it is allocated
 -- where the buffers are enough, and fails where not.
-use Rattle.forest_steps.proofs.Common.{◌≡◌, ℕ, zero, suc, ◌<◌, ◌≤◌, refl, ap, sym, ◌∙◌, Bool, true, false, not, ◌&&◌, ◌||◌, inl, inr, List, [], ◌∷◌, Option, Some, None, arith, eqb-true, not-true, find, list_all, list_any, option_map_or, NodeKey, same_key, In, In-list_any, In-map, and_both, and_left, and_right, both_ways, either_way, false_if, or_cases, same_key-refl, same_key-true, some-injective, In-any, Table, node_at, Entry, Node, Unit, is_left_of, waiting, Shelf, collection_in, nodes_with, shelf_of, is_of, is_next_node, is_ready_node, Handles, is_waiting_head, IsBareHead, head_own, distinct_one, left_in, PendingUnit, has_turn_at, is_next_there, AreClosed, AreTurns, AfterSteps, MidEvent, hangs_in_some, is_next_except, turn_heads, waits_among, ◌==◌, ◌++◌, lt-ltb, Interval, Buffers, Cause, forced, when, has_strong, is_filed, is_root_left, standing, Failure, first_some, Ends, Loses, decided, first_step, late_failure, mark_of, pages_in, is_held_strongly, forced_made, found_filed, is_abandoned_in, ◌+◌, subst, sum_by, Demand, or_left, over_except, strong_count, Collection, reserved_count, or_none_left, is_strong, demands_of, IsGivenAt, is_root_of, made, any_map, times_map, all-In, Allocated, IsUnitListed, are_held_except, is_coming, or_false, map, reverse, node_of, same_key-equal, Fault, above_among, is_below, GoTogether, found_by_key, AfterLoss, filter_map, greatest, TotalDemand, refusal, asked_there, losing, In-find, members_of, blocks, Member, is_taken, member_of, nat_lt, Forces, Settles, ◌⊎◌}
+use Rattle.forest_steps.proofs.Common.{◌≡◌, ℕ, zero, suc, ◌<◌, ◌≤◌, refl, ap, sym, ◌∙◌, Bool, true, false, not, ◌&&◌, ◌||◌, inl, inr}
+use Rattle.forest_steps.proofs.Common.{List, [], ◌∷◌, Option, Some, None, arith, eqb-true, not-true, find, list_all, list_any}
+use Rattle.forest_steps.proofs.Common.{option_map_or, NodeKey, same_key, In, In-list_any, In-map, and_both, and_left, and_right}
+use Rattle.forest_steps.proofs.Common.{both_ways, either_way, false_if, or_cases, same_key-refl, same_key-true, some-injective, In-any}
+use Rattle.forest_steps.proofs.Common.{Table, node_at, Entry, Node, Unit, is_left_of, waiting, Shelf, collection_in, nodes_with}
+use Rattle.forest_steps.proofs.Common.{shelf_of, is_of, is_next_node, is_ready_node, Handles, is_waiting_head, IsBareHead, head_own}
+use Rattle.forest_steps.proofs.Common.{distinct_one, left_in, PendingUnit, has_turn_at, is_next_there, AreClosed, AreTurns, AfterSteps}
+use Rattle.forest_steps.proofs.Common.{MidEvent, hangs_in_some, is_next_except, turn_heads, waits_among, ◌==◌, ◌++◌, lt-ltb, Interval}
+use Rattle.forest_steps.proofs.Common.{Buffers, Cause, forced, when, has_strong, is_filed, is_root_left, standing, Failure, first_some}
+use Rattle.forest_steps.proofs.Common.{Ends, Loses, decided, first_step, late_failure, mark_of, pages_in, is_held_strongly}
+use Rattle.forest_steps.proofs.Common.{forced_made, found_filed, is_abandoned_in, ◌+◌, subst, sum_by, Demand, or_left, over_except}
+use Rattle.forest_steps.proofs.Common.{strong_count, Collection, reserved_count, or_none_left, is_strong, demands_of, IsGivenAt}
+use Rattle.forest_steps.proofs.Common.{is_root_of, made, any_map, times_map, all-In, Allocated, IsUnitListed, are_held_except}
+use Rattle.forest_steps.proofs.Common.{is_coming, or_false, map, reverse, node_of, same_key-equal, Fault, above_among, is_below}
+use Rattle.forest_steps.proofs.Common.{GoTogether, found_by_key, AfterLoss, filter_map, greatest, TotalDemand, refusal, asked_there}
+use Rattle.forest_steps.proofs.Common.{losing, In-find, members_of, blocks, Member, is_taken, member_of, nat_lt, Forces, Settles, ◌⊎◌}
 use Rattle.forest_store.specs.Questions.{blocks_here}
 use Rattle.forest_store.specs.Decisions.{later_step, Allocates}
 use Rattle.forest_store.proofs.allocation.Before.{IsDueHead, due_bare, due_head, no_root}
@@ -13,7 +28,8 @@ use Rattle.forest_steps.proofs.turns.Places.{above_first, at_one_place, got_In, 
 use Rattle.std.specs.Option.{option_map}
 use Rattle.forest_store.proofs.allocation.Allocated.{AreChildren, wait_on}
 use Rattle.forest_steps.proofs.allocation.Sums.{reserved_all}
-use Rattle.forest_steps.proofs.mid_event.UnitGiven.{IsUnitGiven, closed_given, f, given_is, held_then, next_then, served, unit_given, was_there}
+use Rattle.forest_steps.proofs.mid_event.UnitGiven.{IsUnitGiven, closed_given, f, given_is, held_then}
+use Rattle.forest_steps.proofs.mid_event.UnitGiven.{next_then, served, unit_given, was_there}
 use Rattle.sm_names.specs.Losses.{top as topmost}
 use Rattle.forest_steps.proofs.mid_event.Fewer.{HaveGone, closed_on, have_gone, waits_on}
 use Rattle.forest_steps.proofs.allocation.Giving.{same_given}
@@ -57,7 +73,8 @@ find_first p (m ∷ ms) (suc at) on is first =
     rw out (find_first p ms at on is (λ i x there e. let r = first (suc i) x there e in omega (arith, r)))
 
 -- a head of those that may come to their turn
-pub pending_of : (ws : List PendingUnit) (j : NodeKey) → list_any (same_key j) (turn_heads ws) ≡ true → (w : PendingUnit) × In w ws × (j ≡ w.head)
+pub pending_of : (ws : List PendingUnit) (j : NodeKey) → list_any (same_key j) (turn_heads ws) ≡ true →
+    (w : PendingUnit) × In w ws × (j ≡ w.head)
 pending_of ws j h =
     let x = In-list_any _ _ h in
     let y = In-map _ ws x.0 x.1 in
@@ -87,6 +104,7 @@ not_losing : (nodes : List Node) (strong_open : Bool) (o : Option Node) → (has
 not_losing nodes strong_open None kept = refl
 not_losing nodes strong_open (Some root) kept = by root.allocated (has_strong nodes) strong_open kept
   where
+    -- by cases: a strong node is live, or the root is not lost for the other reason
     by : (a s h : Bool) → (s ≡ true) ⊎ ((a && not h) ≡ false) → when (a && (not s && not h)) (Loses root.key Cause.NoStrong) ≡ None
     by a s h k = grind arith
 
@@ -316,7 +334,8 @@ module _ {t : Table Node} {us : List Unit} {ss : List Shelf} {e : Entry} {k : No
               ap (node_of nodes) (sym head_key) ∙ found_by_key _ _ (whole_under u).sound.distinct head_on in
               let blocks : blocks_here k head ≡ true = and_both _ _ (ap not head_here)
               (and_both _ _ (same_key-equal _ _ head_key)
-              (or_left head.attached (head.dispensable && head.allocated) (and_left head.attached (not head.gone && not head.allocated) waits))) in
+              (or_left head.attached (head.dispensable && head.allocated)
+              (and_left head.attached (not head.gone && not head.allocated) waits))) in
               let high : highest_of nodes k ≡ k =
               blocked_first (λ j. list_any (blocks_here j) nodes) k (above_among (reverse nodes) k)
               (In-any (blocks_here k) _ _ head_on blocks) in

@@ -1,5 +1,14 @@
 -- A unit is allocated: its nodes have their buffers then, and no other node changes.
-use Rattle.forest_steps.proofs.Common.{◌≡◌, ◌≢◌, ◌==◌, refl, ap, sym, ◌∙◌, subst, Bool, true, false, not, ◌&&◌, ◌||◌, ◌⊎◌, inl, inr, List, [], ◌∷◌, map, Option, Some, None, option_map, eqb-false, eqb-true, not-true, AllByRecursion, list_all, list_any, option_map_or, NodeKey, Buffers, same_key, In, In-find, In-list_any, In-map, and_both, and_left, and_right, both_ways, either_way, false_if, or_cases, same_key-true, In-any, Table, node_at, Entry, Node, Unit, AreUnits, lives_in, waits_in, with_nodes, IsStored, IsWhole, Shelf, collection_in, is_filed, nodes_with, shelf_of, is_of, is_next_node, is_head, find, HeldBuffer, map-In, hangs_in, given_all, after_allocation, is_allocated_node, IsGivenAt, given_at, GoTogether, any_map, all-In, looked-of, after_all, IsBareHead, in_all, looked_there, IsSameNode, all_at, arith, or_false, IsUnitListed, AreClosed, are_held_except, hangs_in_some, holds_unit, is_coming, is_held, is_next_except, looked-map, all_in, kept-with, one_shelf}
+use Rattle.forest_steps.proofs.Common.{◌≡◌, ◌≢◌, ◌==◌, refl, ap, sym, ◌∙◌, subst, Bool, true, false, not, ◌&&◌, ◌||◌, ◌⊎◌, inl, inr}
+use Rattle.forest_steps.proofs.Common.{List, [], ◌∷◌, map, Option, Some, None, option_map, eqb-false, eqb-true, not-true, AllByRecursion}
+use Rattle.forest_steps.proofs.Common.{list_all, list_any, option_map_or, NodeKey, Buffers, same_key, In, In-find, In-list_any, In-map}
+use Rattle.forest_steps.proofs.Common.{and_both, and_left, and_right, both_ways, either_way, false_if, or_cases, same_key-true, In-any}
+use Rattle.forest_steps.proofs.Common.{Table, node_at, Entry, Node, Unit, AreUnits, lives_in, waits_in, with_nodes, IsStored, IsWhole}
+use Rattle.forest_steps.proofs.Common.{Shelf, collection_in, is_filed, nodes_with, shelf_of, is_of, is_next_node, is_head, find}
+use Rattle.forest_steps.proofs.Common.{HeldBuffer, map-In, hangs_in, given_all, after_allocation, is_allocated_node, IsGivenAt, given_at}
+use Rattle.forest_steps.proofs.Common.{GoTogether, any_map, all-In, looked-of, after_all, IsBareHead, in_all, looked_there, IsSameNode}
+use Rattle.forest_steps.proofs.Common.{all_at, arith, or_false, IsUnitListed, AreClosed, are_held_except, hangs_in_some, holds_unit}
+use Rattle.forest_steps.proofs.Common.{is_coming, is_held, is_next_except, looked-map, all_in, kept-with, one_shelf}
 use Rattle.forest_store.proofs.quiescence.Together.{together_given}
 use Rattle.forest_store.proofs.lists.Lookups.{same_key-swap}
 use Rattle.forest_steps.proofs.allocation.Giving.{given_in, given_other, given_out, kept_given, same_given}
@@ -17,7 +26,8 @@ still_map f [] same = refl
 still_map f (x ∷ xs) same = λ i. same x (inl refl) i ∷ still_map f xs (λ y on. same y (inr on)) i
 
 -- by induction: each element passes as it did before the map
-pub all_mapped : (p q : Node → Bool) (f : Node → Node) (ns : List Node) → ((n : Node) → p (f n) ≡ q n) → list_all p (map f ns) ≡ list_all q ns
+pub all_mapped : (p q : Node → Bool) (f : Node → Node) (ns : List Node) →
+    ((n : Node) → p (f n) ≡ q n) → list_all p (map f ns) ≡ list_all q ns
 all_mapped p q f [] same = refl
 all_mapped p q f (n ∷ ns) same = λ i. same n i && all_mapped p q f ns same i
 
@@ -87,7 +97,8 @@ turn_was k nodes n (Some p) is h =
     let was : is_allocated_node p (f k m) ≡ true = ap (is_allocated_node p) (sym y.2) ∙ x.2 in
     let both : ((list_any (same_key m.head) (k ∷ []) || m.allocated) && same_key m.key p) ≡ true = and_right _ _ was in
     let key : same_key m.key p ≡ true = and_right _ _ both in
-    elim (or_cases (list_any (same_key m.head) (k ∷ [])) m.allocated (and_left (list_any (same_key m.head) (k ∷ []) || m.allocated) _ both)) [
+    elim (or_cases (list_any (same_key m.head) (k ∷ [])) m.allocated
+    (and_left (list_any (same_key m.head) (k ∷ []) || m.allocated) _ both)) [
       | inl h ↦ inl
           (ap (λ o. option_map_or (λ q. list_any (λ (r : Node). is_of q r && list_any (same_key r.head) (k ∷ [])) nodes)
           o false) is ∙ In-any (λ (r : Node). is_of p r && list_any (same_key r.head) (k ∷ [])) nodes m y.1
@@ -121,6 +132,7 @@ next_then k nodes hs hung was = false_if (list_any (is_next_except hs (served k 
     both_ways (list_any (same_key y.0.key) hs) (among y.0 y.1 (and_left (is_next_node (served k nodes) (f k y.0)) _ is))
     (not-true _ (and_right (is_next_node (served k nodes) (f k y.0)) _ is)))
   where
+    -- since it was next, or hangs right below the unit
     among : (n : Node) → In n nodes → is_next_node (served k nodes) (f k n) ≡ true → list_any (same_key n.key) hs ≡ true
     among n on h = grind (arith, coming_was, next_is, next_parts, turn_was)
 
@@ -139,7 +151,8 @@ pub record IsUnitGiven (t now : Table Node) (e : Entry) (k : NodeKey) : Type 0 w
 
 module _ {t now : Table Node} {ss : List Shelf} (e : Entry) {k : NodeKey} (kept : IsStored t ss)
     (found : find (λ (x : Shelf). x.id == e.id) ss ≡ Some (shelf_of e)) (formed : IsWhole (collection_in t (shelf_of e)))
-    (top : IsBareHead (nodes_with t e.keys.items) k) {ks : List NodeKey} (listed : IsUnitListed t k ks) (given : IsGivenAt t now (k ∷ []) ks)
+    (top : IsBareHead (nodes_with t e.keys.items) k) {ks : List NodeKey} (listed : IsUnitListed t k ks)
+    (given : IsGivenAt t now (k ∷ []) ks)
   where
     -- the collection's nodes before the allocation
     abbrev nodes : List Node

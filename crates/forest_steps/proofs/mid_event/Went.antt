@@ -1,5 +1,13 @@
 -- What is lost or ends with a node is gone, and the collection is still under way.
-use Rattle.forest_steps.proofs.Common.{◌≡◌, ◌==◌, refl, ap, sym, ◌∙◌, Bool, true, false, not, ◌&&◌, ◌||◌, ◌⊎◌, inl, inr, is_none, List, map, reverse, Option, Some, None, option_map, list_any, option_map_or, NodeKey, same_key, In, In-list_any, In-map, In-map-back, and_both, both_ways, either_way, false_if, or_cases, or_left, or_right, In-any, Table, node_at, parent_at, Entry, Node, Unit, is_left_of, Shelf, collection_in, nodes_with, shelf_of, is_of, are_rooted, is_head, arith, same_key-equal, Fault, map-In, Going, gone_by, all_of, after_end, after_loss, ended, lost, is_below, has_buffers, is_blocking, found_filed, looked-of, all-In, IsLeft, distinct_one, left_node, IsGoneSo, head_over, IsBeside, MidEvent, AfterRemoval, are_held_except, is_head_left, is_next_except, waits_among, given_of, goes_in, goes_not, goes_of, gone_of, same_of, none_if}
+use Rattle.forest_steps.proofs.Common.{◌≡◌, ◌==◌, refl, ap, sym, ◌∙◌, Bool, true, false, not, ◌&&◌, ◌||◌, ◌⊎◌, inl, inr, is_none}
+use Rattle.forest_steps.proofs.Common.{List, map, reverse, Option, Some, None, option_map, list_any, option_map_or, NodeKey}
+use Rattle.forest_steps.proofs.Common.{same_key, In, In-list_any, In-map, In-map-back, and_both, both_ways, either_way, false_if}
+use Rattle.forest_steps.proofs.Common.{or_cases, or_left, or_right, In-any, Table, node_at, parent_at, Entry, Node, Unit, is_left_of}
+use Rattle.forest_steps.proofs.Common.{Shelf, collection_in, nodes_with, shelf_of, is_of, are_rooted, is_head, arith, same_key-equal}
+use Rattle.forest_steps.proofs.Common.{Fault, map-In, Going, gone_by, all_of, after_end, after_loss, ended, lost, is_below}
+use Rattle.forest_steps.proofs.Common.{has_buffers, is_blocking, found_filed, looked-of, all-In, IsLeft, distinct_one, left_node}
+use Rattle.forest_steps.proofs.Common.{IsGoneSo, head_over, IsBeside, MidEvent, AfterRemoval, are_held_except, is_head_left}
+use Rattle.forest_steps.proofs.Common.{is_next_except, waits_among, given_of, goes_in, goes_not, goes_of, gone_of, same_of, none_if}
 use Rattle.forest_steps.proofs.tables.Upward.{head_there, own_head, shared}
 use Rattle.sm_names.proofs.SamenessLaws.{none_or_some}
 use Rattle.forest_store.specs.Counts.{head_of}
@@ -40,7 +48,8 @@ module _ {t : Table Node} {us : List Unit} {ss : List Shelf} {old : Entry} {unhe
   own =
       let x = left_node _ _ left in
       own_taken gone.forest opens.store.kept.kin _ _
-      (ap (λ o. option_map_or (λ (n : Node). n.collection == old.id) o true) (ap (node_at t) (sym x.is) ∙ at_key opens.store.kept opens.store.found _ x.on)
+      (ap (λ o. option_map_or (λ (n : Node). n.collection == old.id) o true) (ap (node_at t) (sym x.is)
+      ∙ at_key opens.store.kept opens.store.found _ x.on)
       ∙ all-In _ _ _ x.on
       (looked-of t _ _ (found_filed t _ ss s opens.store.kept.filed opens.store.found))) gone.taken
 
@@ -204,7 +213,8 @@ module _ {t : Table Node} {us : List Unit} {ss : List Shelf} {old : Entry} {unhe
       -- the parent stands in the table
       over_found : option_map_or (head_of t) highest.parent None ≡ Some over.head
       over_found =
-          ap (λ o. option_map_or (head_of t) o None) up_over ∙ ap (option_map (λ (n : Node). n.head)) (at_key opens.store.kept opens.store.found _ above.on)
+          ap (λ o. option_map_or (head_of t) o None) up_over
+          ∙ ap (option_map (λ (n : Node). n.head)) (at_key opens.store.kept opens.store.found _ above.on)
 
     -- by cases on whether the top has a parent
     pub went : AfterRemoval t now after ss old new origin fault (head_over t keys) unheld pending
@@ -227,7 +237,8 @@ module _ {t : Table Node} {us : List Unit} {ss : List Shelf} {old : Entry} {unhe
   went_lost fault gone left is =
       went opens gone left (Some fault) becomes
       (ap (λ (ns : List Node). are_rooted (reverse ns)) becomes
-      ∙ (rooted_loss nodes_were (record { one = distinct_one _ (whole_under opens).sound.distinct; rooted = (whole_under opens).rooted }) fault).rooted)
+      ∙ (rooted_loss nodes_were
+      (record { one = distinct_one _ (whole_under opens).sound.distinct; rooted = (whole_under opens).rooted }) fault).rooted)
     where
       nodes_were : List Node
       nodes_were = nodes_with t old.keys.items
@@ -244,14 +255,16 @@ module _ {t : Table Node} {us : List Unit} {ss : List Shelf} {old : Entry} {unhe
   -- ---- without one
 
   -- they leave
-  pub went_ended : {going : Going} → ((n : Node) → gone_by going n ≡ record n { gone = true }) → IsGoneSo t now us after old new going origin keys →
+  pub went_ended : {going : Going} → ((n : Node) → gone_by going n ≡ record n { gone = true }) →
+      IsGoneSo t now us after old new going origin keys →
       is_left_of (nodes_with t old.keys.items) origin ≡ true →
       ((n : Node) → In n (nodes_with t old.keys.items) → n.key ≡ origin → is_head n ≡ true) →
       AfterRemoval t now after ss old new origin None (head_over t keys) unheld pending
   went_ended {going} leaves gone left heads =
       went opens gone left None becomes
       (ap (λ (ns : List Node). are_rooted (reverse ns)) becomes
-      ∙ (rooted_end nodes_were (record { one = distinct_one _ (whole_under opens).sound.distinct; rooted = (whole_under opens).rooted }) origin).rooted)
+      ∙ (rooted_end nodes_were
+      (record { one = distinct_one _ (whole_under opens).sound.distinct; rooted = (whole_under opens).rooted }) origin).rooted)
     where
       nodes_were : List Node
       nodes_were = nodes_with t old.keys.items

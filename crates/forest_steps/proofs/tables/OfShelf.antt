@@ -1,5 +1,7 @@
 -- The nodes of a collection that is kept, in the table.
-use Rattle.forest_steps.proofs.Common.{◌≡◌, ◌==◌, false, List, Some, find, In, Table, node_at, parent_at, Node, IsStored, IsWhole, Shelf, collection_in, nodes_with, IsTied, found_whole, in_all, looked_there, list_all, is_filed, found_filed, eqb-true, all-In, looked-of, true}
+use Rattle.forest_steps.proofs.Common.{◌≡◌, ◌==◌, false, List, Some, find, In, Table, node_at, parent_at, Node}
+use Rattle.forest_steps.proofs.Common.{IsStored, IsWhole, Shelf, collection_in, nodes_with, IsTied, found_whole, in_all}
+use Rattle.forest_steps.proofs.Common.{looked_there, list_all, is_filed, found_filed, eqb-true, all-In, looked-of, true}
 use Rattle.forest_store.proofs.tables.Hanging.{looked_hung, looked_tied}
 
 module _ {t : Table Node} {ss : List Shelf} {s : Shelf} (kept : IsStored t ss)

@@ -1,13 +1,18 @@
 -- The row of a key, and the node in it.
-use Rattle.forest_steps.proofs.Common.{◌≡◌, ◌∙◌, refl, Option, None, Some, option_map, NodeKey, Table, node_at, Node, Row, row_at, IsSome, parent_at, List, Stores, arith}
+use Rattle.forest_steps.proofs.Common.{◌≡◌, ◌∙◌, refl, Bool, Option, None, Some, option_map, NodeKey, Table}
+use Rattle.forest_steps.proofs.Common.{node_at, Node, Row, row_at, IsSome, parent_at, List, Stores, arith}
+use Rattle.sm_names.specs.Losses.{Reach, Origin, Up, Down}
 use Rattle.forest_store.specs.Shelves.{SameTable}
+use Rattle.node_table.specs.Forest.{IsForest}
 use Rattle.node_table.specs.Table.{parent_in}
+use Rattle.node_table.proofs.Depths.{there-above}
 use Rattle.forest_store.proofs.tables.Storing.{stored-key}
 
 -- a key with a row has a node
 pub row_node : (t : Table Node) (key : NodeKey) → IsSome (row_at t key) → (n : Node) × (node_at t key ≡ Some n)
 row_node t key some = from (row_at t key) some
   where
+    -- by cases: a row has its node
     from : (o : Option (Row Node)) → IsSome o → (n : Node) × (option_map (λ (r : Row Node). r.node) o ≡ Some n)
     from None some = cc
     from (Some r) some = (r.node, refl)
@@ -16,6 +21,7 @@ row_node t key some = from (row_at t key) some
 pub child_node : (t : Table Node) (key : NodeKey) {p : NodeKey} → parent_at t key ≡ Some p → (n : Node) × (node_at t key ≡ Some n)
 child_node t key {p} up = from (row_at t key) up
   where
+    -- by cases: a row has its node
     from : (o : Option (Row Node)) → parent_in o ≡ Some p → (n : Node) × (option_map (λ (row : Row Node). row.node) o ≡ Some n)
     from None up = cc
     from (Some row) up = (row.node, refl)
@@ -33,3 +39,10 @@ same_on one two = record {
 pub still_named : {t now : Table Node} {ns : List Node} → ((key : NodeKey) (n : Node) → node_at t key ≡ Some n → n.key ≡ key) →
     Stores t now ns → (key : NodeKey) {n : Node} → node_at now key ≡ Some n → n.key ≡ key
 still_named {t} {ns} named stores key {n} is = grind (arith, stored-key)
+
+-- what a failure of a node that is there reaches is there
+pub reached_there : (t : Table Node) → IsForest t → {blocks : NodeKey → Bool} {origin key : NodeKey} → IsSome (row_at t origin) →
+    Reach (parent_at t) blocks origin key → IsSome (row_at t key)
+reached_there t forest there Origin = there
+reached_there t forest there (Up child above at free up) = forest.parent_there above child up
+reached_there t forest there (Down above child at up) = there-above (row_at t child) above up

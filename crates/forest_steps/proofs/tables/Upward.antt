@@ -1,5 +1,7 @@
 -- Lines of parents, and heads of units, in a collection that is whole.
-use Rattle.forest_steps.proofs.Common.{◌≡◌, ◌≤◌, true, false, List, ◌∷◌, length, reverse, Option, Some, NodeKey, In, Node, is_left_of, Collection, IsWhole, is_head, IsChain, above_among, is_below, zero, suc, ◌<◌, arith, either_way, left_parent, ap, sym, ◌∙◌, inl, inr, ℕ}
+use Rattle.forest_steps.proofs.Common.{◌≡◌, ◌≤◌, true, false, List, ◌∷◌, length, reverse, Option, Some, NodeKey, In}
+use Rattle.forest_steps.proofs.Common.{Node, is_left_of, Collection, IsWhole, is_head, IsChain, above_among, is_below}
+use Rattle.forest_steps.proofs.Common.{zero, suc, ◌<◌, arith, either_way, left_parent, ap, sym, ◌∙◌, inl, inr, ℕ}
 use Rattle.forest_store.proofs.tallies.Holding.{has_parent}
 use Rattle.forest_store.proofs.tallies.Holding
 
@@ -64,7 +66,8 @@ module _ {c : Collection} (whole : IsWhole c) where
 
   -- by induction on the line above the node: what holds of each head, and of a node where it holds of its parent, holds of each
   pub by_unit : (P : Node → Type 0) → ((n : Node) → In n c.nodes → n.gone ≡ false → is_head n ≡ true → P n) →
-      ((n x : Node) → In n c.nodes → n.gone ≡ false → is_head n ≡ false → In x c.nodes → n.parent ≡ Some x.key → x.head ≡ n.head → P x → P n) →
+      ((n x : Node) → In n c.nodes → n.gone ≡ false → is_head n ≡ false → In x c.nodes →
+      n.parent ≡ Some x.key → x.head ≡ n.head → P x → P n) →
       (n : Node) → In n c.nodes → n.gone ≡ false → P n
   by_unit P head child n on here = from (suc (length (line n.key))) n on here (omega arith)
     where

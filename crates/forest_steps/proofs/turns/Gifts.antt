@@ -1,5 +1,7 @@
 -- Lists of nodes, and what units ask for while some are allocated.
-use Rattle.forest_steps.proofs.Common.{◌≡◌, refl, ap, Bool, true, false, ◌&&◌, List, [], ◌∷◌, map, list_any, list_all, NodeKey, In, both_ways, In-any, Node, is_ready_node, given_all, IsSameNode, is_coming, AreClosed, hangs_in_some, list_any-map, In-map, is_of, same_key, sym, ◌∙◌, option_map_or}
+use Rattle.forest_steps.proofs.Common.{◌≡◌, refl, ap, Bool, true, false, ◌&&◌, List, [], ◌∷◌, map, list_any, list_all, NodeKey}
+use Rattle.forest_steps.proofs.Common.{In, both_ways, In-any, Node, is_ready_node, given_all, IsSameNode, is_coming, AreClosed}
+use Rattle.forest_steps.proofs.Common.{hangs_in_some, list_any-map, In-map, is_of, same_key, sym, ◌∙◌, option_map_or}
 
 -- ---- lists
 

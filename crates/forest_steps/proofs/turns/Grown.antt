@@ -1,5 +1,8 @@
 -- Each node of a collection that is not gone stands behind its parent, and is of its unit unless it is attached.
-use Rattle.forest_steps.proofs.Common.{ℕ, zero, suc, ◌<◌, ◌≡◌, refl, ap, sym, ◌∙◌, Bool, true, false, not, ◌||◌, is_none, List, [], ◌∷◌, ◌++◌, take, drop, reverse, Option, Some, None, inl, inr, arith, list_all, option_map_or, NodeKey, same_key, In, and_left, and_right, Node, is_left_of, are_rooted, same_key-equal, In-reverse, same_key-comm, Hangs, Roots, hangs_on, all-In, left_node, reverse-append, AreGrown, slice_get}
+use Rattle.forest_steps.proofs.Common.{ℕ, zero, suc, ◌<◌, ◌≡◌, refl, ap, sym, ◌∙◌, Bool, true, false, not, ◌||◌, is_none, List, [], ◌∷◌}
+use Rattle.forest_steps.proofs.Common.{◌++◌, take, drop, reverse, Option, Some, None, inl, inr, arith, list_all, option_map_or, NodeKey}
+use Rattle.forest_steps.proofs.Common.{same_key, In, and_left, and_right, Node, is_left_of, are_rooted, same_key-equal, In-reverse}
+use Rattle.forest_steps.proofs.Common.{same_key-comm, Hangs, Roots, hangs_on, all-In, left_node, reverse-append, AreGrown, slice_get}
 use Rattle.std.proofs.lemmas.List.{append_assoc}
 use Rattle.forest_store.specs.Falls.{IsPlaced}
 use Rattle.forest_store.specs.Units.{are_united, is_parent, shares_unit}
@@ -32,27 +35,34 @@ united_back (n ∷ ns) back h = united_back ns _ (and_right _ _ h)
 pub grown_by : (nodes : List Node) → are_rooted (reverse nodes) ≡ true → are_united (reverse nodes) ≡ true → AreGrown nodes
 grown_by nodes rooted united at n there here = from n.parent refl
   where
+    -- the nodes before this one
     older : List Node
     older = take at nodes
 
+    -- the nodes behind it
     newer : List Node
     newer = drop (suc at) nodes
 
+    -- by turning each of the three parts round
     turned : reverse nodes ≡ reverse newer ++ n ∷ reverse older
     turned = ap reverse (parted_at _ at there)
         ∙ (reverse-append older (n ∷ newer)
         ∙ (ap (λ ns. ns ++ reverse older) (reverse-append (n ∷ []) newer) ∙ append_assoc (reverse newer) (n ∷ []) (reverse older)))
 
+    -- since all nodes hang on earlier ones
     hangs : hangs_on (reverse older) n ≡ true
     hangs = and_left _ _ (rooted_back (reverse newer) (n ∷ reverse older) (ap are_rooted (sym turned) ∙ rooted))
 
+    -- since all nodes share units with earlier ones
     shares : list_all (shares_unit n) (reverse older) ≡ true
     shares = and_left _ _ (united_back (reverse newer) (n ∷ reverse older) (ap are_united (sym turned) ∙ united))
 
+    -- by arithmetic of switches
     unit : (attached is : Bool) (head above : NodeKey) → is ≡ true → (attached || (not is || same_key above head)) ≡ true →
         (attached || same_key head above) ≡ true
     unit attached is head above h k = grind (arith, same_key-comm)
 
+    -- by cases: a root, or a node with its parent among the earlier ones
     from : (o : Option NodeKey) → n.parent ≡ o → IsPlaced nodes n at
     from None none = Roots none
     from (Some p) up =

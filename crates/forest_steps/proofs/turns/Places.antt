@@ -1,5 +1,9 @@
 -- The nodes of a collection stand as its keys do, each behind its parent and the head of its parent's unit.
-use Rattle.forest_steps.proofs.Common.{◌≡◌, ℕ, zero, suc, ◌<◌, ◌==◌, refl, ap, sym, ◌∙◌, true, false, ◌||◌, inl, inr, is_none, List, [], ◌∷◌, Option, Some, None, option_map, arith, cons_option, find, list_all, option_map_or, NodeKey, same_key, and_left, and_right, either_way, or_left, or_right, same_key-true, some-injective, same_key-refl, Table, node_at, Node, IsStored, Shelf, is_filed, nodes_with, are_distinct, heads_itself, In, In-any, Hangs, Roots, all-In, node_there, AreGrown}
+use Rattle.forest_steps.proofs.Common.{◌≡◌, ℕ, zero, suc, ◌<◌, ◌==◌, refl, ap, sym, ◌∙◌, true, false, ◌||◌, inl, inr, is_none, List}
+use Rattle.forest_steps.proofs.Common.{[], ◌∷◌, Option, Some, None, option_map, arith, cons_option, find, list_all, option_map_or}
+use Rattle.forest_steps.proofs.Common.{NodeKey, same_key, and_left, and_right, either_way, or_left, or_right, same_key-true}
+use Rattle.forest_steps.proofs.Common.{some-injective, same_key-refl, Table, node_at, Node, IsStored, Shelf, is_filed, nodes_with}
+use Rattle.forest_steps.proofs.Common.{are_distinct, heads_itself, In, In-any, Hangs, Roots, all-In, node_there, AreGrown}
 use Rattle.std.specs.List.{slice_get}
 use Rattle.forest_store.specs.Falls.{IsHanging}
 use Rattle.forest_steps.specs.InTurn.{IsKeyAt}

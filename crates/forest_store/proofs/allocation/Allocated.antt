@@ -1,5 +1,9 @@
 -- Attached units that are allocated in their places: what is forced besides stays as it was.
-use Rattle.forest_store.proofs.Common.{◌≡◌, refl, ap, ◌∙◌, Bool, true, false, not, ◌&&◌, ◌||◌, is_none, List, map, Option, Some, None, list_all, list_any, find, option_map_or, option_and_then, NodeKey, Cause, same_key, when, In-find, and_left, both_ways, false_if, same_key-true, Node, has_strong, waiting, Collection, is_deserted_node, is_ready_node, is_root_left, heads_itself, Decision, Loses, IsSound, is_root_of, option_map}
+use Rattle.forest_store.proofs.Common.{◌≡◌, refl, ap, ◌∙◌, Bool, true, false, not, ◌&&◌, ◌||◌, is_none, List, map, Option}
+use Rattle.forest_store.proofs.Common.{Some, None, list_all, list_any, find, option_map_or, option_and_then, NodeKey}
+use Rattle.forest_store.proofs.Common.{Cause, same_key, when, In-find, and_left, both_ways, false_if, same_key-true, Node}
+use Rattle.forest_store.proofs.Common.{has_strong, waiting, Collection, is_deserted_node, is_ready_node, is_root_left}
+use Rattle.forest_store.proofs.Common.{heads_itself, Decision, Loses, IsSound, is_root_of, option_map}
 use Rattle.forest_store.specs.Falls.{given_all}
 use Rattle.forest_store.proofs.lists.Elements.{all_map, find_map}
 use Rattle.forest_store.proofs.quiescence.Steps.{all-In, found_by_key}
@@ -59,7 +63,8 @@ module _ (c : Collection) (sound : IsSound c) (hs : List NodeKey) (children : Ar
           option_and_then (λ (root : Node). when (not root.allocated && list_all (is_ready_node root.key) after) root) (option_map f o)
           ≡ None
       from None e h = refl
-      from (Some r) e h = (λ i. when (not (root_same r e i) && all_map (is_ready_node r.key) (is_ready_node r.key) f c.nodes (λ n. refl) i) (f r))
+      from (Some r) e h = (λ i.
+          when (not (root_same r e i) && all_map (is_ready_node r.key) (is_ready_node r.key) f c.nodes (λ n. refl) i) (f r))
           ∙ still _ h
         where
           still : (b : Bool) → when b r ≡ None → when b (f r) ≡ None

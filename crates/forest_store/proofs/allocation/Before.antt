@@ -1,7 +1,13 @@
 -- A unit that is to be allocated, as the table tells before it is.
-use Rattle.forest_store.proofs.Common.{some-injective, In-any, ◌≡◌, refl, ap, sym, ◌∙◌, subst, Bool, true, false, not, ◌&&◌, ◌||◌, ◌==◌, inl, inr, is_none, List, Option, Some, None, eq-eqb, not-true, find, list_all, list_any, option_map_or, NodeKey, same_key, In, In-list_any, and_both, and_left, and_right, both_ways, either_way, same_key-refl, same_key-true, Table, node_at, parent_at, Node, Unit, unit_at, Collection, IsStored, IsWhole, Shelf, collection_in, nodes_with, is_of, is_ready_node, times-zero, HasUnits, has_buffers, IsSound, is_root_of, arith}
+use Rattle.forest_store.proofs.Common.{some-injective, In-any, ◌≡◌, refl, ap, sym, ◌∙◌, subst, Bool, true, false, not, ◌&&◌}
+use Rattle.forest_store.proofs.Common.{◌||◌, ◌==◌, inl, inr, is_none, List, Option, Some, None, eq-eqb, not-true, find, list_all}
+use Rattle.forest_store.proofs.Common.{list_any, option_map_or, NodeKey, same_key, In, In-list_any, and_both, and_left}
+use Rattle.forest_store.proofs.Common.{and_right, both_ways, either_way, same_key-refl, same_key-true, Table, node_at, parent_at}
+use Rattle.forest_store.proofs.Common.{Node, Unit, unit_at, Collection, IsStored, IsWhole, Shelf, collection_in, nodes_with}
+use Rattle.forest_store.proofs.Common.{is_of, is_ready_node, times-zero, HasUnits, has_buffers, IsSound, is_root_of, arith}
 use Rattle.forest_store.specs.UnitAllocation.{hangs_below, has_turn_at, is_left_out, is_of_some, is_waiting_head, left_out_at}
-use Rattle.forest_store.proofs.Basics.{In-made, all-In, found_by_key, found_whole, hangs_in_some, in_all, looked_there, left_node, left_parent, head_there}
+use Rattle.forest_store.proofs.Basics.{In-made, all-In, found_by_key, found_whole, hangs_in_some}
+use Rattle.forest_store.proofs.Basics.{in_all, looked_there, left_node, left_parent, head_there}
 
 -- a key that passes is one of those that pass
 pub any_key : (test : NodeKey → Bool) (keys : List NodeKey) (key : NodeKey) → list_any (same_key key) keys ≡ true → test key ≡ true →

@@ -1,5 +1,12 @@
 -- A change to a collection that is there: what it keeps of the nodes, and where they lie.
-use Rattle.forest_store.proofs.Common.{list_any-map, all_on, In-list_any, or_left, or_right, ◌≡◌, ℕ, ◌<◌, ◌==◌, true, false, ◌&&◌, not, List, [], ◌∷◌, map, Option, Some, None, is_some, refl, sym, ap, ◌∙◌, inl, inr, arith, list_any, list_all, find, AllByRecursion, option_map_or, eqb-true, eq-eqb, lt-ltb, false≢true, NodeKey, same_key, and_left, and_right, or_cases, same_key-true, Table, node_at, Change, Effect, Node, Collection, with_nodes, Shelf, AreRising, IsStored, IsWhole, put_shelf, collection_in, nodes_with, forest_of, all_keys, are_filed, is_filed, affected, ne_eqb, ltb-true, list_any-append, all_of, lost, is_taken, changed, is_birth, is_there, has_collection, In-find, either_way, find-none, is_some-find, MAX_NODE_TRACKERS, forest_node, has_tracker_room, fits}
+use Rattle.forest_store.proofs.Common.{list_any-map, all_on, In-list_any, or_left, or_right, ◌≡◌, ℕ, ◌<◌, ◌==◌, true, false, ◌&&◌, not}
+use Rattle.forest_store.proofs.Common.{List, [], ◌∷◌, map, Option, Some, None, is_some, refl, sym, ap, ◌∙◌, inl, inr, arith, list_any}
+use Rattle.forest_store.proofs.Common.{list_all, find, AllByRecursion, option_map_or, eqb-true, eq-eqb, lt-ltb, false≢true, NodeKey}
+use Rattle.forest_store.proofs.Common.{same_key, and_left, and_right, or_cases, same_key-true, Table, node_at, Change, Effect, Node}
+use Rattle.forest_store.proofs.Common.{Collection, with_nodes, Shelf, AreRising, IsStored, IsWhole, put_shelf, collection_in}
+use Rattle.forest_store.proofs.Common.{nodes_with, forest_of, all_keys, are_filed, is_filed, affected, ne_eqb, ltb-true}
+use Rattle.forest_store.proofs.Common.{list_any-append, all_of, lost, is_taken, changed, is_birth, is_there, has_collection, In-find}
+use Rattle.forest_store.proofs.Common.{either_way, find-none, is_some-find, MAX_NODE_TRACKERS, forest_node, has_tracker_room, fits}
 use Rattle.forest_store.proofs.lists.Elements.{In-made, all_at, each_none, map-same}
 use Rattle.forest_store.proofs.quiescence.Steps.{all-In}
 use Rattle.forest_store.proofs.changes.Finishing.{keys_in}
@@ -74,6 +81,7 @@ pub kept_of : (t : Table Node) (ss : List Shelf) (key : NodeKey) (n : Node) → 
     list_any (same_key key) (all_keys ss) ≡ true → is_some (find (λ (s : Shelf). s.id == n.collection) ss) ≡ true
 kept_of t ss key n filed is there = is_some-find _ ss ∙ kept ss filed there
   where
+    -- by induction on the shelves: the one that has the key is of the node's collection
     kept : (ss : List Shelf) → are_filed t ss ≡ true → list_any (same_key key) (all_keys ss) ≡ true →
         list_any (λ (s : Shelf). s.id == n.collection) ss ≡ true
     kept [] filed there = absurd (false≢true there)
@@ -109,7 +117,8 @@ change_kept t ss ok id change h fit = grind (arith, there_kept, collection_kept)
 
 -- the node of a tracker has room for it
 pub tracker_room : (t : Table Node) (ss : List Shelf) → IsStored t ss → (asked : NodeKey) (effect : Effect) →
-    ((n : Node) → effect ≡ Effect.Tracked → forest_node (forest_of t ss) asked ≡ Some n → n.trackers < MAX_NODE_TRACKERS) → (key : NodeKey) (n : Node) →
+    ((n : Node) → effect ≡ Effect.Tracked → forest_node (forest_of t ss) asked ≡ Some n → n.trackers < MAX_NODE_TRACKERS) →
+    (key : NodeKey) (n : Node) →
     node_at t key ≡ Some n → has_tracker_room asked effect n ≡ true
 tracker_room t ss ok asked Effect.Tracked few key n is = elim (either_way (same_key asked n.key)) [
   | inl e ↦

@@ -1,8 +1,18 @@
 -- An effect on a node of the table, and the count of strong live nodes after it.
-use Rattle.forest_store.proofs.Common.{◌≡◌, ◌≢◌, ℕ, ◌+◌, ◌==◌, Bool, true, false, if◌then◌else◌, is_some, ◌<◌, ◌⊎◌, inl, inr, List, map, length, set, Option, Some, option_map, refl, sym, ap, subst, ◌∙◌, arith, eqb-true, lt-ltb, list_all, NodeKey, Cause, same_key, times, In, In-find, In-map, In-map-back, and_both, both_ways, either_way, same_key-refl, same_key-true, Table, node_at, Change, Effect, Node, Unit, strong_count, AreUnits, lives_in, unit_at, waits_in, Collection, IsStored, IsWhole, Shelf, collection_in, is_filed, nodes_with, affected, is_over, is_live_node, is_head, get_or-set_other, get_or-set_same, length-set, and-false, or_none_right, Writes, table_with_node, HasUnit, HasUnits, heads_below, is_unready, no_unit, unit_of, bit, is_strong, decrement_if, MayAffect, is_plain}
+use Rattle.forest_store.proofs.Common.{◌≡◌, ◌≢◌, ℕ, ◌+◌, ◌==◌, Bool, true, false, if◌then◌else◌, is_some, ◌<◌, ◌⊎◌, inl, inr, List, map}
+use Rattle.forest_store.proofs.Common.{length, set, Option, Some, option_map, refl, sym, ap, subst, ◌∙◌, arith, eqb-true, lt-ltb}
+use Rattle.forest_store.proofs.Common.{list_all, NodeKey, Cause, same_key, times, In, In-find, In-map, In-map-back, and_both, both_ways}
+use Rattle.forest_store.proofs.Common.{either_way, same_key-refl, same_key-true, Table, node_at, Change, Effect, Node, Unit}
+use Rattle.forest_store.proofs.Common.{strong_count, AreUnits, lives_in, unit_at, waits_in, Collection, IsStored, IsWhole, Shelf}
+use Rattle.forest_store.proofs.Common.{collection_in, is_filed, nodes_with, affected, is_over, is_live_node, is_head, get_or-set_other}
+use Rattle.forest_store.proofs.Common.{get_or-set_same, length-set, and-false, or_none_right, Writes, table_with_node, HasUnit, HasUnits}
+use Rattle.forest_store.proofs.Common.{heads_below, is_unready, no_unit, unit_of, bit, is_strong, decrement_if, MayAffect, is_plain}
 use Rattle.forest_store.proofs.tables.LeftParents.{loss_left}
 use Rattle.forest_store.proofs.tallies.Slots.{Stays, all_at, but_all, but_join, but_moved, but_stays, one_shelf, one_slot}
-use Rattle.forest_store.proofs.Basics.{together_effect, times_changed, found_filed, found_whole, looked-of, same_affected, IsPlain, collection-beside, all_in, in_all, looked_there, head_there, below_mapped, looked-map, lives_other, lives_own, waits_other, waits_own, IsLeft, left_node, node_is, all-In, Stores-more, Stores-none, IsSameNode, kept-map, look-changed, parents-written}
+use Rattle.forest_store.proofs.Basics.{together_effect, times_changed, found_filed, found_whole, looked-of, same_affected}
+use Rattle.forest_store.proofs.Basics.{IsPlain, collection-beside, all_in, in_all, looked_there, head_there, below_mapped}
+use Rattle.forest_store.proofs.Basics.{looked-map, lives_other, lives_own, waits_other, waits_own, IsLeft, left_node, node_is}
+use Rattle.forest_store.proofs.Basics.{all-In, Stores-more, Stores-none, IsSameNode, kept-map, look-changed, parents-written}
 
 -- ---- what an effect does to a node
 

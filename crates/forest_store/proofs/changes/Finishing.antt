@@ -1,5 +1,9 @@
 -- What stays true where a collection that was worked on is put back.
-use Rattle.forest_store.proofs.Common.{◌≡◌, ◌≢◌, ℕ, ◌==◌, Bool, true, false, List, [], ◌∷◌, map, Option, Some, None, option_map, is_some, cond, refl, sym, ap, ◌∙◌, inl, inr, list_all, AllByRecursion, cons_option, option_map_or, eqb-true, false≢true, NodeKey, same_key, and_left, and_right, same_key-true, Table, node_at, parent_at, Node, Collection, Shelf, AreRising, IsStored, IsWhole, put_shelf, collection_in, nodes_with, all_keys, is_filed, put, cases_eq, was_given, Stores, all_of, stored, AreHeadsGiven, arith}
+use Rattle.forest_store.proofs.Common.{◌≡◌, ◌≢◌, ℕ, ◌==◌, Bool, true, false, List, [], ◌∷◌, map, Option, Some, None, option_map, is_some}
+use Rattle.forest_store.proofs.Common.{cond, refl, sym, ap, ◌∙◌, inl, inr, list_all, AllByRecursion, cons_option, option_map_or, eqb-true}
+use Rattle.forest_store.proofs.Common.{false≢true, NodeKey, same_key, and_left, and_right, same_key-true, Table, node_at, parent_at, Node}
+use Rattle.forest_store.proofs.Common.{Collection, Shelf, AreRising, IsStored, IsWhole, put_shelf, collection_in, nodes_with, all_keys}
+use Rattle.forest_store.proofs.Common.{is_filed, put, cases_eq, was_given, Stores, all_of, stored, AreHeadsGiven, arith}
 use Rattle.forest_store.proofs.tables.Kin.{kin_kept}
 use Rattle.forest_store.proofs.tables.Writing.{given-same}
 use Rattle.forest_store.proofs.tables.Hanging.{in_all}

@@ -1,5 +1,7 @@
 -- A collection to which an effect may be made, found at the place of its id.
-use Rattle.forest_store.proofs.Common.{◌≡◌, ℕ, ◌==◌, List, get_or, Some, option_map, sym, ap, subst, ◌∙◌, find, Table, Change, Entry, Node, Unit, IsStored, Shelf, forest_of, shelf_of, shelves_of, AreCounted, IsCounted, MayChange, HaveUnits, IsOpen}
+use Rattle.forest_store.proofs.Common.{◌≡◌, ℕ, ◌==◌, List, get_or, Some, option_map, sym, ap, subst, ◌∙◌, find}
+use Rattle.forest_store.proofs.Common.{Table, Change, Entry, Node, Unit, IsStored, Shelf, forest_of, shelf_of}
+use Rattle.forest_store.proofs.Common.{shelves_of, AreCounted, IsCounted, MayChange, HaveUnits, IsOpen}
 use Rattle.forest_store.proofs.shelves.Entries.{IsPlace}
 use Rattle.forest_store.proofs.shelves.Showing.{shelf_found}
 use Rattle.forest_store.proofs.quiescence.Watched.{found_counted}

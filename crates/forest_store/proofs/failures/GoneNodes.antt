@@ -1,5 +1,9 @@
 -- A node that is removed: what it keeps, where it is not counted any more, and how it is written.
-use Rattle.forest_store.proofs.Common.{In-map, all_on, ◌≡◌, ℕ, ◌==◌, refl, ap, sym, ◌∙◌, Bool, true, false, ◌||◌, ◌⊎◌, inl, inr, if◌then◌else◌, List, [], ◌∷◌, map, Option, Some, None, cons_option, list_all, list_any, NodeKey, same_key, In, either_way, same_key-refl, same_key-true, Table, node_at, Node, lives_in, waits_in, is_filed, nodes_with, and-false, Going, gone_by, all_of, is_strong, stored, written, camped, and-true, arith}
+use Rattle.forest_store.proofs.Common.{In-map, all_on, ◌≡◌, ℕ, ◌==◌, refl, ap, sym, ◌∙◌, Bool, true, false, ◌||◌, ◌⊎◌, inl}
+use Rattle.forest_store.proofs.Common.{inr, if◌then◌else◌, List, [], ◌∷◌, map, Option, Some, None, cons_option, list_all}
+use Rattle.forest_store.proofs.Common.{list_any, NodeKey, same_key, In, either_way, same_key-refl, same_key-true, Table}
+use Rattle.forest_store.proofs.Common.{node_at, Node, lives_in, waits_in, is_filed, nodes_with, and-false, Going, gone_by}
+use Rattle.forest_store.proofs.Common.{all_of, is_strong, stored, written, camped, and-true, arith}
 use Rattle.forest_store.proofs.changes.Finishing.{keys_in}
 use Rattle.forest_store.proofs.lists.Lookups.{in_nodes, same_key-swap}
 use Rattle.forest_store.proofs.lists.Elements.{In-made}

@@ -1,6 +1,12 @@
 -- Nodes that are written as they go, one after another.
-use Rattle.forest_store.proofs.Common.{◌≡◌, ◌≢◌, ℕ, zero, suc, ◌<◌, Bool, true, false, ◌||◌, inl, if◌then◌else◌, List, [], ◌∷◌, ◌++◌, length, map, take, get_or, Option, Some, None, option_map, refl, ap, sym, ◌∙◌, subst, arith, cons_option, list_any, option_map_or, NodeKey, Unit, head_above, head_of, unreckoned, untallied, without_below, not, same_key, or_right, same_key-refl, Table, node_at, Node, nodes_with, is_over, map-append, filter_map-append, AllPairs, or_none_left, or_none_right, Writes, table_with_node, Going, gone_by, Stores, stored, append-nil, common_steps}
+use Rattle.forest_store.proofs.Common.{◌≡◌, ◌≢◌, ℕ, zero, suc, ◌<◌, Bool, true, false, ◌||◌, inl, if◌then◌else◌, List, [], ◌∷◌, ◌++◌}
+use Rattle.forest_store.proofs.Common.{length, map, take, get_or, Option, Some, None, option_map, refl, ap, sym, ◌∙◌, subst, arith}
+use Rattle.forest_store.proofs.Common.{cons_option, list_any, option_map_or, NodeKey, Unit, head_above, head_of, unreckoned}
+use Rattle.forest_store.proofs.Common.{untallied, without_below, not, same_key, or_right, same_key-refl, Table, node_at, Node}
+use Rattle.forest_store.proofs.Common.{nodes_with, is_over, map-append, filter_map-append, AllPairs, or_none_left, or_none_right}
+use Rattle.forest_store.proofs.Common.{IsSome, is_some, row_at, Writes, table_with_node, Going, gone_by, Stores, stored, common_steps}
 use Rattle.forest_store.proofs.failures.GoneNodes.{same_of}
+use Rattle.forest_store.proofs.tables.Storing.{node_there, row_there}
 use Rattle.forest_store.proofs.Basics.{gone_same, stored_goes, same_key-swap, Stores-more, first_once, rest_once}
 
 -- a key that is not among these is not the one that stands here
@@ -69,20 +75,26 @@ module _ (t : Table Node) (named : (key : NodeKey) (n : Node) → node_at t key 
   with_more : nodes_with t (done ++ k ∷ []) ≡ nodes_with t done ++ cons_option (node_at t k) []
   with_more = filter_map-append _ done _
 
+  -- and the row of the key is still there
+  pub row_still : IsSome (row_at t k) → IsSome (row_at u k)
+  row_still there = row_there u k (ap is_some (still_there ∙ (node_there t k there).1))
+
   -- one more node is written as gone
-  pub went_more : (now : Table Node) → (node_at u k ≡ None → now ≡ u) →
+  pub went_more : (now : Table Node) → IsSome (row_at t k) →
       ((n : Node) → node_at u k ≡ Some n → now ≡ table_with_node u k (gone_by going n)) →
       ((n : Node) → node_at u k ≡ Some n → Writes u now k (gone_by going n)) →
       Stores t now (map (gone_by going) (nodes_with t (done ++ k ∷ [])))
-  went_more now none becomes writes = rw with_more (by _ refl)
+  went_more now there becomes writes = by (node_there t k there).0 (node_there t k there).1
     where
-      by : (o : Option Node) → node_at t k ≡ o → Stores t now (map (gone_by going) (nodes_with t done ++ cons_option o []))
-      by None at = grind (arith, append-nil)
-      by (Some n) at =
+      by : (n : Node) → node_at t k ≡ Some n → Stores t now (map (gone_by going) (nodes_with t (done ++ k ∷ [])))
+      by n at =
           let is : node_at u k ≡ Some n = still_there ∙ at in
           let key : k ≡ (gone_by going n).key = sym ((gone_same going n).key ∙ named k n at) in
-          subst (Stores t now) (sym (map-append (gone_by going) (nodes_with t done) (n ∷ [])))
-          (Stores-more t u _ _ _ named stores (rw (← key) (becomes n is)) (rw (← key) (writes n is)))
+          let more : nodes_with t (done ++ k ∷ []) ≡ nodes_with t done ++ n ∷ [] =
+          with_more ∙ ap (λ (o : Option Node). nodes_with t done ++ cons_option o []) at in
+          subst (λ (ns : List Node). Stores t now (map (gone_by going) ns)) (sym more)
+          (subst (Stores t now) (sym (map-append (gone_by going) (nodes_with t done) (n ∷ [])))
+          (Stores-more t u _ _ _ named stores (rw (← key) (becomes n is)) (rw (← key) (writes n is))))
 
   -- one of them is dead where one was, or this one is
   pub over_more : (over one : Bool) → over ≡ list_any is_over went →
@@ -96,6 +108,7 @@ pub went_now : (t : Table Node) → ((key : NodeKey) (n : Node) → node_at t ke
     nodes_with now keys ≡ map (gone_by going) (nodes_with t keys)
 went_now t named going keys now stores = among _ (λ k on. on)
   where
+    -- by cases: no node was there, or it is among the keys and so goes
     find_gone : (k : NodeKey) → list_any (same_key k) keys ≡ true → (o : Option Node) → node_at t k ≡ o →
         node_at now k ≡ option_map (gone_by going) o
     find_gone k on None at = stores.look k ∙ ap (option_map (stored (map (gone_by going) (nodes_with t keys)))) at
@@ -106,11 +119,13 @@ went_now t named going keys now stores = among _ (λ k on. on)
         ∙ ap Some (stored_goes t named _ keys n (ap (node_at t) key ∙ at) n (inl refl)
         ∙ (λ i. if there i then gone_by going n else n))
 
+    -- by cases on the first node
     mapped : (o : Option Node) (ns : List Node) →
         cons_option (option_map (gone_by going) o) (map (gone_by going) ns) ≡ map (gone_by going) (cons_option o ns)
     mapped None ns = refl
     mapped (Some n) ns = refl
 
+    -- by induction on the keys: each finds its node as it goes
     among : (ks : List NodeKey) → ((k : NodeKey) → list_any (same_key k) ks ≡ true → list_any (same_key k) keys ≡ true) →
         nodes_with now ks ≡ map (gone_by going) (nodes_with t ks)
     among [] within = refl

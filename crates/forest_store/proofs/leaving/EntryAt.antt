@@ -1,5 +1,8 @@
 -- The entry at the place of a collection, of which the dead nodes are taken out.
-use Rattle.forest_store.proofs.Common.{◌≡◌, ℕ, ◌==◌, true, false, List, [], get_or, set, refl, Option, Some, None, option_map, sym, ◌∙◌, ap, subst, find, list_any, NodeKey, same_key, Table, node_at, Entry, Node, over_except, IsStored, Shelf, nodes_with, place_in, shelf_of, shelves_of, is_over, get_or_default, AreCounted, IsForgettable, IsLeftIn, IsThinned, is_bare, left_at, thin_in, thinned, without_bare}
+use Rattle.forest_store.proofs.Common.{◌≡◌, ℕ, ◌==◌, true, false, List, [], get_or, set, refl, Option, Some, None, option_map, sym, ◌∙◌}
+use Rattle.forest_store.proofs.Common.{ap, subst, find, list_any, NodeKey, same_key, Table, node_at, Entry, Node, over_except, IsStored}
+use Rattle.forest_store.proofs.Common.{Shelf, nodes_with, place_in, shelf_of, shelves_of, is_over, get_or_default, AreCounted}
+use Rattle.forest_store.proofs.Common.{IsForgettable, IsLeftIn, IsThinned, is_bare, left_at, thin_in, thinned, without_bare}
 use Rattle.forest_store.proofs.leaving.Forgotten.{tidy_left}
 use Rattle.forest_store.proofs.leaving.Places.{found_apart}
 use Rattle.forest_store.proofs.allocation.Before.{key_listed}

@@ -1,5 +1,8 @@
 -- What is left once the nodes of a collection that are dead are forgotten.
-use Rattle.forest_store.proofs.Common.{IsLeftIn, ◌≡◌, ℕ, ◌==◌, true, false, inl, inr, Option, Some, None, List, map, refl, sym, subst, ◌∙◌, find, list_any, Table, node_at, NodeKey, same_key, both_ways, either_way, In-any, Node, Shelf, AreRising, IsStored, are_filed, collection_in, nodes_with, is_over, without_over_in, left_at, thin_in, thinned, unless_over, without_bare, arith}
+use Rattle.forest_store.proofs.Common.{IsLeftIn, ◌≡◌, ℕ, ◌==◌, true, false, inl, inr, Option, Some, None, List, map, refl, sym}
+use Rattle.forest_store.proofs.Common.{subst, ◌∙◌, find, list_any, Table, node_at, NodeKey, same_key, both_ways, either_way}
+use Rattle.forest_store.proofs.Common.{In-any, Node, Shelf, AreRising, IsStored, are_filed, collection_in, nodes_with, is_over}
+use Rattle.forest_store.proofs.Common.{without_over_in, left_at, thin_in, thinned, unless_over, without_bare, arith}
 use Rattle.forest_store.proofs.leaving.Thinning.{all_thinned-same, thinned-same}
 use Rattle.forest_store.proofs.leaving.Tidying.{bare-kept, bare_others, none_others, over_others, thin_others, thinned_all, tidied_all}
 use Rattle.forest_store.proofs.Basics.{all-In, filed_found, found_id, in_nodes, map-same}
@@ -18,6 +21,7 @@ tidy_left t keys none k = elim (either_way (list_any (same_key k) keys)) [
   | inr other ↦ rw other refl
 ]
   where
+    -- by cases: no node is left, or it is one of those that are not over
     from : list_any (same_key k) keys ≡ true → (o : Option Node) → node_at t k ≡ o → o ≡ unless_over o
     from there None is = refl
     from there (Some n) is = elim (either_way (is_over n)) [

@@ -1,5 +1,6 @@
 -- A key that is taken out of a list whose first cells are left over.
-use Rattle.forest_store.proofs.Common.{ℕ, suc, ◌≡◌, ◌+◌, ◌<◌, ◌≤◌, ap, sym, ◌∙◌, List, ◌++◌, length, take, drop, arith, ◌-◌, append_assoc, remove, copy_within, drop-drop, drop_at, length-take-le, take-append-drop}
+use Rattle.forest_store.proofs.Common.{ℕ, suc, ◌≡◌, ◌+◌, ◌<◌, ◌≤◌, ap, sym, ◌∙◌, List, ◌++◌, length, take, drop, arith, ◌-◌}
+use Rattle.forest_store.proofs.Common.{append_assoc, remove, copy_within, drop-drop, drop_at, length-take-le, take-append-drop}
 use Rattle.std.proofs.lemmas.List.Edits.{remove-append_right}
 
 -- those before it move up by one, over it

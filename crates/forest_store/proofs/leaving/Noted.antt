@@ -1,5 +1,6 @@
 -- Nodes that are dead, but for those that are noted.
-use Rattle.forest_store.proofs.Common.{arith, and_left, ◌≡◌, refl, ap, ◌∙◌, Bool, true, false, not, ◌&&◌, List, [], list_any, same_key, Node, NodeKey, over_except, is_over, and-false, AreMore}
+use Rattle.forest_store.proofs.Common.{arith, and_left, ◌≡◌, refl, ap, ◌∙◌, Bool, true, false, not, ◌&&◌, List, []}
+use Rattle.forest_store.proofs.Common.{list_any, same_key, Node, NodeKey, over_except, is_over, and-false, AreMore}
 use Rattle.forest_store.proofs.lists.Elements.{none_less}
 
 -- a node that is not dead is not, whichever are noted
@@ -11,9 +12,11 @@ pub noted_not : (garbage : List NodeKey) (n : Node) → list_any (same_key n.key
 noted_not garbage n e = ap (λ (b : Bool). is_over n && not b) e ∙ and-false (is_over n)
 
 -- one that is not dead but for those that are noted is not dead, if it is none of them
-pub none_but : (garbage : List NodeKey) (n : Node) → over_except garbage n ≡ false → list_any (same_key n.key) garbage ≡ false → is_over n ≡ false
+pub none_but : (garbage : List NodeKey) (n : Node) → over_except garbage n ≡ false →
+    list_any (same_key n.key) garbage ≡ false → is_over n ≡ false
 none_but garbage n none e = from _ _ none e
   where
+    -- by arithmetic of switches
     from : (b c : Bool) → (b && not c) ≡ false → c ≡ false → b ≡ false
     from b c h e = grind arith
 

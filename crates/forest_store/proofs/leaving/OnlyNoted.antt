@@ -1,5 +1,9 @@
 -- A collection of which no other nodes are dead than are noted: to look at those is to look at all.
-use Rattle.forest_store.proofs.Common.{In-filter, filter-less, not-true, ◌≡◌, refl, ap, sym, ◌∙◌, Bool, true, false, not, ◌&&◌, ◌||◌, ◌⊎◌, inl, inr, List, [], ◌∷◌, cond, Option, Some, None, is_some, eqb-true, filter, list_all, list_any, option_map_or, NodeKey, same_key, In, In-list_any, both_ways, either_way, same_key-true, Table, node_at, Entry, Node, is_filed, is_over, and-false, filter-In, IsForgettable, is_found, is_left_by, is_own_if_over, left_at, unless_over, arith}
+use Rattle.forest_store.proofs.Common.{In-filter, filter-less, not-true, ◌≡◌, refl, ap, sym, ◌∙◌, Bool, true, false, not, ◌&&◌}
+use Rattle.forest_store.proofs.Common.{◌||◌, ◌⊎◌, inl, inr, List, [], ◌∷◌, cond, Option, Some, None, is_some, eqb-true, filter}
+use Rattle.forest_store.proofs.Common.{list_all, list_any, option_map_or, NodeKey, same_key, In, In-list_any, both_ways}
+use Rattle.forest_store.proofs.Common.{either_way, same_key-true, Table, node_at, Entry, Node, is_filed, is_over, and-false}
+use Rattle.forest_store.proofs.Common.{filter-In, IsForgettable, is_found, is_left_by, is_own_if_over, left_at, unless_over, arith}
 use Rattle.forest_store.proofs.shelves.Counted.{own_key}
 use Rattle.forest_store.proofs.Basics.{in_nodes, none_each, all-In, none_but, same_key-swap}
 
@@ -74,8 +78,10 @@ left_dropped t key later e ks =
     stays : (k : NodeKey) → is_left_by t (key ∷ later) k ≡ true → not (same_key key k) ≡ true
     stays k h = grind (arith, same_key-true, same_key-swap)
 
+    -- since the key that was dropped is another
     others : (k : NodeKey) → same_key key k ≡ false → is_left_by t (key ∷ later) k ≡ is_left_by t later k
-    others k differ = λ i. not (((same_key-swap k key ∙ differ) i || list_any (same_key k) later) && option_map_or is_over (node_at t k) false)
+    others k differ = λ i. not
+        (((same_key-swap k key ∙ differ) i || list_any (same_key k) later) && option_map_or is_over (node_at t k) false)
 
 -- no key is left out by none
 pub left_none : (t : Table Node) (ks : List NodeKey) → filter (is_left_by t []) ks ≡ ks

@@ -1,5 +1,8 @@
 -- A key of a list in which no key stands twice, and its place.
-use Rattle.forest_store.proofs.Common.{◌≡◌, ℕ, zero, suc, ◌<◌, refl, ap, sym, ◌∙◌, subst, Bool, true, false, not, ◌==◌, cond, get_or, List, [], ◌∷◌, ◌++◌, length, Some, arith, filter, find, list_any, false≢true, not-true, NodeKey, same_key, and_both, and_left, and_right, false_if, or_left, or_right, same_key-refl, same_key-true, Shelf, all_keys, remove, list_any-append, or_none_left, are_apart}
+use Rattle.forest_store.proofs.Common.{◌≡◌, ℕ, zero, suc, ◌<◌, refl, ap, sym, ◌∙◌, subst, Bool, true, false, not, ◌==◌, cond, get_or}
+use Rattle.forest_store.proofs.Common.{List, [], ◌∷◌, ◌++◌, length, Some, arith, filter, find, list_any, false≢true, not-true}
+use Rattle.forest_store.proofs.Common.{NodeKey, same_key, and_both, and_left, and_right, false_if, or_left, or_right, same_key-refl}
+use Rattle.forest_store.proofs.Common.{same_key-true, Shelf, all_keys, remove, list_any-append, or_none_left, are_apart}
 use Rattle.forest_store.proofs.leaving.Thinning.{lacks-filter}
 use Rattle.forest_store.proofs.changes.Altering.{Some-shelf}
 
@@ -39,6 +42,7 @@ pub found_apart : (id : ℕ) (ss : List Shelf) (s : Shelf) → are_apart (all_ke
 found_apart id [] s apart found = absurd (cc)
 found_apart id (x ∷ xs) s apart found = by (x.id == id) found (found_apart id xs s (apart_right x.keys (all_keys xs) apart))
   where
+    -- by cases: it is the first one, whose keys are apart, or one behind it
     by : (b : Bool) → cond b (Some x) (find (λ (y : Shelf). y.id == id) xs) ≡ Some s →
         (find (λ (y : Shelf). y.id == id) xs ≡ Some s → are_apart s.keys ≡ true) → are_apart s.keys ≡ true
     by true is on = rw (← (Some-shelf x s is)) (apart_left x.keys (all_keys xs) apart)

@@ -1,7 +1,16 @@
 -- What stays true of a forest where a node was taken out, and its key is dropped.
-use Rattle.forest_store.proofs.Common.{In-any, In-filter, In-filter-back, In-list_any, all_on, both_ways, filter-In, ◌≡◌, ℕ, ◌+◌, ◌==◌, Bool, true, false, not, List, [], ◌∷◌, map, length, drop, Option, Some, None, is_some, cond, refl, sym, ap, subst, ◌∙◌, inl, inr, arith, list_any, list_all, filter, AllByRecursion, option_map_or, false≢true, not-true, NodeKey, same_key, In, and_both, and_left, and_right, either_way, same_key-true, Table, node_at, parent_at, Node, Collection, with_nodes, Shelf, AreRising, IsStored, IsWhole, all_keys, are_filed, collection_in, is_filed, nodes_with, is_of, are_distinct, heads_itself, filter-append, filter-list_all, list_all-filter, table_len, same_key-equal, TakesOut, is_found, thinned, are_apart, IsSound, filter-all, filter-less, list_all-append}
+use Rattle.forest_store.proofs.Common.{In-any, In-filter, In-filter-back, In-list_any, all_on, both_ways, filter-In, ◌≡◌, ℕ, ◌+◌, ◌==◌}
+use Rattle.forest_store.proofs.Common.{Bool, true, false, not, List, [], ◌∷◌, map, length, drop, Option, Some, None, is_some, cond, refl}
+use Rattle.forest_store.proofs.Common.{sym, ap, subst, ◌∙◌, inl, inr, arith, list_any, list_all, filter, AllByRecursion, option_map_or}
+use Rattle.forest_store.proofs.Common.{false≢true, not-true, NodeKey, same_key, In, and_both, and_left, and_right, either_way}
+use Rattle.forest_store.proofs.Common.{same_key-true, Table, node_at, parent_at, Node, Collection, with_nodes, Shelf, AreRising}
+use Rattle.forest_store.proofs.Common.{IsStored, IsWhole, all_keys, are_filed, collection_in, is_filed, nodes_with, is_of, are_distinct}
+use Rattle.forest_store.proofs.Common.{heads_itself, filter-append, filter-list_all, list_all-filter, table_len, same_key-equal}
+use Rattle.forest_store.proofs.Common.{TakesOut, is_found, thinned, are_apart, IsSound, filter-all, filter-less, list_all-append}
 use Rattle.forest_store.proofs.tables.LeftParents.{childless}
-use Rattle.forest_store.proofs.Basics.{all_weaker, all-In, all_mapped, each_none, made-found, map-same, none_each, looked_gone, rooted_filter, kin_kept, looked-without, whole_rooted, same_first, together_filter, united_filter, place-filed}
+use Rattle.forest_store.proofs.Basics.{all_weaker, all-In, all_mapped, each_none, made-found, map-same}
+use Rattle.forest_store.proofs.Basics.{none_each, looked_gone, rooted_filter, kin_kept, looked-without}
+use Rattle.forest_store.proofs.Basics.{whole_rooted, same_first, together_filter, united_filter, place-filed}
 
 -- ---- lists of which some elements are kept
 

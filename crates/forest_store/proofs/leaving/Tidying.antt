@@ -1,5 +1,12 @@
 -- A collection without its dead nodes, and collections without the empty ones.
-use Rattle.forest_store.proofs.Common.{false_if, In-list_any, all_on, map-In, ◌≡◌, ℕ, suc, ◌==◌, ◌<◌, Bool, true, false, ◌&&◌, not, List, [], ◌∷◌, map, length, Option, Some, None, is_some, cond, refl, sym, ap, ◌∙◌, inl, inr, arith, find, list_any, list_all, filter, cons_option, AllByRecursion, option_map_or, false≢true, eqb-true, eqb-false, eq-eqb, NodeKey, same_key, and_right, or_left, or_right, same_key-true, Table, node_at, Node, Shelf, AreRising, IsStored, all_keys, are_filed, collection_in, is_filed, nodes_with, is_over, ne_eqb, filter-list_all, list_all-filter, same_key-equal, is_left, tidied, without_over_in, is_bare, is_found, left_at, thin_in, thinned, unless_over, without_bare, are_apart, either_way, filter-all, none-find}
+use Rattle.forest_store.proofs.Common.{false_if, In-list_any, all_on, map-In, ◌≡◌, ℕ, suc, ◌==◌, ◌<◌, Bool, true, false, ◌&&◌, not}
+use Rattle.forest_store.proofs.Common.{List, [], ◌∷◌, map, length, Option, Some, None, is_some, cond, refl, sym, ap, ◌∙◌, inl, inr}
+use Rattle.forest_store.proofs.Common.{arith, find, list_any, list_all, filter, cons_option, AllByRecursion, option_map_or}
+use Rattle.forest_store.proofs.Common.{false≢true, eqb-true, eqb-false, eq-eqb, NodeKey, same_key, and_right, or_left, or_right}
+use Rattle.forest_store.proofs.Common.{same_key-true, Table, node_at, Node, Shelf, AreRising, IsStored, all_keys, are_filed}
+use Rattle.forest_store.proofs.Common.{collection_in, is_filed, nodes_with, is_over, ne_eqb, filter-list_all, list_all-filter}
+use Rattle.forest_store.proofs.Common.{same_key-equal, is_left, tidied, without_over_in, is_bare, is_found, left_at, thin_in}
+use Rattle.forest_store.proofs.Common.{thinned, unless_over, without_bare, are_apart, either_way, filter-all, none-find}
 use Rattle.forest_store.proofs.leaving.Thinning.{filed_all}
 use Rattle.forest_store.proofs.Basics.{all-In, all_at, all_filter, all_in, all_weaker, made-In, map-same, none_each}
 
@@ -72,6 +79,7 @@ found-length : (t : Table Node) (ks : List NodeKey) → length (nodes_with t (fi
 found-length t [] = refl
 found-length t (k ∷ ks) = by (found-length t ks) _ refl
   where
+    -- by cases: a key that finds a node adds one to both, and another is left out
     by : length (nodes_with t (filter (is_found t) ks)) ≡ length (filter (is_found t) ks) → (o : Option Node) → node_at t k ≡ o →
         length (nodes_with t (cond (is_some o) (k ∷ filter (is_found t) ks) (filter (is_found t) ks))) ≡ length
         (cond (is_some o) (k ∷ filter (is_found t) ks) (filter (is_found t) ks))

@@ -1,5 +1,6 @@
 -- Intervals in order of page, as a pool keeps them.
-use Rattle.forest_store.proofs.Common.{cases_eq, le-ltb, ℕ, ◌≡◌, ◌≤◌, refl, ap, sym, ◌∙◌, Bool, true, false, nat_lt, cond, List, [], ◌∷◌, ◌++◌, map, inl, inr, list_any, Interval, insert_by, by_page, with_buffers, with_interval, arith}
+use Rattle.forest_store.proofs.Common.{cases_eq, le-ltb, ℕ, ◌≡◌, ◌≤◌, refl, ap, sym, ◌∙◌, Bool, true, false, nat_lt, cond, List, [], ◌∷◌}
+use Rattle.forest_store.proofs.Common.{◌++◌, map, inl, inr, list_any, Interval, insert_by, by_page, with_buffers, with_interval, arith}
 use Rattle.sm_names.specs.Apart.{at_pages}
 use Rattle.forest_store.proofs.lists.SameIntervals.{any-sorted, insert-swap}
 

@@ -1,5 +1,8 @@
 -- What holds of the elements of a list, and what is found, kept or made of them.
-use Rattle.forest_store.proofs.Common.{◌&&◌, ◌+◌, find, list_all, list_any-map, option_map, times, ◌≡◌, refl, ap, sym, ◌∙◌, subst, Bool, true, false, inl, inr, List, [], ◌∷◌, map, Option, Some, None, is_some, cond, AllByRecursion, cons_option, filter, filter_map, list_any, In, In-any, In-filter, In-list_any, both_ways, false_if, arith}
+use Rattle.forest_store.proofs.Common.{◌&&◌, ◌+◌, find, list_all, list_any-map, option_map, times, ◌≡◌, refl, ap}
+use Rattle.forest_store.proofs.Common.{sym, ◌∙◌, subst, Bool, true, false, inl, inr, List, [], ◌∷◌, map, Option}
+use Rattle.forest_store.proofs.Common.{Some, None, is_some, cond, AllByRecursion, cons_option, filter, filter_map}
+use Rattle.forest_store.proofs.Common.{list_any, In, In-any, In-filter, In-list_any, both_ways, false_if, arith}
 
 -- ---- all
 
@@ -54,6 +57,7 @@ pub In-made : {A B : Type 0} (h : A → Option B) (xs : List A) (y : B) → In y
 In-made h [] y on = absurd on
 In-made {A = A} {B = B} h (x ∷ xs) y on = by _ refl (In-made h xs y) on
   where
+    -- by cases: it is made of the first element or of one behind it
     by : (o : Option B) → h x ≡ o → (In y (filter_map h xs) → (z : A) × In z xs × (h z ≡ Some y)) → In y (cons_option o (filter_map h xs)) →
         (z : A) × In z (x ∷ xs) × (h z ≡ Some y)
     by o is rest on = grind arith
@@ -74,8 +78,10 @@ pub made-found : {A B : Type 0} (h : A → Option B) (xs : List A) → filter_ma
 made-found h [] = refl
 made-found {A = A} {B = B} h (x ∷ xs) = by _ refl (made-found h xs)
   where
+    -- by cases: an element of which nothing is made is left out of both
     by : (o : Option B) → h x ≡ o → filter_map h (filter (λ z. is_some (h z)) xs) ≡ filter_map h xs →
-        filter_map h (cond (is_some o) (x ∷ filter (λ z. is_some (h z)) xs) (filter (λ z. is_some (h z)) xs)) ≡ cons_option o (filter_map h xs)
+        filter_map h (cond (is_some o) (x ∷ filter (λ z. is_some (h z)) xs) (filter (λ z. is_some (h z)) xs))
+        ≡ cons_option o (filter_map h xs)
     by None is on = on
     by (Some y) is on = rw (is, on) refl
 

@@ -1,5 +1,7 @@
 -- Tests over lists that were filtered and mapped.
-use Rattle.forest_store.proofs.Common.{ℕ, ◌≡◌, nat_lt, refl, ap, sym, ◌∙◌, Bool, not, ◌&&◌, ◌||◌, if◌then◌else◌, List, [], ◌∷◌, map, Option, None, arith, list_any, list_all, find, filter, max, filter_map, fold, or_false, option_map, or_assoc}
+use Rattle.forest_store.proofs.Common.{ℕ, ◌≡◌, nat_lt, refl, ap, sym, ◌∙◌, Bool, not, ◌&&◌, ◌||◌, if◌then◌else◌}
+use Rattle.forest_store.proofs.Common.{List, [], ◌∷◌, map, Option, None, arith, list_any, list_all, find}
+use Rattle.forest_store.proofs.Common.{filter, max, filter_map, fold, or_false, option_map, or_assoc}
 use Rattle.sm_names.proofs.SamenessLaws.{none_below}
 use Rattle.forest_store.proofs.lists.Elements.{map-same}
 

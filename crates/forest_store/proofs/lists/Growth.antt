@@ -1,5 +1,6 @@
 -- A list that is made of another, element by element, grows by what is made of the next.
-use Rattle.forest_store.proofs.Common.{List, [], ◌++◌, ◌+◌, ◌<◌, ◌≡◌, ◌∷◌, ap, append_assoc, refl, get_or, length, sym, take, ℕ, ◌∙◌, take_more, take_all, ◌≤◌}
+use Rattle.forest_store.proofs.Common.{List, [], ◌++◌, ◌+◌, ◌<◌, ◌≡◌, ◌∷◌, ap, append_assoc, refl}
+use Rattle.forest_store.proofs.Common.{get_or, length, sym, take, ℕ, ◌∙◌, take_more, take_all, ◌≤◌}
 
 -- what is made of joined lists is joined
 abbrev pub Joins : {A B : Type 0} → (List A → List B) → Type 0

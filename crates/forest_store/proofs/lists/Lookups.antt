@@ -1,5 +1,8 @@
 -- The nodes that a list of keys finds, by a look-up of one key.
-use Rattle.forest_store.proofs.Common.{In, In-list_any, Table, node_at, nodes_with, ◌≡◌, Bool, true, false, ◌||◌, not, List, [], ◌∷◌, map, Option, Some, None, option_map, cond, if◌then◌else◌, refl, sym, ap, ◌∙◌, filter, list_any, cons_option, NodeKey, same_key, same_key-true, Node, is_of, node_of, filter_map, same_key-equal, same_key-apart, false-same_key, arith, common_steps}
+use Rattle.forest_store.proofs.Common.{In, In-list_any, Table, node_at, nodes_with, ◌≡◌, Bool, true, false, ◌||◌, not, List}
+use Rattle.forest_store.proofs.Common.{[], ◌∷◌, map, Option, Some, None, option_map, cond, if◌then◌else◌, refl, sym, ap, ◌∙◌}
+use Rattle.forest_store.proofs.Common.{filter, list_any, cons_option, NodeKey, same_key, same_key-true, Node, is_of, node_of}
+use Rattle.forest_store.proofs.Common.{filter_map, same_key-equal, same_key-apart, false-same_key, arith, common_steps}
 use Rattle.forest_store.proofs.lists.Elements.{In-made-back}
 
 -- a look-up of nodes by key

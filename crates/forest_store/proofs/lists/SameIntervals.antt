@@ -1,5 +1,7 @@
 -- Lists of the same intervals in another order, no two at one page: sorted they are one list.
-use Rattle.forest_store.proofs.Common.{◌≡◌, ◌≢◌, ℕ, ◌<◌, ◌≤◌, ◌==◌, nat_lt, Bool, true, false, ◌||◌, ◌&&◌, not, List, [], ◌∷◌, ◌++◌, cond, refl, ap, ◌∙◌, inl, inr, arith, list_any, lt-ltb, Interval, and_left, and_right, le-ltb, ne_eqb, cases_lt, ltb-true, leb-true, insert_by, sorted_by, common_steps, in_order}
+use Rattle.forest_store.proofs.Common.{◌≡◌, ◌≢◌, ℕ, ◌<◌, ◌≤◌, ◌==◌, nat_lt, Bool, true, false, ◌||◌, ◌&&◌, not, List, [], ◌∷◌}
+use Rattle.forest_store.proofs.Common.{◌++◌, cond, refl, ap, ◌∙◌, inl, inr, arith, list_any, lt-ltb, Interval, and_left, and_right}
+use Rattle.forest_store.proofs.Common.{le-ltb, ne_eqb, cases_lt, ltb-true, leb-true, insert_by, sorted_by, common_steps, in_order}
 use Rattle.forest_store.specs.Starts.{begins_with, starts_differ}
 use Rattle.buffer_pool.specs.Holes.{end_of}
 

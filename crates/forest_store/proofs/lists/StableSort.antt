@@ -1,5 +1,8 @@
 -- A stable sort by a number gives what putting the elements in place one after another gives.
-use Rattle.forest_store.proofs.Common.{ℕ, suc, ◌≡◌, ◌==◌, ◌<◌, ◌≤◌, refl, ap, sym, ◌∙◌, Bool, true, false, nat_lt, cond, inl, inr, List, [], ◌∷◌, length, arith, filter, AllByRecursion, eq-eqb, either_way, IsNonDecreasingBy, ne_eqb, ltb-true, ltb-false, insert_by, sorted_by, slice_index_or, common_steps, ties, IsSortedByKey, IsStableByKey, IsNonDecreasingBy-from_sort}
+use Rattle.forest_store.proofs.Common.{ℕ, suc, ◌≡◌, ◌==◌, ◌<◌, ◌≤◌, refl, ap, sym, ◌∙◌, Bool, true, false, nat_lt, cond}
+use Rattle.forest_store.proofs.Common.{inl, inr, List, [], ◌∷◌, length, arith, filter, AllByRecursion, eq-eqb, either_way}
+use Rattle.forest_store.proofs.Common.{IsNonDecreasingBy, ne_eqb, ltb-true, ltb-false, insert_by, sorted_by, slice_index_or}
+use Rattle.forest_store.proofs.Common.{common_steps, ties, IsSortedByKey, IsStableByKey, IsNonDecreasingBy-from_sort}
 use Rattle.std.specs.Ordering.{is_lt, nat_cmp}
 
 -- ---- numbers

@@ -1,5 +1,10 @@
 -- A node that is born: what the table has, and what stays true.
-use Rattle.forest_store.proofs.Common.{◌≡◌, ℕ, ◌+◌, Bool, true, false, length, Option, Some, None, option_map, if◌then◌else◌, refl, sym, ap, ◌∙◌, inl, inr, arith, option_map_or, lt-ltb, NodeKey, same_key, Table, node_at, parent_at, Node, Result, IfOk, ne_eqb, cases_eq, get_or_past, Row, row_at, parent_in, was_given, Writes, table_with_node, key_cases, same_key-equal, same_key-apart, Bears, born, named, le-leb, Births, with_child}
+use Rattle.forest_store.proofs.Common.{◌≡◌, ℕ, ◌+◌, Bool, true, false, length, Option, Some, None, option_map, if◌then◌else◌}
+use Rattle.forest_store.proofs.Common.{refl, sym, ap, ◌∙◌, inl, inr, arith, option_map_or, lt-ltb, NodeKey, same_key, Table}
+use Rattle.forest_store.proofs.Common.{node_at, parent_at, Node, Result, IfOk, ne_eqb, cases_eq, get_or_past, Row, row_at}
+use Rattle.forest_store.proofs.Common.{parent_in, was_given, Writes, table_with_node, key_cases, same_key-equal}
+use Rattle.forest_store.proofs.Common.{same_key-apart, Bears, born, named, le-leb, Births, with_child, IsSome, is_some}
+use Rattle.forest_store.proofs.tables.Storing.{row_there}
 use Rattle.forest_store.proofs.tables.Writing.{look-written, parents-written}
 use Rattle.forest_store.proofs.tables.TakingOut.{still_node, still_parent}
 
@@ -83,3 +88,8 @@ pub named_bears : {E : Type 0} (t now : Table Node) (above : Option Node) (attac
     IfOk result (λ key. Bears t now (named key draft)) →
     IfOk result (λ key. Bears t now (born above attached id event client key))
 named_bears t now above attached id event client any draft is result bears = grind arith
+
+-- a node that was born has a row
+pub born_row : {old new : Table Node} {node : Node} {key : NodeKey} → Bears old new node → node.key ≡ key → IsSome (row_at new key)
+born_row {old} {new} {node} {key} bears is =
+    row_there new key (ap is_some (bears.look key) ∙ rw (same_key-equal node.key key is) refl)

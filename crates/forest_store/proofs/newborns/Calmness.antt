@@ -1,5 +1,9 @@
 -- A birth leaves a calm collection calm.
-use Rattle.forest_store.proofs.Common.{arith, ◌≡◌, ℕ, ap, refl, sym, subst, ◌∙◌, Bool, true, false, not, ◌&&◌, List, [], ◌∷◌, ◌++◌, Option, Some, None, option_map, is_some, find, list_any, option_and_then, option_map_or, NodeKey, Buffers, Cause, when, Change, Node, Collection, is_of, members_of, node_of, Standing, is_next_head, logical_failure, outcome, Ended, Loss, Mark, Member, demands, reserved, some_strong_live, unit, map-None, AtRest, none_is, IsQuiescent, member_of, new_child, new_root, changed}
+use Rattle.forest_store.proofs.Common.{arith, ◌≡◌, ℕ, ap, refl, sym, subst, ◌∙◌, Bool, true, false, not, ◌&&◌, List, [], ◌∷◌, ◌++◌}
+use Rattle.forest_store.proofs.Common.{Option, Some, None, option_map, is_some, find, list_any, option_and_then, option_map_or, NodeKey}
+use Rattle.forest_store.proofs.Common.{Buffers, Cause, when, Change, Node, Collection, is_of, members_of, node_of, Standing, is_next_head}
+use Rattle.forest_store.proofs.Common.{logical_failure, outcome, Ended, Loss, Mark, Member, demands, reserved, some_strong_live, unit}
+use Rattle.forest_store.proofs.Common.{map-None, AtRest, none_is, IsQuiescent, member_of, new_child, new_root, changed}
 use Rattle.forest_store.proofs.quiescence.Calming.{calm_none, later, none_calm, wait_tie}
 use Rattle.forest_store.proofs.quiescence.Forcing.{deserted_tie, next_tie}
 use Rattle.forest_store.proofs.newborns.Members.{IsNewborn, rests_with}

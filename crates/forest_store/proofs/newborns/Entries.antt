@@ -1,5 +1,10 @@
 -- The entries once a node is born of which nothing else follows.
-use Rattle.forest_store.proofs.Common.{◌≡◌, ℕ, ◌+◌, ◌==◌, Bool, false, if◌then◌else◌, List, [], Option, Some, None, option_map, get_or, set, refl, sym, ap, subst, ◌∙◌, arith, find, list_any, option_map_or, NodeKey, Table, Entry, Node, strong_count, over_except, Collection, IsStored, Shelf, collection_in, forest_of, place_in, put_shelf, shelf_of, shelves_of, reserved_count, collection_or_new, Result, Ok, Err, IfOk, get_or_default, unwrap_or, AreCounted, IsQuiescent, IsCounted, put_in, Bears, born, no_shelf, shelf_before, shelf_with, OnErr}
+use Rattle.forest_store.proofs.Common.{◌≡◌, ℕ, ◌+◌, ◌==◌, Bool, false, if◌then◌else◌, List, [], Option, Some, None, option_map}
+use Rattle.forest_store.proofs.Common.{get_or, set, refl, sym, ap, subst, ◌∙◌, arith, find, list_any, option_map_or, NodeKey}
+use Rattle.forest_store.proofs.Common.{Table, Entry, Node, strong_count, over_except, Collection, IsStored, Shelf}
+use Rattle.forest_store.proofs.Common.{collection_in, forest_of, place_in, put_shelf, shelf_of, shelves_of, reserved_count}
+use Rattle.forest_store.proofs.Common.{collection_or_new, Result, Ok, Err, IfOk, get_or_default, unwrap_or, AreCounted}
+use Rattle.forest_store.proofs.Common.{IsQuiescent, IsCounted, put_in, Bears, born, no_shelf, shelf_before, shelf_with, OnErr}
 use Rattle.forest_store.proofs.newborns.Forest.{still_collection}
 use Rattle.forest_store.proofs.shelves.Counted.{counted_but, counted_put, counted_set, moved_all, counted_as, set_shelves, shelves_put}
 use Rattle.forest_store.proofs.newborns.Newborn.{Above}
@@ -46,7 +51,8 @@ module _ (t : Table Node) (es : List Entry) (ok : IsStored t (shelves_of es)) (a
 
     -- where memory was refused
     module _ (new : Entry) (same : shelf_of new ≡ shelf_of old) (strong : new.strong ≡ old.strong)
-        (reserved : new.reserved ≡ old.reserved) (garbage_known : new.garbage_known ≡ old.garbage_known) (garbage : new.garbage.items ≡ old.garbage.items) where
+        (reserved : new.reserved ≡ old.reserved) (garbage_known : new.garbage_known ≡ old.garbage_known)
+        (garbage : new.garbage.items ≡ old.garbage.items) where
       -- a refusal keeps the shelf, so the list of shelves stays
       pub refused_shelves : shelves_of (set es at new) ≡ shelves_of es
       refused_shelves = set_shelves _ at new (λ within. same ∙ ap shelf_of (is ∙ get_or_default _ at old new within))

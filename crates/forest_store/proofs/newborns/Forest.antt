@@ -1,6 +1,14 @@
 -- What stays true of a forest with one node more.
-use Rattle.forest_store.proofs.Common.{all_on, and_both, map-In, ◌≡◌, ℕ, suc, ◌<◌, ◌==◌, ◌⊎◌, Bool, true, false, ◌||◌, List, [], ◌∷◌, ◌++◌, map, length, Option, Some, None, refl, sym, ap, subst, ◌∙◌, inl, inr, arith, list_any, list_all, find, cons_option, AllByRecursion, option_map_or, eq-eqb, false≢true, NodeKey, same_key, HeldBuffer, and_left, and_right, or_right, same_key-true, some-injective, Table, node_at, parent_at, Node, Collection, Shelf, AreRising, IsStored, IsWhole, put_shelf, collection_in, nodes_with, forest_of, all_keys, are_filed, is_filed, put, append_assoc, flat_map, ltb-true, filter_map-append, list_any-append, was_given, key_cases, same_key-equal, same_key-apart, all_held, AreKin, Bears, are_apart, list_all-append}
-use Rattle.forest_store.proofs.Basics.{all-In, each_none, made-In, or_swap, part_swap, none_above, whole-map, whole-unmap, same_key-swap, given_there, cases_place, rising-put, above-weaker, put-map}
+use Rattle.forest_store.proofs.Common.{all_on, and_both, map-In, ◌≡◌, ℕ, suc, ◌<◌, ◌==◌, ◌⊎◌, Bool, true, false, ◌||◌, List, []}
+use Rattle.forest_store.proofs.Common.{◌∷◌, ◌++◌, map, length, Option, Some, None, refl, sym, ap, subst, ◌∙◌, inl, inr, arith}
+use Rattle.forest_store.proofs.Common.{list_any, list_all, find, cons_option, AllByRecursion, option_map_or, eq-eqb, false≢true}
+use Rattle.forest_store.proofs.Common.{NodeKey, same_key, HeldBuffer, and_left, and_right, or_right, same_key-true, some-injective}
+use Rattle.forest_store.proofs.Common.{Table, node_at, parent_at, Node, Collection, Shelf, AreRising, IsStored, IsWhole, put_shelf}
+use Rattle.forest_store.proofs.Common.{collection_in, nodes_with, forest_of, all_keys, are_filed, is_filed, put, append_assoc}
+use Rattle.forest_store.proofs.Common.{flat_map, ltb-true, filter_map-append, list_any-append, was_given, key_cases}
+use Rattle.forest_store.proofs.Common.{same_key-equal, same_key-apart, all_held, AreKin, Bears, are_apart, list_all-append}
+use Rattle.forest_store.proofs.Basics.{all-In, each_none, made-In, or_swap, part_swap, none_above, whole-map, whole-unmap}
+use Rattle.forest_store.proofs.Basics.{same_key-swap, given_there, cases_place, rising-put, above-weaker, put-map}
 
 -- ---- keys in another order
 

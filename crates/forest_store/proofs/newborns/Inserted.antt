@@ -1,11 +1,16 @@
 -- The node of a birth is drafted, and inserted among those of its collection or as its first.
-use Rattle.forest_store.proofs.Common.{IfOk, IfSome, IsSome, row_at, ◌≡◌, ℕ, ◌≤◌, false, if◌then◌else◌, List, length, get_or, set, Some, None, option_map, OnErr, Result, sym, ◌∙◌, ap, option_and_then, option_map_or, NodeKey, Table, node_at, Entry, Node, AreCounted, Bears, IsStored, MayChange, forest_of, named, no_key, no_shelf, place_in, put_in, shelf_of, shelf_with, shelves_of}
+use Rattle.forest_store.proofs.Common.{IfOk, IfSome, IsSome, row_at, ◌≡◌, ℕ, ◌≤◌, false, if◌then◌else◌, List, length, get_or}
+use Rattle.forest_store.proofs.Common.{set, Some, None, option_map, OnErr, Result, sym, ◌∙◌, ap, option_and_then, option_map_or}
+use Rattle.forest_store.proofs.Common.{NodeKey, Table, node_at, Entry, Node, AreCounted, Bears, IsStored, MayChange, forest_of}
+use Rattle.forest_store.proofs.Common.{named, no_key, no_shelf, place_in, put_in, shelf_of, shelf_with, shelves_of}
 use Rattle.forest_store.specs.declared.insertion.Birth.{Birth}
 use Rattle.forest_store.specs.Insertion.{IsEntryWith, IsEntryWithout, IsInserted, IsRefused, KeepsNotes, birth_change, born_at}
-use Rattle.forest_store.proofs.newborns.Entries.{among_counted, among_shelves, by_both, first_counted, first_shelves, refused_counted, refused_shelves, refused_two}
+use Rattle.forest_store.proofs.newborns.Entries.{among_counted, among_shelves, by_both, first_counted}
+use Rattle.forest_store.proofs.newborns.Entries.{first_shelves, refused_counted, refused_shelves, refused_two}
 use Rattle.forest_store.proofs.newborns.Newborn.{Above, above_is, above_key, above_there}
 use Rattle.forest_store.proofs.shelves.Counted.{count_few}
-use Rattle.forest_store.proofs.Basics.{IsPlace, born_parent, born_weak, filed_found, found_counted, named_bears, none_in, place_is, shelf_found}
+use Rattle.forest_store.proofs.Basics.{IsPlace, born_parent, born_weak, filed_found}
+use Rattle.forest_store.proofs.Basics.{found_counted, named_bears, none_in, place_is, shelf_found}
 
 module _ {t : Table Node} (es : List Entry) (kept : IsStored t (shelves_of es)) (id : ℕ) (b : Birth)
     (may : MayChange (forest_of t (shelves_of es)) id (birth_change b)) {draft : Node} (is : draft ≡ born_at t id b no_key) where

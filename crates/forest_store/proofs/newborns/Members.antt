@@ -1,5 +1,11 @@
 -- Where nothing was forced, a newborn that comes last among the nodes forces nothing.
-use Rattle.forest_store.proofs.Common.{◌≡◌, refl, ap, ◌∙◌, Bool, true, false, ◌&&◌, ◌||◌, not, List, [], ◌∷◌, ◌++◌, Option, Some, None, list_any, find, option_map_or, option_and_then, NodeKey, Buffers, Cause, same_key, when, In, same_key-refl, same_key-true, filter-append, list_any-append, Standing, ending, abandoned, logical_allocation, logical_failure, outcome, is_allocated, is_deserted, is_next_head, Mark, Loss, Ended, Member, is_live, is_ready, is_root, root_left, some_live, some_strong_live, subtree, unit, demands, reserved, AtRest, map-None, option_map, arith, and-false, or-false, or-true, find-append, list_all-append, option_or, find-none, none-find, common_steps}
+use Rattle.forest_store.proofs.Common.{◌≡◌, refl, ap, ◌∙◌, Bool, true, false, ◌&&◌, ◌||◌, not, List, [], ◌∷◌, ◌++◌, Option, Some}
+use Rattle.forest_store.proofs.Common.{None, list_any, find, option_map_or, option_and_then, NodeKey, Buffers, Cause, same_key, when}
+use Rattle.forest_store.proofs.Common.{In, same_key-refl, same_key-true, filter-append, list_any-append, Standing, ending, abandoned}
+use Rattle.forest_store.proofs.Common.{logical_allocation, logical_failure, outcome, is_allocated, is_deserted, is_next_head, Mark}
+use Rattle.forest_store.proofs.Common.{Loss, Ended, Member, is_live, is_ready, is_root, root_left, some_live, some_strong_live}
+use Rattle.forest_store.proofs.Common.{subtree, unit, demands, reserved, AtRest, map-None, option_map, arith, and-false, or-false}
+use Rattle.forest_store.proofs.Common.{or-true, find-append, list_all-append, option_or, find-none, none-find, common_steps}
 use Rattle.forest_store.proofs.lists.Elements.{none_less}
 
 -- ---- tests

@@ -1,7 +1,19 @@
 -- The collection that a node is born into.
-use Rattle.forest_store.proofs.Common.{and_both, ◌≡◌, ℕ, ◌==◌, Bool, true, false, ◌||◌, ◌&&◌, ◌⊎◌, not, List, [], ◌∷◌, ◌++◌, drop, Option, Some, None, option_map, is_some, refl, sym, ap, subst, ◌∙◌, inl, inr, list_any, list_all, find, option_map_or, option_and_then, eqb-true, eq-eqb, false≢true, not-true, NodeKey, same_key, In, In-find, and_left, and_right, both_ways, either_way, or_cases, or_left, or_right, same_key-refl, same_key-true, some-injective, In-any, Table, node_at, Change, Node, is_left_of, Collection, Shelf, AreRising, IsStored, IsWhole, put_shelf, collection_in, nodes_with, forest_of, all_keys, are_filed, is_filed, is_of, node_of, are_distinct, heads_itself, collection_or_new, IsSome, IfSome, unwrap_or, map-append, list_any-append, or_none_left, or_none_right, row_at, was_given, same_key-equal, all_held, Bears, born, new_root, MayChange, with_birth, has_collection, shares_unit, Gives, SameTable, arith}
-use Rattle.forest_store.proofs.newborns.Forest.{keys_before, held_before, kept-born, helds-born, helds_in, born_looked, none_there, all-append}
-use Rattle.forest_store.proofs.Basics.{filed_at, kept_of, found_id, found_filed, found_whole, shelf_by, none_above, born_key, keys_in, looked-keys, in_all, looked_there, rooted_birth, node_of-looked, same_key-swap, distinct_one, left_in, whole_rooted, node_is, collection_is, row_there, together_born, together_none, united_born}
+use Rattle.forest_store.proofs.Common.{and_both, ◌≡◌, ℕ, ◌==◌, Bool, true, false, ◌||◌, ◌&&◌, ◌⊎◌, not, List, [], ◌∷◌, ◌++◌, drop}
+use Rattle.forest_store.proofs.Common.{Option, Some, None, option_map, is_some, refl, sym, ap, subst, ◌∙◌, inl, inr, list_any}
+use Rattle.forest_store.proofs.Common.{list_all, find, option_map_or, option_and_then, eqb-true, eq-eqb, false≢true, not-true}
+use Rattle.forest_store.proofs.Common.{NodeKey, same_key, In, In-find, and_left, and_right, both_ways, either_way, or_cases, or_left}
+use Rattle.forest_store.proofs.Common.{or_right, same_key-refl, same_key-true, some-injective, In-any, Table, node_at, Change, Node}
+use Rattle.forest_store.proofs.Common.{is_left_of, Collection, Shelf, AreRising, IsStored, IsWhole, put_shelf, collection_in}
+use Rattle.forest_store.proofs.Common.{nodes_with, forest_of, all_keys, are_filed, is_filed, is_of, node_of, are_distinct}
+use Rattle.forest_store.proofs.Common.{heads_itself, collection_or_new, IsSome, IfSome, unwrap_or, map-append, list_any-append}
+use Rattle.forest_store.proofs.Common.{or_none_left, or_none_right, row_at, was_given, same_key-equal, all_held, Bears, born}
+use Rattle.forest_store.proofs.Common.{new_root, MayChange, with_birth, has_collection, shares_unit, Gives, SameTable, arith}
+use Rattle.forest_store.proofs.newborns.Forest.{keys_before, held_before, kept-born, helds-born}
+use Rattle.forest_store.proofs.newborns.Forest.{helds_in, born_looked, none_there, all-append}
+use Rattle.forest_store.proofs.Basics.{filed_at, kept_of, found_id, found_filed, found_whole, shelf_by, none_above, born_key, keys_in}
+use Rattle.forest_store.proofs.Basics.{looked-keys, in_all, looked_there, rooted_birth, node_of-looked, same_key-swap, distinct_one}
+use Rattle.forest_store.proofs.Basics.{left_in, whole_rooted, node_is, collection_is, row_there, together_born, together_none, united_born}
 
 -- the collection with one more node behind
 abbrev pub grown : Collection → Node → Collection

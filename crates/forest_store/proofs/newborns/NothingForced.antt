@@ -1,5 +1,7 @@
 -- The members of a collection with one more node.
-use Rattle.forest_store.proofs.Common.{◌≡◌, refl, ap, ◌∙◌, false, List, [], ◌∷◌, ◌++◌, reverse, Some, list_any, NodeKey, same_key, In, In-map, In-any, Node, is_of, members_of, map-append, reverse-append, filter-append, Member, In-filter, map-In, above_among, member_of, same_key-comm, arith}
+use Rattle.forest_store.proofs.Common.{◌≡◌, refl, ap, ◌∙◌, false, List, [], ◌∷◌, ◌++◌, reverse, Some, list_any, NodeKey}
+use Rattle.forest_store.proofs.Common.{same_key, In, In-map, In-any, Node, is_of, members_of, map-append, reverse-append}
+use Rattle.forest_store.proofs.Common.{filter-append, Member, In-filter, map-In, above_among, member_of, same_key-comm, arith}
 
 -- no node that is not gone has the key as its parent
 abbrev pub HaveOthers : List Node → NodeKey → Type 0

@@ -1,8 +1,16 @@
 -- A birth in a collection where nothing else changes with it.
-use Rattle.forest_store.proofs.Common.{◌≡◌, ℕ, ◌+◌, Bool, true, false, ◌||◌, ◌==◌, if◌then◌else◌, List, [], ◌∷◌, ◌++◌, map, reverse, Option, Some, None, option_map, refl, sym, ap, subst, ◌∙◌, arith, find, list_any, option_map_or, NodeKey, same_key, both_ways, same_key-refl, In-any, Table, Entry, Node, strong_count, over_except, Collection, Shelf, IsStored, put_shelf, collection_in, forest_of, shelf_of, is_of, reserved_count, collection_or_new, put, are_rooted, unwrap_or, map-append, list_any-append, times-append, or_both, IsQuiescent, IsCounted, all_held, Bears, born, is_strong, with_birth, no_shelf, shelf_before, shelf_with}
+use Rattle.forest_store.proofs.Common.{◌≡◌, ℕ, ◌+◌, Bool, true, false, ◌||◌, ◌==◌, if◌then◌else◌, List, [], ◌∷◌, ◌++◌, map}
+use Rattle.forest_store.proofs.Common.{reverse, Option, Some, None, option_map, refl, sym, ap, subst, ◌∙◌, arith, find, list_any}
+use Rattle.forest_store.proofs.Common.{option_map_or, NodeKey, same_key, both_ways, same_key-refl, In-any, Table, Entry, Node}
+use Rattle.forest_store.proofs.Common.{strong_count, over_except, Collection, Shelf, IsStored, put_shelf, collection_in}
+use Rattle.forest_store.proofs.Common.{forest_of, shelf_of, is_of, reserved_count, collection_or_new, put, are_rooted, unwrap_or}
+use Rattle.forest_store.proofs.Common.{map-append, list_any-append, times-append, or_both, IsQuiescent, IsCounted, all_held}
+use Rattle.forest_store.proofs.Common.{Bears, born, is_strong, with_birth, no_shelf, shelf_before, shelf_with}
 use Rattle.forest_store.proofs.newborns.Forest.{still_collections}
-use Rattle.forest_store.proofs.newborns.Newborn.{Above, before_is, born_collection, born_fresh, born_held, born_here, born_is, born_kept, born_shown, key_is}
-use Rattle.forest_store.proofs.Basics.{not_over_but, shelf_by, HaveOthers, births_calm, reserved_append, reserved_one, keys_in, looked-keys, put-map, left_node, left_parent, collection_is, filed_found}
+use Rattle.forest_store.proofs.newborns.Newborn.{Above, before_is, born_collection, born_fresh, born_held}
+use Rattle.forest_store.proofs.newborns.Newborn.{born_here, born_is, born_kept, born_shown, key_is}
+use Rattle.forest_store.proofs.Basics.{not_over_but, shelf_by, HaveOthers, births_calm, reserved_append, reserved_one}
+use Rattle.forest_store.proofs.Basics.{keys_in, looked-keys, put-map, left_node, left_parent, collection_is, filed_found}
 
 -- ---- parents
 
@@ -57,7 +65,8 @@ module _ (t now : Table Node) (ss : List Shelf) (ok : IsStored t ss) (id : ℕ) 
         from (Some s) found = λ i. record s { keys = looked-keys t _ ok.named _ (filed_found t _ ss ok.filed s found) i }
 
     -- with the key behind it shows the collection with the node
-    shelf_is : shelf_with (shelf_before id ss) key ≡ shelf_by (born_collection t now ss ok id parent attached client event above at key bears)
+    shelf_is : shelf_with (shelf_before id ss) key
+        ≡ shelf_by (born_collection t now ss ok id parent attached client event above at key bears)
     shelf_is = ap (λ (s : Shelf). shelf_with s key) (sym before_shelf)
         ∙ λ i. record {
           id = c0.id;
@@ -76,7 +85,8 @@ module _ (t now : Table Node) (ss : List Shelf) (ok : IsStored t ss) (id : ℕ) 
     reserved_more = grind (arith, reserved_append, reserved_one)
 
     -- an entry with the key and the counts is counted
-    pub counted_born : IsQuiescent (collection_or_new (forest_of t ss) id) → (e : Entry) → shelf_of e ≡ shelf_with (shelf_before id ss) key →
+    pub counted_born : IsQuiescent (collection_or_new (forest_of t ss) id) → (e : Entry) →
+        shelf_of e ≡ shelf_with (shelf_before id ss) key →
         e.strong ≡ strong_count c0.nodes + (if option_map_or (λ (n : Node). n.weak) above false then 0 else 1) →
         e.reserved ≡ reserved_count c0.nodes →
         (e.garbage_known ≡ true → list_any (over_except e.garbage.items) c0.nodes ≡ false) → IsCounted now e
@@ -101,7 +111,8 @@ module _ (t now : Table Node) (ss : List Shelf) (ok : IsStored t ss) (id : ℕ) 
       behind_is = placed ∙ ap (λ (s : Shelf). put_shelf s ss) shelf_is
 
       -- and the collections are those with it
-      pub behind_shown : map (collection_in now) behind ≡ put (born_collection t now ss ok id parent attached client event above at key bears)
+      pub behind_shown : map (collection_in now) behind
+          ≡ put (born_collection t now ss ok id parent attached client event above at key bears)
           (map (collection_in t) ss)
       behind_shown = grind (arith, behind_is, put-map, born_shown, still_collections)
 

@@ -1,9 +1,19 @@
 -- The counts of units, once a node is born and counted.
-use Rattle.forest_store.proofs.Common.{In-behind, In-front, ◌≡◌, ◌≢◌, ℕ, ◌+◌, ◌<◌, ◌≤◌, Bool, true, false, if◌then◌else◌, List, [], ◌∷◌, ◌++◌, map, length, reverse, set, Option, Some, None, refl, sym, ap, subst, ◌∙◌, ◌⊎◌, inl, inr, arith, eqb-true, cons_option, list_all, list_any, NodeKey, same_key, times, In, In-find, both_ways, either_way, same_key-refl, In-any, Table, node_at, Node, Unit, AreUnits, lives_in, unit_at, waits_in, Collection, IsStored, IsWhole, Shelf, all_keys, collection_in, forest_of, is_filed, nodes_with, put_shelf, is_of, are_distinct, collection_or_new, put, are_rooted, get_or-set_other, get_or-set_same, length-append, length-set, unwrap_or, In-append, times-append, times-le-length, times-zero, table_len, AreUnitsExcept, HasUnit, HasUnits, head_above, heads_below, no_unit, reckoned, tallied, unit_of, collection_at, Bears, born, shelf_before, shelf_with}
+use Rattle.forest_store.proofs.Common.{In-behind, In-front, ◌≡◌, ◌≢◌, ℕ, ◌+◌, ◌<◌, ◌≤◌, Bool, true, false, if◌then◌else◌, List, [], ◌∷◌}
+use Rattle.forest_store.proofs.Common.{◌++◌, map, length, reverse, set, Option, Some, None, refl, sym, ap, subst, ◌∙◌, ◌⊎◌, inl, inr}
+use Rattle.forest_store.proofs.Common.{arith, eqb-true, cons_option, list_all, list_any, NodeKey, same_key, times, In, In-find, both_ways}
+use Rattle.forest_store.proofs.Common.{either_way, same_key-refl, In-any, Table, node_at, Node, Unit, AreUnits, lives_in, unit_at}
+use Rattle.forest_store.proofs.Common.{waits_in, Collection, IsStored, IsWhole, Shelf, all_keys, collection_in, forest_of, is_filed}
+use Rattle.forest_store.proofs.Common.{nodes_with, put_shelf, is_of, are_distinct, collection_or_new, put, are_rooted, get_or-set_other}
+use Rattle.forest_store.proofs.Common.{get_or-set_same, length-append, length-set, unwrap_or, In-append, times-append, times-le-length}
+use Rattle.forest_store.proofs.Common.{times-zero, table_len, AreUnitsExcept, HasUnit, HasUnits, head_above, heads_below, no_unit}
+use Rattle.forest_store.proofs.Common.{reckoned, tallied, unit_of, collection_at, Bears, born, shelf_before, shelf_with}
 use Rattle.forest_store.proofs.newborns.Newborn.{Above, IsBefore, before_is, born_collection, born_fresh, born_here, born_shown, key_is}
 use Rattle.forest_store.proofs.newborns.Quiet.{behind_is, behind_shown, quiet_kept}
 use Rattle.forest_store.proofs.tallies.Slots.{Stays, all_at, but_put, one_slot, units_own}
-use Rattle.forest_store.proofs.Basics.{looked-of, shelf_by, all_in, in_all, looked_there, head_there, above_node, hung_by, hung_hangs, hung_is, is_above, is_hung, other_slots, own_is, own_unit, same_long, tallied_by, lives_gone, lives_other, tallied_adds, waits_gone, waits_other, filed-length, times_same, all-In}
+use Rattle.forest_store.proofs.Basics.{looked-of, shelf_by, all_in, in_all, looked_there, head_there, above_node, hung_by, hung_hangs}
+use Rattle.forest_store.proofs.Basics.{hung_is, is_above, is_hung, other_slots, own_is, own_unit, same_long, tallied_by, lives_gone}
+use Rattle.forest_store.proofs.Basics.{lives_other, tallied_adds, waits_gone, waits_other, filed-length, times_same, all-In}
 
 -- the table has the old nodes and the one that was born, and the others have their counts
 module _ (t : Table Node) (ss : List Shelf) (kept : IsStored t ss) (id : ℕ) (s : Shelf) (on : In s ss) (own : s.id ≡ id) (old : List Node)
@@ -12,7 +22,8 @@ module _ (t : Table Node) (ss : List Shelf) (kept : IsStored t ss) (id : ℕ) (s
     (distinct : are_distinct old ≡ true) (rooted : are_rooted (reverse old) ≡ true)
     (olds : (n : Node) → In n old → n.gone ≡ false → (h : Node) × In h old × (h.key ≡ n.head)) (of : (n : Node) →
     In n (nodes_with t s.keys) → n.collection ≡ id)
-    (us : List Unit) (own_inside : node.key.slot < length us) (has : HasUnits us old) (but : AreUnitsExcept us id (map (collection_in t) ss))
+    (us : List Unit) (own_inside : node.key.slot < length us) (has : HasUnits us old)
+    (but : AreUnitsExcept us id (map (collection_in t) ss))
     (few : length (nodes_with t s.keys) ≤ 18446744073709551615) where
   -- the nodes of the shelf, the new one among them
   abbrev nodes : List Node
@@ -119,7 +130,8 @@ module _ (t : Table Node) (ss : List Shelf) (kept : IsStored t ss) (id : ℕ) (s
           let l : times (lives_in node.key) old ≡ 0 = times-zero _ _ (λ m o. (none_counted m o).0) in
           let w : times (waits_in node.key) old ≡ 0 = times-zero _ _ (λ m o. (none_counted m o).1) in
           let b : times (heads_below old node.key) old ≡ 0 = sym (below_old _) ∙ times-zero _ _ none_hung in
-          rw is (get_or-set_same us node.key.slot no_unit no_unit own_inside ∙ (λ i. record { live = sym l i; unready = sym w i; below = sym b i }))
+          rw is (get_or-set_same us node.key.slot no_unit no_unit own_inside
+          ∙ (λ i. record { live = sym l i; unready = sym w i; below = sym b i }))
       last (inr none) = absurd none
 
   -- the slot of each head has its old counts and those of the new node
@@ -202,6 +214,7 @@ in_put_shelf : (s : Shelf) (ss : List Shelf) → In s (put_shelf s ss)
 in_put_shelf s [] = inl refl
 in_put_shelf s (x ∷ xs) = from _ _ (in_put_shelf s xs)
   where
+    -- by cases: the shelf stands first, or among those behind
     from : (here above : Bool) → In s (put_shelf s xs) → In s (if here then s ∷ xs else (if above then s ∷ x ∷ xs else x ∷ put_shelf s xs))
     from here above on = grind arith
 
@@ -259,7 +272,8 @@ module _ (t now : Table Node) (ss : List Shelf) (ok : IsStored t ss) (id : ℕ) 
   newborn_units us all inside few =
       let own : c0.id ≡ id = before_it.id_is in
       let named : child.key ≡ key = key_is t now ss ok id parent _ client event above up key bears in
-      let found_key : node_at now key ≡ Some child = bears.look key ∙ rw (ap (λ (k : NodeKey). same_key k key) named ∙ same_key-refl key) refl in
+      let found_key : node_at now key ≡ Some child = bears.look key
+      ∙ rw (ap (λ (k : NodeKey). same_key k key) named ∙ same_key-refl key) refl in
       let one : nodes_with now (key ∷ []) ≡ child ∷ [] = ap (λ (o : Option Node). cons_option o []) found_key in
       let long = filed-length now (shelf_by with_it).id (shelf_by with_it).keys filed_keys in
       let short : length (nodes_with now (shelf_by with_it).keys) ≤ 18446744073709551615 =
@@ -270,7 +284,8 @@ module _ (t now : Table Node) (ss : List Shelf) (ok : IsStored t ss) (id : ℕ) 
       all)) in
       let made : AreUnits (reckoned now (child ∷ []) (set us child.key.slot no_unit)) (map (collection_in now) behind) =
       born_units _ _ kept_now _ _ shelf_on own _ _
-      (ap (λ (c : Collection). c.nodes) (born_shown t now ss ok id parent _ client event above up key bears)) (born_here above _ id event client key)
+      (ap (λ (c : Collection). c.nodes) (born_shown t now ss ok id parent _ client event above up key bears))
+      (born_here above _ id event client key)
       (born_fresh t now ss ok id parent _ client event above up key bears)
       before_it.whole.sound.distinct before_it.whole.rooted
       (λ n on here. let h = head_there _ before_it.whole.sound.distinct before_it.whole.sound.heads before_it.whole.rooted
@@ -278,4 +293,5 @@ module _ (t now : Table Node) (ss : List Shelf) (ok : IsStored t ss) (id : ℕ) 
       (λ n on. eqb-true n.collection (shelf_by with_it).id (all-In _
       _ n on (looked-of now (shelf_by with_it).id (shelf_by with_it).keys filed_keys)) ∙ own)
       us (rw named inside) (had _ all) but short in
-      rw one (subst (λ (k : NodeKey). AreUnits (reckoned now (child ∷ []) (set us k.slot no_unit)) (map (collection_in now) behind)) named made)
+      rw one (subst (λ (k : NodeKey). AreUnits (reckoned now (child ∷ []) (set us k.slot no_unit))
+      (map (collection_in now) behind)) named made)

@@ -1,6 +1,13 @@
 -- A collection where no step would be forced with a strong handle open: none is while a strong
 -- node lives.
-use Rattle.forest_store.proofs.Common.{is_strong, ◌≡◌, refl, ap, sym, ◌∙◌, Bool, true, false, not, ◌&&◌, ◌||◌, inl, inr, List, [], ◌∷◌, map, reverse, Option, Some, None, is_none, is_some, arith, not-true, list_any, list_all, find, filter, option_map_or, option_and_then, NodeKey, Buffers, same_key, when, times, In, either_way, Node, strong_count, has_strong, waiting, Collection, with_nodes, IsWhole, members_of, node_of, is_deserted_node, is_live_node, is_next_node, is_ready_node, is_root_left, is_deserted, is_next_head, Member, is_ready, root_left, first_some, In-filter, In-filter-back, map-In, none_is, map-None, IsQuiescent, Decision, decided, later_step, above_among, member_of, is_allocated_node, is_below, lives_below, option_map, or-true, filter-swap, filter-all}
+use Rattle.forest_store.proofs.Common.{is_strong, ◌≡◌, refl, ap, sym, ◌∙◌, Bool, true, false, not, ◌&&◌, ◌||◌, inl, inr, List, []}
+use Rattle.forest_store.proofs.Common.{◌∷◌, map, reverse, Option, Some, None, is_none, is_some, arith, not-true, list_any, list_all}
+use Rattle.forest_store.proofs.Common.{find, filter, option_map_or, option_and_then, NodeKey, Buffers, same_key, when, times, In}
+use Rattle.forest_store.proofs.Common.{either_way, Node, strong_count, has_strong, waiting, Collection, with_nodes, IsWhole}
+use Rattle.forest_store.proofs.Common.{members_of, node_of, is_deserted_node, is_live_node, is_next_node, is_ready_node, is_root_left}
+use Rattle.forest_store.proofs.Common.{is_deserted, is_next_head, Member, is_ready, root_left, first_some, In-filter, In-filter-back}
+use Rattle.forest_store.proofs.Common.{map-In, none_is, map-None, IsQuiescent, Decision, decided, later_step, above_among, member_of}
+use Rattle.forest_store.proofs.Common.{is_allocated_node, is_below, lives_below, option_map, or-true, filter-swap, filter-all}
 use Rattle.forest_store.proofs.tables.Chains.{one_line}
 use Rattle.forest_store.proofs.quiescence.Forcing.{deserted_tie, next_tie, ready_tie, root_tie}
 use Rattle.forest_store.proofs.tables.KeptRoots.{map-reverse_aux, rooted_filter}
@@ -73,10 +80,12 @@ wait_tie nodes =
     (root_tie nodes)
     ∙ from _
   where
+    -- by cases on the test
     told : (b : Bool) (root : Node) → b ≡ is_some (when b root)
     told true root = refl
     told false root = refl
 
+    -- by cases on the root: a node is as ready as its member
     from : (o : Option Node) → option_map_or (λ (root : Member). not root.allocated && is_ready root.key (members_of nodes))
         (option_map (member_of nodes) o) false
         ≡ is_some (option_and_then (λ (root : Node). when (not root.allocated && list_all (is_ready_node root.key) nodes) root) o)
@@ -96,6 +105,7 @@ none_same old new buffers same none = record {
   no_head = from buffers none.no_head;
 }
   where
+    -- by cases: without buffers no unit comes next, and with them the same member does
     from : (o : Option Buffers) → later old o ≡ None → later new o ≡ None
     from None h = refl
     from (Some b) h = ap (option_map (λ (n : Node). later_step new b n.key))

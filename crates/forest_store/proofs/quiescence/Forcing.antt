@@ -1,7 +1,18 @@
 -- What the code decides is what is forced.
-use Rattle.forest_store.proofs.Common.{ℕ, ◌+◌, ◌≡◌, refl, ap, ◌∙◌, Bool, true, false, not, ◌&&◌, ◌||◌, ◌==◌, nat_lt, if◌then◌else◌, is_none, List, [], ◌∷◌, ◌++◌, map, Option, Some, None, list_any, list_all, find, filter, sum_by, option_map_or, option_and_then, Interval, NodeKey, Buffers, Cause, Demand, forced, when, Node, has_strong, waiting, Collection, members_of, is_deserted_node, is_next_node, is_ready_node, is_root_left, Handles, standing, max, Failure, Standing, ending, abandoned, logical_allocation, logical_failure, outcome, is_deserted, is_allocated, is_next_head, Mark, Loss, Ended, Member, is_ready, some_live, some_strong_live, subtree, unit, root_left, demands, reserved, first_some, MAX_BUFFERS, Allocates, Decision, Ends, Loses, Places, decided, first_step, late_failure, later_step, wanted_by, pages_in, member_of, demands_of, is_allocated_node, has_buffers, lives_below, option_map, initial_allocation, initial_failure, greatest, wanted, asked, decisions, mark_of, is_in_unit, arith}
+use Rattle.forest_store.proofs.Common.{ℕ, ◌+◌, ◌≡◌, refl, ap, ◌∙◌, Bool, true, false, not, ◌&&◌, ◌||◌, ◌==◌, nat_lt, if◌then◌else◌}
+use Rattle.forest_store.proofs.Common.{is_none, List, [], ◌∷◌, ◌++◌, map, Option, Some, None, list_any, list_all, find, filter}
+use Rattle.forest_store.proofs.Common.{sum_by, option_map_or, option_and_then, Interval, NodeKey, Buffers, Cause, Demand, forced}
+use Rattle.forest_store.proofs.Common.{when, Node, has_strong, waiting, Collection, members_of, is_deserted_node, is_next_node}
+use Rattle.forest_store.proofs.Common.{is_ready_node, is_root_left, Handles, standing, max, Failure, Standing, ending, abandoned}
+use Rattle.forest_store.proofs.Common.{logical_allocation, logical_failure, outcome, is_deserted, is_allocated, is_next_head, Mark}
+use Rattle.forest_store.proofs.Common.{Loss, Ended, Member, is_ready, some_live, some_strong_live, subtree, unit, root_left}
+use Rattle.forest_store.proofs.Common.{demands, reserved, first_some, MAX_BUFFERS, Allocates, Decision, Ends, Loses, Places}
+use Rattle.forest_store.proofs.Common.{decided, first_step, late_failure, later_step, wanted_by, pages_in, member_of, demands_of}
+use Rattle.forest_store.proofs.Common.{is_allocated_node, has_buffers, lives_below, option_map, initial_allocation}
+use Rattle.forest_store.proofs.Common.{initial_failure, greatest, wanted, asked, decisions, mark_of, is_in_unit, arith}
 use Rattle.sm_names.specs.Pages.{places, pages_of}
-use Rattle.forest_store.proofs.lists.Filters.{any-map_filter, all-map_filter, find-map_filter, any-filter, all-filter, made-filter_map, above_greatest}
+use Rattle.forest_store.proofs.lists.Filters.{any-map_filter, all-map_filter, find-map_filter}
+use Rattle.forest_store.proofs.lists.Filters.{any-filter, all-filter, made-filter_map, above_greatest}
 use Rattle.forest_store.proofs.lists.Booleans.{and_again_behind, and_again_pair, and_again_swap, settled_once}
 
 -- a node that is not gone

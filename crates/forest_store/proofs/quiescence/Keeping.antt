@@ -1,5 +1,6 @@
 -- What the counts of a unit tell of what holds it.
-use Rattle.forest_store.proofs.Common.{◌≡◌, ℕ, ◌<◌, nat_lt, Bool, true, not, ◌&&◌, ◌||◌, ◌⊎◌, List, [], ◌∷◌, arith, list_any, NodeKey, same_key, times, In-list_any, In-any, Node, lives_in, ltb-true, heads_below}
+use Rattle.forest_store.proofs.Common.{◌≡◌, ℕ, ◌<◌, nat_lt, Bool, true, not, ◌&&◌, ◌||◌, ◌⊎◌, List, [], ◌∷◌, arith, list_any}
+use Rattle.forest_store.proofs.Common.{NodeKey, same_key, times, In-list_any, In-any, Node, lives_in, ltb-true, heads_below}
 use Rattle.forest_store.proofs.tallies.Holding.{hangs_in, holds_unit}
 
 -- some pass where the count is not 0
@@ -14,6 +15,7 @@ lives_held nodes head some =
     In-any (holds_unit nodes head) nodes x.0 x.1 (lives_hold x.0.gone x.0.released (same_key x.0.head head) (x.0.attached && hangs_in nodes
     head x.0) x.2)
   where
+    -- by arithmetic of switches: a live node of the unit holds it
     lives_hold : (g r s b : Bool) → ((not g && not r) && s) ≡ true → (not g && ((s && not r) || b)) ≡ true
     lives_hold g r s b h = grind arith
 
@@ -25,6 +27,7 @@ below_held nodes head some =
     In-any (holds_unit nodes head) nodes x.0 x.1 (heads_hold x.0.gone (same_key x.0.head head && not x.0.released)
     (x.0.attached && hangs_in nodes head x.0) x.2)
   where
+    -- by arithmetic of switches: a head below that is not gone holds it
     heads_hold : (g a b : Bool) → (not g && b) ≡ true → (not g && (a || b)) ≡ true
     heads_hold g a b h = grind arith
 

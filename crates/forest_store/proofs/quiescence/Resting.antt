@@ -1,5 +1,8 @@
 -- A collection that rests: nothing is forced in it, and no buffer's pages are given back.
-use Rattle.forest_store.proofs.Common.{arith, ◌≡◌, ℕ, ◌==◌, ◌⊎◌, Bool, true, false, ◌&&◌, not, inl, inr, List, [], ◌∷◌, drop, Option, Some, None, option_map, is_none, is_some, refl, ap, ◌∙◌, cons_option, find, list_all, option_map_or, option_and_then, NodeKey, Buffers, Cause, when, and_left, and_right, either_way, Table, node_at, Node, has_strong, Shelf, is_filed, nodes_with, is_root_left, Handles, In, Loses, decided}
+use Rattle.forest_store.proofs.Common.{arith, ◌≡◌, ℕ, ◌==◌, ◌⊎◌, Bool, true, false, ◌&&◌, not, inl, inr, List, [], ◌∷◌, drop, Option, Some}
+use Rattle.forest_store.proofs.Common.{None, option_map, is_none, is_some, refl, ap, ◌∙◌, cons_option, find, list_all, option_map_or}
+use Rattle.forest_store.proofs.Common.{option_and_then, NodeKey, Buffers, Cause, when, and_left, and_right, either_way, Table, node_at}
+use Rattle.forest_store.proofs.Common.{Node, has_strong, Shelf, is_filed, nodes_with, is_root_left, Handles, In, Loses, decided}
 use Rattle.forest_store.specs.Dropped.{has_given_root}
 use Rattle.forest_store.specs.Resting.{is_kept_by}
 use Rattle.forest_store.proofs.quiescence.Calming.{AreNone, none_decided}
@@ -11,6 +14,7 @@ no_root : (ns : List Node) → list_all (λ (n : Node). is_some n.parent) ns ≡
 no_root [] all = refl
 no_root (n ∷ ns) all = rw (from _ (and_left _ _ all)) (no_root ns (and_right _ _ all))
   where
+    -- by cases: a node with a parent is no root
     from : (o : Option NodeKey) → is_some o ≡ true → (is_none o && not n.gone) ≡ false
     from None there = cc
     from (Some key) there = refl
@@ -22,6 +26,7 @@ pub root_first : (t : Table Node) (id : ℕ) (keys : List NodeKey) → list_all 
 root_first t id [] filed one none = refl
 root_first t id (k ∷ ks) filed one none = from (node_at t k) (and_left _ _ filed) one none
   where
+    -- by cases: the first node is the root or has a parent, as all behind it have
     from : (o : Option Node) → option_map_or (λ (n : Node). n.collection == id) o false ≡ true →
         list_all (λ (n : Node). is_some n.parent) (drop 1 (cons_option o (nodes_with t ks))) ≡ true →
         option_map_or (λ (n : Node). is_root_left n && n.allocated) o false ≡ false →
@@ -57,6 +62,7 @@ roots_stay t now f look (k ∷ ks) stays none =
     ap (λ (o : Option Node). option_map_or (λ (n : Node). is_root_left n && n.allocated) o false) (look k)
     ∙ from _ stays none
   where
+    -- by cases on the node: the function gives buffers to no root
     from : (o : Option Node) → ((n : Node) → In n (cons_option o (nodes_with t ks)) → (is_root_left n && n.allocated) ≡ false →
         (is_root_left (f n) && (f n).allocated) ≡ false) → option_map_or (λ (n : Node). is_root_left n && n.allocated) o false ≡ false →
         option_map_or (λ (n : Node). is_root_left n && n.allocated) (option_map f o) false ≡ false

@@ -1,5 +1,12 @@
 -- A decision is on nodes that are there, and changes something.
-use Rattle.forest_store.proofs.Common.{◌≡◌, ◌≤◌, refl, ap, sym, ◌∙◌, subst, Bool, true, false, not, ◌&&◌, ◌||◌, is_none, List, [], ◌∷◌, Option, Some, None, inl, inr, arith, not-true, list_any, list_all, find, option_map_or, option_and_then, NodeKey, Buffers, Cause, same_key, when, In, In-find, and_left, and_right, and_both, or_left, both_ways, false_if, same_key-true, same_key-refl, In-any, Node, has_strong, is_left_of, Collection, is_of, node_of, is_deserted_node, is_next_node, is_ready_node, is_root_left, are_distinct, Failure, first_some, MAX_BUFFERS, Allocates, Ends, Loses, Places, decided, early_failure, first_step, later_step, wanted_by, is_allocated_node, IsSound, is_root_of, option_map, IfSome, IsStep, has_waiting}
+use Rattle.forest_store.proofs.Common.{◌≡◌, ◌≤◌, refl, ap, sym, ◌∙◌, subst, Bool, true, false, not, ◌&&◌, ◌||◌, is_none, List}
+use Rattle.forest_store.proofs.Common.{[], ◌∷◌, Option, Some, None, inl, inr, arith, not-true, list_any, list_all, find}
+use Rattle.forest_store.proofs.Common.{option_map_or, option_and_then, NodeKey, Buffers, Cause, same_key, when, In, In-find}
+use Rattle.forest_store.proofs.Common.{and_left, and_right, and_both, or_left, both_ways, false_if, same_key-true, same_key-refl}
+use Rattle.forest_store.proofs.Common.{In-any, Node, has_strong, is_left_of, Collection, is_of, node_of, is_deserted_node}
+use Rattle.forest_store.proofs.Common.{is_next_node, is_ready_node, is_root_left, are_distinct, Failure, first_some, MAX_BUFFERS}
+use Rattle.forest_store.proofs.Common.{Allocates, Ends, Loses, Places, decided, early_failure, first_step, later_step, wanted_by}
+use Rattle.forest_store.proofs.Common.{is_allocated_node, IsSound, is_root_of, option_map, IfSome, IsStep, has_waiting}
 use Rattle.forest_store.proofs.quiescence.Forcing.{asked_tie}
 
 -- ---- nodes by their keys
@@ -16,13 +23,16 @@ pub found_by_key : (nodes : List Node) (n : Node) → are_distinct nodes ≡ tru
 found_by_key [] n h on = absurd on
 found_by_key (m ∷ ns) n h (inl is) = rw same (ap Some (sym is))
   where
+    -- since the node is the one that stands here
     same : is_of n.key m ≡ true
     same = rw (← (ap (λ (x : Node). x.key) (sym is))) (same_key-refl m.key)
 found_by_key (m ∷ ns) n h (inr on) = rw other (found_by_key ns n (and_right _ _ h) on)
   where
+    -- since no two nodes have one key
     none : list_any (is_of m.key) ns ≡ false
     none = not-true (list_any (is_of m.key) ns) (and_left _ _ h)
 
+    -- since a node behind with the key of this one would be a second
     other : is_of n.key m ≡ false
     other = false_if _ (λ e.
         let is : m.key ≡ n.key = same_key-true _ _ e in

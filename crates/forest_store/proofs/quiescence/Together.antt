@@ -1,5 +1,8 @@
 -- The nodes of a unit go together, whatever is changed or forced.
-use Rattle.forest_store.proofs.Common.{◌≡◌, refl, ap, sym, ◌∙◌, Bool, true, false, ◌||◌, ◌⊎◌, inl, inr, List, [], ◌∷◌, ◌++◌, map, reverse, Some, list_all, NodeKey, same_key, In, In-map, both_ways, either_way, Effect, Node, affected, are_distinct, heads_itself, are_rooted, In-append, In-filter, or_none_right, after_allocation, after_effect, given_buffers, GoTogether, are_united, filter, arith}
+use Rattle.forest_store.proofs.Common.{◌≡◌, refl, ap, sym, ◌∙◌, Bool, true, false, ◌||◌, ◌⊎◌, inl, inr, List, [], ◌∷◌, ◌++◌, map}
+use Rattle.forest_store.proofs.Common.{reverse, Some, list_all, NodeKey, same_key, In, In-map, both_ways, either_way, Effect, Node}
+use Rattle.forest_store.proofs.Common.{affected, are_distinct, heads_itself, are_rooted, In-append, In-filter, or_none_right}
+use Rattle.forest_store.proofs.Common.{after_allocation, after_effect, given_buffers, GoTogether, are_united, filter, arith}
 use Rattle.forest_store.proofs.tables.Rooted.{distinct_one}
 use Rattle.forest_store.proofs.tallies.Holding.{in_unit, own_head}
 
@@ -54,12 +57,15 @@ together_taken nodes f taken keeps goes old = record {
       ]);
 }
   where
+    -- since the function keeps what is allocated
     given : (n a : Node) → a ≡ f n → a.allocated ≡ n.allocated
     given n a is = ap (λ (m : Node). m.allocated) is ∙ keeps.allocated n
 
+    -- since the function keeps heads and keys
     units : (n h a b : Node) → a ≡ f n → b ≡ f h → a.head ≡ b.key → n.head ≡ h.key
     units n h a b is too unit = grind arith
 
+    -- since one that is taken goes
     stayed : (n a : Node) → a ≡ f n → a.gone ≡ false → (taken n ≡ false) × (n.gone ≡ false)
     stayed n a is here = grind arith
 
@@ -71,6 +77,7 @@ together_same nodes f keeps = together_taken _ f _ keeps (λ n h on there unit o
 pub together_effect : (key : NodeKey) (effect : Effect) (nodes : List Node) → GoTogether nodes → GoTogether (after_effect key effect nodes)
 together_effect key effect nodes = together_same _ _ (keeps effect)
   where
+    -- by cases on the effect: none writes the key, the head, the buffers or whether the node is gone
     keeps : (effect : Effect) → KeepsPlace (affected key effect) (λ n. false)
     keeps Effect.Bound = record { key = λ n. refl; head = λ n. refl; allocated = λ n. refl; gone = λ n. refl }
     keeps Effect.Dispensable = record { key = λ n. refl; head = λ n. refl; allocated = λ n. refl; gone = λ n. refl }
@@ -105,9 +112,11 @@ together_given head nodes old = record {
       (or_none_right (same_key head y.0.head) y.0.allocated none);
 }
   where
+    -- since being given buffers keeps the head
     heads : (n a : Node) → a ≡ given_buffers head n → n.head ≡ a.head
     heads n a is = ap (λ (m : Node). m.head) (sym is)
 
+    -- since being given buffers keeps the key
     keys : (n a : Node) → a ≡ given_buffers head n → a.key ≡ n.key
     keys n a is = ap (λ (m : Node). m.key) is
 
@@ -124,10 +133,12 @@ together_born nodes b here fresh alone kind old = record {
       spared n h (In-append nodes (b ∷ []) n on) (In-append nodes (b ∷ []) h there) unit own stays bare;
 }
   where
+    -- since the list has one element
     last : (n : Node) → In n (b ∷ []) → n ≡ b
     last n (inl is) = is
     last n (inr on) = absurd on
 
+    -- by congruence
     key_of : (n m : Node) → n ≡ m → n.key ≡ m.key
     key_of n m is = ap (λ (x : Node). x.key) is
 
@@ -137,10 +148,12 @@ together_born nodes b here fresh alone kind old = record {
     above h there unit (inl own) = absurd (fresh h there (sym unit ∙ own))
     above h there unit (inr q) = q
 
+    -- by cases on which nodes are new: a new head has no other node of its unit, and a new child has its parent's unit
     alike : (n h : Node) → In n nodes ⊎ In n (b ∷ []) → In h nodes ⊎ In h (b ∷ []) → n.head ≡ h.key → h.head ≡ h.key → h.gone ≡ false →
         n.allocated ≡ h.allocated
     alike n h on there unit own stays = grind (arith, key_of, last, above)
 
+    -- by cases on which nodes are new: the new one is not gone
     spared : (n h : Node) → In n nodes ⊎ In n (b ∷ []) → In h nodes ⊎ In h (b ∷ []) → n.head ≡ h.key → h.head ≡ h.key →
         h.gone ≡ false → h.allocated ≡ false → n.gone ≡ false
     spared n h on there unit own stays bare = grind (arith, key_of, last)

@@ -1,5 +1,7 @@
 -- The nodes of a unit are of one unit still, whatever is changed or forced.
-use Rattle.forest_store.proofs.Common.{◌≡◌, refl, ap, sym, ◌∙◌, Bool, true, ◌&&◌, inl, inr, List, [], ◌∷◌, ◌++◌, map, reverse, filter, list_all, In, and_both, and_left, and_right, either_way, all_on, Node, reverse-append, In-reverse, list_all-filter, are_united, shares_unit, arith}
+use Rattle.forest_store.proofs.Common.{◌≡◌, refl, ap, sym, ◌∙◌, Bool, true, ◌&&◌, inl, inr, List, [], ◌∷◌, ◌++◌, map}
+use Rattle.forest_store.proofs.Common.{reverse, filter, list_all, In, and_both, and_left, and_right, either_way, all_on}
+use Rattle.forest_store.proofs.Common.{Node, reverse-append, In-reverse, list_all-filter, are_united, shares_unit, arith}
 use Rattle.forest_store.proofs.tables.KeptRoots.{filter-reverse_aux, map-reverse_aux}
 
 -- what is kept of a node that stays in its unit

@@ -1,5 +1,6 @@
 -- A collection with a strong live node: nothing is forced in it, and no buffer is home.
-use Rattle.forest_store.proofs.Common.{◌≡◌, ℕ, zero, suc, true, ◌==◌, nat_lt, List, Some, arith, lt-ltb, find, list_any, Table, Entry, Node, strong_count, has_strong, AreCounted, IsCounted, is_strong, In-find}
+use Rattle.forest_store.proofs.Common.{◌≡◌, ℕ, zero, suc, true, ◌==◌, nat_lt, List, Some, arith, lt-ltb, find, list_any, Table}
+use Rattle.forest_store.proofs.Common.{Entry, Node, strong_count, has_strong, AreCounted, IsCounted, is_strong, In-find}
 use Rattle.forest_store.proofs.tables.Hanging.{all_at}
 use Rattle.forest_store.proofs.quiescence.Calming.{count_none, count_some}
 

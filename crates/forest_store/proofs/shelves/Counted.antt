@@ -1,13 +1,24 @@
 -- Entries that are counted stay so, where one is put among them.
-use Rattle.forest_store.proofs.Common.{In-map-back, ◌≡◌, ℕ, zero, suc, ◌<◌, ◌≤◌, ◌==◌, ◌&&◌, Bool, true, false, ◌⊎◌, inl, inr, List, [], ◌∷◌, map, length, get_or, set, if◌then◌else◌, Option, Some, None, option_map, is_some, sym, ap, subst, ◌∙◌, refl, arith, AllByRecursion, cons_option, filter, list_all, list_any, eqb-true, eqb-false, NodeKey, same_key, In, In-map, either_way, same_key-refl, same_key-true, In-any, Table, node_at, Entry, Node, strong_count, over_except, Collection, AreRising, IsWhole, Shelf, are_filed, collection_in, is_filed, nodes_with, place_in, put_shelf, shelf_of, shelves_of, is_over, reserved_count, remove, ltb-true, times-le-length, AreCounted, IsQuiescent, IsCounted, put_in, IsNotedIn, IsNoting, IsThinned, left_at, is_strong, is_spent, camped, AreCountedExcept, with_end}
+use Rattle.forest_store.proofs.Common.{In-map-back, ◌≡◌, ℕ, zero, suc, ◌<◌, ◌≤◌, ◌==◌, ◌&&◌, Bool, true, false, ◌⊎◌, inl, inr, List, []}
+use Rattle.forest_store.proofs.Common.{◌∷◌, map, length, get_or, set, if◌then◌else◌, Option, Some, None, option_map, is_some, sym, ap}
+use Rattle.forest_store.proofs.Common.{subst, ◌∙◌, refl, arith, AllByRecursion, cons_option, filter, list_all, list_any, eqb-true}
+use Rattle.forest_store.proofs.Common.{eqb-false, NodeKey, same_key, In, In-map, either_way, same_key-refl, same_key-true, In-any, Table}
+use Rattle.forest_store.proofs.Common.{node_at, Entry, Node, strong_count, over_except, Collection, AreRising, IsWhole, Shelf, are_filed}
+use Rattle.forest_store.proofs.Common.{collection_in, is_filed, nodes_with, place_in, put_shelf, shelf_of, shelves_of, is_over}
+use Rattle.forest_store.proofs.Common.{reserved_count, remove, ltb-true, times-le-length, AreCounted, IsQuiescent, IsCounted, put_in}
+use Rattle.forest_store.proofs.Common.{IsNotedIn, IsNoting, IsThinned, left_at, is_strong, is_spent, camped, AreCountedExcept, with_end}
 use Rattle.forest_store.specs.declared.node.End.{End}
 use Rattle.forest_store.proofs.leaving.Thinning.{none-filter}
-use Rattle.forest_store.proofs.Basics.{none_cases, place_cases, In-made, all_at, all_in, each_none, made-found, none_each, above-weaker, all_weaker, looked-of, IsPlain, calm_filter, calm_map, strong_filter, times_map, in_all, looked_there, looked-map, fewer_over, more_noted, not_over_but, noted_not, cases_place, filed-length, all-In, reserved_filter, reserved_map}
+use Rattle.forest_store.proofs.Basics.{none_cases, place_cases, In-made, all_at, all_in, each_none, made-found, none_each}
+use Rattle.forest_store.proofs.Basics.{above-weaker, all_weaker, looked-of, IsPlain, calm_filter, calm_map, strong_filter}
+use Rattle.forest_store.proofs.Basics.{times_map, in_all, looked_there, looked-map, fewer_over, more_noted, not_over_but}
+use Rattle.forest_store.proofs.Basics.{noted_not, cases_place, filed-length, all-In, reserved_filter, reserved_map}
 
 -- an entry that shows the same as another, with the same counts, is counted as that one is
 pub counted_as : {t now : Table Node} {e new : Entry} → collection_in now (shelf_of new) ≡ collection_in t (shelf_of e) →
     new.strong ≡ e.strong → new.reserved ≡ e.reserved →
-    (new.garbage_known ≡ true → list_any (over_except new.garbage.items) (nodes_with t e.keys.items) ≡ false) → IsCounted t e → IsCounted now new
+    (new.garbage_known ≡ true → list_any (over_except new.garbage.items) (nodes_with t e.keys.items) ≡ false) →
+    IsCounted t e → IsCounted now new
 counted_as {new = new} same count sum garbage_known counted = record {
   calm = subst IsQuiescent (sym same) counted.calm;
   strong = count ∙ counted.strong ∙ ap (λ (c : Collection). strong_count c.nodes) (sym same);
@@ -23,7 +34,8 @@ moved t now e same counted = counted_as same refl refl counted.garbage_known cou
 -- an entry that shows the same with the same counts
 pub recounted : (t : Table Node) (e new : Entry) → collection_in t (shelf_of new) ≡ collection_in t (shelf_of e) → new.strong ≡ e.strong →
     new.reserved ≡ e.reserved →
-    (new.garbage_known ≡ true → list_any (over_except new.garbage.items) (nodes_with t e.keys.items) ≡ false) → IsCounted t e → IsCounted t new
+    (new.garbage_known ≡ true → list_any (over_except new.garbage.items) (nodes_with t e.keys.items) ≡ false) →
+    IsCounted t e → IsCounted t new
 recounted t e new = counted_as
 
 -- so of all that show the same
@@ -126,7 +138,8 @@ module _ (t now : Table Node) (named : (k : NodeKey) (n : Node) → node_at t k 
 pub mapped_all : (t now : Table Node) (f : Node → Node) → ((n : Node) → IsPlain (f n) n) → ((n : Node) → is_strong (f n) ≡ is_strong n) →
     ((n : Node) → camped (f n) ≡ camped n) →
     ((key : NodeKey) → node_at now key ≡ option_map f (node_at t key)) → (es : List Entry) →
-    AllByRecursion (λ (e : Entry). e.garbage_known ≡ true → list_any (over_except e.garbage.items) (map f (nodes_with t e.keys.items)) ≡ false) es →
+    AllByRecursion (λ (e : Entry). e.garbage_known ≡ true →
+    list_any (over_except e.garbage.items) (map f (nodes_with t e.keys.items)) ≡ false) es →
     AreCounted t es → AreCounted now es
 mapped_all t now f plain strong camps look es garbage_known all = all_in _ es (λ e on.
     let nodes = looked-map f (node_at t) (node_at now) look e.keys.items in
@@ -222,7 +235,8 @@ module _ (t : Table Node) (named : (k : NodeKey) (n : Node) → node_at t k ≡ 
   -- the node is dead only in its own collection, which notes it or is not tidy
   pub ends_tidy : (es : List Entry) → are_filed t (shelves_of es) ≡ true → AreCounted t es →
       (is_over (record n { end = end }) ≡ true → AllByRecursion (λ (e : Entry). e.id ≡ n.collection → IsNotedIn e key) es) →
-      AllByRecursion (λ (e : Entry). e.garbage_known ≡ true → list_any (over_except e.garbage.items) (map f (nodes_with t e.keys.items)) ≡ false) es
+      AllByRecursion (λ (e : Entry). e.garbage_known ≡ true →
+      list_any (over_except e.garbage.items) (map f (nodes_with t e.keys.items)) ≡ false) es
   ends_tidy es filed all garbage = grind (arith, all_in, end_tidy, all-In, In-map-back, all_at)
 
 -- an entry that notes more

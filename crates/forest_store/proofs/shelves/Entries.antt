@@ -1,5 +1,10 @@
 -- Where a collection stands among entries of rising ids.
-use Rattle.forest_store.proofs.Common.{In-get_or, both_ways, none-find, map-None, ◌≡◌, ◌≢◌, ℕ, zero, suc, ◌+◌, ◌<◌, ◌≤◌, Bool, true, false, nat_lt, ◌==◌, List, [], ◌∷◌, length, get_or, set, Option, Some, None, option_map, cond, refl, sym, ap, ◌∙◌, subst, arith, inl, inr, AllByRecursion, find, eqb-true, lt-ltb, eq-eqb, some-injective, Entry, Shelf, AreRising, place_in, shelf_of, shelves_of, slice_get, insert, IsNonDecreasingBy, le-ltb, ne_eqb, cases_lt, put_in, prefix_len, IsPartitionPoint, All-from_recursion, slice_get-get_or}
+use Rattle.forest_store.proofs.Common.{In-get_or, both_ways, none-find, map-None, ◌≡◌, ◌≢◌, ℕ, zero, suc, ◌+◌, ◌<◌, ◌≤◌}
+use Rattle.forest_store.proofs.Common.{Bool, true, false, nat_lt, ◌==◌, List, [], ◌∷◌, length, get_or, set, Option, Some}
+use Rattle.forest_store.proofs.Common.{None, option_map, cond, refl, sym, ap, ◌∙◌, subst, arith, inl, inr, AllByRecursion}
+use Rattle.forest_store.proofs.Common.{find, eqb-true, lt-ltb, eq-eqb, some-injective, Entry, Shelf, AreRising, place_in}
+use Rattle.forest_store.proofs.Common.{shelf_of, shelves_of, slice_get, insert, IsNonDecreasingBy, le-ltb, ne_eqb, cases_lt}
+use Rattle.forest_store.proofs.Common.{put_in, prefix_len, IsPartitionPoint, All-from_recursion, slice_get-get_or}
 use Rattle.forest_store.proofs.lists.Elements.{none_each}
 use Rattle.std.proofs.lemmas.List.Sums.{prefix_len_is, prefix_len-le-length}
 
@@ -69,6 +74,7 @@ pub place_cases : (id : ℕ) (x : Entry) (es : List Entry) (at : ℕ) (P : ℕ �
     ((x.id == id) ≡ true → P zero) → ((n : ℕ) → (x.id == id) ≡ false → place_in id es ≡ Some n → P (suc n)) → P at
 place_cases id x es at P told first behind = by _ refl _ refl told
   where
+    -- by cases: it stands at place 0, or one further on than among the others
     by : (b : Bool) → (x.id == id) ≡ b → (o : Option ℕ) → place_in id es ≡ o → cond b (Some 0) (option_map (λ n. n + 1) o) ≡ Some at → P at
     by true same o is told = let start : zero ≡ at = cc in subst P start (first same)
     by false other None is told = absurd (cc)
@@ -86,7 +92,8 @@ place_is id (e ∷ es) at told = place_cases id e es at (IsPlace id (e ∷ es)) 
     record { within = omega (arith, place.within); found = λ d. rw other (place.found d); id_is = λ d. place.id_is d })
 
 -- so it lies within the list
-pub place_within : (id : ℕ) (es items : List Entry) (o : Option ℕ) (at : ℕ) → items ≡ es → o ≡ place_in id items → o ≡ Some at → at < length es
+pub place_within : (id : ℕ) (es items : List Entry) (o : Option ℕ) (at : ℕ) → items ≡ es →
+    o ≡ place_in id items → o ≡ Some at → at < length es
 place_within id es items o at same told is = (place_is id es at (sym (rw same at told) ∙ is)).within
 
 -- where there is no place, the first has another id, and there is none behind
@@ -103,6 +110,7 @@ pub place_found : (id : ℕ) (es : List Entry) (d : Entry) → AreRising (shelve
     (get_or es (before id es) d).id ≡ id → place_in id es ≡ Some (before id es)
 place_found id es d rising within same = by _ refl
   where
+    -- by cases: it is at no place only if none has the id; at a place, as many are smaller as stand before it
     by : (o : Option ℕ) → place_in id es ≡ o → place_in id es ≡ Some (before id es)
     by None is = both_ways ((get_or es (before id es) d).id == id) (eq-eqb _ _ same)
         (none_each (λ (e : Entry). e.id == id) es (none-find _ es (none_in id es is)) _ (In-get_or es (before id es) d within))
@@ -116,12 +124,27 @@ pub place_none : (id : ℕ) (es : List Entry) → AreRising (shelves_of es) → 
 place_none id [] rising other = refl
 place_none id (e ∷ es) rising other = by _ refl
   where
+    -- by cases: at a place, as many are smaller as stand before it, and there another stands
     by : (o : Option ℕ) → place_in id (e ∷ es) ≡ o → o ≡ None
     by None is = refl
     by (Some at) is =
         let place = place_is id (e ∷ es) at is in
         let same : at ≡ before id (e ∷ es) = before_equal id (e ∷ es) at e rising place.within (place.id_is e) in
         absurd (other e (rw (← same) place.within) (rw (← same) (place.id_is e)))
+
+-- an entry with the id stands at its place
+pub stands_at : (id : ℕ) (es : List Entry) (at : ℕ) (d : Entry) → AreRising (shelves_of es) → at < length es →
+    (get_or es at d).id ≡ id → place_in id es ≡ Some at
+stands_at id es at d rising within same =
+    let before_it : at ≡ before id es = before_equal id es at d rising within same in
+    place_found id es d rising (rw (← before_it) within) (rw (← before_it) same) ∙ ap Some (sym before_it)
+
+-- where the last has a smaller id, there is none
+pub stands_nowhere : (id : ℕ) (es : List Entry) (last : ℕ) (d : Entry) → AreRising (shelves_of es) → last + 1 ≡ length es →
+    (get_or es last d).id < id → place_in id es ≡ None
+stands_nowhere id es last d rising end less =
+    let all : length es ≡ before id es = before_greater id es last d rising end less in
+    place_none id es rising (λ other within same. absurd (omega (arith, all, within)))
 
 -- the entry at the place that is told is found
 pub placed : (id : ℕ) (es : List Entry) (at : ℕ) → place_in id es ≡ Some at → slice_get es at ≡ find (λ (e : Entry). e.id == id) es

@@ -1,5 +1,8 @@
 -- A shelf that is put in its place among others.
-use Rattle.forest_store.proofs.Common.{◌≡◌, ℕ, ◌<◌, ◌==◌, nat_lt, true, false, not, List, [], ◌∷◌, ◌++◌, map, refl, sym, subst, arith, list_all, filter, AllByRecursion, lt-ltb, eq-eqb, eqb-true, eqb-false, NodeKey, HeldBuffer, Table, Node, Collection, Shelf, AreRising, put_shelf, collection_in, all_keys, are_filed, is_filed, put, flat_map, le-ltb, ne_eqb, cases_lt, cases_eq, ltb-true, ltb-false, map-append, pages_in}
+use Rattle.forest_store.proofs.Common.{◌≡◌, ℕ, ◌<◌, ◌==◌, nat_lt, true, false, not, List, [], ◌∷◌, ◌++◌, map, refl, sym, subst, arith}
+use Rattle.forest_store.proofs.Common.{list_all, filter, AllByRecursion, lt-ltb, eq-eqb, eqb-true, eqb-false, NodeKey, HeldBuffer, Table}
+use Rattle.forest_store.proofs.Common.{Node, Collection, Shelf, AreRising, put_shelf, collection_in, all_keys, are_filed, is_filed, put}
+use Rattle.forest_store.proofs.Common.{flat_map, le-ltb, ne_eqb, cases_lt, cases_eq, ltb-true, ltb-false, map-append, pages_in}
 use Rattle.forest_store.proofs.lists.SameIntervals.{Alike, Alike-refl, Alike-trans, Alike-front, Alike-shift, less_of}
 
 -- three ways in which one number lies to another

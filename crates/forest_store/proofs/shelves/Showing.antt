@@ -1,5 +1,11 @@
 -- What the forest that a table and entries make is read as.
-use Rattle.forest_store.proofs.Common.{◌≡◌, ◌≤◌, ℕ, ◌==◌, ◌+◌, true, false, not, List, [], ◌∷◌, length, map, Option, Some, None, option_map, if◌then◌else◌, refl, ap, ◌∙◌, arith, filter, find, list_any, list_all, cons_option, option_map_or, NodeKey, Buffers, same_key, and_left, and_right, Table, node_at, Entry, Node, Collection, node_of, Shelf, shelf_of, shelves_of, nodes_with, collection_in, forest_of, all_keys, is_filed, are_filed, IsStored, IfSome, flat_map, leb-true, filter_map-append, MAX_BUFFERS, collection_at, pages_held, length-append, In-find, all_nodes, beside, forest_node, summary_of, given_few}
+use Rattle.forest_store.proofs.Common.{◌≡◌, ◌≤◌, ℕ, ◌==◌, ◌+◌, true, false, not, List, [], ◌∷◌, length, map, Option, Some}
+use Rattle.forest_store.proofs.Common.{None, option_map, if◌then◌else◌, refl, ap, ◌∙◌, arith, filter, find, list_any}
+use Rattle.forest_store.proofs.Common.{list_all, cons_option, option_map_or, NodeKey, Buffers, same_key, and_left, and_right}
+use Rattle.forest_store.proofs.Common.{Table, node_at, Entry, Node, Collection, node_of, Shelf, shelf_of, shelves_of}
+use Rattle.forest_store.proofs.Common.{nodes_with, collection_in, forest_of, all_keys, is_filed, are_filed, IsStored, IfSome}
+use Rattle.forest_store.proofs.Common.{flat_map, leb-true, filter_map-append, MAX_BUFFERS, collection_at, pages_held}
+use Rattle.forest_store.proofs.Common.{length-append, In-find, all_nodes, beside, forest_node, summary_of, given_few}
 use Rattle.forest_store.proofs.quiescence.Steps.{all-In}
 use Rattle.forest_store.proofs.lists.Elements.{find_made}
 use Rattle.forest_store.proofs.lists.Lookups.{nothing, node_of-looked}

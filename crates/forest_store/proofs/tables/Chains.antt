@@ -1,5 +1,7 @@
 -- What a failure reaches, of the nodes whose lines up to a root are known.
-use Rattle.forest_store.proofs.Common.{◌≡◌, refl, ap, sym, ◌∙◌, Bool, true, false, ◌⊎◌, inl, inr, List, [], ◌∷◌, Option, Some, None, list_any, NodeKey, same_key, both_ways, either_way, same_key-true, IsChain, ◌↔◌, climbs, descends, top_on, arith}
+use Rattle.forest_store.proofs.Common.{◌≡◌, refl, ap, sym, ◌∙◌, Bool, true, false, ◌⊎◌, inl, inr, List, [], ◌∷◌}
+use Rattle.forest_store.proofs.Common.{Option, Some, None, list_any, NodeKey, same_key, both_ways, either_way}
+use Rattle.forest_store.proofs.Common.{same_key-true, IsChain, ◌↔◌, climbs, descends, top_on, arith}
 use Rattle.sm_names.specs.Losses.{Reach, Origin, Up, Down, top}
 
 module _ (parent : NodeKey → Option NodeKey) where

@@ -1,5 +1,7 @@
 -- The nodes that keys find, and the parents that the table has of them.
-use Rattle.forest_store.proofs.Common.{◌≡◌, ap, sym, ◌∙◌, true, false, not, List, reverse, Some, AllByRecursion, NodeKey, In, same_key-true, Table, node_at, parent_at, Node, nodes_with, is_of, are_rooted, not-false, IsHung, IsTied}
+use Rattle.forest_store.proofs.Common.{◌≡◌, ap, sym, ◌∙◌, true, false, not, List, reverse, Some}
+use Rattle.forest_store.proofs.Common.{AllByRecursion, NodeKey, In, same_key-true, Table, node_at, parent_at}
+use Rattle.forest_store.proofs.Common.{Node, nodes_with, is_of, are_rooted, not-false, IsHung, IsTied}
 pub use Rattle.forest_store.proofs.lists.Elements.{all_at, all_in}
 use Rattle.forest_store.proofs.lists.Elements.{In-made}
 

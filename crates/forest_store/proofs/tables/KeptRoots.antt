@@ -1,5 +1,12 @@
 -- The nodes of a collection stay on their parents, whatever is changed or forced.
-use Rattle.forest_store.proofs.Common.{◌≡◌, ℕ, refl, ap, sym, ◌∙◌, Bool, true, false, ◌||◌, inl, inr, List, [], ◌∷◌, ◌++◌, map, reverse, Option, Some, None, is_some, filter, list_any, option_map_or, Interval, NodeKey, In, In-find, In-map, In-map-back, and_both, and_left, and_right, both_ways, either_way, or_right, same_key-refl, same_key-true, In-any, Change, Effect, Node, is_left_of, Collection, affected, is_of, members_of, node_of, Handles, Settles, are_rooted, reverse-append, Mark, Called, Loss, Allocated, Ended, is_under, In-append, In-filter, In-filter-back, In-reverse, In-reverse-back, IsChain, or_parts, above_among, after_allocation, after_effect, is_taken, member_of, new_child, Rests, Forces, changed, is_root_of, made, hangs_on, is_some-find, after_end, after_loss, FitsChange, arith}
+use Rattle.forest_store.proofs.Common.{◌≡◌, ℕ, refl, ap, sym, ◌∙◌, Bool, true, false, ◌||◌, inl, inr, List, [], ◌∷◌, ◌++◌, map, reverse}
+use Rattle.forest_store.proofs.Common.{Option, Some, None, is_some, filter, list_any, option_map_or, Interval, NodeKey, In, In-find}
+use Rattle.forest_store.proofs.Common.{In-map, In-map-back, and_both, and_left, and_right, both_ways, either_way, or_right, same_key-refl}
+use Rattle.forest_store.proofs.Common.{same_key-true, In-any, Change, Effect, Node, is_left_of, Collection, affected, is_of, members_of}
+use Rattle.forest_store.proofs.Common.{node_of, Handles, Settles, are_rooted, reverse-append, Mark, Called, Loss, Allocated, Ended}
+use Rattle.forest_store.proofs.Common.{is_under, In-append, In-filter, In-filter-back, In-reverse, In-reverse-back, IsChain, or_parts}
+use Rattle.forest_store.proofs.Common.{above_among, after_allocation, after_effect, is_taken, member_of, new_child, Rests, Forces}
+use Rattle.forest_store.proofs.Common.{changed, is_root_of, made, hangs_on, is_some-find, after_end, after_loss, FitsChange, arith}
 use Rattle.sm_names.specs.declared.outcomes.Fault.{Fault}
 use Rattle.sm_names.specs.Changes.{highest}
 use Rattle.forest_store.proofs.tables.Chains.{one_line}
@@ -255,6 +262,7 @@ pub rooted_changed : (change : Change) (key : NodeKey) (c : Collection) → Fits
 rooted_changed (Change.Birth None attached client event) key c fit old = rooted_birth _ old _ fit.0 refl
 rooted_changed (Change.Birth (Some above) attached client event) key c fit old = from _ refl
   where
+    -- by cases: without the node above nothing is born; with it the new one hangs on a node that is there
     from : (o : Option Node) → node_of c.nodes above ≡ o →
         IsRooted (option_map_or (λ n. record c { nodes = c.nodes ++ new_child attached key event client n ∷ [] }) o c).nodes
     from None is = old

@@ -1,5 +1,8 @@
 -- The parent of a node that is not gone is in the table, and not gone.
-use Rattle.forest_store.proofs.Common.{◌≡◌, ℕ, ap, sym, ◌∙◌, subst, true, false, ◌==◌, ◌&&◌, not, List, [], Option, Some, refl, eqb-true, find, option_map_or, NodeKey, In, In-find, both_ways, Table, node_at, parent_at, Change, Node, is_left_of, Collection, Shelf, IsStored, forest_of, nodes_with, collection_or_new, MayChange, is_there, loses_left, arith}
+use Rattle.forest_store.proofs.Common.{◌≡◌, ℕ, ap, sym, ◌∙◌, subst, true, false, ◌==◌, ◌&&◌, not, List, [], Option}
+use Rattle.forest_store.proofs.Common.{Some, refl, eqb-true, find, option_map_or, NodeKey, In, In-find, both_ways}
+use Rattle.forest_store.proofs.Common.{Table, node_at, parent_at, Change, Node, is_left_of, Collection, Shelf, IsStored}
+use Rattle.forest_store.proofs.Common.{forest_of, nodes_with, collection_or_new, MayChange, is_there, loses_left, arith}
 use Rattle.forest_store.proofs.newborns.Newborn.{before_is, found_above}
 use Rattle.forest_store.proofs.Basics.{in_all, looked_there, left_in, left_node, left_parent, node_is}
 

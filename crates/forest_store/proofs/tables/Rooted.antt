@@ -1,6 +1,10 @@
 -- The nodes of a collection hang on their parents: a node that is not gone comes after its parent,
 -- which is not gone.
-use Rattle.forest_store.proofs.Common.{◌≡◌, refl, ap, sym, ◌∙◌, subst, true, false, inl, inr, List, [], ◌∷◌, reverse, Option, Some, None, not-true, list_any, option_map_or, NodeKey, same_key, In, In-list_any, and_both, and_left, and_right, either_way, or_right, same_key-refl, same_key-true, In-any, Node, is_left_of, Collection, IsWhole, is_of, are_distinct, are_rooted, In-reverse, In-reverse-back, IsChain, above_among, hangs_on, not_from_false, arith}
+use Rattle.forest_store.proofs.Common.{◌≡◌, refl, ap, sym, ◌∙◌, subst, true, false, inl, inr, List, [], ◌∷◌, reverse, Option}
+use Rattle.forest_store.proofs.Common.{Some, None, not-true, list_any, option_map_or, NodeKey, same_key, In, In-list_any}
+use Rattle.forest_store.proofs.Common.{and_both, and_left, and_right, either_way, or_right, same_key-refl, same_key-true}
+use Rattle.forest_store.proofs.Common.{In-any, Node, is_left_of, Collection, IsWhole, is_of, are_distinct, are_rooted}
+use Rattle.forest_store.proofs.Common.{In-reverse, In-reverse-back, IsChain, above_among, hangs_on, not_from_false, arith}
 
 -- nodes with one key are one node
 abbrev pub AreOne : List Node → Type 0
@@ -17,15 +21,19 @@ distinct_one [] distinct a b on too same = absurd on
 distinct_one (n ∷ ns) distinct a b on too same =
     from on too (λ here there. distinct_one ns (and_right _ _ distinct) a b here there same)
   where
+    -- since no node behind has the key of the first
     alone : list_any (is_of n.key) ns ≡ false
     alone = not-true (list_any (is_of n.key) ns) (and_left _ _ distinct)
 
+    -- since it would have the key of the first
     again : (m : Node) → In m ns → m.key ≡ n.key → ⊥
     again m there is = grind (arith, In-any, same_key-refl, alone)
 
+    -- by congruence
     key_of : (x y : Node) → x ≡ y → x.key ≡ y.key
     key_of x y = ap (λ (m : Node). m.key)
 
+    -- by cases: both are the first, or both are behind it
     from : In a (n ∷ ns) → In b (n ∷ ns) → (In a ns → In b ns → a ≡ b) → a ≡ b
     from one other rest = grind (arith, again, key_of)
 

@@ -1,5 +1,7 @@
 -- Nodes that are written one after another, each in the place of the one with its key.
-use Rattle.forest_store.proofs.Common.{◌≡◌, Bool, true, false, List, [], ◌∷◌, ◌++◌, ◌⊎◌, inl, inr, Option, Some, None, option_map, is_some, cond, if◌then◌else◌, refl, ap, ◌∙◌, false≢true, NodeKey, same_key, In, either_way, same_key-true, Table, node_at, Node, IsSome, Row, row_at, Writes, table_with_node, written, stored, Stores, arith}
+use Rattle.forest_store.proofs.Common.{◌≡◌, Bool, true, false, List, [], ◌∷◌, ◌++◌, ◌⊎◌, inl, inr, Option, Some, None, option_map, is_some}
+use Rattle.forest_store.proofs.Common.{cond, if◌then◌else◌, refl, ap, ◌∙◌, false≢true, NodeKey, same_key, In, either_way, same_key-true}
+use Rattle.forest_store.proofs.Common.{Table, node_at, Node, IsSome, Row, row_at, Writes, table_with_node, written, stored, Stores, arith}
 use Rattle.forest_store.proofs.lists.Lookups.{nothing}
 use Rattle.forest_store.proofs.tables.Writing.{look-written, parents-written}
 
@@ -21,9 +23,19 @@ stored-push (x ∷ xs) m n = stored-push xs m (written x n)
 pub row_there : (t : Table Node) (key : NodeKey) → is_some (node_at t key) ≡ true → IsSome (row_at t key)
 row_there t key = by _
   where
+    -- by cases: without a row there is no node
     by : (o : Option (Row Node)) → is_some (option_map (λ (row : Row Node). row.node) o) ≡ true → IsSome o
     by None h = absurd (false≢true h)
     by (Some row) h = refl
+
+-- a row that is there has a node
+pub node_there : (t : Table Node) (key : NodeKey) → IsSome (row_at t key) → (n : Node) × (node_at t key ≡ Some n)
+node_there t key there = by (row_at t key) there
+  where
+    -- by cases: a row has its node
+    by : (o : Option (Row Node)) → IsSome o → (n : Node) × (option_map (λ (row : Row Node). row.node) o ≡ Some n)
+    by None some = absurd (cc)
+    by (Some row) some = (row.node, refl)
 
 -- a node as it is stored is one of those, or as it was
 pub stored_one : (ns : List Node) (n : Node) → (stored ns n ≡ n) ⊎ In (stored ns n) ns

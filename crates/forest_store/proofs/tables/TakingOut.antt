@@ -1,5 +1,10 @@
 -- A node that is taken out of the table, with its children cut.
-use Rattle.forest_store.proofs.Common.{◌≡◌, ◌≢◌, suc, ◌+◌, ◌<◌, nat_lt, Bool, not, List, [], ◌∷◌, length, Option, Some, None, option_map, cond, if◌then◌else◌, refl, sym, ap, subst, ◌∙◌, inl, inr, arith, NodeKey, same_key, some-injective, Table, node_at, parent_at, Node, Shelf, forest_of, slice_index_or, IsSome, get_or_past, Row, row_at, parent_in, children_at, table_len, SameKeys, at_parent, key_cases, same_key-equal, same_key-apart, TakesOut, Contains, MatchOption, children_in, Cuts, Removes, without_child, without_parent, SameForest, IsChild, Unlinks, Leaves}
+use Rattle.forest_store.proofs.Common.{◌≡◌, ◌≢◌, suc, ◌+◌, ◌<◌, nat_lt, Bool, not, List, [], ◌∷◌, length, Option, Some, None}
+use Rattle.forest_store.proofs.Common.{option_map, cond, if◌then◌else◌, refl, sym, ap, subst, ◌∙◌, inl, inr, arith, NodeKey}
+use Rattle.forest_store.proofs.Common.{same_key, some-injective, Table, node_at, parent_at, Node, Shelf, forest_of, slice_index_or}
+use Rattle.forest_store.proofs.Common.{IsSome, get_or_past, Row, row_at, parent_in, children_at, table_len, SameKeys, at_parent}
+use Rattle.forest_store.proofs.Common.{key_cases, same_key-equal, same_key-apart, TakesOut, Contains, MatchOption, children_in}
+use Rattle.forest_store.proofs.Common.{Cuts, Removes, without_child, without_parent, SameForest, IsChild, Unlinks, Leaves}
 use Rattle.node_table.specs.Forest.{IsForest, first_key}
 use Rattle.node_table.proofs.Lists.{without, without_lacks, Contains-head}
 use Rattle.node_table.proofs.Runs.{without-short}
@@ -37,7 +42,8 @@ pub still_node : (g : Row Node → Row Node) → ((row : Row Node) → (g row).n
 still_node g same parent other o = grind arith
 
 -- a row keeps its parent there too
-pub still_parent : (g : Row Node → Row Node) → ((row : Row Node) → (g row).parent ≡ row.parent) → (parent : Option NodeKey) (other : NodeKey)
+pub still_parent : (g : Row Node → Row Node) → ((row : Row Node) → (g row).parent ≡ row.parent) →
+    (parent : Option NodeKey) (other : NodeKey)
     (o : Option (Row Node)) → parent_in (option_map (at_parent parent g other) o) ≡ parent_in o
 still_parent g same parent other o = grind arith
 
@@ -51,7 +57,8 @@ cut_parent : (t now : Table Node) (key : NodeKey) → Cuts t now key → (k p : 
 cut_parent t now key cuts k p up = elim (key_cases k key) [
   | inl same ↦
       let none : parent_at now k ≡ None = ap (parent_at now) same ∙ ap parent_in cuts.loose ∙ no_parent (row_at t key) in absurd (cc)
-  | inr other ↦ sym (ap parent_in (cuts.others k other) ∙ still_parent (without_child key) (λ row. refl) (parent_at t key) k (row_at t k)) ∙ up
+  | inr other ↦ sym (ap parent_in (cuts.others k other)
+      ∙ still_parent (without_child key) (λ row. refl) (parent_at t key) k (row_at t k)) ∙ up
 ]
 
 -- a cut changes no node
@@ -77,6 +84,7 @@ pub first_child_is : (t : Table Node) (key : NodeKey) → IsForest t → (o : Op
     MatchOption o (children_at t key ≡ []) (IsChild t key)
 first_child_is t key forest o told = by_list _ refl o told
   where
+    -- by cases: the first key of the list is in it
     by_list : (xs : List NodeKey) → children_at t key ≡ xs → (o : Option NodeKey) → o ≡ first_key xs →
         MatchOption o (children_at t key ≡ []) (IsChild t key)
     by_list [] list None told = list
@@ -153,7 +161,8 @@ removed_parent : (t now : Table Node) (key : NodeKey) (n : Node) → Removes t n
     parent_at t k ≡ Some p
 removed_parent t now key n removes k p up = elim (key_cases k key) [
   | inl same ↦ let none : parent_at now k ≡ None = ap (parent_at now) same ∙ ap parent_in removes.gone in absurd (cc)
-  | inr other ↦ sym (ap parent_in (removes.others k other) ∙ still_parent (without_child key) (λ row. refl) (parent_at t key) k (row_at t k)) ∙ up
+  | inr other ↦ sym (ap parent_in (removes.others k other)
+      ∙ still_parent (without_child key) (λ row. refl) (parent_at t key) k (row_at t k)) ∙ up
 ]
 
 -- a node is taken out once it has no child
@@ -162,7 +171,8 @@ pub takes_out : (t u now : Table Node) (key : NodeKey) (n : Node) → IsSome (no
 takes_out t u now key n was un removes = record {
   was = was;
   look = λ k. removed_look u now key n removes k ∙ ap (λ (o : Option Node). if same_key key k then None else o) (un.look k);
-  parents = λ k differ other. ap parent_in (removes.others k differ) ∙ still_parent (without_child key) (λ row. refl) (parent_at u key) k (row_at u k)
+  parents = λ k differ other. ap parent_in (removes.others k differ)
+      ∙ still_parent (without_child key) (λ row. refl) (parent_at u key) k (row_at u k)
       ∙ un.parents k other;
   fewer = λ k p up. un.fewer k p (removed_parent u now key n removes k p up);
   keys = SameKeys-trans t u now un.keys removes.keys;

@@ -1,5 +1,8 @@
 -- The walk over the keys of a collection that takes out the nodes that are dead.
-use Rattle.forest_store.proofs.Common.{◌≡◌, ◌≢◌, Bool, true, false, List, [], ◌∷◌, ◌++◌, map, Option, None, cond, refl, sym, ap, subst, ◌∙◌, inl, inr, list_any, option_map_or, NodeKey, same_key, and_left, Table, node_at, Node, Shelf, IsStored, is_over, list_any-append, or_false, SameKeys, key_cases, same_key-equal, same_key-apart, TakesOut, left_at, thinned, unless_over, arith}
+use Rattle.forest_store.proofs.Common.{◌≡◌, ◌≢◌, Bool, true, false, List, [], ◌∷◌, ◌++◌, map, Option, None, cond, refl, sym}
+use Rattle.forest_store.proofs.Common.{ap, subst, ◌∙◌, inl, inr, list_any, option_map_or, NodeKey, same_key, and_left, Table}
+use Rattle.forest_store.proofs.Common.{node_at, Node, Shelf, IsStored, is_over, list_any-append, or_false, SameKeys, key_cases}
+use Rattle.forest_store.proofs.Common.{same_key-equal, same_key-apart, TakesOut, left_at, thinned, unless_over, arith}
 use Rattle.forest_store.proofs.leaving.Thinning.{all_thinned-same, found_before, taken-kept, thinned-twice}
 use Rattle.forest_store.proofs.tables.TakingOut.{SameKeys-refl, SameKeys-trans}
 

@@ -1,5 +1,10 @@
 -- What stays true of a forest where nodes are written in their places.
-use Rattle.forest_store.proofs.Common.{◌≡◌, ◌≢◌, ℕ, ◌==◌, false, List, [], ◌∷◌, map, drop, Option, Some, None, option_map, is_some, if◌then◌else◌, refl, sym, ap, subst, ◌∙◌, inl, inr, list_any, list_all, AllByRecursion, option_map_or, NodeKey, same_key, Table, node_at, parent_at, Node, Collection, with_nodes, Shelf, collection_in, is_filed, are_filed, IsStored, IsWhole, nodes_with, is_of, are_distinct, heads_itself, Row, row_at, parent_in, table_len, was_given, Writes, with_node, key_cases, same_key-equal, same_key-apart, IsSound, GoTogether, arith}
+use Rattle.forest_store.proofs.Common.{◌≡◌, ◌≢◌, ℕ, ◌==◌, false, List, [], ◌∷◌, map, drop, Option, Some, None, option_map, is_some}
+use Rattle.forest_store.proofs.Common.{if◌then◌else◌, refl, sym, ap, subst, ◌∙◌, inl, inr, list_any, list_all, AllByRecursion}
+use Rattle.forest_store.proofs.Common.{option_map_or, NodeKey, same_key, Table, node_at, parent_at, Node, Collection, with_nodes}
+use Rattle.forest_store.proofs.Common.{Shelf, collection_in, is_filed, are_filed, IsStored, IsWhole, nodes_with, is_of}
+use Rattle.forest_store.proofs.Common.{are_distinct, heads_itself, Row, row_at, parent_in, table_len, was_given, Writes, with_node}
+use Rattle.forest_store.proofs.Common.{key_cases, same_key-equal, same_key-apart, IsSound, GoTogether, arith}
 use Rattle.forest_store.proofs.tables.KeptRoots.{rooted_same}
 use Rattle.forest_store.proofs.tables.Kin.{kin_kept}
 use Rattle.forest_store.proofs.lists.Elements.{all_map, all_weaker, any_map}

@@ -1,5 +1,9 @@
 -- Sums over nodes, of numbers or of tests that pass: where one node changed, or without some.
-use Rattle.forest_store.proofs.Common.{◌≤◌, ◌≡◌, ◌≢◌, ℕ, zero, suc, ◌+◌, Bool, true, false, inl, inr, List, [], ◌∷◌, map, filter, Option, Some, None, if◌then◌else◌, refl, sym, ap, ◌∙◌, arith, not-true, list_any, cons_option, NodeKey, same_key, times, In, and_left, and_right, both_ways, either_way, same_key-refl, same_key-true, In-any, times-append, AllPairs, Table, node_at, nodes_with, Node, is_of, are_distinct, bit, common_steps}
+use Rattle.forest_store.proofs.Common.{◌≤◌, ◌≡◌, ◌≢◌, ℕ, zero, suc, ◌+◌, Bool, true, false, inl, inr, List, [], ◌∷◌, map}
+use Rattle.forest_store.proofs.Common.{filter, Option, Some, None, if◌then◌else◌, refl, sym, ap, ◌∙◌, arith, not-true}
+use Rattle.forest_store.proofs.Common.{list_any, cons_option, NodeKey, same_key, times, In, and_left, and_right}
+use Rattle.forest_store.proofs.Common.{both_ways, either_way, same_key-refl, same_key-true, In-any, times-append}
+use Rattle.forest_store.proofs.Common.{AllPairs, Table, node_at, nodes_with, Node, is_of, are_distinct, bit, common_steps}
 use Rattle.std.proofs.lemmas.Map.Views.{Contains-from_any}
 use Rattle.forest_store.proofs.lists.Lookups.{same_key-swap}
 
@@ -26,6 +30,7 @@ pub times_first : (test : Node → Bool) (t : Table Node) (k : NodeKey) (ks : Li
     times test (nodes_with t (k ∷ ks)) ≡ times test (nodes_with t (k ∷ [])) + times test (nodes_with t ks)
 times_first test t k ks = from (node_at t k)
   where
+    -- by cases: a key that finds no node counts nothing
     from : (o : Option Node) →
         times test (cons_option o (nodes_with t ks)) ≡ times test (cons_option o []) + times test (nodes_with t ks)
     from None = omega arith
@@ -36,6 +41,7 @@ pub amount_first : (amount : Node → ℕ) (t : Table Node) (k : NodeKey) (ks : 
     amount_of amount (nodes_with t (k ∷ ks)) ≡ amount_of amount (nodes_with t (k ∷ [])) + amount_of amount (nodes_with t ks)
 amount_first amount t k ks = from (node_at t k)
   where
+    -- by cases: a key that finds no node adds nothing
     from : (o : Option Node) →
         amount_of amount (cons_option o (nodes_with t ks)) ≡ amount_of amount (cons_option o []) + amount_of amount (nodes_with t ks)
     from None = omega arith

@@ -1,5 +1,7 @@
 -- Nodes are taken from the counts one after another, each from those of both units at once.
-use Rattle.forest_store.proofs.Common.{◌≡◌, ℕ, zero, suc, refl, ap, ◌∙◌, Bool, true, false, List, [], ◌∷◌, set, Option, Some, None, if◌then◌else◌, cons_option, NodeKey, Table, Node, Unit, unit_at, nodes_with, is_live_node, is_unready, lowered, unhung, unreckoned, untallied, without_below, without_node}
+use Rattle.forest_store.proofs.Common.{◌≡◌, ℕ, zero, suc, refl, ap, ◌∙◌, Bool, true, false, List, [], ◌∷◌, set, Option, Some, None}
+use Rattle.forest_store.proofs.Common.{if◌then◌else◌, cons_option, NodeKey, Table, Node, Unit, unit_at, nodes_with, is_live_node}
+use Rattle.forest_store.proofs.Common.{is_unready, lowered, unhung, unreckoned, untallied, without_below, without_node}
 
 -- two changes of counts that commute do so at any two slots
 changed_both : (A B : Unit → Unit) → ((u : Unit) → A (B u) ≡ B (A u)) → (us : List Unit) (i j : ℕ) →
@@ -37,6 +39,7 @@ pub unreckoned_on : (t : Table Node) (key : NodeKey) (keys : List NodeKey) (us :
     unreckoned t (nodes_with t keys) (unreckoned t (nodes_with t (key ∷ [])) us) ≡ unreckoned t (nodes_with t (key ∷ keys)) us
 unreckoned_on t key keys us = from _
   where
+    -- by cases: a key that finds no node unhangs nothing
     from : (o : Option Node) → unreckoned t (nodes_with t keys) (unreckoned t (cons_option o []) us)
         ≡ unreckoned t (cons_option o (nodes_with t keys)) us
     from None = refl

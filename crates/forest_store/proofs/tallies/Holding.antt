@@ -1,5 +1,12 @@
 -- Where something holds each unit, no node is deserted; and something does, where none is.
-use Rattle.forest_store.proofs.Common.{not-false, or_none_left, or_none_right, ◌++◌, length-append, list_any-append, ◌≡◌, ℕ, zero, suc, ◌+◌, ◌<◌, ◌≤◌, refl, ap, sym, ◌∙◌, subst, Bool, true, false, not, ◌&&◌, ◌||◌, is_none, inl, inr, List, [], ◌∷◌, length, reverse, Option, Some, None, arith, not-true, list_any, list_all, option_map_or, NodeKey, same_key, In, In-list_any, and_both, and_left, and_right, both_ways, either_way, false_if, or_cases, or_left, or_right, same_key-refl, same_key-true, In-any, all_on, Node, is_left_of, is_of, node_of, is_deserted_node, is_live_node, are_distinct, heads_itself, are_rooted, is_head, In-reverse, In-reverse-back, IsChain, above_among, is_below, lives_below, hangs_on, are_united, shares_unit, length-reverse, is_parent}
+use Rattle.forest_store.proofs.Common.{not-false, or_none_left, or_none_right, ◌++◌, length-append, list_any-append, ◌≡◌, ℕ, zero}
+use Rattle.forest_store.proofs.Common.{suc, ◌+◌, ◌<◌, ◌≤◌, refl, ap, sym, ◌∙◌, subst, Bool, true, false, not, ◌&&◌, ◌||◌, is_none}
+use Rattle.forest_store.proofs.Common.{inl, inr, List, [], ◌∷◌, length, reverse, Option, Some, None, arith, not-true, list_any}
+use Rattle.forest_store.proofs.Common.{list_all, option_map_or, NodeKey, same_key, In, In-list_any, and_both, and_left, and_right}
+use Rattle.forest_store.proofs.Common.{both_ways, either_way, false_if, or_cases, or_left, or_right, same_key-refl, same_key-true}
+use Rattle.forest_store.proofs.Common.{In-any, all_on, Node, is_left_of, is_of, node_of, is_deserted_node, is_live_node, are_distinct}
+use Rattle.forest_store.proofs.Common.{heads_itself, are_rooted, is_head, In-reverse, In-reverse-back, IsChain, above_among, is_below}
+use Rattle.forest_store.proofs.Common.{lives_below, hangs_on, are_united, shares_unit, length-reverse, is_parent}
 pub use Rattle.forest_store.specs.Counts.{hangs_in}
 use Rattle.forest_store.proofs.tables.Chains.{one_line}
 use Rattle.forest_store.proofs.tables.Rooted.{AreOne, distinct_one, left_in, left_node, left_parent, line_of}
@@ -36,6 +43,7 @@ shared_among (m ∷ older) united rooted n (inl is) here h p up =
     let same : same_key x.node.head m.head ≡ true = from _ (is_parent m x.node) (same_key x.node.head m.head) h' above all in
     (x.node, inr x.on, x.is, same_key-true _ _ same ∙ ap (λ (y : Node). y.head) (sym is))
   where
+    -- by arithmetic of switches
     from : (a b c : Bool) → a ≡ false → b ≡ true → (a || (not b || c)) ≡ true → c ≡ true
     from a b c ea eb h = grind arith
 shared_among (m ∷ older) united rooted n (inr on) here h p up =

@@ -1,5 +1,10 @@
 -- How many units hang right below one, as counted in the table and as defined of a collection.
-use Rattle.forest_store.proofs.Common.{◌≡◌, ◌≢◌, ℕ, ◌+◌, ◌<◌, ◌≤◌, refl, ap, sym, ◌∙◌, Bool, true, false, not, ◌&&◌, ◌||◌, ◌⊎◌, inl, inr, if◌then◌else◌, List, [], ◌∷◌, map, reverse, length, Option, Some, None, option_map, arith, lt-ltb, list_any, option_map_or, NodeKey, same_key, times, In, In-list_any, either_way, same_key-refl, same_key-true, some-injective, In-any, Table, node_at, Node, Unit, unit_at, is_of, are_distinct, are_rooted, hangs_in, head_above, heads_below, lowered, unhung, without_below, bit, list_any-map, head_of, hung, raised, with_below}
+use Rattle.forest_store.proofs.Common.{◌≡◌, ◌≢◌, ℕ, ◌+◌, ◌<◌, ◌≤◌, refl, ap, sym, ◌∙◌, Bool, true, false, not, ◌&&◌, ◌||◌, ◌⊎◌, inl}
+use Rattle.forest_store.proofs.Common.{inr, if◌then◌else◌, List, [], ◌∷◌, map, reverse, length, Option, Some, None, option_map}
+use Rattle.forest_store.proofs.Common.{arith, lt-ltb, list_any, option_map_or, NodeKey, same_key, times, In, In-list_any}
+use Rattle.forest_store.proofs.Common.{either_way, same_key-refl, same_key-true, some-injective, In-any, Table, node_at, Node, Unit}
+use Rattle.forest_store.proofs.Common.{unit_at, is_of, are_distinct, are_rooted, hangs_in, head_above, heads_below, lowered, unhung}
+use Rattle.forest_store.proofs.Common.{without_below, bit, list_any-map, head_of, hung, raised, with_below}
 use Rattle.forest_store.proofs.lists.Elements.{times_map}
 use Rattle.forest_store.proofs.tables.Rooted.{distinct_one, left_node, left_parent}
 use Rattle.forest_store.proofs.tables.Writing.{IsSameNode}
@@ -47,7 +52,8 @@ module _ (t : Table Node) where
   pub hung_by : Changes (hung t) (head_above t) one_more
   hung_by = record {
     none = λ us. refl;
-    next = λ n ns us. ap (hung t ns) (elim (head_above t n) as (λ o. with_below o us ≡ put_at o (one_more n) us) [ None ↦ refl | Some h ↦ refl ]);
+    next = λ n ns us. ap (hung t ns)
+        (elim (head_above t n) as (λ o. with_below o us ≡ put_at o (one_more n) us) [ None ↦ refl | Some h ↦ refl ]);
   }
 
   -- so where it hangs there no longer

@@ -1,5 +1,7 @@
 -- Counts of units that a list of nodes changes, each node those in one slot.
-use Rattle.forest_store.proofs.Common.{◌≡◌, ◌≢◌, ℕ, ◌<◌, refl, ap, sym, ◌∙◌, Bool, false, inl, inr, if◌then◌else◌, List, [], ◌∷◌, length, set, Option, Some, None, option_map_or, NodeKey, same_key, same_key-refl, same_key-true, In, both_ways, either_way, Node, Unit, unit_at, no_unit, get_or-set_other, get_or-set_same, length-set}
+use Rattle.forest_store.proofs.Common.{◌≡◌, ◌≢◌, ℕ, ◌<◌, refl, ap, sym, ◌∙◌, Bool, false, inl, inr, if◌then◌else◌, List, [], ◌∷◌, length}
+use Rattle.forest_store.proofs.Common.{set, Option, Some, None, option_map_or, NodeKey, same_key, same_key-refl, same_key-true, In}
+use Rattle.forest_store.proofs.Common.{both_ways, either_way, Node, Unit, unit_at, no_unit, get_or-set_other, get_or-set_same, length-set}
 
 -- the unit has this head
 abbrev pub is_above : NodeKey → Option NodeKey → Bool

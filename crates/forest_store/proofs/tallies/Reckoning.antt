@@ -1,5 +1,8 @@
 -- What the counts of a unit are, once nodes were counted for their units.
-use Rattle.forest_store.proofs.Common.{Option, Some, None, some-injective, ◌≡◌, ℕ, ◌+◌, ◌<◌, ◌≤◌, nat_lt, refl, ap, ◌∙◌, Bool, true, false, not, ◌&&◌, ◌||◌, if◌then◌else◌, List, [], ◌∷◌, length, is_some, arith, lt-ltb, NodeKey, same_key, times, In, Node, Unit, is_live_node, lives_in, unit_at, waits_in, bit, is_unready, tallied, and-false, and-true, or-true, raised}
+use Rattle.forest_store.proofs.Common.{Option, Some, None, some-injective, ◌≡◌, ℕ, ◌+◌, ◌<◌, ◌≤◌, nat_lt, refl, ap, ◌∙◌}
+use Rattle.forest_store.proofs.Common.{Bool, true, false, not, ◌&&◌, ◌||◌, if◌then◌else◌, List, [], ◌∷◌, length, is_some}
+use Rattle.forest_store.proofs.Common.{arith, lt-ltb, NodeKey, same_key, times, In, Node, Unit, is_live_node, lives_in}
+use Rattle.forest_store.proofs.Common.{unit_at, waits_in, bit, is_unready, tallied, and-false, and-true, or-true, raised}
 use Rattle.forest_store.specs.Counts.{with_node}
 use Rattle.forest_store.proofs.tallies.Amounts.{bit_few, times_more}
 use Rattle.forest_store.proofs.tallies.InTurn.{Changes, in_turn, is_above, own_slot, put_at}
@@ -10,6 +13,7 @@ use Rattle.forest_store.proofs.tallies.InTurn.{Changes, in_turn, is_above, own_s
 pub waits_own : (head : NodeKey) (n : Node) → same_key n.head head ≡ true → waits_in head n ≡ is_unready n
 waits_own head n own = from n.gone (same_key n.head head) n.released (is_some n.constraints) own
   where
+    -- by arithmetic of switches
     from : (g s r c : Bool) → s ≡ true → not (g || (not s || (r || c))) ≡ (not g && (not r && not c))
     from g s r c is = grind arith
 
@@ -54,12 +58,16 @@ pub counts_own : (k : NodeKey) (n : Node) → (bit (lives_in k n) ≡ (if is_abo
     (bit (waits_in k n) ≡ (if is_above k (own_unit n) then bit (is_unready n) else 0))
 counts_own k n = rw told (lives n.gone (same_key n.head k) n.released, waits n.gone (same_key n.head k) n.released (is_some n.constraints))
   where
+    -- by cases: a node that is gone counts for no unit
     told : is_above k (own_unit n) ≡ (not n.gone && same_key n.head k)
-    told = elim n.gone as (λ (b : Bool). is_above k (if b then None else Some n.head) ≡ (not b && same_key n.head k)) [ true ↦ refl | false ↦ refl ]
+    told = elim n.gone as (λ (b : Bool). is_above k (if b then None else Some n.head)
+        ≡ (not b && same_key n.head k)) [ true ↦ refl | false ↦ refl ]
 
+    -- by arithmetic of switches
     lives : (g s r : Bool) → bit ((not g && not r) && s) ≡ (if not g && s then bit (not g && not r) else 0)
     lives g s r = grind arith
 
+    -- by arithmetic of switches
     waits : (g s r c : Bool) → bit (not (g || (not s || (r || c)))) ≡ (if not g && s then bit (not g && (not r && not c)) else 0)
     waits g s r c = grind arith
 
@@ -86,12 +94,14 @@ raised_is false count less = omega arith
 -- by cases: it is counted, or not
 counts_more : (n : Node) (u : Unit) (b : Bool) → u.live < 18446744073709551615 → u.unready < 18446744073709551615 →
     Gains u (if b then one_more n u else u) (if b then bit (is_live_node n) else 0) (if b then bit (is_unready n) else 0)
-counts_more n u true l w = record { live = raised_is (is_live_node n) u.live l; unready = raised_is (is_unready n) u.unready w; below = refl }
+counts_more n u true l w =
+    record { live = raised_is (is_live_node n) u.live l; unready = raised_is (is_unready n) u.unready w; below = refl }
 counts_more n u false l w = record { live = omega arith; unready = omega arith; below = refl }
 
 -- by induction: one node after another
 adds_all : (k : NodeKey) (ns : List Node) (u : Unit) → u.live + length ns ≤ 18446744073709551615 →
-    u.unready + length ns ≤ 18446744073709551615 → Gains u (in_turn own_unit one_more k ns u) (times (lives_in k) ns) (times (waits_in k) ns)
+    u.unready + length ns ≤ 18446744073709551615 →
+    Gains u (in_turn own_unit one_more k ns u) (times (lives_in k) ns) (times (waits_in k) ns)
 adds_all k [] u live unready = record { live = omega arith; unready = omega arith; below = refl }
 adds_all k (n ∷ ns) u live unready =
     let own = counts_own k n in

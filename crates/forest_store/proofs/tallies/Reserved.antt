@@ -1,5 +1,8 @@
 -- What is reserved, node by node: what each camps on is added up.
-use Rattle.forest_store.proofs.Common.{filter_map-append, ◌≡◌, ◌≢◌, ℕ, ◌+◌, Bool, true, false, if◌then◌else◌, inl, inr, List, [], ◌∷◌, ◌++◌, map, Option, Some, None, refl, sym, ap, ◌∙◌, arith, cons_option, filter, list_any, sum_by, option_map_or, NodeKey, Demand, same_key, In, either_way, Table, node_at, Node, nodes_with, reserved_count, are_distinct, AllPairs, demands_of, has_buffers, camped}
+use Rattle.forest_store.proofs.Common.{filter_map-append, ◌≡◌, ◌≢◌, ℕ, ◌+◌, Bool, true, false, if◌then◌else◌, inl, inr, List, []}
+use Rattle.forest_store.proofs.Common.{◌∷◌, ◌++◌, map, Option, Some, None, refl, sym, ap, ◌∙◌, arith, cons_option, filter}
+use Rattle.forest_store.proofs.Common.{list_any, sum_by, option_map_or, NodeKey, Demand, same_key, In, either_way, Table, node_at}
+use Rattle.forest_store.proofs.Common.{Node, nodes_with, reserved_count, are_distinct, AllPairs, demands_of, has_buffers, camped}
 use Rattle.std.proofs.lemmas.List.Sums.{sum_by-append, sum_by-cons}
 use Rattle.forest_store.proofs.tallies.Amounts.{amount_but, amount_changed, amount_filter, amount_of, amount_same, taken_amount}
 pub use Rattle.forest_store.proofs.tallies.Amounts.{amount_map}
@@ -16,6 +19,7 @@ pub camped_sum : (test : Node → Bool) (ns : List Node) →
 camped_sum test [] = refl
 camped_sum test (n ∷ ns) = by (if test n then n.constraints else None) (camped_sum test ns)
   where
+    -- by cases: a demand adds what it camps on, and none adds nothing
     by : (o : Option Demand) → sum_by (λ (d : Demand). d.camping) (demands_of test ns) ≡ amount_of (camped_if test) ns →
         sum_by (λ (d : Demand). d.camping) (cons_option o (demands_of test ns))
         ≡ option_map_or (λ (d : Demand). d.camping) o 0 + amount_of (camped_if test) ns
@@ -34,6 +38,7 @@ camped_gone n e = rw e refl
 pub reserved_one : (n : Node) → n.constraints ≡ None → reserved_count (n ∷ []) ≡ 0
 reserved_one n none = reserved_is (n ∷ []) ∙ rw none (from (has_buffers n))
   where
+    -- by cases on the test
     from : (b : Bool) → option_map_or (λ (d : Demand). d.camping) (if b then None else None) 0 + 0 ≡ 0
     from true = refl
     from false = refl

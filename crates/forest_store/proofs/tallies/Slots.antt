@@ -1,7 +1,16 @@
 -- The counts in the slots of keys: which stay where others change.
-use Rattle.forest_store.proofs.Common.{◌≡◌, ◌≢◌, ℕ, ◌+◌, ◌<◌, ◌==◌, nat_lt, refl, ap, sym, ◌∙◌, Bool, true, false, ◌&&◌, ◌⊎◌, inl, inr, if◌then◌else◌, List, [], ◌∷◌, map, length, reverse, Option, Some, None, not, arith, eqb-false, eqb-true, AllByRecursion, list_all, list_any, option_map_or, Interval, NodeKey, same_key, times, In, In-find, In-list_any, In-map, In-map-back, and_left, both_ways, either_way, false_if, same_key-true, In-any, Table, node_at, Change, Node, Unit, AreUnits, lives_in, unit_at, waits_in, Collection, with_nodes, AreRising, IsStored, IsWhole, Shelf, are_filed, collection_in, is_filed, nodes_with, is_of, are_distinct, Handles, Settles, collection_or_new, put, are_rooted, unwrap_or, Mark, In-filter, In-filter-back, next_at, AreUnitsExcept, HasUnits, hangs_in, heads_below, unit_of, collection_at, tidied, without_over_in, Forces, Rests, changed, is_birth, made, filter, Forest}
+use Rattle.forest_store.proofs.Common.{◌≡◌, ◌≢◌, ℕ, ◌+◌, ◌<◌, ◌==◌, nat_lt, refl, ap, sym, ◌∙◌, Bool, true, false, ◌&&◌, ◌⊎◌, inl, inr}
+use Rattle.forest_store.proofs.Common.{if◌then◌else◌, List, [], ◌∷◌, map, length, reverse, Option, Some, None, not, arith, eqb-false}
+use Rattle.forest_store.proofs.Common.{eqb-true, AllByRecursion, list_all, list_any, option_map_or, Interval, NodeKey, same_key, times}
+use Rattle.forest_store.proofs.Common.{In, In-find, In-list_any, In-map, In-map-back, and_left, both_ways, either_way, false_if}
+use Rattle.forest_store.proofs.Common.{same_key-true, In-any, Table, node_at, Change, Node, Unit, AreUnits, lives_in, unit_at, waits_in}
+use Rattle.forest_store.proofs.Common.{Collection, with_nodes, AreRising, IsStored, IsWhole, Shelf, are_filed, collection_in, is_filed}
+use Rattle.forest_store.proofs.Common.{nodes_with, is_of, are_distinct, Handles, Settles, collection_or_new, put, are_rooted, unwrap_or}
+use Rattle.forest_store.proofs.Common.{Mark, In-filter, In-filter-back, next_at, AreUnitsExcept, HasUnits, hangs_in, heads_below, unit_of}
+use Rattle.forest_store.proofs.Common.{collection_at, tidied, without_over_in, Forces, Rests, changed, is_birth, made, filter, Forest}
 pub use Rattle.forest_store.proofs.tables.Hanging.{all_at}
-use Rattle.forest_store.proofs.Basics.{all_mapped, all_filter, all_weaker, looked-of, times_map, all_in, in_all, looked_gone, looked_there, below_mapped, all-In, distinct_one, left_node, left_parent, IsSameNode, times_same, times_filter}
+use Rattle.forest_store.proofs.Basics.{all_mapped, all_filter, all_weaker, looked-of, times_map, all_in, in_all, looked_gone, looked_there}
+use Rattle.forest_store.proofs.Basics.{below_mapped, all-In, distinct_one, left_node, left_parent, IsSameNode, times_same, times_filter}
 
 -- ---- keys that have nodes
 
@@ -87,6 +96,7 @@ pub but_put : (us : List Unit) (c : Collection) (cs : List Collection) → AreUn
 but_put us c [] all = (λ differ. absurd (differ refl), tt)
 but_put us c (d ∷ ds) all = from _ (nat_lt c.id d.id) (but_put us c ds all.1)
   where
+    -- by cases: the collection itself is left out, and the others are as they were
     from : (here above : Bool) → AreUnitsExcept us c.id (put c ds) →
         AreUnitsExcept us c.id (if here then c ∷ ds else (if above then c ∷ d ∷ ds else d ∷ put c ds))
     from here above on = grind (arith, but_all)
@@ -112,6 +122,7 @@ changed_id change key c h = grind arith
 pub or_new_id : (f : Forest) (id : ℕ) → (collection_or_new f id).id ≡ id
 or_new_id f id = from _ refl
   where
+    -- by cases: a collection that is found has the id by which it was looked up
     from : (o : Option Collection) → collection_at f id ≡ o →
         (unwrap_or o (record { id = id; nodes = []; buffers = None; held = [] })).id ≡ id
     from None is = refl
@@ -134,6 +145,7 @@ hangs_filter : (p : Node → Bool) (nodes : List Node) → are_distinct nodes �
     hangs_in (filter p nodes) k n ≡ hangs_in nodes k n
 hangs_filter p nodes distinct rooted over k n on here = by n.parent refl
   where
+    -- by cases: a root hangs on none; the parent of any other is left, or no node has its key
     by : (o : Option NodeKey) → n.parent ≡ o →
         option_map_or (λ a. list_any (λ (q : Node). is_of a q && same_key q.head k) (filter p nodes)) o false
         ≡ option_map_or (λ a. list_any (λ (q : Node). is_of a q && same_key q.head k) nodes) o false
@@ -172,6 +184,7 @@ below_filter p nodes distinct rooted over k =
     ∙ times_filter p (heads_below nodes k) nodes (λ n on out.
     ap (λ (b : Bool). not b && (n.attached && hangs_in nodes k n)) (over n on out))
   where
+    -- since whether its parent's unit is right above stays
     one : (n : Node) → In n nodes → (n.gone ≡ true) ⊎ (n.gone ≡ false) → heads_below (filter p nodes) k n ≡ heads_below nodes k n
     one n on gone = grind (arith, hangs_filter)
 
@@ -183,6 +196,7 @@ units_filter us p nodes distinct rooted over has = all_in _ _ (λ n on.
     let had = in_all _ _ has n (In-filter p _ n on).0 in
     (had.0, had.1 ∙ sym (same n.key)))
   where
+    -- since only gone nodes are left out, which count for no unit
     same : (k : NodeKey) → unit_of (filter p nodes) k ≡ unit_of nodes k
     same k =
         let l = times_filter p (lives_in k) nodes (λ n on out. rw (over n on out) refl) in
@@ -219,6 +233,7 @@ pub units_over : (us : List Unit) (id : ℕ) (cs : List Collection) → AllByRec
 units_over us id [] formed all = tt
 units_over us id (c ∷ cs) formed all = from _ _ (units_over us id cs formed.1 all.1)
   where
+    -- since only nodes that are over are left out, and these are gone
     garbage_known : HasUnits us (tidied c).nodes
     garbage_known = units_filter _ _ _ formed.0.sound.distinct formed.0.rooted (λ n on out. over _ _ out) all.0
       where
@@ -226,6 +241,7 @@ units_over us id (c ∷ cs) formed all = from _ _ (units_over us id cs formed.1 
         over true e h = refl
         over false e h = cc
 
+    -- by cases: this collection is tidied or left out, and the others stay
     from : (here bare : Bool) → AreUnits us (without_over_in id cs) →
         AreUnits us (if here then (if bare then cs else tidied c ∷ cs) else c ∷ without_over_in id cs)
     from here bare on = grind (arith, garbage_known)

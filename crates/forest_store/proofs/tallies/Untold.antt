@@ -1,5 +1,8 @@
 -- What the counts of units are, once nodes that fell are counted no longer.
-use Rattle.forest_store.proofs.Common.{◌≡◌, ◌≢◌, ℕ, ◌+◌, ◌<◌, ◌≤◌, nat_lt, refl, ap, sym, ◌∙◌, Bool, true, false, not, ◌&&◌, if◌then◌else◌, List, [], ◌∷◌, length, Some, None, arith, lt-ltb, list_any, NodeKey, same_key, times, In, Table, node_at, Node, Unit, lives_in, unit_at, waits_in, nodes_with, is_live_node, are_distinct, AllPairs, is_unready, lowered, untallied, without_node, bit}
+use Rattle.forest_store.proofs.Common.{◌≡◌, ◌≢◌, ℕ, ◌+◌, ◌<◌, ◌≤◌, nat_lt, refl, ap, sym, ◌∙◌, Bool, true, false, not, ◌&&◌}
+use Rattle.forest_store.proofs.Common.{if◌then◌else◌, List, [], ◌∷◌, length, Some, None, arith, lt-ltb, list_any, NodeKey}
+use Rattle.forest_store.proofs.Common.{same_key, times, In, Table, node_at, Node, Unit, lives_in, unit_at, waits_in, nodes_with}
+use Rattle.forest_store.proofs.Common.{is_live_node, are_distinct, AllPairs, is_unready, lowered, untallied, without_node, bit}
 use Rattle.forest_store.proofs.tallies.Amounts.{amount_but, amount_same, taken_amount, times_is, times_more}
 use Rattle.forest_store.proofs.tallies.Reckoning.{counts_own, own_is, own_unit}
 use Rattle.forest_store.proofs.tallies.InTurn.{Changes, in_turn, is_above, other_slots, own_slot, put_at, same_long}
@@ -25,7 +28,8 @@ one_less n u = record { live = lowered (is_live_node n) u.live; unready = lowere
 counts_less : (n : Node) (u : Unit) (b : Bool) → (if b then bit (is_live_node n) else 0) ≤ u.live →
     (if b then bit (is_unready n) else 0) ≤ u.unready →
     Takes u (if b then one_less n u else u) (if b then bit (is_live_node n) else 0) (if b then bit (is_unready n) else 0)
-counts_less n u true l w = record { live = lowered_is (is_live_node n) u.live l; unready = lowered_is (is_unready n) u.unready w; below = refl }
+counts_less n u true l w =
+    record { live = lowered_is (is_live_node n) u.live l; unready = lowered_is (is_unready n) u.unready w; below = refl }
 counts_less n u false l w = record { live = omega arith; unready = omega arith; below = refl }
 
 -- ---- all nodes
@@ -67,7 +71,8 @@ pub untallied_takes : (ns : List Node) (us : List Unit) (k : NodeKey) → k.slot
     times (lives_in k) ns ≤ (unit_at us k.slot).live → times (waits_in k) ns ≤ (unit_at us k.slot).unready →
     TakesAll (unit_at us k.slot) (unit_at (untallied ns us) k.slot) k ns
 untallied_takes ns us k within one live unready =
-    rw (own_slot untallied_by ns us k within (λ n on h is. let x = own_is n h is in rw x.1 at (one n on x.0))) (takes_all k ns _ live unready)
+    rw (own_slot untallied_by ns us k within (λ n on h is. let x = own_is n h is in rw x.1 at (one n on x.0)))
+    (takes_all k ns _ live unready)
 
 -- none of them is of that unit
 pub untallied_other : (ns : List Node) (us : List Unit) (slot : ℕ) → ((n : Node) → In n ns → n.gone ≡ false → n.head.slot ≢ slot) →

@@ -12,7 +12,10 @@ returns-in-Some g c =
         format = c.in-Some.ensures.format;
         until = c.in-Some.ensures.until;
         failures = c.in-Some.ensures.failures;
+        summary = c.in-Some.ensures.summary;
         record_asked = c.in-Some.ensures.«record»;
+        patience = c.in-Some.ensures.patience;
+        search = c.in-Some.ensures.search;
         file = c.in-Some.ensures.file;
       };
       read = c.read.ensures;

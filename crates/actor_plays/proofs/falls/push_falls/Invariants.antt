@@ -1,6 +1,6 @@
 use Rattle.std.proofs.Common.{◌≡◌, ◌++◌, map, take}
 use Rattle.std.specs.List.{flat_map}
-use Rattle.event_marks.specs.Moments.{stage_of}
+use Rattle.forced_marks.specs.Moments.{stage_of}
 use Rattle.actor_plays.specs.Fates.{falls_at}
 use Rattle.actor_plays.proofs.falls.push_falls.Given as goal
 

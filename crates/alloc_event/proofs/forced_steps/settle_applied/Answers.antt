@@ -1,5 +1,6 @@
 -- The effect is made, and what is forced by it, and then the collection is closed.
-use Rattle.alloc_event.proofs.Common.{List, refl, sym, ◌∙◌, arith, total, Change, Entry, nodes_with, shelves_of, place_is, PropagatedFrom, begins_at, may_finish, outcome_there, pool_there, few_there}
+use Rattle.alloc_event.proofs.Common.{List, refl, sym, ◌∙◌, arith, total, Change, Entry, nodes_with, shelves_of, place_is}
+use Rattle.alloc_event.proofs.Common.{PropagatedFrom, begins_at, may_finish, outcome_there, pool_there, few_there}
 use Rattle.forest_store.specs.Nodes.{after_effect}
 use Rattle.forest_steps.proofs.mid_event.Counted.{may_make}
 use Rattle.forest_steps.proofs.mid_event.Stepping.{node_there, own_id}
@@ -21,7 +22,8 @@ apply_effect-requires-clause-may c =
 
 -- what the effect forces was made
 played : (c : After-apply_effect) → PropagatedFrom (total c.args.holds.now)
-    (after_effect c.args.made.now.key c.args.made.now.effect (nodes_with c.args.store.now.nodes.table c.index_mut-entry.result.now.keys.items))
+    (after_effect c.args.made.now.key c.args.made.now.effect
+    (nodes_with c.args.store.now.nodes.table c.index_mut-entry.result.now.keys.items))
     c.args.store.now.nodes.table c.apply_effect.new.nodes.table c.apply_effect.new.nodes.units.items
     (shelves_of c.args.store.now.entries.items) c.index_mut-entry.result.now c.apply_effect.new.entry
 played c =

@@ -1,5 +1,6 @@
 -- The loss is made, and what is forced by it, and then the collection is closed.
-use Rattle.alloc_event.proofs.Common.{List, refl, arith, total, Change, Entry, nodes_with, shelves_of, place_is, PropagatedFrom, begins_at, may_finish, outcome_there, pool_there, row_there}
+use Rattle.alloc_event.proofs.Common.{List, refl, arith, total, Change, Entry, nodes_with, shelves_of, place_is}
+use Rattle.alloc_event.proofs.Common.{PropagatedFrom, begins_at, may_finish, outcome_there, pool_there, row_there}
 use Rattle.forest_store.specs.Nodes.{after_loss}
 use Rattle.forest_store.proofs.tables.LeftParents.{loss_left}
 use Rattle.forest_steps.proofs.mid_event.Joining.{shelf_here}

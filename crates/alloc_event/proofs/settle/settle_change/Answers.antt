@@ -1,5 +1,6 @@
 -- The collection is looked up, and the change is made at its place.
-use Rattle.alloc_event.proofs.Common.{◌≡◌, ◌∙◌, ℕ, Bool, List, Some, sym, Change, Entry, Table, Node, Unit, Handles, place_in, Holdings, IsOutcomeAt, IsReadyAt}
+use Rattle.alloc_event.proofs.Common.{◌≡◌, ◌∙◌, ℕ, Bool, List, Some, sym, Change, Entry, Table, Node}
+use Rattle.alloc_event.proofs.Common.{Unit, Handles, place_in, Holdings, IsOutcomeAt, IsReadyAt}
 use Rattle.forest_store.specs.Outcomes.{IsReady}
 use Rattle.forest_steps.specs.StoreSteps.{IsOutcomeOf}
 use Rattle.forest_steps.proofs.mid_event.Stepping.{is_there}
@@ -30,17 +31,21 @@ settle_effect-requires-clause-ready c =
     at_place _ _ _ _ _ _ _ (sym (rw c.deref.ensures.value at c.place_of.ensures) ∙ c.in-Some.is) c.in-Effect.is c.requires.ready
 
 pub settle_loss-requires-clause-ready : goal.settle_loss-requires-clause-ready
-settle_loss-requires-clause-ready c = at_place _ _ _ _ _ _ _ (sym (rw c.deref.ensures.value at c.place_of.ensures) ∙ c.in-Some.is) c.in-Loss.is c.requires.ready
+settle_loss-requires-clause-ready c =
+    at_place _ _ _ _ _ _ _ (sym (rw c.deref.ensures.value at c.place_of.ensures) ∙ c.in-Some.is) c.in-Loss.is c.requires.ready
 
 pub settle_nothing-requires-clause-ready : goal.settle_nothing-requires-clause-ready
 settle_nothing-requires-clause-ready c =
     at_place _ _ _ _ _ _ _ (sym (rw c.deref.ensures.value at c.place_of.ensures) ∙ c.in-Some.is) c.in-Nothing.is c.requires.ready
 
 pub returns-in-Effect : goal.returns-in-Effect
-returns-in-Effect c = of_place _ _ _ _ (sym (rw c.deref.ensures.value at c.place_of.ensures) ∙ c.in-Some.is) c.in-Effect.is c.settle_effect.ensures
+returns-in-Effect c = of_place _ _ _ _ (sym (rw c.deref.ensures.value at c.place_of.ensures)
+    ∙ c.in-Some.is) c.in-Effect.is c.settle_effect.ensures
 
 pub returns-in-Loss : goal.returns-in-Loss
-returns-in-Loss c = of_place _ _ _ _ (sym (rw c.deref.ensures.value at c.place_of.ensures) ∙ c.in-Some.is) c.in-Loss.is c.settle_loss.ensures
+returns-in-Loss c = of_place _ _ _ _ (sym (rw c.deref.ensures.value at c.place_of.ensures)
+    ∙ c.in-Some.is) c.in-Loss.is c.settle_loss.ensures
 
 pub returns-in-Nothing : goal.returns-in-Nothing
-returns-in-Nothing c = of_place _ _ _ _ (sym (rw c.deref.ensures.value at c.place_of.ensures) ∙ c.in-Some.is) c.in-Nothing.is c.settle_nothing.ensures
+returns-in-Nothing c = of_place _ _ _ _ (sym (rw c.deref.ensures.value at c.place_of.ensures)
+    ∙ c.in-Some.is) c.in-Nothing.is c.settle_nothing.ensures

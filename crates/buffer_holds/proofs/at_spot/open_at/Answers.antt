@@ -15,7 +15,8 @@ use Rattle.buffer_holds.proofs.at_spot.open_at.Goals as goal
 pub unwrap-tally-requires : goal.unwrap-tally-requires
 unwrap-tally-requires c =
     let stands = c.requires.tally in
-    IsSome-lent_at c.args.tallies.now c.args.spot.now.tally c.args.hold.kind stands.0 stands.1 c.get_index_mut.result c.get_index_mut.ensures.value
+    IsSome-lent_at c.args.tallies.now c.args.spot.now.tally c.args.hold.kind stands.0 stands.1
+    c.get_index_mut.result c.get_index_mut.ensures.value
 
 -- the total in it is the one that has room
 pub overflow_add-tally : goal.overflow_add-tally
@@ -43,4 +44,5 @@ returns-clause-tallied c =
     (λ i. record { total = tally.total + 1; moving = tally.moving; clients = clients i })
     ∙ ap (λ t. one_more t (length c.raise_at.new.rows.entries - length c.args.rows.now.entries)) (sym kept) in
     subst (λ now. Resets same_handle_kind tallies.entries after kind (tally_row tallies.entries kind) (Some now)) same
-    (resets_placed derived.it same_handle_kind derived_kind same_kind-one same_kind-refl tallies tallies kind place stands.0 stands.1 unique more)
+    (resets_placed derived.it same_handle_kind derived_kind same_kind-one same_kind-refl tallies
+    tallies kind place stands.0 stands.1 unique more)

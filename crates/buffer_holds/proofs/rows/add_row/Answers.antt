@@ -21,7 +21,8 @@ returns-clause-ok c =
     let added : new.entries ≡ insert_entry derived.it roomy.entries c.args.hold 1 =
     at_ok (new.entries ≡ insert_entry derived.it roomy.entries c.args.hold 1) c.insert.result done c.insert.ensures.entries in
     let had = ok_value (λ old. old ≡ get derived.it roomy c.args.hold) (λ old.
-    length new.entries ≡ length roomy.entries + (if is_some old then 0 else 1)) c.insert.result done c.insert.ensures.old c.insert.ensures.len in
+    length new.entries ≡ length roomy.entries + (if is_some old then 0 else 1)) c.insert.result
+    done c.insert.ensures.old c.insert.ensures.len in
     let old_row = lookup_found derived.it same_hold derived_hold same_hold-one roomy roomy c.args.hold had.0 had.1 in
     let resets : Resets same_hold roomy.entries new.entries c.args.hold (row_at roomy.entries c.args.hold) (Some 1) =
     resets_added derived.it same_hold derived_hold same_hold-one same_hold-refl roomy new c.args.hold 1 (subst (λ es.

@@ -28,13 +28,15 @@ returns-then-is_idle c =
     at.entry at.value c.unwrap.result c.unwrap.ensures in
     let found = found_read tallies kind c.tally_place.result c.tally_place.ensures.found place c.unwrap-place.ensures c.get_index.result
     at.entry at.value c.unwrap.result c.unwrap.ensures in
-    let row = row_read tallies kind c.tally_place.result c.tally_place.ensures.found place c.unwrap-place.ensures c.get_index.result at.entry
+    let row = row_read tallies kind c.tally_place.result c.tally_place.ensures.found place
+    c.unwrap-place.ensures c.get_index.result at.entry
     at.value c.unwrap.result c.unwrap.ensures in
     let none = ap (λ o. without_client (unwrap_or o no_tally)) row ∙ ap (λ (b : Bool). if b then None else Some left) (sym c.is_idle.ensures
     ∙ c.if-is_idle.true) in
     let gone = c.swap_remove_index.ensures in
     rw none
-    (resets_taken derived.it same_handle_kind derived_kind same_kind-one same_kind-refl tallies c.swap_remove_index.new.self kind place tally
+    (resets_taken derived.it same_handle_kind derived_kind same_kind-one same_kind-refl
+    tallies c.swap_remove_index.new.self kind place tally
     stands found
     c.swap_remove_index.result gone.entry gone.entries gone.updates gone.unique)
 
@@ -49,7 +51,8 @@ returns-else-is_idle c =
     let at = c.get_index.ensures in
     let stands = stands_read tallies kind c.tally_place.result c.tally_place.ensures.found place c.unwrap-place.ensures c.get_index.result
     at.entry at.value c.unwrap.result c.unwrap.ensures in
-    let row = row_read tallies kind c.tally_place.result c.tally_place.ensures.found place c.unwrap-place.ensures c.get_index.result at.entry
+    let row = row_read tallies kind c.tally_place.result c.tally_place.ensures.found place
+    c.unwrap-place.ensures c.get_index.result at.entry
     at.value c.unwrap.result c.unwrap.ensures in
     let some = ap (λ o. without_client (unwrap_or o no_tally)) row ∙ ap (λ (b : Bool). if b then None else Some left) (sym c.is_idle.ensures
     ∙ c.if-is_idle.false) in

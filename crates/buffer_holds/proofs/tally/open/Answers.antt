@@ -20,7 +20,8 @@ kept c =
     c.get_index_mut.ensures.value c.get_index_mut.ensures.unique c.unwrap-tally.result c.unwrap-tally.ensures
 
 -- written back as it was lent, it changes nothing
-unchanged : (c : After-unwrap-tally) → set_value_at c.args.tallies.now.entries c.in-Some.place c.unwrap-tally.result.now ≡ c.args.tallies.now.entries
+unchanged : (c : After-unwrap-tally) →
+    set_value_at c.args.tallies.now.entries c.in-Some.place c.unwrap-tally.result.now ≡ c.args.tallies.now.entries
 unchanged c =
     let found = c.in-Some.ensures.found in
     let here = value_lent_at c.args.tallies.now c.in-Some.place c.args.hold.kind found.0 found.1 c.get_index_mut.result
@@ -82,7 +83,8 @@ returns-clause-tallied c =
     let was = kept (goal.at.returns-clause-tallied c).After-unwrap-tally in
     let same : more ≡ one_more (tally_at tallies.entries kind) (length c.raise.new.rows.entries - length c.args.rows.now.entries) =
     λ i. one_more (sym was i) (c.len.ensures.len i - c.len-before.ensures.len i) in
-    subst (λ now. Resets same_handle_kind tallies.entries (set_value_at tallies.entries place more) kind (tally_row tallies.entries kind) (Some now)) same
+    subst (λ now. Resets same_handle_kind tallies.entries (set_value_at tallies.entries place more) kind
+    (tally_row tallies.entries kind) (Some now)) same
     (resets_placed derived.it same_handle_kind derived_kind same_kind-one same_kind-refl tallies tallies kind place found.0 found.1
     c.get_index_mut.ensures.unique more)
 

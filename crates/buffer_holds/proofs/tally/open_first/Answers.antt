@@ -32,7 +32,8 @@ returns-clause-tallied c =
     (at_ok (new.entries ≡ insert_entry derived.it roomy.entries kind first) c.insert.result done c.insert.ensures.entries)
     (at_ok (Updates derived.it roomy new kind (Some first)) c.insert.result done c.insert.ensures.updates)
     c.insert.ensures.unique in
-    let is_one_more : first ≡ one_more (tally_at tallies.entries kind) (length c.add_row.new.rows.entries - length c.args.rows.now.entries) =
+    let is_one_more : first ≡ one_more (tally_at tallies.entries kind)
+    (length c.add_row.new.rows.entries - length c.args.rows.now.entries) =
     (λ i. record { total = 1; moving = 0; clients = counted i })
     ∙ ap (λ o. one_more (unwrap_or o no_tally) (length c.add_row.new.rows.entries - length c.args.rows.now.entries)) (sym absent) in
     subst (λ now. Resets same_handle_kind tallies.entries new.entries kind (tally_row tallies.entries kind) (Some now)) is_one_more

@@ -12,7 +12,8 @@ loop-left-preserved c =
     record {
       items = ap (λ xs. xs ++ run_of (c.loop-left.next.start + c.loop-left.next.pages) c.loop-left.next.pages (c.loop-left.left - 1))
           c.push_reserved.ensures.items
-          ∙ run_pushed c.loop-left.cells.items c.loop-left.next c.loop-left.left (c.loop-left.left - 1) (omega (arith, c.loop-left-test.true))
+          ∙ run_pushed c.loop-left.cells.items c.loop-left.next c.loop-left.left (c.loop-left.left - 1)
+          (omega (arith, c.loop-left-test.true))
           ∙ k.items;
       same_pages = k.same_pages;
       ends = omega (arith, k.ends, k.same_pages);

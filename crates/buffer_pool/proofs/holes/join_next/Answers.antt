@@ -1,5 +1,6 @@
 -- The next hole is removed if the two touch.
-use Rattle.std.proofs.Common.{◌∙◌, ◌≡◌, ◌≤◌, ◌+◌, ◌<◌, ◌^◌, arith, rules, ap, sym, get_or, set, take, drop, [], List, length-set, true, refl, subst}
+use Rattle.std.proofs.Common.{◌∙◌, ◌≡◌, ◌≤◌, ◌+◌, ◌<◌, ◌^◌, arith, rules, ap, sym, get_or}
+use Rattle.std.proofs.Common.{set, take, drop, [], List, length-set, true, refl, subst}
 use Rattle.std.specs.List.{remove}
 use Rattle.std.proofs.lemmas.List.{take-take}
 use Rattle.sm_names.specs.declared.rules.TheConstants.{MAX_PAGES}
@@ -19,7 +20,8 @@ overflow_add-behind c =
     omega (arith, within-all c.args.blocks.now.lists c.args.spot.block c.requires.there.0, c.requires.there.1, c.requires.few) in
     search rules
 
-next : (c : After-settle-next) → spot_index c.args.blocks.now.lists c.settle-next.result ≡ spot_index c.args.blocks.now.lists c.args.spot + 1
+next : (c : After-settle-next) → spot_index c.args.blocks.now.lists c.settle-next.result
+    ≡ spot_index c.args.blocks.now.lists c.args.spot + 1
 next c = omega (arith, c.settle-next.ensures.place)
 
 pub returns-then-begins_at : goal.returns-then-begins_at
@@ -84,7 +86,8 @@ remove-requires c =
 pub overflow_add-whole : goal.overflow_add-whole
 overflow_add-whole c =
     let test = rw c.edge.ensures at c.begins_at.ensures in
-    let touch : c.get-more.result.start ≡ end_of c.args.hole = begins_there c.args.blocks.now.lists c.settle-next.result (end_of c.args.hole)
+    let touch : c.get-more.result.start ≡ end_of c.args.hole =
+    begins_there c.args.blocks.now.lists c.settle-next.result (end_of c.args.hole)
     c.get-more.result c.get-more.ensures (sym test ∙ c.if-begins_at.true) in
     let fits : end_of c.get-more.result < 2 ^ 32 = holds_there c.args.blocks.now.lists c.settle-next.result (end_of c.args.hole)
     c.get-more.result c.get-more.ensures (λ h. end_of h < 2 ^ 32) (first_begins (end_of c.args.hole)) refl (sym test ∙ c.if-begins_at.true)

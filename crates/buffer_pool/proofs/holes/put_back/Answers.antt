@@ -54,21 +54,25 @@ returns-else-begins_at c =
 -- a hole that touches the pages lies at the spot
 pub get-before-requires : goal.get-before-requires
 get-before-requires c =
-    there_if c.args.blocks.now.lists c.args.spot (first_ends c.args.back.start) refl c.requires.settled (sym c.ends_at.ensures ∙ c.if-ends_at.true)
+    there_if c.args.blocks.now.lists c.args.spot (first_ends c.args.back.start) refl c.requires.settled (sym c.ends_at.ensures
+    ∙ c.if-ends_at.true)
 
 pub join_next-requires-clause-there : goal.join_next-requires-clause-there
 join_next-requires-clause-there c =
-    there_if c.args.blocks.now.lists c.args.spot (first_ends c.args.back.start) refl c.requires.settled (sym c.ends_at.ensures ∙ c.if-ends_at.true)
+    there_if c.args.blocks.now.lists c.args.spot (first_ends c.args.back.start) refl c.requires.settled (sym c.ends_at.ensures
+    ∙ c.if-ends_at.true)
 
 pub get-behind-requires : goal.get-behind-requires
 get-behind-requires c =
     let begins = rw c.edge.ensures at c.begins_at.ensures in
-    there_if c.args.blocks.now.lists c.args.spot (first_begins (end_of c.args.back)) refl c.requires.settled (sym begins ∙ c.if-begins_at.true)
+    there_if c.args.blocks.now.lists c.args.spot (first_begins (end_of c.args.back)) refl c.requires.settled (sym begins
+    ∙ c.if-begins_at.true)
 
 pub set-requires : goal.set-requires
 set-requires c =
     let begins = rw c.edge.ensures at c.begins_at.ensures in
-    there_if c.args.blocks.now.lists c.args.spot (first_begins (end_of c.args.back)) refl c.requires.settled (sym begins ∙ c.if-begins_at.true)
+    there_if c.args.blocks.now.lists c.args.spot (first_begins (end_of c.args.back)) refl c.requires.settled (sym begins
+    ∙ c.if-begins_at.true)
 
 -- both end where one of them does
 pub overflow_add-hole : goal.overflow_add-hole
@@ -83,7 +87,9 @@ overflow_add-hole-then-begins_at c =
     let begins = rw c.edge.ensures at c.begins_at.ensures in
     let touch : c.get-behind.result.start ≡ end_of c.args.back = begins_there c.args.blocks.now.lists c.args.spot (end_of c.args.back)
     c.get-behind.result c.get-behind.ensures (sym begins ∙ c.if-begins_at.true) in
-    let fits : end_of c.get-behind.result < 2 ^ 32 = holds_there c.args.blocks.now.lists c.args.spot (end_of c.args.back) c.get-behind.result
-    c.get-behind.ensures (λ h. end_of h < 2 ^ 32) (first_begins (end_of c.args.back)) refl (sym begins ∙ c.if-begins_at.true) c.requires.fits in
+    let fits : end_of c.get-behind.result < 2 ^ 32 =
+    holds_there c.args.blocks.now.lists c.args.spot (end_of c.args.back) c.get-behind.result
+    c.get-behind.ensures (λ h. end_of h < 2 ^ 32) (first_begins (end_of c.args.back)) refl (sym begins
+    ∙ c.if-begins_at.true) c.requires.fits in
     let few : c.args.back.pages + c.get-behind.result.pages < 2 ^ 32 = omega (arith, touch, fits) in
     search rules

@@ -1,5 +1,6 @@
 -- The hole is the first that is not too small, and they lie at its front.
-use Rattle.std.proofs.Common.{ℕ, ◌≡◌, ◌∙◌, ◌<◌, ◌≤◌, ◌+◌, ◌-◌, ◌*◌, ◌/◌, min, arith, rules, sym, subst, ap, length, get_or, set, [], List, length-set}
+use Rattle.std.proofs.Common.{ℕ, ◌≡◌, ◌∙◌, ◌<◌, ◌≤◌, ◌+◌, ◌-◌, ◌*◌, ◌/◌, min, arith, rules}
+use Rattle.std.proofs.Common.{sym, subst, ap, length, get_or, set, [], List, length-set}
 use Rattle.std.specs.List.{prefix_len}
 use Rattle.std.proofs.lemmas.List.{get_or_default}
 use Rattle.sm_names.specs.declared.keys.Interval.{Interval}

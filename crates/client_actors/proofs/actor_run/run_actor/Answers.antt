@@ -1,16 +1,16 @@
 use Rattle.std.proofs.Common.{◌≡◌, ◌∙◌, ap, subst}
 use Rattle.client_ends.specs.Clients.{Seen}
-use Rattle.client_parting.specs.Partings.{held_in}
-use Rattle.actor_scripts.specs.ScriptRuns.{RunsScript}
+use Rattle.client_vanish.specs.Vanishings.{held_in}
 use Rattle.actor_scripts.specs.Tables.{known}
 use Rattle.client_actors.specs.ActorSteps.{HasRunSome, pairs_of}
 use Rattle.client_actors.specs.ObjectCalls.{lies}
+use Rattle.client_actors.specs.PatientRuns.{RunsPatiently}
 use Rattle.client_actors.proofs.ScriptLaws.{broken_id, has_broken, has_finished, has_stopped, runs_none}
 use Rattle.client_actors.proofs.actor_run.run_actor.Goals as goal
 
 pub run_steps-ran-requires-clause-none : goal.run_steps-ran-requires-clause-none
 run_steps-ran-requires-clause-none g c =
-    runs_none c.args.clients.now c.new-actor.result (ap (λ (s : Seen). s.own) c.new-actor.ensures.client
+    runs_none c.args.clients.now c.args.most c.new-actor.result (ap (λ (s : Seen). s.own) c.new-actor.ensures.client
     ∙ c.requires) c.new-actor.ensures.state
 
 -- the actor is that client's
@@ -23,11 +23,13 @@ returns-in-Ok-vanish g c =
     let steps = c.args.script.now.steps.items in
     let left = c.leave-client in
     let gone = c.in-Ok-vanish.ensures.gone in
-    let runs = subst (λ l. RunsScript c.args.clients.now l (pairs_of actor.client.own) (known actor.state)) c.as_slice-steps.ensures.value
+    let runs = subst (λ l. RunsPatiently c.args.clients.now c.args.most l (pairs_of actor.client.own) (known actor.state))
+    c.as_slice-steps.ensures.value
     c.in-Ok.ensures.runs in (
       gone.goes.made.id ∙ same_client left.result.0 actor.client c.new-actor.result.client c.args.client left.ensures.client
           c.run_steps-ran.ensures.id c.new-actor.ensures.client,
-      has_finished c.args.clients.now steps actor left.result.0 c.in-Ok-vanish.wreck (held_in left.result.1) left.ensures.client runs
+      has_finished c.args.clients.now c.args.most steps actor left.result.0 c.in-Ok-vanish.wreck
+          (held_in left.result.1) left.ensures.client runs
           c.in-Ok.ensures.aware
           c.run_steps-ran.ensures.sound left.ensures.held gone,
     )
@@ -38,12 +40,14 @@ returns-in-Err-vanish g c =
     let steps = c.args.script.now.steps.items in
     let left = c.leave-client in
     let back = c.in-Err-vanish in
-    let runs = subst (λ l. RunsScript c.args.clients.now l (pairs_of actor.client.own) (known actor.state)) c.as_slice-steps.ensures.value
+    let runs = subst (λ l. RunsPatiently c.args.clients.now c.args.most l (pairs_of actor.client.own) (known actor.state))
+    c.as_slice-steps.ensures.value
     c.in-Ok.ensures.runs in (
       broken_id left.result.0 back.client (held_in left.result.1) (held_in back.held) back.ensures.fault
           ∙ same_client left.result.0 actor.client c.new-actor.result.client c.args.client left.ensures.client
           c.run_steps-ran.ensures.id c.new-actor.ensures.client,
-      has_broken c.args.clients.now steps actor left.result.0 back.client (held_in left.result.1) (held_in back.held) left.ensures.client
+      has_broken c.args.clients.now c.args.most steps actor left.result.0 back.client
+          (held_in left.result.1) (held_in back.held) left.ensures.client
           runs
           c.in-Ok.ensures.aware c.run_steps-ran.ensures.sound left.ensures.held back.ensures.fault back.ensures.own,
     )
@@ -53,10 +57,10 @@ returns-in-Err g c =
     let actor = c.run_steps-ran.new.actor in
     let steps = c.args.script.now.steps.items in
     let left = c.leave-client in
-    let some = subst (λ l. HasRunSome c.args.clients.now l actor.client (lies actor.slots.items)) c.as_slice-steps.ensures.value
+    let some = subst (λ l. HasRunSome c.args.clients.now c.args.most l actor.client (lies actor.slots.items)) c.as_slice-steps.ensures.value
     c.in-Err.ensures.some in (
       same_client left.result.0 actor.client c.new-actor.result.client c.args.client left.ensures.client c.run_steps-ran.ensures.id
           c.new-actor.ensures.client,
-      has_stopped c.args.clients.now steps actor left.result.0 (held_in left.result.1) left.ensures.client some
+      has_stopped c.args.clients.now c.args.most steps actor left.result.0 (held_in left.result.1) left.ensures.client some
           c.run_steps-ran.ensures.sound left.ensures.held left.ensures.owned,
     )

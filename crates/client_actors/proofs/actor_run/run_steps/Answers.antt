@@ -5,12 +5,13 @@ use Rattle.client_actors.proofs.actor_run.run_steps.Goals as goal
 pub each_step-preserved : goal.each_step-preserved
 each_step-preserved g c =
     let so = c.each_step.invariant in
-    let one = c.in_ok-reply.ensures.stepped in
+    let one = c.in_ok-take_step.ensures.taken in
     let next : c.each_step.rest.now ≡ c.in-Some.step.now ∷ c.in-Some.more.now = search rules in
     record {
-      ran = ran_more c.args.clients.now c.args.steps.now c.each_step.rest.now c.in-Some.more.now c.in-Some.step.now c.each_step.actor
-          c.step.new.self so.ran next one;
+      ran = ran_more c.args.clients.now c.args.most c.args.steps.now c.each_step.rest.now
+          c.in-Some.more.now c.in-Some.step.now c.each_step.actor
+          c.take_step.new.actor so.ran next one;
       aware = one.aware;
-      sound = c.step.ensures.sound;
-      id = c.step.ensures.id ∙ so.id;
+      sound = c.take_step.ensures.sound;
+      id = c.take_step.ensures.id ∙ so.id;
     }

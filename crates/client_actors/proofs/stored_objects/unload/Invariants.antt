@@ -1,13 +1,14 @@
 use Rattle.std.proofs.Common.{◌≡◌, vec_len}
-use Rattle.client_parting.specs.Partings.{held_in, sorted}
-use Rattle.client_parting.specs.Stacks.{both}
+use Rattle.client_vanish.specs.Vanishings.{held_in, sorted}
+use Rattle.client_vanish.specs.Stacks.{both}
 use Rattle.client_actors.specs.ActorSteps.{ListsHaveRoom, last_objects_first}
 use Rattle.client_actors.proofs.stored_objects.unload.Given as goal
 
 -- what is in its list, with what is left, is all
 abbrev pub invariant-unloading : goal.invariant-unloading
 invariant-unloading g l = record {
-  all : both (held_in l.held) (sorted (last_objects_first l.slots.items)) ≡ both (held_in l.initial.held) (sorted (last_objects_first l.initial.slots.items));
+  all : both (held_in l.held) (sorted (last_objects_first l.slots.items))
+      ≡ both (held_in l.initial.held) (sorted (last_objects_first l.initial.slots.items));
   room : ListsHaveRoom l.held (vec_len l.slots);
 }
 

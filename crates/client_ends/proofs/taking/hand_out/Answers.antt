@@ -4,7 +4,8 @@ use Rattle.sm_names.specs.declared.rules.TheConstants.{MAX_BUFFERS}
 use Rattle.client_ends.specs.Clients.{Grip}
 use Rattle.client_ends.specs.Taking.{grips_at}
 use Rattle.event_laws.specs.HandleSums.{indices_in}
-use Rattle.client_ends.proofs.TakeLaws.{grips_all, grips_first, grips_with, grips_without, none_left, unit_there, units_behind, units_first, units_stay}
+use Rattle.client_ends.proofs.TakeLaws.{grips_all, grips_first, grips_with, grips_without, none_left}
+use Rattle.client_ends.proofs.TakeLaws.{unit_there, units_behind, units_first, units_stay}
 use Rattle.client_accounts.proofs.UnitLaws.{same_events}
 use Rattle.client_ends.proofs.taking.hand_out.Goals as goal
 use Rattle.client_ends.proofs.taking.hand_out.Goals.{then-has_buffer, else-has_buffer}
@@ -39,9 +40,11 @@ handing-preserved g c =
           let passed = w.hand_one-handle.ensures.units in
           let pushed = w.push_reserved.ensures.items ∙ ap (λ (h : Grip). items ++ h ∷ []) w.hand_one-handle.ensures.handle in
           record {
-            units = rw w.account-is (units_behind i taken.set taken.strength c.handing.account.units w.hand_one-handle.new.account.units low bit so.units
+            units = rw w.account-is (units_behind i taken.set taken.strength c.handing.account.units
+                w.hand_one-handle.new.account.units low bit so.units
                 passed);
-            events = rw w.account-is (same_events taken.strength c.handing.account.units w.hand_one-handle.new.account.units passed ∙ so.events);
+            events = rw w.account-is (same_events taken.strength c.handing.account.units w.hand_one-handle.new.account.units passed
+                ∙ so.events);
             own = rw w.account-is (w.hand_one-handle.ensures.own ∙ so.own);
             handles = rw w.handles-is (rw pushed (grips_with i taken.set c.args.client taken items all low bit so.handles));
             few = rw w.handles-is (omega (arith, w.push_reserved.ensures.len, so.few));

@@ -14,7 +14,8 @@ invariant-handing g l = record {
   units : SameHandles l.account.units (handful l.taken.strength (length (indices_from l.index (MAX_BUFFERS - l.index) l.taken.set)));
   events : l.account.units.events ≡ l.fn.account.units.events;
   own : l.account.own ≡ l.fn.account.own;
-  handles : l.handles.items ++ grips_at l.client l.taken (indices_from l.index (MAX_BUFFERS - l.index) l.taken.set) ≡ grips_at l.client l.taken
+  handles : l.handles.items ++ grips_at l.client l.taken (indices_from l.index (MAX_BUFFERS - l.index) l.taken.set)
+      ≡ grips_at l.client l.taken
       (indices_in l.taken.set);
   few : vec_len l.handles ≤ l.index;
   room : MAX_BUFFERS ≤ vec_capacity l.handles;

@@ -1,6 +1,6 @@
 use Rattle.std.proofs.Common.{Option, List, ℕ, refl, sym, subst, codes}
 use Rattle.command_line.specs.Asked.{IsFlag, IsFormat}
-use Rattle.command_line.proofs.Asking.{first_text, its_text, until-same}
+use Rattle.command_line.proofs.Asking.{first_text, its_text, search-same, until-same}
 use Rattle.command_line.proofs.task.task_of.Goals as goal
 
 -- each text is read of the subcommand's own matches
@@ -28,6 +28,16 @@ returns-then-eq-clause-record c =
       unset = c.get_flag.ensures.other;
     })
 
+pub returns-then-eq-clause-patience : goal.returns-then-eq-clause-patience
+returns-then-eq-clause-patience c =
+    subst (λ (text : Option (List ℕ)). IsFlag text c.get_flag-then-eq.result)
+    (sym (its_text (codes "patient") c.args.matches.now c.in-Some.inner.now _ c.in-Some.ensures.rows refl))
+    (record {
+      none = c.get_flag-then-eq.ensures.none;
+      set = c.get_flag-then-eq.ensures.value;
+      unset = c.get_flag-then-eq.ensures.other;
+    })
+
 pub returns-then-eq-2-clause-failures : goal.returns-then-eq-2-clause-failures
 returns-then-eq-2-clause-failures c =
     subst (λ (text : Option (List ℕ)). IsFlag text c.get_flag-then-eq-2.result)
@@ -37,3 +47,24 @@ returns-then-eq-2-clause-failures c =
       set = c.get_flag-then-eq-2.ensures.value;
       unset = c.get_flag-then-eq-2.ensures.other;
     })
+
+pub returns-then-eq-2-clause-summary : goal.returns-then-eq-2-clause-summary
+returns-then-eq-2-clause-summary c =
+    subst (λ (text : Option (List ℕ)). IsFlag text c.get_flag-then-eq-2-2.result)
+    (sym (its_text (codes "summary") c.args.matches.now c.in-Some.inner.now _ c.in-Some.ensures.rows refl))
+    (record {
+      none = c.get_flag-then-eq-2-2.ensures.none;
+      set = c.get_flag-then-eq-2-2.ensures.value;
+      unset = c.get_flag-then-eq-2-2.ensures.other;
+    })
+
+pub returns-then-eq-4-clause-search : goal.returns-then-eq-4-clause-search
+returns-then-eq-4-clause-search c = (
+  subst (λ (text : Option (List ℕ)). IsFlag text c.search_of.result.once)
+      (sym (its_text (codes "once") c.args.matches.now c.in-Some.inner.now _ c.in-Some.ensures.rows refl))
+      c.search_of.ensures.once,
+  search-same _ _ _ _ c.search_of.result
+      (its_text (codes "outcome") c.args.matches.now c.in-Some.inner.now _ c.in-Some.ensures.rows refl)
+      (its_text (codes "states") c.args.matches.now c.in-Some.inner.now _ c.in-Some.ensures.rows refl)
+      c.search_of.ensures.search,
+)

@@ -4,7 +4,8 @@ use Rattle.core_state.proofs.joined.Rows.{finds, finds_none}
 use Rattle.core_state.proofs.clients.first_waiting.Goals as goal
 
 pub returns-in_err-place_of : goal.returns-in_err-place_of
-returns-in_err-place_of c = rw (finds_none c.args.client c.args.clients.now (sym c.place_of.ensures ∙ c.in_err-place_of.was)) c.from_residual.ensures
+returns-in_err-place_of c =
+    rw (finds_none c.args.client c.args.clients.now (sym c.place_of.ensures ∙ c.in_err-place_of.was)) c.from_residual.ensures
 
 -- the row of the client
 pub returns : goal.returns

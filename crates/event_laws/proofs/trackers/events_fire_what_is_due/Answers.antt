@@ -12,7 +12,8 @@ use Rattle.event_laws.proofs.trackers.events_fire_what_is_due.Goals as goal
 pub returns-clause-fired : goal.returns-clause-fired
 returns-clause-fired c pool limits history entry legal =
     let before : Timeline = timeline pool history in
-    subst (λ (m : Timeline). fired m ≡ fired before ++ map (tracked_firing (events m)) (filter (is_tracked_met (world m)) (trackers_to_test before entry)))
+    subst (λ (m : Timeline). fired m
+    ≡ fired before ++ map (tracked_firing (events m)) (filter (is_tracked_met (world m)) (trackers_to_test before entry)))
     (sym (timeline-push pool history entry))
     (fired_next pool limits before entry (legal_grows_on pool limits history (entry ∷ []) legal).first (AreAnswers-last pool limits []
     history entry legal.answers).1)

@@ -1,5 +1,7 @@
 -- The buffer of the collection is home, and nothing is forced in the collection.
-use Rattle.forest_steps.proofs.Common.{◌≡◌, ◌∙◌, ◌&&◌, nat_lt, not, refl, subst, sym, ap, arith, total, Entry, forest_of, shelves_of, has_given_root, are_rest_out, beside, is_held_strongly, get_or, some-injective, both_ways, ◌||◌, le-ltb, or_both}
+use Rattle.forest_steps.proofs.Common.{◌≡◌, ◌∙◌, ◌&&◌, nat_lt, not, refl, subst, sym, ap, arith, total, Entry}
+use Rattle.forest_steps.proofs.Common.{forest_of, shelves_of, has_given_root, are_rest_out, beside}
+use Rattle.forest_steps.proofs.Common.{is_held_strongly, get_or, some-injective, both_ways, ◌||◌, le-ltb, or_both}
 use Rattle.forest_store.proofs.leaving.EntryAt.{place_told}
 use Rattle.forest_store.proofs.shelves.Entries.{place_within}
 use Rattle.forest_steps.proofs.changes.Dropped.{few_at, finishes_so, one_entry, pool_at, pool_so, rest_at, stored_so, units_so}

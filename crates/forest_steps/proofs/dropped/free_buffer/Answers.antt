@@ -1,5 +1,7 @@
 -- The buffer is removed from the list, and its pages are given back to the pool.
-use Rattle.forest_steps.proofs.Common.{◌≡◌, ◌<◌, ◌+◌, ◌∙◌, ◌∷◌, ◌++◌, sym, ap, not, false, List, length, take, drop, get_or, arith, filter, Interval, total, HeldBuffer, Strength, is_home, Holdings, by_page, is_out, pages_held, same_buffer-true}
+use Rattle.forest_steps.proofs.Common.{◌≡◌, ◌<◌, ◌+◌, ◌∙◌, ◌∷◌, ◌++◌, sym, ap, not, false, List, length, take}
+use Rattle.forest_steps.proofs.Common.{drop, get_or, arith, filter, Interval, total, HeldBuffer, Strength}
+use Rattle.forest_steps.proofs.Common.{is_home, Holdings, by_page, is_out, pages_held, same_buffer-true}
 use Rattle.forest_steps.proofs.intervals.Returned.{holds_one, one_returned}
 use Rattle.forest_steps.proofs.lists.Removed.{all_removed, around, filter_removed, left_around, take_removed}
 use Rattle.std.proofs.lemmas.Grind.{common_steps}

@@ -1,4 +1,5 @@
-use Rattle.forest_steps.proofs.Common.{◌≡◌, ◌≤◌, ◌++◌, false, true, List, length, take, filter, Interval, total, are_rest_out, by_page, is_out, pages_held, ◌-◌}
+use Rattle.forest_steps.proofs.Common.{◌≡◌, ◌≤◌, ◌++◌, false, true, List, length, take, filter}
+use Rattle.forest_steps.proofs.Common.{Interval, total, are_rest_out, by_page, is_out, pages_held, ◌-◌}
 use Rattle.buffer_pool.specs.Holdings.{IsSound}
 use Rattle.forest_steps.proofs.dropped.free_buffer.Given as goal
 

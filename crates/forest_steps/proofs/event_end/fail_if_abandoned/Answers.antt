@@ -1,5 +1,6 @@
 -- Where the buffers are abandoned the root is lost, and else nothing is forced.
-use Rattle.forest_steps.proofs.Common.{◌≡◌, ◌∙◌, ◌&&◌, not, sym, inl, inr, [], eq-eqb, and_both, and_right, both_ways, total, has_given_root, is_held_strongly}
+use Rattle.forest_steps.proofs.Common.{◌≡◌, ◌∙◌, ◌&&◌, not, sym, inl, inr, [], eq-eqb, and_both}
+use Rattle.forest_steps.proofs.Common.{and_right, both_ways, total, has_given_root, is_held_strongly}
 use Rattle.forest_steps.proofs.mid_event.Closing.{closed_still}
 use Rattle.forest_steps.proofs.event_end.fail_if_abandoned.Goals as goal
 

@@ -32,7 +32,8 @@ free_home_buffers-requires c =
     c.fail_if_abandoned.ensures.closed (shelves_of es) c.requires.may.pending
     (under_is c.requires.may id place old is) (out_is c.requires.may id place old is)
     (omega (arith, c.if-entry-gt0.false)) in (
-      beside (forest_of c.fail_if_abandoned.new.nodes.table (shelves_of (set es c.args.at c.fail_if_abandoned.new.entry))) c.fail_if_abandoned.new.entry.id,
+      beside (forest_of c.fail_if_abandoned.new.nodes.table (shelves_of (set es c.args.at c.fail_if_abandoned.new.entry)))
+          c.fail_if_abandoned.new.entry.id,
       pages_mid c.requires.may id place old is closed _ c.assert_disjoint-2.ensures c.requires.pool,
     )
 
@@ -51,6 +52,7 @@ returns-clause-closes c id told =
     let last : Entry = record (c.fail_if_abandoned.new.entry) { held = c.free_home_buffers.new.held } in
     closes_weak c.requires.may id told old is
     closed weak _ refl c.free_home_buffers.ensures.held _ _ c.assert_disjoint-3.ensures
-    (c.free_home_buffers.ensures.pool (beside (forest_of c.fail_if_abandoned.new.nodes.table (shelves_of (set es c.args.at c.fail_if_abandoned.new.entry)))
+    (c.free_home_buffers.ensures.pool
+    (beside (forest_of c.fail_if_abandoned.new.nodes.table (shelves_of (set es c.args.at c.fail_if_abandoned.new.entry)))
     c.fail_if_abandoned.new.entry.id) (pages_mid c.requires.may id told old is
     closed _ c.assert_disjoint-2.ensures c.requires.pool))

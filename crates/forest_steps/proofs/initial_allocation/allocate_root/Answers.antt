@@ -1,10 +1,14 @@
 -- The root's unit is allocated or lost, and the forced steps are made in the collection.
-use Rattle.forest_steps.proofs.Common.{◌≡◌, ◌∙◌, true, false, List, Option, None, Some, refl, sym, ap, arith, total, NodeKey, not, ◌&&◌, and_left, option_map, option_map_or, affected, is_root_left, node_at, Table, Change, Effect, Node, Unit, Row, row_at, place_is, IsSome, unit_then, comes_first, is_bare_root, is_held_ready, KeepsCounts, tracker_room}
+use Rattle.forest_steps.proofs.Common.{◌≡◌, ◌∙◌, true, false, List, Option, None, Some, refl, sym, ap, arith, total}
+use Rattle.forest_steps.proofs.Common.{NodeKey, not, ◌&&◌, and_left, option_map, option_map_or, affected, is_root_left}
+use Rattle.forest_steps.proofs.Common.{node_at, Table, Change, Effect, Node, Unit, Row, row_at, place_is, IsSome}
+use Rattle.forest_steps.proofs.Common.{unit_then, comes_first, is_bare_root, is_held_ready, KeepsCounts, tracker_room}
 use Rattle.forest_steps.proofs.mid_event.Counted.{may_make, waits_plain}
 use Rattle.forest_steps.proofs.mid_event.Listed.{listed_written}
 use Rattle.forest_steps.proofs.mid_event.Stepping.{begins_at, one_id, node_there}
 use Rattle.forest_steps.proofs.mid_event.RootOutcome.{may_close, pool_then, waits_not}
-use Rattle.forest_steps.proofs.initial_allocation.allocate_root.Answers.Points.{affects, comes, found, outcome_then, planned, rooted, told_then, under}
+use Rattle.forest_steps.proofs.initial_allocation.allocate_root.Answers.Points.{affects, comes, found, outcome_then}
+use Rattle.forest_steps.proofs.initial_allocation.allocate_root.Answers.Points.{planned, rooted, told_then, under}
 use Rattle.std.proofs.Common.{rules}
 use Rattle.forest_steps.proofs.initial_allocation.allocate_root.Goals as goal
 mod Points
@@ -20,7 +24,8 @@ index_mut-entry-requires c =
 pub planned-requires-clause-tracked : goal.planned-requires-clause-tracked
 planned-requires-clause-tracked c at n found =
     tracker_room _ _ c.requires.ready.ready.kept _
-    _ (λ m e there. c.requires.ready.ready.change.trackers c.args.made.now.key m (ap (Change.Effect c.args.made.now.key) e) there) at n found
+    _ (λ m e there. c.requires.ready.ready.change.trackers c.args.made.now.key m
+    (ap (Change.Effect c.args.made.now.key) e) there) at n found
 
 pub make_effect-requires-clause-may : goal.make_effect-requires-clause-may
 make_effect-requires-clause-may c =

@@ -1,5 +1,7 @@
 -- The root's unit has its buffers, and those that follow it had their turns.
-use Rattle.forest_steps.proofs.Common.{◌≡◌, ℕ, ◌+◌, ◌∷◌, [], List, Some, length, refl, ap, sym, subst, ◌∙◌, arith, HeldBuffer, total, Entry, Shelf, nodes_with, put_shelf, shelf_of, reserved_count, after_allocation, IsGivenAt, AllocationOutcome, PendingUnit, IsComing, IsRooted, AreTurns, MidEvent}
+use Rattle.forest_steps.proofs.Common.{◌≡◌, ℕ, ◌+◌, ◌∷◌, [], List, Some, length, refl, ap, sym, subst, ◌∙◌, arith, HeldBuffer}
+use Rattle.forest_steps.proofs.Common.{total, Entry, Shelf, nodes_with, put_shelf, shelf_of, reserved_count, after_allocation}
+use Rattle.forest_steps.proofs.Common.{IsGivenAt, AllocationOutcome, PendingUnit, IsComing, IsRooted, AreTurns, MidEvent}
 use Rattle.forest_steps.proofs.mid_event.RootGiven.{root_left, rooted_given, turns_then, under_then, waits_no_more}
 use Rattle.std.proofs.Common.{rules}
 use Rattle.forest_steps.proofs.initial_allocation.allocate_root_unit.Goals as goal
@@ -33,7 +35,8 @@ module _ (c : goal.After-allocate_all_pending) {ss : List Shelf}
     given = rw c.deref-2.ensures.value at c.mark_allocated.ensures
 
     listed : AreTurns c.args.nodes.now.table c.args.entry.now.keys.items c.list_pending.new.turns.items
-        × ((place : ℕ) × (rest : List PendingUnit) × (c.list_pending.new.turns.items ≡ record { place = place; head = c.args.plan.now.head } ∷ rest))
+        × ((place : ℕ) × (rest : List PendingUnit) ×
+        (c.list_pending.new.turns.items ≡ record { place = place; head = c.args.plan.now.head } ∷ rest))
     listed = c.list_pending.ensures.listed ss [] (c.args.plan.now.head ∷ [])
         (rw c.deref.ensures.value under) (root_left coming)
 
@@ -43,7 +46,8 @@ module _ (c : goal.After-allocate_all_pending) {ss : List Shelf}
         sym listed.1.2 ∙ (sym c.deref-3.ensures.value ∙ c.in-Some.ensures.cases.0) in
         cc
 
-    turns : AreTurns c.args.nodes.now.table c.args.entry.now.keys.items (record { place = listed.1.0; head = c.args.plan.now.head } ∷ c.in-Some.rest.now)
+    turns : AreTurns c.args.nodes.now.table c.args.entry.now.keys.items
+        (record { place = listed.1.0; head = c.args.plan.now.head } ∷ c.in-Some.rest.now)
     turns = subst (AreTurns c.args.nodes.now.table c.args.entry.now.keys.items)
         (listed.1.2 ∙ ap (λ xs. record { place = listed.1.0; head = c.args.plan.now.head } ∷ xs) rest_is) listed.0
 

@@ -10,7 +10,8 @@ use Rattle.forest_steps.proofs.initial_allocation.planned.Goals as goal
 bare_there : (t : Table Node) (key : NodeKey) → is_bare_root t key ≡ true → IsSome (row_at t key)
 bare_there t key = by (row_at t key)
   where
-    by : (o : Option (Row Node)) → option_map_or (λ (n : Node). is_root_left n && not n.allocated) (option_map (λ (row : Row Node). row.node) o) false ≡ true →
+    by : (o : Option (Row Node)) →
+        option_map_or (λ (n : Node). is_root_left n && not n.allocated) (option_map (λ (row : Row Node). row.node) o) false ≡ true →
         IsSome o
     by None h = absurd (false≢true h)
     by (Some row) h = refl

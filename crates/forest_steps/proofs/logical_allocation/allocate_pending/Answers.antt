@@ -6,7 +6,8 @@ use Rattle.std.proofs.Common.{rules}
 use Rattle.forest_steps.proofs.logical_allocation.allocate_pending.Goals as goal
 
 -- what the keys that were read ask for is what those that were listed do
-asked_by : (t : Table Node) (k : NodeKey) (read ks : List NodeKey) (asks : TotalDemand) → read ≡ ks → AreAsked t k read asks → AreAsked t k ks asks
+asked_by : (t : Table Node) (k : NodeKey) (read ks : List NodeKey) (asks : TotalDemand) →
+    read ≡ ks → AreAsked t k read asks → AreAsked t k ks asks
 asked_by t k read ks asks same told = rw same at told
 
 pub returns-then-not-is_next-clause-taken : goal.returns-then-not-is_next-clause-taken

@@ -20,7 +20,8 @@ loop-turn-preserved c =
     let was = c.loop-turn.invariant in
     let within : i < length turns = c.loop-turn-test.true in
     let front : drop i turns ≡ w ∷ drop (i + 1) turns = drop_more turns i none within in
-    let had : HaveTurns h c.args.nodes.now.table c.loop-turn.nodes.table c.args.nodes.now.units.items c.loop-turn.nodes.units.items c.args.entry.now
+    let had : HaveTurns h c.args.nodes.now.table c.loop-turn.nodes.table c.args.nodes.now.units.items
+    c.loop-turn.nodes.units.items c.args.entry.now
     c.loop-turn.entry c.args.buffers turns (w ∷ drop (i + 1) turns) =
     rw front at was.had in
     record {

@@ -8,6 +8,7 @@ invariant-loop-turn l = record {
   named : (key : NodeKey) (n : Node) → node_at l.nodes.table key ≡ Some n → n.key ≡ key;
   len : table_len l.nodes.table ≡ table_len l.initial.nodes.table;
   room : vec_capacity l.initial.keys ≤ vec_capacity l.keys;
-  had : HaveTurns (total l.holds) l.initial.nodes.table l.nodes.table l.initial.nodes.units.items l.nodes.units.items l.initial.entry l.entry l.buffers
+  had : HaveTurns (total l.holds) l.initial.nodes.table l.nodes.table l.initial.nodes.units.items
+      l.nodes.units.items l.initial.entry l.entry l.buffers
       l.turns (drop l.turn-index l.turns);
 }

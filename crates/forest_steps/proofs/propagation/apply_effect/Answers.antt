@@ -1,5 +1,7 @@
 -- The effect is made, what nothing holds then ends, and what is due has its turn.
-use Rattle.forest_steps.proofs.Common.{◌≡◌, ◌∙◌, sym, ap, subst, not, refl, List, [], ◌∷◌, Option, Some, None, NodeKey, total, Table, node_at, Effect, Entry, Node, Unit, Shelf, EffectCounts, AfterEffect, EffectMade, MidEvent, AreCountsThen, KeepsCounts}
+use Rattle.forest_steps.proofs.Common.{◌≡◌, ◌∙◌, sym, ap, subst, not, refl, List, [], ◌∷◌, Option, Some, None}
+use Rattle.forest_steps.proofs.Common.{NodeKey, total, Table, node_at, Effect, Entry, Node, Unit, Shelf}
+use Rattle.forest_steps.proofs.Common.{EffectCounts, AfterEffect, EffectMade, MidEvent, AreCountsThen, KeepsCounts}
 use Rattle.forest_steps.proofs.mid_event.Changing.{affected_on, still_played}
 use Rattle.forest_steps.proofs.mid_event.Felled.{head_row, lent_there}
 use Rattle.forest_steps.proofs.mid_event.NextThere.{none_bare}

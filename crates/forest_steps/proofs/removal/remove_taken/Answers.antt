@@ -1,7 +1,23 @@
 -- The nodes that a failure takes are written as gone, and neither the units nor the entry count them any more.
-use Rattle.forest_steps.proofs.Common.{◌+◌, sym, ◌∙◌, ap, list_any, over_except, strong_count, nodes_with, reserved_count, arith, ◌-◌, rules, unreckoned, head_over, went_now}
-use Rattle.forest_steps.proofs.tables.Rows.{still_named}
+use Rattle.forest_steps.proofs.Common.{List, NodeKey, IsSome, row_at, get_or, subst, ◌+◌, sym, ◌∙◌, ap, list_any, over_except}
+use Rattle.forest_steps.proofs.Common.{strong_count, nodes_with, reserved_count, arith, ◌-◌, rules, unreckoned, head_over, went_now}
+use Rattle.std.proofs.Common.{All}
+use Rattle.std.proofs.lemmas.List.Elements.{Contains-get_or}
+use Rattle.node_table.specs.Forest.{IsForest}
+use Rattle.forest_store.specs.Ties.{IsFall}
+use Rattle.forest_steps.proofs.tables.Rows.{reached_there, still_named}
 use Rattle.forest_steps.proofs.removal.remove_taken.Goals as goal
+
+-- what falls is there, since its origin is
+pub remove_all-removed-requires-clause-there : goal.remove_all-removed-requires-clause-there
+remove_all-removed-requires-clause-there c =
+    let t = c.args.nodes.now.table in
+    let forest : IsForest t = search rules in
+    let keys : List NodeKey = c.fall_into.new.keys.items in
+    let fall : IsFall t c.args.origin keys = search rules in
+    let there : All (λ (k : NodeKey). IsSome (row_at t k)) keys =
+    λ i d within. reached_there t forest c.requires.there ((fall (get_or keys i d)).0 (Contains-get_or keys i d within)) in
+    subst (All (λ (k : NodeKey). IsSome (row_at t k))) (sym c.deref-2.ensures.value) there
 
 pub note_gone-requires-clause-named : goal.note_gone-requires-clause-named
 note_gone-requires-clause-named c = still_named c.requires.named c.remove_all-removed.ensures.stores

@@ -1,4 +1,6 @@
-use Rattle.forest_steps.proofs.Common.{ℕ, ◌≡◌, ◌<◌, ◌≤◌, ◌+◌, ◌∙◌, ◌++◌, ◌∷◌, refl, sym, ap, Bool, true, false, cond, List, length, take, drop, get_or, arith, filter, Interval, total, HeldBuffer, by_page, is_out, pages_held, in_order, rest_of}
+use Rattle.forest_steps.proofs.Common.{ℕ, ◌≡◌, ◌<◌, ◌≤◌, ◌+◌, ◌∙◌, ◌++◌, ◌∷◌, refl, sym, ap, Bool, true}
+use Rattle.forest_steps.proofs.Common.{false, cond, List, length, take, drop, get_or, arith, filter, Interval}
+use Rattle.forest_steps.proofs.Common.{total, HeldBuffer, by_page, is_out, pages_held, in_order, rest_of}
 use Rattle.std.proofs.lemmas.List.Filters.{length-filter_more}
 use Rattle.buffer_pool.proofs.Runs.{in_order-without_run}
 use Rattle.forest_steps.proofs.intervals.Returned.{holds_one, kept_here, kept_past, one_returned}

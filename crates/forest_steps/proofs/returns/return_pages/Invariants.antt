@@ -1,4 +1,5 @@
-use Rattle.forest_steps.proofs.Common.{◌≡◌, ◌≤◌, ◌++◌, List, length, take, drop, filter, Interval, total, by_page, is_out, pages_held, rest_of}
+use Rattle.forest_steps.proofs.Common.{◌≡◌, ◌≤◌, ◌++◌, List, length, take, drop, filter}
+use Rattle.forest_steps.proofs.Common.{Interval, total, by_page, is_out, pages_held, rest_of}
 use Rattle.buffer_pool.specs.Holdings.{IsSound}
 use Rattle.forest_steps.specs.Runs.{HoldsRun}
 use Rattle.forest_steps.proofs.returns.return_pages.Given as goal

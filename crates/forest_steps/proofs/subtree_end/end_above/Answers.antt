@@ -1,5 +1,6 @@
 -- Nothing changes where something holds the unit; else the highest that nothing holds but the one below ends, as it is forced to.
-use Rattle.forest_steps.proofs.Common.{◌≡◌, [], ◌∷◌, List, true, false, inl, inr, refl, ap, sym, ◌∙◌, Unit, unit_at, table_len, is_held_by, climbed}
+use Rattle.forest_steps.proofs.Common.{◌≡◌, [], ◌∷◌, List, true, false, inl, inr, refl, ap}
+use Rattle.forest_steps.proofs.Common.{sym, ◌∙◌, Unit, unit_at, table_len, is_held_by, climbed}
 use Rattle.forest_steps.proofs.mid_event.EndAbove.{ended_led, held_led, may_end}
 use Rattle.std.proofs.Common.{rules}
 use Rattle.forest_steps.proofs.subtree_end.end_above.Goals as goal

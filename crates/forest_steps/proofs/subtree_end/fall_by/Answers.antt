@@ -12,14 +12,16 @@ pub returns-then-is_some-clause-felled : goal.returns-then-is_some-clause-felled
 returns-then-is_some-clause-felled c handles ss pending u left =
     let went = c.in-Some.ensures.went ss _ pending u (left, refl) in
     let still : is_head_left (nodes_with c.remove_subtree.new.nodes.table c.remove_subtree.new.entry.keys.items) c.in-Some.above ≡ true =
-    subst (λ (s : Shelf). is_head_left (nodes_with c.remove_subtree.new.nodes.table s.keys) c.in-Some.above ≡ true) (sym went.shelf) went.left in
+    subst (λ (s : Shelf). is_head_left (nodes_with c.remove_subtree.new.nodes.table s.keys) c.in-Some.above
+    ≡ true) (sym went.shelf) went.left in
     felled_on _ went (c.end_above.ensures.led handles ss pending went.under still)
     (c.end_above.ensures.ended ss pending went.under still)
 
 pub returns-else-is_some-clause-felled : goal.returns-else-is_some-clause-felled
 returns-else-is_some-clause-felled c handles ss pending u left =
     let went = c.in-Some.ensures.went ss _ pending u (left, refl) in
-    let row = head_row c.remove_subtree.new.nodes.table c.remove_subtree.ensures.named c.args.entry.now.keys.items c.in-Some.above went.left in
+    let row = head_row c.remove_subtree.new.nodes.table c.remove_subtree.ensures.named
+    c.args.entry.now.keys.items c.in-Some.above went.left in
     absurd (lent_there _ (c.get.ensures ∙ row.1) (sym c.is_some.ensures ∙ c.if-is_some.false))
 
 pub end_above-requires-clause-named : goal.end_above-requires-clause-named

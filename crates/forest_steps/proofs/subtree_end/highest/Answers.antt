@@ -14,4 +14,5 @@ up-preserved c = grind (arith, one_more)
 pub returns-clause-climbed : goal.returns-clause-climbed
 returns-clause-climbed c =
     all_made _ _ _ _ _ _ c.up.invariant.so_far
-    (omega (arith, c.up.auto.counter-end, c.len-end.ensures)) (inr (omega (arith, c.up.auto.counter-end, c.len-end.ensures, c.up-test.false)))
+    (omega (arith, c.up.auto.counter-end, c.len-end.ensures))
+    (inr (omega (arith, c.up.auto.counter-end, c.len-end.ensures, c.up-test.false)))

@@ -1,18 +1,11 @@
--- The entry with the id can only stand behind all smaller ones.
-use Rattle.forest_store.proofs.Common.{sym, arith, get_or_default}
-use Rattle.forest_store.proofs.entry.place_of.Goals.{else-at-entries-via-then-at-entries+else-entries-at, else-at-entries-via-else-at-entries}
-use Rattle.forest_store.proofs.shelves.Entries.{place_found, place_none}
+-- The ids rise: the entry with the id is the last, or stands where it is guessed, or where a search ends.
+use Rattle.forest_store.proofs.Common.{sym, arith}
+use Rattle.forest_store.proofs.shelves.Entries.{stands_at, stands_nowhere}
 use Rattle.forest_store.proofs.entry.place_of.Goals as goal
 
-pub returns-then-entries-at : goal.returns-then-entries-at
-returns-then-entries-at c =
-    let at = c.entries_before-at.ensures in
-    rw at (sym (place_found _ _ _ c.requires (rw at at c.if-at-entries.true) (rw at at c.if-entries-at.true)))
+pub returns-then-entries-last : goal.returns-then-entries-last
+returns-then-entries-last c = sym (stands_at _ _ _ _ c.requires (omega (arith, c.in_ok-last.ensures)) c.if-entries-last.true)
 
-pub returns-else-at-entries : goal.returns-else-at-entries
-returns-else-at-entries c =
-    sym (place_none _ _ c.requires (elim c.else-at-entries.branch [
-      | else-at-entries-via-then-at-entries+else-entries-at w ↦ λ d within same.
-          w.if-entries-at.false (rw (c.entries_before-at.ensures, get_or_default _ _ _ d within) same)
-      | else-at-entries-via-else-at-entries w ↦ λ d within same. absurd (omega arith)
-    ]))
+-- the last has a smaller id, and so have all
+pub returns-then-entries-last-2 : goal.returns-then-entries-last-2
+returns-then-entries-last-2 c = sym (stands_nowhere _ _ _ _ c.requires (omega (arith, c.in_ok-last.ensures)) c.if-entries-last-2.true)

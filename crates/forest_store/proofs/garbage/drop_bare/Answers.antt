@@ -1,12 +1,15 @@
 -- The entry at the place of the id is removed, if it has no key and no buffer.
 use Rattle.forest_store.proofs.Common.{◌≡◌, true, false, get_or, sym, ◌∙◌, ap, arith, Entry, shelf_of, shelves_of, is_bare}
 use Rattle.forest_store.proofs.shelves.Counted.{counted_removed}
-use Rattle.forest_store.proofs.shelves.Dropping.{bare_none, keep_bare, remove_bare}
+use Rattle.forest_store.proofs.shelves.Dropping.{bare_none, keep_bare, remove_bare, remove_changed}
 use Rattle.forest_store.proofs.shelves.Entries.{place_within}
 use Rattle.forest_store.proofs.garbage.drop_bare.Goals as goal
 
 pub index-requires : goal.index-requires
 index-requires c = omega (arith, place_within _ _ _ _ _ c.deref.ensures.value c.place_of.ensures c.in-Some.is)
+
+pub index_mut-requires : goal.index_mut-requires
+index_mut-requires c = omega (arith, place_within _ _ _ _ _ c.deref.ensures.value c.place_of.ensures c.in-Some.is)
 
 pub remove-requires : goal.remove-requires
 remove-requires c = omega (arith, place_within _ _ _ _ _ c.deref.ensures.value c.place_of.ensures c.in-Some.is)
@@ -16,7 +19,8 @@ returns-then-is_bare-clause-shelves c =
     let told = sym (rw c.deref.ensures.value at c.place_of.ensures) ∙ c.in-Some.is in
     let bare : is_bare (shelf_of (get_or c.args.entries.now.items c.in-Some.at c.index.result.now)) ≡ true =
     ap (λ (x : Entry). is_bare (shelf_of x)) (sym c.index.ensures) ∙ sym c.is_bare.ensures ∙ c.if-is_bare.true in
-    ap shelves_of c.remove.ensures.items
+    ap shelves_of (c.remove.ensures.items
+    ∙ remove_changed c.args.entries.now.items c.in-Some.at (record c.index_mut.result.now { keys = c.swap.new.x }))
     ∙ remove_bare _ _ _ _ c.requires told bare
 
 pub returns-else-is_bare-clause-shelves : goal.returns-else-is_bare-clause-shelves
@@ -31,4 +35,7 @@ returns-in_default-clause-shelves c =
     bare_none _ _ (sym (rw c.deref.ensures.value at c.place_of.ensures) ∙ c.in_default.is)
 
 pub returns-then-is_bare-clause-counted : goal.returns-then-is_bare-clause-counted
-returns-then-is_bare-clause-counted c t all = rw c.remove.ensures.items (counted_removed t _ _ all)
+returns-then-is_bare-clause-counted c t all =
+    rw (c.remove.ensures.items
+    ∙ remove_changed c.args.entries.now.items c.in-Some.at (record c.index_mut.result.now { keys = c.swap.new.x }))
+    (counted_removed t _ _ all)

@@ -1,5 +1,6 @@
 -- One key more is looked at, and dropped or not.
-use Rattle.forest_store.proofs.Common.{◌≡◌, ◌∷◌, [], List, not, sym, ◌∙◌, ap, filter, NodeKey, same_key, rules, filter-In, is_left_by, are_apart, nil_from_length}
+use Rattle.forest_store.proofs.Common.{◌≡◌, ◌∷◌, [], List, not, sym, ◌∙◌, ap, filter, NodeKey, same_key}
+use Rattle.forest_store.proofs.Common.{rules, filter-In, is_left_by, are_apart, nil_from_length}
 use Rattle.forest_store.proofs.leaving.OnlyNoted.{left_dropped, left_none, left_on}
 use Rattle.forest_store.proofs.leaving.Thinning.{apart-filter}
 use Rattle.forest_store.proofs.garbage.drop_keys.Goals as goal

@@ -1,6 +1,7 @@
 -- The nodes that are dead are taken out, with their keys; where none is, nothing changes.
 use Rattle.forest_store.proofs.Common.{◌≡◌, None, Some, refl, sym, ◌∙◌, subst, arith, IsStored, place_in}
-use Rattle.forest_store.proofs.leaving.EntryAt.{counted_then, forgettable, left_known, left_then, place_told, shelves_then, stays, stays_then}
+use Rattle.forest_store.proofs.leaving.EntryAt.{counted_then, forgettable, left_known, left_then}
+use Rattle.forest_store.proofs.leaving.EntryAt.{place_told, shelves_then, stays, stays_then}
 use Rattle.forest_store.proofs.leaving.Forgotten.{thin_filed}
 use Rattle.forest_store.proofs.leaving.Thinning.{all_thinned-same}
 use Rattle.forest_store.proofs.shelves.Dropping.{bare_none, no_shelf}

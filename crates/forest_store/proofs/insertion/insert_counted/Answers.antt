@@ -2,8 +2,12 @@
 use Rattle.forest_store.proofs.Common.{ℕ, ◌<◌, length, ap, sym, subst, ◌∙◌, NodeKey, shelves_of}
 use Rattle.forest_store.proofs.newborns.Units.{newborn_units}
 use Rattle.forest_store.proofs.newborns.Newborn.{above_is}
-use Rattle.forest_store.proofs.newborns.Bearing.{born_key}
+use Rattle.forest_store.proofs.newborns.Bearing.{born_key, born_row}
 use Rattle.forest_store.proofs.insertion.insert_counted.Goals as goal
+
+-- the node that was born is counted
+pub count_at-requires : goal.count_at-requires
+count_at-requires c = born_row c.in_ok-key.ensures.ok.bears (born_key _ _ _ _ _ _)
 
 pub returns-clause-units : goal.returns-clause-units
 returns-clause-units c =

@@ -8,15 +8,15 @@ returns-clause-entries c =
       id = c.args.id;
       keys = c.push.new.self;
       buffers = None;
-      held = c.new.result;
+      held = c.new-2.result;
       strong = c.strong_with-strong.result;
       reserved = 0;
       garbage_known = true;
-      garbage = c.new-2.result;
-      guess = c.new-3.result;
+      garbage = c.new-3.result;
+      guess = c.new-4.result;
     } in
     let items : c.push.new.self.items ≡ c.in_ok-key.key ∷ [] = search rules in
-    let held : c.new.result.items ≡ [] = c.new.ensures.items in
+    let held : c.new-2.result.items ≡ [] = c.new-2.ensures.items in
     let shelf : shelf_of new ≡ shelf_with (no_shelf c.args.id) c.in_ok-key.key =
     λ i. record { id = c.args.id; keys = items i; buffers = None; held = held i } in
     (new, c.put_entry.ensures.items ∙ ap (put_in new) c.reserve.ensures.items, shelf, c.strong_with-strong.ensures, refl)

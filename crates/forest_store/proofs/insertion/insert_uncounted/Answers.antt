@@ -3,8 +3,13 @@ use Rattle.forest_store.proofs.Common.{ap, arith, shelves_of}
 use Rattle.forest_store.proofs.leaving.EntryAt.{place_told}
 use Rattle.forest_store.proofs.newborns.Entries.{refused_two}
 use Rattle.forest_store.proofs.newborns.Inserted.{few, inserted, inserted_first, parent_there, refused}
+use Rattle.forest_store.proofs.newborns.Newborn.{above_is, above_there}
 use Rattle.forest_store.proofs.Basics.{place_within}
 use Rattle.forest_store.proofs.insertion.insert_uncounted.Goals as goal
+
+-- a birth is below a node that is kept
+pub drafted-draft-requires : goal.drafted-draft-requires
+drafted-draft-requires c = above_there _ _ _ _ _ (above_is _ _ c.requires.forest.kept _ _ _ _ _ c.requires.change)
 
 pub index_mut-requires : goal.index_mut-requires
 index_mut-requires c = omega (arith, place_within _ _ _ _ _ c.deref.ensures.value c.place_of.ensures c.in-Some.is)

@@ -21,4 +21,5 @@ returns-in_err-push c = IfOk-from_err _ _ c.from_residual.ensures.0
 
 pub returns : goal.returns
 returns c =
-    behind_all (λ (ks : List NodeKey). filter is_live_node (nodes_with c.args.table.now ks)) _ _ c.loop-key-test.false _ _ c.loop-key.invariant
+    behind_all (λ (ks : List NodeKey). filter is_live_node (nodes_with c.args.table.now ks))
+    _ _ c.loop-key-test.false _ _ c.loop-key.invariant

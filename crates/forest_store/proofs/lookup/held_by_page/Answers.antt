@@ -1,5 +1,6 @@
 -- The buffers of one entry more come last.
-use Rattle.forest_store.proofs.Common.{List, arith, ap, ◌∙◌, Entry, HeldBuffer, rules, flat_map, common_steps, flat_map-append, take_all, answers_always, sorted_by}
+use Rattle.forest_store.proofs.Common.{List, arith, ap, ◌∙◌, Entry, HeldBuffer, rules, flat_map}
+use Rattle.forest_store.proofs.Common.{common_steps, flat_map-append, take_all, answers_always, sorted_by}
 use Rattle.forest_store.proofs.lists.StableSort.{stable_sorted}
 use Rattle.forest_store.proofs.lookup.held_by_page.Goals as goal
 

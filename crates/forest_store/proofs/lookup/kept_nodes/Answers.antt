@@ -19,4 +19,5 @@ returns-in_err-add_kept c = IfOk-from_err _ _ c.from_residual-in_err-add_kept.en
 
 pub returns : goal.returns
 returns c =
-    made_all (λ (es : List Entry). nodes_with c.args.table.now (all_keys (shelves_of es))) _ _ c.loop-entry-test.false _ c.loop-entry.invariant
+    made_all (λ (es : List Entry). nodes_with c.args.table.now (all_keys (shelves_of es)))
+    _ _ c.loop-entry-test.false _ c.loop-entry.invariant

@@ -1,5 +1,7 @@
 -- The nodes of one entry more come last.
-use Rattle.forest_store.proofs.Common.{List, arith, map, ap, ◌∙◌, filter, Entry, all_keys, nodes_with, shelves_of, Node, is_live_node, rules, common_steps, flat_map-append, map-append, take_all, filter_map-append, filter-append, answers_always, sorted_by}
+use Rattle.forest_store.proofs.Common.{List, arith, map, ap, ◌∙◌, filter, Entry, all_keys, nodes_with, shelves_of}
+use Rattle.forest_store.proofs.Common.{Node, is_live_node, rules, common_steps, flat_map-append, map-append}
+use Rattle.forest_store.proofs.Common.{take_all, filter_map-append, filter-append, answers_always, sorted_by}
 use Rattle.forest_store.proofs.lists.StableSort.{stable_sorted}
 use Rattle.std.proofs.lemmas.Result.{IfOk-from_err}
 use Rattle.forest_store.proofs.lookup.live_by_birth.Goals as goal

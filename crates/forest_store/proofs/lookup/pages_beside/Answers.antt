@@ -16,5 +16,6 @@ returns-in_err-add_pages c = IfOk-from_err _ _ c.from_residual.ensures.0
 
 pub returns : goal.returns
 returns c =
-    made_all (λ (es : List Entry). flat_map (λ (e : Entry). pages_held e.held.items) (filter (λ (e : Entry). not (e.id == c.args.id)) es)) _ _
+    made_all (λ (es : List Entry). flat_map (λ (e : Entry). pages_held e.held.items)
+    (filter (λ (e : Entry). not (e.id == c.args.id)) es)) _ _
     c.loop-entry-test.false _ c.loop-entry.invariant

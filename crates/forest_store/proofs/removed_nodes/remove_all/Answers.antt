@@ -1,12 +1,24 @@
 -- One node after another.
-use Rattle.forest_store.proofs.Common.{◌≡◌, ◌+◌, ◌||◌, Bool, [], ◌∷◌, List, drop, get_or, Option, ap, ◌∙◌, sym, arith, cons_option, NodeKey, node_at, Node, nodes_with, strong_count, camped, is_strong, unreckoned, take_more, drop_more, drop_all}
-use Rattle.forest_store.proofs.failures.Written.{counts_still, once_before, over_more, still_there, went_more}
+use Rattle.forest_store.proofs.Common.{◌≡◌, ◌+◌, ◌||◌, Bool, [], ◌∷◌, List, drop, get_or, Option, ap, ◌∙◌, sym}
+use Rattle.forest_store.proofs.Common.{arith, cons_option, NodeKey, node_at, Node, nodes_with, strong_count}
+use Rattle.forest_store.proofs.Common.{camped, is_strong, unreckoned, take_more, drop_more, drop_all}
+use Rattle.forest_store.proofs.failures.Written.{counts_still, once_before, over_more, row_still, still_there, went_more}
 use Rattle.forest_store.proofs.tallies.Amounts.{amount_first, times_first}
 use Rattle.forest_store.proofs.tallies.AtOnce.{unreckoned_on}
 use Rattle.forest_store.proofs.Basics.{amount_of, reserved_is}
 use Rattle.forest_store.proofs.removed_nodes.remove_all.Goals.{then-over, else-over}
 use Rattle.std.proofs.lemmas.Grind.{common_steps}
 use Rattle.forest_store.proofs.removed_nodes.remove_all.Goals as goal
+
+-- a key that is still to come is there, since a removal keeps rows
+pub remove-one-requires : goal.remove-one-requires
+remove-one-requires c =
+    let none : NodeKey = record { slot = 0; generation = 0 } in
+    let i = c.loop-key.key-index in
+    let k : NodeKey = get_or c.args.keys.now i none in
+    row_still c.args.table.now c.requires.named c.args.going.now _ k
+    (once_before _ i none c.requires.once c.loop-key-test.true) c.loop-key.table c.loop-key.invariant.stores
+    (c.requires.there i none c.loop-key-test.true)
 
 pub loop-key-preserved : goal.loop-key-preserved
 loop-key-preserved c =
@@ -54,7 +66,7 @@ loop-key-preserved c =
           ∙ unreckoned_on t k later us
           ∙ ap (λ (ks : List NodeKey). unreckoned t (nodes_with t ks) us) (sym less)
           ∙ c.loop-key.invariant.units;
-      stores = rw more (went_more t c.requires.named g _ _ apart u stores _ c.remove-one.ensures.none
+      stores = rw more (went_more t c.requires.named g _ _ apart u stores _ (c.requires.there i none c.loop-key-test.true)
           c.remove-one.ensures.becomes c.remove-one.ensures.writes);
       over = over ∙ rw more (over_more t c.requires.named g _ _ apart u stores _ _
           c.loop-key.invariant.over c.remove-one.ensures.over);

@@ -1,4 +1,5 @@
-use Rattle.forest_store.proofs.Common.{◌≡◌, ◌≤◌, ◌+◌, ◌*◌, drop, take, map, list_any, strong_count, nodes_with, camped, is_over, gone_by, unreckoned, Stores}
+use Rattle.forest_store.proofs.Common.{◌≡◌, ◌≤◌, ◌+◌, ◌*◌, drop, take, map, list_any, strong_count}
+use Rattle.forest_store.proofs.Common.{nodes_with, camped, is_over, gone_by, unreckoned, Stores}
 use Rattle.forest_store.proofs.tallies.Amounts.{amount_of}
 use Rattle.forest_store.proofs.removed_nodes.remove_all.Given as goal
 

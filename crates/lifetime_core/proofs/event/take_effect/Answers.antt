@@ -11,7 +11,8 @@ use Rattle.lifetime_core.proofs.event.take_effect.Goals as goal
 -- only the count of the dropped handle shrinks
 pub make_change-requires-clause-others : goal.make_change-requires-clause-others
 make_change-requires-clause-others c =
-    others_stay c.args.contents.now.holds c.apply_handles.new.holds c.args.contents.now.forest c.args.client c.args.call.now c.args.asked.now
+    others_stay c.args.contents.now.holds c.apply_handles.new.holds c.args.contents.now.forest
+    c.args.client c.args.call.now c.args.asked.now
     c.args.task.now c.requires.out c.in_ok-apply_handles.ensures.ok c.requires.may c.requires.asks
 
 pub returns-clause-ok : goal.returns-clause-ok

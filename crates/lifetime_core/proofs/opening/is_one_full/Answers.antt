@@ -5,7 +5,8 @@ use Rattle.sm_names.specs.declared.keys.BufferName.{BufferName}
 use Rattle.sm_names.specs.Answers.{is_at_limit}
 use Rattle.core_state.specs.Reads.{readings_of, to_open_in}
 use Rattle.core_state.proofs.handles.ToOpen.{all_to_open, keeps_buffer, kept_from, next_passes, none_kept}
-use Rattle.lifetime_core.proofs.opening.is_one_full.Goals.{else-not-is_doomed-via-then-not-is_doomed+else-has_all_handles_near, else-not-is_doomed-via-else-not-is_doomed}
+use Rattle.lifetime_core.proofs.opening.is_one_full.Goals.{else-not-is_doomed-via-then-not-is_doomed+else-has_all_handles_near}
+use Rattle.lifetime_core.proofs.opening.is_one_full.Goals.{else-not-is_doomed-via-else-not-is_doomed}
 use Rattle.lifetime_core.proofs.opening.is_one_full.Goals as goal
 
 -- none is

@@ -6,6 +6,7 @@ use Rattle.picture_dot.proofs.boxes.push_look.Goals as goal
 pub returns : goal.returns
 unfolding look_text
 returns c = on_ok_weaker c.push_parts.result
-    (λ put keys has. rw c.class_of-class.ensures at (rw c.border_of.ensures at (rw c.fill_color.ensures at (rw c.edge_color.ensures at (rw c.ink_color.ensures at
+    (λ put keys has. rw c.class_of-class.ensures at (rw
+    c.border_of.ensures at (rw c.fill_color.ensures at (rw c.edge_color.ensures at (rw c.ink_color.ensures at
     (rw (c.width_of.ensures keys has) at put))))))
     c.push_parts.ensures

@@ -1,7 +1,7 @@
 use Rattle.std.proofs.Common.{◌≡◌, map, take}
 use Rattle.std.specs.List.{filter}
 use Rattle.forest_store.specs.declared.node.Node.{Node}
-use Rattle.script_pictures.specs.Kin.{AreParents}
+use Rattle.picture_model.specs.Kin.{AreParents}
 use Rattle.picture_dot.specs.DotPictures.{is_leaf}
 use Rattle.picture_dot.proofs.links.leaves_past.Given as goal
 

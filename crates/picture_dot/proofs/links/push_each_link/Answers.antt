@@ -1,7 +1,7 @@
 use Rattle.std.proofs.Common.{◌≡◌, ◌<◌, arith, get_or, length}
 use Rattle.std.proofs.lemmas.Grind.{common_steps}
-use Rattle.picture_dot.specs.DotPictures.{link_of}
-use Rattle.script_pictures.proofs.Loops.{one-more}
+use Rattle.picture_dot.specs.DotPictures.{link_to}
+use Rattle.picture_model.proofs.Loops.{one-more}
 use Rattle.picture_dot.proofs.links.push_each_link.Goals as goal
 
 -- one more comes last
@@ -9,5 +9,5 @@ pub loop-node-preserved : goal.loop-node-preserved
 loop-node-preserved c = λ all found links went.
     let within : c.loop-node.node-index < length c.args.nodes.now = omega arith in
     let is : get_or c.args.nodes.now c.loop-node.node-index c.node-item.result ≡ c.node-item.result = grind (arith, common_steps) in
-    one-more (link_of all links) c.args.nodes.now c.loop-node.node-index c.node-item.result c.args.text.now.items c.loop-node.text.items
+    one-more (link_to all links) c.args.nodes.now c.loop-node.node-index c.node-item.result c.args.text.now.items c.loop-node.text.items
     c.push_link_of.new.text.items within is (c.loop-node.invariant all found links went) (c.in_ok-push_link_of.ensures all found links went)

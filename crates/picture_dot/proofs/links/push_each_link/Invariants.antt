@@ -1,13 +1,13 @@
 use Rattle.std.proofs.Common.{◌≡◌, ◌++◌, List, take}
 use Rattle.std.specs.List.{flat_map}
 use Rattle.forest_store.specs.declared.node.Node.{Node}
-use Rattle.script_pictures.specs.declared.travel.Travel.{Travel}
-use Rattle.script_pictures.specs.Kin.{FindsNodes}
-use Rattle.script_pictures.specs.Travels.{FindsTravels}
-use Rattle.picture_dot.specs.DotPictures.{link_of}
+use Rattle.picture_model.specs.declared.failure_view.Travel.{Travel}
+use Rattle.picture_model.specs.Kin.{FindsNodes}
+use Rattle.picture_model.specs.Travels.{FindsTravels}
+use Rattle.picture_dot.specs.DotPictures.{link_to}
 use Rattle.picture_dot.proofs.links.push_each_link.Given as goal
 
 -- those so far
 abbrev pub invariant-loop-node : goal.invariant-loop-node
 invariant-loop-node l = (all : List Node) → FindsNodes l.by_key all → (links : List Travel) → FindsTravels l.travels links →
-    l.text.items ≡ l.initial.text.items ++ flat_map (link_of all links) (take l.node-index l.nodes)
+    l.text.items ≡ l.initial.text.items ++ flat_map (link_to all links) (take l.node-index l.nodes)

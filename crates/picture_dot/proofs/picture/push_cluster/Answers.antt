@@ -2,7 +2,7 @@ use Rattle.std.specs.Prelude.{codes, decimal}
 use Rattle.std.specs.List.{flat_map}
 use Rattle.std.proofs.lemmas.Result.{on_ok_weaker}
 use Rattle.picture_dot.specs.DotPictures.{box_text, buffers_table, cluster_text}
-use Rattle.script_pictures.proofs.Texts.{after, last}
+use Rattle.picture_model.proofs.Texts.{after, last}
 use Rattle.picture_dot.proofs.picture.push_cluster.Goals as goal
 
 -- one text behind the other
@@ -14,7 +14,7 @@ returns c = on_ok_weaker c.push-3.result
     (after _ (codes " {\n    color=\"#BBBBBB\"; label=\"\";\n") _ _ _ c.in_ok-push-2.ensures.ok
     (after _ (flat_map (box_text names c.args.tree.now.left.items) c.args.tree.now.nodes.items) _ _ _
     (rw c.deref.ensures.value at (rw c.deref-2.ensures.value at (c.in_ok-push_boxes.ensures names keeps calls)))
-    (after _ (buffers_table c.args.teller.now.session.core names c.args.clients.now.items c.args.tree.now) _ _ _
+    (after _ (buffers_table c.args.event_writer.now.session.core names c.args.clients.now.items c.args.tree.now) _ _ _
     (c.in_ok-push_table_of.ensures names keeps calls)
     (last _ (codes "  }\n") _ put))))))
     c.push-3.ensures.ok

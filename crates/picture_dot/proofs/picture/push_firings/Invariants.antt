@@ -8,4 +8,4 @@ use Rattle.picture_dot.proofs.picture.push_firings.Given as goal
 -- those so far
 abbrev pub invariant-loop-firing : goal.invariant-loop-firing
 invariant-loop-firing l = (names : Names) → Keeps l.tables names →
-    l.text.items ≡ l.initial.text.items ++ flat_map (firing_text names l.event) (take l.firing-index l.fired)
+    l.text.items ≡ l.initial.text.items ++ flat_map (firing_text names) (take l.firing-index l.fired)

@@ -1,7 +1,7 @@
 use Rattle.std.proofs.Common.{◌≡◌, ◌<◌, arith, get_or, length}
 use Rattle.std.proofs.lemmas.Grind.{common_steps}
 use Rattle.picture_dot.specs.DotPictures.{dot_tree}
-use Rattle.script_pictures.proofs.Loops.{one-more}
+use Rattle.picture_model.proofs.Loops.{one-more}
 use Rattle.picture_dot.proofs.picture.push_trees.Goals as goal
 
 -- one more comes last
@@ -9,6 +9,7 @@ pub loop-tree-preserved : goal.loop-tree-preserved
 loop-tree-preserved c = λ names keeps calls links went.
     let within : c.loop-tree.tree-index < length c.args.trees.now = omega arith in
     let is : get_or c.args.trees.now c.loop-tree.tree-index c.tree-item.result ≡ c.tree-item.result = grind (arith, common_steps) in
-    one-more (dot_tree c.args.teller.now.session.core names c.args.clients.now.items links) c.args.trees.now c.loop-tree.tree-index c.tree-item.result
+    one-more (dot_tree c.args.event_writer.now.session.core names c.args.clients.now.items links)
+    c.args.trees.now c.loop-tree.tree-index c.tree-item.result
     c.args.text.now.items c.loop-tree.text.items c.push_tree.new.text.items within is (c.loop-tree.invariant names keeps calls links went)
     (c.in_ok-push_tree.ensures names keeps calls links went)

@@ -13,7 +13,8 @@ loop-at-preserved c =
     let within : at < length parents = omega arith in
     let pushed : c.push.new.self.items ≡ columns ++ column_of free (parent_place parents at) ∷ [] = grind arith in
     let taken : c.take_columns.new.free.items ≡ taken_columns parents c.args.widths.now at free = grind arith in
-    column-more parents c.args.widths.now (length parents) at free c.take_columns.new.free.items columns c.push.new.self.items within pushed taken
+    column-more parents c.args.widths.now
+    (length parents) at free c.take_columns.new.free.items columns c.push.new.self.items within pushed taken
     ∙ c.loop-at.invariant
 
 -- none is left

@@ -8,5 +8,7 @@ pub loop-at-preserved : goal.loop-at-preserved
 loop-at-preserved c =
     c.in_ok-push.ensures.items
     ∙ ((λ i. c.loop-at.invariant i ++ c.corner_under.ensures i ∷ [])
-    ∙ sym (map-range_with_len_more (corner_at c.args.start c.args.pitch c.args.grid.now.widths.items c.args.grid.now.columns.items c.args.grid.now.depths.items) 0 c.loop-at.at c.loop-at.at
+    ∙ sym (map-range_with_len_more
+    (corner_at c.args.start c.args.pitch c.args.grid.now.widths.items c.args.grid.now.columns.items c.args.grid.now.depths.items)
+    0 c.loop-at.at c.loop-at.at
     (omega arith)))

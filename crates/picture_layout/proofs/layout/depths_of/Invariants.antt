@@ -5,4 +5,5 @@ use Rattle.picture_layout.proofs.layout.depths_of.Given as goal
 
 -- those so far
 abbrev pub invariant-loop-parent : goal.invariant-loop-parent
-invariant-loop-parent l = l.depths.items ≡ fold (λ depths parent. depths ++ depth_below depths parent ∷ []) [] (take l.parent-index l.parents.items)
+invariant-loop-parent l =
+    l.depths.items ≡ fold (λ depths parent. depths ++ depth_below depths parent ∷ []) [] (take l.parent-index l.parents.items)

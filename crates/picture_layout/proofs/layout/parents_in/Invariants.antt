@@ -5,4 +5,5 @@ use Rattle.picture_layout.proofs.layout.parents_in.Given as goal
 
 -- those so far
 abbrev pub invariant-loop-node : goal.invariant-loop-node
-invariant-loop-node l = (all : List Node) → FindsPlaces l.places all → l.parents.items ≡ map (place_above all) (take l.node-index l.nodes.items)
+invariant-loop-node l = (all : List Node) → FindsPlaces l.places all →
+    l.parents.items ≡ map (place_above all) (take l.node-index l.nodes.items)

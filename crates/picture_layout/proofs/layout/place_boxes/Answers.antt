@@ -24,7 +24,8 @@ nodes-preserved c = λ keys has.
 pub returns : goal.returns
 returns c = λ keys has.
     sym (append-nil c.nodes.boxes.items)
-    ∙ (ap (λ (ns : List Node). c.nodes.boxes.items ++ boxes_from c.args.start c.args.parents.now c.args.corners.now keys (length c.nodes.boxes.items) ns)
+    ∙ (ap (λ (ns : List Node). c.nodes.boxes.items ++ boxes_from c.args.start c.args.parents.now c.args.corners.now keys
+    (length c.nodes.boxes.items) ns)
     (sym (nil_from_length c.nodes.rest.now c.in_default.ensures.cases))
     ∙ (c.nodes.invariant keys has
     ∙ ap (boxes_from c.args.start c.args.parents.now c.args.corners.now keys 0) c.as_slice-rest.ensures.value))

@@ -7,6 +7,6 @@ use Rattle.picture_svg.proofs.bars.add_freed.Given as goal
 
 -- those so far
 abbrev pub invariant-loop-held : goal.invariant-loop-held
-invariant-loop-held l = (names : Names) → Keeps l.teller.session.tables names →
+invariant-loop-held l = (names : Names) → Keeps l.event_writer.session.tables names →
     map shown_in l.bars.items ≡ map shown_in l.initial.bars.items
     ++ map (freed_shown names) (filter (has_index l.fn.index) (take l.held-index l.freed))

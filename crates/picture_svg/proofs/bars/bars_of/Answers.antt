@@ -7,12 +7,12 @@ use Rattle.picture_svg.proofs.bars.bars_of.Goals as goal
 -- no index was looked at yet
 pub loop-index-init : goal.loop-index-init
 loop-index-init c = λ names keeps calls.
-    grind (arith, c.new-bars.ensures.items, shown-none c.args.teller.now.session.core names c.args.clients.now.items c.args.tree.now)
+    grind (arith, c.new-bars.ensures.items, shown-none c.args.event_writer.now.session.core names c.args.clients.now.items c.args.tree.now)
 
 -- one more index
 pub loop-index-preserved : goal.loop-index-preserved
 loop-index-preserved c = λ names keeps calls.
-    let s = c.args.teller.now.session.core in
+    let s = c.args.event_writer.now.session.core in
     let clients = c.args.clients.now.items in
     let tree = c.args.tree.now in
     c.in_ok-add_index.ensures names keeps calls
@@ -23,7 +23,7 @@ loop-index-preserved c = λ names keeps calls.
 pub returns : goal.returns
 returns c = λ names keeps calls.
     c.loop-index.invariant names keeps calls
-    ∙ ap (shown_to c.args.teller.now.session.core names c.args.clients.now.items c.args.tree.now) all
+    ∙ ap (shown_to c.args.event_writer.now.session.core names c.args.clients.now.items c.args.tree.now) all
   where
     all : c.loop-index.index ≡ INDICES
     all = omega (arith, c.loop-index.auto.index-end, c.loop-index-test.false)

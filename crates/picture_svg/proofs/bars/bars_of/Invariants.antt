@@ -1,11 +1,11 @@
 use Rattle.std.proofs.Common.{◌≡◌, map}
 use Rattle.script_labels.specs.Names.{Names}
 use Rattle.script_labels.specs.Tables.{Keeps}
-use Rattle.script_tales.specs.Called.{Calls}
+use Rattle.event_texts.specs.Called.{Calls}
 use Rattle.picture_svg.specs.Bars.{shown_in, shown_to}
 use Rattle.picture_svg.proofs.bars.bars_of.Given as goal
 
 -- those with the indexes so far
 abbrev pub invariant-loop-index : goal.invariant-loop-index
-invariant-loop-index l = (names : Names) → Keeps l.teller.session.tables names → Calls l.teller.labels names →
-    map shown_in l.bars.items ≡ shown_to l.teller.session.core names l.clients.items l.tree l.index
+invariant-loop-index l = (names : Names) → Keeps l.event_writer.session.tables names → Calls l.event_writer.labels names →
+    map shown_in l.bars.items ≡ shown_to l.event_writer.session.core names l.clients.items l.tree l.index

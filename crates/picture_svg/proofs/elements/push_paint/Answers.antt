@@ -1,6 +1,6 @@
 use Rattle.std.specs.Prelude.{codes}
 use Rattle.std.proofs.lemmas.Result.{on_ok_weaker}
-use Rattle.script_pictures.proofs.Texts.{after, last}
+use Rattle.picture_model.proofs.Texts.{after, last}
 use Rattle.picture_svg.specs.Elements.{attribute, paint_text, rounded_text}
 use Rattle.picture_svg.proofs.elements.push_paint.Goals as goal
 

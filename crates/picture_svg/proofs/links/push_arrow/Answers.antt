@@ -1,6 +1,6 @@
 use Rattle.std.specs.Prelude.{codes}
 use Rattle.std.proofs.lemmas.Result.{on_ok_weaker}
-use Rattle.script_pictures.proofs.Texts.{after, last}
+use Rattle.picture_model.proofs.Texts.{after, last}
 use Rattle.picture_layout.specs.Lengths.{capped_sum}
 use Rattle.picture_svg.specs.Elements.{circle_text}
 use Rattle.picture_svg.specs.Links.{svg_arrow, middle_row}

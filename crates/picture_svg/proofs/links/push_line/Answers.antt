@@ -1,6 +1,6 @@
 use Rattle.std.specs.Prelude.{codes}
 use Rattle.std.proofs.lemmas.Result.{on_ok_weaker}
-use Rattle.script_pictures.proofs.Texts.{after, last}
+use Rattle.picture_model.proofs.Texts.{after, last}
 use Rattle.picture_svg.specs.Elements.{attribute}
 use Rattle.picture_svg.specs.Links.{line_dashes, line_start, svg_line}
 use Rattle.picture_svg.proofs.links.push_line.Goals as goal
@@ -10,5 +10,5 @@ pub returns : goal.returns
 unfolding svg_line
 returns c = on_ok_weaker c.push_word.result
     (λ put. after _ (line_start c.args.way) _ _ _ c.in_ok-push_stroke.ensures
-    (last _ (attribute (codes "stroke-dasharray") (line_dashes c.args.node.now)) _ (rw c.dashes_of.ensures at put)))
+    (last _ (attribute (codes "stroke-dasharray") (line_dashes c.args.link)) _ (rw c.dashes_of.ensures at put)))
     c.push_word.ensures

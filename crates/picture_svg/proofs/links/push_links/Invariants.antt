@@ -1,7 +1,7 @@
 use Rattle.std.proofs.Common.{◌≡◌, ◌++◌, List, take}
 use Rattle.std.specs.List.{flat_map}
-use Rattle.script_pictures.specs.declared.travel.Travel.{Travel}
-use Rattle.script_pictures.specs.Travels.{FindsTravels}
+use Rattle.picture_model.specs.declared.failure_view.Travel.{Travel}
+use Rattle.picture_model.specs.Travels.{FindsTravels}
 use Rattle.picture_svg.specs.Links.{box_link}
 use Rattle.picture_svg.proofs.links.push_links.Given as goal
 

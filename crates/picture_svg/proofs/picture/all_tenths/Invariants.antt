@@ -2,11 +2,11 @@ use Rattle.std.proofs.Common.{◌≡◌, take}
 use Rattle.std.specs.List.{fold}
 use Rattle.script_labels.specs.Names.{Names}
 use Rattle.script_labels.specs.Tables.{Keeps}
-use Rattle.script_tales.specs.Called.{Calls}
+use Rattle.event_texts.specs.Called.{Calls}
 use Rattle.picture_svg.specs.SvgPictures.{tree_tenths}
 use Rattle.picture_svg.proofs.picture.all_tenths.Given as goal
 
 -- those of the trees so far
 abbrev pub invariant-loop-tree : goal.invariant-loop-tree
-invariant-loop-tree l = (names : Names) → Keeps l.teller.session.tables names → Calls l.teller.labels names →
+invariant-loop-tree l = (names : Names) → Keeps l.event_writer.session.tables names → Calls l.event_writer.labels names →
     l.tenths ≡ fold (tree_tenths names) 2000 (take l.tree-index l.trees)

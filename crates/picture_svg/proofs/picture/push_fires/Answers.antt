@@ -3,7 +3,8 @@ use Rattle.std.specs.Prelude.{codes}
 use Rattle.std.proofs.lemmas.List.{nil_from_length}
 use Rattle.picture_layout.specs.Lengths.{capped_sum}
 use Rattle.picture_svg.specs.Elements.{look}
-use Rattle.picture_svg.specs.SvgPictures.{fact_text, fires_bottom, fires_line, svg_fires}
+use Rattle.picture_svg.specs.SvgPictures.{fact_text, fires_bottom, svg_fires}
+use Rattle.picture_model.specs.BoxLines.{fired_words}
 use Rattle.picture_svg.proofs.Rows.{more, none}
 use Rattle.picture_svg.proofs.picture.push_fires.Goals as goal
 
@@ -14,11 +15,11 @@ firings-preserved c =
     let firing = c.in-Some.firing.now in
     let later = c.in-Some.later.now in (
       λ names keeps.
-          ap (λ (row : ℕ). c.push_fired.new.body.items ++ svg_fires names row later) c.plus-y.ensures
-          ∙ (more c.firings.body.items c.push_fired.new.body.items
-          (fact_text y (look 13 false (codes "#222222") false) (fires_line names firing))
+          ap (λ (row : ℕ). c.push_firing.new.body.items ++ svg_fires names row later) c.plus-y.ensures
+          ∙ (more c.firings.body.items c.push_firing.new.body.items
+          (fact_text y (look 13 false (codes "#222222") false) (fired_words names firing))
           (svg_fires names (capped_sum y 18) later) (svg_fires names y c.firings.rest.now)
-          (c.in_ok-push_fired.ensures names keeps)
+          (c.in_ok-push_firing.ensures names keeps)
           (ap (svg_fires names y) c.in-Some.ensures.cases.0)
           ∙ c.firings.invariant.0 names keeps),
       ap (λ (row : ℕ). fires_bottom row later) c.plus-y.ensures

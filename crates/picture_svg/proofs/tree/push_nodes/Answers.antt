@@ -1,6 +1,6 @@
 use Rattle.std.proofs.Common.{◌∙◌, ap, ◌+◌, ◌++◌, ℕ, max}
 use Rattle.std.specs.List.{flat_map}
-use Rattle.script_pictures.proofs.Texts.{after, last}
+use Rattle.picture_model.proofs.Texts.{after, last}
 use Rattle.picture_layout.specs.declared.layout.TheConstants.{BOX_HEIGHT}
 use Rattle.picture_layout.specs.Lengths.{capped_sum}
 use Rattle.picture_layout.specs.Layouts.{lowest_of, rightmost_of}

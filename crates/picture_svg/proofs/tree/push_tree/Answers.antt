@@ -1,5 +1,5 @@
 use Rattle.std.proofs.Common.{◌∙◌, ap, ◌++◌, ℕ, map}
-use Rattle.script_pictures.proofs.Texts.{after, last}
+use Rattle.picture_model.proofs.Texts.{after, last}
 use Rattle.picture_layout.specs.Lengths.{capped_sum}
 use Rattle.picture_svg.specs.Bars.{bars_bottom, bars_right, bars_text, shown_in, shown_of}
 use Rattle.picture_svg.specs.Trees.{bars_row, svg_nodes, svg_tree, tree_bottom, tree_right}
@@ -9,7 +9,7 @@ use Rattle.picture_svg.proofs.tree.push_tree.Goals as goal
 pub returns-clause-text : goal.returns-clause-text
 unfolding svg_tree
 returns-clause-text c = λ names keeps calls steps finds.
-    let s = c.args.teller.now.session.core in
+    let s = c.args.event_writer.now.session.core in
     let width : ℕ = c.args.width in
     let y : ℕ = c.args.above.bottom in
     let tree = c.args.tree.now in

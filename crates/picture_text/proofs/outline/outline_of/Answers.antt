@@ -9,5 +9,6 @@ returns c =
     let nodes = c.args.nodes.now.items in
     let all : c.len.result ≡ length nodes = omega arith in
     c.in_ok-push_waiting.ensures nodes c.in_ok-children.ensures
-    ∙ ((λ i. map line_of_row (c.new-rows.ensures.items i) ++ outline_from (all i) nodes (reverse (map branch_of c.in_ok-waiting.waiting.items)))
+    ∙ ((λ i. map line_of_row (c.new-rows.ensures.items i) ++ outline_from (all i) nodes
+    (reverse (map branch_of c.in_ok-waiting.waiting.items)))
     ∙ begun nodes (map branch_of c.in_ok-waiting.waiting.items) c.in_ok-waiting.ensures)

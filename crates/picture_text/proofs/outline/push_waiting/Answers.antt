@@ -9,7 +9,8 @@ use Rattle.picture_text.proofs.outline.push_waiting.Goals as goal
 pub loop-at-init : goal.loop-at-init
 loop-at-init c =
     let all : c.args.count - 0 ≡ c.args.count = omega arith in
-    λ nodes finds. ap (λ (n : ℕ). map line_of_row c.args.rows.now.items ++ outline_from n nodes (reverse (map branch_of c.args.waiting.now.items))) all
+    λ nodes finds. ap (λ (n : ℕ). map line_of_row c.args.rows.now.items ++ outline_from n nodes
+    (reverse (map branch_of c.args.waiting.now.items))) all
 
 -- one more line
 pub loop-at-preserved : goal.loop-at-preserved
@@ -19,10 +20,12 @@ loop-at-preserved c =
     let top : map branch_of c.loop-at.waiting.items ≡ map branch_of c.pop.new.self.items ++ t ∷ [] =
     ap (map branch_of) c.in-Some.ensures.items ∙ map-append branch_of c.pop.new.self.items (c.in-Some.next ∷ []) in
     λ nodes finds.
-    ap (λ (l : List Line). l ++ outline_from (c.args.count - (c.loop-at.at + 1)) nodes (reverse (map branch_of c.push_next.new.waiting.items)))
+    ap (λ (l : List Line). l ++ outline_from (c.args.count - (c.loop-at.at + 1)) nodes
+    (reverse (map branch_of c.push_next.new.waiting.items)))
     c.in_ok-push_next.ensures.row
     ∙ (line_more c.args.count nodes c.loop-at.at (map line_of_row c.loop-at.rows.items) t (map branch_of c.loop-at.waiting.items)
-    (map branch_of c.pop.new.self.items) (map branch_of c.push_next.new.waiting.items) within top (c.in_ok-push_next.ensures.below nodes finds)
+    (map branch_of c.pop.new.self.items) (map branch_of c.push_next.new.waiting.items) within top
+    (c.in_ok-push_next.ensures.below nodes finds)
     ∙ c.loop-at.invariant nodes finds)
 
 -- no node waits
@@ -42,5 +45,6 @@ pub returns : goal.returns
 returns c =
     let all : c.args.count ≤ c.loop-at.at = omega arith in
     λ nodes finds.
-    sym (lines_end c.args.count nodes c.loop-at.at (map line_of_row c.loop-at.rows.items) (reverse (map branch_of c.loop-at.waiting.items)) all)
+    sym (lines_end c.args.count nodes c.loop-at.at (map line_of_row c.loop-at.rows.items)
+    (reverse (map branch_of c.loop-at.waiting.items)) all)
     ∙ c.loop-at.invariant nodes finds

@@ -1,6 +1,6 @@
 use Rattle.std.proofs.Common.{◌≡◌, ◌-◌, ◌++◌, List, map, reverse}
 use Rattle.forest_store.specs.declared.node.Node.{Node}
-use Rattle.script_pictures.specs.Kin.{FindsChildren}
+use Rattle.picture_model.specs.Kin.{FindsChildren}
 use Rattle.picture_text.specs.Outlines.{branch_of, line_of_row, outline_from}
 use Rattle.picture_text.proofs.outline.push_waiting.Given as goal
 

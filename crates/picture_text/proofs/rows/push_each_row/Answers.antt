@@ -1,6 +1,6 @@
 use Rattle.std.proofs.Common.{arith, sym}
 use Rattle.picture_text.specs.TextPictures.{told_row}
-use Rattle.script_pictures.proofs.Loops.{one-more}
+use Rattle.picture_model.proofs.Loops.{one-more}
 use Rattle.picture_text.proofs.rows.push_each_row.Goals as goal
 
 -- one more comes last

@@ -2,12 +2,13 @@ use Rattle.std.proofs.Common.{◌≡◌, ◌++◌, take}
 use Rattle.std.specs.List.{flat_map}
 use Rattle.script_labels.specs.Names.{Names}
 use Rattle.script_labels.specs.Tables.{Keeps}
-use Rattle.script_tales.specs.Called.{Calls}
+use Rattle.event_texts.specs.Called.{Calls}
 use Rattle.picture_text.specs.TextPictures.{buffer_row}
 use Rattle.picture_text.proofs.rows.push_held_rows.Given as goal
 
 -- those so far
 abbrev pub invariant-loop-buffer : goal.invariant-loop-buffer
-invariant-loop-buffer l = (names : Names) → Keeps l.teller.session.tables names → Calls l.teller.labels names →
+invariant-loop-buffer l = (names : Names) → Keeps l.event_writer.session.tables names → Calls l.event_writer.labels names →
     l.text.items ≡ l.initial.text.items
-    ++ flat_map (buffer_row l.teller.session.core names l.clients.items l.width l.tree.strong.items) (take l.buffer-index l.tree.held.items)
+    ++ flat_map (buffer_row l.event_writer.session.core names l.clients.items l.width l.tree.strong.items)
+    (take l.buffer-index l.tree.held.items)

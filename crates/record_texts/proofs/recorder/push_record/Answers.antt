@@ -10,8 +10,10 @@ entries-preserved c =
       (
         scribe_after s c.label_of_next.result (c.entries.event + 1) c.in-Some.entry.now,
         c.in_ok-push_entry.ensures.calls s calls,
-        goes-on _ _ _ s c.entries.labels.now _ c.label_of_next.result (c.entries.event + 1) c.in-Some.entry.now c.entries.rest.now c.in-Some.later.now
-            c.entries.invariant.0.2 c.in-Some.ensures.cases.0 c.label_of_next.ensures (c.in_ok-push_entry.ensures.text s calls) c.labels_left-labels.ensures,
+        goes-on _ _ _ s c.entries.labels.now _ c.label_of_next.result
+            (c.entries.event + 1) c.in-Some.entry.now c.entries.rest.now c.in-Some.later.now
+            c.entries.invariant.0.2 c.in-Some.ensures.cases.0 c.label_of_next.ensures
+            (c.in_ok-push_entry.ensures.text s calls) c.labels_left-labels.ensures,
       ),
       omega (arith, c.entries.invariant.1, c.in-Some.ensures.cases.1),
     )

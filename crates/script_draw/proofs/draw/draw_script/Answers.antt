@@ -1,5 +1,5 @@
 use Rattle.std.proofs.Common.{refl}
-use Rattle.script_faults.specs.declared.fault.ReportFault.{ReportFault}
+use Rattle.report_io.specs.declared.fault.ReportFault.{ReportFault}
 use Rattle.script_draw.proofs.Outcomes.{draws-refused, draws-told, draws-unread}
 use Rattle.script_draw.proofs.draw.draw_script.Goals as goal
 

@@ -1,7 +1,7 @@
 use Rattle.std.proofs.Common.{sym, ap, ◌∙◌, subst}
 use Rattle.std.specs.Process.{exit_status}
 use Rattle.sm_names.specs.Bounds.{Bound}
-use Rattle.script_faults.proofs.Reporting.{reported_fault, reported_none}
+use Rattle.report_io.proofs.Reporting.{reported_fault, reported_none}
 use Rattle.script_draw.specs.Draws.{EndsDrawn, drawing_status}
 use Rattle.script_draw.proofs.Outcomes.{ends_drawn}
 use Rattle.script_draw.proofs.program.draw_to_exit.Goals as goal

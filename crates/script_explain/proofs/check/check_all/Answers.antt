@@ -2,7 +2,8 @@ use Rattle.script_explain.proofs.Comparing.{stopped-same}
 use Rattle.script_explain.proofs.check.check_all.Goals as goal
 
 pub returns-in-Err-clause-err : goal.returns-in-Err-clause-err
-returns-in-Err-clause-err g c = λ setting start. stopped-same setting _ c.args.script.now c.in-Err.fault (c.in-Err.ensures.err setting start)
+returns-in-Err-clause-err g c =
+    λ setting start. stopped-same setting _ c.args.script.now c.in-Err.fault (c.in-Err.ensures.err setting start)
 
 pub returns-in-Ok-put_out-clause-ok : goal.returns-in-Ok-put_out-clause-ok
 returns-in-Ok-put_out-clause-ok g c = λ setting start. record {

@@ -1,6 +1,6 @@
 use Rattle.std.proofs.Common.{refl}
 use Rattle.std.proofs.lemmas.Result.{IfErr-weaker, IfOk-weaker}
-use Rattle.script_faults.specs.declared.fault.ReportFault.{ReportFault}
+use Rattle.report_io.specs.declared.fault.ReportFault.{ReportFault}
 use Rattle.sm_script.specs.Scenes.{Setting}
 use Rattle.script_explain.specs.Comparisons.{IsJudged, ComparisonStopped}
 use Rattle.script_explain.proofs.Comparing.{checks-refused, checks-told, checks-unread}

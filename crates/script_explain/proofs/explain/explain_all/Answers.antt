@@ -1,31 +1,44 @@
-use Rattle.std.proofs.Common.{[]}
+use Rattle.std.proofs.Common.{[], refl}
 use Rattle.std.proofs.lemmas.Result.{on_ok_weaker, IfErr-weaker}
+use Rattle.script_lines.specs.Pieces.{whole_lines}
 use Rattle.script_explain.specs.Progress.{LinesHalted}
 use Rattle.script_explain.proofs.Outcomes.{told-cut, told-out}
+use Rattle.script_explain.proofs.Telling.{far-written}
 use Rattle.script_explain.proofs.explain.explain_all.Goals as goal
 
-pub returns-in-Ok : goal.returns-in-Ok
-returns-in-Ok g c = λ setting start.
+pub returns-in-Ok-clause-told : goal.returns-in-Ok-clause-told
+returns-in-Ok-clause-told g c = λ setting start.
     let before = g.W.Write.contents c.args.writer.now in
     let mid = g.W.Write.contents c.explain_lines-told.new.writer in
     let pending = c.explain_lines-told.new.explainer.text.items in
     told-out setting c.args.only_failures before mid (g.W.Write.contents c.put_out.new.writer) pending c.args.script.now
-    c.explain_lines-told.new.explainer.teller c.explain_lines-told.result
+    c.explain_lines-told.new.explainer.seen c.explain_lines-told.result
     (on_ok_weaker c.explain_lines-told.result (λ explained. explained setting before start) c.explain_lines-told.ensures.ok)
     c.explain_lines-told.ensures.whole
     (IfErr-weaker c.explain_lines-told.result _ (LinesHalted setting c.args.only_failures before mid pending c.args.script.now)
     (λ fault halted. halted setting before start) c.explain_lines-told.ensures.err)
     (rw c.deref.ensures.value at c.in-Ok.ensures.ok)
 
-pub returns-in-Err : goal.returns-in-Err
-returns-in-Err g c = λ setting start.
+pub returns-in-Err-clause-told : goal.returns-in-Err-clause-told
+returns-in-Err-clause-told g c = λ setting start.
     let before = g.W.Write.contents c.args.writer.now in
     let mid = g.W.Write.contents c.explain_lines-told.new.writer in
     let pending = c.explain_lines-told.new.explainer.text.items in
-    rw c.in-Err.ensures.err.0 (told-cut setting c.args.only_failures before mid (g.W.Write.contents c.put_out.new.writer) pending c.args.script.now
-    c.explain_lines-told.new.explainer.teller c.explain_lines-told.result
+    rw c.in-Err.ensures.err.0
+    (told-cut setting c.args.only_failures before mid (g.W.Write.contents c.put_out.new.writer) pending c.args.script.now
+    c.explain_lines-told.new.explainer.seen c.explain_lines-told.result
     (on_ok_weaker c.explain_lines-told.result (λ explained. explained setting before start) c.explain_lines-told.ensures.ok)
     c.explain_lines-told.ensures.whole
     (IfErr-weaker c.explain_lines-told.result _ (LinesHalted setting c.args.only_failures before mid pending c.args.script.now)
     (λ fault halted. halted setting before start) c.explain_lines-told.ensures.err)
     (rw c.deref.ensures.value at c.in-Err.ensures.err.1))
+
+-- no text is left
+pub returns-in-Ok-clause-far : goal.returns-in-Ok-clause-far
+returns-in-Ok-clause-far g c = on_ok_weaker c.explain_lines-told.result
+    (λ explained setting start.
+    let before = g.W.Write.contents c.args.writer.now in
+    far-written setting c.args.only_failures c.explain_lines-told.new.explainer.seen before
+    (g.W.Write.contents c.explain_lines-told.new.writer) c.explain_lines-told.new.explainer.text.items (whole_lines c.args.script.now)
+    (explained setting before start) (g.W.Write.contents c.put_out.new.writer) [] (rw c.deref.ensures.value at c.in-Ok.ensures.ok) refl)
+    c.explain_lines-told.ensures.ok

@@ -1,7 +1,7 @@
 use Rattle.std.proofs.Common.{Ok, sym, ap, ◌∙◌, subst}
 use Rattle.std.specs.Process.{exit_status}
 use Rattle.sm_names.specs.Bounds.{Bound}
-use Rattle.script_faults.proofs.Reporting.{reported_fault, reported_none}
+use Rattle.report_io.proofs.Reporting.{reported_fault, reported_none}
 use Rattle.script_explain.specs.Comparisons.{EndsChecked, checking_status}
 use Rattle.script_explain.proofs.Comparing.{ends_checked}
 use Rattle.script_explain.proofs.program.check_to_exit.Goals as goal

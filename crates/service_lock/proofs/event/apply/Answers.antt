@@ -47,7 +47,8 @@ invariant_of-state-2 g c =
     let shown = c.in_ok-reply.ensures.goes_on log c.state.invariant.shown in
     let goes = λ (strength : Strength) (moves : HandleMoves) (is : moves ≡ moves_by strength e.1 e.2).
     written _ _ _ _ strength e.0 e.1 e.2 log moves c.in_ok-reply.ensures.after.pool c.state.invariant.shown.legal shown.legal is in
-    let sound : StateInvariant g.E.Setup.pages g.E.Setup.limits c.step.new.self c.state.inside.limits (log ++ e ∷ []) c.write.new.self c.write-2.new.self c.write-3.new.self =
+    let sound : StateInvariant g.E.Setup.pages g.E.Setup.limits c.step.new.self c.state.inside.limits
+    (log ++ e ∷ []) c.write.new.self c.write-2.new.self c.write-3.new.self =
     record {
       asked = (c.in_ok-reply.ensures.after.pool ∙ c.state.invariant.asked.0, c.state.invariant.asked.1);
       shown = shown;
@@ -62,7 +63,8 @@ invariant_of-state-2 g c =
       weak = goes Weak c.moves_of-2.result c.moves_of-2.ensures c.state.inside.weak c.state.invariant.weak c.write-3.new.self
           c.write-3.ensures.written;
     } in
-    subst (λ l. StateInvariant g.E.Setup.pages g.E.Setup.limits c.step.new.self c.state.inside.limits l c.write.new.self c.write-2.new.self c.write-3.new.self) (sym items) sound
+    subst (λ l. StateInvariant g.E.Setup.pages g.E.Setup.limits c.step.new.self c.state.inside.limits l
+    c.write.new.self c.write-2.new.self c.write-3.new.self) (sym items) sound
 
 pub returns-clause-made : goal.returns-clause-made
 returns-clause-made g c =

@@ -10,10 +10,12 @@ pub returns-then-is_empty-clause-ok : goal.returns-then-is_empty-clause-ok
 returns-then-is_empty-clause-ok g c =
     subst (λ (front : List ℕ). OnOk c.take_line.result (Answered c.args.player.now (g.W.Write.contents c.args.writer.now)
     c.take_line.new.self (g.W.Write.contents c.take_line.new.writer) ((front ++ c.args.line.now) ∷ [])))
-    (sym (nil_from_length _ (omega (arith, c.args.front.now.ok, eqb-true _ 0 (sym c.is_empty.ensures ∙ c.if-is_empty.true))))) c.take_line.ensures.ok
+    (sym (nil_from_length _ (omega (arith, c.args.front.now.ok, eqb-true _ 0 (sym c.is_empty.ensures ∙ c.if-is_empty.true)))))
+    c.take_line.ensures.ok
 
 pub returns-then-is_empty-clause-err : goal.returns-then-is_empty-clause-err
 returns-then-is_empty-clause-err g c =
     subst (λ (front : List ℕ). IfErr c.take_line.result (Failed c.args.player.now (g.W.Write.contents c.args.writer.now)
     (g.W.Write.contents c.take_line.new.writer) ((front ++ c.args.line.now) ∷ [])))
-    (sym (nil_from_length _ (omega (arith, c.args.front.now.ok, eqb-true _ 0 (sym c.is_empty.ensures ∙ c.if-is_empty.true))))) c.take_line.ensures.err
+    (sym (nil_from_length _ (omega (arith, c.args.front.now.ok, eqb-true _ 0 (sym c.is_empty.ensures ∙ c.if-is_empty.true)))))
+    c.take_line.ensures.err

@@ -1,4 +1,5 @@
-use Rattle.std.proofs.Common.{◌≡◌, ◌<◌, ◌≤◌, [], ◌++◌, length, length-take, take, drop, arith, append-nil, take-append-drop, refl, sym, ap, ◌∙◌, subst}
+use Rattle.std.proofs.Common.{◌≡◌, ◌<◌, ◌≤◌, [], ◌++◌, length, length-take, take, drop}
+use Rattle.std.proofs.Common.{arith, append-nil, take-append-drop, refl, sym, ap, ◌∙◌, subst}
 use Rattle.std.proofs.lemmas.List.{take-take}
 use Rattle.std.specs.Io.KnownBytes.{Consumes}
 use Rattle.sm_script.proofs.Running.{come-more, runs-unread, runs-broken, runs-ended, read-end}

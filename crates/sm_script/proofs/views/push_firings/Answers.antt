@@ -8,8 +8,10 @@ loop-firing-init c = λ names keeps. sym (append-nil _)
 
 pub loop-firing-preserved : goal.loop-firing-preserved
 loop-firing-preserved c = λ names keeps.
-    shown-more (fired_text names) _ _ _ _ (c.loop-firing.invariant names keeps) _ _ c.loop-firing-test.true (c.in_ok-push_firing.ensures names keeps)
+    shown-more (fired_text names) _ _ _ _ (c.loop-firing.invariant names keeps) _ _ c.loop-firing-test.true
+    (c.in_ok-push_firing.ensures names keeps)
 
 pub returns : goal.returns
 returns c = λ names keeps.
-    shown-all (fired_text names) _ _ _ _ (c.loop-firing.invariant names keeps) c.args.text.now.items (codes "fired") c.loop-firing-test.false c.in_ok-push.ensures.ok
+    shown-all (fired_text names) _ _ _ _ (c.loop-firing.invariant names keeps) c.args.text.now.items
+    (codes "fired") c.loop-firing-test.false c.in_ok-push.ensures.ok

@@ -1,5 +1,5 @@
 use Rattle.std.proofs.Common.{◌≡◌, length, map}
-use Rattle.client_parting.specs.Gatherings.{ids_of}
+use Rattle.client_vanish.specs.Gatherings.{ids_of}
 use Rattle.thread_runs.specs.Gathered.{first_stray, line_client}
 use Rattle.thread_runs.proofs.report.first_stray.Given as goal
 

@@ -12,8 +12,8 @@ part_all-requires-clause-room g c =
       c.in-Ok.ensures.len,
       c.in-Ok.ensures.capacity,
       c.len.ensures,
-      c.as_slice.ensures.len,
-      c.as_slice.ensures.value,
+      c.as_slice-scripts.ensures.len,
+      c.as_slice-scripts.ensures.value,
       c.in-Ok-run_actors.ends.ok,
       AllZip-long _ _ _ c.in-Ok-run_actors.ensures.ran,
     )
@@ -24,6 +24,7 @@ returns-in-Some-clause-late g c = late-first c.in-Ok-run_actors.ends.items c.in-
 pub returns-in-None-clause-ok : goal.returns-in-None-clause-ok
 returns-in-None-clause-ok g c =
     IfOk-weaker c.tell.result.1 _ _
-    (λ text told. is-told _ _ _ c.args.list.now _ _ (rw c.as_slice.ensures.value at c.in-Ok-run_actors.ensures.ran) c.part_all.ensures.left
+    (λ text told. is-told _ _ _ _ c.args.list.now _ _
+    (rw c.as_slice-scripts.ensures.value at c.in-Ok-run_actors.ensures.ran) c.part_all.ensures.left
     (sym c.part_all.ensures.fault ∙ c.in-None.is) text.items told)
-    (rw c.as_slice-in-None.ensures.value at c.tell.ensures.ok)
+    (rw c.as_slice.ensures.value at c.tell.ensures.ok)

@@ -1,6 +1,6 @@
 use Rattle.std.proofs.Common.{◌∙◌, ◌++◌, ◌≡◌, ℕ, List, Some, ap, map, subst, sym}
 use Rattle.event_laws.specs.declared.line.ClientLine.{ClientLine}
-use Rattle.client_parting.specs.Gatherings.{ids_of}
+use Rattle.client_vanish.specs.Gatherings.{ids_of}
 use Rattle.thread_runs.specs.Gathered.{IsUntold, first_stray, line_client}
 use Rattle.thread_runs.specs.Runs.{told_text}
 use Rattle.thread_runs.proofs.ReportLaws.{stray_told, tells, untold}

@@ -14,7 +14,8 @@ returns-then-is_of-clause-ok c =
     let within : at < length qs = omega (arith, c.if-at-len.true, c.len.ensures) in
     let was : WaitList = c.index_mut.result.now in
     let now : WaitList = c.put.new.list in
-    elim c.put.result as (λ r. OnOk r ((f : Wish → ℕ) → weigh f (wishes_of now) ≡ f (c.args.condition, c.args.place) + weigh f (wishes_of was)) →
+    elim c.put.result as (λ r. OnOk r ((f : Wish → ℕ) →
+    weigh f (wishes_of now) ≡ f (c.args.condition, c.args.place) + weigh f (wishes_of was)) →
     OnOk r ((f : Wish → ℕ) → weigh f (entries_in (slice_set qs at now)) ≡ f (c.args.condition, c.args.place) + weigh f (entries_in qs))) [
       | Ok x ↦ λ more f. put_step f qs at was now c.args.condition c.args.place within c.index_mut.ensures.value (more f)
       | Err x ↦ λ more. tt

@@ -43,7 +43,8 @@ loop-at-preserved g c =
       );
       so_far = λ f. part_step f (weigh_met w f) c.loop-at.lists.items start c.loop-at.at c.index_mut.result.now c.take_due.new.list within
           there
-          c.loop-at.invariant.others c.index_mut.ensures.value (kept_part w f (wishes_of c.index_mut.result.now) (wishes_of c.take_due.new.list)
+          c.loop-at.invariant.others c.index_mut.ensures.value
+          (kept_part w f (wishes_of c.index_mut.result.now) (wishes_of c.take_due.new.list)
           (c.take_due.ensures.kept f)) (c.loop-at.invariant.so_far f);
       others = drop-set-lt (c.loop-at.at + 1) c.loop-at.lists.items c.loop-at.at c.take_due.new.list (omega arith)
           ∙ (drop_next c.loop-at.lists.items start c.loop-at.at c.index_mut.result.now within there c.loop-at.invariant.others).1;

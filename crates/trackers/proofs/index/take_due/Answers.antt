@@ -8,7 +8,8 @@ use Rattle.trackers.proofs.index.take_due.Goals as goal
 pub push_reserved-requires : goal.push_reserved-requires
 push_reserved-requires g c =
     let w : World = g.W.World.seen c.args.world.now in
-    let taken = taken_due w (wishes_of c.loop-place.list) (wishes_of c.pop_widest.new.list) c.in-Some.place c.in-Some.ensures.some (λ n. 1) in
+    let taken = taken_due w (wishes_of c.loop-place.list)
+    (wishes_of c.pop_widest.new.list) c.in-Some.place c.in-Some.ensures.some (λ n. 1) in
     omega (
       arith,
       c.requires,

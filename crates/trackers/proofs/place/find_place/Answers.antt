@@ -33,7 +33,8 @@ returns-else-at-places c =
       | else-at-places-via-then-at-places+else-id_at-id w ↦
           none_found slots c.args.fired.now c.args.places.now c.requires c.args.id c.partition_point-at.result parted (λ within d same.
           w.if-id_at-id.false (w.id_at.ensures
-          ∙ ap (λ (q : Place). (row_at slots c.args.fired.now q).id) (w.index-places-at.is ∙ get_or_default c.args.places.now c.partition_point-at.result w.index-places-at.result d within)
+          ∙ ap (λ (q : Place). (row_at slots c.args.fired.now q).id) (w.index-places-at.is
+          ∙ get_or_default c.args.places.now c.partition_point-at.result w.index-places-at.result d within)
           ∙ same))
       | else-at-places-via-else-at-places w ↦
           none_found slots c.args.fired.now c.args.places.now c.requires c.args.id c.partition_point-at.result parted (λ within d.

@@ -1,6 +1,7 @@
 use Rattle.std.proofs.Common.{subst, ◌∙◌, arith}
 use Rattle.std.proofs.lemmas.List.{drop_all}
-use Rattle.trackers.proofs.Walks.{Walked, stand_here, stands_within, stands_row, stands_step, counted_here, room_step, walked_rows, walked_fired}
+use Rattle.trackers.proofs.Walks.{Walked, stand_here, stands_within, stands_row, stands_step}
+use Rattle.trackers.proofs.Walks.{counted_here, room_step, walked_rows, walked_fired}
 use Rattle.trackers.proofs.walk.fire_due.Goals as goal
 
 -- the walk stands at a row, and there is room for its firing if it waits
@@ -12,7 +13,8 @@ visit-requires g c =
       within = within;
       room = λ d waits. omega (
         arith,
-        counted_here c.loop-at.rows.rows _ stands.row within (stands_row _ _ _ _ _ _ _ _ stands stands.row) (rw (stands_row _ _ _ _ _ _ _ _ stands d) at waits),
+        counted_here c.loop-at.rows.rows _ stands.row within (stands_row _ _ _ _ _ _ _ _ stands stands.row)
+            (rw (stands_row _ _ _ _ _ _ _ _ stands d) at waits),
         c.loop-at.invariant.room,
         c.loop-at.invariant.same,
       );

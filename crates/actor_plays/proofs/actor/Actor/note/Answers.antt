@@ -1,8 +1,8 @@
 use Rattle.std.proofs.Common.{◌+◌}
 use Rattle.actor_plays.proofs.actor.Actor.note.Goals as goal
 
-pub returns : goal.returns
-returns c = λ i. record {
+pub returns-clause-stage : goal.returns-clause-stage
+returns-clause-stage c = λ i. record {
   at = c.args.self.now.at + 1;
   known = c.in-Ok-note_reply.ensures.known i;
   made = c.in-Ok.ensures.items i;

@@ -5,4 +5,4 @@ use Rattle.actor_plays.proofs.play.Play.note.Goals as goal
 pub returns-in-Ok-clause-stages : goal.returns-in-Ok-clause-stages
 returns-in-Ok-clause-stages c =
     set_there c.args.self.now.actors.items c.args.actor c.index_mut.result.now c.note.new.self
-    (λ (s : Stage). stage_after s c.args.next c.args.asked.now c.args.reply) c.index_mut.ensures.value c.in_ok-note.ensures
+    (λ (s : Stage). stage_after s c.args.next c.args.asked.now c.args.reply) c.index_mut.ensures.value c.in_ok-note.ensures.stage

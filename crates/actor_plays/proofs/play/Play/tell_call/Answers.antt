@@ -4,6 +4,6 @@ use Rattle.actor_plays.proofs.play.Play.tell_call.Goals as goal
 pub returns-in-Ok-clause-told : goal.returns-in-Ok-clause-told
 returns-in-Ok-clause-told c = λ are.
     told_by c.args.self.now.entries.items c.push.new.self.items c.args.self.now.falls.items c.note_falls.new.falls.items
-    c.args.self.now.core c.take_told.new.core c.args.client c.args.call c.in_ok-told.told.reply c.in_ok-told.told.moments
+    c.args.self.now.core c.step_with_marks.new.core c.args.client c.args.call c.in_ok-told.told.reply c.in_ok-told.told.moments
     c.requires (c.in_ok-told.ensures.stepped.goes_on c.args.self.now.entries.items c.requires) c.in_ok-told.ensures.stages
-    c.in-Ok.ensures.items c.in_ok-note_falls.ensures are
+    c.in-Ok.ensures.items c.in_ok-note_falls.ensures.told are

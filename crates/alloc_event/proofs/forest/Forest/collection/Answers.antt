@@ -1,5 +1,6 @@
 -- The entry with the id is the collection.
-use Rattle.alloc_event.proofs.Common.{◌≡◌, Some, length, sym, ◌∙◌, ap, option_map, arith, shelf_of, shelves_of, collection_none, shelf_found, found_whole}
+use Rattle.alloc_event.proofs.Common.{◌≡◌, Some, length, sym, ◌∙◌, ap, option_map, arith, shelf_of}
+use Rattle.alloc_event.proofs.Common.{shelves_of, collection_none, shelf_found, found_whole}
 use Rattle.forest_store.specs.Forest.{summary_of}
 use Rattle.forest_store.proofs.shelves.Showing.{collection_some, few_given}
 use Rattle.alloc_event.proofs.forest.Forest.collection.Goals as goal

@@ -1,5 +1,7 @@
 -- The node leaves the table, and its key the entry of its collection.
-use Rattle.alloc_event.proofs.Common.{◌≡◌, not, map, true, false, None, is_some, refl, sym, ◌∙◌, ap, subst, arith, option_map_or, and_left, node_at, Entry, AreUnits, collection_in, nodes_with, shelf_of, shelves_of, is_of, is_over, Forest, AreServedByGiven, place_is, node_is, get_or_default, looked-kept, SameKeys-shown}
+use Rattle.alloc_event.proofs.Common.{◌≡◌, not, map, true, false, None, is_some, refl, sym, ◌∙◌, ap, subst, arith, option_map_or}
+use Rattle.alloc_event.proofs.Common.{and_left, node_at, Entry, AreUnits, collection_in, nodes_with, shelf_of, shelves_of, is_of}
+use Rattle.alloc_event.proofs.Common.{is_over, Forest, AreServedByGiven, place_is, node_is, get_or_default, looked-kept, SameKeys-shown}
 use Rattle.sm_names.proofs.SamenessLaws.{same_key-refl}
 use Rattle.forest_store.specs.Forest.{node_at as forest_node}
 use Rattle.forest_store.specs.Calm.{IsCounted}
@@ -33,7 +35,8 @@ invariant_of-self c =
     ∙ ap (λ (f : Forest). option_map_or is_over (forest_node f c.args.key) false) c.self.view_is ∙ c.requires.over in
     let out = taken c.self.inside.store.nodes.table c.take_out-node.new.table c.args.key c.take_out-node.result c.take_out-node.ensures.out
     c.take_out-node.ensures.was in
-    let drops = drops_one c.self.inside.store.nodes.table c.take_out-node.new.table c.args.key c.take_out-node.result c.take_out-node.ensures.was
+    let drops = drops_one c.self.inside.store.nodes.table c.take_out-node.new.table c.args.key
+    c.take_out-node.result c.take_out-node.ensures.was
     (and_left _ _ over) c.take_out-node.ensures.out.look in
     let none : node_at c.take_out-node.new.table c.args.key ≡ None =
     c.take_out-node.ensures.out.look c.args.key ∙ (rw (same_key-refl c.args.key) refl) in
@@ -52,7 +55,8 @@ invariant_of-self c =
           subst (IsCounted c.take_out-node.new.table)
           (get_or_default _ _ e old there ∙ sym c.index_mut.ensures.value) counted in
           recounted c.take_out-node.new.table old e shown refl refl own.garbage_known own)
-          (dropped_all c.self.inside.store.nodes.table c.take_out-node.new.table c.self.invariant.kept.named drops c.self.inside.store.entries.items
+          (dropped_all c.self.inside.store.nodes.table c.take_out-node.new.table c.self.invariant.kept.named
+          drops c.self.inside.store.entries.items
           c.self.invariant.kept.whole c.self.invariant.counted);
       units = rw same (subst (AreUnits c.self.inside.store.nodes.units.items) (sym (collections-without
           out c.self.invariant.kept.named (shelves_of c.self.inside.store.entries.items)))

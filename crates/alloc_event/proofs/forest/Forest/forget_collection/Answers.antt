@@ -1,5 +1,6 @@
 -- The entry has no node, and is removed.
-use Rattle.alloc_event.proofs.Common.{◌==◌, not, false, sym, ◌∙◌, ap, subst, arith, option_map_or, false≢true, AreUnits, Collection, shelves_of, AreServedByGiven, place_is, none_in, collection_none, collection_at, is_left}
+use Rattle.alloc_event.proofs.Common.{◌==◌, not, false, sym, ◌∙◌, ap, subst, arith, option_map_or, false≢true, AreUnits, Collection}
+use Rattle.alloc_event.proofs.Common.{shelves_of, AreServedByGiven, place_is, none_in, collection_none, collection_at, is_left}
 use Rattle.forest_store.proofs.shelves.Counted.{counted_removed}
 use Rattle.alloc_event.proofs.leaving.Emptying.{remove_shelf, collections_beside, kept-beside, left_none}
 use Rattle.forest_store.proofs.tallies.Slots.{units_some}
@@ -18,7 +19,8 @@ invariant_of-self c =
     let left = ap (λ f. option_map_or is_left (collection_at f c.args.id) false) c.self.view_is ∙ c.requires in
     record {
       kept = rw same (kept-beside _ c.self.invariant.kept
-          (left_none c.self.inside.store.nodes.table c.args.id (shelves_of c.self.inside.store.entries.items) c.self.invariant.kept.filed left));
+          (left_none c.self.inside.store.nodes.table c.args.id
+          (shelves_of c.self.inside.store.entries.items) c.self.invariant.kept.filed left));
       counted = rw c.remove.ensures.items (counted_removed _ _ _
           c.self.invariant.counted);
       units = rw same (subst (AreUnits c.self.inside.store.nodes.units.items)
@@ -33,11 +35,13 @@ pub returns-in-Some-clause-collections : goal.returns-in-Some-clause-collections
 returns-in-Some-clause-collections c =
     let told = sym (rw c.deref.ensures.value at c.place_of.ensures) ∙ c.in-Some.is in
     let same = ap shelves_of c.remove.ensures.items ∙ remove_shelf _ _ c.self.invariant.kept.rising told in
-    rw (same, ← c.self.view_is) (collections_beside c.self.inside.store.nodes.table c.args.id (shelves_of c.self.inside.store.entries.items))
+    rw (same, ← c.self.view_is)
+    (collections_beside c.self.inside.store.nodes.table c.args.id (shelves_of c.self.inside.store.entries.items))
 
 pub returns-in_default-clause-collections : goal.returns-in_default-clause-collections
 returns-in_default-clause-collections c =
-    let none = none_in c.args.id c.self.inside.store.entries.items (sym (rw c.deref.ensures.value at c.place_of.ensures) ∙ c.in_default.is) in
+    let none = none_in c.args.id c.self.inside.store.entries.items (sym (rw c.deref.ensures.value at c.place_of.ensures)
+    ∙ c.in_default.is) in
     let no = collection_none c.self.inside.store.nodes.table c.self.inside.store.entries.items c.args.id none in
     let left = ap (λ f. option_map_or is_left (collection_at f c.args.id) false) c.self.view_is ∙ c.requires in
     absurd (false≢true (sym (ap (λ o. option_map_or is_left o false) no) ∙ left))

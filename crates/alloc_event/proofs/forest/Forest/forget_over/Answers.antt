@@ -11,7 +11,8 @@ invariant_of-self c = record {
   counted = c.forget_over.ensures.counted;
   units = subst (AreUnits c.self.inside.store.nodes.units.items) (sym c.forget_over.ensures.collections)
       (units_over c.self.inside.store.nodes.units.items c.args.id _
-      (whole-map c.self.inside.store.nodes.table (shelves_of c.self.inside.store.entries.items) c.self.invariant.kept.whole) c.self.invariant.units);
+      (whole-map c.self.inside.store.nodes.table (shelves_of c.self.inside.store.entries.items) c.self.invariant.kept.whole)
+      c.self.invariant.units);
   given = subst AreServedByGiven (sym c.forget_over.ensures.collections) (given_over _ _ c.self.invariant.given);
 }
 

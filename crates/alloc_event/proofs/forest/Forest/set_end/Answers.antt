@@ -1,5 +1,8 @@
 -- One node is written, and the others stay.
-use Rattle.alloc_event.proofs.Common.{refl, sym, ◌∙◌, ◌≡◌, true, false, List, Some, is_some, map, ap, subst, false≢true, NodeKey, option_map_or, Table, node_at, Node, AreUnits, with_nodes, IsStored, Shelf, are_filed, forest_of, shelves_of, is_over, Forest, AreServedByGiven, node_is, Writes, table_with_node, on_collections, with_end}
+use Rattle.alloc_event.proofs.Common.{refl, sym, ◌∙◌, ◌≡◌, true, false, List, Some, is_some, map, ap, subst}
+use Rattle.alloc_event.proofs.Common.{false≢true, NodeKey, option_map_or, Table, node_at, Node, AreUnits, with_nodes}
+use Rattle.alloc_event.proofs.Common.{IsStored, Shelf, are_filed, forest_of, shelves_of, is_over, Forest}
+use Rattle.alloc_event.proofs.Common.{AreServedByGiven, node_is, Writes, table_with_node, on_collections, with_end}
 use Rattle.forest_store.specs.Forest.{node_at as forest_node}
 use Rattle.alloc_event.proofs.leaving.Ends.{ends-counted, ends-kept, ends-shown}
 use Rattle.forest_store.proofs.tallies.Slots.{units_with}

@@ -10,7 +10,8 @@ returns-in-Birth-clause-ok c =
     c.in-Birth.parent c.in-Birth.attached c.in-Birth.client c.in-Birth.event c.in_ok-key.ensures.ok.finishes
     c.in_ok-key.ensures.ok.gives in
     let told = subst (λ change.
-    Settled c.args.pool.now.size (total c.args.holds.now) (forest_of c.self.inside.store.nodes.table (shelves_of c.self.inside.store.entries.items))
+    Settled c.args.pool.now.size (total c.args.holds.now)
+    (forest_of c.self.inside.store.nodes.table (shelves_of c.self.inside.store.entries.items))
     (forest_of c.settle_birth.new.store.nodes.table (shelves_of c.settle_birth.new.store.entries.items)) c.args.collection change
     (Some c.in_ok-key.key)) (sym c.in-Birth.is) settled in
     subst (λ f. Settled c.args.pool.now.size (total c.args.holds.now) f (forest_of c.settle_birth.new.store.nodes.table

@@ -1,5 +1,6 @@
 -- The entry with the id is the collection.
-use Rattle.alloc_event.proofs.Common.{Some, sym, ◌∙◌, ap, option_map, collection_in, shelf_of, shelves_of, collection_none, shelf_found, found_whole, collection_is}
+use Rattle.alloc_event.proofs.Common.{Some, sym, ◌∙◌, ap, option_map, collection_in, shelf_of, shelves_of}
+use Rattle.alloc_event.proofs.Common.{collection_none, shelf_found, found_whole, collection_is}
 use Rattle.alloc_event.proofs.forest.Forest.snapshot.Goals as goal
 
 pub returns-in_default-clause-value : goal.returns-in_default-clause-value

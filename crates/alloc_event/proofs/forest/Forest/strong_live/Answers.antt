@@ -18,5 +18,6 @@ returns-in-Some c =
 pub returns-in-None : goal.returns-in-None
 returns-in-None c =
     rw (← c.self.view_is)
-    (sym (ap (λ o. option_map_or (λ (d : Collection). some_strong_live (members_of d.nodes)) o false) (collection_none c.self.inside.store.nodes.table
+    (sym (ap (λ o. option_map_or (λ (d : Collection). some_strong_live (members_of d.nodes)) o false)
+    (collection_none c.self.inside.store.nodes.table
     c.self.inside.store.entries.items c.args.id (sym (rw c.deref.ensures.value at c.in-None.ensures)))))

@@ -9,7 +9,8 @@ use Rattle.buffer_holds.specs.Stored.{OpensOne, one_more}
 use Rattle.buffer_holds.proofs.Invariant.{agree_after, agree_unchanged}
 use Rattle.buffer_holds.proofs.Opening.{Step-opened}
 use Rattle.buffer_holds.proofs.Outcomes.{by_outcome, at_ok, at_err, on_ok, ok-not-err}
-use Rattle.buffer_holds.proofs.SoundLemmas.{total_is, count_at-le-total, clients-le-length, one_row-le-clients, one_row-IsSome, no_row, kept_from_something}
+use Rattle.buffer_holds.proofs.SoundLemmas.{total_is, count_at-le-total, clients-le-length}
+use Rattle.buffer_holds.proofs.SoundLemmas.{one_row-le-clients, one_row-IsSome, no_row, kept_from_something}
 use Rattle.buffer_holds.proofs.Steps.{Step, sets_by}
 use Rattle.buffer_holds.proofs.holds.Holds.add_by_search.Goals.{After-open}
 use Rattle.buffer_holds.proofs.holds.Holds.add_by_search.Goals as goal
@@ -50,7 +51,8 @@ step : (c : After-open) → IsOk c.open.result →
     let hold = hold_of c.args.client c.args.buffer c.args.strength in
     let rows = c.self.inside.rows.entries in
     Step c.self.inside.limit rows c.open.new.rows.entries c.self.inside.tallies.entries c.open.new.tallies.entries hold
-    (Some (count_at rows hold + 1)) (Some (one_more (tally_at c.self.inside.tallies.entries hold.kind) (length c.open.new.rows.entries - length rows)))
+    (Some (count_at rows hold + 1))
+    (Some (one_more (tally_at c.self.inside.tallies.entries hold.kind) (length c.open.new.rows.entries - length rows)))
 step c ok =
     let hold = hold_of c.args.client c.args.buffer c.args.strength in
     let rows = c.self.inside.rows.entries in
@@ -68,10 +70,13 @@ invariant_of-self c =
     let tallies' = c.open.new.tallies.entries in
     let o = c.open.ensures in
     by_outcome c.open.result
-    (λ ok. agree_after _ _ c.open.new.most _ c.max-self-inside.result _ inside.places _ (spare rows') _ rows'.entries _ tallies' c.self.invariant
+    (λ ok. agree_after _ _ c.open.new.most _ c.max-self-inside.result _ inside.places _
+    (spare rows') _ rows'.entries _ tallies' c.self.invariant
     o.more o.bounded (omega arith) (o.places c.self.invariant.2) hold _ _ (step (goal.at.invariant_of-self c).After-open ok)
-    (at_ok ((tally_at inside.tallies.entries hold.kind).total + 1 ≤ c.open.new.most) c.open.result ok o.most) (λ later. absurd (omega arith)))
-    (λ err. agree_unchanged _ _ c.open.new.most _ c.max-self-inside.result _ inside.places _ (spare rows') _ rows'.entries _ tallies' c.self.invariant
+    (at_ok ((tally_at inside.tallies.entries hold.kind).total + 1 ≤ c.open.new.most) c.open.result ok o.most)
+    (λ later. absurd (omega arith)))
+    (λ err. agree_unchanged _ _ c.open.new.most _ c.max-self-inside.result _ inside.places _
+    (spare rows') _ rows'.entries _ tallies' c.self.invariant
     o.more o.bounded (omega arith) (o.places c.self.invariant.2)
     (at_err (rows'.entries ≡ inside.rows.entries) c.open.result err o.err_rows)
     (at_err (tallies' ≡ inside.tallies.entries) c.open.result err o.err_tallies))

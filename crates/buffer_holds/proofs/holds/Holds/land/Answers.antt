@@ -56,7 +56,8 @@ invariant_of-self-2 c =
     let some = lies _ _ _ c.self.invariant.0 c.args.client c.args.buffer c.args.strength c.self.view_is c.requires in
     let total = ap (λ (t : Tally). t.total) same in
     let more = c.len.result - c.len-before.result in
-    agree_after _ _ inside.most _ inside.newest _ c.saturating_sub-places.result _ _ _ _ _ _ c.self.invariant (omega arith) c.self.invariant.4
+    agree_after _ _ inside.most _ inside.newest _ c.saturating_sub-places.result _ _ _ _ _ _ c.self.invariant
+    (omega arith) c.self.invariant.4
     (omega arith) (c.raise.ensures.places (omega (arith, c.self.invariant.2))) hold _ (landed c.unwrap-tally.result.now more)
     (Step-landed _ _ _ c.self.invariant.0 c.args.client c.args.buffer c.args.strength c.self.view_is c.requires c.raise.new.rows.entries _
     c.unwrap-tally.result.now more same (omega (arith, c.len.ensures.len, c.len-before.ensures.len)) c.in-Ok.ensures.ok
@@ -71,7 +72,8 @@ returns-clause-landed c =
     let hold = hold_of c.args.client c.args.buffer c.args.strength in
     let same = kept (goal.at.returns-clause-landed c).After-unwrap-tally in
     let more = c.len.result - c.len-before.result in
-    let step = Step-landed _ _ _ c.self.invariant.0 c.args.client c.args.buffer c.args.strength c.self.view_is c.requires c.raise.new.rows.entries _
+    let step = Step-landed _ _ _ c.self.invariant.0 c.args.client c.args.buffer c.args.strength
+    c.self.view_is c.requires c.raise.new.rows.entries _
     c.unwrap-tally.result.now more same (omega (arith, c.len.ensures.len, c.len-before.ensures.len)) c.in-Ok.ensures.ok
     (row_written inside.tallies hold.kind c.tally_place.result c.tally_place.ensures.found c.unwrap-place.result c.unwrap-place.ensures
     c.get_index_mut.result c.get_index_mut.ensures.value c.get_index_mut.ensures.unique (landed c.unwrap-tally.result.now more)) in

@@ -34,7 +34,8 @@ overflow_sub-tally c =
       arith,
       c.if-not-lower.ensures.had.0 refl,
       count_at-le-total inside.limit inside.rows.entries inside.tallies.entries c.self.invariant.0 hold,
-      ap (λ (t : Tally). t.total) (tally_lent inside.tallies hold.kind c.tally_place.result c.tally_place.ensures.found c.unwrap-place.result c.unwrap-place.ensures
+      ap (λ (t : Tally). t.total)
+          (tally_lent inside.tallies hold.kind c.tally_place.result c.tally_place.ensures.found c.unwrap-place.result c.unwrap-place.ensures
           c.get_index_mut.result c.get_index_mut.ensures.value c.get_index_mut.ensures.unique c.unwrap-tally.result c.unwrap-tally.ensures),
     )
 
@@ -44,13 +45,15 @@ invariant_of-self-2 c =
     let hold = hold_of c.args.client c.args.buffer c.args.strength in
     let tally = c.unwrap-tally.result.now in
     let left : Tally = record tally { total = tally.total - 1 } in
-    let kept = tally_lent inside.tallies hold.kind c.tally_place.result c.tally_place.ensures.found c.unwrap-place.result c.unwrap-place.ensures
+    let kept = tally_lent inside.tallies hold.kind c.tally_place.result c.tally_place.ensures.found
+    c.unwrap-place.result c.unwrap-place.ensures
     c.get_index_mut.result c.get_index_mut.ensures.value c.get_index_mut.ensures.unique c.unwrap-tally.result c.unwrap-tally.ensures in
     let had = c.if-not-lower.ensures.had.0 refl in
     let among = count_at-le-total inside.limit inside.rows.entries inside.tallies.entries c.self.invariant.0 hold in
     let after = row_written inside.tallies hold.kind c.tally_place.result c.tally_place.ensures.found c.unwrap-place.result
     c.unwrap-place.ensures c.get_index_mut.result c.get_index_mut.ensures.value c.get_index_mut.ensures.unique left in (
-      sound_after (Step-lowered inside.limit inside.rows.entries c.lower.new.rows.entries inside.tallies.entries _ c.self.invariant.0 hold left
+      sound_after (Step-lowered inside.limit inside.rows.entries c.lower.new.rows.entries
+          inside.tallies.entries _ c.self.invariant.0 hold left
           after
           had (c.if-not-lower.ensures.lowered)
           (ap (λ (t : Tally). t.clients) (sym kept)) (omega (arith, ap (λ (t : Tally). t.total) kept))
@@ -69,7 +72,8 @@ returns-clause-closed c =
     let hold = hold_of c.args.client c.args.buffer c.args.strength in
     let tally = c.unwrap-tally.result.now in
     let left : Tally = record tally { total = tally.total - 1 } in
-    let kept = tally_lent inside.tallies hold.kind c.tally_place.result c.tally_place.ensures.found c.unwrap-place.result c.unwrap-place.ensures
+    let kept = tally_lent inside.tallies hold.kind c.tally_place.result c.tally_place.ensures.found
+    c.unwrap-place.result c.unwrap-place.ensures
     c.get_index_mut.result c.get_index_mut.ensures.value c.get_index_mut.ensures.unique c.unwrap-tally.result c.unwrap-tally.ensures in
     let had = c.if-not-lower.ensures.had.0 refl in
     let among = count_at-le-total inside.limit inside.rows.entries inside.tallies.entries c.self.invariant.0 hold in

@@ -19,7 +19,8 @@ pub insert_run-requires-clause-none : goal.insert_run-requires-clause-none
 insert_run-requires-clause-none c =
     let spare = rw (← c.self.view_is) at c.requires.spare in
     c.index_mut-other.ensures.value
-    ∙ c.self.invariant.empty (c.len-last.result - 1) c.index_mut-other.result.now (omega (arith, spare, c.len-last.ensures, c.self.inside.spare.ok.0))
+    ∙ c.self.invariant.empty (c.len-last.result - 1) c.index_mut-other.result.now
+    (omega (arith, spare, c.len-last.ensures, c.self.inside.spare.ok.0))
 
 pub invariant_of-self : goal.invariant_of-self
 invariant_of-self c =

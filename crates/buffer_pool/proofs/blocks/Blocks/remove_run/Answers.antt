@@ -58,7 +58,8 @@ invariant_of-self c =
     blocks-gone c.self.inside.used.items c.self.inside.spare.items c.args.spot.block c.remove-block.result _ _ c.self.inside.used.cap
     c.self.inside.spare.cap _ _ (gone c) taken.0
     (c.remove-block.ensures.items ∙ remove-set c.self.inside.used.items c.args.spot.block c.remove_run.new.self)
-    c.push_reserved.ensures.items (omega (arith, c.remove-block.ensures.capacity)) (omega (arith, c.push_reserved.ensures.capacity)) c.self.invariant
+    c.push_reserved.ensures.items (omega (arith, c.remove-block.ensures.capacity))
+    (omega (arith, c.push_reserved.ensures.capacity)) c.self.invariant
 
 pub returns-then-len-eq0-clause-no_fewer : goal.returns-then-len-eq0-clause-no_fewer
 returns-then-len-eq0-clause-no_fewer c =

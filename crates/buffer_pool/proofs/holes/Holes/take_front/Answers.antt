@@ -8,5 +8,6 @@ pub invariant_of-self : goal.invariant_of-self
 invariant_of-self c =
     let k = subst (λ (b : Blocked). IsPassed c.args.pages_each c.seek-found.result b.lists) (sym c.seek-found.ensures.same)
     c.seek-found.ensures.passed in
-    passed-taken c.args.pages_each c.shorten-front.result.count c.seek-found.result c.seek-found.new.blocks.lists c.shorten-front.new.blocks.lists k
+    passed-taken c.args.pages_each c.shorten-front.result.count c.seek-found.result
+    c.seek-found.new.blocks.lists c.shorten-front.new.blocks.lists k
     c.shorten-front.ensures.changed.front c.shorten-front.ensures.changed.items_are c.shorten-front.ensures.within

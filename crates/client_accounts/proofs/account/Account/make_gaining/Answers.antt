@@ -8,4 +8,5 @@ use Rattle.client_accounts.proofs.account.Account.make_gaining.Goals as goal
 pub give_gain-requires-clause-has : goal.give_gain-requires-clause-has
 give_gain-requires-clause-has g c =
     subst (λ (gain : Option Strength). SameHandles c.apply_and_count.new.self.units (with_gain gain no_amounts)) (sym c.gained.ensures)
-    (has_gained c.args.call c.in-Ok.reply c.args.self.now.units c.apply_and_count.new.self.units c.requires.call c.requires.none c.in-Ok.ensures.counts)
+    (has_gained c.args.call c.in-Ok.reply c.args.self.now.units c.apply_and_count.new.self.units
+    c.requires.call c.requires.none c.in-Ok.ensures.counts)

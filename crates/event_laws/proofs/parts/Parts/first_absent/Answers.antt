@@ -3,7 +3,8 @@ use Rattle.std.proofs.lemmas.Grind.{common_steps}
 use Rattle.event_laws.specs.Members.{is_among, makes_client}
 use Rattle.event_laws.proofs.MemberLaws.{marked_there, read_next}
 use Rattle.event_laws.proofs.parts.Parts.first_absent.Goals as goal
-use Rattle.event_laws.proofs.parts.Parts.first_absent.Goals.{else-makes_client-via-then-makes_client+else-not-index, else-makes_client-via-else-makes_client}
+use Rattle.event_laws.proofs.parts.Parts.first_absent.Goals.{else-makes_client-via-then-makes_client+else-not-index}
+use Rattle.event_laws.proofs.parts.Parts.first_absent.Goals.{else-makes_client-via-else-makes_client}
 
 pub loop-entry-preserved : goal.loop-entry-preserved
 loop-entry-preserved c =
@@ -12,7 +13,8 @@ loop-entry-preserved c =
     let more : length c.loop-entry.rest.now ≡ length c.in-Some.later.now + 1 = rw on (omega arith) in
     let there : makes_client c.in-Some.entry.now ≡ true → is_among c.args.ids.now (c.loop-entry.at + 1) ≡ true =
     elim c.else-makes_client.branch [
-      | else-makes_client-via-then-makes_client+else-not-index w ↦ λ join. marked_there _ c.args.ids.now c.loop-entry.at w.index.result.now so.marks
+      | else-makes_client-via-then-makes_client+else-not-index w ↦
+          λ join. marked_there _ c.args.ids.now c.loop-entry.at w.index.result.now so.marks
           (omega (arith, so.many, so.at, more)) w.index.ensures w.if-not-index.false
       | else-makes_client-via-else-makes_client w ↦ λ join. let no : makes_client c.in-Some.entry.now ≡ false =
           sym c.makes_client.ensures ∙ w.if-makes_client.false in cc

@@ -1,28 +1,40 @@
 -- What the last goals of `drop_in_place` have in common: the entry that was read is the one that is changed, and nothing is forced.
-use Rattle.forest_steps.proofs.Common.{◌≡◌, ◌∙◌, ◌&&◌, ◌⊎◌, ◌++◌, ℕ, List, nat_lt, not, false, true, None, Some, Handles, Node, Table, inl, inr, refl, set, subst, sym, ap, lt-ltb, filter, total, Entry, forest_of, nodes_with, place_in, shelves_of, get_or_default, AreCounted, IsCounted, decided, has_given_root, beside, by_page, is_held_strongly, is_out, pages_held, counted_set}
+use Rattle.forest_steps.proofs.Common.{◌≡◌, ◌∙◌, ◌&&◌, ◌⊎◌, ◌++◌, ℕ, List, nat_lt, not, false, true, None, Some, Handles, Node}
+use Rattle.forest_steps.proofs.Common.{Table, inl, inr, refl, set, subst, sym, ap, lt-ltb, filter, total, Entry, forest_of}
+use Rattle.forest_steps.proofs.Common.{nodes_with, place_in, shelves_of, get_or_default, AreCounted, IsCounted, decided}
+use Rattle.forest_steps.proofs.Common.{has_given_root, beside, by_page, is_held_strongly, is_out, pages_held, counted_set}
 use Rattle.forest_store.proofs.leaving.EntryAt.{place_told}
 use Rattle.forest_steps.proofs.changes.Dropped.{IsReturned, decides_none, one_entry, pool_at}
-use Rattle.forest_steps.proofs.dropped.drop_in_place.Goals.{After-assert_disjoint-2, else-not-strong_live-via-then-not-strong_live+else-is_abandoned, else-not-strong_live-via-else-not-strong_live}
+use Rattle.forest_steps.proofs.dropped.drop_in_place.Goals.{After-assert_disjoint-2}
+use Rattle.forest_steps.proofs.dropped.drop_in_place.Goals.{else-not-strong_live-via-then-not-strong_live+else-is_abandoned}
+use Rattle.forest_steps.proofs.dropped.drop_in_place.Goals.{else-not-strong_live-via-else-not-strong_live}
 
 module _ (c : After-assert_disjoint-2) where
+  -- the open handles
   abbrev handles : Handles
   handles = total c.args.holds.now
 
+  -- the table of nodes
   abbrev t : Table Node
   t = c.args.table.now
 
+  -- the collections
   abbrev es : List Entry
   es = c.args.entries.now.items
 
+  -- the collection of the buffer
   abbrev id : ℕ
   id = c.args.buffer.collection
 
+  -- the place of the collection
   abbrev at : ℕ
   at = c.in-Some.at
 
+  -- the collection as it was
   abbrev old : Entry
   old = c.index_mut.result.now
 
+  -- the collection without the buffer's pages
   abbrev new : Entry
   new = record (c.index_mut.result.now) { held = c.free_if_home.new.held }
 

@@ -1,5 +1,8 @@
 -- What the last goals of `allocate_root` have in common: the collection with the effect, and then with its root's unit allocated or lost.
-use Rattle.forest_steps.proofs.Common.{◌≡◌, ◌∙◌, true, List, [], Some, refl, set, sym, ap, subst, total, Handles, NodeKey, Table, Change, Effect, Entry, Node, Unit, place_in, shelves_of, get_or_default, Holdings, IsOutcomeIn, StoreAgrees, IsPlace, place_is, Closes, IsPlanned, IsRooted, IsAllocationOutcome, comes_first, EffectMade, AfterEffect, MidEvent}
+use Rattle.forest_steps.proofs.Common.{◌≡◌, ◌∙◌, true, List, [], Some, refl, set, sym, ap, subst, total, Handles, NodeKey}
+use Rattle.forest_steps.proofs.Common.{Table, Change, Effect, Entry, Node, Unit, place_in, shelves_of, get_or_default}
+use Rattle.forest_steps.proofs.Common.{Holdings, IsOutcomeIn, StoreAgrees, IsPlace, place_is, Closes, IsPlanned, IsRooted}
+use Rattle.forest_steps.proofs.Common.{IsAllocationOutcome, comes_first, EffectMade, AfterEffect, MidEvent}
 use Rattle.forest_steps.specs.declared.initial_allocation.Plan.{Plan}
 use Rattle.forest_steps.proofs.mid_event.Changing.{affected_on}
 use Rattle.forest_steps.proofs.mid_event.Stepping.{begins_at, node_there}
@@ -7,15 +10,19 @@ use Rattle.forest_steps.proofs.mid_event.RootOutcome.{coming_mid, outcome_root, 
 use Rattle.forest_steps.proofs.initial_allocation.allocate_root.Goals.{After-finish_event-arg-3-1}
 
 module _ (c : After-finish_event-arg-3-1) where
+  -- the open handles
   abbrev handles : Handles
   handles = total c.args.holds.now
 
+  -- the table of nodes
   abbrev t : Table Node
   t = c.args.store.now.nodes.table
 
+  -- the counts of units
   abbrev us : List Unit
   us = c.args.store.now.nodes.units.items
 
+  -- the collections
   abbrev es : List Entry
   es = c.args.store.now.entries.items
 
@@ -23,18 +30,23 @@ module _ (c : After-finish_event-arg-3-1) where
   abbrev old : Entry
   old = c.index-entry.result.now
 
+  -- the collection with the effect made
   abbrev mid : Entry
   mid = c.make_effect.new.entry
 
+  -- the collection once it is allocated
   abbrev new : Entry
   new = c.settle_first.new.entry
 
+  -- the key of the node with the effect
   abbrev key : NodeKey
   key = c.args.made.now.key
 
+  -- the effect
   abbrev effect : Effect
   effect = c.args.made.now.effect
 
+  -- the places of the buffers
   abbrev plan : Plan
   plan = c.in-Some-planned.plan
 

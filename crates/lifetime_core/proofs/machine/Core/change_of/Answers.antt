@@ -37,13 +37,16 @@ returns-clause-may c =
       forest = c.self.inside.contents.forest;
       holds = c.self.inside.contents.holds;
       trackers = c.self.inside.contents.trackers;
-    }) c.args.self.now c.args.client c.args.call.now c.decide.result.reply c.self.view_is (core_known c.self.inside.contents.pool _ c.self.invariant)
+    }) c.args.self.now c.args.client c.args.call.now c.decide.result.reply c.self.view_is
+    (core_known c.self.inside.contents.pool _ c.self.invariant)
     c.decide.ensures.reply w (sym e ∙ c.decide.ensures.work)).may))
 
 pub returns-clause-room : goal.returns-clause-room
 returns-clause-room c =
-    subst (λ (o : Option (ℕ × Change)). IfSome o (λ w. leaves_tracker_room w.1 (collection_or_new c.args.self.now.forest w.0).nodes ≡ true)) (sym c.change_in.ensures)
-    (of_pair (λ id change. leaves_tracker_room change (collection_or_new c.args.self.now.forest id).nodes ≡ true) (work_in c.decide.result.task)
+    subst (λ (o : Option (ℕ × Change)). IfSome o (λ w. leaves_tracker_room w.1 (collection_or_new c.args.self.now.forest w.0).nodes
+    ≡ true)) (sym c.change_in.ensures)
+    (of_pair (λ id change. leaves_tracker_room change (collection_or_new c.args.self.now.forest id).nodes
+    ≡ true) (work_in c.decide.result.task)
     (λ w e. (is_fitting (record {
       pool = c.self.inside.contents.pool.size;
       limits = c.self.inside.limits;
@@ -52,7 +55,8 @@ returns-clause-room c =
       forest = c.self.inside.contents.forest;
       holds = c.self.inside.contents.holds;
       trackers = c.self.inside.contents.trackers;
-    }) c.args.self.now c.args.client c.args.call.now c.decide.result.reply c.self.view_is (core_known c.self.inside.contents.pool _ c.self.invariant)
+    }) c.args.self.now c.args.client c.args.call.now c.decide.result.reply c.self.view_is
+    (core_known c.self.inside.contents.pool _ c.self.invariant)
     c.decide.ensures.reply w (sym e ∙ c.decide.ensures.work)).room))
 
 pub returns-clause-fresh : goal.returns-clause-fresh
@@ -69,5 +73,6 @@ returns-clause-fresh c =
       forest = c.self.inside.contents.forest;
       holds = c.self.inside.contents.holds;
       trackers = c.self.inside.contents.trackers;
-    }) c.args.self.now c.args.client c.args.call.now c.decide.result.reply c.self.view_is (core_known c.self.inside.contents.pool _ c.self.invariant)
+    }) c.args.self.now c.args.client c.args.call.now c.decide.result.reply c.self.view_is
+    (core_known c.self.inside.contents.pool _ c.self.invariant)
     c.decide.ensures.reply w (sym e ∙ c.decide.ensures.work)).fresh))

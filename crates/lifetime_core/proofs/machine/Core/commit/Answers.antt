@@ -25,16 +25,16 @@ take_effect-requires c =
     let b = begun (goal.at.take_effect-requires c).After-changes_nothing in
     record {
       clients = (known (goal.at.take_effect-requires c).After-changes_nothing).rising;
-      handles = moves _ _ _ _ c.args.decision.now.reply _ _ b;
+      handles = moves _ _ _ _ c.args.decision.reply _ _ b;
       may = b.may;
       places = c.self.invariant.whole.places;
       asks = asks_only s c.args.client _ _ _ b.work;
       out = (known (goal.at.take_effect-requires c).After-changes_nothing).out;
       pool = c.self.invariant.whole.pages;
-      rising = above _ _ _ _ c.args.decision.now.reply _ _ b;
-      room = fits _ _ _ _ c.args.decision.now.reply _ _ b;
-      alone = alone _ _ _ _ c.args.decision.now.reply _ _ b;
-      lands = lands _ _ _ _ c.args.decision.now.reply _ _ b;
+      rising = above _ _ _ _ c.args.decision.reply _ _ b;
+      room = fits _ _ _ _ c.args.decision.reply _ _ b;
+      alone = alone _ _ _ _ c.args.decision.reply _ _ b;
+      lands = lands _ _ _ _ c.args.decision.reply _ _ b;
     }
 
 -- the call changes nothing, and the fields are still whole
@@ -44,7 +44,7 @@ invariant_of-self c =
     let i = idle (goal.at.invariant_of-self c).After-changes_nothing c.if-changes_nothing.true in
     let next : c.next_event-self-inside.result ≡ s.events + 1 =
     c.next_event-self-inside.ensures ∙ ap (λ (x : State). x.events + 1) (sym c.self.view_is) in
-    rw next (core_goes_on c.self.inside.contents.pool s (further _ _ _ _ i) c.args.client c.args.call.now c.args.decision.now.reply
+    rw next (core_goes_on c.self.inside.contents.pool s (further _ _ _ _ i) c.args.client c.args.call.now c.args.decision.reply
     (step_answers _ _ _ _ _ None None i.begins (parts_of s) i.takes) (idle_follows _ _ _ _ i) c.self.invariant c.self.inside.contents.pool
     (omega arith) (omega arith) c.self.invariant.whole.pages refl
     c.self.invariant.whole.places)
@@ -110,7 +110,7 @@ invariant_of-self-2 c =
     c.put_end.new.forest c.sweep.new.trackers c.put_end.ensures.collections c.put_end.ensures.keys c.sweep.ensures in
     subst (λ (pages : ℕ). IsCore c.take_effect.new.contents.pool (record next { pool = pages })) (sym c.take_effect.ensures.size)
     (core_goes_on c.self.inside.contents.pool s next c.args.client c.args.call.now
-    (with_key c.args.decision.now.reply c.in-Ok.key)
+    (with_key c.args.decision.reply c.in-Ok.key)
     (step_answers _ _ _ _ _ _ _ b parts c.in-Ok.ensures.ok)
     (step_follows _ _ _ _ _ _ _ b parts c.in-Ok.ensures.ok c.carried_end-carried.result c.carried_end-carried.ensures
     c.put_end.new.forest c.sweep.new.trackers c.put_end.ensures.collections c.put_end.ensures.keys c.sweep.ensures)

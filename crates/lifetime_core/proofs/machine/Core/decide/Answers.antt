@@ -6,7 +6,8 @@ use Rattle.lifetime_core.proofs.machine.Core.decide.Goals as goal
 pub answer-reply-requires : goal.answer-reply-requires
 answer-reply-requires c = record {
   law = c.traits_of-traits.ensures.law;
-  end = end_is c.args.self.now c.args.call.now _ _ c.key_of-named.ensures c.named-node.ensures ∙ sym (c.with_end.ensures.value c.args.self.now);
+  end = end_is c.args.self.now c.args.call.now _ _ c.key_of-named.ensures c.named-node.ensures
+      ∙ sym (c.with_end.ensures.value c.args.self.now);
   unspent = c.with_end.ensures.unspent;
 }
 

@@ -5,11 +5,11 @@ use Rattle.lifetime_core.proofs.machine.Core.decide_effect.Goals as goal
 -- the end that is asked about is that of the node that the call names
 pub effect-reply-requires : goal.effect-reply-requires
 effect-reply-requires c =
-    end_is c.args.self.now c.args.call.now _ _ c.key_of-named.ensures c.named-node.ensures ∙ sym (c.with_end.ensures.value c.args.self.now)
+    end_is c.args.self.now c.args.call.now _ _ c.requires.key c.requires.node ∙ sym (c.with_end.ensures.value c.args.self.now)
 
 pub decide_answered-requires : goal.decide_answered-requires
 decide_answered-requires c = record {
-  key = sym c.key_of-named.ensures;
-  node = names_it c.args.self.now c.args.call.now _ _ c.key_of-named.ensures c.named-node.ensures;
-  answered = c.effect-reply.ensures ∙ c.requires;
+  key = sym c.requires.key;
+  node = names_it c.args.self.now c.args.call.now _ _ c.requires.key c.requires.node;
+  answered = c.effect-reply.ensures ∙ c.requires.effect;
 }

@@ -32,7 +32,8 @@ pub invariant_of-self : goal.invariant_of-self
 invariant_of-self c =
     let old : TrackerTable = c.self.inside.contents.trackers in
     either_way c.forget_fired.result old c.forget_fired.new.self
-    (λ (t : TrackerTable). IsCore c.self.inside.contents.pool (core_with c.self.inside t)) c.forget_fired.ensures.ok c.forget_fired.ensures.err
+    (λ (t : TrackerTable). IsCore c.self.inside.contents.pool (core_with c.self.inside t))
+    c.forget_fired.ensures.ok c.forget_fired.ensures.err
     (core_forgot c.self.inside.contents.pool (core_with c.self.inside old) c.self.invariant) c.self.invariant
 
 pub returns-clause-forgot : goal.returns-clause-forgot
@@ -40,7 +41,8 @@ returns-clause-forgot c =
     on_ok_weaker c.forget_fired.result (λ new. ap (core_with c.self.inside) new ∙ ap forgetting c.self.view_is) c.forget_fired.ensures.ok
 
 pub returns-clause-kept : goal.returns-clause-kept
-returns-clause-kept c = on_err_weaker c.forget_fired.result (λ new. ap (core_with c.self.inside) new ∙ c.self.view_is) c.forget_fired.ensures.err
+returns-clause-kept c = on_err_weaker c.forget_fired.result (λ new. ap (core_with c.self.inside) new
+    ∙ c.self.view_is) c.forget_fired.ensures.err
 
 -- no history tells which firings were forgotten
 pub returns-clause-shows : goal.returns-clause-shows

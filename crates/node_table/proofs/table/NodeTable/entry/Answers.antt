@@ -14,7 +14,8 @@ shows : (g : _) (c : Then-entry-key g) → Shows c.args.self.now c.args.key (Som
 shows g c =
     let at : get c.self.inside.slots c.args.key.slot ≡ Some (Taken c.in-Some-Taken.entry) = search rules in
     let same : c.in-Some-Taken.entry.generation ≡ c.args.key.generation = search rules in
-    entry-shows c.self.inside.slots.slots c.self.inside.nexts.items c.self.inside.first c.self.inside.count c.self.inside.limit c.self.invariant
+    entry-shows c.self.inside.slots.slots c.self.inside.nexts.items c.self.inside.first
+    c.self.inside.count c.self.inside.limit c.self.invariant
     c.self.inside.slots.vacant_key c.args.self.now c.self.view_is c.args.key (Some c.in-Some-Taken.entry) (ap entry_in at)
     (c.self.invariant.stamped c.args.key.slot c.args.key.generation (ap (λ o. stamp_in (entry_in o)) at ∙ ap Some same))
 
@@ -34,15 +35,18 @@ pub returns-then-entry-key-clause-next : goal.returns-then-entry-key-clause-next
 returns-then-entry-key-clause-next g c some =
     let at : get c.self.inside.slots c.args.key.slot ≡ Some (Taken c.in-Some-Taken.entry) = search rules in
     sym (ap (λ o. link_in (λ e. e.next) (entry_in o)) at)
-    ∙ next_shown c.self.inside.slots.slots c.self.inside.nexts.items c.self.inside.first c.self.inside.count c.self.inside.limit c.self.invariant
+    ∙ next_shown c.self.inside.slots.slots c.self.inside.nexts.items c.self.inside.first
+    c.self.inside.count c.self.inside.limit c.self.invariant
     c.self.inside.slots.vacant_key c.args.self.now c.self.view_is c.args.key some
 
 -- another entry is not
 absent : (g : _) (c : Else-entry-key g) → row_at c.args.self.now c.args.key ≡ None
 absent g c =
     let at : get c.self.inside.slots c.args.key.slot ≡ Some (Taken c.in-Some-Taken.entry) = search rules in
-    not-there c.self.inside.slots.slots c.self.inside.nexts.items c.self.inside.first c.self.inside.count c.self.inside.limit c.self.invariant
-    c.self.inside.slots.vacant_key c.args.self.now c.self.view_is c.args.key c.in-Some-Taken.entry (ap entry_in at) (λ same. absurd (grind (arith, common_steps)))
+    not-there c.self.inside.slots.slots c.self.inside.nexts.items c.self.inside.first
+    c.self.inside.count c.self.inside.limit c.self.invariant
+    c.self.inside.slots.vacant_key c.args.self.now c.self.view_is c.args.key c.in-Some-Taken.entry
+    (ap entry_in at) (λ same. absurd (grind (arith, common_steps)))
 
 pub returns-else-entry-key-clause-there : goal.returns-else-entry-key-clause-there
 returns-else-entry-key-clause-there g c = (none-shown c.args.self.now c.args.key (absent g c)).there

@@ -13,7 +13,8 @@ returns-clause-next g c some =
     let at : get c.self.inside.slots c.args.key.slot ≡ Some (Taken c.entry.result.now) =
     c.index.ensures ∙ taken-by (Some c.index.result.now) c.entry.result.now c.entry.ensures in
     sym (ap (λ o. link_in (λ e. e.next) (entry_in o)) at)
-    ∙ next_shown c.self.inside.slots.slots c.self.inside.nexts.items c.self.inside.first c.self.inside.count c.self.inside.limit c.self.invariant
+    ∙ next_shown c.self.inside.slots.slots c.self.inside.nexts.items c.self.inside.first
+    c.self.inside.count c.self.inside.limit c.self.invariant
     c.self.inside.slots.vacant_key c.args.self.now c.self.view_is c.args.key some
 
 pub returns-clause-forest : goal.returns-clause-forest

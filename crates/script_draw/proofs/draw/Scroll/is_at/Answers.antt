@@ -1,6 +1,6 @@
 use Rattle.std.proofs.Common.{ap, ◌∙◌}
 use Rattle.sm_names.specs.Timelines.{timeline}
-use Rattle.script_tales.specs.Failing.{failures}
+use Rattle.event_texts.specs.Failing.{failures}
 use Rattle.script_draw.proofs.Playing.{at-event, at-failure, at-last, at-line}
 use Rattle.script_draw.proofs.draw.Scroll.is_at.Goals as goal
 

@@ -1,7 +1,7 @@
 use Rattle.std.proofs.Common.{refl}
 use Rattle.script_draw.proofs.draw.Scroll.take_call.Goals as goal
 
--- the setting is that of the teller
+-- the setting is that of the event writer
 pub returns-clause-setting : goal.returns-clause-setting
 returns-clause-setting c = λ scene at. (c.in_ok-event.ensures.ok scene at).setting
 
@@ -17,13 +17,13 @@ returns-clause-made c = record {
   knows = c.in_ok-event.ensures.knows;
 }
 
--- the album took the event in
+-- the picture state took the event in
 pub returns-clause-kept : goal.returns-clause-kept
 returns-clause-kept c = λ scene knows kept.
-    c.in_ok-keep.ensures.kept c.args.self.now.teller.session.core c.args.client c.args.call scene.history knows.is_at.shows
+    c.in_ok-keep.ensures.kept c.args.self.now.event_writer.session.core c.args.client c.args.call scene.history knows.is_at.shows
     c.in_ok-event.ensures.event (c.in_ok-event.ensures.ok scene knows.is_at).setting.pool
     (c.in_ok-event.ensures.knows scene knows).is_at.shows kept
 
--- the teller counts one more at most
+-- the event writer counts one more at most
 pub returns-clause-failures : goal.returns-clause-failures
 returns-clause-failures c = c.in_ok-event.ensures.failures

@@ -1,5 +1,5 @@
 use Rattle.std.proofs.Common.{◌≡◌, ◌++◌, true, arith, refl, sym, ap, ◌∙◌}
-use Rattle.script_faults.specs.IndentedLines.{indented}
+use Rattle.report_io.specs.IndentedLines.{indented}
 use Rattle.script_explain.specs.Comparisons.{told_difference}
 use Rattle.script_explain.proofs.Comparing.{far-differs, far-reply, far-unasked}
 use Rattle.script_explain.proofs.check.Comparison.compare.Goals as goal

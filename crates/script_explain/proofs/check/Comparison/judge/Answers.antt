@@ -8,7 +8,8 @@ use Rattle.script_explain.proofs.check.Comparison.judge.Goals as goal
 
 pub returns-in-Ok-Agrees-clause-ok : goal.returns-in-Ok-Agrees-clause-ok
 returns-in-Ok-Agrees-clause-ok c = IfOk-weaker c.agree.result _
-    (λ verdict. (setting : Setting) → Compared setting c.args.self.now [] → IsVerdict setting c.args.script.now c.agree.new.self.text.items verdict)
+    (λ verdict. (setting : Setting) → Compared setting c.args.self.now [] →
+    IsVerdict setting c.args.script.now c.agree.new.self.text.items verdict)
     (λ verdict said setting start.
     agreed-fully setting c.take_lines.new.self c.args.script.now c.agree.new.self.text.items verdict
     (subst (Ended setting c.take_lines.new.self c.args.script.now) c.in-Ok-Agrees.field-0-is (c.in-Ok-Agrees.ensures.ok setting start))

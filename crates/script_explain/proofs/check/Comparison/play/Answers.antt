@@ -6,9 +6,10 @@ use Rattle.script_explain.proofs.check.Comparison.play.Goals as goal
 pub returns-in-Ok-answer-clause-ok : goal.returns-in-Ok-answer-clause-ok
 returns-in-Ok-answer-clause-ok c = λ setting lines whole far numbered.
     far-play setting c.args.self.now lines far _ c.args.line.now c.args.number whole numbered c.requires c.in-Ok-answer.ensures.tells
-    refl (c.in-Ok.ensures.items ∙ ap (λ front. front ++ c.args.line.now) c.clear.ensures.items) (c.counted-self.ensures ∙ ap (lines_counted c.args.self.now.lines) c.deref.ensures.value) refl
+    refl (c.in-Ok.ensures.items ∙ ap (λ front. front ++ c.args.line.now) c.clear.ensures.items) (c.counted-self.ensures
+    ∙ ap (lines_counted c.args.self.now.lines) c.deref.ensures.value) refl
 
 pub returns-in-Err-answer-clause-err : goal.returns-in-Err-answer-clause-err
 returns-in-Err-answer-clause-err c = λ setting lines whole far numbered.
     far-unplayed setting c.args.self.now lines far c.args.line.now c.in-Err-answer.stop c.args.number c.fault_of.result whole
-    c.in-Err-answer.ensures.err c.fault_of.ensures numbered
+    c.in-Err-answer.ensures.err c.fault_of.ensures.line numbered

@@ -33,7 +33,8 @@ pub returns-clause-row : goal.returns-clause-row
 returns-clause-row c =
     let same = ap (λ s. s.slots) c.make_room.ensures.slots in
     let key = c.make_room.new.slots.vacant_key in
-    rw (← c.self.view_is, c.add.ensures.place.1, c.make_room.ensures.places, c.make_room.ensures.fired) (rows_pushed c.self.inside.slots.slots
+    rw (← c.self.view_is, c.add.ensures.place.1, c.make_room.ensures.places, c.make_room.ensures.fired)
+    (rows_pushed c.self.inside.slots.slots
     c.add.new.slots.slots
     c.self.inside.fired.items
     key

@@ -11,7 +11,8 @@ invariant_of-self c =
     let taken = rw c.deref.ensures.value at c.take_at.ensures.taken in
     let kept = rw c.deref.ensures.value at c.take_at.ensures.kept in
     let within = rw (← c.self.view_is) at c.requires in
-    (at_place c.self.inside.slots.slots c.take_at.new.slots.slots c.self.inside.fired.items c.self.inside.fired.items (omega arith) (λ n l. refl)
+    (at_place c.self.inside.slots.slots c.take_at.new.slots.slots c.self.inside.fired.items c.self.inside.fired.items
+    (omega arith) (λ n l. refl)
     c.index_mut.result.now c.take_at.ensures.others c.self.inside.places.items c.self.invariant c.args.at (sym c.index_mut.ensures.value)
     (omega (arith, within, rows_long c.self.inside.slots.slots c.self.inside.fired.items c.self.inside.places.items))
     c.take_at.new.place kept (ap (λ (r : TrackerRow). r.id) taken)).1
@@ -22,10 +23,12 @@ returns-clause-taken c = λ d.
     let taken = rw c.deref.ensures.value at c.take_at.ensures.taken in
     let kept = rw c.deref.ensures.value at c.take_at.ensures.kept in
     let within = rw (← c.self.view_is) at c.requires in
-    let inside : c.args.at < length c.self.inside.places.items = omega (arith, within, rows_long c.self.inside.slots.slots c.self.inside.fired.items c.self.inside.places.items) in
+    let inside : c.args.at < length c.self.inside.places.items =
+    omega (arith, within, rows_long c.self.inside.slots.slots c.self.inside.fired.items c.self.inside.places.items) in
     let here = row_there c.self.inside.slots.slots c.self.inside.fired.items c.self.inside.places.items c.args.at c.index_mut.result.now
     (sym c.index_mut.ensures.value) inside d in
-    let all = (at_place c.self.inside.slots.slots c.take_at.new.slots.slots c.self.inside.fired.items c.self.inside.fired.items (omega arith)
+    let all = (at_place c.self.inside.slots.slots c.take_at.new.slots.slots c.self.inside.fired.items c.self.inside.fired.items
+    (omega arith)
     (λ n l. refl)
     c.index_mut.result.now c.take_at.ensures.others c.self.inside.places.items c.self.invariant c.args.at (sym c.index_mut.ensures.value)
     inside

@@ -1,5 +1,6 @@
 use Rattle.std.proofs.Common.{refl}
-use Rattle.trackers.proofs.FoundLemmas.{found_within, found_row, none_untaken, none_without, sound_taken, table_taken, reader_taken, reader_cell}
+use Rattle.trackers.proofs.FoundLemmas.{found_within, found_row, none_untaken, none_without}
+use Rattle.trackers.proofs.FoundLemmas.{sound_taken, table_taken, reader_taken, reader_cell}
 use Rattle.trackers.proofs.table.Trackers.take_tracker.Goals as goal
 
 pub take-requires : goal.take-requires

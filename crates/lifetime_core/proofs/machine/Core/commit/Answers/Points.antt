@@ -26,16 +26,16 @@ known c = core_known c.self.inside.contents.pool (before c) c.self.invariant
 
 -- the call begins there with what was asked: each premise is one of the function's
 pub begun : (c : After-changes_nothing) →
-    Begins (before c) c.args.client c.args.call.now c.args.decision.now.reply c.args.decision.now.task c.args.decision.now.tracking
-begun c = begins (before c) c.args.self.now c.args.client c.args.call.now c.args.decision.now.reply
-    c.args.decision.now.task c.args.decision.now.tracking c.self.view_is (known c) c.requires.reply c.requires.work
+    Begins (before c) c.args.client c.args.call.now c.args.decision.reply c.args.decision.task c.args.decision.tracking
+begun c = begins (before c) c.args.self.now c.args.client c.args.call.now c.args.decision.reply
+    c.args.decision.task c.args.decision.tracking c.self.view_is (known c) c.requires.reply c.requires.work
     c.requires.spends c.requires.there c.requires.some c.requires.tracking
 
 -- a call that changes nothing leaves the state, but for the number of events: the test is what the definition says
 pub idle : (c : After-changes_nothing) → c.changes_nothing.result ≡ true →
-    Idles (before c) c.args.client c.args.call.now c.args.decision.now.reply
+    Idles (before c) c.args.client c.args.call.now c.args.decision.reply
 idle c nothing = idles (before c) c.args.self.now c.args.client c.args.call.now
-    c.args.decision.now.reply c.self.view_is (known c) c.requires.reply (sym c.changes_nothing.ensures ∙ nothing)
+    c.args.decision.reply c.self.view_is (known c) c.requires.reply (sym c.changes_nothing.ensures ∙ nothing)
 
 -- what the effect of the call left
 abbrev pub made : In-Ok → Parts

@@ -25,13 +25,13 @@ idle_returns c =
     let room : s.events < s.limits.events = omega arith in
     rw (next, ← c.self.view_is) (record {
       answer = answers;
-      kind = reply-fits s.limits (readings_of s) c.args.client (key_told c.args.decision.now.reply) c.args.call.now c.args.decision.now.reply
+      kind = reply-fits s.limits (readings_of s) c.args.client (key_told c.args.decision.reply) c.args.call.now c.args.decision.reply
           answers.told;
       after = follows;
-      goes_on = goes_on s (further _ _ _ _ i) c.args.client c.args.call.now c.args.decision.now.reply
+      goes_on = goes_on s (further _ _ _ _ i) c.args.client c.args.call.now c.args.decision.reply
           answers follows room;
       untaken = untaken_after s (further _ _ _ _ i) c.args.client c.args.call.now
-          c.args.decision.now.reply answers follows;
+          c.args.decision.reply answers follows;
       kept = search rules;
       equal = search rules;
       stays = search rules;
@@ -76,12 +76,13 @@ made_returns c =
     let room : s.events < s.limits.events = omega arith in
     rw c.with_key.ensures (record {
       answer = rw (← c.self.view_is) answers;
-      kind = reply-fits s.limits (readings_of s) c.args.client (key_told (with_key c.args.decision.now.reply c.in-Ok.key)) c.args.call.now
-          (with_key c.args.decision.now.reply c.in-Ok.key) answers.told;
+      kind = reply-fits s.limits (readings_of s) c.args.client (key_told (with_key c.args.decision.reply c.in-Ok.key)) c.args.call.now
+          (with_key c.args.decision.reply c.in-Ok.key) answers.told;
       after = rw (← c.self.view_is, c.take_effect.ensures.size) follows;
       goes_on = rw (← c.self.view_is, c.take_effect.ensures.size) (goes_on s next c.args.client c.args.call.now
-          (with_key c.args.decision.now.reply c.in-Ok.key) answers follows room);
-      untaken = rw (← c.self.view_is) (untaken_after s next c.args.client c.args.call.now (with_key c.args.decision.now.reply c.in-Ok.key) answers
+          (with_key c.args.decision.reply c.in-Ok.key) answers follows room);
+      untaken = rw (← c.self.view_is)
+          (untaken_after s next c.args.client c.args.call.now (with_key c.args.decision.reply c.in-Ok.key) answers
           follows);
       kept = search rules;
       equal = search rules;

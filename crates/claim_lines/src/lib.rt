@@ -1,0 +1,10 @@
+//! What the claims in a script of actors say: lines of words, of which the first is `#!`.
+#![tactic(auto)]
+
+mod claim;
+mod number;
+mod parser;
+mod words;
+
+pub use claim::{Claim, Fact, NodeFact, NodeName, Often, SaidCause};
+pub use parser::{is_claim, read_claim};

@@ -1,0 +1,334 @@
+//! What the words of a claim say.
+ghost use Rattle.std.specs.Prelude.{◌≡◌, ◌∷◌, ℕ, Some};
+ghost use Rattle.std.specs.Option.{option_map};
+ghost use Rattle.script_lines.specs.declared.label.Label.{Label as LabelTold};
+ghost use Rattle.script_lines.specs.Labels.{label_of};
+ghost use Rattle.script_lines.specs.Lines.{at_end};
+ghost use Rattle.script_lines.specs.Numbers.{number_of};
+ghost use Rattle.script_lines.specs.Words.{words_left};
+ghost use Rattle.claim_lines.specs.declared.claim.Fact.{Fact as FactTold};
+ghost use Rattle.claim_lines.specs.declared.claim.NodeName.{NodeName as Name};
+ghost use Rattle.claim_lines.specs.Claims.{claim_behind, claim_of, fact_behind, fact_of, failed_by as failed_told, failure_named as failure_told, failure_of, fails_by as fails_told, full_name as full_told, is_claim_line, misuse_named as misuse_told, misused_by as misused_told, name_of as name_told, node_fact_of, node_said as node_told, often_named as often_told, origin_of, plain_name as plain_told, said_by as said_told};
+
+use crate::claim::{Claim, Fact, NodeFact, NodeName, Often, SaidCause};
+use crate::number::number;
+use crate::words::{cut, is, next_word, place_of};
+use script_lines::Label;
+use sm_names::{Failure, Misuse};
+
+/// Whether the line, without its end, is a claim, good or bad: its first word is `#!`. Costs O(n) for n bytes.
+pub fn is_claim(line: &[u8]) -> bool
+    ensures { result ≡ is_claim_line line.now }
+{
+    let (first, _) = cut(line);
+    is(first, "#!")
+}
+
+/// What the claim says, without the end of its line, or `None` where the line is no good claim. Costs O(n) for n bytes.
+pub fn read_claim(line: &[u8]) -> Option<Claim>
+    ensures { result ≡ claim_of line.now }
+{
+    let (first, rest) = cut(line);
+    if is(first, "#!") { claim(rest) } else { None }
+}
+
+// The claim of the words behind `#!`.
+fn claim(rest: Option<&[u8]>) -> Option<Claim>
+    ensures { result ≡ claim_behind (words_left rest.entry) }
+{
+    match next_word(rest) {
+        Some((word, rest)) => match (often_named(word), fact(rest)) {
+            (Some(often), Some(fact)) => Some(Claim { often, fact }),
+            _ => None,
+        },
+        None => None,
+    }
+}
+
+// In which outcomes, by its word.
+fn often_named(word: &[u8]) -> Option<Often>
+    ensures { result ≡ often_told word.now }
+{
+    if is(word, "never") {
+        Some(Often::Never)
+    } else if is(word, "always") {
+        Some(Often::Always)
+    } else if is(word, "sometimes") {
+        Some(Often::Sometimes)
+    } else {
+        None
+    }
+}
+
+// The fact of these words.
+fn fact(rest: Option<&[u8]>) -> Option<Fact>
+    ensures { result ≡ fact_of (words_left rest.entry) }
+{
+    match next_word(rest) {
+        Some((subject, rest)) => fact_on(subject, rest),
+        None => None,
+    }
+}
+
+// The fact, by its subject and the words behind it.
+fn fact_on(subject: &[u8], rest: Option<&[u8]>) -> Option<Fact>
+    ensures { result ≡ fact_behind subject.now (words_left rest.entry) }
+{
+    match next_word(rest) {
+        Some((verb, rest)) => said_by(subject, verb, rest),
+        None => None,
+    }
+}
+
+// The fact, by its subject, its verb and the words behind it.
+fn said_by(subject: &[u8], verb: &[u8], rest: Option<&[u8]>) -> Option<Fact>
+    ensures { result ≡ said_told subject.now verb.now (words_left rest.entry) }
+{
+    if is(subject, "free") {
+        return free(verb, rest);
+    }
+    if is(verb, "waits") {
+        return waits(subject, rest);
+    }
+    if is(verb, "fires") {
+        return fires(subject, rest);
+    }
+    node_said(subject, verb, rest)
+}
+
+// So many pages are free.
+fn free(word: &[u8], rest: Option<&[u8]>) -> Option<Fact>
+    ensures { result ≡ at_end (words_left rest.entry) (option_map (λ (pages : ℕ). FactTold.Free pages) (number_of word.now)) }
+{
+    match (next_word(rest), number(word)) {
+        (None, Some(pages)) => Some(Fact::Free(pages)),
+        _ => None,
+    }
+}
+
+// The client waits.
+fn waits(word: &[u8], rest: Option<&[u8]>) -> Option<Fact>
+    ensures { result
+        ≡ at_end (words_left rest.entry) (option_map (λ (client : LabelTold). FactTold.Waits client) (label_of word.now)) }
+{
+    match (next_word(rest), Label::new(word)) {
+        (None, Some(client)) => Some(Fact::Waits(client)),
+        _ => None,
+    }
+}
+
+// The tracker fires.
+fn fires(word: &[u8], rest: Option<&[u8]>) -> Option<Fact>
+    ensures { result
+        ≡ at_end (words_left rest.entry) (option_map (λ (name : Name). FactTold.Fires name) (name_told word.now)) }
+{
+    match (next_word(rest), name_of(word)) {
+        (None, Some(name)) => Some(Fact::Fires(name)),
+        _ => None,
+    }
+}
+
+// A fact of a node.
+fn node_said(node: &[u8], verb: &[u8], rest: Option<&[u8]>) -> Option<Fact>
+    ensures { result ≡ node_told node.now verb.now (words_left rest.entry) }
+{
+    match (name_of(node), node_fact(verb, rest)) {
+        (Some(name), Some(fact)) => Some(Fact::Node(name, fact)),
+        _ => None,
+    }
+}
+
+// What a node or a tracker is called.
+fn name_of(word: &[u8]) -> Option<NodeName>
+    ensures { result ≡ name_told word.now }
+{
+    match place_of(b'.', word) {
+        Some(at) => full_name(&word[..at], &word[at + 1..]),
+        None => plain_name(word),
+    }
+}
+
+// The name that is a label.
+fn plain_name(word: &[u8]) -> Option<NodeName>
+    ensures { result ≡ plain_told word.now }
+{
+    match Label::new(word) {
+        Some(label) => Some(NodeName {
+            client: None,
+            label,
+        }),
+        None => None,
+    }
+}
+
+// The name with the label of a client.
+fn full_name(client: &[u8], word: &[u8]) -> Option<NodeName>
+    ensures { result ≡ full_told client.now word.now }
+{
+    match (Label::new(client), Label::new(word)) {
+        (Some(client), Some(label)) => Some(NodeName {
+            client: Some(client),
+            label,
+        }),
+        _ => None,
+    }
+}
+
+// What is said of a node, by its verb and the words behind it.
+fn node_fact(verb: &[u8], rest: Option<&[u8]>) -> Option<NodeFact>
+    ensures { result ≡ node_fact_of verb.now (words_left rest.entry) }
+{
+    if is(verb, "fails") {
+        failure(rest)
+    } else if is(verb, "ends") {
+        alone(rest, NodeFact::Ends)
+    } else if is(verb, "lives") {
+        alone(rest, NodeFact::Lives)
+    } else if is(verb, "pending") {
+        alone(rest, NodeFact::Pending)
+    } else {
+        None
+    }
+}
+
+// The fact, where no word follows.
+fn alone(rest: Option<&[u8]>, fact: NodeFact) -> Option<NodeFact>
+    ensures { result ≡ at_end (words_left rest.entry) (Some fact) }
+{
+    match next_word(rest) {
+        Some(_) => None,
+        None => Some(fact),
+    }
+}
+
+// How a node fails, by the words behind `fails`.
+fn failure(rest: Option<&[u8]>) -> Option<NodeFact>
+    ensures { result ≡ failure_of (words_left rest.entry) }
+{
+    let Some((word, rest)) = next_word(rest) else {
+        return Some(NodeFact::Fails {
+            cause: None,
+            origin: None,
+        });
+    };
+    if is(word, "by") {
+        origin(None, rest)
+    } else if is(word, "lost") {
+        fails_by(Some(SaidCause::Lost), rest)
+    } else if is(word, "nostrong") {
+        fails_by(Some(SaidCause::NoStrong), rest)
+    } else if is(word, "misused") {
+        misused_by(rest)
+    } else if is(word, "failed") {
+        failed_by(rest)
+    } else {
+        None
+    }
+}
+
+// A failure by this cause, with its origin if words follow.
+fn fails_by(cause: Option<SaidCause>, rest: Option<&[u8]>) -> Option<NodeFact>
+    ensures { result ≡ fails_told cause (words_left rest.entry) }
+{
+    match next_word(rest) {
+        Some((word, rest)) => {
+            if is(word, "by") {
+                origin(cause, rest)
+            } else {
+                None
+            }
+        }
+        None => Some(NodeFact::Fails {
+            cause,
+            origin: None,
+        }),
+    }
+}
+
+// A failure by this cause, with the node of the one word behind `by`.
+fn origin(cause: Option<SaidCause>, rest: Option<&[u8]>) -> Option<NodeFact>
+    ensures { result ≡ origin_of cause (words_left rest.entry) }
+{
+    match next_word(rest) {
+        Some((node, rest)) => match (next_word(rest), name_of(node)) {
+            (None, Some(name)) => Some(NodeFact::Fails {
+                cause,
+                origin: Some(name),
+            }),
+            _ => None,
+        },
+        None => None,
+    }
+}
+
+// A misuse, by the words behind `misused`.
+fn misused_by(rest: Option<&[u8]>) -> Option<NodeFact>
+    ensures { result ≡ misused_told (words_left rest.entry) }
+{
+    let Some((word, rest)) = next_word(rest) else {
+        return fails_by(Some(SaidCause::Misused(None)), None);
+    };
+    if is(word, "by") {
+        return origin(Some(SaidCause::Misused(None)), rest);
+    }
+    match misuse_named(word) {
+        Some(misuse) => fails_by(Some(SaidCause::Misused(Some(misuse))), rest),
+        None => None,
+    }
+}
+
+// A failed allocation, by the words behind `failed`.
+fn failed_by(rest: Option<&[u8]>) -> Option<NodeFact>
+    ensures { result ≡ failed_told (words_left rest.entry) }
+{
+    let Some((word, rest)) = next_word(rest) else {
+        return fails_by(Some(SaidCause::Failed(None)), None);
+    };
+    if is(word, "by") {
+        return origin(Some(SaidCause::Failed(None)), rest);
+    }
+    match failure_named(word) {
+        Some(failure) => fails_by(Some(SaidCause::Failed(Some(failure))), rest),
+        None => None,
+    }
+}
+
+// The misuse of this name.
+fn misuse_named(word: &[u8]) -> Option<Misuse>
+    ensures { result ≡ misuse_told word.now }
+{
+    if is(word, "SecondConstraints") {
+        Some(Misuse::SecondConstraints)
+    } else if is(word, "LateWeak") {
+        Some(Misuse::LateWeak)
+    } else if is(word, "LateWeakOk") {
+        Some(Misuse::LateWeakOk)
+    } else if is(word, "WeakNotOk") {
+        Some(Misuse::WeakNotOk)
+    } else if is(word, "TooManyNodeTrackers") {
+        Some(Misuse::TooManyNodeTrackers)
+    } else {
+        None
+    }
+}
+
+// The failed allocation of this name.
+fn failure_named(word: &[u8]) -> Option<Failure>
+    ensures { result ≡ failure_told word.now }
+{
+    if is(word, "NoStrong") {
+        Some(Failure::NoStrong)
+    } else if is(word, "NoBuffers") {
+        Some(Failure::NoBuffers)
+    } else if is(word, "TooManyBuffers") {
+        Some(Failure::TooManyBuffers)
+    } else if is(word, "PoolFull") {
+        Some(Failure::PoolFull)
+    } else if is(word, "TooFew") {
+        Some(Failure::TooFew)
+    } else if is(word, "TooSmall") {
+        Some(Failure::TooSmall)
+    } else {
+        None
+    }
+}

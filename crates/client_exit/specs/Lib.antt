@@ -1,4 +1,0 @@
-pub mod Events
-pub mod Exits
-pub mod Parting
-pub mod Phases

@@ -1,4 +1,0 @@
-pub mod BackLaws
-pub mod GatherLaws
-pub mod PartingLaws
-pub mod ObjectLaws

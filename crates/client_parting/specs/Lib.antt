@@ -1,4 +1,0 @@
-pub mod Faults
-pub mod Gatherings
-pub mod Partings
-pub mod Stacks

@@ -1,0 +1,4 @@
+pub mod BackLaws
+pub mod GatherLaws
+pub mod VanishingLaws
+pub mod ObjectLaws

@@ -1,0 +1,11 @@
+use Rattle.std.proofs.Common.{inl, refl}
+use Rattle.client_vanish.specs.Vanishings.{held_in}
+use Rattle.client_vanish.specs.Stacks.{top_first}
+use Rattle.client_vanish.proofs.VanishingLaws.{parts_none}
+use Rattle.client_vanish.proofs.vanishing.part_if.Goals as goal
+
+pub returns-in-Err-clause-parts : goal.returns-in-Err-clause-parts
+returns-in-Err-clause-parts g c = record {
+  parts = parts_none c.args.client.now (top_first c.args.stack.now.items) (held_in c.args.kept.now) c.requires.none;
+  turn = inl refl;
+}

@@ -1,0 +1,4 @@
+pub mod Faults
+pub mod Gatherings
+pub mod Vanishings
+pub mod Stacks

@@ -1,0 +1,25 @@
+use Rattle.std.proofs.Common.{List, ℕ, codes}
+use Rattle.std.specs.Str.Parse.{ExplainsUnsignedError, HasUnsignedDigitsIfOk, ParsesUnsigned}
+use Rattle.clap.specs.Words.{found_of, one_text}
+use Rattle.command_line.proofs.Asking.{is_read}
+use Rattle.command_line.proofs.task.search_of.Goals as goal
+
+pub returns-clause-once : goal.returns-clause-once
+returns-clause-once c = record {
+  none = c.get_flag.ensures.none;
+  set = c.get_flag.ensures.value;
+  unset = c.get_flag.ensures.other;
+}
+
+-- each number is what u64 reads
+pub returns-clause-search : goal.returns-clause-search
+returns-clause-search c =
+    let text : List ℕ → _ = λ id. one_text (found_of c.args.matches.now) id in
+    record {
+      outcome_read = is_read (λ t r. ParsesUnsigned 64 10 t r × ExplainsUnsignedError 10 t r × HasUnsignedDigitsIfOk t r) (λ t r h. h.0)
+          (text (codes "outcome")) c.get_one-outcome.result c.get_one-outcome.ensures.none c.get_one-outcome.ensures.value;
+      states_number = c.get_one-states.result;
+      states_read = is_read (λ t r. ParsesUnsigned 64 10 t r × ExplainsUnsignedError 10 t r × HasUnsignedDigitsIfOk t r) (λ t r h. h.0)
+          (text (codes "states")) c.get_one-states.result c.get_one-states.ensures.none c.get_one-states.ensures.value;
+      states_is = c.states_of.ensures;
+    }

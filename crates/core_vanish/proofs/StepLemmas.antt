@@ -1,0 +1,62 @@
+-- What a step makes of a core, as an exit needs it.
+use Rattle.std.proofs.Common.{ℕ, ◌≡◌, ◌≤◌, ◌+◌, ◌↔◌, ◌∙◌, refl, ap, sym, subst, true, false}
+use Rattle.std.proofs.Common.{List, [], ◌∷◌, ◌++◌, Option, None, Result, Ok, Err, arith}
+use Rattle.std.proofs.lemmas.List.{append-nil}
+use Rattle.std.specs.List.{cons_option}
+use Rattle.std.specs.Result.{IfOk, OnErr}
+use Rattle.sm_names.specs.declared.messages.Call.{Call}
+use Rattle.sm_names.specs.declared.messages.Reply.{Reply}
+use Rattle.sm_names.specs.declared.outcomes.StepFault.{StepFault}
+use Rattle.sm_names.specs.Answers.{makes_tracker}
+use Rattle.sm_names.specs.Marks.{Entry}
+use Rattle.sm_names.proofs.SamenessLaws.{both_ways}
+use Rattle.core_state.specs.Kinds.{fits_call}
+use Rattle.core_state.specs.Shown.{Shows}
+use Rattle.core_state.specs.State.{IsSame, State}
+use Rattle.core_state.specs.Steps.{Follows}
+use Rattle.core_state.specs.Theorem.{GoesOn, tracker_told}
+use Rattle.core_state.proofs.answers.Kinds.{tracker-made}
+use Rattle.core_vanish.specs.Vanishing.{AdvancesBy}
+
+-- a call that makes no tracker is told of none
+no_tracker : (call : Call) (reply : Reply) → makes_tracker call ≡ false → fits_call call reply ≡ true → tracker_told reply ≡ None
+no_tracker call (Reply.Tracker id) none fits = both_ways (makes_tracker call) (sym (tracker-made call) ∙ fits) none
+no_tracker call _ none fits = refl
+
+-- the core advances by an event
+pub step_made : (old new : State) (client : ℕ) (call : Call) (r : Result Reply StepFault) → makes_tracker call ≡ false →
+    IfOk r (λ reply. fits_call call reply ≡ true) → IfOk r (λ reply. Follows old new client call reply) →
+    IfOk r (λ reply. GoesOn old new ((client, call, reply) ∷ [])) →
+    IfOk r (λ reply. new.trackers.untaken ≡ old.trackers.untaken ++ cons_option (tracker_told reply) []) →
+    IfOk r (λ reply. AdvancesBy old new ((client, call, reply) ∷ []))
+step_made old new client call (Ok reply) none fits follows goes_on untaken = record {
+  pool = follows.pool;
+  limits = follows.limits;
+  counted = follows.events;
+  untaken = untaken
+      ∙ (ap (λ (o : Option ℕ). old.trackers.untaken ++ cons_option o []) (no_tracker call reply none fits)
+      ∙ append-nil old.trackers.untaken);
+  goes_on = goes_on;
+}
+step_made old new client call (Err fault) none fits follows goes_on untaken = tt
+
+-- or by none
+pub step_none : (old new : State) (r : Result Reply StepFault) → OnErr r (IsSame old new) →
+    OnErr r ((history : List Entry) → Shows old history → Shows new history) → OnErr r (AdvancesBy old new [])
+step_none old new (Ok reply) same stays = tt
+step_none old new (Err fault) same stays = record {
+  pool = ap (λ (s : State). s.pool) same.rest;
+  limits = ap (λ (s : State). s.limits) same.rest;
+  counted = ap (λ (s : State). s.events) same.rest ∙ plus_none old.events;
+  untaken = ap (λ (s : State). s.trackers.untaken) same.rest;
+  goes_on = λ history shows. subst (Shows new) (sym (append-nil history)) (stays history shows);
+}
+  where
+    -- by arithmetic
+    plus_none : (n : ℕ) → n ≡ n + 0
+    plus_none n = omega arith
+
+-- as many events were made as may be
+pub step_full : (old new : State) (r : Result Reply StepFault) → (r ≡ Err StepFault.HistoryFull → new ≡ old) →
+    ((r ≡ Err StepFault.HistoryFull) ↔ (old.limits.events ≤ old.events)) → r ≡ Err StepFault.HistoryFull → new.limits.events ≤ new.events
+step_full old new r same full is = subst (λ (s : State). s.limits.events ≤ s.events) (sym (same is)) (full.0 is)

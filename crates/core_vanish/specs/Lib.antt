@@ -1,0 +1,4 @@
+pub mod Events
+pub mod Exits
+pub mod Vanishing
+pub mod Phases

@@ -1,0 +1,47 @@
+-- What the vanishing of a client makes of a core.
+use Rattle.std.specs.Prelude.{ℕ, ◌+◌, ◌<◌, ◌≤◌, ◌≡◌, List, [], ◌∷◌, ◌++◌, length}
+use Rattle.sm_names.specs.declared.messages.Call.{Call}
+use Rattle.sm_names.specs.declared.messages.Reply.{Reply}
+use Rattle.sm_names.specs.declared.outcomes.Refusal.{Refusal}
+use Rattle.sm_names.specs.Marks.{Entry}
+use Rattle.sm_names.specs.Reading.{readings}
+use Rattle.sm_names.specs.Timelines.{timeline}
+use Rattle.core_state.specs.Shown.{Shows}
+use Rattle.core_state.specs.State.{State}
+use Rattle.core_state.specs.Theorem.{GoesOn}
+use Rattle.core_vanish.specs.declared.exit.VanishFault.{VanishFault}
+use Rattle.core_vanish.specs.Exits.{HasExited, IsExit}
+
+-- what was made before the fault: the first events of an exit, or a Shut that was refused. Where memory is refused, the Shut and
+-- all Collects were made: they take none
+abbrev pub IsBegun : ℕ → VanishFault → List Entry → Type 0
+IsBegun client VanishFault.NoSuchClient events = events ≡ (client, Call.Shut, Reply.Refused Refusal.NoSuchClient) ∷ []
+IsBegun client VanishFault.HistoryFull events = (rest : List Entry) × IsExit client (events ++ rest)
+IsBegun client VanishFault.NoMemory events =
+    (rest : List Entry) × (exit : IsExit client (events ++ rest)) × (exit.waiting < length events)
+
+-- the core made these events: each legal history that the old state shows, extended by them, is legal, and the new state shows it;
+-- no tracker was made
+pub record AdvancesBy (old new : State) (events : List Entry) : Type 0 where
+  pub pool : new.pool ≡ old.pool
+  pub limits : new.limits ≡ old.limits
+  pub counted : new.events ≡ old.events + length events
+  pub untaken : new.trackers.untaken ≡ old.trackers.untaken
+  pub goes_on : GoesOn old new events
+
+-- the client exited by this many events
+pub record Exits (old new : State) (client count : ℕ) : Type 0 where
+  pub events : List Entry
+  pub many : count ≡ length events
+  pub advances : AdvancesBy old new events
+  pub is_exit : (history : List Entry) → Shows old history → IsExit client events
+  pub has_exited : (history : List Entry) → Shows old history →
+      HasExited (readings (timeline new.pool (history ++ events))) client
+
+-- this many events were made, and then no more for this reason
+pub record ExitStops (old new : State) (client count : ℕ) (fault : VanishFault) : Type 0 where
+  pub events : List Entry
+  pub many : count ≡ length events
+  pub advances : AdvancesBy old new events
+  pub begun : (history : List Entry) → Shows old history → IsBegun client fault events
+  pub full : fault ≡ VanishFault.HistoryFull → new.limits.events ≤ new.events

@@ -1,9 +1,0 @@
-use Rattle.std.proofs.Common.{◌≡◌, take}
-use Rattle.sm_names.specs.declared.keys.NodeKey.{NodeKey}
-use Rattle.forest_store.specs.Questions.{is_below}
-use Rattle.event_marks.specs.KeySets.{has}
-use Rattle.event_marks.proofs.node_sets.nodes_under.Given as goal
-
--- so far the top node and those below it among the nodes so far
-abbrev pub invariant-loop-node : goal.invariant-loop-node
-invariant-loop-node l = (key : NodeKey) → has l.under key ≡ is_below (take l.node-index l.nodes) l.top key

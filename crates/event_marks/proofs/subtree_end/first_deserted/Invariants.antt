@@ -1,9 +1,0 @@
-use Rattle.std.proofs.Common.{◌≡◌, drop}
-use Rattle.std.specs.List.{find}
-use Rattle.event_marks.specs.KeySets.{has, is_deserted_by}
-use Rattle.event_marks.proofs.subtree_end.first_deserted.Given as goal
-
--- the first is still to come
-abbrev pub invariant-loop-node : goal.invariant-loop-node
-invariant-loop-node l = find (is_deserted_by (has l.busy)) (drop l.node-index l.nodes)
-    ≡ find (is_deserted_by (has l.busy)) l.nodes

@@ -1,0 +1,11 @@
+use Rattle.std.proofs.Common.{◌≡◌, ◌++◌, take}
+use Rattle.std.specs.List.{flat_map}
+use Rattle.script_labels.specs.Names.{Names}
+use Rattle.script_labels.specs.Tables.{Keeps}
+use Rattle.script_labels.specs.Texts.{held_text}
+use Rattle.event_texts.proofs.allocations.push_each_held.Given as goal
+
+-- those so far
+abbrev pub invariant-loop-buffer : goal.invariant-loop-buffer
+invariant-loop-buffer l = (names : Names) → Keeps l.tables names →
+    l.text.items ≡ l.initial.text.items ++ flat_map (held_text names) (take l.buffer-index l.held)

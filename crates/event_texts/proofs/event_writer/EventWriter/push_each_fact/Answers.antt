@@ -1,0 +1,15 @@
+use Rattle.std.proofs.Common.{◌∙◌, ◌++◌, ap, List}
+use Rattle.sm_names.specs.declared.tracking.Fired.{Fired}
+use Rattle.event_texts.specs.EventTexts.{fires_text}
+use Rattle.event_texts.specs.Tellings.{facts_text}
+use Rattle.event_texts.proofs.Pieces.{five}
+use Rattle.event_texts.proofs.event_writer.EventWriter.push_each_fact.Goals as goal
+
+-- the five kinds of facts
+pub returns : goal.returns
+unfolding facts_text
+returns c = λ names lines keeps calls recalls.
+    five _ _ _ _ _ _ _ _ _ _ _ (c.in_ok-push_marks.ensures names keeps) (c.in_ok-push_reasons.ensures names lines keeps calls recalls)
+    (c.in_ok-push_buffers.ensures names keeps) (c.in_ok-push_keepers.ensures names keeps calls)
+    (c.in_ok-push_fires.ensures names keeps
+    ∙ ap (λ (fired : List Fired). c.push_keepers.new.facts.items ++ fires_text names fired) c.fired_since-fired.ensures)

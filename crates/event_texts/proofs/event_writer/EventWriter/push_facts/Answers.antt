@@ -1,0 +1,17 @@
+use Rattle.std.proofs.Common.{◌∙◌, ◌++◌, ap, arith, List, ℕ}
+use Rattle.std.proofs.lemmas.Result.{on_ok_weaker}
+use Rattle.event_texts.specs.Tellings.{facts_text}
+use Rattle.event_texts.proofs.event_writer.EventWriter.push_facts.Goals as goal
+
+-- they are told where no text was
+pub returns : goal.returns
+returns c = on_ok_weaker c.push_each_fact.result
+    (λ put names lines keeps calls recalls empty. record {
+      doomed = c.newly_doomed-doomed.result;
+      are_doomed = c.newly_doomed-doomed.ensures;
+      in_range = omega arith;
+      told = put names lines keeps calls recalls
+          ∙ ap (λ (t : List ℕ). t ++ facts_text names lines c.args.self.now.session.core c.newly_doomed-doomed.result c.args.event.now)
+          empty;
+    })
+    c.push_each_fact.ensures

@@ -1,0 +1,10 @@
+use Rattle.std.proofs.Common.{◌∙◌, ap, cond, Some}
+use Rattle.sm_names.specs.Sameness.{same_key}
+use Rattle.event_texts.proofs.labels.Labels.call_node.Goals as goal
+
+pub returns : goal.returns
+returns c = λ names collection calls. record {
+  clients = calls.clients;
+  nodes = λ other. c.in_ok-insert.ensures.updates.0 other
+      ∙ ap (cond (same_key c.args.node other) (Some c.args.label)) (calls.nodes other);
+}

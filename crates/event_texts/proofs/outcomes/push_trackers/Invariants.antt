@@ -1,0 +1,11 @@
+use Rattle.std.proofs.Common.{◌≡◌, ◌++◌, take}
+use Rattle.std.specs.List.{flat_map}
+use Rattle.script_labels.specs.Names.{Names}
+use Rattle.script_labels.specs.Tables.{Keeps}
+use Rattle.event_texts.specs.EventTexts.{tracker_text}
+use Rattle.event_texts.proofs.outcomes.push_trackers.Given as goal
+
+-- those so far
+abbrev pub invariant-loop-firing : goal.invariant-loop-firing
+invariant-loop-firing l = (names : Names) → Keeps l.tables names →
+    l.text.items ≡ l.initial.text.items ++ flat_map (tracker_text names) (take l.firing-index l.fired)

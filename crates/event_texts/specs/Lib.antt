@@ -1,0 +1,13 @@
+pub mod Called
+pub mod Deeds
+pub mod EventTexts
+pub mod FactTexts
+pub mod FailedTests
+pub mod Failing
+pub mod KeeperTexts
+pub mod LossTexts
+pub mod LostLines
+pub mod MarkTexts
+pub mod RefusalTexts
+pub mod SummaryTexts
+pub mod Tellings

@@ -1,0 +1,14 @@
+use Rattle.std.proofs.Common.{◌≡◌, ◌≤◌, ◌+◌, ◌*◌, drop}
+use Rattle.std.specs.List.{fold, sum_by}
+use Rattle.sm_names.specs.declared.rules.TheConstants.{MAX_CAMPING}
+use Rattle.sm_names.specs.Demands.{Demand}
+use Rattle.forest_store.specs.Questions.{demands_of, has_buffers}
+use Rattle.forced_marks.proofs.demand.reserved.Given as goal
+
+-- with those that are still to come it is what all camp on
+abbrev pub invariant-loop-node : goal.invariant-loop-node
+invariant-loop-node l = record {
+  camping : fold (λ a (d : Demand). a + d.camping) l.camping (demands_of has_buffers (drop l.node-index l.nodes))
+      ≡ sum_by (λ (d : Demand). d.camping) (demands_of has_buffers l.nodes);
+  few : l.camping ≤ MAX_CAMPING * l.node-index;
+}

@@ -1,0 +1,7 @@
+use Rattle.std.proofs.Common.{◌≡◌, map, take}
+use Rattle.sm_names.specs.declared.keys.HeldBuffer.{HeldBuffer}
+use Rattle.forced_marks.proofs.forced_steps.all_pages.Given as goal
+
+-- so far the pages of these buffers
+abbrev pub invariant-loop-buffer : goal.invariant-loop-buffer
+invariant-loop-buffer l = l.all.items ≡ map (λ (h : HeldBuffer). h.pages) (take l.buffer-index l.held)

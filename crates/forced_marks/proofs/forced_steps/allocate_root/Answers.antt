@@ -1,0 +1,54 @@
+use Rattle.std.proofs.Common.{◌≡◌, ◌∙◌, ◌++◌, [], length, map, sym, ap, subst, List, ℕ, Option, Some, option_map}
+use Rattle.std.specs.Option.{option_map_or, IfSome}
+use Rattle.std.specs.Vec.{with_items}
+use Rattle.sm_names.specs.declared.keys.HeldBuffer.{HeldBuffer}
+use Rattle.sm_names.specs.declared.keys.Interval.{Interval}
+use Rattle.sm_names.specs.declared.outcomes.Buffers.{Buffers}
+use Rattle.sm_names.specs.Handles.{names}
+use Rattle.sm_names.specs.Members.{asked}
+use Rattle.sm_names.specs.Pages.{places, pages_of}
+use Rattle.sm_names.specs.Timelines.{laid_out, layout}
+use Rattle.forest_store.specs.Forest.{Collection, pages_in}
+use Rattle.forest_store.specs.Nodes.{after_allocation, given_buffers, members_of}
+use Rattle.forest_store.specs.Scenes.{laid}
+use Rattle.forest_steps.proofs.intervals.Placings.{scene_laid}
+use Rattle.forest_store.specs.Snapshots.{collection_of}
+use Rattle.forced_marks.proofs.InPlace.{written}
+use Rattle.std.proofs.Common.{rules, arith}
+use Rattle.std.proofs.lemmas.Grind.{common_steps}
+use Rattle.forced_marks.proofs.forced_steps.allocate_root.Goals as goal
+
+-- the unit is allocated, and its buffers are laid out as the pool has places for them
+pub returns-clause-made : goal.returns-clause-made
+returns-clause-made c =
+    let it : Collection = collection_of c.args.scene.now in
+    let out : List Interval = pages_in it ++ c.args.others.now in
+    let size : ℕ = pages_of c.args.wants.size in
+    let nodes : (with_items c.args.scene.now.nodes c.allocate.new.nodes).items ≡ after_allocation c.args.head it.nodes =
+    written c.args.scene.now.nodes (given_buffers c.args.head) c.allocate.new.nodes
+    (c.allocate.ensures ∙ ap (after_allocation c.args.head) c.deref_mut-2.ensures.value) in
+    let all : c.in_ok-held.held.items ≡ out =
+    c.in_ok-held.ensures ∙ ap (λ (hs : List HeldBuffer). map (λ (h : HeldBuffer). h.pages) hs ++ c.args.others.now) c.deref.ensures.value in
+    let placed : Some c.in-Some.starts.items ≡ places c.args.pool size c.args.wants.count out =
+    ap (option_map (λ s. s.items)) (sym c.in-Some.is)
+    ∙ (c.in_ok-starts.ensures.placed ∙ (λ i. places c.args.pool (c.pages_of-pages.ensures i) c.args.wants.count (all i))) in
+    let many : length c.in-Some.starts.items ≡ c.args.wants.count =
+    subst (λ o. IfSome o (λ s. length s.items ≡ c.args.wants.count)) c.in-Some.is c.in_ok-starts.ensures.many in
+    let lies : c.in_ok-scene.field-0.items ≡ layout c.args.pool it.id c.args.wants out ++ it.held =
+    c.in_ok-scene.ensures
+    ∙ ((λ i. laid it.id (c.pages_of-pages.ensures i) 0 (c.deref-2.ensures.value i) ++ c.deref-3.ensures.value i)
+    ∙ (scene_laid it.id size c.args.wants.count c.in-Some.starts.items it.held many
+    ∙ ap (λ (o : Option (List ℕ)). option_map_or (laid_out size (names it.id c.args.wants.count)) o [] ++ it.held) placed)) in
+    let held : c.in_ok-scene.field-0.items ≡ layout c.args.pool it.id (asked (members_of it.nodes)) out ++ it.held =
+    lies ∙ ap (λ (w : Buffers). layout c.args.pool it.id w out ++ it.held) (sym c.requires.step.asked_for) in
+    rw c.requires.step.root
+    (λ i. record { id = it.id; nodes = nodes i; buffers = Some (sym c.requires.step.asked_for i); held = held i })
+
+pub returns-clause-mark : goal.returns-clause-mark
+returns-clause-mark c = search rules
+
+pub returns-in_default-clause-mark : goal.returns-in_default-clause-mark
+returns-in_default-clause-mark c = search rules
+
+pub returns-in_default-clause-made : goal.returns-in_default-clause-made
+returns-in_default-clause-made c = grind (arith, common_steps)

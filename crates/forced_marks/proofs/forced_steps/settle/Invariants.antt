@@ -1,0 +1,25 @@
+use Rattle.std.proofs.Common.{◌≡◌, List, ◌++◌, map}
+use Rattle.buffer_holds.specs.Counts.{total}
+use Rattle.sm_names.specs.Marks.{Mark}
+use Rattle.forest_store.specs.Forest.{Collection}
+use Rattle.forest_store.specs.Scenes.{IsSound}
+use Rattle.forest_store.specs.Snapshots.{collection_of}
+use Rattle.forced_marks.specs.Marks.{SettlesBy, stages}
+use Rattle.forced_marks.specs.Moments.{stage_of}
+use Rattle.forced_marks.proofs.StepsLeft.{steps_left}
+use Rattle.forced_marks.proofs.forced_steps.settle.Given as goal
+
+-- the moments so far lead here: what follows from here, follows behind them from the beginning
+abbrev pub invariant-steps : goal.invariant-steps
+invariant-steps l = record {
+  sound : IsSound (collection_of l.scene);
+  settles : (rest : List Mark) (after : Collection) →
+      SettlesBy l.pool (total l.holds) l.others (collection_of l.scene) rest after →
+      (marks : List Mark)
+      × SettlesBy l.pool (total l.holds) l.others (collection_of l.initial.scene) marks after
+      × (map stage_of l.all.items ++ stages l.pool l.others (collection_of l.scene) rest
+      ≡ map stage_of l.fn.moments.items ++ stages l.pool l.others (collection_of l.initial.scene) marks);
+}
+
+abbrev pub decreases-steps : goal.decreases-steps
+decreases-steps l = steps_left l.scene.nodes.items

@@ -1,0 +1,42 @@
+use Rattle.std.proofs.Common.{◌≡◌, ◌∙◌, ◌++◌, refl, sym, ap, subst, Bool, Option, Some, None}
+use Rattle.std.specs.Option.{option_map, IfSome}
+use Rattle.buffer_holds.specs.Counts.{total}
+use Rattle.forced_marks.specs.declared.decision.Decision.{Decision}
+use Rattle.forest_store.specs.Decisions.{Decision as Step, decided, mark_of, IsStep}
+use Rattle.forest_store.specs.Forest.{Collection, pages_in}
+use Rattle.forest_store.specs.Snapshots.{collection_of}
+use Rattle.forced_marks.specs.Steps.{told}
+use Rattle.forest_store.specs.Settling.{standing}
+use Rattle.forest_store.proofs.quiescence.Forcing.{forced_made}
+use Rattle.forest_store.proofs.quiescence.Steps.{decided_steps}
+use Rattle.forced_marks.proofs.next_step.decide.Goals as goal
+
+-- what is made of what is told
+twice : {A B C : Type 0} (g : B → C) (f : A → B) (o : Option A) → option_map g (option_map f o) ≡ option_map (λ x. g (f x)) o
+twice g f None = refl
+twice g f (Some x) = refl
+
+-- what holds of what is told
+of_told : (P : Step → Type 0) (o : Option Decision) → IfSome (option_map told o) P → IfSome o (λ d. P (told d))
+of_told P None h = tt
+of_told P (Some d) h = h
+
+pub returns-clause-forced : goal.returns-clause-forced
+returns-clause-forced c pool others =
+    let it : Collection = collection_of c.args.scene.now in
+    let open_is : c.is_strong_open-strong_open.result ≡ (standing (total c.args.holds.now) others it).strong_open =
+    c.is_strong_open-strong_open.ensures in
+    let value : option_map told c.in_ok-step.step ≡ decided it.nodes it.buffers
+    (standing (total c.args.holds.now) others it).strong_open =
+    let v = c.in_ok-step.ensures.value in cc in
+    forced_made (total c.args.holds.now) pool others it
+    ∙ (ap (option_map (mark_of pool (pages_in it ++ others))) (sym value)
+    ∙ twice (mark_of pool (pages_in it ++ others)) told c.in_ok-step.step)
+
+pub returns-clause-step : goal.returns-clause-step
+returns-clause-step c =
+    let it : Collection = collection_of c.args.scene.now in
+    let open_is : Bool = c.is_strong_open-strong_open.result in
+    let value : option_map told c.in_ok-step.step ≡ decided it.nodes it.buffers open_is = let v = c.in_ok-step.ensures.value in cc in
+    of_told (IsStep it) c.in_ok-step.step
+    (subst (λ (o : Option Step). IfSome o (IsStep it)) (sym value) (decided_steps it c.requires open_is))

@@ -1,0 +1,12 @@
+use Rattle.std.proofs.Common.{◌≡◌, length, reverse}
+use Rattle.sm_names.specs.declared.keys.NodeKey.{NodeKey}
+use Rattle.forced_marks.specs.KeySets.{climbs_into, has}
+use Rattle.forced_marks.proofs.node_sets.climb_all.Given as goal
+
+-- the climbs that are left come to what all come to
+abbrev pub invariant-climbs : goal.invariant-climbs
+invariant-climbs l = (key : NodeKey) →
+    climbs_into (reverse l.rest) (has l.busy) key ≡ climbs_into (reverse l.fn.nodes) (has l.initial.busy) key
+
+abbrev pub decreases-climbs : goal.decreases-climbs
+decreases-climbs l = length l.rest

@@ -1,0 +1,121 @@
+-- The actors of a script that is read from a slice.
+use Rattle.std.proofs.Common.{◌≡◌, ℕ, List, ◌++◌, Option, Some, None, Ok, Err, append-nil, sym, ap, subst, map, inl, inr, ◌∙◌}
+use Rattle.actor_scripts.specs.declared.actor_list.ActorList.{ActorList}
+use Rattle.actor_scripts.specs.ActorLists.{actors_of, script_actors}
+use Rattle.actor_scripts.specs.Reads.{IsBad, ReadsActors, ReadsWhole}
+use Rattle.report_io.specs.declared.fault.ReportFault.{ReportFault}
+use Rattle.report_io.specs.Faults.{HasReason, IsBadLine}
+use Rattle.actor_scripts.specs.declared.step.ActorScript.{ActorScript}
+use Rattle.actor_plays.specs.declared.plan.Plan.{Plan}
+use Rattle.actor_plays.specs.Plans.{planned, steps_of}
+use Rattle.outcome_texts.specs.declared.telling.Telling.{Telling}
+use Rattle.outcome_texts.specs.ClaimLines.{Text, claim_texts_of, judged}
+use Rattle.outcome_runs.specs.declared.job.Job.{Job}
+use Rattle.outcome_runs.specs.Reasons.{reason_at}
+use Rattle.outcome_runs.specs.Searches.{IsTelling, IsUnfound, IsUnheld, IsUnheldBy, IsUnjudged, IsUnlisted, IsUnsearched, IsUntold}
+
+-- what came is all that there was
+all_came : (script came : List ℕ) (after : Option (List ℕ)) → ReadsWhole (Some script) after came → came ≡ script
+all_came script came None whole = absurd whole.taken
+all_came script came (Some left) whole =
+    sym (append-nil came) ∙ ap (λ (rest : List ℕ). came ++ rest) (sym whole.at_end) ∙ sym whole.taken
+
+-- the actors are those of the slice
+pub its_actors : (script : List ℕ) (after : Option (List ℕ)) (list : ActorList) → ReadsActors (Some script) after list →
+    script_actors script ≡ Ok (actors_of list)
+its_actors script after list so =
+    subst (λ (came : List ℕ). script_actors came ≡ Ok (actors_of list)) (all_came script so.script after so.whole) so.is_list
+
+-- the bad line is its first one
+pub its_bad : (script : List ℕ) (after : Option (List ℕ)) (number : ℕ) →
+    IsBad (Some script) after number → script_actors script ≡ Err number
+its_bad script after number so =
+    subst (λ (came : List ℕ). script_actors came ≡ Err number) (all_came script so.script after so.whole) so.bad
+
+-- a bad line is told by its number, with its reason
+pub bad_told : (script : List ℕ) (number : ℕ) (fault : ReportFault) → script_actors script ≡ Err number → IsBadLine number fault →
+    HasReason (reason_at script number) fault → IsUnlisted script fault
+bad_told script number ReportFault.ReadFault bad line reason = absurd line
+bad_told script number ReportFault.TooLong bad line reason = absurd line
+bad_told script number ReportFault.WriteFault bad line reason = absurd line
+bad_told script number (ReportFault.BadLine n words) bad line reason =
+    (bad ∙ ap Err (sym line), reason ∙ ap (reason_at script) (sym line))
+bad_told script number ReportFault.HistoryFull bad line reason = absurd line
+bad_told script number ReportFault.NoMemory bad line reason = tt
+bad_told script number (ReportFault.Missing sought n) bad line reason = absurd line
+
+-- why there are no actors is why nothing is told
+pub unlisted_told : (job : Job) (script : List ℕ) (fault : ReportFault) → IsUnlisted script fault → IsUntold job script fault
+unlisted_told job script ReportFault.ReadFault why = tt
+unlisted_told job script ReportFault.TooLong why = absurd why
+unlisted_told job script ReportFault.WriteFault why = absurd why
+unlisted_told job script (ReportFault.BadLine n reason) why = inl why
+unlisted_told job script ReportFault.HistoryFull why = absurd why
+unlisted_told job script ReportFault.NoMemory why = tt
+unlisted_told job script (ReportFault.Missing sought n) why = absurd why
+
+-- so is a bad claim
+pub unheld_told : (job : Job) (script : List ℕ) (list : ActorList) (fault : ReportFault) → script_actors script ≡ Ok (actors_of list) →
+    IsUnheld job script list fault → IsUntold job script fault
+unheld_told job script list ReportFault.ReadFault is why = absurd why
+unheld_told job script list ReportFault.TooLong is why = absurd why
+unheld_told job script list ReportFault.WriteFault is why = absurd why
+unheld_told job script list (ReportFault.BadLine n reason) is why = inr (list, is, why)
+unheld_told job script list ReportFault.HistoryFull is why = tt
+unheld_told job script list ReportFault.NoMemory is why = tt
+unheld_told job script list (ReportFault.Missing sought n) is why = absurd why
+
+-- by the plans of the list
+pub unheld_in : (job : Job) (script : List ℕ) (list : ActorList) (plans : List Plan) (fault : ReportFault) →
+    map steps_of plans ≡ map (λ (one : ActorScript). planned job.once one.steps.items) list.scripts.items →
+    IsUnheldBy script list plans fault → IsUnheld job script list fault
+unheld_in job script list plans ReportFault.ReadFault is why = absurd why
+unheld_in job script list plans ReportFault.TooLong is why = absurd why
+unheld_in job script list plans ReportFault.WriteFault is why = absurd why
+unheld_in job script list plans (ReportFault.BadLine n reason) is why = record { plans = plans; planned_steps = is; claim = why }
+unheld_in job script list plans ReportFault.HistoryFull is why = tt
+unheld_in job script list plans ReportFault.NoMemory is why = tt
+unheld_in job script list plans (ReportFault.Missing sought n) is why = absurd why
+
+-- by what a report is made of
+pub unfound_held : (script : List ℕ) (list : ActorList) (plans : List Plan) (telling : Telling) (fault : ReportFault) →
+    IsTelling script list plans telling → IsUnfound script telling fault → IsUnheldBy script list plans fault
+unfound_held script list plans telling ReportFault.ReadFault is why = absurd why
+unfound_held script list plans telling ReportFault.TooLong is why = absurd why
+unfound_held script list plans telling ReportFault.WriteFault is why = absurd why
+unfound_held script list plans telling (ReportFault.BadLine n reason) is why = record { telling = telling; is_telling = is; bad = why }
+unfound_held script list plans telling ReportFault.HistoryFull is why = tt
+unfound_held script list plans telling ReportFault.NoMemory is why = tt
+unfound_held script list plans telling (ReportFault.Missing sought n) is why = absurd why
+
+-- by the lines that are claims
+pub unjudged_found : (script : List ℕ) (telling : Telling) (texts : List Text) (fault : ReportFault) → texts ≡ claim_texts_of script →
+    IsUnjudged telling texts fault → IsUnfound script telling fault
+unjudged_found script telling texts ReportFault.ReadFault is why = absurd why
+unjudged_found script telling texts ReportFault.TooLong is why = absurd why
+unjudged_found script telling texts ReportFault.WriteFault is why = absurd why
+unjudged_found script telling texts (ReportFault.BadLine n reason) is why = ap (judged telling) (sym is) ∙ why
+unjudged_found script telling texts ReportFault.HistoryFull is why = absurd why
+unjudged_found script telling texts ReportFault.NoMemory is why = tt
+unjudged_found script telling texts (ReportFault.Missing sought n) is why = absurd why
+
+-- a search that was not made to its end
+pub unsearched_found : (script : List ℕ) (telling : Telling) (fault : ReportFault) → IsUnsearched fault → IsUnfound script telling fault
+unsearched_found script telling ReportFault.ReadFault why = absurd why
+unsearched_found script telling ReportFault.TooLong why = absurd why
+unsearched_found script telling ReportFault.WriteFault why = absurd why
+unsearched_found script telling (ReportFault.BadLine n reason) why = absurd why
+unsearched_found script telling ReportFault.HistoryFull why = tt
+unsearched_found script telling ReportFault.NoMemory why = tt
+unsearched_found script telling (ReportFault.Missing sought n) why = absurd why
+
+-- a bad claim is told by its number
+pub claim_bad : (telling : Telling) (texts : List Text) (number : ℕ) (fault : ReportFault) → judged telling texts ≡ Err number →
+    IsBadLine number fault → IsUnjudged telling texts fault
+claim_bad telling texts number ReportFault.ReadFault bad line = absurd line
+claim_bad telling texts number ReportFault.TooLong bad line = absurd line
+claim_bad telling texts number ReportFault.WriteFault bad line = absurd line
+claim_bad telling texts number (ReportFault.BadLine n reason) bad line = bad ∙ ap Err (sym line)
+claim_bad telling texts number ReportFault.HistoryFull bad line = absurd line
+claim_bad telling texts number ReportFault.NoMemory bad line = tt
+claim_bad telling texts number (ReportFault.Missing sought n) bad line = absurd line

@@ -1,0 +1,12 @@
+use Rattle.std.proofs.Common.{◌∙◌, Bool, ap}
+use Rattle.outcome_runs.specs.Searches.{judged_ending}
+use Rattle.outcome_runs.proofs.telling.report_of.Goals as goal
+
+-- the claims come behind the report
+pub returns : goal.returns
+returns c = record {
+  report = c.push_report.new.text.items;
+  is_report = rw c.new-text.ensures.items at c.in_ok-push_report.ensures;
+  whole = c.in_ok-push_claims.ensures;
+  ending_is = c.judged_end.ensures ∙ ap (λ (b : Bool). judged_ending b c.args.found.now.complete) c.has_broken-broken.ensures;
+}

@@ -1,0 +1,4 @@
+pub mod Endings
+pub mod Explored
+pub mod Reasons
+pub mod Searches

@@ -1,0 +1,190 @@
+-- What is told of a search through the orders of a script.
+use Rattle.std.specs.Prelude.{ℕ, ◌≡◌, ◌-◌, ◌==◌, if◌then◌else◌, Bool, true, false, List, [], ◌++◌, vec_len, map, slice_get, Option, Some, None, Ok, Err, Result, MatchOption, All, ◌⊎◌, ◌≤◌, ⊤}
+use Rattle.actor_scripts.specs.declared.actor_list.ActorList.{ActorList}
+use Rattle.actor_scripts.specs.declared.step.ActorScript.{ActorScript}
+use Rattle.actor_scripts.specs.ActorLists.{actors_of, script_actors}
+use Rattle.actor_plays.specs.declared.plan.Plan.{Plan}
+use Rattle.actor_plays.specs.Plans.{planned, steps_of}
+use Rattle.play_search.specs.declared.exploring.Exploration.{Exploration}
+use Rattle.play_search.specs.declared.exploring.Found.{Found}
+use Rattle.play_search.specs.declared.fault.ExploreFault.{ExploreFault}
+use Rattle.play_search.specs.declared.replay.Setting.{Setting}
+use Rattle.play_search.specs.Searches.{IsFound}
+use Rattle.sm_names.specs.declared.rules.TheConstants.{MAX_COLLECTIONS, MAX_EVENTS, MAX_HANDLES, MAX_NODES, MAX_TRACKERS}
+use Rattle.report_io.specs.declared.fault.ReportFault.{ReportFault}
+use Rattle.outcome_texts.specs.declared.telling.Telling.{Telling}
+use Rattle.outcome_texts.specs.declared.verdicts.ClaimLine.{ClaimLine}
+use Rattle.outcome_texts.specs.ClaimLines.{Text, claim_texts_of, claims_in, judged}
+use Rattle.outcome_texts.specs.Lines.{step_lines_of, steps_in}
+use Rattle.outcome_texts.specs.Plays.{IsPlayText}
+use Rattle.outcome_texts.specs.Reports.{IsReport}
+use Rattle.outcome_texts.specs.Verdicts.{claims_text, has_broken}
+use Rattle.outcome_runs.specs.declared.job.Ending.{Ending}
+use Rattle.outcome_runs.specs.declared.job.Job.{Job}
+use Rattle.outcome_runs.specs.Reasons.{reason_at}
+
+-- a core with the pages that are asked for, and the greatest limits; the seed of its tables changes no reply
+abbrev pub setting_of : Job → List ℕ → Setting
+setting_of job seed = record {
+  pages = job.pages;
+  limits = record { events = MAX_EVENTS; nodes = MAX_NODES; collections = MAX_COLLECTIONS; trackers = MAX_TRACKERS; handles = MAX_HANDLES };
+  seed = seed;
+}
+
+-- each outcome that was found has a play of the actors of these plans that comes to it, and no more states were met than are asked for
+pub record IsSearch (plans : List Plan) (job : Job) (seed : List ℕ) (found : Exploration) : Type 0 where
+  pub real : All (IsFound plans (setting_of job seed)) found.outcomes.items
+  pub states : found.states ≤ job.states
+
+-- how a search ended of which something is told
+abbrev pub whole_ending : Bool → Ending
+whole_ending true = Ending.Whole
+whole_ending false = Ending.Part
+
+-- the outcome of this number, from 1
+abbrev pub outcome_at : List Found → ℕ → Option Found
+outcome_at outcomes number = if number == 0 then None else slice_get outcomes (number - 1)
+
+-- how a search ended whose claims were judged: one of them does not hold, or none
+abbrev pub judged_ending : Bool → Bool → Ending
+judged_ending true complete = Ending.Broken
+judged_ending false complete = whole_ending complete
+
+-- the text is the report, with what is said of the claims
+pub record IsJudged (telling : Telling) (found : Exploration) (claims : List ClaimLine) (text : List ℕ) (ending : Ending) : Type 0 where
+  pub report : List ℕ
+  pub is_report : IsReport telling found report
+  pub whole : text ≡ report ++ claims_text telling found claims
+  pub ending_is : ending ≡ judged_ending (has_broken telling found claims) found.complete
+
+-- the text is the play of the outcome of this number; if there is none, nothing is told
+abbrev pub IsPlayed : Telling → Exploration → ℕ → List ℕ → Ending → Type 0
+IsPlayed telling found number text ending = MatchOption (outcome_at found.outcomes.items number)
+    ((text ≡ []) × (ending ≡ Ending.Missing))
+    (λ one. IsPlayText telling one number (vec_len found.outcomes) text × (ending ≡ whole_ending found.complete))
+
+-- the text is the report, or the play of the outcome that is asked for
+abbrev pub IsText : Telling → Exploration → List ClaimLine → Option ℕ → List ℕ → Ending → Type 0
+IsText telling found claims None text ending = IsJudged telling found claims text ending
+IsText telling found claims (Some number) text ending = IsPlayed telling found number text ending
+
+-- it is told by the lines of the script that are steps of the clients of this list, and by these plans
+pub record IsTelling (script : List ℕ) (list : ActorList) (plans : List Plan) (telling : Telling) : Type 0 where
+  pub labels : telling.labels.now ≡ list.labels.items
+  pub steps : steps_in telling.steps.now ≡ step_lines_of list.labels.items script
+  pub its_plans : telling.plans.now ≡ plans
+
+-- what was found is told, with what it says of these claims
+pub record HasFound (job : Job) (seed : List ℕ) (telling : Telling) (claims : List ClaimLine) (text : List ℕ) (ending : Ending) : Type 0 where
+  pub found : Exploration
+  pub search : IsSearch telling.plans.now job seed found
+  pub is_text : IsText telling found claims job.outcome text ending
+
+-- nothing is told, since a play that was made again went on otherwise than before
+pub record IsUnlike (text : List ℕ) (ending : Ending) : Type 0 where
+  pub nothing : text ≡ []
+  pub so : ending ≡ Ending.Unlike
+
+-- what was found is told, unless a play was unlike itself
+abbrev pub IsFoundWith : Job → List ℕ → Telling → List ClaimLine → List ℕ → Ending → Type 0
+IsFoundWith job seed telling claims text ending = HasFound job seed telling claims text ending ⊎ IsUnlike text ending
+
+-- the same with the claims of the script, which are all good
+pub record IsFoundBy (job : Job) (seed script : List ℕ) (telling : Telling) (text : List ℕ) (ending : Ending) : Type 0 where
+  pub claims : List ClaimLine
+  pub good : judged telling (claim_texts_of script) ≡ Ok (claims_in claims)
+  pub told : IsFoundWith job seed telling claims text ending
+
+-- the same by what a report of this list and these plans is made of
+pub record IsToldBy (job : Job) (seed script : List ℕ) (list : ActorList) (plans : List Plan) (text : List ℕ) (ending : Ending) : Type 0 where
+  pub telling : Telling
+  pub is_telling : IsTelling script list plans telling
+  pub told : IsFoundBy job seed script telling text ending
+
+-- what was found of the script of this list is told: each outcome has a play of its actors that comes to it
+pub record HasSearched (job : Job) (script : List ℕ) (list : ActorList) (text : List ℕ) (ending : Ending) : Type 0 where
+  pub plans : List Plan
+  pub planned_steps : map steps_of plans ≡ map (λ (one : ActorScript). planned job.once one.steps.items) list.scripts.items
+  pub seed : List ℕ
+  pub told : IsToldBy job seed script list plans text ending
+
+-- the same of the script
+pub record IsTold (job : Job) (script : List ℕ) (text : List ℕ) (ending : Ending) : Type 0 where
+  pub list : ActorList
+  pub is_list : script_actors script ≡ Ok (actors_of list)
+  pub searched : HasSearched job script list text ending
+
+-- the line of this number is the first bad one, for this reason
+abbrev pub IsFirstBad : List ℕ → ℕ → List ℕ → Type 0
+IsFirstBad script number reason = (script_actors script ≡ Err number) × (reason ≡ reason_at script number)
+
+-- the line of this number is the first bad claim of the script, by what a report of this list and these plans is made of
+pub record HasBadClaim (script : List ℕ) (list : ActorList) (plans : List Plan) (number : ℕ) : Type 0 where
+  pub telling : Telling
+  pub is_telling : IsTelling script list plans telling
+  pub bad : judged telling (claim_texts_of script) ≡ Err number
+
+-- the same of the script of this list
+pub record HasBadOne (job : Job) (script : List ℕ) (list : ActorList) (number : ℕ) : Type 0 where
+  pub plans : List Plan
+  pub planned_steps : map steps_of plans ≡ map (λ (one : ActorScript). planned job.once one.steps.items) list.scripts.items
+  pub claim : HasBadClaim script list plans number
+
+-- it is the first bad line of the script: of the steps, for this reason, or if these are good of the claims
+abbrev pub IsBadOf : Job → List ℕ → ℕ → List ℕ → Type 0
+IsBadOf job script number reason = IsFirstBad script number reason
+    ⊎ ((list : ActorList) × (script_actors script ≡ Ok (actors_of list)) × HasBadOne job script list number)
+
+-- why a script has no actors
+abbrev pub IsUnlisted : List ℕ → ReportFault → Type 0
+IsUnlisted script ReportFault.ReadFault = ⊤
+IsUnlisted script (ReportFault.BadLine number reason) = IsFirstBad script number reason.items
+IsUnlisted script ReportFault.NoMemory = ⊤
+IsUnlisted script _ = ⊥
+
+-- what comes of a search that has no answer: nothing, where a play that was made again went on otherwise
+abbrev pub stop_told : ExploreFault → Result (Option Exploration) ReportFault
+stop_told ExploreFault.HistoryFull = Err ReportFault.HistoryFull
+stop_told ExploreFault.NoMemory = Err ReportFault.NoMemory
+stop_told ExploreFault.Unlike = Ok None
+
+-- why a search was not made to its end
+abbrev pub IsUnsearched : ReportFault → Type 0
+IsUnsearched ReportFault.HistoryFull = ⊤
+IsUnsearched ReportFault.NoMemory = ⊤
+IsUnsearched _ = ⊥
+
+-- why nothing is told where the lines of the steps are good: only that of a bad claim says which
+abbrev pub IsUnfound : List ℕ → Telling → ReportFault → Type 0
+IsUnfound script telling (ReportFault.BadLine number reason) = judged telling (claim_texts_of script) ≡ Err number
+IsUnfound script telling ReportFault.HistoryFull = ⊤
+IsUnfound script telling ReportFault.NoMemory = ⊤
+IsUnfound script telling _ = ⊥
+
+-- the same, by the lines that are claims
+abbrev pub IsUnjudged : Telling → List Text → ReportFault → Type 0
+IsUnjudged telling texts (ReportFault.BadLine number reason) = judged telling texts ≡ Err number
+IsUnjudged telling texts ReportFault.NoMemory = ⊤
+IsUnjudged telling texts _ = ⊥
+
+-- the same, by what a report of this list and these plans is made of
+abbrev pub IsUnheldBy : List ℕ → ActorList → List Plan → ReportFault → Type 0
+IsUnheldBy script list plans (ReportFault.BadLine number reason) = HasBadClaim script list plans number
+IsUnheldBy script list plans ReportFault.HistoryFull = ⊤
+IsUnheldBy script list plans ReportFault.NoMemory = ⊤
+IsUnheldBy script list plans _ = ⊥
+
+-- the same of the script of this list
+abbrev pub IsUnheld : Job → List ℕ → ActorList → ReportFault → Type 0
+IsUnheld job script list (ReportFault.BadLine number reason) = HasBadOne job script list number
+IsUnheld job script list ReportFault.HistoryFull = ⊤
+IsUnheld job script list ReportFault.NoMemory = ⊤
+IsUnheld job script list _ = ⊥
+
+-- why nothing is told of a script: only that of a bad line says which
+abbrev pub IsUntold : Job → List ℕ → ReportFault → Type 0
+IsUntold job script ReportFault.ReadFault = ⊤
+IsUntold job script (ReportFault.BadLine number reason) = IsBadOf job script number reason.items
+IsUntold job script ReportFault.HistoryFull = ⊤
+IsUntold job script ReportFault.NoMemory = ⊤
+IsUntold job script _ = ⊥

@@ -1,0 +1,12 @@
+//! Scripts of actors, explored: from first byte to report.
+#![tactic(auto)]
+
+mod explore;
+mod job;
+mod program;
+mod reasons;
+mod telling;
+
+pub use explore::explore_script;
+pub use job::{Ending, Job};
+pub use program::explore_to_exit;

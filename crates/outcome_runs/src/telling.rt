@@ -1,0 +1,361 @@
+//! What is told of a search.
+ghost use Rattle.std.specs.Prelude.{◌≡◌, ◌≤◌, ◌^◌, ◌<◌, [], IfErr, IfOk, IfSome, Ok, length, map, option_map};
+ghost use Rattle.sm_names.specs.declared.rules.TheConstants.{MAX_PAGES};
+ghost use Rattle.script_lines.specs.declared.TheConstants.{MOST_BYTES};
+ghost use Rattle.actor_scripts.specs.declared.step.ActorScript.{ActorScript as Script};
+ghost use Rattle.actor_scripts.specs.ActorLists.{actors_of, script_actors};
+ghost use Rattle.actor_plays.specs.Plans.{planned, steps_of};
+ghost use Rattle.outcome_texts.specs.ClaimLines.{claim_texts_of, claims_in, judged, texts_in};
+ghost use Rattle.outcome_texts.specs.Lines.{step_lines_of, steps_in};
+ghost use Rattle.outcome_runs.specs.Searches.{HasSearched, IsFoundBy, IsFoundWith, IsJudged, IsPlayed, IsSearch, IsText, IsTold, IsToldBy, IsUnfound, IsUnheld, IsUnheldBy, IsUnjudged, IsUnlike, IsUnlisted, IsUnsearched, IsUntold, judged_ending, outcome_at, stop_told, whole_ending};
+
+use crate::job::{Ending, Job};
+use crate::reasons::reason_of;
+use actor_plays::Plan;
+use actor_scripts::{ActorList, ActorScriptFault, read_actors};
+use outcome_texts::{
+    BadClaim, ClaimLine, ClaimText, LabelNames, StepLine, Telling, claim_texts, has_broken,
+    judged_claims, names_of, push_claims, push_play, push_report, step_lines,
+};
+use play_search::{Exploration, ExploreFault, Found, Setting, explore, plans_of};
+use report_io::{ReportFault, bad_line};
+use script_lines::{Label, LabelHash};
+use sm_names::Limits;
+use std::alloc::{AllocError, Global};
+
+// What is written, and how the search ended.
+#[derive(Drop)]
+pub(crate) struct Told {
+    pub(crate) text: Vec<u8>,
+    pub(crate) ending: Ending,
+}
+
+// The actors of the script.
+fn list_of(alloc: Global, hash: LabelHash, script: &[u8]) -> Result<ActorList, ReportFault>
+    ensures ok { IfOk result (λ list. script_actors script.now ≡ Ok (actors_of list)) }
+    ensures err { IfErr result (IsUnlisted script.now) }
+{
+    let mut reader = script;
+    match read_actors(alloc, hash, &mut reader) {
+        Ok(list) => Ok(list),
+        Err(ActorScriptFault::ReadFault) => Err(ReportFault::ReadFault),
+        Err(ActorScriptFault::NoMemory) => Err(ReportFault::NoMemory),
+        Err(ActorScriptFault::BadLine(number)) => {
+            Err(bad_line(alloc, number, reason_of(script, number)))
+        }
+    }
+}
+
+// What comes of a search that has no answer: nothing, where a play that was made again went on otherwise.
+fn stopped_by(fault: ExploreFault) -> Result<Option<Exploration>, ReportFault>
+    ensures { result ≡ stop_told fault }
+{
+    match fault {
+        ExploreFault::HistoryFull => Err(ReportFault::HistoryFull),
+        ExploreFault::NoMemory => Err(ReportFault::NoMemory),
+        ExploreFault::Unlike => Ok(None),
+    }
+}
+
+// What the search through these plans finds; `None` where a play that was made again went on otherwise.
+fn searched(
+    alloc: Global,
+    seed: [u8; 16],
+    job: Job,
+    plans: &[Plan],
+) -> Result<Option<Exploration>, ReportFault>
+    requires { (1 ≤ job.pages) × (job.pages ≤ MAX_PAGES) }
+    ensures ok { IfOk result (λ found. IfSome found (IsSearch plans.now job seed)) }
+    ensures err { IfErr result IsUnsearched }
+{
+    let setting = Setting {
+        pages: job.pages,
+        limits: Limits::full(),
+        seed,
+    };
+    match explore(alloc, setting, plans, job.states as usize) {
+        Ok(found) => Ok(Some(found)),
+        Err(fault) => stopped_by(fault),
+    }
+}
+
+// How a search ended of which something is told.
+fn ending_of(complete: bool) -> Ending
+    ensures { result ≡ whole_ending complete }
+{
+    if complete {
+        Ending::Whole
+    } else {
+        Ending::Part
+    }
+}
+
+// The outcome of this number, from 1.
+fn outcome_of(outcomes: &[Found], number: u64) -> Option<&Found>
+    ensures { option_map (λ found. found.now) result ≡ outcome_at outcomes.now number }
+{
+    if number == 0 {
+        return None;
+    }
+    outcomes.get((number - 1) as usize)
+}
+
+// Nothing is written, since a play that was made again went on otherwise.
+fn unlike(alloc: Global) -> Told
+    ensures { IsUnlike result.text.items result.ending }
+{
+    Told {
+        text: Vec::new(alloc),
+        ending: Ending::Unlike,
+    }
+}
+
+// How a search ended whose claims were judged.
+fn judged_end(broken: bool, complete: bool) -> Ending
+    ensures { result ≡ judged_ending broken complete }
+{
+    if broken {
+        Ending::Broken
+    } else {
+        ending_of(complete)
+    }
+}
+
+// The report, with what is said of the claims, and how the search ended.
+fn report_of(
+    alloc: Global,
+    telling: &Telling<'_>,
+    found: &Exploration,
+    claims: &[ClaimLine<'_>],
+) -> Result<Told, AllocError>
+    ensures { IfOk result (λ told. IsJudged telling.now found.now claims.now told.text.items told.ending) }
+{
+    let mut text = Vec::new(alloc);
+    push_report(alloc, &mut text, telling, found)?;
+    push_claims(alloc, &mut text, telling, found, claims)?;
+    let broken = has_broken(telling, found, claims);
+    Ok(Told {
+        text,
+        ending: judged_end(broken, found.complete),
+    })
+}
+
+// The play of the outcome of this number, and how the search ended.
+fn play_of(
+    alloc: Global,
+    telling: &Telling<'_>,
+    found: &Exploration,
+    number: u64,
+) -> Result<Told, AllocError>
+    ensures { IfOk result (λ told. IsPlayed telling.now found.now number told.text.items told.ending) }
+{
+    let mut text = Vec::new(alloc);
+    let Some(one) = outcome_of(&found.outcomes, number) else {
+        return Ok(Told {
+            text,
+            ending: Ending::Missing,
+        });
+    };
+    push_play(alloc, &mut text, telling, one, number, found.outcomes.len())?;
+    Ok(Told {
+        text,
+        ending: ending_of(found.complete),
+    })
+}
+
+// What is written of what was found, and how the search ended.
+fn told_of(
+    alloc: Global,
+    telling: &Telling<'_>,
+    found: &Exploration,
+    claims: &[ClaimLine<'_>],
+    outcome: Option<u64>,
+) -> Result<Told, AllocError>
+    ensures { IfOk result (λ told. IsText telling.now found.now claims.now outcome
+        told.text.items told.ending) }
+{
+    match outcome {
+        None => report_of(alloc, telling, found, claims),
+        Some(number) => play_of(alloc, telling, found, number),
+    }
+}
+
+// The claims of these lines.
+fn claims_of<'a>(
+    alloc: Global,
+    telling: &Telling<'_>,
+    texts: &[ClaimText<'a>],
+) -> Result<Vec<ClaimLine<'a>>, ReportFault>
+    ensures ok { IfOk result (λ claims.
+        judged telling.now (texts_in texts.now) ≡ Ok (claims_in claims.items)) }
+    ensures err { IfErr result (IsUnjudged telling.now (texts_in texts.now)) }
+{
+    match judged_claims(alloc, telling, texts) {
+        Ok(claims) => Ok(claims),
+        Err(BadClaim::NoMemory) => Err(ReportFault::NoMemory),
+        Err(BadClaim::Line { number, reason }) => Err(bad_line(alloc, number, reason)),
+    }
+}
+
+// The claims of the script.
+fn script_claims<'a>(
+    alloc: Global,
+    telling: &Telling<'_>,
+    script: &'a [u8],
+) -> Result<Vec<ClaimLine<'a>>, ReportFault>
+    requires { length script.now ≤ MOST_BYTES }
+    ensures ok { IfOk result (λ claims.
+        judged telling.now (claim_texts_of script.now) ≡ Ok (claims_in claims.items)) }
+    ensures err { IfErr result (IsUnfound script.now telling.now) }
+{
+    match claim_texts(alloc, script) {
+        Ok(texts) => claims_of(alloc, telling, &texts),
+        Err(_) => Err(ReportFault::NoMemory),
+    }
+}
+
+// What is written of the script's actors, whose claims are these, and how the search ended.
+fn told_with(
+    alloc: Global,
+    seed: [u8; 16],
+    job: Job,
+    telling: &Telling<'_>,
+    claims: &[ClaimLine<'_>],
+) -> Result<Told, ReportFault>
+    requires pages { (1 ≤ job.pages) × (job.pages ≤ MAX_PAGES) }
+    ensures ok { IfOk result (λ told. IsFoundWith job seed telling.now claims.now
+        told.text.items told.ending) }
+    ensures err { IfErr result IsUnsearched }
+{
+    match searched(alloc, seed, job, telling.plans) {
+        Ok(Some(found)) => match told_of(alloc, telling, &found, claims, job.outcome) {
+            Ok(told) => Ok(told),
+            Err(_) => Err(ReportFault::NoMemory),
+        },
+        Ok(None) => Ok(unlike(alloc)),
+        Err(fault) => Err(fault),
+    }
+}
+
+// The same, with the claims of the script.
+fn told_from(
+    alloc: Global,
+    seed: [u8; 16],
+    job: Job,
+    script: &[u8],
+    telling: &Telling<'_>,
+) -> Result<Told, ReportFault>
+    requires pages { (1 ≤ job.pages) × (job.pages ≤ MAX_PAGES) }
+    requires few { length script.now ≤ MOST_BYTES }
+    ensures ok { IfOk result (λ told. IsFoundBy job seed script.now telling.now
+        told.text.items told.ending) }
+    ensures err { IfErr result (IsUnfound script.now telling.now) }
+{
+    match script_claims(alloc, telling, script) {
+        Ok(claims) => told_with(alloc, seed, job, telling, &claims),
+        Err(fault) => Err(fault),
+    }
+}
+
+// What a report is made of.
+fn telling_of<'a>(
+    hash: LabelHash,
+    labels: &'a [Label],
+    names: &'a LabelNames,
+    steps: &'a [StepLine<'a>],
+    plans: &'a [Plan],
+) -> Telling<'a>
+    ensures labels { result.labels.now ≡ labels.now }
+    ensures steps { result.steps.now ≡ steps.now }
+    ensures plans { result.plans.now ≡ plans.now }
+{
+    Telling {
+        labels,
+        names,
+        steps,
+        plans,
+        hash,
+    }
+}
+
+// The lines of the script that are steps of the clients of this list.
+fn steps_of_list<'a>(
+    alloc: Global,
+    script: &'a [u8],
+    list: &ActorList,
+) -> Result<Vec<StepLine<'a>>, AllocError>
+    requires { length script.now ≤ MOST_BYTES }
+    ensures { IfOk result (λ steps. steps_in steps.items
+        ≡ step_lines_of list.now.labels.items script.now) }
+{
+    step_lines(alloc, &list.labels, script)
+}
+
+// What is written of the script of this list, by these steps and plans, and how the search ended.
+fn told_by(
+    alloc: Global,
+    seed: [u8; 16],
+    job: Job,
+    script: &[u8],
+    list: &ActorList,
+    steps: &[StepLine<'_>],
+    plans: &[Plan],
+) -> Result<Told, ReportFault>
+    requires pages { (1 ≤ job.pages) × (job.pages ≤ MAX_PAGES) }
+    requires few { length script.now ≤ MOST_BYTES }
+    requires steps { steps_in steps.now ≡ step_lines_of list.now.labels.items script.now }
+    ensures ok { IfOk result (λ told. IsToldBy job seed script.now list.now plans.now
+        told.text.items told.ending) }
+    ensures err { IfErr result (IsUnheldBy script.now list.now plans.now) }
+{
+    let hash = LabelHash::new(seed);
+    let names = match names_of(alloc, hash, &list.labels, steps) {
+        Ok(names) => names,
+        Err(_) => return Err(ReportFault::NoMemory),
+    };
+    let telling = telling_of(hash, &list.labels, &names, steps, plans);
+    told_from(alloc, seed, job, script, &telling)
+}
+
+// The same, where the actors of the script are these.
+fn told_in(
+    alloc: Global,
+    seed: [u8; 16],
+    job: Job,
+    script: &[u8],
+    list: &ActorList,
+) -> Result<Told, ReportFault>
+    requires pages { (1 ≤ job.pages) × (job.pages ≤ MAX_PAGES) }
+    requires few { length script.now ≤ MOST_BYTES }
+    ensures ok { IfOk result (λ told. HasSearched job script.now list.now told.text.items told.ending) }
+    ensures err { IfErr result (IsUnheld job script.now list.now) }
+{
+    let plans = match plans_of(alloc, &list.scripts, job.once) {
+        Ok(plans) => plans,
+        Err(_) => return Err(ReportFault::NoMemory),
+    };
+    let steps = match steps_of_list(alloc, script, list) {
+        Ok(steps) => steps,
+        Err(_) => return Err(ReportFault::NoMemory),
+    };
+    told_by(alloc, seed, job, script, list, &steps, &plans)
+}
+
+// What is written of a search through the orders of a script, and how it ended.
+pub(crate) fn told_of_script(
+    alloc: Global,
+    seed: [u8; 16],
+    job: Job,
+    script: &[u8],
+) -> Result<Told, ReportFault>
+    requires pages { (1 ≤ job.pages) × (job.pages ≤ MAX_PAGES) }
+    requires few { length script.now ≤ MOST_BYTES }
+    ensures ok { IfOk result (λ told. IsTold job script.now told.text.items told.ending) }
+    ensures err { IfErr result (IsUntold job script.now) }
+{
+    let list = match list_of(alloc, LabelHash::new(seed), script) {
+        Ok(list) => list,
+        Err(fault) => return Err(fault),
+    };
+    told_in(alloc, seed, job, script, &list)
+}

@@ -1,0 +1,5 @@
+pub mod Calling
+pub mod Claiming
+pub mod Counting
+pub mod Joining
+pub mod Stepping

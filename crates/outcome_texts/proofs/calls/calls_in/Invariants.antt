@@ -1,0 +1,7 @@
+use Rattle.std.proofs.Common.{◌≡◌, ◌++◌, [], take, drop}
+use Rattle.outcome_texts.specs.Calls.{calls_from}
+use Rattle.outcome_texts.proofs.calls.calls_in.Given as goal
+
+-- the calls so far, with those of the turns that are left, are all
+abbrev pub invariant-turns : goal.invariant-turns
+invariant-turns l = l.calls.items ++ calls_from l.outcome (take l.at l.turns) (drop l.at l.turns) ≡ calls_from l.outcome [] l.turns

@@ -1,0 +1,7 @@
+use Rattle.std.proofs.Common.{◌≡◌}
+use Rattle.outcome_texts.specs.Facts.{any_below, has_node}
+use Rattle.outcome_texts.proofs.facts.has_node.Given as goal
+
+-- so far one of the actors did, or none
+abbrev pub invariant-actors : goal.invariant-actors
+invariant-actors l = l.found ≡ any_below (has_node l.telling l.outcome l.name l.fact) l.actor

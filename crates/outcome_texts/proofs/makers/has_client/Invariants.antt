@@ -1,0 +1,7 @@
+use Rattle.std.proofs.Common.{◌≡◌, Some}
+use Rattle.outcome_texts.specs.Facts.{any_below, is_meant}
+use Rattle.outcome_texts.proofs.makers.has_client.Given as goal
+
+-- so far one of the clients is meant, or none
+abbrev pub invariant-actors : goal.invariant-actors
+invariant-actors l = l.found ≡ any_below (is_meant l.labels (Some l.client)) l.actor

@@ -1,0 +1,7 @@
+use Rattle.std.proofs.Common.{◌≡◌}
+use Rattle.outcome_texts.specs.Facts.{any_below, makes_at}
+use Rattle.outcome_texts.proofs.makers.makes_in.Given as goal
+
+-- so far one of the steps does, or none
+abbrev pub invariant-steps : goal.invariant-steps
+invariant-steps l = l.found ≡ any_below (makes_at l.telling l.trackers l.label l.actor l.plan) l.at

@@ -1,0 +1,7 @@
+use Rattle.std.proofs.lemmas.Result.{on_ok_weaker}
+use Rattle.outcome_texts.proofs.report.push_report.Goals as goal
+
+pub returns : goal.returns
+returns c = on_ok_weaker c.push_told.result
+    (λ is. record { steps = c.steps_in-steps.result; orders = c.deref-2.result.now; rows = c.deref-3.result.now; appended = is })
+    c.push_told.ensures

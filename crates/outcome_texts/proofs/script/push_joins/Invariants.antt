@@ -1,0 +1,7 @@
+use Rattle.std.proofs.Common.{◌≡◌, ◌++◌, take}
+use Rattle.outcome_texts.specs.Plays.{joins_text}
+use Rattle.outcome_texts.proofs.script.push_joins.Given as goal
+
+-- so far the joins of these clients
+abbrev pub invariant-loop-label : goal.invariant-loop-label
+invariant-loop-label l = l.text.items ≡ l.fn.text.items ++ joins_text (take l.label-index l.labels)

@@ -1,0 +1,222 @@
+-- What is so in an outcome, as claims say it.
+use Rattle.std.specs.Prelude.{ℕ, zero, suc, ◌+◌, ◌==◌, ◌&&◌, ◌||◌, nat_lt, Bool, true, false, not, if◌then◌else◌, List, length, slice_get, Option, Some, None}
+use Rattle.std.specs.List.{list_any}
+use Rattle.std.specs.Option.{option_and_then, option_map_or}
+use Rattle.sm_names.specs.declared.call_parts.Product.{Product}
+use Rattle.sm_names.specs.declared.keys.NodeKey.{NodeKey}
+use Rattle.sm_names.specs.declared.outcomes.Cause.{Cause}
+use Rattle.sm_names.specs.declared.outcomes.Failure.{Failure}
+use Rattle.sm_names.specs.declared.outcomes.Misuse.{Misuse}
+use Rattle.sm_names.specs.CallRows.{is_tracker, row_of}
+use Rattle.sm_names.specs.Numbers.{misuse_number}
+use Rattle.sm_names.specs.Sameness.{same_key}
+use Rattle.script_lines.specs.declared.label.Label.{Label}
+use Rattle.script_lines.specs.declared.line.Line.{Line}
+use Rattle.script_lines.specs.Labels.{same_label}
+use Rattle.script_lines.specs.Lines.{line_of}
+use Rattle.claim_lines.specs.declared.claim.Fact.{Fact}
+use Rattle.claim_lines.specs.declared.claim.NodeFact.{NodeFact}
+use Rattle.claim_lines.specs.declared.claim.NodeName.{NodeName}
+use Rattle.claim_lines.specs.declared.claim.SaidCause.{SaidCause}
+use Rattle.actor_scripts.specs.declared.step.Step.{Step}
+use Rattle.actor_plays.specs.declared.ending.Fate.{Fate}
+use Rattle.actor_plays.specs.declared.plan.Plan.{Plan}
+use Rattle.actor_plays.specs.declared.plan.Planned.{Planned}
+use Rattle.actor_plays.specs.Plans.{steps_of}
+use Rattle.play_search.specs.declared.outcome.ActorOutcome.{ActorOutcome}
+use Rattle.play_search.specs.declared.outcome.Became.{Became}
+use Rattle.play_search.specs.declared.outcome.Outcome.{Outcome}
+use Rattle.outcome_texts.specs.Plays.{line_told}
+use Rattle.outcome_texts.specs.declared.lines.StepLine.{StepLine}
+use Rattle.outcome_texts.specs.declared.telling.Telling.{Telling}
+
+-- the test holds of one of the numbers below this one
+abbrev pub any_below : (ℕ → Bool) → ℕ → Bool
+any_below test zero = false
+any_below test (suc count) = any_below test count || test count
+
+-- of how many of them it holds
+abbrev pub count_below : (ℕ → Bool) → ℕ → ℕ
+count_below test zero = 0
+count_below test (suc count) = count_below test count + (if test count then 1 else 0)
+
+-- ---- what lines bind, and whose they are
+
+-- the label that a line binds
+abbrev pub label_said : Line → Option Label
+label_said (Line.Ask client request) = request.binds
+label_said _ = None
+
+-- the label that a line of these bytes binds
+abbrev pub line_label : List ℕ → Option Label
+line_label bytes = option_and_then label_said (line_of bytes)
+
+-- the line of the step at this place of the actor's plan binds the label
+abbrev pub binds : Telling → ℕ → Label → ℕ → Bool
+binds telling actor label at = option_map_or
+    (λ (step : StepLine). option_map_or (same_label label) (line_label step.line.now) false)
+    (line_told telling actor at) false
+
+-- the client of this place is meant: any, or the one that is named
+abbrev pub is_meant : List Label → Option Label → ℕ → Bool
+is_meant labels None actor = true
+is_meant labels (Some client) actor = option_map_or (same_label client) (slice_get labels actor) false
+
+-- what a call makes is a node
+abbrev pub makes_node : Product → Bool
+makes_node Product.Collection = true
+makes_node Product.Node = true
+makes_node _ = false
+
+-- a step that makes a tracker, or one that makes a node
+abbrev pub makes : Bool → Step → Bool
+makes trackers (Step.Ask r) = if trackers then is_tracker (row_of r.kind).brings else makes_node (row_of r.kind).brings
+makes trackers (Step.Poll tracker) = false
+
+-- the step at this place of the actor's plan makes one, and its line binds it to the label
+abbrev pub makes_at : Telling → Bool → Label → ℕ → Plan → ℕ → Bool
+makes_at telling trackers label actor plan at =
+    option_map_or (λ (next : Planned). makes trackers next.step) (slice_get (steps_of plan) at) false && binds telling actor label at
+
+-- the client of this place is meant, and a step of its plan makes what is named
+abbrev pub is_maker : Telling → Bool → NodeName → ℕ → Bool
+is_maker telling trackers name actor = is_meant telling.labels.now name.client actor && option_map_or
+    (λ (plan : Plan). any_below (makes_at telling trackers name.label actor plan) (length (steps_of plan)))
+    (slice_get telling.plans.now actor) false
+
+-- just one client makes what is named
+abbrev pub is_named : Telling → Bool → NodeName → Bool
+is_named telling trackers name = count_below (is_maker telling trackers name) (length telling.plans.now) == 1
+
+-- ---- facts
+
+-- both are the same failed allocation
+abbrev pub same_failure : Failure → Failure → Bool
+same_failure Failure.NoStrong Failure.NoStrong = true
+same_failure Failure.NoBuffers Failure.NoBuffers = true
+same_failure Failure.TooManyBuffers Failure.TooManyBuffers = true
+same_failure Failure.PoolFull Failure.PoolFull = true
+same_failure Failure.TooFew Failure.TooFew = true
+same_failure Failure.TooSmall Failure.TooSmall = true
+same_failure _ _ = false
+
+-- the misuse is the one that is said, if one is
+abbrev pub is_misuse : Option Misuse → Misuse → Bool
+is_misuse None misuse = true
+is_misuse (Some said) misuse = misuse_number said == misuse_number misuse
+
+-- so is the failed allocation
+abbrev pub is_failure : Option Failure → Failure → Bool
+is_failure None failure = true
+is_failure (Some said) failure = same_failure said failure
+
+-- the cause is such a one
+abbrev pub is_so_caused : SaidCause → Cause → Bool
+is_so_caused SaidCause.Lost Cause.Lost = true
+is_so_caused SaidCause.NoStrong Cause.NoStrong = true
+is_so_caused (SaidCause.Misused said) (Cause.Misused misuse) = is_misuse said misuse
+is_so_caused (SaidCause.Failed said) (Cause.Failed failure) = is_failure said failure
+is_so_caused _ _ = false
+
+-- so is the cause
+abbrev pub is_caused : Option SaidCause → Cause → Bool
+is_caused None cause = true
+is_caused (Some said) cause = is_so_caused said cause
+
+-- the call made the node of this key
+abbrev pub is_node : NodeKey → Became → Bool
+is_node key (Became.Node other fate) = same_key other key
+is_node key _ = false
+
+-- the actor of this place is meant, and a call whose line binds the label made the node of this key
+abbrev pub made_key : Telling → Outcome → NodeName → NodeKey → ℕ → Bool
+made_key telling outcome name key actor = is_meant telling.labels.now name.client actor && option_map_or
+    (λ (one : ActorOutcome). list_any (λ (made : ℕ × Became). is_node key made.1 && binds telling actor name.label made.0) one.made.items)
+    (slice_get outcome.actors.items actor) false
+
+-- the node of this key is one that is named, if one is
+abbrev pub is_origin : Telling → Outcome → Option NodeName → NodeKey → Bool
+is_origin telling outcome None key = true
+is_origin telling outcome (Some name) key = any_below (made_key telling outcome name key) (length outcome.actors.items)
+
+-- the fate is a failure by such a cause, through such a node
+abbrev pub is_failed : Telling → Outcome → Option SaidCause → Option NodeName → Fate → Bool
+is_failed telling outcome cause origin (Fate.Failed fault) = is_caused cause fault.cause && is_origin telling outcome origin fault.origin
+is_failed telling outcome cause origin _ = false
+
+-- the node ended
+abbrev pub is_ended : Fate → Bool
+is_ended Fate.Ended = true
+is_ended _ = false
+
+-- it is live
+abbrev pub is_live : Fate → Bool
+is_live (Fate.Live allocated) = true
+is_live _ = false
+
+-- it is left without buffers
+abbrev pub is_pending : Fate → Bool
+is_pending (Fate.Live allocated) = not allocated
+is_pending (Fate.Released allocated) = not allocated
+is_pending _ = false
+
+-- the fate is as it is said
+abbrev pub is_fate : Telling → Outcome → NodeFact → Fate → Bool
+is_fate telling outcome (NodeFact.Fails cause origin) fate = is_failed telling outcome cause origin fate
+is_fate telling outcome NodeFact.Ends fate = is_ended fate
+is_fate telling outcome NodeFact.Lives fate = is_live fate
+is_fate telling outcome NodeFact.Pending fate = is_pending fate
+
+-- so is what became of what a call made: a node
+abbrev pub became_so : Telling → Outcome → NodeFact → Became → Bool
+became_so telling outcome fact (Became.Node key fate) = option_map_or (is_fate telling outcome fact) fate false
+became_so telling outcome fact _ = false
+
+-- the actor of this place is meant, and a call whose line binds the label made a node that became so
+abbrev pub has_node : Telling → Outcome → NodeName → NodeFact → ℕ → Bool
+has_node telling outcome name fact actor = is_meant telling.labels.now name.client actor && option_map_or
+    (λ (one : ActorOutcome). list_any (λ (made : ℕ × Became). became_so telling outcome fact made.1 && binds telling actor name.label made.0)
+    one.made.items)
+    (slice_get outcome.actors.items actor) false
+
+-- the call made a tracker that fired
+abbrev pub is_fired : Became → Bool
+is_fired (Became.Tracker fired) = fired
+is_fired _ = false
+
+-- the actor of this place is meant, and a call whose line binds the label made a tracker that fired
+abbrev pub has_fired : Telling → Outcome → NodeName → ℕ → Bool
+has_fired telling outcome name actor = is_meant telling.labels.now name.client actor && option_map_or
+    (λ (one : ActorOutcome). list_any (λ (made : ℕ × Became). is_fired made.1 && binds telling actor name.label made.0) one.made.items)
+    (slice_get outcome.actors.items actor) false
+
+-- the actor of this place is not behind its last step
+abbrev pub is_left : Telling → Outcome → ℕ → Bool
+is_left telling outcome actor = option_map_or
+    (λ (one : ActorOutcome). option_map_or (λ (plan : Plan). nat_lt one.at (length (steps_of plan))) (slice_get telling.plans.now actor) false)
+    (slice_get outcome.actors.items actor) false
+
+-- it is meant, and waits for ever
+abbrev pub waits : Telling → Outcome → Label → ℕ → Bool
+waits telling outcome client actor = is_meant telling.labels.now (Some client) actor && is_left telling outcome actor
+
+-- the fact is so in the outcome
+abbrev pub has_fact : Telling → Fact → Outcome → Bool
+has_fact telling (Fact.Node name fact) outcome = any_below (has_node telling outcome name fact) (length outcome.actors.items)
+has_fact telling (Fact.Waits client) outcome = any_below (waits telling outcome client) (length outcome.actors.items)
+has_fact telling (Fact.Fires name) outcome = any_below (has_fired telling outcome name) (length outcome.actors.items)
+has_fact telling (Fact.Free pages) outcome = outcome.free == pages
+
+-- ---- what can be said
+
+-- just one client makes the origin, if there is one
+abbrev pub knows_origin : Telling → NodeFact → Bool
+knows_origin telling (NodeFact.Fails cause origin) = option_map_or (is_named telling false) origin true
+knows_origin telling _ = true
+
+-- all that the fact names is there: each node and tracker is made by just one client, and the client joins
+abbrev pub is_known : Telling → Fact → Bool
+is_known telling (Fact.Node name fact) = is_named telling false name && knows_origin telling fact
+is_known telling (Fact.Waits client) = any_below (is_meant telling.labels.now (Some client)) (length telling.labels.now)
+is_known telling (Fact.Fires name) = is_named telling true name
+is_known telling (Fact.Free pages) = true

@@ -1,0 +1,7 @@
+pub mod Calls
+pub mod ClaimLines
+pub mod Facts
+pub mod Lines
+pub mod Plays
+pub mod Reports
+pub mod Verdicts

@@ -1,0 +1,28 @@
+//! What a search through the plays of a script found, as text: the report of all outcomes, the play of one as a
+//! script, and what it says of claims.
+#![tactic(auto)]
+
+mod calls;
+mod claims;
+mod facts;
+mod labels;
+mod lines;
+mod makers;
+mod numbers;
+mod report;
+mod rows;
+mod script;
+mod telling;
+mod verdicts;
+mod words;
+
+pub use calls::calls_of;
+pub use claims::{BadClaim, ClaimText, claim_texts, judged_claims};
+pub use facts::has_fact;
+pub use labels::{LabelNames, names_of};
+pub use lines::{StepLine, step_lines};
+pub use makers::is_known;
+pub use report::push_report;
+pub use script::push_play;
+pub use telling::Telling;
+pub use verdicts::{ClaimLine, Verdict, has_broken, push_claims, verdict_on};

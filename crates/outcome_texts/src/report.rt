@@ -1,0 +1,324 @@
+//! The report of all outcomes.
+ghost use Rattle.std.specs.Prelude.{◌≡◌, ◌++◌, OnOk};
+ghost use Rattle.outcome_texts.specs.Reports.{AppendsReport, counts_text, extent_text, orders_text};
+
+use crate::numbers::push_great;
+use crate::rows::{Parts, Row, push_rows};
+use crate::telling::{Makers, Subject, Telling, subject_at};
+use crate::words::Told;
+use actor_plays::Plan;
+use indexmap::IndexSet;
+use play_search::{Exploration, Found};
+use script_lines::{LabelHash, Part, push, push_parts};
+use std::alloc::{AllocError, Global};
+
+// The steps that make nodes, or those that make trackers, by line.
+#[derive(Drop)]
+struct Makes {
+    trackers: bool,
+    places: Vec<(u64, (usize, usize))>,
+}
+
+impl Makes {
+    // Adds the step at this place of the actor's plan, if it is one.
+    fn note(
+        &mut self,
+        telling: &Telling<'_>,
+        plan: &Plan,
+        actor: usize,
+        at: usize,
+    ) -> Result<(), AllocError> {
+        let wanted = match subject_at(plan, actor, at) {
+            Some(Subject::Node(..)) => !self.trackers,
+            Some(Subject::Tracker(..)) => self.trackers,
+            _ => false,
+        };
+        if wanted {
+            if let Some(step) = telling.line(actor, at) {
+                self.places.push((step.number, (actor, at)))?;
+            }
+        }
+        Ok(())
+    }
+
+    fn note_plan(
+        &mut self,
+        telling: &Telling<'_>,
+        plan: &Plan,
+        actor: usize,
+    ) -> Result<(), AllocError> {
+        for at in 0..plan.steps.len() {
+            self.note(telling, plan, actor, at)?;
+        }
+        Ok(())
+    }
+
+    fn note_all(&mut self, telling: &Telling<'_>) -> Result<(), AllocError> {
+        let plans = telling.plans;
+        for actor in 0..plans.len() {
+            self.note_plan(telling, &plans[actor], actor)?;
+        }
+        self.places.as_mut_slice().sort_unstable();
+        Ok(())
+    }
+
+    // The subjects of these steps.
+    fn subjects(&self, alloc: Global) -> Result<Vec<Subject>, AllocError> {
+        let mut subjects = Vec::new(alloc);
+        for (_, (actor, at)) in &self.places {
+            subjects.push(if self.trackers {
+                Subject::Tracker(*actor, *at)
+            } else {
+                Subject::Node(*actor, *at)
+            })?;
+        }
+        Ok(subjects)
+    }
+}
+
+// What the steps make that make nodes, or those that make trackers, by line.
+fn made_subjects(
+    alloc: Global,
+    telling: &Telling<'_>,
+    trackers: bool,
+) -> Result<Vec<Subject>, AllocError> {
+    let mut makes = Makes {
+        trackers,
+        places: Vec::new(alloc),
+    };
+    makes.note_all(telling)?;
+    makes.subjects(alloc)
+}
+
+fn client_subjects(alloc: Global, clients: usize) -> Result<Vec<Subject>, AllocError> {
+    let mut subjects = Vec::new(alloc);
+    for client in 0..clients {
+        subjects.push(Subject::Client(client))?;
+    }
+    Ok(subjects)
+}
+
+// The steps that made the nodes of each outcome.
+fn makers_of(alloc: Global, outcomes: &[Found]) -> Result<Vec<Makers>, AllocError> {
+    let mut makers = Vec::new(alloc);
+    for found in outcomes {
+        makers.push(Makers::of(alloc, found)?)?;
+    }
+    Ok(makers)
+}
+
+// What a report tells of.
+#[derive(Clone, Copy)]
+struct Outcomes<'a> {
+    alloc: Global,
+    telling: &'a Telling<'a>,
+    outcomes: &'a [Found],
+    makers: &'a [Makers],
+}
+
+// Adds what became of the subject in the outcome of this place.
+fn add_outcome(
+    all: &Outcomes<'_>,
+    parts: &mut Parts,
+    subject: Subject,
+    at: usize,
+) -> Result<(), AllocError> {
+    if at < all.outcomes.len() && at < all.makers.len() {
+        let found = &all.outcomes[at];
+        let told = Told {
+            found,
+            makers: &all.makers[at],
+        };
+        let mut what = Vec::new(all.alloc);
+        all.telling.push_what(&mut what, told, subject)?;
+        let rank = (at as u64).wrapping_add(1);
+        parts.add(all.alloc, what, found.figures.share, rank)?;
+    }
+    Ok(())
+}
+
+// What became of the subject in all outcomes.
+fn parts_of(all: &Outcomes<'_>, subject: Subject) -> Result<Parts, AllocError> {
+    let mut parts = Parts::new(all.alloc, all.telling.hash);
+    for at in 0..all.outcomes.len() {
+        add_outcome(all, &mut parts, subject, at)?;
+    }
+    Ok(parts)
+}
+
+// Rows of one kind of subjects, of which those with the same parts stand on one.
+#[derive(Drop)]
+struct Rows {
+    signatures: IndexSet<Vec<u8>, LabelHash>,
+    rows: Vec<Row>,
+}
+
+impl Rows {
+    // Adds the subject.
+    fn add(&mut self, all: &Outcomes<'_>, subject: Subject) -> Result<(), AllocError> {
+        let parts = parts_of(all, subject)?;
+        let mut signature = Vec::new(all.alloc);
+        parts.push_signature(&mut signature)?;
+        let (place, is_new) = match self.signatures.insert_full(signature) {
+            Ok(placed) => placed,
+            Err(_) => return Err(AllocError),
+        };
+        if is_new {
+            let mut names = Vec::new(all.alloc);
+            all.telling.push_name(&mut names, subject)?;
+            self.rows.push(Row { names, parts })?;
+        } else if place < self.rows.len() {
+            let names = &mut self.rows[place].names;
+            push(names, " ")?;
+            all.telling.push_name(names, subject)?;
+        }
+        Ok(())
+    }
+}
+
+// Appends the rows of these subjects.
+fn push_subjects(
+    all: &Outcomes<'_>,
+    rows: &mut Vec<Row>,
+    subjects: &[Subject],
+) -> Result<(), AllocError> {
+    let mut more = Rows {
+        signatures: IndexSet::with_hasher(all.alloc, all.telling.hash),
+        rows: Vec::new(all.alloc),
+    };
+    add_all(&mut more, all, subjects)?;
+    rows.append(&mut more.rows)
+}
+
+fn add_all(rows: &mut Rows, all: &Outcomes<'_>, subjects: &[Subject]) -> Result<(), AllocError> {
+    for subject in subjects {
+        rows.add(all, *subject)?;
+    }
+    Ok(())
+}
+
+// All rows: nodes, clients, trackers, free pages.
+fn rows_of(all: &Outcomes<'_>) -> Result<Vec<Row>, AllocError> {
+    let mut rows = Vec::new(all.alloc);
+    let nodes = made_subjects(all.alloc, all.telling, false)?;
+    push_subjects(all, &mut rows, &nodes)?;
+    let clients = client_subjects(all.alloc, all.telling.labels.len())?;
+    push_subjects(all, &mut rows, &clients)?;
+    let trackers = made_subjects(all.alloc, all.telling, true)?;
+    push_subjects(all, &mut rows, &trackers)?;
+    push_subjects(all, &mut rows, &[Subject::Free])?;
+    Ok(rows)
+}
+
+// How many steps the plans have.
+fn steps_in(plans: &[Plan]) -> usize {
+    let mut steps: usize = 0;
+    for plan in plans {
+        steps = steps.saturating_add(plan.steps.len());
+    }
+    steps
+}
+
+// How many orders there are, with its word.
+fn orders_words(alloc: Global, orders: f64) -> Result<Vec<u8>, AllocError> {
+    let mut words = Vec::new(alloc);
+    push_great(&mut words, orders)?;
+    push(&mut words, if orders < 1.5 { " order" } else { " orders" })?;
+    Ok(words)
+}
+
+// How many orders there are, if all were gone through.
+fn orders_told(complete: bool, orders: &[u8]) -> &[u8]
+    ensures { result.now ≡ orders_text complete orders.now }
+{
+    if complete { orders } else { b"".as_slice() }
+}
+
+// What stands before the number of states.
+fn extent(complete: bool) -> &'static str
+    ensures { result.now ≡ extent_text complete }
+{
+    if complete { ", " } else { "not all explored: " }
+}
+
+// Appends how many clients, steps, orders, states and outcomes there are.
+fn push_counts(
+    text: &mut Vec<u8>,
+    clients: usize,
+    steps: usize,
+    found: &Exploration,
+    orders: &[u8],
+) -> Result<(), AllocError>
+    ensures { OnOk result
+        (text.new.items ≡ text.old.items ++ counts_text clients steps found.now orders.now) }
+{
+    push_parts(
+        text,
+        &[
+            Part::Counted(clients as u64, "client"),
+            Part::Word(", "),
+            Part::Counted(steps as u64, "step"),
+            Part::Word("; none vanishes\n"),
+            Part::Bytes(orders_told(found.complete, orders)),
+            Part::Word(extent(found.complete)),
+            Part::Counted(found.states as u64, "state"),
+            Part::Word(", "),
+            Part::Counted(found.outcomes.len() as u64, "outcome"),
+            Part::Word("\n\n"),
+        ],
+    )
+}
+
+// The rows of the report: what became of what, in which outcomes.
+fn rows_text(
+    alloc: Global,
+    telling: &Telling<'_>,
+    outcomes: &[Found],
+) -> Result<Vec<u8>, AllocError> {
+    let makers = makers_of(alloc, outcomes)?;
+    let all = Outcomes {
+        alloc,
+        telling,
+        outcomes,
+        makers: &makers,
+    };
+    let rows = rows_of(&all)?;
+    let mut text = Vec::new(alloc);
+    push_rows(alloc, &mut text, &rows, outcomes.len())?;
+    Ok(text)
+}
+
+// Appends the report with these rows.
+fn push_told(
+    text: &mut Vec<u8>,
+    clients: usize,
+    steps: usize,
+    found: &Exploration,
+    orders: &[u8],
+    rows: &[u8],
+) -> Result<(), AllocError>
+    ensures { OnOk result
+        (text.new.items ≡ text.old.items ++ counts_text clients steps found.now orders.now ++ rows.now) }
+{
+    push_counts(text, clients, steps, found, orders)?;
+    text.extend_from_slice(rows)
+}
+
+/// Appends the report: how many clients, steps, orders, states and outcomes there are, and what became of each node,
+/// client and tracker, and of the pages, in which outcomes. No clause says how many steps and orders are told, and what
+/// the rows are.
+///
+/// `AllocError` where memory is refused. Costs O(n^2) for n outcomes, for each node, client and tracker.
+pub fn push_report(
+    alloc: Global,
+    text: &mut Vec<u8>,
+    telling: &Telling<'_>,
+    found: &Exploration,
+) -> Result<(), AllocError>
+    ensures { OnOk result (AppendsReport telling.now found.now text.old.items text.new.items) }
+{
+    let orders = orders_words(alloc, found.orders)?;
+    let rows = rows_text(alloc, telling, &found.outcomes)?;
+    let steps = steps_in(telling.plans);
+    push_told(text, telling.labels.len(), steps, found, &orders, &rows)
+}

@@ -1,0 +1,214 @@
+//! The rows of a report: what became of each node, client and tracker, and in which outcomes.
+use crate::numbers::share_words;
+use indexmap::IndexSet;
+use script_lines::{LabelHash, push, push_number};
+use std::alloc::{AllocError, Global};
+
+// The share of the runs in which something became of it, and the outcomes, by number.
+#[derive(Drop)]
+pub(crate) struct Part {
+    share: f64,
+    ranks: Vec<u64>,
+}
+
+// All that became of it, each with its part.
+#[derive(Drop)]
+pub(crate) struct Parts {
+    whats: IndexSet<Vec<u8>, LabelHash>,
+    parts: Vec<Part>,
+}
+
+// The names of which these are the parts.
+#[derive(Drop)]
+pub(crate) struct Row {
+    pub(crate) names: Vec<u8>,
+    pub(crate) parts: Parts,
+}
+
+// Appends so many spaces.
+fn push_spaces(text: &mut Vec<u8>, count: usize) -> Result<(), AllocError> {
+    for _ in 0..count {
+        text.push(b' ')?;
+    }
+    Ok(())
+}
+
+// Appends the word, and spaces up to this width.
+fn push_left(text: &mut Vec<u8>, word: &[u8], width: usize) -> Result<(), AllocError> {
+    text.extend_from_slice(word)?;
+    push_spaces(text, width.saturating_sub(word.len()))
+}
+
+// Appends the numbers, each behind a space.
+fn push_numbers(text: &mut Vec<u8>, numbers: &[u64]) -> Result<(), AllocError> {
+    for number in numbers {
+        push(text, " ")?;
+        push_number(text, *number)?;
+    }
+    Ok(())
+}
+
+// Appends the outcomes: at most three, and how many more there are.
+fn push_ranks(text: &mut Vec<u8>, ranks: &[u64]) -> Result<(), AllocError> {
+    push(text, "outcome")?;
+    if ranks.len() <= 3 {
+        return push_numbers(text, ranks);
+    }
+    push_numbers(text, &ranks[..3])?;
+    push(text, " and ")?;
+    push_number(text, (ranks.len() - 3) as u64)?;
+    push(text, " more")
+}
+
+// Appends the share, to the right of four letters.
+fn push_of_hundred(alloc: Global, text: &mut Vec<u8>, share: f64) -> Result<(), AllocError> {
+    let said = share_words(alloc, share)?;
+    push_spaces(text, 4usize.saturating_sub(said.len()))?;
+    text.extend_from_slice(&said)?;
+    push(text, " of 100: ")
+}
+
+impl Part {
+    // Appends in which of so many outcomes it was so.
+    fn push_which(
+        &self,
+        alloc: Global,
+        text: &mut Vec<u8>,
+        outcomes: usize,
+    ) -> Result<(), AllocError> {
+        if self.ranks.len() == outcomes {
+            return push(text, "always");
+        }
+        push_of_hundred(alloc, text, self.share)?;
+        push_ranks(text, &self.ranks)
+    }
+}
+
+impl Parts {
+    pub(crate) fn new(alloc: Global, hash: LabelHash) -> Parts {
+        Parts {
+            whats: IndexSet::with_hasher(alloc, hash),
+            parts: Vec::new(alloc),
+        }
+    }
+
+    // The place of what became of it, which is last if it is new.
+    fn place(&mut self, alloc: Global, what: Vec<u8>) -> Result<usize, AllocError> {
+        let (place, is_new) = match self.whats.insert_full(what) {
+            Ok(placed) => placed,
+            Err(_) => return Err(AllocError),
+        };
+        if is_new {
+            let part = Part {
+                share: 0.0,
+                ranks: Vec::new(alloc),
+            };
+            self.parts.push(part)?;
+        }
+        Ok(place)
+    }
+
+    // Adds what became of it in one more outcome.
+    pub(crate) fn add(
+        &mut self,
+        alloc: Global,
+        what: Vec<u8>,
+        share: f64,
+        rank: u64,
+    ) -> Result<(), AllocError> {
+        let place = self.place(alloc, what)?;
+        if place < self.parts.len() {
+            let part = &mut self.parts[place];
+            part.share = part.share + share;
+            part.ranks.push(rank)?;
+        }
+        Ok(())
+    }
+
+    // Appends the text that tells these parts from others.
+    pub(crate) fn push_signature(&self, text: &mut Vec<u8>) -> Result<(), AllocError> {
+        let whats = self.whats.as_slice();
+        for at in 0..whats.len() {
+            text.extend_from_slice(&whats[at])?;
+            if at < self.parts.len() {
+                push_numbers(text, &self.parts[at].ranks)?;
+            }
+            push(text, "\n")?;
+        }
+        Ok(())
+    }
+
+    // The length of the longest of all that became of it.
+    fn width(&self) -> usize {
+        let mut width: usize = 0;
+        for what in self.whats.as_slice() {
+            width = width.max(what.len());
+        }
+        width
+    }
+}
+
+// The widths of the names, at most 40, and of all that became of them.
+fn widths(rows: &[Row]) -> (usize, usize) {
+    let mut left: usize = 0;
+    let mut middle: usize = 0;
+    for row in rows {
+        left = left.max(row.names.len());
+        middle = middle.max(row.parts.width());
+    }
+    (left.min(40), middle)
+}
+
+impl Row {
+    // Appends a line for the part at this place: the names stand on the first.
+    fn push_line(
+        &self,
+        alloc: Global,
+        text: &mut Vec<u8>,
+        at: usize,
+        widths: (usize, usize),
+        outcomes: usize,
+    ) -> Result<(), AllocError> {
+        let (left, middle) = widths;
+        let names: &[u8] = if at == 0 { &self.names } else { &[] };
+        push(text, "  ")?;
+        push_left(text, names, left)?;
+        push(text, "  ")?;
+        let whats = self.parts.whats.as_slice();
+        if at < whats.len() {
+            push_left(text, &whats[at], middle)?;
+        }
+        push(text, "  ")?;
+        if at < self.parts.parts.len() {
+            self.parts.parts[at].push_which(alloc, text, outcomes)?;
+        }
+        push(text, "\n")
+    }
+
+    fn push_lines(
+        &self,
+        alloc: Global,
+        text: &mut Vec<u8>,
+        widths: (usize, usize),
+        outcomes: usize,
+    ) -> Result<(), AllocError> {
+        for at in 0..self.parts.parts.len() {
+            self.push_line(alloc, text, at, widths, outcomes)?;
+        }
+        Ok(())
+    }
+}
+
+// Appends the rows, of so many outcomes.
+pub(crate) fn push_rows(
+    alloc: Global,
+    text: &mut Vec<u8>,
+    rows: &[Row],
+    outcomes: usize,
+) -> Result<(), AllocError> {
+    let widths = widths(rows);
+    for row in rows {
+        row.push_lines(alloc, text, widths, outcomes)?;
+    }
+    Ok(())
+}

@@ -1,0 +1,136 @@
+//! What a report is made of, and what became of a step.
+ghost use Rattle.std.specs.Prelude.{◌≡◌};
+ghost use Rattle.outcome_texts.specs.Plays.{line_told, step_told};
+
+use crate::labels::LabelNames;
+use crate::lines::{StepLine, line_at};
+use actor_plays::Plan;
+use actor_scripts::Step;
+use play_search::{ActorOutcome, Became, Found};
+use script_lines::{Label, LabelHash};
+use sm_names::{NodeKey, Product, row_of};
+use std::alloc::{AllocError, Global};
+use std::collections::HashMap;
+
+/// What a report is made of: the clients' labels, what nodes and trackers are called, the lines that are steps, and the
+/// plans. Its tables of texts hash from the seed.
+#[derive(Clone, Copy)]
+pub struct Telling<'a> {
+    pub labels: &'a [Label],
+    pub names: &'a LabelNames,
+    pub steps: &'a [StepLine<'a>],
+    pub plans: &'a [Plan],
+    pub hash: LabelHash,
+}
+
+// What a row is about: a node or a tracker, by the actor and the place of the step that makes it, a client, or the
+// free pages.
+#[derive(Clone, Copy)]
+pub(crate) enum Subject {
+    Node(usize, usize),
+    Tracker(usize, usize),
+    Client(usize),
+    Free,
+}
+
+// The place of the step among the actor's steps.
+fn step_at(plans: &[Plan], actor: usize, at: usize) -> Option<usize>
+    ensures { result ≡ step_told plans.now actor at }
+{
+    match plans.get(actor) {
+        Some(plan) => match plan.steps.get(at) {
+            Some(planned) => Some(planned.at),
+            None => None,
+        },
+        None => None,
+    }
+}
+
+// What the step at this place of the plan makes.
+pub(crate) fn subject_at(plan: &Plan, actor: usize, at: usize) -> Option<Subject> {
+    let Some(planned) = plan.steps.get(at) else {
+        return None;
+    };
+    let Step::Ask { request } = planned.step else {
+        return None;
+    };
+    match row_of(request.kind).brings {
+        Product::Collection | Product::Node => Some(Subject::Node(actor, at)),
+        Product::Tracker => Some(Subject::Tracker(actor, at)),
+        _ => None,
+    }
+}
+
+impl<'a> Telling<'a> {
+    // The line of the step at this place of the actor's plan.
+    pub(crate) fn line(&self, actor: usize, at: usize) -> Option<StepLine<'a>>
+        ensures { result ≡ line_told self.now actor at }
+    {
+        match step_at(self.plans, actor, at) {
+            Some(step) => line_at(self.steps, actor, step),
+            None => None,
+        }
+    }
+
+    // What the step makes is called so.
+    pub(crate) fn bound(&self, actor: usize, at: usize) -> Option<Label> {
+        match self.line(actor, at) {
+            Some(step) => self.names.bound(actor, step.line),
+            None => None,
+        }
+    }
+}
+
+// What became of what the step at this place made. Calls stand by the places of their steps.
+pub(crate) fn became_at(found: &Found, actor: usize, at: usize) -> Option<Became> {
+    match found.outcome.actors.get(actor) {
+        Some(outcome) => made_at(&outcome.made, at),
+        None => None,
+    }
+}
+
+fn made_at(made: &[(usize, Became)], at: usize) -> Option<Became> {
+    match made.binary_search_by_key(&at, |one| one.0) {
+        Ok(place) if place < made.len() => Some(made[place].1),
+        _ => None,
+    }
+}
+
+// The steps that made the nodes of an outcome.
+#[derive(Drop)]
+pub(crate) struct Makers {
+    makers: HashMap<NodeKey, (usize, usize)>,
+}
+
+impl Makers {
+    // Adds the nodes that the actor made.
+    fn note(&mut self, actor: usize, made: &[(usize, Became)]) -> Result<(), AllocError> {
+        for (at, became) in made {
+            if let Became::Node(key, _) = *became {
+                self.makers.insert(key, (actor, *at))?;
+            }
+        }
+        Ok(())
+    }
+
+    fn note_all(&mut self, actors: &[ActorOutcome]) -> Result<(), AllocError> {
+        for actor in 0..actors.len() {
+            self.note(actor, &actors[actor].made)?;
+        }
+        Ok(())
+    }
+
+    // Those of the outcome.
+    pub(crate) fn of(alloc: Global, found: &Found) -> Result<Makers, AllocError> {
+        let mut makers = Makers {
+            makers: HashMap::new(alloc),
+        };
+        makers.note_all(&found.outcome.actors)?;
+        Ok(makers)
+    }
+
+    // The actor and the place of the step that made the node.
+    pub(crate) fn maker(&self, key: NodeKey) -> Option<(usize, usize)> {
+        self.makers.get(&key).copied()
+    }
+}

@@ -1,0 +1,125 @@
+//! What is said of nodes, trackers and clients.
+use crate::telling::{Makers, Subject, Telling, became_at};
+use actor_plays::Fate;
+use play_search::{Became, Found};
+use script_labels::push_cause;
+use script_lines::{push, push_label, push_number};
+use sm_names::Fault;
+use std::alloc::AllocError;
+
+// An outcome, with the steps that made its nodes.
+#[derive(Clone, Copy)]
+pub(crate) struct Told<'a> {
+    pub(crate) found: &'a Found,
+    pub(crate) makers: &'a Makers,
+}
+
+impl<'a> Telling<'a> {
+    fn push_fault(
+        &self,
+        text: &mut Vec<u8>,
+        makers: &Makers,
+        fault: Fault,
+    ) -> Result<(), AllocError> {
+        push(text, "fails, ")?;
+        push_cause(text, fault.cause)?;
+        push(text, " ")?;
+        match makers.maker(fault.origin) {
+            Some((actor, at)) => push_label(text, self.bound(actor, at)),
+            None => Ok(()),
+        }
+    }
+
+    fn push_fate(
+        &self,
+        text: &mut Vec<u8>,
+        makers: &Makers,
+        fate: Option<Fate>,
+    ) -> Result<(), AllocError> {
+        match fate {
+            None => push(text, "is not kept"),
+            Some(Fate::Ended) => push(text, "ends"),
+            Some(Fate::Failed(fault)) => self.push_fault(text, makers, fault),
+            Some(Fate::Live { allocated: true }) => push(text, "is live, with buffers"),
+            Some(Fate::Live { allocated: false }) => push(text, "is live, without buffers"),
+            Some(Fate::Released { allocated: true }) => push(text, "is released, with buffers"),
+            Some(Fate::Released { allocated: false }) => {
+                push(text, "is released, without buffers")
+            }
+        }
+    }
+
+    // Appends what became of what a step makes.
+    fn push_became(
+        &self,
+        text: &mut Vec<u8>,
+        makers: &Makers,
+        became: Option<Became>,
+    ) -> Result<(), AllocError> {
+        match became {
+            Some(Became::Node(_, fate)) => self.push_fate(text, makers, fate),
+            Some(Became::Tracker(true)) => push(text, "fires"),
+            Some(Became::Tracker(false)) => push(text, "does not fire"),
+            _ => push(text, "is not made"),
+        }
+    }
+
+    // Appends the line at which the client waits for ever.
+    fn push_waits(&self, text: &mut Vec<u8>, actor: usize, at: usize) -> Result<(), AllocError> {
+        push(text, "waits for ever")?;
+        match self.line(actor, at) {
+            Some(step) => {
+                push(text, ", line ")?;
+                push_number(text, step.number)?;
+                push(text, ": ")?;
+                text.extend_from_slice(step.line)
+            }
+            None => Ok(()),
+        }
+    }
+
+    // Appends where the client is at the end.
+    fn push_client(
+        &self,
+        text: &mut Vec<u8>,
+        found: &Found,
+        actor: usize,
+    ) -> Result<(), AllocError> {
+        let Some(outcome) = found.outcome.actors.get(actor) else {
+            return Ok(());
+        };
+        match self.plans.get(actor) {
+            Some(plan) if outcome.at < plan.steps.len() => {
+                self.push_waits(text, actor, outcome.at)
+            }
+            _ => push(text, "comes to its end"),
+        }
+    }
+
+    // Appends what became of the subject in the outcome.
+    pub(crate) fn push_what(
+        &self,
+        text: &mut Vec<u8>,
+        told: Told<'_>,
+        subject: Subject,
+    ) -> Result<(), AllocError> {
+        match subject {
+            Subject::Node(actor, at) | Subject::Tracker(actor, at) => {
+                self.push_became(text, told.makers, became_at(told.found, actor, at))
+            }
+            Subject::Client(actor) => self.push_client(text, told.found, actor),
+            Subject::Free => push_number(text, told.found.outcome.free as u64),
+        }
+    }
+
+    // Appends what the subject is called.
+    pub(crate) fn push_name(&self, text: &mut Vec<u8>, subject: Subject) -> Result<(), AllocError> {
+        match subject {
+            Subject::Node(actor, at) | Subject::Tracker(actor, at) => {
+                push_label(text, self.bound(actor, at))
+            }
+            Subject::Client(actor) => push_label(text, self.labels.get(actor).copied()),
+            Subject::Free => push(text, "free"),
+        }
+    }
+}

@@ -1,0 +1,8 @@
+use Rattle.std.proofs.Common.{arith, append_assoc}
+use Rattle.std.proofs.lemmas.Grind.{common_steps}
+use Rattle.std.proofs.lemmas.List.{map-append}
+use Rattle.picture_model.proofs.failure_view.link_all.Goals as goal
+
+-- one more comes last
+pub loop-node-preserved : goal.loop-node-preserved
+loop-node-preserved c = grind (arith, common_steps, append_assoc, map-append)

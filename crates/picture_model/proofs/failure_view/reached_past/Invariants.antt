@@ -1,0 +1,9 @@
+use Rattle.std.proofs.Common.{◌≡◌, take}
+use Rattle.std.specs.List.{filter}
+use Rattle.forced_marks.specs.KeySets.{has}
+use Rattle.picture_model.specs.Travels.{is_past}
+use Rattle.picture_model.proofs.failure_view.reached_past.Given as goal
+
+-- so far those among these
+abbrev pub invariant-loop-node : goal.invariant-loop-node
+invariant-loop-node l = l.reached.items ≡ filter (is_past (has l.passed)) (take l.node-index l.all.items)

@@ -1,0 +1,11 @@
+use Rattle.std.proofs.Common.{◌≡◌, List, map, take}
+use Rattle.std.specs.List.{filter}
+use Rattle.forest_store.specs.declared.node.Node.{Node}
+use Rattle.picture_model.specs.Kin.{FindsNodes}
+use Rattle.picture_model.specs.Shown.{has_gone}
+use Rattle.picture_model.proofs.picture.left_among.Given as goal
+
+-- so far those among these nodes
+abbrev pub invariant-loop-node : goal.invariant-loop-node
+invariant-loop-node l = (found : List Node) → FindsNodes l.earlier found →
+    l.left.items ≡ map (λ (n : Node). n.key) (filter (has_gone found) (take l.node-index l.nodes.items))

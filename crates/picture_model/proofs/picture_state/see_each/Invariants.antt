@@ -1,0 +1,10 @@
+use Rattle.std.proofs.Common.{◌≡◌, List, map, take}
+use Rattle.forest_store.specs.declared.node.Node.{Node}
+use Rattle.picture_model.specs.PictureStates.{seen_again}
+use Rattle.picture_model.specs.Kin.{FindsNodes}
+use Rattle.picture_model.proofs.picture_state.see_each.Given as goal
+
+-- those so far
+abbrev pub invariant-loop-node : goal.invariant-loop-node
+invariant-loop-node l = (later : List Node) → FindsNodes l.walk later →
+    l.again.items ≡ map (seen_again l.core later) (take l.node-index l.nodes.items)

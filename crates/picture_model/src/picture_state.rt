@@ -1,0 +1,394 @@
+//! All nodes that were ever born, as they were last seen, collection by collection.
+ghost use Rattle.std.specs.Prelude.{◌≡◌, ◌==◌, ◌&&◌, ◌++◌, ◌∷◌, [], Bool, IfOk, List, OnOk, Some, if◌then◌else◌, map, ℕ};
+ghost use Rattle.std.specs.List.{list_any};
+ghost use Rattle.std.specs.Option.{option_map};
+ghost use Rattle.sm_names.specs.declared.keys.NodeKey.{NodeKey as Key};
+ghost use Rattle.sm_names.specs.declared.messages.Call.{Call as CallMade};
+ghost use Rattle.sm_names.specs.Marks.{Entry};
+ghost use Rattle.core_state.specs.Shown.{Shows};
+ghost use Rattle.core_state.specs.State.{State};
+ghost use Rattle.forest_store.specs.declared.node.Node.{Node as NodeValue};
+ghost use Rattle.forest_store.specs.Forest.{node_at};
+ghost use Rattle.forest_store.specs.Nodes.{is_of, is_spent};
+ghost use Rattle.forced_marks.specs.declared.decision.Forced.{Forced};
+ghost use Rattle.forced_marks.specs.KeySets.{has};
+ghost use Rattle.event_texts.specs.Tellings.{IsEventOf};
+ghost use Rattle.picture_model.specs.PictureStates.{KnowsKept, after_mark, forgotten, known_after, known_in, left_below, left_if as left_as, marked, refreshed, seen_again, seen_for, top_of, walked, with_named, with_seen, with_told};
+ghost use Rattle.picture_model.specs.Kin.{FindsNodes};
+ghost use Rattle.picture_model.specs.Seen.{named_in};
+
+use crate::tree_order::nodes_by_key;
+use event_facts::failure_path::way_up;
+use event_facts::{Event, KeyMap};
+use forced_marks::key_sets::KeySet;
+use forced_marks::node_sets::nodes_under;
+use forced_marks::{Forced, Moment};
+use forest_store::{End, Node};
+use lifetime_core::Core;
+use script_labels::Stop;
+use sm_names::{Call, CollectionId, Fault, NodeKey, Object, Reply, parts_of};
+use std::alloc::{AllocError, Global};
+use std::collections::BTreeMap;
+
+/// All nodes that were ever born in each collection, by birth. A node that the core forgot stands as it was
+/// when it was forgotten: gone, with its end spent.
+#[derive(Drop)]
+pub struct PictureState {
+    pub(crate) families: BTreeMap<CollectionId, Vec<Node>>,
+}
+
+/// The collection of the node or the buffer that the call names, if that is kept. Costs a look-up.
+pub fn named_collection(core: &Core, call: &Call) -> Option<CollectionId>
+    ensures { result ≡ named_in core.now call.now }
+{
+    match parts_of(*call).object {
+        Object::Nothing => None,
+        Object::Node(key) => collection_of(core, key),
+        Object::Buffer(buffer) => Some(buffer.collection),
+    }
+}
+
+// The collection of the node with this key, if it is kept.
+fn collection_of(core: &Core, key: NodeKey) -> Option<CollectionId>
+    ensures { result ≡ option_map (λ n. n.collection) (node_at core.now.forest key) }
+{
+    match core.node(key) {
+        Some(node) => Some(node.collection),
+        None => None,
+    }
+}
+
+impl PictureState {
+    /// No nodes. Takes O(1) time.
+    pub fn new(alloc: Global) -> PictureState
+        ensures { (id : ℕ) → known_in result id ≡ [] }
+    {
+        PictureState {
+            families: BTreeMap::new(alloc),
+        }
+    }
+
+    /// Takes in what an event changed, whose call named this collection: its nodes are brought to their
+    /// present state, those among them that the core forgot to the state that the walk of the event gave them
+    /// last; and the node in the reply is added, or brought to its present state. So the picture state knows
+    /// each node that the core keeps, if it did before. Costs O(n log n) for the n nodes that were ever born in
+    /// these collections, and O(log m) for m collections.
+    ///
+    /// `NoMemory` where memory is refused: then some of this may be left out.
+    pub fn update(
+        &mut self,
+        alloc: Global,
+        core: &Core,
+        named: Option<CollectionId>,
+        event: &Event,
+    ) -> Result<(), Stop>
+        ensures known { OnOk result ((id : ℕ) →
+            known_in self.new id ≡ known_after core.now named event.now id (known_in self.old id)) }
+        // The event leads from a core, each of whose nodes is known, to this core.
+        ensures kept { OnOk result ((old : State) (client : ℕ) (call : CallMade) (history : List Entry) →
+            Shows old history → IsEventOf old client call event.now → core.now.pool ≡ old.pool →
+            Shows core.now (history ++ (client, call, event.now.reply) ∷ []) →
+            KnowsKept old self.old → KnowsKept core.now self.new) }
+    {
+        self.refresh_named(alloc, core, named, &event.moments)?;
+        self.add_told(alloc, core, event.reply)?;
+        Ok(())
+    }
+
+    // Brings the nodes of the collection to their present state, behind these marks.
+    fn refresh_named(
+        &mut self,
+        alloc: Global,
+        core: &Core,
+        named: Option<CollectionId>,
+        moments: &[Moment],
+    ) -> Result<(), AllocError>
+        ensures { OnOk result ((id : ℕ) →
+            known_in self.new id ≡ refreshed core.now named moments.now id (known_in self.old id)) }
+    {
+        match named {
+            Some(id) => self.refresh(alloc, core, id, moments),
+            None => Ok(()),
+        }
+    }
+
+    // The same of the collection with this id.
+    fn refresh(
+        &mut self,
+        alloc: Global,
+        core: &Core,
+        id: CollectionId,
+        moments: &[Moment],
+    ) -> Result<(), AllocError>
+        ensures { OnOk result ((other : ℕ) → known_in self.new other
+            ≡ refreshed core.now (Some id) moments.now other (known_in self.old other)) }
+    {
+        let later = last_walked(alloc, moments)?;
+        match self.families.get(&id) {
+            Some(nodes) => {
+                let again = see_again(core, nodes, &later)?;
+                self.put(id, again)
+            }
+            None => Ok(()),
+        }
+    }
+
+    // Adds the node in the reply, or brings it to its present state.
+    fn add_told(&mut self, alloc: Global, core: &Core, reply: Reply) -> Result<(), AllocError>
+        ensures { OnOk result ((id : ℕ) →
+            known_in self.new id ≡ with_told core.now reply id (known_in self.old id)) }
+    {
+        match reply {
+            Reply::Token { key, collection } => self.add(alloc, core, key, collection),
+            Reply::Collected {
+                key,
+                collection,
+                ..
+            } => self.add(alloc, core, key, collection),
+            _ => Ok(()),
+        }
+    }
+
+    // Puts the node among those of its collection, in its present state.
+    fn add(
+        &mut self,
+        alloc: Global,
+        core: &Core,
+        key: NodeKey,
+        id: CollectionId,
+    ) -> Result<(), AllocError>
+        ensures { OnOk result ((other : ℕ) →
+            known_in self.new other ≡ with_named core.now key id other (known_in self.old other)) }
+    {
+        match core.node(key) {
+            Some(node) => self.add_node(alloc, id, &node),
+            None => Ok(()),
+        }
+    }
+
+    // Puts the node among those of this collection.
+    fn add_node(&mut self, alloc: Global, id: CollectionId, node: &Node) -> Result<(), AllocError>
+        ensures { OnOk result ((other : ℕ) → known_in self.new other
+            ≡ (if id == other then with_seen node.now (known_in self.old other) else known_in self.old other)) }
+    {
+        let nodes = self.cut(alloc, id);
+        let more = with_node(nodes, node)?;
+        self.put(id, more)
+    }
+
+    // The nodes of this collection, of which none is left here.
+    fn cut(&mut self, alloc: Global, id: CollectionId) -> Vec<Node>
+        ensures nodes { result.items ≡ known_in self.old id }
+        ensures others { (other : ℕ) → known_in self.new other
+            ≡ (if id == other then [] else known_in self.old other) }
+    {
+        match self.families.remove(&id) {
+            Some(nodes) => nodes,
+            None => Vec::new(alloc),
+        }
+    }
+
+    // The collection has these nodes.
+    fn put(&mut self, id: CollectionId, nodes: Vec<Node>) -> Result<(), AllocError>
+        ensures { OnOk result ((other : ℕ) → known_in self.new other
+            ≡ (if id == other then nodes.items else known_in self.old other)) }
+    {
+        self.families.insert(id, nodes)?;
+        Ok(())
+    }
+}
+
+// The nodes, where this one replaces the one with its key, or is appended if there is none.
+fn with_node(nodes: Vec<Node>, node: &Node) -> Result<Vec<Node>, AllocError>
+    ensures { IfOk result (λ more. more.items ≡ with_seen node.now nodes.items) }
+{
+    if is_there(&nodes, node) {
+        return replaced(&nodes, node);
+    }
+    let mut more = nodes;
+    more.push(*node)?;
+    Ok(more)
+}
+
+// Whether one of the nodes has this one's key.
+fn is_there(nodes: &[Node], node: &Node) -> bool
+    ensures { result ≡ list_any (is_of node.now.key) nodes.now }
+{
+    nodes.iter().any(|other| is_same(node, other))
+}
+
+// Whether the nodes have one key.
+fn is_same(node: &Node, other: &Node) -> bool
+    ensures { result ≡ is_of node.now.key other.now }
+{
+    other.key == node.key
+}
+
+// The nodes with this one in the place of each with its key.
+fn replaced(nodes: &Vec<Node>, node: &Node) -> Result<Vec<Node>, AllocError>
+    ensures { IfOk result (λ more. more.items
+        ≡ map (seen_for node.now) nodes.now.items) }
+{
+    let mut more = Vec::new(*nodes.allocator());
+    for other in nodes {
+        more.push(either(node, other))?;
+    }
+    Ok(more)
+}
+
+// The first node, if the second has its key, and else that one.
+fn either(node: &Node, other: &Node) -> Node
+    ensures { result ≡ seen_for node.now other.now }
+{
+    if is_same(node, other) { *node } else { *other }
+}
+
+// The nodes behind the last of these marks, each as the walk has it; none where there is no mark.
+fn last_walked(alloc: Global, moments: &[Moment]) -> Result<Vec<Node>, AllocError>
+    ensures { IfOk result (λ nodes. nodes.items ≡ walked moments.now) }
+{
+    match moments.split_last() {
+        Some((moment, _)) => made(moment),
+        None => Ok(Vec::new(alloc)),
+    }
+}
+
+// The nodes behind a mark, each as the walk has it.
+fn made(moment: &Moment) -> Result<Vec<Node>, AllocError>
+    ensures { IfOk result (λ nodes. nodes.items
+        ≡ marked moment.now.before.nodes.items moment.now.mark) }
+{
+    let nodes = &moment.before.nodes;
+    match moment.mark {
+        Forced::Allocated(_) => nodes.clone(),
+        Forced::Ended(top) => left_under(nodes, top, None),
+        Forced::Loss(fault) => lost_under(nodes, fault),
+    }
+}
+
+// The nodes, once this fault took some.
+fn lost_under(nodes: &Vec<Node>, fault: Fault) -> Result<Vec<Node>, AllocError>
+    ensures { IfOk result (λ later. later.items ≡ marked nodes.now.items (Forced.Loss fault)) }
+{
+    let way = way_up(nodes, fault.origin)?;
+    left_under(nodes, last_key(&way, fault.origin), Some(fault))
+}
+
+// The last of these keys, or this one.
+pub(crate) fn last_key(keys: &[NodeKey], origin: NodeKey) -> NodeKey
+    ensures { result ≡ top_of origin keys.now }
+{
+    match keys.split_last() {
+        Some((key, _)) => *key,
+        None => origin,
+    }
+}
+
+// The nodes, of which the top one and those below it left by this fault, unless they had before.
+fn left_under(
+    nodes: &Vec<Node>,
+    top: NodeKey,
+    fault: Option<Fault>,
+) -> Result<Vec<Node>, AllocError>
+    ensures { IfOk result (λ later. later.items ≡ left_below nodes.now.items top fault) }
+{
+    let under = nodes_under(*nodes.allocator(), nodes, top)?;
+    let later = left_among(nodes, &under, fault)?;
+    Ok(later)
+}
+
+// The nodes, of which these left by this fault, unless they had before.
+fn left_among(
+    nodes: &Vec<Node>,
+    under: &KeySet,
+    fault: Option<Fault>,
+) -> Result<Vec<Node>, AllocError>
+    ensures { IfOk result (λ later. (below : Key → Bool) → ((key : Key) → has under.now key ≡ below key) →
+        later.items ≡ map (left_as fault below) nodes.now.items) }
+{
+    let mut later = Vec::new(*nodes.allocator());
+    for node in nodes {
+        later.push(left_if(node, under, fault))?;
+    }
+    Ok(later)
+}
+
+// The node, which left by this fault, if it is one of these, unless it had before.
+fn left_if(node: &Node, under: &KeySet, fault: Option<Fault>) -> Node
+    ensures { (below : Key → Bool) → ((key : Key) → has under.now key ≡ below key) →
+        result ≡ left_as fault below node.now }
+{
+    left_by(*node, !node.gone && under.has(node.key), fault)
+}
+
+// The node, once it left by this fault, if it is taken.
+fn left_by(node: Node, taken: bool, fault: Option<Fault>) -> Node
+    ensures { result ≡ after_mark fault taken node }
+{
+    let mut later = node;
+    if taken {
+        later.gone = true;
+        later.fault = fault;
+    }
+    later
+}
+
+// The nodes as they are seen behind an event, whose walk left these.
+fn see_again(core: &Core, nodes: &Vec<Node>, later: &Vec<Node>) -> Result<Vec<Node>, AllocError>
+    ensures { IfOk result (λ again.
+        again.items ≡ map (seen_again core.now later.now.items) nodes.now.items) }
+{
+    let walk = nodes_by_key(later)?;
+    see_each(core, nodes, &walk)
+}
+
+// The same, where the nodes of the walk are found by their keys.
+fn see_each(core: &Core, nodes: &Vec<Node>, walk: &KeyMap<Node>) -> Result<Vec<Node>, AllocError>
+    ensures { IfOk result (λ again. (later : List NodeValue) → FindsNodes walk.now later →
+        again.items ≡ map (seen_again core.now later) nodes.now.items) }
+{
+    let mut again = Vec::new(*nodes.allocator());
+    for node in nodes {
+        again.push(seen_after(core, node, walk))?;
+    }
+    Ok(again)
+}
+
+// The node as it is seen behind an event. One that was forgotten at the event has the state that the walk
+// gave it last, if there was a walk, and its end is spent.
+fn seen_after(core: &Core, node: &Node, walk: &KeyMap<Node>) -> Node
+    ensures { (later : List NodeValue) → FindsNodes walk.now later →
+        result ≡ seen_again core.now later node.now }
+{
+    if node.gone && has_spent(node) {
+        return *node;
+    }
+    match core.node(node.key) {
+        Some(present) => present,
+        None => forget(node, walk),
+    }
+}
+
+// Whether the node's end is spent.
+fn has_spent(node: &Node) -> bool
+    ensures { result ≡ is_spent node.now.end }
+{
+    match node.end {
+        End::Held(_) | End::InTransit(_) => false,
+        End::Spent => true,
+    }
+}
+
+// The node once it was forgotten.
+fn forget(node: &Node, walk: &KeyMap<Node>) -> Node
+    ensures { (later : List NodeValue) → FindsNodes walk.now later →
+        result ≡ forgotten later node.now }
+{
+    let mut behind = match walk.get(node.key) {
+        Some(walked) => *walked,
+        None => *node,
+    };
+    behind.gone = true;
+    behind.end = End::Spent;
+    behind
+}

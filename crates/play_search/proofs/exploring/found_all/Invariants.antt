@@ -1,0 +1,7 @@
+use Rattle.std.proofs.Common.{All}
+use Rattle.play_search.specs.Searches.{IsFound}
+use Rattle.play_search.proofs.exploring.found_all.Given as goal
+
+-- so far each has its play
+abbrev pub invariant-goals : goal.invariant-goals
+invariant-goals l = All (IsFound l.ground.plans.now l.ground.setting) l.all.items

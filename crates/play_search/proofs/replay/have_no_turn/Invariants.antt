@@ -1,0 +1,6 @@
+use Rattle.play_search.specs.Searches.{HaveNoTurn}
+use Rattle.play_search.proofs.replay.have_no_turn.Given as goal
+
+-- so many actors make no turn
+abbrev pub invariant-actors : goal.invariant-actors
+invariant-actors l = HaveNoTurn l.ground.plans.now l.ground.setting l.turns l.actor

@@ -1,0 +1,57 @@
+-- What a search answers.
+use Rattle.std.specs.Prelude.{ℕ, ◌≡◌, ◌≤◌, ◌<◌, Bool, true, false, List, length, vec_len}
+use Rattle.sm_names.specs.declared.rules.TheConstants.{MAX_PAGES}
+use Rattle.actor_plays.specs.declared.plan.Plan.{Plan}
+use Rattle.actor_plays.specs.declared.play.Play.{Play}
+use Rattle.actor_plays.specs.declared.play.Turned.{Turned}
+use Rattle.actor_plays.specs.Fates.{AreFalls}
+use Rattle.actor_plays.specs.Plays.{IsPlay, IsTurn}
+use Rattle.play_search.specs.declared.graph.Graph.{Graph}
+use Rattle.play_search.specs.declared.replay.Setting.{Setting}
+use Rattle.play_search.specs.declared.exploring.Found.{Found}
+use Rattle.play_search.specs.Outcomes.{IsOutcome}
+
+-- a pool can have so many pages
+abbrev pub IsPool : ℕ → Type 0
+IsPool pages = (1 ≤ pages) × (pages ≤ MAX_PAGES)
+
+-- a graph has no more values than it has room for
+abbrev pub IsWithin : Graph → Type 0
+IsWithin graph = vec_len graph.rows ≤ graph.most
+
+-- the play is one of the actors of these plans on this core, with these turns
+pub record IsReplay (plans : List Plan) (setting : Setting) (turns : List ℕ) (play : Play) : Type 0 where
+  pub plays : IsPlay plans play
+  pub calls : play.turns.items ≡ turns
+  pub pages : play.core.pool ≡ setting.pages
+  pub limits : play.core.limits ≡ setting.limits
+
+-- all nodes that fell in the play are noted
+abbrev pub IsTold : Play → Type 0
+IsTold play = AreFalls play.entries.items play.falls.items
+
+-- a turn made a call
+abbrev pub is_made : Turned → Bool
+is_made Turned.Made = true
+is_made _ = false
+
+-- after a play with these turns the actor makes no turn: it has no call to make, or is left waiting
+pub record HasNoTurn (plans : List Plan) (setting : Setting) (turns : List ℕ) (actor : ℕ) : Type 0 where
+  pub old : Play
+  pub new : Play
+  pub turned : Turned
+  pub play : IsReplay plans setting turns old
+  pub turn : IsTurn plans old new actor turned
+  pub none : is_made turned ≡ false
+
+-- the same of each of the first actors
+abbrev pub HaveNoTurn : List Plan → Setting → List ℕ → ℕ → Type 0
+HaveNoTurn plans setting turns actors = (actor : ℕ) → actor < actors → HasNoTurn plans setting turns actor
+
+-- a play with these turns has this outcome, and no actor has another turn
+pub record IsFound (plans : List Plan) (setting : Setting) (found : Found) : Type 0 where
+  pub play : Play
+  pub replay : IsReplay plans setting found.turns.items play
+  pub told : IsTold play
+  pub outcome : IsOutcome play found.outcome
+  pub ended : HaveNoTurn plans setting found.turns.items (length plans)

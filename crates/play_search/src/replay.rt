@@ -1,0 +1,159 @@
+//! Plays that are made again from their turns.
+ghost use Rattle.std.specs.Prelude.{◌≡◌, ◌++◌, ◌∷◌, [], map, length, true, IfOk, OnOk};
+ghost use Rattle.actor_scripts.specs.declared.step.ActorScript.{ActorScript as Script};
+ghost use Rattle.actor_plays.specs.Plans.{planned, steps_of};
+ghost use Rattle.actor_plays.specs.Plays.{AreJoining, IsPlay};
+ghost use Rattle.play_search.specs.Searches.{HasNoTurn, HaveNoTurn, IsPool, IsReplay, IsTold};
+
+use crate::fault::ExploreFault;
+use actor_plays::{Plan, Play, Turned, plan_of};
+use actor_scripts::ActorScript;
+use sm_names::Limits;
+use std::alloc::{AllocError, Global};
+
+/// On what core plays are made: the pages of its pool, its limits, and the seed of its tables, which changes
+/// no reply.
+#[derive(Clone, Copy)]
+pub struct Setting {
+    pub pages: u32,
+    pub limits: Limits,
+    pub seed: [u8; 16],
+}
+
+// What a search works with.
+#[derive(Clone, Copy)]
+pub(crate) struct Ground<'a> {
+    pub(crate) alloc: Global,
+    pub(crate) setting: Setting,
+    pub(crate) plans: &'a [Plan],
+    // The number of each plan's first step, where the steps of all plans are numbered one after another.
+    pub(crate) bases: &'a [u32],
+}
+
+/// The plans of these scripts, as `plan_of` makes each.
+///
+/// `AllocError` where memory is refused. Costs O(n) for n steps.
+pub fn plans_of(alloc: Global, scripts: &[ActorScript], once: bool) -> Result<Vec<Plan>, AllocError>
+    ensures { IfOk result (λ plans. map steps_of plans.items
+        ≡ map (λ (script : Script). planned once script.steps.items) scripts.now) }
+{
+    let mut plans = Vec::new(alloc);
+    for script in scripts {
+        plans.push(plan_of(alloc, &script.steps, once)?)?;
+    }
+    Ok(plans)
+}
+
+// So many clients join.
+fn join_all(play: &mut Play, alloc: Global, count: usize) -> Result<(), ExploreFault>
+    requires { AreJoining play.old }
+    ensures joining { OnOk result (AreJoining play.new) }
+    ensures pages { OnOk result (play.new.core.pool ≡ play.old.core.pool) }
+    ensures limits { OnOk result (play.new.core.limits ≡ play.old.core.limits) }
+{
+    'joining: for _ in 0..count {
+        play.join(alloc)?;
+    }
+    Ok(())
+}
+
+// A play in which every client has joined, and no turn was made.
+fn start(ground: &Ground<'_>) -> Result<Play, ExploreFault>
+    requires { IsPool ground.now.setting.pages }
+    ensures play { IfOk result (IsReplay ground.now.plans.now ground.now.setting []) }
+    ensures told { IfOk result IsTold }
+{
+    let setting = ground.setting;
+    let mut play = Play::new(ground.alloc, setting.pages, setting.limits, setting.seed)?;
+    join_all(&mut play, ground.alloc, ground.plans.len())?;
+    if !play.have_joined(ground.plans) {
+        return Err(ExploreFault::Unlike);
+    }
+    Ok(play)
+}
+
+// The actor makes its turn.
+fn make_turn(
+    play: &mut Play,
+    ground: &Ground<'_>,
+    actor: usize,
+    tells: bool,
+) -> Result<(), ExploreFault>
+    requires { IsPlay ground.now.plans.now play.old }
+    ensures play { OnOk result (IsPlay ground.now.plans.now play.new) }
+    ensures turns { OnOk result (play.new.turns.items ≡ play.old.turns.items ++ actor ∷ []) }
+    ensures told { tells ≡ true → IsTold play.old → OnOk result (IsTold play.new) }
+    ensures pages { OnOk result (play.new.core.pool ≡ play.old.core.pool) }
+    ensures limits { OnOk result (play.new.core.limits ≡ play.old.core.limits) }
+{
+    match play.take_turn(ground.alloc, ground.plans, actor, tells)? {
+        Turned::Made => Ok(()),
+        Turned::Waits => Err(ExploreFault::Unlike),
+        Turned::Rests => Err(ExploreFault::Unlike),
+    }
+}
+
+// These turns are made.
+fn make_turns(
+    play: &mut Play,
+    ground: &Ground<'_>,
+    turns: &[usize],
+    tells: bool,
+) -> Result<(), ExploreFault>
+    requires { IsPlay ground.now.plans.now play.old }
+    ensures play { OnOk result (IsPlay ground.now.plans.now play.new) }
+    ensures turns { OnOk result (play.new.turns.items ≡ play.old.turns.items ++ turns.now) }
+    ensures told { tells ≡ true → IsTold play.old → OnOk result (IsTold play.new) }
+    ensures pages { OnOk result (play.new.core.pool ≡ play.old.core.pool) }
+    ensures limits { OnOk result (play.new.core.limits ≡ play.old.core.limits) }
+{
+    'turns: for turn in turns {
+        make_turn(play, ground, *turn, tells)?;
+    }
+    Ok(())
+}
+
+// The play with these turns, in which each actor has passed what it can. If it tells, all nodes that fell
+// are noted.
+pub(crate) fn replay(
+    ground: &Ground<'_>,
+    turns: &[usize],
+    tells: bool,
+) -> Result<Play, ExploreFault>
+    requires { IsPool ground.now.setting.pages }
+    ensures play { IfOk result (IsReplay ground.now.plans.now ground.now.setting turns.now) }
+    ensures told { tells ≡ true → IfOk result IsTold }
+{
+    let mut play = start(ground)?;
+    make_turns(&mut play, ground, turns, tells)?;
+    play.pass_all(ground.plans);
+    Ok(play)
+}
+
+// Whether the actor makes no turn after these.
+fn has_no_turn(ground: &Ground<'_>, turns: &[usize], actor: usize) -> Result<bool, ExploreFault>
+    requires { IsPool ground.now.setting.pages }
+    ensures { IfOk result (λ yes. yes ≡ true →
+        HasNoTurn ground.now.plans.now ground.now.setting turns.now actor) }
+{
+    let mut play = replay(ground, turns, false)?;
+    match play.take_turn(ground.alloc, ground.plans, actor, false)? {
+        Turned::Made => Ok(false),
+        Turned::Waits => Ok(true),
+        Turned::Rests => Ok(true),
+    }
+}
+
+// Whether no actor makes a turn after these.
+pub(crate) fn have_no_turn(ground: &Ground<'_>, turns: &[usize]) -> Result<bool, ExploreFault>
+    requires { IsPool ground.now.setting.pages }
+    ensures { IfOk result (λ yes. yes ≡ true → HaveNoTurn
+        ground.now.plans.now ground.now.setting turns.now (length ground.now.plans.now)) }
+{
+    'actors: for actor in 0..ground.plans.len() {
+        if !has_no_turn(ground, turns, actor)? {
+            return Ok(false);
+        }
+    }
+    Ok(true)
+}

@@ -1,0 +1,443 @@
+//! The value of a play: all that later turns depend on, and what became of nodes, by numbers of steps. Plays
+//! that differ only in the keys, ids and numbers of events have one value.
+use crate::births::{Births, number_at};
+use crate::falls::{NamedFall, cause_number, has_name};
+use crate::numbers::{small, small_of};
+use crate::replay::Ground;
+use actor_plays::{Actor, Play};
+use forest_store::{End, Node, Snapshot};
+use lifetime_core::Core;
+use sm_names::{
+    BufferName, Call, ClientId, CollectionId, Constraints, Fault, Fired, HeldBuffer, NodeKey,
+    Parcel, Reply, Strength, TrackerId,
+};
+use std::alloc::{AllocError, Global};
+
+// Puts a number behind the text: one byte, or five.
+fn put(text: &mut Vec<u8>, number: u32) -> Result<(), AllocError> {
+    if number < 255 {
+        text.push(number as u8)?;
+        return Ok(());
+    }
+    text.push(255)?;
+    text.extend_from_slice(&number.to_le_bytes())
+}
+
+// Puts two numbers.
+fn put_two(text: &mut Vec<u8>, one: u32, other: u32) -> Result<(), AllocError> {
+    put(text, one)?;
+    put(text, other)
+}
+
+// Puts the place of a step, from 1.
+fn put_place(text: &mut Vec<u8>, at: usize) -> Result<(), AllocError> {
+    put(text, small(at).wrapping_add(1))
+}
+
+fn put_buffer(text: &mut Vec<u8>, births: &Births, buffer: BufferName) -> Result<(), AllocError> {
+    put_two(
+        text,
+        births.collection(buffer.collection),
+        buffer.index as u32,
+    )
+}
+
+// Puts a handle behind a number that tells its strength.
+fn put_handle(
+    text: &mut Vec<u8>,
+    births: &Births,
+    buffer: BufferName,
+    strength: Strength,
+) -> Result<(), AllocError> {
+    match strength {
+        Strength::Strong => put(text, 3)?,
+        Strength::Weak => put(text, 4)?,
+    }
+    put_buffer(text, births, buffer)
+}
+
+fn has_fired(fired: &[Fired], tracker: TrackerId) -> bool {
+    fired.iter().any(|one| one.tracker == tracker)
+}
+
+// Puts how many handles on the buffer the client has.
+fn put_open(
+    text: &mut Vec<u8>,
+    core: &Core,
+    client: ClientId,
+    buffer: BufferName,
+) -> Result<(), AllocError> {
+    let strong = core.open_handles(client, buffer, Strength::Strong);
+    put_two(
+        text,
+        strong,
+        core.open_handles(client, buffer, Strength::Weak),
+    )
+}
+
+// Puts the set, and how many handles on each of its buffers the client has.
+fn put_taken(
+    text: &mut Vec<u8>,
+    core: &Core,
+    client: ClientId,
+    collection: CollectionId,
+    set: u64,
+) -> Result<(), AllocError> {
+    text.extend_from_slice(&set.to_le_bytes())?;
+    for index in 0..64u8 {
+        if (set >> index) & 1 == 1 {
+            let buffer = BufferName { collection, index };
+            put_open(text, core, client, buffer)?;
+        }
+    }
+    Ok(())
+}
+
+// Puts what the client knows and holds by a reply to the call of the step at this place. The ends that it holds
+// stand with their nodes. What a call collected is an end or a handle; the other replies are told by the step.
+fn put_made(
+    text: &mut Vec<u8>,
+    births: &Births,
+    core: &Core,
+    client: ClientId,
+    made: (usize, Reply),
+) -> Result<(), AllocError> {
+    let (at, reply) = made;
+    match reply {
+        Reply::Token { .. } => put_place(text, at),
+        Reply::Collected { key, .. } => {
+            put_place(text, at)?;
+            put_two(text, 1, births.node(key))
+        }
+        Reply::Tracker(tracker) => {
+            put_place(text, at)?;
+            put(text, has_fired(core.fired(), tracker) as u32)
+        }
+        Reply::Taken {
+            collection,
+            set,
+            ..
+        } => {
+            put_place(text, at)?;
+            put_taken(text, core, client, collection, set)
+        }
+        Reply::CollectedHandle { buffer, .. } => {
+            put_place(text, at)?;
+            put(text, 2)?;
+            put_buffer(text, births, buffer)?;
+            put_open(text, core, client, buffer)
+        }
+        _ => Ok(()),
+    }
+}
+
+// Puts what the actor knows and holds by all replies, and 0.
+fn put_actor(
+    text: &mut Vec<u8>,
+    births: &Births,
+    core: &Core,
+    actor: &Actor,
+) -> Result<(), AllocError> {
+    put_place(text, actor.at)?;
+    for (at, reply) in &actor.made {
+        put_made(text, births, core, actor.client, (*at, *reply))?;
+    }
+    put(text, 0)
+}
+
+// Whether a parcel was collected.
+fn is_collected(reply: &Reply) -> bool {
+    matches!(
+        *reply,
+        Reply::Collected { .. } | Reply::CollectedHandle { .. }
+    )
+}
+
+// How many parcels were collected by calls with these replies.
+fn collected(made: &[(usize, Reply)]) -> usize {
+    let mut count: usize = 0;
+    for (_, reply) in made {
+        if is_collected(reply) {
+            count = count.saturating_add(1);
+        }
+    }
+    count
+}
+
+// The client that the call gave a parcel to, and the parcel.
+fn parcel_of(call: &Call, reply: &Reply) -> Option<(ClientId, Parcel)> {
+    if !matches!(*reply, Reply::Done) {
+        return None;
+    }
+    match *call {
+        Call::Give(key, to) => Some((to, Parcel::End(key))),
+        Call::GiveHandle(buffer, strength, to) => Some((to, Parcel::Handle(buffer, strength))),
+        _ => None,
+    }
+}
+
+// Adds the parcel to those of the client. Clients joined in the order of their ids.
+fn push_parcel(
+    queues: &mut [Vec<Parcel>],
+    actors: &[Actor],
+    to: ClientId,
+    parcel: Parcel,
+) -> Result<(), AllocError> {
+    match actors.binary_search_by_key(&to, |actor| actor.client) {
+        Ok(place) if place < queues.len() => queues[place].push(parcel)?,
+        _ => {}
+    }
+    Ok(())
+}
+
+// For each actor, no parcel.
+fn no_parcels(alloc: Global, actors: usize) -> Result<Vec<Vec<Parcel>>, AllocError> {
+    let mut queues = Vec::new(alloc);
+    for _ in 0..actors {
+        queues.push(Vec::new(alloc))?;
+    }
+    Ok(queues)
+}
+
+// For each actor the parcels that these calls gave to it.
+fn parcels_of(
+    alloc: Global,
+    actors: &[Actor],
+    entries: &[(ClientId, Call, Reply)],
+) -> Result<Vec<Vec<Parcel>>, AllocError> {
+    let mut queues = no_parcels(alloc, actors.len())?;
+    for (_, call, reply) in entries {
+        if let Some((to, parcel)) = parcel_of(call, reply) {
+            push_parcel(&mut queues, actors, to, parcel)?;
+        }
+    }
+    Ok(queues)
+}
+
+fn put_parcel(text: &mut Vec<u8>, births: &Births, parcel: Parcel) -> Result<(), AllocError> {
+    match parcel {
+        Parcel::End(key) => put_two(text, 1, births.node(key)),
+        Parcel::Handle(buffer, strength) => put_handle(text, births, buffer, strength),
+    }
+}
+
+// Puts the parcels that wait, and 0: those that were given, but for the first ones, which were collected.
+fn put_parcels(
+    text: &mut Vec<u8>,
+    births: &Births,
+    parcels: &[Parcel],
+    collected: usize,
+) -> Result<(), AllocError> {
+    if collected <= parcels.len() {
+        for parcel in &parcels[collected..] {
+            put_parcel(text, births, *parcel)?;
+        }
+    }
+    put(text, 0)
+}
+
+fn bit(flag: bool, value: u32) -> u32 {
+    if flag { value } else { 0 }
+}
+
+fn flags_of(node: &Node) -> u32 {
+    let marks = bit(node.attached, 1) | bit(node.allocated, 2) | bit(node.gone, 4);
+    let said = bit(node.released, 8) | bit(node.dispensable, 16) | bit(node.took, 32);
+    let weak = bit(node.weak, 64) | bit(node.weak_ok, 128) | bit(node.covers, 256);
+    marks | said | weak | bit(node.bound, 512)
+}
+
+fn put_parent(
+    text: &mut Vec<u8>,
+    births: &Births,
+    parent: Option<NodeKey>,
+) -> Result<(), AllocError> {
+    match parent {
+        Some(parent) => put(text, births.node(parent)),
+        None => put(text, u32::MAX),
+    }
+}
+
+fn put_fault(text: &mut Vec<u8>, births: &Births, fault: Option<Fault>) -> Result<(), AllocError> {
+    match fault {
+        Some(fault) => put_two(text, cause_number(fault.cause), births.node(fault.origin)),
+        None => put(text, 0),
+    }
+}
+
+fn put_constraints(text: &mut Vec<u8>, constraints: Option<Constraints>) -> Result<(), AllocError> {
+    match constraints {
+        Some(said) => {
+            put_two(text, 1, said.camping() as u32)?;
+            put_two(text, said.at_least() as u32, said.size())
+        }
+        None => put(text, 0),
+    }
+}
+
+fn put_end(text: &mut Vec<u8>, end: End) -> Result<(), AllocError> {
+    match end {
+        End::Held(client) => put_two(text, 1, small_of(client)),
+        End::InTransit(client) => put_two(text, 2, small_of(client)),
+        End::Spent => put(text, 0),
+    }
+}
+
+fn put_node(text: &mut Vec<u8>, births: &Births, node: &Node) -> Result<(), AllocError> {
+    put_two(text, births.node(node.key), flags_of(node))?;
+    put_parent(text, births, node.parent)?;
+    put_fault(text, births, node.fault)?;
+    put_constraints(text, node.constraints)?;
+    put(text, node.trackers)?;
+    put_end(text, node.end)
+}
+
+fn put_nodes(text: &mut Vec<u8>, births: &Births, nodes: &[Node]) -> Result<(), AllocError> {
+    put(text, small(nodes.len()))?;
+    for node in nodes {
+        put_node(text, births, node)?;
+    }
+    Ok(())
+}
+
+fn put_held(text: &mut Vec<u8>, held: &[HeldBuffer]) -> Result<(), AllocError> {
+    put(text, small(held.len()))?;
+    for one in held {
+        put_two(text, one.buffer.index as u32, one.pages.start)?;
+    }
+    Ok(())
+}
+
+fn put_collection(
+    text: &mut Vec<u8>,
+    births: &Births,
+    copied: &Snapshot,
+) -> Result<(), AllocError> {
+    put_two(text, 1, births.collection(copied.id))?;
+    match copied.buffers {
+        Some(buffers) => put_two(text, buffers.count, buffers.size)?,
+        None => put(text, 0)?,
+    }
+    put_nodes(text, births, &copied.nodes)?;
+    put_held(text, &copied.held)
+}
+
+// Puts the collections that are kept, and 0.
+fn put_core(text: &mut Vec<u8>, births: &Births, core: &Core) -> Result<(), AllocError> {
+    for id in &births.opened {
+        match core.collection(*id) {
+            Ok(Some(copied)) => put_collection(text, births, &copied)?,
+            Ok(None) => {}
+            Err(_) => return Err(AllocError),
+        }
+    }
+    put(text, 0)
+}
+
+fn put_falls(text: &mut Vec<u8>, falls: &[NamedFall]) -> Result<(), AllocError> {
+    put(text, small(falls.len()))?;
+    for fall in falls {
+        put_two(text, fall.name, fall.cause)?;
+        put(text, fall.origin)?;
+    }
+    Ok(())
+}
+
+// Puts the actors, each with the parcels that wait for it.
+fn put_actors(
+    text: &mut Vec<u8>,
+    births: &Births,
+    play: &Play,
+    queues: &[Vec<Parcel>],
+) -> Result<(), AllocError> {
+    let actors = play.actors();
+    for place in 0..actors.len() {
+        put_actor(text, births, play.core(), &actors[place])?;
+        if place < queues.len() {
+            put_parcels(text, births, &queues[place], collected(&actors[place].made))?;
+        }
+    }
+    Ok(())
+}
+
+// The value of a play, where these nodes fell in it.
+pub(crate) fn value_of(
+    alloc: Global,
+    births: &Births,
+    falls: &[NamedFall],
+    play: &Play,
+) -> Result<Vec<u8>, AllocError> {
+    let queues = parcels_of(alloc, play.actors(), play.entries())?;
+    let mut text = Vec::with_capacity(alloc, 256)?;
+    put_falls(&mut text, falls)?;
+    put_actors(&mut text, births, play, &queues)?;
+    put_core(&mut text, births, play.core())?;
+    Ok(text)
+}
+
+// Puts what became of the node that the step of this number made, if it did not fall.
+fn put_node_end(
+    text: &mut Vec<u8>,
+    core: &Core,
+    falls: &[NamedFall],
+    number: u32,
+    key: NodeKey,
+) -> Result<(), AllocError> {
+    if has_name(falls, number) {
+        return put(text, 0);
+    }
+    match core.node(key) {
+        Some(node) => put(text, bit(node.released, 2) | bit(node.allocated, 4) | 1),
+        None => put(text, 8),
+    }
+}
+
+// Puts what became of what the actor's calls made.
+fn put_made_ends(
+    text: &mut Vec<u8>,
+    ground: &Ground<'_>,
+    core: &Core,
+    falls: &[NamedFall],
+    actor: usize,
+    made: &[(usize, Reply)],
+) -> Result<(), AllocError> {
+    for (at, reply) in made {
+        match *reply {
+            Reply::Tracker(tracker) => {
+                put_place(text, *at)?;
+                put(text, has_fired(core.fired(), tracker) as u32)?;
+            }
+            Reply::Token { key, .. } => {
+                put_place(text, *at)?;
+                let number = number_at(ground.bases, actor, *at);
+                put_node_end(text, core, falls, number, key)?;
+            }
+            _ => {}
+        }
+    }
+    put(text, 0)
+}
+
+// What the play ends in, where these nodes fell in it and no actor has a turn.
+pub(crate) fn ending_of(
+    ground: &Ground<'_>,
+    falls: &[NamedFall],
+    play: &Play,
+) -> Result<Vec<u8>, AllocError> {
+    let mut text = Vec::new(ground.alloc);
+    put_falls(&mut text, falls)?;
+    let actors = play.actors();
+    for actor in 0..actors.len() {
+        put_place(&mut text, actors[actor].at)?;
+        put_made_ends(
+            &mut text,
+            ground,
+            play.core(),
+            falls,
+            actor,
+            &actors[actor].made,
+        )?;
+    }
+    put(&mut text, play.core().free_pages())?;
+    Ok(text)
+}

@@ -1,0 +1,69 @@
+-- The statuses and the texts of faults, and why a line has one.
+use Rattle.std.specs.Prelude.{ℕ, ◌≡◌, ◌≢◌, List, [], ◌∷◌, ◌++◌, codes, decimal, Option, Result, MatchResult, ◌⊎◌, ⊤}
+use Rattle.script_lines.specs.Written.{WritesPart}
+use Rattle.script_labels.specs.declared.stop.Stop.{Stop}
+use Rattle.report_io.specs.declared.fault.ReportFault.{ReportFault}
+use Rattle.report_io.specs.declared.fault.Sought.{Sought}
+
+-- the status that a program ends with: 1 for the streams, 2 for what is not there, 3 for the script, 4 for want of
+-- memory or of room in the history
+abbrev pub fault_status : ReportFault → ℕ
+fault_status ReportFault.ReadFault = 1
+fault_status ReportFault.TooLong = 1
+fault_status ReportFault.WriteFault = 1
+fault_status (ReportFault.BadLine number reason) = 3
+fault_status ReportFault.HistoryFull = 4
+fault_status ReportFault.NoMemory = 4
+fault_status (ReportFault.Missing sought number) = 2
+
+-- what is sought, in words
+abbrev pub sought_name : Sought → List ℕ
+sought_name Sought.Event = codes "event "
+sought_name Sought.Line = codes "line "
+sought_name Sought.Failure = codes "failure "
+
+-- what a fault is told as
+abbrev pub fault_text : ReportFault → List ℕ
+fault_text ReportFault.ReadFault = codes "read fault"
+fault_text ReportFault.TooLong = codes "the script is longer than 16777216 bytes"
+fault_text ReportFault.WriteFault = codes "write fault"
+fault_text (ReportFault.BadLine number reason) = codes "bad line " ++ decimal number ++ codes ": " ++ reason.items
+fault_text ReportFault.HistoryFull = codes "history full"
+fault_text ReportFault.NoMemory = codes "no memory"
+fault_text (ReportFault.Missing sought number) = codes "there is no " ++ sought_name sought ++ decimal number
+
+-- what the line of a fault begins with: the program's name, unless `run` has a line for the same fault
+abbrev pub fault_start : ReportFault → List ℕ
+fault_start ReportFault.TooLong = codes "sysmem: "
+fault_start (ReportFault.Missing sought number) = codes "sysmem: "
+fault_start _ = []
+
+-- the line of the fault, with its end
+abbrev pub fault_line : ReportFault → List ℕ
+fault_line fault = fault_start fault ++ fault_text fault ++ 10 ∷ []
+
+-- the line of the fault was written, as far as it could be, or that of refused memory
+abbrev pub IsTold : Option (List ℕ) → Option (List ℕ) → ReportFault → Type 0
+IsTold before after fault = WritesPart before after (fault_line fault) ⊎ WritesPart before after (fault_line ReportFault.NoMemory)
+
+-- without a fault nothing was told
+abbrev pub IsReported : {A : Type 0} → Option (List ℕ) → Option (List ℕ) → Result A ReportFault → Type 0
+IsReported before after result = MatchResult result (λ _. after ≡ before) (IsTold before after)
+
+-- the fault of the line of this number, which stopped so. Memory for the reason of a bad line may be refused
+abbrev pub IsFaultOf : ℕ → Stop → ReportFault → Type 0
+IsFaultOf number stop (ReportFault.BadLine n reason) = (stop ≡ Stop.BadLine) × (n ≡ number)
+IsFaultOf number stop ReportFault.HistoryFull = stop ≡ Stop.HistoryFull
+IsFaultOf number stop ReportFault.NoMemory = stop ≢ Stop.HistoryFull
+IsFaultOf number stop _ = ⊥
+
+-- the line of this number is bad. Memory for the reason may be refused
+abbrev pub IsBadLine : ℕ → ReportFault → Type 0
+IsBadLine number (ReportFault.BadLine n reason) = n ≡ number
+IsBadLine number ReportFault.NoMemory = ⊤
+IsBadLine number _ = ⊥
+
+-- the fault of a bad line gives these words as the reason
+abbrev pub HasReason : List ℕ → ReportFault → Type 0
+HasReason words (ReportFault.BadLine n reason) = reason.items ≡ words
+HasReason words _ = ⊤

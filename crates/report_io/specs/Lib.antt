@@ -1,0 +1,4 @@
+pub mod Faults
+pub mod IndentedLines
+pub mod Reasons
+pub mod Streams

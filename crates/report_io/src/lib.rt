@@ -1,0 +1,18 @@
+//! The faults of reports on scripts, how a script is read, and how a report is written.
+#![tactic(auto)]
+
+mod ending;
+mod fault;
+mod indents;
+mod numbers;
+mod reading;
+mod reasons;
+mod wanted;
+mod words;
+mod writing;
+
+pub use ending::end_with;
+pub use fault::{ReportFault, Sought, bad_line, fault_of, unended};
+pub use indents::{behind_indent, is_indented, push_indented};
+pub use reading::{behind, read_script};
+pub use writing::put_out;

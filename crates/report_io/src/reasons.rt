@@ -1,0 +1,322 @@
+//! Why a line is bad: the first of the tests of a line that fails.
+ghost use Rattle.std.specs.Prelude.{◌≡◌, ◌++◌, ◌∷◌, OnOk, codes, is_some, not, option_map};
+ghost use Rattle.std.specs.Str.{bytes_eq};
+ghost use Rattle.script_lines.specs.Lines.{strength_named};
+ghost use Rattle.script_lines.specs.Words.{words_left};
+ghost use Rattle.script_labels.specs.Names.{Names};
+ghost use Rattle.script_labels.specs.Tables.{Keeps};
+ghost use Rattle.report_io.specs.declared.wanted.Wanted.{Wanted as Word};
+ghost use Rattle.report_io.specs.Reasons.{before_word, bound, bound_reason, client_reason, is_within, label_reason, line_reason, missing_reason, no_word, plain, reason_text, reason_unless, rest_reason, said_reason, told, unbound, verb_reason, view_reason, word_reason, words_reason};
+
+use crate::numbers::has_number;
+use crate::wanted::{Wanted, wanted_words};
+use crate::words::{
+    cut, has_empty_word, has_end, is, is_strength, is_view, next_word, part_before_point,
+    push_shown,
+};
+use script_labels::Tables;
+use script_lines::{BufferLabel, Label, MOST_LINE_BYTES, push};
+use sm_names::{MAX_AT_LEAST, MAX_CAMPING, MAX_SIZE};
+use std::alloc::AllocError;
+
+// A reason: words, a word of the line, and more words.
+#[derive(Clone, Copy)]
+pub(crate) struct Reason<'a> {
+    before: &'static str,
+    word: &'a [u8],
+    behind: &'static str,
+}
+
+impl<'a> Reason<'a> {
+    // Appends the text of the reason.
+    pub(crate) fn push_text(&self, text: &mut Vec<u8>) -> Result<(), AllocError>
+        ensures { OnOk result (text.new.items ≡ text.old.items ++ reason_text (told self.now)) }
+    {
+        push(text, self.before)?;
+        push_shown(text, self.word)?;
+        push(text, self.behind)
+    }
+}
+
+// Words alone.
+fn alone<'a>(before: &'static str) -> Reason<'a>
+    ensures { told result ≡ plain before.now }
+{
+    Reason {
+        before,
+        word: &[],
+        behind: "",
+    }
+}
+
+// Words, and then a word of the line.
+fn with_word<'a>(before: &'static str, word: &'a [u8]) -> Reason<'a>
+    ensures { told result ≡ before_word before.now word.now }
+{
+    Reason {
+        before,
+        word,
+        behind: "",
+    }
+}
+
+// The reason of a test that is to hold.
+fn unless<'a>(holds: bool, reason: Reason<'a>) -> Option<Reason<'a>>
+    ensures { option_map told result ≡ reason_unless holds (told reason.entry) }
+{
+    if holds { None } else { Some(reason) }
+}
+
+// A label that is to be new is not bound.
+fn new_label<'a>(word: &'a [u8], is_bound: bool) -> Option<Reason<'a>>
+    ensures { option_map told result ≡ reason_unless (not is_bound) (bound word.now) }
+{
+    unless(
+        !is_bound,
+        Reason {
+            before: "the label ",
+            word,
+            behind: " is bound already",
+        },
+    )
+}
+
+// A label that is used is bound.
+fn used_label<'a>(word: &'a [u8], is_bound: bool) -> Option<Reason<'a>>
+    ensures { option_map told result ≡ reason_unless is_bound (unbound word.now) }
+{
+    unless(
+        is_bound,
+        Reason {
+            before: "the label ",
+            word,
+            behind: " is not bound",
+        },
+    )
+}
+
+// Why the line, which says something, is bad, where the labels of the lines before stand so: the first test
+// that fails. Costs a walk over the line, and a look into a table for each label.
+pub(crate) fn line_fault<'a>(tables: &Tables, line: &'a [u8]) -> Option<Reason<'a>>
+    ensures { (names : Names) → Keeps tables.now names →
+        option_map told result ≡ line_reason names line.now }
+{
+    if MOST_LINE_BYTES < line.len() {
+        return Some(alone("the line is longer than 256 bytes"));
+    }
+    if has_end(line, b'\r') {
+        return Some(alone("the line ends in CR"));
+    }
+    if has_empty_word(line) {
+        return Some(alone("one space stands between words, and none before or behind them"));
+    }
+    let (first, rest) = cut(line);
+    said_fault(tables, first, rest)
+}
+
+// `show` and a view, or a client's label and what it asks.
+fn said_fault<'a>(tables: &Tables, first: &'a [u8], rest: Option<&'a [u8]>) -> Option<Reason<'a>>
+    ensures { (names : Names) → Keeps tables.now names →
+        option_map told result ≡ said_reason names (first.now ∷ words_left rest.entry) }
+{
+    if is(first, "show") {
+        return view_fault(rest);
+    }
+    match Label::new(first) {
+        Some(client) => verb_fault(tables, first, client, rest),
+        None => Some(with_word("no label: ", first)),
+    }
+}
+
+// Exactly one view stands behind `show`.
+fn view_fault<'a>(rest: Option<&'a [u8]>) -> Option<Reason<'a>>
+    ensures { option_map told result ≡ view_reason (words_left rest.entry) }
+{
+    let Some((view, rest)) = next_word(rest) else {
+        return Some(with_word("a word is missing behind ", b"show"));
+    };
+    if !is_view(view) {
+        return Some(with_word("no such view: ", view));
+    }
+    rest_fault(rest)
+}
+
+// No word is left.
+fn rest_fault<'a>(rest: Option<&'a [u8]>) -> Option<Reason<'a>>
+    ensures { option_map told result ≡ rest_reason (words_left rest.entry) }
+{
+    match next_word(rest) {
+        Some((word, _)) => Some(with_word("a word too many: ", word)),
+        None => None,
+    }
+}
+
+// There is such a verb.
+fn verb_fault<'a>(
+    tables: &Tables,
+    first: &'a [u8],
+    client: Label,
+    rest: Option<&'a [u8]>,
+) -> Option<Reason<'a>>
+    ensures { (names : Names) → Keeps tables.now names →
+        option_map told result ≡ verb_reason names first.now client (words_left rest.entry) }
+{
+    let Some((verb, rest)) = next_word(rest) else {
+        return Some(with_word("a word is missing behind ", first));
+    };
+    match wanted_words(verb) {
+        Some(wanted) => {
+            let is_bound = tables.client(client).is_some();
+            let fault = client_fault(first, is(verb, "join"), is_bound);
+            if fault.is_some() {
+                return fault;
+            }
+            words_fault(tables, verb, &wanted, rest)
+        }
+        None => Some(with_word("no such word: ", verb)),
+    }
+}
+
+// The label of a client is new where it joins, and stands for one at any other call.
+fn client_fault<'a>(first: &'a [u8], joins: bool, is_bound: bool) -> Option<Reason<'a>>
+    ensures { option_map told result ≡ client_reason first.now joins is_bound }
+{
+    if joins {
+        new_label(first, is_bound)
+    } else {
+        used_label(first, is_bound)
+    }
+}
+
+// The words behind the last one are what they are to be, one by one.
+fn words_fault<'a>(
+    tables: &Tables,
+    verb: &'a [u8],
+    wanted: &[Wanted],
+    rest: Option<&'a [u8]>,
+) -> Option<Reason<'a>>
+    ensures { (names : Names) → Keeps tables.now names →
+        option_map told result ≡ words_reason names verb.now wanted.now (words_left rest.entry) }
+{
+    let mut last = verb;
+    let mut left = rest;
+    let mut more = wanted;
+    'words: while let Some((one, others)) = more.split_first() {
+        let Some((word, behind)) = next_word(left) else {
+            return missing_fault(last, *one);
+        };
+        let fault = word_fault(tables, *one, word);
+        if fault.is_some() {
+            return fault;
+        }
+        last = word;
+        left = behind;
+        more = others;
+    }
+    rest_fault(left)
+}
+
+// No word is left behind the last one: none is to follow, or only `children`, which may be left out.
+fn missing_fault<'a>(last: &'a [u8], wanted: Wanted) -> Option<Reason<'a>>
+    ensures { option_map told result ≡ missing_reason last.now wanted }
+{
+    match wanted {
+        Wanted::End | Wanted::Children => None,
+        _ => Some(with_word("a word is missing behind ", last)),
+    }
+}
+
+// The word is what it is to be.
+fn word_fault<'a>(tables: &Tables, wanted: Wanted, word: &'a [u8]) -> Option<Reason<'a>>
+    ensures { (names : Names) → Keeps tables.now names →
+        option_map told result ≡ word_reason names wanted word.now }
+{
+    match wanted {
+        Wanted::End => Some(with_word("a word too many: ", word)),
+        Wanted::Client | Wanted::Node | Wanted::NewNode | Wanted::Tracker | Wanted::NewTracker => {
+            name_fault(tables, wanted, word)
+        }
+        Wanted::Buffer => buffer_fault(tables, word),
+        Wanted::Strength => strength_fault(word),
+        Wanted::Children => children_fault(word),
+        Wanted::Camping => number_fault(word, 0, u32::from(MAX_CAMPING), "camping is 0 to 64"),
+        Wanted::AtLeast => number_fault(word, 0, u32::from(MAX_AT_LEAST), "at least is 0 to 64"),
+        Wanted::Size => number_fault(word, 1, MAX_SIZE, "the size is 1 to 1073741824"),
+        Wanted::Number => number_fault(word, 0, u32::MAX, "the number is 0 to 4294967295"),
+    }
+}
+
+// The word is `strong` or `weak`.
+fn strength_fault<'a>(word: &'a [u8]) -> Option<Reason<'a>>
+    ensures { option_map told result ≡ reason_unless (is_some (strength_named word.now))
+        (before_word (codes "strong or weak is to stand here: ") word.now) }
+{
+    let reason = with_word("strong or weak is to stand here: ", word);
+    unless(is_strength(word), reason)
+}
+
+// The word is `children`.
+fn children_fault<'a>(word: &'a [u8]) -> Option<Reason<'a>>
+    ensures { option_map told result ≡ reason_unless (bytes_eq word.now (codes "children"))
+        (no_word word.now) }
+{
+    let reason = with_word("no such word: ", word);
+    unless(is(word, "children"), reason)
+}
+
+// The word spells a number from the least to the most.
+fn number_fault<'a>(
+    word: &'a [u8],
+    least: u32,
+    most: u32,
+    before: &'static str,
+) -> Option<Reason<'a>>
+    ensures { option_map told result ≡ reason_unless (is_within least most word.now)
+        (plain before.now) }
+{
+    let reason = alone(before);
+    unless(has_number(word, least, most), reason)
+}
+
+// The word is a label, and the label is bound, or is not, as it is to be.
+fn name_fault<'a>(tables: &Tables, wanted: Wanted, word: &'a [u8]) -> Option<Reason<'a>>
+    ensures { (names : Names) → Keeps tables.now names →
+        option_map told result
+        ≡ label_reason (λ label. bound_reason names wanted label word.now) word.now }
+{
+    match Label::new(word) {
+        Some(label) => label_fault(tables, wanted, label, word),
+        None => Some(with_word("no label: ", word)),
+    }
+}
+
+// The label is bound, or is not, as it is to be.
+fn label_fault<'a>(
+    tables: &Tables,
+    wanted: Wanted,
+    label: Label,
+    word: &'a [u8],
+) -> Option<Reason<'a>>
+    ensures { (names : Names) → Keeps tables.now names →
+        option_map told result ≡ bound_reason names wanted label word.now }
+{
+    match wanted {
+        Wanted::Client => used_label(word, tables.client(label).is_some()),
+        Wanted::Node => used_label(word, tables.node(label).is_some()),
+        Wanted::NewNode => new_label(word, tables.node(label).is_some()),
+        Wanted::Tracker => used_label(word, tables.tracker(label).is_some()),
+        Wanted::NewTracker => new_label(word, tables.tracker(label).is_some()),
+        _ => None,
+    }
+}
+
+// The word is the name of a buffer, and its label stands for a node.
+fn buffer_fault<'a>(tables: &Tables, word: &'a [u8]) -> Option<Reason<'a>>
+    ensures { (names : Names) → Keeps tables.now names →
+        option_map told result ≡ word_reason names Word.Buffer word.now }
+{
+    match BufferLabel::new(word) {
+        Some(buffer) => { used_label(part_before_point(word), tables.node(buffer.node).is_some()) }
+        None => Some(with_word("no buffer: ", word)),
+    }
+}

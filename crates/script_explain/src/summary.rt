@@ -1,0 +1,45 @@
+//! The summary behind an explanation.
+ghost use Rattle.std.specs.Prelude.{◌≡◌, ◌++◌, [], IfErr, IfOk, OnOk};
+ghost use Rattle.std.specs.Io.KnownBytes.{Appends};
+ghost use Rattle.event_texts.specs.Called.{Knows};
+ghost use Rattle.event_texts.specs.SummaryTexts.{summary_text};
+ghost use Rattle.script_labels.specs.Names.{Names};
+ghost use Rattle.script_labels.specs.Tables.{Keeps};
+ghost use Rattle.report_io.specs.IndentedLines.{indented};
+ghost use Rattle.sm_script.specs.Scenes.{Scene};
+ghost use Rattle.script_explain.specs.Progress.{SummaryHalted, seen_summary};
+
+use crate::seen::Seen;
+use report_io::{ReportFault, push_indented, put_out};
+use script_labels::Stop;
+use std::alloc::Global;
+use std::io::Write;
+
+// Writes the summary of the lines so far, each line of it behind four spaces.
+pub(crate) fn put_summary<W: Write>(
+    alloc: Global,
+    seen: &Seen,
+    writer: &mut W,
+) -> Result<(), ReportFault>
+    ensures ok { OnOk result ((scene : Scene) → Knows seen.now.event_writer scene →
+        Appends (W.contents writer.old) (W.contents writer.new) (seen_summary seen.now scene)) }
+    ensures err { IfErr result (λ fault. (scene : Scene) → Knows seen.now.event_writer scene →
+        SummaryHalted (W.contents writer.old) (W.contents writer.new) (seen_summary seen.now scene) fault) }
+{
+    match summary_of(alloc, seen) {
+        Ok(text) => put_out(writer, &text),
+        Err(_) => Err(ReportFault::NoMemory),
+    }
+}
+
+// The summary of the lines so far, each line of it behind four spaces.
+fn summary_of(alloc: Global, seen: &Seen) -> Result<Vec<u8>, Stop>
+    ensures { IfOk result (λ text. (scene : Scene) → Knows seen.now.event_writer scene →
+        text.items ≡ seen_summary seen.now scene) }
+{
+    let mut lines = Vec::new(alloc);
+    seen.event_writer.push_summary(&seen.failing, &mut lines)?;
+    let mut text = Vec::new(alloc);
+    push_indented(&mut text, &lines)?;
+    Ok(text)
+}

@@ -1,7 +1,0 @@
-use Rattle.std.proofs.Common.{take}
-use Rattle.script_pictures.specs.Kin.{FindsNodes}
-use Rattle.script_pictures.proofs.kin.nodes_by_key.Given as goal
-
--- those so far
-abbrev pub invariant-loop-node : goal.invariant-loop-node
-invariant-loop-node l = FindsNodes l.map (take l.node-index l.nodes.items)

@@ -1,7 +1,0 @@
-use Rattle.std.proofs.Common.{◌≡◌, map, take}
-use Rattle.script_pictures.specs.Seen.{seen_in}
-use Rattle.script_pictures.proofs.picture.seen_now.Given as goal
-
--- so far these nodes
-abbrev pub invariant-loop-node : goal.invariant-loop-node
-invariant-loop-node l = l.seen.items ≡ map (seen_in l.core) (take l.node-index l.nodes.items)

@@ -1,8 +1,0 @@
-use Rattle.std.proofs.Common.{◌≡◌, take}
-use Rattle.std.specs.List.{fold}
-use Rattle.script_pictures.specs.Travels.{followed, trace_in}
-use Rattle.script_pictures.proofs.travel.follow.Given as goal
-
--- those so far
-abbrev pub invariant-loop-moment : goal.invariant-loop-moment
-invariant-loop-moment l = trace_in l.trail ≡ fold followed (trace_in l.fn.trail) (take l.moment-index l.moments)

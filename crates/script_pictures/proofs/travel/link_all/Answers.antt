@@ -1,8 +1,0 @@
-use Rattle.std.proofs.Common.{arith, append_assoc}
-use Rattle.std.proofs.lemmas.Grind.{common_steps}
-use Rattle.std.proofs.lemmas.List.{map-append}
-use Rattle.script_pictures.proofs.travel.link_all.Goals as goal
-
--- one more comes last
-pub loop-node-preserved : goal.loop-node-preserved
-loop-node-preserved c = grind (arith, common_steps, append_assoc, map-append)

@@ -1,7 +1,0 @@
-use Rattle.std.proofs.Common.{◌≡◌, take}
-use Rattle.script_pictures.specs.Travels.{ones_of}
-use Rattle.script_pictures.proofs.travel.ones_of.Given as goal
-
--- those so far
-abbrev pub invariant-loop-node : goal.invariant-loop-node
-invariant-loop-node l = l.ones.items ≡ ones_of l.count (take l.node-index l.reached.items)

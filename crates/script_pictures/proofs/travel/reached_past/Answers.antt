@@ -1,8 +1,0 @@
-use Rattle.std.proofs.Common.{arith}
-use Rattle.std.proofs.lemmas.Grind.{common_steps}
-use Rattle.std.proofs.lemmas.List.Elements.{filter-append}
-use Rattle.script_pictures.proofs.travel.reached_past.Goals as goal
-
--- one more comes last, or is left out
-pub loop-node-preserved : goal.loop-node-preserved
-loop-node-preserved c = grind (arith, common_steps, filter-append)

@@ -1,7 +1,0 @@
-use Rattle.std.proofs.Common.{take}
-use Rattle.script_pictures.specs.Travels.{FindsTravels}
-use Rattle.script_pictures.proofs.travel.travels_by_node.Given as goal
-
--- those so far
-abbrev pub invariant-loop-travel : goal.invariant-loop-travel
-invariant-loop-travel l = FindsTravels l.map (take l.travel-index l.travels)

@@ -1,8 +1,0 @@
-pub mod Albums
-pub mod BoxLines
-pub mod Colors
-pub mod Features
-pub mod Kin
-pub mod Seen
-pub mod Shown
-pub mod Travels

@@ -1,9 +1,0 @@
-use Rattle.std.proofs.Common.{◌∙◌, ap, cond, Some, ◌==◌}
-use Rattle.script_tales.proofs.labels.Labels.call_client.Goals as goal
-
-pub returns : goal.returns
-returns c = λ names calls. record {
-  clients = λ other. c.in_ok-insert.ensures.updates.0 other
-      ∙ ap (cond (c.args.client == other) (Some c.args.label)) (calls.clients other);
-  nodes = calls.nodes;
-}

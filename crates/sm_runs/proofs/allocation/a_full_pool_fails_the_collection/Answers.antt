@@ -1,6 +1,0 @@
-use Rattle.std.proofs.Common.{refl}
-use Rattle.sm_runs.proofs.Legal.{is_legal}
-use Rattle.sm_runs.proofs.allocation.a_full_pool_fails_the_collection.Goals as goal
-
-pub returns-clause-legal : goal.returns-clause-legal
-returns-clause-legal c = is_legal _ _ _ refl refl refl

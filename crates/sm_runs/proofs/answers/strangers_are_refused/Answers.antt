@@ -1,9 +1,0 @@
-use Rattle.std.proofs.Common.{refl}
-use Rattle.sm_runs.proofs.Legal.{is_legal}
-use Rattle.sm_runs.proofs.answers.strangers_are_refused.Goals as goal
-
-pub returns-clause-legal : goal.returns-clause-legal
-returns-clause-legal c = is_legal _ _ _ refl refl refl
-
-pub returns-clause-to_nobody : goal.returns-clause-to_nobody
-returns-clause-to_nobody c = is_legal _ _ _ refl refl refl

@@ -1,0 +1,66 @@
+//! What is done with a script.
+use script_draw::{Format, Until, View};
+use script_explain::Scope;
+use test_streams::decimal;
+
+/// What is done with a script.
+#[derive(Clone, Copy)]
+pub enum Task {
+    Run,
+    Explain(Scope),
+    Check,
+    Draw(View),
+    Explore { once: bool, outcome: Option<u64> },
+}
+
+/// What the title says: `run`, `explain`, `failures`, `summary` or `check`, and any words; `explore` or `once`, and an outcome; or
+/// `text`, `dot` or `svg`, and an event, or `line` or `failure` and its number.
+pub fn task_of(title: &str) -> Task {
+    let (verb, rest) = title.split_once(' ').unwrap_or((title, ""));
+    let format = match verb {
+        "run" => return Task::Run,
+        "explain" => return explained(false, false),
+        "failures" => return explained(true, false),
+        "summary" => return explained(false, true),
+        "check" => return Task::Check,
+        "explore" => return explored(false, rest),
+        "once" => return explored(true, rest),
+        "dot" => Format::Dot,
+        "svg" => Format::Svg,
+        _ => Format::Text,
+    };
+    Task::Draw(View {
+        format,
+        until: until_of(rest),
+    })
+}
+
+// An explanation of this scope.
+fn explained(only_failures: bool, has_summary: bool) -> Task {
+    Task::Explain(Scope {
+        only_failures,
+        has_summary,
+    })
+}
+
+// A search for the outcome of this number, or for all.
+fn explored(once: bool, number: &str) -> Task {
+    let outcome = match decimal(number) {
+        Some(number) => Some(u64::from(number)),
+        None => None,
+    };
+    Task::Explore { once, outcome }
+}
+
+// Behind what the trees are drawn: an event, a line or a failure; the last line where there is no number.
+fn until_of(words: &str) -> Until {
+    let (sought, rest) = words.split_once(' ').unwrap_or(("event", words));
+    let Some(number) = decimal(rest) else {
+        return Until::Last;
+    };
+    match sought {
+        "line" => Until::Line(u64::from(number)),
+        "failure" => Until::Failure(u64::from(number)),
+        _ => Until::Event(u64::from(number)),
+    }
+}

@@ -1,5 +1,0 @@
-use Rattle.std.proofs.Common.{length}
-use Rattle.trial_script_rows.proofs.play_all.Given as goal
-
-abbrev pub decreases-lines : goal.decreases-lines
-decreases-lines l = length l.rest

@@ -1,7 +1,0 @@
-//! What the rows of `trial_script_rows` do not show: readers and writers that fail, and what is told at the end.
-mod exits;
-mod faults;
-mod fixture;
-mod lines;
-mod threads;
-mod turns;
