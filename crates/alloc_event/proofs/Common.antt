@@ -12,9 +12,9 @@ pub use Rattle.sm_names.specs.declared.keys.NodeKey.{NodeKey}
 pub use Rattle.node_table.specs.Table.{Table, node_at}
 pub use Rattle.forest_store.specs.Counts.{AreUnits}
 pub use Rattle.forest_store.specs.Forest.{Collection, Forest, collection_at, is_left, on_collections, with_nodes}
-pub use Rattle.forest_store.specs.Shelves.{AreRising, Finishes, Gives, IsStored, Shelf, all_keys, are_filed}
-pub use Rattle.forest_store.specs.Shelves.{collection_in, forest_of, nodes_with, place_in, shelf_of, shelves_of}
-pub use Rattle.forest_store.specs.Nodes.{is_of, is_over, with_end}
+pub use Rattle.forest_store.specs.CollectionRows.{AreRising, Finishes, Gives, IsStored, CollectionRow, all_keys, are_filed}
+pub use Rattle.forest_store.specs.CollectionRows.{collection_in, forest_of, nodes_with, place_in, row_of, rows_of}
+pub use Rattle.forest_store.specs.Nodes.{is_of, is_unkept, with_end}
 pub use Rattle.forest_store.specs.Settling.{Handles, Settled, collection_or_new, with_birth}
 pub use Rattle.forest_store.specs.declared.change.Change.{Change}
 pub use Rattle.forest_store.specs.declared.entry.Entry.{Entry}
@@ -23,8 +23,8 @@ pub use Rattle.forest_store.specs.declared.unit_counts.Unit.{Unit}
 pub use Rattle.buffer_holds.specs.Counts.{total}
 pub use Rattle.buffer_pool.specs.Holdings.{Holdings}
 pub use Rattle.forest_steps.specs.EventEnd.{Closes, MayClose}
-pub use Rattle.forest_store.proofs.shelves.Entries.{none_in, place_is}
-pub use Rattle.forest_store.proofs.shelves.Showing.{collection_is, collection_none, node_is, nodes_of_all, shelf_found}
+pub use Rattle.forest_store.proofs.rows.Entries.{none_in, place_is}
+pub use Rattle.forest_store.proofs.rows.Showing.{collection_is, collection_none, node_is, nodes_of_all, row_found}
 pub use Rattle.forest_store.specs.Given.{AreServedByGiven}
 pub use Rattle.forest_steps.proofs.changes.Dropped.{one_entry}
 pub use Rattle.forest_steps.proofs.mid_event.GivenKept.{forest_after}

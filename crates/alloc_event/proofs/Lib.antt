@@ -3,4 +3,4 @@ pub mod Outcomes
 pub mod changes
 pub mod leaving
 pub mod mid_event
-pub mod shelves
+pub mod rows

@@ -6,8 +6,8 @@ ghost use Rattle.std.specs.Option.{option_map, option_map_or};
 ghost use Rattle.sm_names.specs.Members.{some_strong_live};
 ghost use Rattle.forest_store.specs.declared.change.Change.{Change as Changed};
 ghost use Rattle.forest_store.specs.Dropped.{are_others_out};
-ghost use Rattle.forest_store.specs.Forest.{Collection, IsPoolOf, SameKeys, all_nodes, beside, collection_at, node_at, node_count, empty_forest, summary_of, live_keys, held_by_page, on_collections, with_nodes, is_left, without_over_in};
-ghost use Rattle.forest_store.specs.Nodes.{members_of, with_end, is_of, is_over};
+ghost use Rattle.forest_store.specs.Forest.{Collection, IsPoolOf, SameKeys, all_nodes, beside, collection_at, node_at, node_count, empty_forest, summary_of, live_keys, held_by_page, on_collections, with_nodes, is_left, without_unkept_in};
+ghost use Rattle.forest_store.specs.Nodes.{members_of, with_end, is_of, is_unkept};
 ghost use Rattle.forest_store.specs.Scenes.{IsSound};
 ghost use Rattle.forest_store.specs.Settling.{MayChange, Settled};
 ghost use Rattle.forest_store.specs.Snapshots.{collection_of};
@@ -18,7 +18,6 @@ use buffer_pool::Pool;
 use forest_steps::scratch::Scratch;
 use forest_store::change::Change;
 use forest_store::entry::{entry_of, place_of};
-use forest_store::garbage::{forget_over, list_garbage, take_out};
 use forest_store::insertion::Birth;
 use forest_store::key_list::KeyList;
 use forest_store::lookup::{copy_out, held_by_page, kept_nodes, live_by_birth, pages_beside};
@@ -26,6 +25,7 @@ use forest_store::node::{End, Node};
 use forest_store::snapshot::Snapshot;
 use forest_store::store::{NodeStore, Store, put_end};
 use forest_store::summary::Summary;
+use forest_store::unkept::{forget_unkept, list_unkept, take_out};
 use node_table::NodeTable;
 use sm_names::{BufferName, CollectionId, HeldBuffer, Interval, MAX_BUFFERS, NoMemory, NodeKey};
 use std::alloc::Global;
@@ -46,10 +46,10 @@ impl Model for Forest {
 
     ghost Value = { Forest };
 
-    ghost use Rattle.forest_store.specs.Shelves.{forest_of, shelves_of};
+    ghost use Rattle.forest_store.specs.CollectionRows.{forest_of, rows_of};
     ghost use Rattle.forest_store.specs.Calm.{IsForest};
 
-    ghost view = { λ f. forest_of f.store.nodes.table (shelves_of f.store.entries.items) };
+    ghost view = { λ f. forest_of f.store.nodes.table (rows_of f.store.entries.items) };
 
     ghost invariant = { λ f.
         IsForest f.store.nodes.table f.store.entries.items f.store.nodes.units.items };
@@ -80,7 +80,7 @@ impl Forest {
     /// `NoMemory` if a growth is refused, or no slot has a number left. The forest and the pool are
     /// then as they were. Only a birth and the initial allocation take memory: a birth for its
     /// node, the counts of its unit, and the lists of removed nodes, of pending units and of
-    /// garbage; the initial allocation for the list of held buffers.
+    /// unkept; the initial allocation for the list of held buffers.
     ///
     /// Costs O(log c) for c collections, and in the changed collection, with n kept nodes:
     ///
@@ -313,14 +313,14 @@ impl Forest {
     }
 
     /// Sets the state of a kept node's end. Takes no memory. Costs O(1); O(log collections) if the
-    /// node is gone and its end is spent, since it is then listed as garbage.
+    /// node is gone and its end is spent, since it is then listed as unkept.
     #[inline(always)]
     pub fn set_end(&mut self, key: NodeKey, end: End)
         requires { is_some (node_at self.old key) ≡ true }
         ensures { self.new ≡ on_collections (with_nodes (map (with_end key end))) self.old }
     {
         if let Some((id, over)) = put_end(&mut self.store.nodes.table, key, end) {
-            list_garbage(&mut self.store.entries, id, key, over);
+            list_unkept(&mut self.store.entries, id, key, over);
         }
     }
 
@@ -328,7 +328,7 @@ impl Forest {
     /// no memory. Costs O(log collections + nodes of the collection).
     pub fn forget(&mut self, key: NodeKey)
         requires there { is_some (node_at self.old key) ≡ true }
-        requires over { option_map_or is_over (node_at self.old key) false ≡ true }
+        requires over { option_map_or is_unkept (node_at self.old key) false ≡ true }
         ensures nodes { self.new.collections
             ≡ map (with_nodes (filter (λ n. not (is_of key n)))) self.old.collections }
         ensures keys { SameKeys self.old self.new }
@@ -360,12 +360,12 @@ impl Forest {
     /// Costs O(n) instead if more than 64 such nodes were found since the last call (one found twice
     /// counts twice).
     #[inline(always)]
-    pub fn forget_over(&mut self, id: CollectionId)
-        ensures collections { self.new.collections ≡ without_over_in id self.old.collections }
+    pub fn forget_unkept(&mut self, id: CollectionId)
+        ensures collections { self.new.collections ≡ without_unkept_in id self.old.collections }
         ensures keys { SameKeys self.old self.new }
     {
         let store = &mut self.store;
-        forget_over(
+        forget_unkept(
             &mut store.nodes.table,
             &mut store.entries,
             id,

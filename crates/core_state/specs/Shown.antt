@@ -25,7 +25,7 @@ use Rattle.trackers.specs.Table.{TrackerTable, forgetful, is_untaken}
 use Rattle.forest_store.specs.declared.node.End.{End}
 use Rattle.forest_store.specs.declared.node.Node.{Node}
 use Rattle.forest_store.specs.Forest.{Collection, given}
-use Rattle.forest_store.specs.Nodes.{is_over}
+use Rattle.forest_store.specs.Nodes.{is_unkept}
 use Rattle.core_state.specs.State.{Client, HandleCounts, State, counts_of}
 
 -- where the end of the node is
@@ -70,7 +70,7 @@ held_after pool marks collection = filter (λ (h : HeldBuffer). h.buffer.collect
 abbrev pub collection_after : ℕ → Timeline → ℕ → Collection
 collection_after pool marks collection = record {
   id = collection;
-  nodes = filter (λ n. not (is_over n)) (nodes_after marks collection);
+  nodes = filter (λ n. not (is_unkept n)) (nodes_after marks collection);
   buffers = buffers_of marks collection;
   held = held_after pool marks collection;
 }
@@ -82,7 +82,7 @@ kept_ids marks = map (λ (b : Birth). b.collection)
 
 -- the nodes that are kept, as the marks make them: collection by collection, the earliest first, and by birth within each
 abbrev pub all_kept_nodes : Timeline → List Node
-all_kept_nodes marks = flat_map (λ id. filter (λ n. not (is_over n)) (nodes_after marks id)) (kept_ids marks)
+all_kept_nodes marks = flat_map (λ id. filter (λ n. not (is_unkept n)) (nodes_after marks id)) (kept_ids marks)
 
 -- the pages of the buffers of all kept collections but this one: collection by collection, the earliest first, and by index within each
 abbrev pub pages_beside_after : ℕ → Timeline → ℕ → List Interval

@@ -26,7 +26,7 @@ use Rattle.forest_store.specs.declared.node.End.{End}
 use Rattle.forest_store.specs.declared.node.Node.{Node}
 use Rattle.forest_store.specs.Effects.{effect_of}
 use Rattle.forest_store.specs.Forest.{Collection, Forest, SameKeys, collection_at, node_at, with_nodes, on_collections, is_left}
-use Rattle.forest_store.specs.Nodes.{with_end, is_over}
+use Rattle.forest_store.specs.Nodes.{with_end, is_unkept}
 use Rattle.forest_store.specs.Scenes.{has_tracker_room}
 use Rattle.forest_store.specs.Settling.{Handles, Settled}
 use Rattle.core_state.specs.declared.task.Place.{Place}
@@ -129,9 +129,9 @@ with_place None f = f
 with_place (Some place) f = on_collections (with_nodes (map (with_end place.key place.end))) f
 
 -- the collections without the nodes that are gone and whose ends are spent, and without those of which nothing is left
-abbrev pub without_over : List Collection → List Collection
-without_over cs =
-    filter (λ c. not (is_left c)) (map (with_nodes (filter (λ n. not (is_over n)))) cs)
+abbrev pub without_unkept : List Collection → List Collection
+without_unkept cs =
+    filter (λ c. not (is_left c)) (map (with_nodes (filter (λ n. not (is_unkept n)))) cs)
 
 -- ---- clients and handles: what the event does to them is told by its mark, as in a history
 
@@ -196,7 +196,7 @@ pub record Follows (old new : State) (client : ℕ) (call : Call) (reply : Reply
   pub handles : counts_of new.holds ≡ handles_by (Called client reply call) (counts_of old.holds)
   pub worked : Forest
   pub work : Worked old (total new.holds) (work_of old client call reply) (new_key reply) worked
-  pub collections : new.forest.collections ≡ without_over (with_place (end_by client call reply) worked).collections
+  pub collections : new.forest.collections ≡ without_unkept (with_place (end_by client call reply) worked).collections
   pub keys : SameKeys worked new.forest
   pub attached : TrackerTable
   pub gains : GainsTracker old.trackers (tracker_by old.forest call reply) attached

@@ -23,15 +23,15 @@ pub use Rattle.sm_names.specs.declared.outcomes.Buffers.{Buffers}
 pub use Rattle.sm_names.specs.declared.outcomes.Cause.{Cause}
 pub use Rattle.node_table.proofs.Keys.{same_key-equal}
 pub use Rattle.node_table.specs.Table.{Row, Table, node_at, parent_at, row_at, table_len}
-pub use Rattle.forest_store.specs.Calm.{AreCounted, AreCountedExcept, IsCounted, over_except, strong_count}
+pub use Rattle.forest_store.specs.Calm.{AreCounted, AreCountedExcept, IsCounted, unkept_except, strong_count}
 pub use Rattle.forest_store.specs.Counts.{AreUnits, HasUnits, HaveUnits, hangs_in, heads_below, is_held_by}
 pub use Rattle.forest_store.specs.Counts.{is_unready, lives_in, unit_at, unit_of, unit_then, waits_in}
 pub use Rattle.forest_store.specs.Decisions.{Decision, Ends, IsPlacing, Loses, Places, decided, first_step}
 pub use Rattle.forest_store.specs.Decisions.{has_strong, is_left_of, late_failure, mark_of, waiting, wanted_by}
 pub use Rattle.forest_store.specs.Forest.{Collection, IsPoolOf, all_held, beside, collection_at, pages_in, with_nodes}
-pub use Rattle.forest_store.specs.Shelves.{AreRising, Finishes, IsStored, IsWhole, Shelf, Stores, all_keys}
-pub use Rattle.forest_store.specs.Shelves.{all_of, collection_in, forest_of, is_filed, is_strong, nodes_with}
-pub use Rattle.forest_store.specs.Shelves.{place_in, put_shelf, shelf_of, shelves_of, stored, written}
+pub use Rattle.forest_store.specs.CollectionRows.{AreRising, Finishes, IsStored, IsWhole, CollectionRow, Stores, all_keys}
+pub use Rattle.forest_store.specs.CollectionRows.{all_of, collection_in, forest_of, is_filed, is_strong, nodes_with}
+pub use Rattle.forest_store.specs.CollectionRows.{place_in, put_row, row_of, rows_of, stored, written}
 pub use Rattle.forest_store.specs.Nodes.{above_among, affected, after_allocation, after_effect, after_end, after_loss}
 pub use Rattle.forest_store.specs.Nodes.{ended, given_buffers, is_of, is_taken, lost, member_of, members_of, node_of}
 pub use Rattle.forest_store.specs.Questions.{demands_of, has_buffers, is_allocated_node, is_below, is_deserted_node}
@@ -64,17 +64,17 @@ pub use Rattle.forest_store.proofs.quiescence.Forcing.{forced_made}
 pub use Rattle.forest_store.proofs.quiescence.Resting.{still_decided}
 pub use Rattle.forest_store.proofs.quiescence.Steps.{all-In, found_by_key}
 pub use Rattle.forest_store.proofs.quiescence.Watched.{found_counted, strong_told}
-pub use Rattle.forest_store.proofs.shelves.Counted.{counted_but, counted_set, shelves_put}
-pub use Rattle.forest_store.proofs.shelves.Entries.{IsPlace, place_is, set_put}
-pub use Rattle.forest_store.proofs.shelves.Putting.{cases_place, put-map}
-pub use Rattle.forest_store.proofs.shelves.Showing.{collection_is, node_is, shelf_found}
+pub use Rattle.forest_store.proofs.rows.Counted.{counted_but, counted_set, rows_put}
+pub use Rattle.forest_store.proofs.rows.Entries.{IsPlace, place_is, set_put}
+pub use Rattle.forest_store.proofs.rows.Putting.{cases_place, put-map}
+pub use Rattle.forest_store.proofs.rows.Showing.{collection_is, node_is, row_found}
 pub use Rattle.forest_store.proofs.tables.Hanging.{all_in, in_all, looked_there}
-pub use Rattle.forest_store.proofs.tables.LeftParents.{in_shelf}
+pub use Rattle.forest_store.proofs.tables.LeftParents.{in_row}
 pub use Rattle.forest_store.proofs.tables.Rooted.{AreOne, IsLeft, distinct_one, left_in, left_node, left_parent}
 pub use Rattle.forest_store.proofs.tables.Writing.{IsSameNode, IsSound-map, kept-with, look-changed, parents-written}
 pub use Rattle.forest_store.proofs.tallies.Holding.{above_short}
 pub use Rattle.forest_store.proofs.tallies.Reserved.{amount_map, amount_within, camped_sum}
-pub use Rattle.forest_store.proofs.tallies.Slots.{all_at, one_shelf}
+pub use Rattle.forest_store.proofs.tallies.Slots.{all_at, one_row}
 pub use Rattle.forest_store.specs.Dropped.{are_rest_out, has_given_root}
 pub use Rattle.forest_store.specs.Falls.{AreGrown, Hangs, Roots, given_all}
 pub use Rattle.forest_store.specs.LossMarks.{IsTaken, gone_by, unreckoned}
@@ -107,7 +107,7 @@ pub use Rattle.std.proofs.lemmas.Map.Views.{Contains-from_any, list_any-from_Con
 pub use Rattle.forest_steps.specs.Climbing.{climbed}
 pub use Rattle.forest_steps.specs.EventEnd.{Closes, IsClosed, MayClose}
 pub use Rattle.forest_steps.specs.InitialAllocation.{IsAllocationOutcome, IsComing, IsPlanned, IsRooted, allocated_with}
-pub use Rattle.forest_steps.specs.InitialAllocation.{comes_first, first_made, is_bare_root, is_held_ready, shelf_then, wants_of}
+pub use Rattle.forest_steps.specs.InitialAllocation.{comes_first, first_made, is_bare_root, is_held_ready, row_then, wants_of}
 pub use Rattle.forest_steps.specs.LogicalAllocation.{IsUnitListed, asked_there, is_next_there}
 pub use Rattle.forest_steps.specs.MidEvent.{AfterEffect, AfterLoss, AfterPropagation, AfterRemoval, AfterSteps, AreClosed}
 pub use Rattle.forest_steps.specs.MidEvent.{AreOrEnd, ArePlacedIfThere, AreTurns, EffectMade, IsBeside, MayGo, MidEvent}

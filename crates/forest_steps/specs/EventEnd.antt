@@ -11,7 +11,7 @@ use Rattle.forest_store.specs.declared.unit_counts.Unit.{Unit}
 use Rattle.forest_store.specs.Calm.{AreCountedExcept, IsCounted}
 use Rattle.forest_store.specs.Counts.{AreUnits, HaveUnits}
 use Rattle.forest_store.specs.Decisions.{decided}
-use Rattle.forest_store.specs.Shelves.{IsStored, SameTable, Shelf, collection_in, nodes_with, place_in, shelf_of, shelves_of}
+use Rattle.forest_store.specs.CollectionRows.{IsStored, SameTable, CollectionRow, collection_in, nodes_with, place_in, row_of, rows_of}
 use Rattle.forest_store.specs.Outcomes.{IsSettledIn}
 use Rattle.forest_store.specs.Scenes.{is_held_strongly}
 use Rattle.forest_store.specs.Settling.{Handles}
@@ -23,19 +23,20 @@ pub record MayClose (handles : Handles) (t : Table Node) (us : List Unit) (es : 
   pub pending : List NodeKey
   pub is : get_or es at entry ≡ entry
   pub place : place_in entry.id es ≡ Some at
-  pub under : MidEvent t us (shelves_of es) entry [] pending
+  pub under : MidEvent t us (rows_of es) entry [] pending
   pub out : (pending ≡ []) ⊎ (is_abandoned_in handles t entry ≡ true)
   pub others : AreCountedExcept t entry.id es
 
 -- forced steps were made in the collection of the entry until none is left, and it is counted
-pub record IsClosed (handles : Handles) (t now : Table Node) (us : List Unit) (ss : List Shelf) (old new : Entry) : Type 0 where
+pub record IsClosed (handles : Handles) (t now : Table Node) (us : List Unit) (ss : List CollectionRow) (old new : Entry) : Type 0 where
   pub kept : IsStored now ss
   pub units : AreUnits us (map (collection_in now) ss)
   pub counted : IsCounted now new
-  pub shelf : shelf_of new ≡ shelf_of old
+  pub row : row_of new ≡ row_of old
   pub fewer : new.strong ≤ old.strong
   pub none : decided (nodes_with now old.keys.items) old.buffers (is_held_strongly handles old.id old.buffers) ≡ None
-  pub leads : (pool : ℕ) (others : List Interval) → Reaches pool handles others (collection_in t (shelf_of old)) (collection_in now (shelf_of old))
+  pub leads : (pool : ℕ) (others : List Interval) → Reaches pool handles others (collection_in t (row_of old))
+      (collection_in now (row_of old))
   pub beside : IsBeside t now ss old.id
 
 -- what was forced in the collection with this id was made, and the pages of its buffers that are home went back

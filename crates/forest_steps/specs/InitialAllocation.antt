@@ -25,7 +25,7 @@ use Rattle.forest_store.specs.Counts.{decrement_if, is_held_by, unit_then}
 use Rattle.forest_store.specs.Decisions.{waiting}
 use Rattle.forest_steps.specs.First.{IsLaid, wanted_of}
 use Rattle.forest_store.specs.Forest.{Collection, with_nodes}
-use Rattle.forest_store.specs.Shelves.{Shelf, collection_in, is_strong, put_shelf, shelf_of, written}
+use Rattle.forest_store.specs.CollectionRows.{CollectionRow, collection_in, is_strong, put_row, row_of, written}
 use Rattle.forest_store.specs.Nodes.{affected, after_allocation, after_loss}
 use Rattle.forest_store.specs.Questions.{is_root_left}
 use Rattle.forest_store.specs.Scenes.{given_few}
@@ -102,7 +102,8 @@ abbrev pub IsAllocationOutcome : Holdings → Holdings → ℕ → List HeldBuff
 IsAllocationOutcome old new id others (Err why) verdict = (verdict ≡ AllocationOutcome.Fails why) × (new ≡ old)
 IsAllocationOutcome old new id others (Ok wants) (AllocationOutcome.Fails why) =
     (why ≡ Failure.PoolFull) × (places old.size (pages_of wants.size) wants.count old.held ≡ None) × (new ≡ old)
-IsAllocationOutcome old new id others (Ok wants) (AllocationOutcome.Given buffers held) = (buffers ≡ wants) × IsLaid old new id wants others held.items
+IsAllocationOutcome old new id others (Ok wants) (AllocationOutcome.Given buffers held) = (buffers ≡ wants)
+    × IsLaid old new id wants others held.items
 
 -- ---- the steps
 
@@ -112,10 +113,10 @@ first_made head (AllocationOutcome.Fails why) c = with_nodes (after_loss (record
 first_made head (AllocationOutcome.Given buffers held) c =
     record { id = c.id; nodes = after_allocation head c.nodes; buffers = Some buffers; held = held.items }
 
--- the shelf then
-abbrev pub shelf_then : AllocationOutcome → Shelf → Shelf
-shelf_then (AllocationOutcome.Fails why) s = s
-shelf_then (AllocationOutcome.Given buffers held) s = record { id = s.id; keys = s.keys; buffers = Some buffers; held = held.items }
+-- the row then
+abbrev pub row_then : AllocationOutcome → CollectionRow → CollectionRow
+row_then (AllocationOutcome.Fails why) s = s
+row_then (AllocationOutcome.Given buffers held) s = record { id = s.id; keys = s.keys; buffers = Some buffers; held = held.items }
 
 -- the buffers are not too many, if any are given
 abbrev pub gives_few : AllocationOutcome → Bool
@@ -130,12 +131,12 @@ pub record IsComing (nodes : List Node) (head : NodeKey) : Type 0 where
 
 -- that was made, and the forced steps that follow, by which the table, the units and the entry came to be so, until none is left but
 -- that the buffers are abandoned, or none
-pub record IsRooted (handles : Handles) (t now : Table Node) (us : List Unit) (ss : List Shelf) (old new : Entry) (head : NodeKey)
+pub record IsRooted (handles : Handles) (t now : Table Node) (us : List Unit) (ss : List CollectionRow) (old new : Entry) (head : NodeKey)
     (verdict : AllocationOutcome) : Type 0 where
   pub pending : List NodeKey
-  pub under : MidEvent now us (put_shelf (shelf_of new) ss) new [] pending
-  pub shelf : shelf_of new ≡ shelf_then verdict (shelf_of old)
+  pub under : MidEvent now us (put_row (row_of new) ss) new [] pending
+  pub row : row_of new ≡ row_then verdict (row_of old)
   pub leads : (pool : ℕ) (others : List Interval) → Reaches pool handles others
-      (first_made head verdict (collection_in t (shelf_of old))) (collection_in now (shelf_of new))
+      (first_made head verdict (collection_in t (row_of old))) (collection_in now (row_of new))
   pub beside : IsBeside t now ss old.id
   pub out : (pending ≡ []) ⊎ (is_abandoned_in handles now new ≡ true)

@@ -17,8 +17,8 @@ use Rattle.forest_store.specs.Counts.{hangs_in}
 use Rattle.forest_store.specs.Decisions.{is_left_of, waiting}
 use Rattle.forest_store.specs.Dropped.{has_given_root}
 use Rattle.forest_store.specs.Forest.{Collection, with_nodes}
-use Rattle.forest_store.specs.Garbage.{IsPlace}
-use Rattle.forest_store.specs.Shelves.{SameTable, Shelf, collection_in, nodes_with, shelf_of}
+use Rattle.forest_store.specs.Unkept.{IsPlace}
+use Rattle.forest_store.specs.CollectionRows.{SameTable, CollectionRow, collection_in, nodes_with, row_of}
 use Rattle.forest_store.specs.Nodes.{after_effect, after_end, after_loss, is_of}
 use Rattle.forest_store.specs.Questions.{is_next_node, is_ready_node, has_buffers}
 use Rattle.forest_store.specs.Scenes.{is_held_strongly}
@@ -60,7 +60,8 @@ hangs_in_some nodes hs n = option_map_or (λ p. list_any (λ (q : Node). is_of p
 
 -- each such unit right below one of those with these heads is one of them
 abbrev pub AreClosed : List Node → List NodeKey → Type 0
-AreClosed nodes hs = (n : Node) → In n nodes → is_coming nodes n ≡ true → hangs_in_some nodes hs n ≡ true → list_any (same_key n.key) hs ≡ true
+AreClosed nodes hs = (n : Node) → In n nodes → is_coming nodes n ≡ true → hangs_in_some nodes hs n ≡ true →
+    list_any (same_key n.key) hs ≡ true
 
 -- the heads of those that may come to their turn
 abbrev pub turn_heads : List PendingUnit → List NodeKey
@@ -90,7 +91,7 @@ pub record AreTurns (t : Table Node) (keys : List NodeKey) (ws : List PendingUni
 -- forced steps are being made in the collection of the entry, and the store agrees: no unit has buffers where none were given,
 -- something holds each unit but those with the loose heads, and only units with the heads that are due are next, or wait as the
 -- root's
-pub record MidEvent (t : Table Node) (us : List Unit) (ss : List Shelf) (e : Entry) (unheld pending : List NodeKey) : Type 0 where
+pub record MidEvent (t : Table Node) (us : List Unit) (ss : List CollectionRow) (e : Entry) (unheld pending : List NodeKey) : Type 0 where
   pub store : StoreAgrees t us ss e
   pub bare : e.buffers ≡ None → list_any has_buffers (nodes_with t e.keys.items) ≡ false
   pub held : are_held_except unheld (nodes_with t e.keys.items) ≡ true
@@ -98,20 +99,22 @@ pub record MidEvent (t : Table Node) (us : List Unit) (ss : List Shelf) (e : Ent
   pub root : waits_among pending (nodes_with t e.keys.items) ≡ true
 
 -- the table differs in the nodes of the collection with this id alone
-pub record IsBeside (t now : Table Node) (ss : List Shelf) (id : ℕ) : Type 0 where
+pub record IsBeside (t now : Table Node) (ss : List CollectionRow) (id : ℕ) : Type 0 where
   pub same : SameTable t now
-  pub others : (x : Shelf) → In x ss → x.id ≢ id → collection_in now x ≡ collection_in t x
+  pub others : (x : CollectionRow) → In x ss → x.id ≢ id → collection_in now x ≡ collection_in t x
 
 -- wherever forced steps lead from the second collection, they lead from the first
 abbrev pub Reaches : ℕ → Handles → List Interval → Collection → Collection → Type 0
 Reaches pool handles others c d = (after : Collection) → Settles pool handles others d after → Settles pool handles others c after
 
 -- forced steps were made by which the table, the units and the entry came to be so
-pub record AfterSteps (handles : Handles) (t now : Table Node) (us : List Unit) (ss : List Shelf) (old new : Entry) (unheld pending : List NodeKey)
+pub record AfterSteps (handles : Handles) (t now : Table Node) (us : List Unit) (ss : List CollectionRow) (old new : Entry)
+    (unheld pending : List NodeKey)
     : Type 0 where
   pub under : MidEvent now us ss new unheld pending
-  pub shelf : shelf_of new ≡ shelf_of old
-  pub leads : (pool : ℕ) (others : List Interval) → Reaches pool handles others (collection_in t (shelf_of old)) (collection_in now (shelf_of old))
+  pub row : row_of new ≡ row_of old
+  pub leads : (pool : ℕ) (others : List Interval) → Reaches pool handles others (collection_in t (row_of old))
+      (collection_in now (row_of old))
   pub beside : IsBeside t now ss old.id
 
 -- the key is of a head that is not gone
@@ -121,19 +124,19 @@ is_head_left nodes key = list_any (λ (n : Node). is_of key n && (not n.gone && 
 -- ---- an effect
 
 -- the effect was made on the node with this key, whose unit has this head, and nothing else changed: the store agrees
-pub record EffectMade (t now : Table Node) (us : List Unit) (ss : List Shelf) (old new : Entry) (key : NodeKey) (effect : Effect)
+pub record EffectMade (t now : Table Node) (us : List Unit) (ss : List CollectionRow) (old new : Entry) (key : NodeKey) (effect : Effect)
     (head : NodeKey) : Type 0 where
   pub store : StoreAgrees now us ss new
-  pub shelf : shelf_of new ≡ shelf_of old
+  pub row : row_of new ≡ row_of old
   pub nodes : nodes_with now old.keys.items ≡ after_effect key effect (nodes_with t old.keys.items)
   pub left : is_head_left (nodes_with now old.keys.items) head ≡ true
   pub beside : IsBeside t now ss old.id
 
 -- so it was, and only that unit may be held by nothing then, or come to its turn
-pub record AfterEffect (t now : Table Node) (us : List Unit) (ss : List Shelf) (old new : Entry) (key : NodeKey) (effect : Effect)
+pub record AfterEffect (t now : Table Node) (us : List Unit) (ss : List CollectionRow) (old new : Entry) (key : NodeKey) (effect : Effect)
     (head : NodeKey) : Type 0 where
   pub under : MidEvent now us ss new (head ∷ []) (head ∷ [])
-  pub shelf : shelf_of new ≡ shelf_of old
+  pub row : row_of new ≡ row_of old
   pub nodes : nodes_with now old.keys.items ≡ after_effect key effect (nodes_with t old.keys.items)
   pub left : is_head_left (nodes_with now old.keys.items) head ≡ true
   pub beside : IsBeside t now ss old.id
@@ -156,10 +159,11 @@ and_loose None unheld = unheld
 and_loose (Some head) unheld = head ∷ unheld
 
 -- what is lost or ends with the node is gone, which hung below the unit with this head, if below any, and nothing else changed
-pub record AfterRemoval (t now : Table Node) (us : List Unit) (ss : List Shelf) (old new : Entry) (origin : NodeKey) (fault : Option Fault)
+pub record AfterRemoval (t now : Table Node) (us : List Unit) (ss : List CollectionRow) (old new : Entry) (origin : NodeKey)
+    (fault : Option Fault)
     (above : Option NodeKey) (unheld pending : List NodeKey) : Type 0 where
   pub under : MidEvent now us ss new (and_loose above unheld) pending
-  pub shelf : shelf_of new ≡ shelf_of old
+  pub row : row_of new ≡ row_of old
   pub nodes : nodes_with now old.keys.items ≡ gone_down fault origin (nodes_with t old.keys.items)
   pub left : option_map_or (is_head_left (nodes_with now old.keys.items)) above true ≡ true
   pub beside : IsBeside t now ss old.id
@@ -169,12 +173,12 @@ abbrev pub AreOrEnd : List Node → List Node → Type 0
 AreOrEnd old now = (now ≡ old) ⊎ ((top : NodeKey) × (now ≡ after_end top old))
 
 -- what is lost by this fault is gone, and what is forced to end then
-pub record AfterLoss (handles : Handles) (t now : Table Node) (us : List Unit) (ss : List Shelf) (old new : Entry) (fault : Fault)
+pub record AfterLoss (handles : Handles) (t now : Table Node) (us : List Unit) (ss : List CollectionRow) (old new : Entry) (fault : Fault)
     (pending : List NodeKey) : Type 0 where
   pub under : MidEvent now us ss new [] pending
-  pub shelf : shelf_of new ≡ shelf_of old
+  pub row : row_of new ≡ row_of old
   pub leads : (pool : ℕ) (others : List Interval) →
-      Reaches pool handles others (with_nodes (after_loss fault) (collection_in t (shelf_of old))) (collection_in now (shelf_of old))
+      Reaches pool handles others (with_nodes (after_loss fault) (collection_in t (row_of old))) (collection_in now (row_of old))
   pub beside : IsBeside t now ss old.id
   pub nodes : AreOrEnd (after_loss fault (nodes_with t old.keys.items)) (nodes_with now old.keys.items)
 
@@ -185,18 +189,20 @@ abbrev pub is_abandoned_in : Handles → Table Node → Entry → Bool
 is_abandoned_in handles t e = e.strong == 0 && (has_given_root t e.keys.items && not (is_held_strongly handles e.id e.buffers))
 
 -- forced steps were made until none is left but that the buffers are abandoned, or none
-pub record AfterPropagation (handles : Handles) (t now : Table Node) (us : List Unit) (ss : List Shelf) (old new : Entry) : Type 0 where
+pub record AfterPropagation (handles : Handles) (t now : Table Node) (us : List Unit) (ss : List CollectionRow)
+    (old new : Entry) : Type 0 where
   pub pending : List NodeKey
   pub led : AfterSteps handles t now us ss old new [] pending
   pub out : (pending ≡ []) ⊎ (is_abandoned_in handles now new ≡ true)
 
 -- the same, from the collection with these nodes
-pub record PropagatedFrom (handles : Handles) (between : List Node) (t now : Table Node) (us : List Unit) (ss : List Shelf) (old new : Entry)
+pub record PropagatedFrom (handles : Handles) (between : List Node) (t now : Table Node) (us : List Unit) (ss : List CollectionRow)
+    (old new : Entry)
     : Type 0 where
   pub pending : List NodeKey
   pub under : MidEvent now us ss new [] pending
-  pub shelf : shelf_of new ≡ shelf_of old
+  pub row : row_of new ≡ row_of old
   pub leads : (pool : ℕ) (others : List Interval) →
-      Reaches pool handles others (record (collection_in t (shelf_of old)) { nodes = between }) (collection_in now (shelf_of old))
+      Reaches pool handles others (record (collection_in t (row_of old)) { nodes = between }) (collection_in now (row_of old))
   pub beside : IsBeside t now ss old.id
   pub out : (pending ≡ []) ⊎ (is_abandoned_in handles now new ≡ true)

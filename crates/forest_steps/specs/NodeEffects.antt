@@ -18,7 +18,7 @@ use Rattle.forest_store.specs.Reserved.{camped}
 use Rattle.forest_store.specs.Resting.{is_kept_by}
 use Rattle.forest_store.specs.Scenes.{has_tracker_room}
 use Rattle.forest_store.specs.Settling.{Handles}
-use Rattle.forest_store.specs.Shelves.{is_strong, shelf_of}
+use Rattle.forest_store.specs.CollectionRows.{is_strong, row_of}
 use Rattle.forest_store.specs.Unforced.{is_plain}
 
 -- ---- what is counted then
@@ -40,7 +40,8 @@ pub record KeepsCounts (effect : Effect) : Type 0 where
   pub strong : (key : NodeKey) (n : Node) → is_strong (affected key effect n) ≡ is_strong n
 
 -- these are the counts of the unit and of the collection of this node once the effect is made on it
-pub record AreCounts (t : Table Node) (us : List Unit) (e : Entry) (key : NodeKey) (effect : Effect) (n : Node) (c : EffectCounts) : Type 0 where
+pub record AreCounts (t : Table Node) (us : List Unit) (e : Entry) (key : NodeKey) (effect : Effect) (n : Node)
+    (c : EffectCounts) : Type 0 where
   pub head : c.head ≡ n.head
   pub unit : c.unit ≡ unit_then us n (affected key effect n)
   pub due : c.due ≡ (is_unready n && (c.unit.unready == 0 && is_due_at t n.head))
@@ -78,7 +79,7 @@ strong_then e counts = option_map_or (λ (c : EffectCounts). c.strong) counts e.
 
 -- nothing is forced by the effect: nothing of the unit, and a strong node of the collection is live, or it rests without one
 abbrev pub is_unforced : Handles → Table Node → Entry → NodeEffect → Bool
-is_unforced handles t e made = not (may_force made.counts) && is_kept_by handles t (shelf_of e) (strong_then e made.counts)
+is_unforced handles t e made = not (may_force made.counts) && is_kept_by handles t (row_of e) (strong_then e made.counts)
 
 -- so it is at this place
 abbrev pub IsUnforcedAt : Handles → Store → ℕ → NodeEffect → Type 0

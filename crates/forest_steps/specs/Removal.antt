@@ -9,11 +9,11 @@ use Rattle.forest_store.specs.declared.entry.Entry.{Entry}
 use Rattle.forest_store.specs.declared.loss_marks.Going.{Going}
 use Rattle.forest_store.specs.declared.node.Node.{Node}
 use Rattle.forest_store.specs.declared.unit_counts.Unit.{Unit}
-use Rattle.forest_store.specs.Calm.{over_except, strong_count}
+use Rattle.forest_store.specs.Calm.{unkept_except, strong_count}
 use Rattle.forest_store.specs.Counts.{head_of}
 use Rattle.forest_store.specs.LossMarks.{IsTaken, gone_by, unreckoned}
-use Rattle.forest_store.specs.Garbage.{AreMore}
-use Rattle.forest_store.specs.Shelves.{Stores, nodes_with, shelf_of}
+use Rattle.forest_store.specs.Unkept.{AreMore}
+use Rattle.forest_store.specs.CollectionRows.{Stores, nodes_with, row_of}
 use Rattle.forest_store.specs.Reserved.{reserved_count}
 
 -- the head of the unit that the parent of the first of these is in, if it has a parent
@@ -29,9 +29,9 @@ pub record IsGoneSo (t now : Table Node) (us after : List Unit) (old new : Entry
   pub forest : IsForest t
   pub stores : Stores t now (map (gone_by going) (nodes_with t keys))
   pub units : after ≡ unreckoned t (nodes_with t keys) us
-  pub shelf : shelf_of new ≡ shelf_of old
+  pub row : row_of new ≡ row_of old
   pub strong : new.strong ≡ old.strong - strong_count (nodes_with t keys)
   pub reserved : (left : ℕ) → left + reserved_count (nodes_with t keys) ≡ old.reserved → new.reserved ≡ left
-  pub garbage_known : new.garbage_known ≡ true → old.garbage_known ≡ true
-  pub more : AreMore old.garbage.items new.garbage.items
-  pub over : new.garbage_known ≡ true → list_any (over_except new.garbage.items) (nodes_with now keys) ≡ false
+  pub unkept_known : new.unkept_known ≡ true → old.unkept_known ≡ true
+  pub more : AreMore old.unkept.items new.unkept.items
+  pub over : new.unkept_known ≡ true → list_any (unkept_except new.unkept.items) (nodes_with now keys) ≡ false

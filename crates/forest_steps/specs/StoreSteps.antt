@@ -23,7 +23,7 @@ use Rattle.forest_steps.specs.MidEvent.{AfterLoss, AfterPropagation, AfterRemova
 use Rattle.forest_store.specs.Nodes.{after_effect}
 use Rattle.forest_store.specs.Outcomes.{IsOutcomeIn, IsReady}
 use Rattle.forest_store.specs.Settling.{Handles}
-use Rattle.forest_store.specs.Shelves.{Shelf, nodes_with, place_in}
+use Rattle.forest_store.specs.CollectionRows.{CollectionRow, nodes_with, place_in}
 use Rattle.forest_store.specs.Stores.{AreNamed, nodes_in}
 
 -- ---- of the table, the entries and the units
@@ -114,41 +114,41 @@ pub record KeepsRows (old new : NodeStore) : Type 0 where
 -- ---- nodes with the counts of their units
 
 -- the collection is under way
-abbrev pub MidEventIn : NodeStore → List Shelf → Entry → List NodeKey → List NodeKey → Type 0
+abbrev pub MidEventIn : NodeStore → List CollectionRow → Entry → List NodeKey → List NodeKey → Type 0
 MidEventIn s ss e unheld pending = MidEvent s.table s.units.items ss e unheld pending
 
 -- the effect was made, and nothing else
-abbrev pub EffectMadeIn : NodeStore → NodeStore → List Shelf → Entry → Entry → NodeKey → Effect → NodeKey → Type 0
+abbrev pub EffectMadeIn : NodeStore → NodeStore → List CollectionRow → Entry → Entry → NodeKey → Effect → NodeKey → Type 0
 EffectMadeIn old new ss e now key effect head = EffectMade old.table new.table new.units.items ss e now key effect head
 
 -- what is lost or ends is gone
-abbrev pub AfterRemovalIn : NodeStore → NodeStore → List Shelf → Entry → Entry → NodeKey → Option Fault → Option NodeKey →
+abbrev pub AfterRemovalIn : NodeStore → NodeStore → List CollectionRow → Entry → Entry → NodeKey → Option Fault → Option NodeKey →
     List NodeKey → List NodeKey → Type 0
 AfterRemovalIn old new ss e now origin fault above unheld pending =
     AfterRemoval old.table new.table new.units.items ss e now origin fault above unheld pending
 
 -- what is lost by the fault is gone, and what is forced to end then
-abbrev pub AfterLossIn : Handles → NodeStore → NodeStore → List Shelf → Entry → Entry → Fault → List NodeKey → Type 0
+abbrev pub AfterLossIn : Handles → NodeStore → NodeStore → List CollectionRow → Entry → Entry → Fault → List NodeKey → Type 0
 AfterLossIn handles old new ss e now fault pending = AfterLoss handles old.table new.table new.units.items ss e now fault pending
 
 -- forced steps were made
-abbrev pub AfterStepsIn : Handles → NodeStore → NodeStore → List Shelf → Entry → Entry → List NodeKey → List NodeKey → Type 0
+abbrev pub AfterStepsIn : Handles → NodeStore → NodeStore → List CollectionRow → Entry → Entry → List NodeKey → List NodeKey → Type 0
 AfterStepsIn handles old new ss e now unheld pending = AfterSteps handles old.table new.table new.units.items ss e now unheld pending
 
 -- until none is left, but that the buffers may be abandoned
-abbrev pub AfterPropagationIn : Handles → NodeStore → NodeStore → List Shelf → Entry → Entry → Type 0
+abbrev pub AfterPropagationIn : Handles → NodeStore → NodeStore → List CollectionRow → Entry → Entry → Type 0
 AfterPropagationIn handles old new ss e now = AfterPropagation handles old.table new.table new.units.items ss e now
 
 -- the same, from the collection with these nodes
-abbrev pub PropagatedIn : Handles → List Node → NodeStore → NodeStore → List Shelf → Entry → Entry → Type 0
+abbrev pub PropagatedIn : Handles → List Node → NodeStore → NodeStore → List CollectionRow → Entry → Entry → Type 0
 PropagatedIn handles between old new ss e now = PropagatedFrom handles between old.table new.table new.units.items ss e now
 
 -- until none is left
-abbrev pub IsClosedIn : Handles → NodeStore → NodeStore → List Shelf → Entry → Entry → Type 0
+abbrev pub IsClosedIn : Handles → NodeStore → NodeStore → List CollectionRow → Entry → Entry → Type 0
 IsClosedIn handles old new ss e now = IsClosed handles old.table new.table new.units.items ss e now
 
 -- the root's unit was allocated, or lost
-abbrev pub IsRootedIn : Handles → NodeStore → NodeStore → List Shelf → Entry → Entry → NodeKey → AllocationOutcome → Type 0
+abbrev pub IsRootedIn : Handles → NodeStore → NodeStore → List CollectionRow → Entry → Entry → NodeKey → AllocationOutcome → Type 0
 IsRootedIn handles old new ss e now head outcome = IsRooted handles old.table new.table new.units.items ss e now head outcome
 
 -- once the effect is made on the node with this key, the root's unit does not wait for its buffers, if something holds each unit

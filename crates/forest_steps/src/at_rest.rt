@@ -2,7 +2,7 @@
 ghost use Rattle.std.specs.Prelude.{◌≡◌, nat_lt, true};
 ghost use Rattle.sm_names.specs.declared.keys.Strength.{Strength as Grade};
 ghost use Rattle.buffer_holds.specs.Counts.{total};
-ghost use Rattle.forest_store.specs.Shelves.{shelf_of};
+ghost use Rattle.forest_store.specs.CollectionRows.{row_of};
 ghost use Rattle.forest_store.specs.Resting.{is_at_rest, is_kept_by};
 ghost use Rattle.forest_store.specs.Scenes.{given_few, is_held_strongly};
 
@@ -40,7 +40,7 @@ fn is_given_open(entry: &Entry, buffer: BufferName, holds: &Holds) -> bool
 #[inline(never)]
 fn is_at_rest(table: &NodeTable<Node>, entry: &Entry, holds: &Holds) -> bool
     requires { given_few entry.now.buffers ≡ true }
-    ensures { result ≡ is_at_rest (total holds.now) table.now (shelf_of entry.now) }
+    ensures { result ≡ is_at_rest (total holds.now) table.now (row_of entry.now) }
 {
     if let Some((first, others)) = entry.held.split_first() {
         if is_given_open(entry, first.buffer, holds) {
@@ -60,7 +60,7 @@ pub(crate) fn is_kept_by(
     lives: usize,
 ) -> bool
     requires { given_few entry.now.buffers ≡ true }
-    ensures { result ≡ is_kept_by (total holds.now) table.now (shelf_of entry.now) lives }
+    ensures { result ≡ is_kept_by (total holds.now) table.now (row_of entry.now) lives }
 {
     lives > 0 || is_at_rest(table, entry, holds)
 }

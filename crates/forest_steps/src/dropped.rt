@@ -14,7 +14,7 @@ ghost use Rattle.forest_store.specs.Calm.{AreCounted};
 ghost use Rattle.forest_store.specs.Counts.{HaveUnits};
 ghost use Rattle.forest_store.specs.Dropped.{are_others_out, are_rest_out, has_given_root, is_given_root};
 ghost use Rattle.forest_store.specs.Forest.{IsPoolOf, collection_at};
-ghost use Rattle.forest_store.specs.Shelves.{IsStored, forest_of, place_in, shelves_of};
+ghost use Rattle.forest_store.specs.CollectionRows.{IsStored, forest_of, place_in, rows_of};
 ghost use Rattle.forest_store.specs.Outcomes.{IsOutcomeIn};
 ghost use Rattle.forest_store.specs.Scenes.{by_page, given_few, is_held_strongly, is_out, name_of, pages_held};
 
@@ -117,12 +117,12 @@ pub fn drop_in_place(
     holds: &Holds,
     buffer: BufferName,
 ) -> bool
-    requires kept { IsStored table.now (shelves_of entries.old.items) }
+    requires kept { IsStored table.now (rows_of entries.old.items) }
     requires counted { AreCounted table.now entries.old.items }
     requires others { option_map_or (are_others_out (total holds.now) buffer)
-        (collection_at (forest_of table.now (shelves_of entries.old.items)) buffer.collection)
+        (collection_at (forest_of table.now (rows_of entries.old.items)) buffer.collection)
         false ≡ true }
-    requires pool { IsPoolOf pool.old (forest_of table.now (shelves_of entries.old.items)) }
+    requires pool { IsPoolOf pool.old (forest_of table.now (rows_of entries.old.items)) }
     ensures outcome { IsOutcomeIn result (total holds.now) pool.old pool.new table.now table.now
         entries.old.items entries.new.items buffer.collection Changed.Nothing }
     ensures units { (us : List Counts) → HaveUnits us table.now entries.old.items →

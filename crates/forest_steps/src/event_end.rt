@@ -6,7 +6,7 @@ ghost use Rattle.node_table.specs.Table.{table_len};
 ghost use Rattle.forest_store.specs.declared.entry.Entry.{Entry as EntryValue};
 ghost use Rattle.forest_store.specs.Dropped.{has_given_root};
 ghost use Rattle.forest_store.specs.Forest.{IsPoolOf};
-ghost use Rattle.forest_store.specs.Shelves.{Shelf, place_in, shelf_of};
+ghost use Rattle.forest_store.specs.CollectionRows.{CollectionRow, place_in, row_of};
 ghost use Rattle.forest_store.specs.Resting.{is_kept_by};
 ghost use Rattle.forest_store.specs.Scenes.{given_few};
 ghost use Rattle.forest_store.specs.Settling.{Handles};
@@ -32,7 +32,7 @@ pub fn is_finished(store: &Store, at: usize, pool: &Pool, holds: &Holds) -> bool
     requires may { MayFinish (total holds.now) store.now at }
     requires pool { IsPoolOf pool.now (forest_in store.now) }
     ensures kept { (e : EntryValue) → e ≡ get_or store.now.entries.items at e →
-        result ≡ is_kept_by (total holds.now) store.now.nodes.table (shelf_of e) e.strong }
+        result ≡ is_kept_by (total holds.now) store.now.nodes.table (row_of e) e.strong }
     ensures finished { result ≡ true → (id : ℕ) → place_in id store.now.entries.items ≡ Some at →
         FinishedOf (total holds.now) pool.now pool.now store.now store.now id }
 {
@@ -83,7 +83,7 @@ fn fail_if_abandoned(
     requires few { given_few entry.old.buffers ≡ true }
     requires named { AreNamed nodes.old.table }
     requires room { table_len nodes.old.table ≤ vec_capacity keys.old }
-    ensures closed { (ss : List Shelf) (pending : List Key) →
+    ensures closed { (ss : List CollectionRow) (pending : List Key) →
         MidEventIn nodes.old ss entry.old [] pending →
         (pending ≡ []) ⊎ (is_abandoned_in (total holds.now) nodes.old.table entry.old ≡ true) →
         entry.old.strong ≡ 0 →
@@ -99,7 +99,7 @@ fn lose_root(nodes: &mut NodeStore, entry: &mut Entry, keys: &mut Vec<NodeKey>)
     requires given { has_given_root nodes.old.table entry.old.keys.items ≡ true }
     requires named { AreNamed nodes.old.table }
     requires room { table_len nodes.old.table ≤ vec_capacity keys.old }
-    ensures closed { (handles : Handles) (ss : List Shelf) (pending : List Key) →
+    ensures closed { (handles : Handles) (ss : List CollectionRow) (pending : List Key) →
         MidEventIn nodes.old ss entry.old [] pending →
         is_abandoned_in handles nodes.old.table entry.old ≡ true →
         IsClosedIn handles nodes.old nodes.new ss entry.old entry.new }

@@ -11,7 +11,7 @@ ghost use Rattle.forest_store.specs.declared.node.Node.{Node as NodeValue};
 ghost use Rattle.forest_steps.specs.declared.initial_allocation.AllocationOutcome.{AllocationOutcome as Outcome};
 ghost use Rattle.forest_steps.specs.First.{wanted_of};
 ghost use Rattle.forest_store.specs.Forest.{IsPoolOf};
-ghost use Rattle.forest_store.specs.Shelves.{Shelf};
+ghost use Rattle.forest_store.specs.CollectionRows.{CollectionRow};
 ghost use Rattle.forest_store.specs.Nodes.{after_allocation};
 ghost use Rattle.forest_store.specs.Outcomes.{was_made};
 ghost use Rattle.forest_store.specs.Reserved.{reserved_count};
@@ -279,7 +279,7 @@ fn lose_first(
     requires room { table_len nodes.old.table ≤ vec_capacity keys.old }
     requires named { AreNamed nodes.old.table }
     requires there { IsSome (row_at nodes.old.table head) }
-    ensures rooted { (handles : Handles) (ss : List Shelf) →
+    ensures rooted { (handles : Handles) (ss : List CollectionRow) →
         MidEventIn nodes.old ss entry.old [] (head ∷ []) →
         IsComing (nodes_in nodes.old entry.old) head →
         IsRootedIn handles nodes.old nodes.new ss entry.old entry.new head (Outcome.Fails why) }
@@ -311,7 +311,7 @@ fn allocate_root_unit(
     requires listed { IsUnitListed nodes.old.table plan.now.head room.old.unit.items }
     requires named { AreNamed nodes.old.table }
     requires there { IsSome (row_at nodes.old.table plan.now.head) }
-    ensures rooted { (ss : List Shelf) → MidEventIn nodes.old ss entry.old [] (plan.now.head ∷ []) →
+    ensures rooted { (ss : List CollectionRow) → MidEventIn nodes.old ss entry.old [] (plan.now.head ∷ []) →
         IsComing (nodes_in nodes.old entry.old) plan.now.head →
         plan.now.reserved ≡ reserved_count (after_allocation plan.now.head
         (nodes_in nodes.old entry.old)) →
@@ -355,7 +355,7 @@ fn settle_first(
     requires listed { IsUnitListed nodes.old.table plan.now.head room.old.unit.items }
     requires named { AreNamed nodes.old.table }
     requires there { IsSome (row_at nodes.old.table plan.now.head) }
-    ensures rooted { (ss : List Shelf) → MidEventIn nodes.old ss entry.old [] (plan.now.head ∷ []) →
+    ensures rooted { (ss : List CollectionRow) → MidEventIn nodes.old ss entry.old [] (plan.now.head ∷ []) →
         IsComing (nodes_in nodes.old entry.old) plan.now.head →
         plan.now.reserved ≡ reserved_count (after_allocation plan.now.head
         (nodes_in nodes.old entry.old)) →

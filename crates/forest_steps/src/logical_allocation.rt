@@ -5,7 +5,7 @@ ghost use Rattle.sm_names.specs.Demands.{Demand};
 ghost use Rattle.sm_names.specs.Members.{greatest};
 ghost use Rattle.node_table.specs.Table.{row_at, table_len};
 ghost use Rattle.forest_steps.specs.declared.pending_units.PendingUnit.{PendingUnit as PendingValue};
-ghost use Rattle.forest_store.specs.Shelves.{Shelf};
+ghost use Rattle.forest_store.specs.CollectionRows.{CollectionRow};
 ghost use Rattle.forest_store.specs.Settling.{Handles};
 ghost use Rattle.forest_steps.specs.LogicalAllocation.{IsUnitListed, asked_there, is_next_there};
 ghost use Rattle.forest_steps.specs.MidEvent.{AreTurns, is_abandoned_in, turn_heads, waits_among};
@@ -99,7 +99,7 @@ pub(crate) fn allocate_pending(
 )
     requires named { AreNamed nodes.old.table }
     requires room { table_len nodes.old.table ≤ vec_capacity keys.old }
-    ensures taken { (handles : Handles) (ss : List Shelf) (place : ℕ) (ws : List PendingValue) →
+    ensures taken { (handles : Handles) (ss : List CollectionRow) (place : ℕ) (ws : List PendingValue) →
         MidEventIn nodes.old ss entry.old [] (head ∷ turn_heads ws) →
         AreTurns nodes.old.table entry.old.keys.items (record { place = place; head = head } ∷ ws) →
         waits_among [] (nodes_in nodes.old entry.old) ≡ true →

@@ -8,7 +8,7 @@ ghost use Rattle.node_table.specs.Table.{node_at, row_at, table_len};
 ghost use Rattle.forest_store.specs.declared.node.Node.{Node as NodeValue};
 ghost use Rattle.forest_store.specs.Counts.{decrement_if, is_unready, unit_then};
 ghost use Rattle.forest_store.specs.Due.{is_due_at};
-ghost use Rattle.forest_store.specs.Shelves.{Shelf, is_strong};
+ghost use Rattle.forest_store.specs.CollectionRows.{CollectionRow, is_strong};
 ghost use Rattle.forest_store.specs.Nodes.{affected};
 ghost use Rattle.forest_store.specs.Questions.{is_live_node};
 ghost use Rattle.forest_store.specs.Reserved.{camped};
@@ -254,7 +254,7 @@ fn affect_at(table: &mut NodeTable<Node>, key: NodeKey, effect: &Effect)
 pub(crate) fn make_effect(nodes: &mut NodeStore, entry: &mut Entry, made: &NodeEffect)
     requires named { AreNamed nodes.old.table }
     requires may { MayMake nodes.old entry.old made.now }
-    ensures affected { (ss : List Shelf) (n : NodeValue) →
+    ensures affected { (ss : List CollectionRow) (n : NodeValue) →
         node_at nodes.old.table made.now.key ≡ Some n →
         n.gone ≡ false → n.collection ≡ entry.old.id →
         StoreAgrees nodes.old.table nodes.old.units.items ss entry.old →

@@ -6,8 +6,8 @@ ghost use Rattle.sm_names.specs.Sameness.{same_key};
 ghost use Rattle.buffer_holds.specs.Counts.{total};
 ghost use Rattle.node_table.specs.Table.{row_at, table_len};
 ghost use Rattle.forest_steps.specs.declared.pending_units.PendingUnit.{PendingUnit as PendingValue};
-ghost use Rattle.forest_store.specs.Garbage.{IsPlace};
-ghost use Rattle.forest_store.specs.Shelves.{Shelf, nodes_with};
+ghost use Rattle.forest_store.specs.Unkept.{IsPlace};
+ghost use Rattle.forest_store.specs.CollectionRows.{CollectionRow, nodes_with};
 ghost use Rattle.forest_store.specs.Scenes.{given_few};
 ghost use Rattle.forest_store.specs.UnitAllocation.{is_head_at};
 ghost use Rattle.forest_steps.specs.MidEvent.{ArePlacedIfThere, AreTurns, MidEvent, is_abandoned_in, is_head_left, turn_heads, waits_among};
@@ -19,10 +19,10 @@ use crate::logical_allocation::allocate_pending;
 use crate::ready_units::{find_ready_below, is_head_at};
 use buffer_holds::Holds;
 use forest_store::entry::Entry;
-use forest_store::garbage::place_near;
 use forest_store::node::Node;
 use forest_store::store::NodeStore;
 use forest_store::unit_counts::Unit;
+use forest_store::unkept::place_near;
 use node_table::NodeTable;
 use sm_names::{Buffers, NodeKey};
 
@@ -127,7 +127,7 @@ pub(crate) fn list_pending(
     requires there { IsSome (row_at table.now head) }
     requires walked { table_len table.now ≤ vec_capacity walked.old }
     requires turns { table_len table.now ≤ vec_capacity turns.old }
-    ensures listed { (ss : List Shelf) (unheld pending : List Key) →
+    ensures listed { (ss : List CollectionRow) (unheld pending : List Key) →
         MidEvent table.now units.now ss entry.now unheld pending →
         is_head_left (nodes_with table.now entry.now.keys.items) head ≡ true →
         AreTurns table.now entry.now.keys.items turns.new.items
@@ -167,7 +167,7 @@ pub(crate) fn allocate_all_pending(
     requires few { given_few (Some buffers) ≡ true }
     requires named { AreNamed nodes.old.table }
     requires room { table_len nodes.old.table ≤ vec_capacity keys.old }
-    ensures out { (ss : List Shelf) → MidEventIn nodes.old ss entry.old [] (turn_heads turns.now) →
+    ensures out { (ss : List CollectionRow) → MidEventIn nodes.old ss entry.old [] (turn_heads turns.now) →
         AreTurns nodes.old.table entry.old.keys.items turns.now →
         waits_among [] (nodes_in nodes.old entry.old) ≡ true → entry.old.buffers ≡ Some buffers →
         AfterPropagationIn (total holds.now) nodes.old nodes.new ss entry.old entry.new }

@@ -5,7 +5,7 @@ ghost use Rattle.buffer_holds.specs.Counts.{total};
 ghost use Rattle.node_table.specs.Table.{node_at, row_at, table_len};
 ghost use Rattle.forest_store.specs.declared.node.Node.{Node as NodeValue};
 ghost use Rattle.forest_store.specs.Decisions.{is_left_of};
-ghost use Rattle.forest_store.specs.Shelves.{Shelf};
+ghost use Rattle.forest_store.specs.CollectionRows.{CollectionRow};
 ghost use Rattle.forest_store.specs.Nodes.{after_effect, after_loss, is_of};
 ghost use Rattle.forest_store.specs.Scenes.{given_few};
 ghost use Rattle.forest_steps.specs.MidEvent.{waits_among};
@@ -35,7 +35,7 @@ pub fn apply_loss(
     requires named { AreNamed nodes.old.table }
     requires room { table_len nodes.old.table ≤ vec_capacity room.old.removed }
     requires there { IsSome (row_at nodes.old.table fault.origin) }
-    ensures out { (ss : List Shelf) → MidEventIn nodes.old ss entry.old [] [] →
+    ensures out { (ss : List CollectionRow) → MidEventIn nodes.old ss entry.old [] [] →
         is_left_of (nodes_in nodes.old entry.old) fault.origin ≡ true →
         PropagatedIn (total holds.now) (after_loss fault (nodes_in nodes.old entry.old))
         nodes.old nodes.new ss entry.old entry.new }
@@ -59,7 +59,7 @@ fn allocate_ready(
     requires few { given_few (Some buffers) ≡ true }
     requires named { AreNamed nodes.old.table }
     requires room { HasRoom nodes.old room.old }
-    ensures out { (ss : List Shelf) → MidEventIn nodes.old ss entry.old [] (head ∷ []) →
+    ensures out { (ss : List CollectionRow) → MidEventIn nodes.old ss entry.old [] (head ∷ []) →
         list_any (is_of head) (nodes_in nodes.old entry.old) ≡ true →
         waits_among [] (nodes_in nodes.old entry.old) ≡ true → entry.old.buffers ≡ Some buffers →
         AfterPropagationIn (total holds.now) nodes.old nodes.new ss entry.old entry.new }
@@ -102,7 +102,7 @@ pub fn apply_effect(
     requires named { AreNamed nodes.old.table }
     requires may { MayMake nodes.old entry.old made.now }
     requires room { HasRoom nodes.old room.old }
-    ensures out { (ss : List Shelf) (n : NodeValue) →
+    ensures out { (ss : List CollectionRow) (n : NodeValue) →
         node_at nodes.old.table made.now.key ≡ Some n →
         n.gone ≡ false → n.collection ≡ entry.old.id →
         MidEventIn nodes.old ss entry.old [] [] →

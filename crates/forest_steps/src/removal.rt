@@ -3,19 +3,19 @@ ghost use Rattle.std.specs.Prelude.{◌≡◌, ◌≤◌, List, Some, IsSome, ve
 ghost use Rattle.sm_names.specs.declared.keys.NodeKey.{NodeKey as Key};
 ghost use Rattle.node_table.specs.Table.{row_at, table_len};
 ghost use Rattle.forest_steps.specs.Removal.{IsGoneSo, head_over};
-ghost use Rattle.forest_store.specs.Shelves.{Shelf};
+ghost use Rattle.forest_store.specs.CollectionRows.{CollectionRow};
 ghost use Rattle.forest_steps.specs.MidEvent.{MayGo};
 ghost use Rattle.forest_store.specs.Stores.{AreNamed, nodes_in};
 ghost use Rattle.forest_steps.specs.StoreSteps.{AfterRemovalIn, MidEventIn};
 
 use failure_domains::fall_into;
 use forest_store::entry::Entry;
-use forest_store::garbage::note_gone;
 use forest_store::loss_marks::Going;
 use forest_store::node::Node;
 use forest_store::removed_nodes::remove_all;
 use forest_store::reserved::without;
 use forest_store::store::NodeStore;
+use forest_store::unkept::note_gone;
 use node_table::NodeTable;
 use sm_names::{Fault, NodeKey};
 
@@ -77,7 +77,7 @@ pub(crate) fn remove_subtree(
     requires room { table_len nodes.old.table ≤ vec_capacity keys.old }
     requires named { AreNamed nodes.old.table }
     requires there { IsSome (row_at nodes.old.table origin) }
-    ensures went { (ss : List Shelf) (unheld pending : List Key) →
+    ensures went { (ss : List CollectionRow) (unheld pending : List Key) →
         MidEventIn nodes.old ss entry.old unheld pending →
         MayGo (nodes_in nodes.old entry.old) origin fault →
         AfterRemovalIn nodes.old nodes.new ss entry.old entry.new origin fault result unheld

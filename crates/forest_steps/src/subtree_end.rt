@@ -4,7 +4,7 @@ ghost use Rattle.sm_names.specs.declared.keys.NodeKey.{NodeKey as Key};
 ghost use Rattle.node_table.specs.Table.{row_at, table_len};
 ghost use Rattle.forest_steps.specs.Climbing.{climbed, unit_over};
 ghost use Rattle.forest_store.specs.Decisions.{is_left_of};
-ghost use Rattle.forest_store.specs.Shelves.{Shelf};
+ghost use Rattle.forest_store.specs.CollectionRows.{CollectionRow};
 ghost use Rattle.forest_store.specs.Settling.{Handles};
 ghost use Rattle.forest_steps.specs.MidEvent.{AreOrEnd, is_head_left};
 ghost use Rattle.forest_store.specs.Stores.{AreNamed, nodes_in};
@@ -63,11 +63,11 @@ pub(crate) fn end_above(
     requires room { table_len nodes.old.table ≤ vec_capacity keys.old }
     requires named { AreNamed nodes.old.table }
     requires there { IsSome (row_at nodes.old.table head) }
-    ensures led { (handles : Handles) (ss : List Shelf) (pending : List Key) →
+    ensures led { (handles : Handles) (ss : List CollectionRow) (pending : List Key) →
         MidEventIn nodes.old ss entry.old (head ∷ []) pending →
         is_head_left (nodes_in nodes.old entry.old) head ≡ true →
         AfterStepsIn handles nodes.old nodes.new ss entry.old entry.new [] pending }
-    ensures ended { (ss : List Shelf) (pending : List Key) →
+    ensures ended { (ss : List CollectionRow) (pending : List Key) →
         MidEventIn nodes.old ss entry.old (head ∷ []) pending →
         is_head_left (nodes_in nodes.old entry.old) head ≡ true →
         AreOrEnd (nodes_in nodes.old entry.old) (nodes_in nodes.new entry.old) }
@@ -96,7 +96,7 @@ pub(crate) fn fall_by(
     requires named { AreNamed nodes.old.table }
     requires room { table_len nodes.old.table ≤ vec_capacity keys.old }
     requires there { IsSome (row_at nodes.old.table fault.origin) }
-    ensures felled { (handles : Handles) (ss : List Shelf) (pending : List Key) →
+    ensures felled { (handles : Handles) (ss : List CollectionRow) (pending : List Key) →
         MidEventIn nodes.old ss entry.old [] pending →
         is_left_of (nodes_in nodes.old entry.old) fault.origin ≡ true →
         AfterLossIn handles nodes.old nodes.new ss entry.old entry.new fault pending }

@@ -1,10 +1,10 @@
 -- The lemmas that proofs of whole changes cite, passed on from one place. Declares nothing.
 pub use Rattle.forest_store.proofs.allocation.Next.{hangs_in_some}
 pub use Rattle.forest_store.proofs.changes.Altering.{filed_at, found_filed, found_id, found_whole, kept_of}
-pub use Rattle.forest_store.proofs.changes.Altering.{looked-of, none_above, same_affected, shelf_by}
+pub use Rattle.forest_store.proofs.changes.Altering.{looked-of, none_above, same_affected, row_by}
 pub use Rattle.forest_store.proofs.changes.Finishing.{collection-beside, keys_in, looked-keys, place-filed, whole-map, whole-unmap}
 pub use Rattle.forest_store.proofs.failures.GoneNodes.{gone_same, stored_goes}
-pub use Rattle.forest_store.proofs.leaving.Noted.{fewer_over, more_noted, none_but, none_noted, not_over_but, noted_not}
+pub use Rattle.forest_store.proofs.leaving.Noted.{fewer_unkept, more_noted, none_but, none_noted, not_unkept_but, noted_not}
 pub use Rattle.forest_store.proofs.lists.Lookups.{in_nodes, looked-map, looked-without, node_of-looked, same_key-swap}
 pub use Rattle.forest_store.proofs.lists.SameIntervals.{or_swap, part_swap}
 pub use Rattle.forest_store.proofs.newborns.Bearing.{born_key, born_parent, born_weak, given_there, named_bears}
@@ -15,9 +15,9 @@ pub use Rattle.forest_store.proofs.quiescence.Steps.{all-In, found_by_key}
 pub use Rattle.forest_store.proofs.quiescence.Together.{together_born, together_effect, together_filter, together_none}
 pub use Rattle.forest_store.proofs.quiescence.United.{united_born, united_filter}
 pub use Rattle.forest_store.proofs.quiescence.Watched.{found_counted}
-pub use Rattle.forest_store.proofs.shelves.Entries.{IsPlace, none_cases, none_in, place_cases, place_is, place_within, set_put}
-pub use Rattle.forest_store.proofs.shelves.Putting.{above-weaker, cases_place, put-map, rising-put}
-pub use Rattle.forest_store.proofs.shelves.Showing.{collection_is, filed-length, filed_found, node_is, shelf_found}
+pub use Rattle.forest_store.proofs.rows.Entries.{IsPlace, none_cases, none_in, place_cases, place_is, place_within, set_put}
+pub use Rattle.forest_store.proofs.rows.Putting.{above-weaker, cases_place, put-map, rising-put}
+pub use Rattle.forest_store.proofs.rows.Showing.{collection_is, filed-length, filed_found, node_is, row_found}
 pub use Rattle.forest_store.proofs.lists.Elements.{In-made, In-made-back, all_at, all_filter, all_in, all_mapped, all_weaker}
 pub use Rattle.forest_store.proofs.lists.Elements.{each_none, made-In, made-found, map-same, none_each, none_less, times_map}
 pub use Rattle.forest_store.proofs.tables.Hanging.{in_all, looked_gone, looked_there}

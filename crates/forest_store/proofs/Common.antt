@@ -28,21 +28,21 @@ pub use Rattle.sm_names.specs.declared.outcomes.Buffers.{Buffers}
 pub use Rattle.sm_names.specs.declared.outcomes.Cause.{Cause}
 pub use Rattle.node_table.specs.Table.{Row, Table, children_at, next_at, node_at, parent_at}
 pub use Rattle.node_table.specs.Table.{parent_in, row_at, table_len, was_given, children_in}
-pub use Rattle.forest_store.specs.Calm.{AreCounted, IsCounted, IsQuiescent, over_except, put_in, strong_count, AreCountedExcept}
+pub use Rattle.forest_store.specs.Calm.{AreCounted, IsCounted, IsQuiescent, unkept_except, put_in, strong_count, AreCountedExcept}
 pub use Rattle.forest_store.specs.Counts.{AreUnits, AreUnitsExcept, HasUnit, HasUnits, cleared, hangs_in, head_above, heads_below}
 pub use Rattle.forest_store.specs.Counts.{is_unready, lives_in, no_unit, reckoned, tallied, unit_at, unit_of, waits_in, Extends}
 pub use Rattle.forest_store.specs.Counts.{HaveUnits, decrement_if, raised, head_of, hung, with_below, HaveSlots}
 pub use Rattle.forest_store.specs.Decisions.{Allocates, Decision, Ends, Loses, Places, decided, early_failure}
 pub use Rattle.forest_store.specs.Decisions.{first_step, has_strong, is_left_of, late_failure, later_step}
 pub use Rattle.forest_store.specs.Decisions.{waiting, wanted_by, decisions, mark_of, IsStep, has_waiting}
-pub use Rattle.forest_store.specs.Forest.{Collection, all_held, collection_at, is_left, pages_in, tidied, with_nodes, without_over_in}
+pub use Rattle.forest_store.specs.Forest.{Collection, all_held, collection_at, is_left, pages_in, tidied, with_nodes, without_unkept_in}
 pub use Rattle.forest_store.specs.Forest.{SameKeys as SameForest, node_at as forest_node, all_nodes, beside, summary_of, Forest}
-pub use Rattle.forest_store.specs.Shelves.{AreKin, AreRising, Bears, IsStored, IsWhole, Shelf, Stores, all_keys, all_of}
-pub use Rattle.forest_store.specs.Shelves.{are_apart, are_filed, born, collection_in, forest_of, is_filed, is_strong}
-pub use Rattle.forest_store.specs.Shelves.{named, nodes_with, place_in, put_shelf, shelf_of, shelves_of, stored, written}
-pub use Rattle.forest_store.specs.Shelves.{TakesOut as Leaves, loses_left, IsHung, AreHeadsGiven, Gives, SameTable}
+pub use Rattle.forest_store.specs.CollectionRows.{AreKin, AreRising, Bears, IsStored, IsWhole, CollectionRow, Stores, all_keys, all_of}
+pub use Rattle.forest_store.specs.CollectionRows.{are_apart, are_filed, born, collection_in, forest_of, is_filed, is_strong}
+pub use Rattle.forest_store.specs.CollectionRows.{named, nodes_with, place_in, put_row, row_of, rows_of, stored, written}
+pub use Rattle.forest_store.specs.CollectionRows.{TakesOut as Leaves, loses_left, IsHung, AreHeadsGiven, Gives, SameTable}
 pub use Rattle.forest_store.specs.Nodes.{above_among, affected, after_allocation, after_effect, given_buffers}
-pub use Rattle.forest_store.specs.Nodes.{is_of, is_over, is_spent, is_taken, lost, member_of, members_of}
+pub use Rattle.forest_store.specs.Nodes.{is_of, is_unkept, is_spent, is_taken, lost, member_of, members_of}
 pub use Rattle.forest_store.specs.Nodes.{new_child, new_root, node_of, after_end, after_loss, with_end}
 pub use Rattle.forest_store.specs.Questions.{demands_of, has_buffers, is_allocated_node, is_below, is_deserted_node}
 pub use Rattle.forest_store.specs.Questions.{is_live_node, is_next_node, is_ready_node, is_root_left, lives_below, is_in_unit}
@@ -58,12 +58,12 @@ pub use Rattle.forest_store.specs.declared.change.Effect.{Effect}
 pub use Rattle.forest_store.specs.declared.entry.Entry.{Entry}
 pub use Rattle.forest_store.specs.declared.node.Node.{Node}
 pub use Rattle.forest_store.specs.declared.unit_counts.Unit.{Unit}
-pub use Rattle.forest_store.specs.Garbage.{AreMore, IsForgettable, IsLeftIn, IsNotedIn, IsNoting, IsThinned}
-pub use Rattle.forest_store.specs.Garbage.{TakesOut, is_bare, is_found, is_left_by, is_own_if_over, left_at}
-pub use Rattle.forest_store.specs.Garbage.{thin_in, thinned, unless_over, without_bare, IsChild, Unlinks, IsPlace}
+pub use Rattle.forest_store.specs.Unkept.{AreMore, IsForgettable, IsLeftIn, IsNotedIn, IsNoting, IsThinned}
+pub use Rattle.forest_store.specs.Unkept.{TakesOut, is_bare, is_found, is_left_by, is_own_if_unkept, left_at}
+pub use Rattle.forest_store.specs.Unkept.{thin_in, thinned, unless_unkept, without_bare, IsChild, Unlinks, IsPlace}
 pub use Rattle.forest_store.specs.Keys.{Listed}
 pub use Rattle.forest_store.specs.LossMarks.{gone_by, lowered, unhung, unreckoned, untallied, without_below, without_node}
-pub use Rattle.forest_store.specs.Still.{no_shelf, shelf_before, shelf_with}
+pub use Rattle.forest_store.specs.Still.{no_row, row_before, row_with}
 pub use Rattle.forest_store.specs.Unforced.{bit, IsOpen, MayAffect, is_plain}
 pub use Rattle.forest_store.specs.declared.loss_marks.Going.{Going}
 pub use Rattle.node_table.proofs.Keys.{key_cases, same_key-apart, same_key-equal, false-same_key}

@@ -7,6 +7,6 @@ pub mod leaving
 pub mod lists
 pub mod newborns
 pub mod quiescence
-pub mod shelves
+pub mod rows
 pub mod tables
 pub mod tallies

@@ -13,8 +13,8 @@ use Rattle.forest_store.specs.Counts.{HaveUnits}
 use Rattle.forest_store.specs.Decisions.{decided}
 use Rattle.forest_store.specs.Forest.{Collection}
 use Rattle.forest_store.specs.Given.{HaveGiven}
-use Rattle.forest_store.specs.Shelves.{IsStored, collection_in, is_strong, nodes_with, shelf_of, shelves_of}
-use Rattle.forest_store.specs.Nodes.{is_over}
+use Rattle.forest_store.specs.CollectionRows.{IsStored, collection_in, is_strong, nodes_with, row_of, rows_of}
+use Rattle.forest_store.specs.Nodes.{is_unkept}
 use Rattle.forest_store.specs.Reserved.{reserved_count}
 
 -- no step would be forced in the collection, were a strong handle open
@@ -26,16 +26,16 @@ abbrev pub strong_count : List Node → ℕ
 strong_count nodes = times is_strong nodes
 
 -- the node is over, and none of those that are noted
-abbrev pub over_except : List NodeKey → Node → Bool
-over_except garbage n = is_over n && not (list_any (same_key n.key) garbage)
+abbrev pub unkept_except : List NodeKey → Node → Bool
+unkept_except unkept n = is_unkept n && not (list_any (same_key n.key) unkept)
 
 -- the collection of the entry is calm, its counts are those of its nodes, and where it is tidy none of them is over but
 -- those that are noted
 pub record IsCounted (t : Table Node) (e : Entry) : Type 0 where
-  pub calm : IsQuiescent (collection_in t (shelf_of e))
+  pub calm : IsQuiescent (collection_in t (row_of e))
   pub strong : e.strong ≡ strong_count (nodes_with t e.keys.items)
   pub reserved : e.reserved ≡ reserved_count (nodes_with t e.keys.items)
-  pub garbage_known : e.garbage_known ≡ true → list_any (over_except e.garbage.items) (nodes_with t e.keys.items) ≡ false
+  pub unkept_known : e.unkept_known ≡ true → list_any (unkept_except e.unkept.items) (nodes_with t e.keys.items) ≡ false
 
 -- so of each entry
 abbrev pub AreCounted : Table Node → List Entry → Type 0
@@ -54,7 +54,7 @@ put_in new (e ∷ es) =
 
 -- what holds of the table, the entries and the counts of units of each forest
 pub record IsForest (t : Table Node) (es : List Entry) (us : List Unit) : Type 0 where
-  pub kept : IsStored t (shelves_of es)
+  pub kept : IsStored t (rows_of es)
   pub counted : AreCounted t es
   pub units : HaveUnits us t es
-  pub given : HaveGiven t (shelves_of es)
+  pub given : HaveGiven t (rows_of es)

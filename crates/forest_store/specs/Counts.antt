@@ -10,7 +10,7 @@ use Rattle.forest_store.specs.declared.entry.Entry.{Entry}
 use Rattle.forest_store.specs.declared.node.Node.{Node}
 use Rattle.forest_store.specs.declared.unit_counts.Unit.{Unit}
 use Rattle.forest_store.specs.Forest.{Collection}
-use Rattle.forest_store.specs.Shelves.{collection_in, shelves_of}
+use Rattle.forest_store.specs.CollectionRows.{collection_in, rows_of}
 use Rattle.forest_store.specs.Nodes.{is_of}
 use Rattle.forest_store.specs.Questions.{is_live_node, is_ready_node}
 
@@ -74,7 +74,7 @@ AreUnitsExcept units id cs = AllByRecursion (λ (c : Collection). c.id ≢ id �
 
 -- so of each collection of a forest
 abbrev pub HaveUnits : List Unit → Table Node → List Entry → Type 0
-HaveUnits units t es = AreUnits units (map (collection_in t) (shelves_of es))
+HaveUnits units t es = AreUnits units (map (collection_in t) (rows_of es))
 
 -- the slot of the key of each of these nodes is in the list
 abbrev pub HasSlots : List Unit → List Node → Type 0

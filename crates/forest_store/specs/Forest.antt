@@ -9,7 +9,7 @@ use Rattle.sm_names.specs.Words.{sorted_by}
 use Rattle.buffer_pool.specs.Holdings.{Holdings}
 use Rattle.forest_store.specs.declared.node.Node.{Node}
 use Rattle.forest_store.specs.declared.summary.Summary.{Summary}
-use Rattle.forest_store.specs.Nodes.{node_of, is_over}
+use Rattle.forest_store.specs.Nodes.{node_of, is_unkept}
 
 -- a collection: its kept nodes by birth, what it was given, and those of its buffers, by index, whose pages were not
 -- given back
@@ -97,12 +97,12 @@ is_left c = length c.nodes == 0 && length c.held == 0
 
 -- the collection without the nodes that are over
 abbrev pub tidied : Collection → Collection
-tidied c = with_nodes (filter (λ n. not (is_over n))) c
+tidied c = with_nodes (filter (λ n. not (is_unkept n))) c
 
 -- the collections, where the one with this id is without the nodes that are over, and is removed if it is empty then
-abbrev pub without_over_in : ℕ → List Collection → List Collection
-without_over_in id [] = []
-without_over_in id (c ∷ cs) =
+abbrev pub without_unkept_in : ℕ → List Collection → List Collection
+without_unkept_in id [] = []
+without_unkept_in id (c ∷ cs) =
     let here : List Collection = if is_left (tidied c) then cs else tidied c ∷ cs in
-    let on : List Collection = c ∷ without_over_in id cs in
+    let on : List Collection = c ∷ without_unkept_in id cs in
     if c.id == id then here else on

@@ -4,7 +4,7 @@ use Rattle.std.specs.List.{AllByRecursion, list_any}
 use Rattle.node_table.specs.Table.{Table}
 use Rattle.forest_store.specs.declared.node.Node.{Node}
 use Rattle.forest_store.specs.Forest.{Collection}
-use Rattle.forest_store.specs.Shelves.{Shelf, collection_in}
+use Rattle.forest_store.specs.CollectionRows.{CollectionRow, collection_in}
 use Rattle.forest_store.specs.Questions.{has_buffers}
 
 -- a node of it has buffers only if it was given some
@@ -15,6 +15,6 @@ IsServedByGiven c = c.buffers ≡ None → list_any has_buffers c.nodes ≡ fals
 abbrev pub AreServedByGiven : List Collection → Type 0
 AreServedByGiven cs = AllByRecursion IsServedByGiven cs
 
--- and of each that the shelves show
-abbrev pub HaveGiven : Table Node → List Shelf → Type 0
+-- and of each that the rows show
+abbrev pub HaveGiven : Table Node → List CollectionRow → Type 0
 HaveGiven t ss = AreServedByGiven (map (collection_in t) ss)

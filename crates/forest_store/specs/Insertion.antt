@@ -12,8 +12,8 @@ use Rattle.forest_store.specs.declared.unit_counts.Unit.{Unit}
 use Rattle.forest_store.specs.Calm.{AreCounted, IsForest}
 use Rattle.forest_store.specs.Forest.{IsPoolOf}
 use Rattle.forest_store.specs.Settling.{Handles, collection_or_new, with_birth}
-use Rattle.forest_store.specs.Shelves.{Bears, Finishes, Gives, born, forest_of, put_shelf, shelf_of, shelves_of}
-use Rattle.forest_store.specs.Still.{shelf_before, shelf_with}
+use Rattle.forest_store.specs.CollectionRows.{Bears, Finishes, Gives, born, forest_of, put_row, row_of, rows_of}
+use Rattle.forest_store.specs.Still.{row_before, row_with}
 
 -- the change that the birth is
 abbrev pub birth_change : Birth → Change
@@ -25,45 +25,45 @@ born_at t id b key = born (option_and_then (node_at t) b.parent) b.attached id b
 
 -- the entry has the key behind its own, and counts the node
 pub record IsEntryWith (old new : Entry) (draft : Node) (key : NodeKey) : Type 0 where
-  pub shelf : shelf_of new ≡ shelf_with (shelf_of old) key
+  pub row : row_of new ≡ row_with (row_of old) key
   pub strong : new.strong ≡ old.strong + (if draft.weak then 0 else 1)
 
 -- the entry has its keys and its count of strong nodes still
 pub record IsEntryWithout (old new : Entry) : Type 0 where
-  pub shelf : shelf_of new ≡ shelf_of old
+  pub row : row_of new ≡ row_of old
   pub strong : new.strong ≡ old.strong
 
 -- what else is kept of the collection is the same
 pub record KeepsNotes (old new : Entry) : Type 0 where
   pub reserved : new.reserved ≡ old.reserved
-  pub garbage_known : new.garbage_known ≡ old.garbage_known
-  pub garbage : new.garbage.items ≡ old.garbage.items
+  pub unkept_known : new.unkept_known ≡ old.unkept_known
+  pub unkept : new.unkept.items ≡ old.unkept.items
 
 -- the node is inserted under this key, as the last one of its collection
 pub record IsInserted (t now : Table Node) (es behind : List Entry) (id : ℕ) (b : Birth) (key : NodeKey) : Type 0 where
   pub bears : Bears t now (born_at t id b key)
-  pub entries : shelves_of behind ≡ put_shelf (shelf_with (shelf_before id (shelves_of es)) key) (shelves_of es)
+  pub entries : rows_of behind ≡ put_row (row_with (row_before id (rows_of es)) key) (rows_of es)
   pub counted : AreCounted now behind
 
 -- no node is: the table is as it was, and so are the entries but for their room
 pub record IsRefused (t now : Table Node) (es behind : List Entry) : Type 0 where
   pub table : now ≡ t
-  pub entries : shelves_of behind ≡ shelves_of es
+  pub entries : rows_of behind ≡ rows_of es
   pub counted : AreCounted t behind
 
 -- the birth was made, with all that it forces
 pub record IsBorn (handles : Handles) (pool after : Holdings) (t now : Table Node) (es behind : List Entry) (us : List Unit) (id : ℕ)
     (b : Birth) (key : NodeKey) : Type 0 where
-  pub finishes : Finishes pool.size handles t (shelves_of es) now (shelves_of behind)
-      (with_birth b.parent b.attached b.client b.event key (collection_or_new (forest_of t (shelves_of es)) id))
+  pub finishes : Finishes pool.size handles t (rows_of es) now (rows_of behind)
+      (with_birth b.parent b.attached b.client b.event key (collection_or_new (forest_of t (rows_of es)) id))
   pub gives : Gives t now key
   pub forest : IsForest now behind us
-  pub holds : IsPoolOf after (forest_of now (shelves_of behind))
+  pub holds : IsPoolOf after (forest_of now (rows_of behind))
   pub size : after.size ≡ pool.size
 
 -- it was not, and nothing changed
 pub record IsUnborn (pool after : Holdings) (t now : Table Node) (es behind : List Entry) (us : List Unit) : Type 0 where
   pub table : now ≡ t
-  pub entries : shelves_of behind ≡ shelves_of es
+  pub entries : rows_of behind ≡ rows_of es
   pub forest : IsForest now behind us
   pub same_pool : after ≡ pool

@@ -6,7 +6,7 @@ pub mod Due
 pub mod Effects
 pub mod Falls
 pub mod Forest
-pub mod Garbage
+pub mod Unkept
 pub mod Given
 pub mod Insertion
 pub mod Keys
@@ -18,7 +18,7 @@ pub mod Reserved
 pub mod Resting
 pub mod Scenes
 pub mod Settling
-pub mod Shelves
+pub mod CollectionRows
 pub mod Snapshots
 pub mod Starts
 pub mod Still

@@ -114,8 +114,8 @@ is_spent End.Spent = true
 is_spent _ = false
 
 -- the node is gone and its end spent, so that it may be forgotten
-abbrev pub is_over : Node → Bool
-is_over n = n.gone && is_spent n.end
+abbrev pub is_unkept : Node → Bool
+is_unkept n = n.gone && is_spent n.end
 
 -- ---- births
 

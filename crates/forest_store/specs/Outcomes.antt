@@ -10,20 +10,20 @@ use Rattle.forest_store.specs.Calm.{AreCounted}
 use Rattle.forest_store.specs.Counts.{HaveUnits}
 use Rattle.forest_store.specs.Forest.{Collection, IsPoolOf}
 use Rattle.forest_store.specs.Given.{HaveGiven}
-use Rattle.forest_store.specs.Shelves.{Finishes, IsStored, SameTable, forest_of, shelves_of}
+use Rattle.forest_store.specs.CollectionRows.{Finishes, IsStored, SameTable, forest_of, rows_of}
 use Rattle.forest_store.specs.Settling.{Handles, MayChange, changed, collection_or_new, no_key}
 
 -- the change may be made to this collection of the forest
 pub record IsReady (t : Table Node) (es : List Entry) (us : List Unit) (id : ℕ) (wanted : Change) : Type 0 where
-  pub kept : IsStored t (shelves_of es)
+  pub kept : IsStored t (rows_of es)
   pub counted : AreCounted t es
   pub units : HaveUnits us t es
-  pub given : HaveGiven t (shelves_of es)
-  pub change : MayChange (forest_of t (shelves_of es)) id wanted
+  pub given : HaveGiven t (rows_of es)
+  pub change : MayChange (forest_of t (rows_of es)) id wanted
 
 -- the collection once the change is made, before all that it forces
 abbrev pub changed_in : Table Node → List Entry → ℕ → Change → Collection
-changed_in t es id change = changed change no_key (collection_or_new (forest_of t (shelves_of es)) id)
+changed_in t es id change = changed change no_key (collection_or_new (forest_of t (rows_of es)) id)
 
 -- whether it was made
 abbrev pub was_made : {E : Type 0} → Result Bool E → Bool
@@ -38,10 +38,10 @@ pub record IsUnchanged (old now : Table Node) (before behind : List Entry) : Typ
 -- the change was made with all that it forces
 pub record IsSettledIn (handles : Handles) (pool after : Holdings) (old now : Table Node) (before behind : List Entry) (id : ℕ)
     (change : Change) : Type 0 where
-  pub finishes : Finishes pool.size handles old (shelves_of before) now (shelves_of behind) (changed_in old before id change)
-  pub kept : IsStored now (shelves_of behind)
+  pub finishes : Finishes pool.size handles old (rows_of before) now (rows_of behind) (changed_in old before id change)
+  pub kept : IsStored now (rows_of behind)
   pub counted : AreCounted now behind
-  pub holds : IsPoolOf after (forest_of now (shelves_of behind))
+  pub holds : IsPoolOf after (forest_of now (rows_of behind))
 
 -- so it was, or nothing changed, nor did the pool, whose size is the same
 pub record IsOutcomeIn (made : Bool) (handles : Handles) (pool after : Holdings) (old now : Table Node) (before behind : List Entry)

@@ -10,16 +10,16 @@ use Rattle.forest_store.specs.declared.node.Node.{Node}
 use Rattle.forest_store.specs.declared.store.NodeStore.{NodeStore}
 use Rattle.forest_store.specs.declared.store.Store.{Store}
 use Rattle.forest_store.specs.declared.unit_counts.Unit.{Unit}
-use Rattle.forest_store.specs.Calm.{IsForest, over_except, strong_count}
+use Rattle.forest_store.specs.Calm.{IsForest, unkept_except, strong_count}
 use Rattle.forest_store.specs.Counts.{AreUnits}
 use Rattle.forest_store.specs.Forest.{Forest}
 use Rattle.forest_store.specs.Insertion.{IsInserted, IsRefused}
 use Rattle.forest_store.specs.Reserved.{reserved_count}
-use Rattle.forest_store.specs.Shelves.{IsStored, Shelf, collection_in, forest_of, nodes_with, shelf_of, shelves_of}
+use Rattle.forest_store.specs.CollectionRows.{IsStored, CollectionRow, collection_in, forest_of, nodes_with, row_of, rows_of}
 
 -- the forest that the store shows
 abbrev pub forest_in : Store → Forest
-forest_in s = forest_of s.nodes.table (shelves_of s.entries.items)
+forest_in s = forest_of s.nodes.table (rows_of s.entries.items)
 
 -- the store is that of a forest at rest
 abbrev pub IsResting : Store → Type 0
@@ -41,13 +41,13 @@ AreNamed t = (key : NodeKey) (n : Node) → node_at t key ≡ Some n → n.key �
 abbrev pub nodes_in : NodeStore → Entry → List Node
 nodes_in s e = nodes_with s.table e.keys.items
 
--- the table, the shelves and the counts of the units agree, and the entry is one of the collections, with its own counts: what each
+-- the table, the rows and the counts of the units agree, and the entry is one of the collections, with its own counts: what each
 -- small change of the store keeps, whatever is forced by it
-pub record StoreAgrees (t : Table Node) (us : List Unit) (ss : List Shelf) (e : Entry) : Type 0 where
+pub record StoreAgrees (t : Table Node) (us : List Unit) (ss : List CollectionRow) (e : Entry) : Type 0 where
   pub kept : IsStored t ss
-  pub found : find (λ (x : Shelf). x.id == e.id) ss ≡ Some (shelf_of e)
+  pub found : find (λ (x : CollectionRow). x.id == e.id) ss ≡ Some (row_of e)
   pub units : AreUnits us (map (collection_in t) ss)
   pub inside : (key : NodeKey) (n : Node) → node_at t key ≡ Some n → key.slot < length us
   pub strong : e.strong ≡ strong_count (nodes_with t e.keys.items)
   pub reserved : e.reserved ≡ reserved_count (nodes_with t e.keys.items)
-  pub garbage_known : e.garbage_known ≡ true → list_any (over_except e.garbage.items) (nodes_with t e.keys.items) ≡ false
+  pub unkept_known : e.unkept_known ≡ true → list_any (unkept_except e.unkept.items) (nodes_with t e.keys.items) ≡ false

@@ -12,7 +12,7 @@ use Rattle.forest_store.specs.declared.node.Node.{Node}
 use Rattle.forest_store.specs.declared.unit_counts.Unit.{Unit}
 use Rattle.forest_store.specs.Counts.{unit_at}
 use Rattle.forest_store.specs.Falls.{given_all}
-use Rattle.forest_store.specs.Shelves.{SameTable, written}
+use Rattle.forest_store.specs.CollectionRows.{SameTable, written}
 use Rattle.forest_store.specs.Questions.{has_buffers}
 
 -- ---- whether the unit is to be allocated

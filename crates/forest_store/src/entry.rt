@@ -1,7 +1,7 @@
 //! A collection as it is kept, and the collections by their ids.
 ghost use Rattle.std.specs.Prelude.{◌≡◌, ◌==◌, nat_lt, option_copied, IfSome, Some};
 ghost use Rattle.std.specs.List.{prefix_len, find};
-ghost use Rattle.forest_store.specs.Shelves.{AreRising, place_in, shelves_of};
+ghost use Rattle.forest_store.specs.CollectionRows.{AreRising, place_in, rows_of};
 
 use crate::key_list::KeyList;
 use sm_names::{Buffers, CollectionId, HeldBuffer, NodeKey};
@@ -21,8 +21,8 @@ pub struct Entry {
     pub keys: KeyList,
     /// The buffers whose pages were not given back, by index.
     pub held: Vec<HeldBuffer>,
-    /// The keys of dead nodes that are still in the table.
-    pub garbage: Vec<NodeKey>,
+    /// The keys of unkept nodes that are still in the table.
+    pub unkept: Vec<NodeKey>,
     /// How many of its nodes are live and strong.
     pub strong: usize,
     /// What it was given.
@@ -30,14 +30,14 @@ pub struct Entry {
     /// In the first entry: the index at which the last search found a collection. The next search
     /// tries it first.
     pub guess: Cell<u16>,
-    /// It is known that each of its dead nodes is listed in `garbage`.
-    pub garbage_known: bool,
+    /// It is known that each of its unkept nodes is listed in `unkept`.
+    pub unkept_known: bool,
 }
 
 /// How many collections have a smaller id, if the last one has this id or a smaller one.
 #[inline(always)]
 fn before_last(entries: &[Entry], id: CollectionId) -> Option<usize>
-    requires { AreRising (shelves_of entries.now) }
+    requires { AreRising (rows_of entries.now) }
     ensures { IfSome result (λ at. at ≡ prefix_len (λ e. nat_lt e.id id) entries.now) }
 {
     let last = entries.len().checked_sub(1)?;
@@ -53,7 +53,7 @@ fn before_last(entries: &[Entry], id: CollectionId) -> Option<usize>
 /// The index that is guessed, if the collection with this id is there.
 #[inline(always)]
 fn guessed(entries: &[Entry], id: CollectionId) -> Option<usize>
-    requires { AreRising (shelves_of entries.now) }
+    requires { AreRising (rows_of entries.now) }
     ensures before { IfSome result (λ at. at ≡ prefix_len (λ e. nat_lt e.id id) entries.now) }
     ensures place { IfSome result (λ at. place_in id entries.now ≡ Some at) }
 {
@@ -77,7 +77,7 @@ fn keep_guess(entries: &[Entry], at: usize) {
 
 /// How many collections have a smaller id, by a binary search, which is the next guess.
 fn searched(entries: &[Entry], id: CollectionId) -> usize
-    requires { AreRising (shelves_of entries.now) }
+    requires { AreRising (rows_of entries.now) }
     ensures { result ≡ prefix_len (λ e. nat_lt e.id id) entries.now }
 {
     let at = entries.partition_point(|entry| entry.id < id);
@@ -89,7 +89,7 @@ fn searched(entries: &[Entry], id: CollectionId) -> usize
 /// last, then makes a binary search.
 #[inline(always)]
 pub(crate) fn entries_before(entries: &[Entry], id: CollectionId) -> usize
-    requires { AreRising (shelves_of entries.now) }
+    requires { AreRising (rows_of entries.now) }
     ensures { result ≡ prefix_len (λ e. nat_lt e.id id) entries.now }
 {
     if let Some(at) = before_last(entries, id) {
@@ -104,7 +104,7 @@ pub(crate) fn entries_before(entries: &[Entry], id: CollectionId) -> usize
 /// The index of the collection with this id, by a binary search.
 #[inline(never)]
 fn searched_place(entries: &[Entry], id: CollectionId) -> Option<usize>
-    requires { AreRising (shelves_of entries.now) }
+    requires { AreRising (rows_of entries.now) }
     ensures { result ≡ place_in id entries.now }
 {
     let at = searched(entries, id);
@@ -119,7 +119,7 @@ fn searched_place(entries: &[Entry], id: CollectionId) -> Option<usize>
 /// last, then makes a binary search.
 #[inline(always)]
 pub fn place_of(entries: &[Entry], id: CollectionId) -> Option<usize>
-    requires { AreRising (shelves_of entries.now) }
+    requires { AreRising (rows_of entries.now) }
     ensures { result ≡ place_in id entries.now }
 {
     let last = entries.len().checked_sub(1)?;
@@ -137,7 +137,7 @@ pub fn place_of(entries: &[Entry], id: CollectionId) -> Option<usize>
 
 /// The collection with this id.
 pub fn entry_of(entries: &[Entry], id: CollectionId) -> Option<&Entry>
-    requires { AreRising (shelves_of entries.now) }
+    requires { AreRising (rows_of entries.now) }
     ensures { option_copied result ≡ find (λ e. e.id == id) entries.now }
 {
     match place_of(entries, id) {

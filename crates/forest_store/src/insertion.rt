@@ -9,18 +9,18 @@ ghost use Rattle.forest_store.specs.declared.node.Node.{Node as NodeValue};
 ghost use Rattle.forest_store.specs.Calm.{put_in};
 ghost use Rattle.forest_store.specs.Counts.{HaveUnits};
 ghost use Rattle.forest_store.specs.Insertion.{IsEntryWith, IsEntryWithout, KeepsNotes, birth_change};
-ghost use Rattle.forest_store.specs.Shelves.{AreRising, Bears, born, named, shelf_of, shelves_of};
+ghost use Rattle.forest_store.specs.CollectionRows.{AreRising, Bears, born, named, row_of, rows_of};
 ghost use Rattle.forest_store.specs.Settling.{MayChange, no_key};
-ghost use Rattle.forest_store.specs.Still.{no_shelf, shelf_with};
+ghost use Rattle.forest_store.specs.Still.{no_row, row_with};
 ghost use Rattle.forest_store.specs.Stores.{InsertedIn, IsResting, RefusedIn, forest_in};
 
 use crate::births::{new_child, new_root};
 use crate::entry::{Entry, place_of};
-use crate::garbage::reserve_notes;
 use crate::key_list::KeyList;
 use crate::node::Node;
 use crate::store::{Store, put_entry};
 use crate::unit_counts::{bound, count_at, no_unit, put_unit};
+use crate::unkept::reserve_notes;
 use node_table::NodeTable;
 use sm_names::{ClientId, CollectionId, NoMemory, NodeKey};
 use std::cell::Cell;
@@ -140,7 +140,7 @@ fn insert_child(
     if entry.keys.reserve_one().is_err() {
         return Err(NoMemory);
     }
-    if reserve_notes(&mut entry.garbage, entry.keys.len() + 1).is_err() {
+    if reserve_notes(&mut entry.unkept, entry.keys.len() + 1).is_err() {
         return Err(NoMemory);
     }
     let key = insert_node(table, draft)?;
@@ -158,14 +158,14 @@ fn insert_root(
     draft: &Node,
     spare: &mut KeyList,
 ) -> Result<NodeKey, NoMemory>
-    requires rising { AreRising (shelves_of entries.old.items) }
+    requires rising { AreRising (rows_of entries.old.items) }
     requires first { table.old.first ≡ 0 }
     requires parent { IfSome draft.now.parent (λ p. IsSome (row_at table.old p)) }
     ensures ok { IfOk result (λ key. Bears table.old table.new (named key draft.now)) }
     ensures err { OnErr result (table.new ≡ table.old) }
     ensures entries { IfOk result (λ key. (e : EntryValue)
         × (entries.new.items ≡ put_in e entries.old.items)
-        × (shelf_of e ≡ shelf_with (no_shelf id) key)
+        × (row_of e ≡ row_with (no_row id) key)
         × (e.strong ≡ (if draft.now.weak then 0 else 1))
         × (e.reserved ≡ 0)) }
     ensures err_entries { OnErr result (entries.new.items ≡ entries.old.items) }
@@ -188,8 +188,8 @@ fn insert_root(
             held: Vec::new(alloc),
             strong,
             reserved: 0,
-            garbage_known: true,
-            garbage: Vec::new(alloc),
+            unkept_known: true,
+            unkept: Vec::new(alloc),
             guess: Cell::new(0),
         },
     );

@@ -2,10 +2,10 @@
 ghost use Rattle.std.specs.Prelude.{◌≡◌, ◌+◌, ◌-◌, ◌++◌, ◌∷◌, ◌<◌, ◌≤◌, ◌^◌, [], length, not, drop, vec_capacity, OnOk};
 ghost use Rattle.std.specs.List.{filter, remove};
 ghost use Rattle.sm_names.specs.Sameness.{same_key};
-ghost use Rattle.forest_store.specs.Garbage.{is_found};
+ghost use Rattle.forest_store.specs.Unkept.{is_found};
 
-use crate::garbage::is_found;
 use crate::node::Node;
+use crate::unkept::is_found;
 use node_table::NodeTable;
 use sm_names::NodeKey;
 use std::alloc::{AllocError, Global};

@@ -6,7 +6,6 @@ pub mod births;
 pub mod change;
 pub mod effects;
 pub mod entry;
-pub mod garbage;
 pub mod insertion;
 pub mod key_list;
 pub mod lookup;
@@ -18,6 +17,7 @@ pub mod snapshot;
 pub mod store;
 pub mod summary;
 pub mod unit_counts;
+pub mod unkept;
 
 pub use change::{Change, Effect};
 pub use node::{End, Node};

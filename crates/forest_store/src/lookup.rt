@@ -3,8 +3,8 @@ ghost use Rattle.std.specs.Prelude.{◌≡◌, ◌++◌, ◌==◌, IfOk, map, no
 ghost use Rattle.std.specs.List.{filter, flat_map};
 ghost use Rattle.sm_names.specs.Words.{sorted_by};
 ghost use Rattle.forest_store.specs.declared.entry.Entry.{Entry as EntryValue};
-ghost use Rattle.forest_store.specs.Shelves.{all_keys, collection_in, nodes_with, shelf_of, shelves_of, is_strong};
-ghost use Rattle.forest_store.specs.Nodes.{is_over};
+ghost use Rattle.forest_store.specs.CollectionRows.{all_keys, collection_in, nodes_with, row_of, rows_of, is_strong};
+ghost use Rattle.forest_store.specs.Nodes.{is_unkept};
 ghost use Rattle.forest_store.specs.Questions.{is_live_node};
 ghost use Rattle.forest_store.specs.Scenes.{pages_held};
 ghost use Rattle.forest_store.specs.Snapshots.{collection_of};
@@ -23,9 +23,9 @@ pub fn is_strong(node: &Node) -> bool
     is_live(node) && !node.weak
 }
 
-/// Whether the node is dead: it is gone and its end is spent.
-pub(crate) fn is_over(node: &Node) -> bool
-    ensures { result ≡ is_over node.now }
+/// Whether the node is unkept: it is gone and its end is spent.
+pub(crate) fn is_unkept(node: &Node) -> bool
+    ensures { result ≡ is_unkept node.now }
 {
     node.gone && matches!(node.end, End::Spent)
 }
@@ -73,7 +73,7 @@ pub fn kept_nodes(
     entries: &[Entry],
 ) -> Result<Vec<Node>, AllocError>
     ensures { IfOk result (λ nodes. nodes.items
-        ≡ nodes_with table.now (all_keys (shelves_of entries.now))) }
+        ≡ nodes_with table.now (all_keys (rows_of entries.now))) }
 {
     let mut nodes = Vec::with_capacity(alloc, table.len())?;
     for entry in entries {
@@ -91,7 +91,7 @@ pub fn live_by_birth(
     ensures { IfOk result (λ keys. keys.items
         ≡ map (λ n. n.key) (sorted_by (λ n.
         n.event) (filter is_live_node
-        (nodes_with table.now (all_keys (shelves_of entries.now)))))) }
+        (nodes_with table.now (all_keys (rows_of entries.now)))))) }
 {
     let mut nodes = Vec::new(alloc);
     for entry in entries {
@@ -162,7 +162,7 @@ pub fn copy_out(
     entry: &Entry,
 ) -> Result<Snapshot, AllocError>
     ensures { IfOk result (λ copied. collection_of copied
-        ≡ collection_in table.now (shelf_of entry.now)) }
+        ≡ collection_in table.now (row_of entry.now)) }
 {
     let mut nodes = Vec::new(alloc);
     add_kept(&mut nodes, table, entry.keys.as_slice())?;

@@ -9,12 +9,12 @@ ghost use Rattle.node_table.specs.Table.{node_at, row_at};
 ghost use Rattle.forest_store.specs.declared.node.Node.{Node as NodeValue};
 ghost use Rattle.forest_store.specs.Calm.{strong_count};
 ghost use Rattle.forest_store.specs.LossMarks.{gone_by, unreckoned};
-ghost use Rattle.forest_store.specs.Shelves.{Stores, nodes_with};
-ghost use Rattle.forest_store.specs.Nodes.{is_over};
+ghost use Rattle.forest_store.specs.CollectionRows.{Stores, nodes_with};
+ghost use Rattle.forest_store.specs.Nodes.{is_unkept};
 ghost use Rattle.forest_store.specs.Reserved.{reserved_count};
 ghost use Rattle.forest_store.specs.Stores.{AreNamed};
 
-use crate::lookup::{is_over, is_strong};
+use crate::lookup::{is_strong, is_unkept};
 use crate::loss_marks::{Going, go, uncount, uncount_below};
 use crate::node::Node;
 use crate::reserved::camped;
@@ -56,7 +56,7 @@ pub struct Removed {
     pub strong: usize,
     /// How many reserved buffers they camped on.
     pub reserved: u128,
-    /// One of them is dead now.
+    /// One of them is unkept now.
     pub over: bool,
 }
 
@@ -72,7 +72,7 @@ fn decrement(table: &NodeTable<Node>, units: &mut Vec<Unit>, node: &Node)
     uncount_below(units, head_above(table, node));
 }
 
-/// Marks the node with this key gone. Answers whether it is dead then.
+/// Marks the node with this key gone. Answers whether it is unkept then.
 #[inline(always)]
 fn mark_gone(table: &mut NodeTable<Node>, key: NodeKey, going: &Going) -> bool
     requires { IsSome (row_at table.old key) }
@@ -81,11 +81,11 @@ fn mark_gone(table: &mut NodeTable<Node>, key: NodeKey, going: &Going) -> bool
     ensures writes { (n : NodeValue) → node_at table.old key ≡ Some n →
         Writes table.old table.new key (gone_by going.now n) }
     ensures over { (n : NodeValue) → node_at table.old key ≡ Some n →
-        result ≡ is_over (gone_by going.now n) }
+        result ≡ is_unkept (gone_by going.now n) }
 {
     let node = table.kept_mut(key);
     go(node, going);
-    is_over(node)
+    is_unkept(node)
 }
 
 /// Subtracts the node with this key from the counts of units, and marks it gone. Answers what the counts
@@ -109,7 +109,7 @@ fn remove(
     ensures writes { (n : NodeValue) → node_at table.old key ≡ Some n →
         Writes table.old table.new key (gone_by going.now n) }
     ensures over { result.over
-        ≡ option_map_or (λ n. is_over (gone_by going.now n)) (node_at table.old key) false }
+        ≡ option_map_or (λ n. is_unkept (gone_by going.now n)) (node_at table.old key) false }
 {
     let node = table.kept(key);
     let strong = is_strong(node) as usize;
@@ -125,7 +125,7 @@ fn remove(
 
 /// Removes the nodes with these keys, which are all there: subtracts each from the counts of its unit,
 /// and, if it heads the unit, from those of the unit right above, and marks it gone. Reads each node
-/// once. Answers what the counts of the collection lose with them, and whether one of them is dead then.
+/// once. Answers what the counts of the collection lose with them, and whether one of them is unkept then.
 /// Takes O(n).
 pub fn remove_all(
     table: &mut NodeTable<Node>,
@@ -143,7 +143,7 @@ pub fn remove_all(
     ensures stores { Stores table.old table.new (map (gone_by going.now)
         (nodes_with table.old keys.now)) }
     ensures over { result.over
-        ≡ list_any is_over (map (gone_by going.now) (nodes_with table.old keys.now)) }
+        ≡ list_any is_unkept (map (gone_by going.now) (nodes_with table.old keys.now)) }
 {
     let mut strong = 0;
     let mut reserved = 0;

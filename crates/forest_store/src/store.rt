@@ -5,11 +5,11 @@ ghost use Rattle.node_table.specs.Changes.{Writes};
 ghost use Rattle.node_table.specs.Lending.{table_with_node};
 ghost use Rattle.forest_store.specs.declared.node.Node.{Node as NodeValue};
 ghost use Rattle.forest_store.specs.Calm.{put_in};
-ghost use Rattle.forest_store.specs.Shelves.{shelf_of, shelves_of, put_shelf, AreRising};
-ghost use Rattle.forest_store.specs.Nodes.{is_over};
+ghost use Rattle.forest_store.specs.CollectionRows.{row_of, rows_of, put_row, AreRising};
+ghost use Rattle.forest_store.specs.Nodes.{is_unkept};
 
 use crate::entry::{Entry, entries_before, place_of};
-use crate::lookup::is_over;
+use crate::lookup::is_unkept;
 use crate::node::{End, Node};
 use crate::unit_counts::Unit;
 use node_table::NodeTable;
@@ -34,11 +34,11 @@ pub struct Store {
 }
 
 /// Sets the end of the node with this key. Answers the node's collection, and whether the node is
-/// dead then.
+/// unkept then.
 pub fn put_end(table: &mut NodeTable<Node>, key: NodeKey, end: End) -> Option<(CollectionId, bool)>
     ensures none { result ≡ None → node_at table.old key ≡ None }
     ensures told { (n : NodeValue) → node_at table.old key ≡ Some n →
-        result ≡ Some (n.collection, is_over (record n { end = end })) }
+        result ≡ Some (n.collection, is_unkept (record n { end = end })) }
     ensures becomes { (n : NodeValue) → node_at table.old key ≡ Some n →
         table.new ≡ table_with_node table.old key (record n { end = end }) }
     ensures writes { (n : NodeValue) → node_at table.old key ≡ Some n →
@@ -47,7 +47,7 @@ pub fn put_end(table: &mut NodeTable<Node>, key: NodeKey, end: End) -> Option<(C
     match table.get_mut(key) {
         Some(node) => {
             node.end = end;
-            Some((node.collection, is_over(node)))
+            Some((node.collection, is_unkept(node)))
         }
         None => None,
     }
@@ -55,10 +55,10 @@ pub fn put_end(table: &mut NodeTable<Node>, key: NodeKey, end: End) -> Option<(C
 
 /// Replaces the entry with the same id by this one, or inserts it in the order of the ids.
 pub(crate) fn put_entry(entries: &mut Vec<Entry>, entry: Entry)
-    requires rising { AreRising (shelves_of entries.old.items) }
+    requires rising { AreRising (rows_of entries.old.items) }
     requires room { vec_len entries.old < vec_capacity entries.old }
-    ensures shelves { shelves_of entries.new.items
-        ≡ put_shelf (shelf_of entry) (shelves_of entries.old.items) }
+    ensures rows { rows_of entries.new.items
+        ≡ put_row (row_of entry) (rows_of entries.old.items) }
     ensures items { entries.new.items ≡ put_in entry entries.old.items }
 {
     match place_of(entries, entry.id) {

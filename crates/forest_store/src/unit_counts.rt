@@ -3,7 +3,7 @@
 ghost use Rattle.std.specs.Prelude.{◌≡◌, ◌<◌, ◌≤◌, [], ◌∷◌, set, length, IsSome, OnOk};
 ghost use Rattle.node_table.specs.Table.{row_at, table_len};
 ghost use Rattle.forest_store.specs.Counts.{Extends, decrement_if, head_above, head_of, hung, is_held_by, is_unready, no_unit, raised, reckoned, tallied, unit_at, with_below, with_node};
-ghost use Rattle.forest_store.specs.Shelves.{nodes_with};
+ghost use Rattle.forest_store.specs.CollectionRows.{nodes_with};
 
 use crate::lookup::is_live;
 use crate::node::Node;

@@ -8,7 +8,7 @@ ghost use Rattle.forest_store.specs.Forest.{IsPoolOf, SameKeys, all_held, node_a
 ghost use Rattle.forest_store.specs.Settling.{no_key};
 ghost use Rattle.core_state.specs.Reads.{node_named, readings_of};
 ghost use Rattle.core_state.specs.Steps.{at_node as change_at, birth_by, done_to, drop_at};
-ghost use Rattle.core_state.specs.Steps.{work_of, with_place, without_over};
+ghost use Rattle.core_state.specs.Steps.{work_of, with_place, without_unkept};
 ghost use Rattle.core_state.specs.Tasks.{AsksOnly, OthersStay};
 ghost use Rattle.core_state.specs.Tasks.{DoesSome, MayDo, Reworked, SpendsThere};
 ghost use Rattle.core_state.specs.Tasks.{end_placed, spent_by, spent_in, spent_place, work_in};
@@ -243,14 +243,14 @@ fn spend(forest: &mut Forest, end: Option<NodeKey>)
 }
 
 /// Spends the end that the event spends, or puts an end into its new place, and removes the nodes that
-/// are then no longer kept. Takes no memory. Costs what `forget_over` costs.
+/// are then no longer kept. Takes no memory. Costs what `forget_unkept` costs.
 #[inline(always)]
 pub(crate) fn put_end(forest: &mut Forest, task: &Option<Task>, carried: Option<Place>)
     requires task { CanFinish forest.old task.now }
     requires carried { CanCarry forest.old carried }
     requires one { is_some task.now ≡ true → carried ≡ None }
     ensures collections { forest.new.collections
-        ≡ without_over (with_place (end_placed task.now carried) forest.old).collections }
+        ≡ without_unkept (with_place (end_placed task.now carried) forest.old).collections }
     ensures keys { SameKeys forest.old forest.new }
     ensures held { all_held forest.new ≡ all_held forest.old }
 {
@@ -259,5 +259,5 @@ pub(crate) fn put_end(forest: &mut Forest, task: &Option<Task>, carried: Option<
         return;
     };
     spend(forest, task.spends);
-    forest.forget_over(task.collection);
+    forest.forget_unkept(task.collection);
 }

@@ -15,7 +15,7 @@ use Rattle.forest_store.specs.declared.change.Effect.{Effect}
 use Rattle.forest_store.specs.declared.node.End.{End}
 use Rattle.forest_store.specs.declared.node.Node.{Node}
 use Rattle.forest_store.specs.Forest.{Collection, tidied, with_nodes}
-use Rattle.forest_store.specs.Nodes.{affected, after_effect, is_over, members_of, new_child, new_root, node_of, with_end}
+use Rattle.forest_store.specs.Nodes.{affected, after_effect, is_unkept, members_of, new_child, new_root, node_of, with_end}
 use Rattle.forest_store.specs.Settling.{Handles, changed, given_back, is_home_in, with_birth}
 use Rattle.name_laws.specs.Renamed.{CountsAlike, KeepsKeys, buffer_renamed, change_renamed, collection_renamed, held_renamed, node_renamed}
 use Rattle.name_laws.proofs.Renamings.{loss-renamed, members-renamed, node_of-renamed}
@@ -119,5 +119,5 @@ end_put-renamed to id keeps key end c = λ i. record (collection_renamed to id c
 pub tidied-renamed : (to : NodeKey → NodeKey) (id : ℕ → ℕ) (c : Collection) →
     tidied (collection_renamed to id c) ≡ collection_renamed to id (tidied c)
 tidied-renamed to id c = λ i. record (collection_renamed to id c) {
-  nodes = filter_alike (λ (n : Node). not (is_over n)) (λ (n : Node). not (is_over n)) (node_renamed to id) (λ n. refl) c.nodes i;
+  nodes = filter_alike (λ (n : Node). not (is_unkept n)) (λ (n : Node). not (is_unkept n)) (node_renamed to id) (λ n. refl) c.nodes i;
 }

@@ -73,7 +73,7 @@ impl Graph {
     }
 
     // Whether the search has cost more than 1,024 bytes and calls for each value that there is room for.
-    fn is_over(&self) -> bool {
+    fn is_unkept(&self) -> bool {
         self.most.saturating_mul(1024) < self.cost
     }
 
@@ -319,7 +319,7 @@ fn explore_all(graph: &mut Graph, ground: &Ground<'_>, most: usize) -> Result<bo
         if graph.rows.len() <= at {
             return Ok(true);
         }
-        if graph.is_over() || !graph.expand(ground, at)? {
+        if graph.is_unkept() || !graph.expand(ground, at)? {
             return Ok(false);
         }
     }

@@ -14,7 +14,7 @@ use Rattle.report_io.specs.declared.fault.Sought.{Sought}
 use Rattle.report_io.specs.Faults.{IsReported, fault_status}
 use Rattle.report_io.specs.IndentedLines.{is_indented}
 use Rattle.script_labels.specs.Names.{Names, act_in}
-use Rattle.sm_script.specs.Runs.{IsOver}
+use Rattle.sm_script.specs.Runs.{IsUnkept}
 use Rattle.sm_script.specs.Scenes.{Scene, Setting}
 use Rattle.event_texts.specs.Tellings.{IsEventOf}
 use Rattle.picture_model.specs.declared.picture_state.PictureState.{PictureState}
@@ -124,7 +124,7 @@ PictureBefore (Some number) count format setting scene last old new = (count < n
 -- why the line of this number was not played
 abbrev pub PictureFault : Setting → Scene → List ℕ → ℕ → ReportFault → Type 0
 PictureFault setting scene line number (ReportFault.BadLine n reason) = (act_in scene.names line ≡ None) × (n ≡ number)
-PictureFault setting scene line number ReportFault.HistoryFull = IsOver setting scene line
+PictureFault setting scene line number ReportFault.HistoryFull = IsUnkept setting scene line
 PictureFault setting scene line number _ = ⊥
 
 -- a line was not played, and all before it were
@@ -189,7 +189,8 @@ DrawStops setting view left old new script ReportFault.NoMemory = Keeps old new
 DrawStops setting view left old new script fault = IsAtEnd left × PictureLinesStop setting view old new script fault
 
 -- these bytes were read, and a picture was drawn. Without a fault they are all that there is
-pub record Draws (setting : Setting) (view : View) (left_before left old new : Option (List ℕ)) (result : Result (Unit {0}) ReportFault) : Type 0 where
+pub record Draws (setting : Setting) (view : View) (left_before left old new : Option (List ℕ))
+    (result : Result (Unit {0}) ReportFault) : Type 0 where
   pub script : List ℕ
   pub taken : Consumes left_before left script
   pub outcome : MatchResult result

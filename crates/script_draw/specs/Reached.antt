@@ -8,7 +8,7 @@ use Rattle.script_labels.specs.declared.act.Act.{Act}
 use Rattle.script_labels.specs.declared.act.Binds.{Binds}
 use Rattle.script_labels.specs.declared.stop.Stop.{Stop}
 use Rattle.script_labels.specs.Names.{act_in}
-use Rattle.sm_script.specs.Runs.{IsOver}
+use Rattle.sm_script.specs.Runs.{IsUnkept}
 use Rattle.sm_script.specs.Scenes.{Scene, Setting, next_scene}
 use Rattle.sm_script.specs.Sessions.{IsAt, IsSameSetting}
 use Rattle.event_facts.specs.declared.event.Event.{Event}
@@ -64,7 +64,7 @@ pub record AsksFor (scene : Scene) (line : List ℕ) (act : Act) : Type 0 where
 -- why a line was not played, where this happened so far
 abbrev pub IsHeldUp : Setting → Scene → List ℕ → Stop → Type 0
 IsHeldUp setting scene line Stop.BadLine = (is_indented line ≡ false) × (act_in scene.names line ≡ None)
-IsHeldUp setting scene line Stop.HistoryFull = (is_indented line ≡ false) × IsOver setting scene line
+IsHeldUp setting scene line Stop.HistoryFull = (is_indented line ≡ false) × IsUnkept setting scene line
 IsHeldUp setting scene line Stop.NoMemory = Unit {0}
 
 -- a line was not played, and all before it were

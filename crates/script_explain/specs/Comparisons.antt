@@ -9,7 +9,7 @@ use Rattle.report_io.specs.Faults.{IsReported, fault_status}
 use Rattle.report_io.specs.IndentedLines.{indented, is_indented, unindented}
 use Rattle.script_lines.specs.Parts.{plural_end}
 use Rattle.script_labels.specs.Names.{act_in}
-use Rattle.sm_script.specs.Runs.{IsOver}
+use Rattle.sm_script.specs.Runs.{IsUnkept}
 use Rattle.sm_script.specs.Scenes.{Answers, LeadsTo, Scene, Setting, as_line, first_scene}
 use Rattle.event_texts.specs.Deeds.{KeptLines, no_lines}
 use Rattle.event_texts.specs.Tellings.{Tells}
@@ -156,7 +156,7 @@ pub record ComparisonCutOff (setting : Setting) (old new : Option (List ℕ)) (s
 abbrev pub ComparisonFault : Setting → TranscriptPlace → List ℕ → ℕ → ReportFault → Type 0
 ComparisonFault setting at line number (ReportFault.BadLine n reason) = (n ≡ number)
     × ((is_indented line ≡ false) × (act_in at.scene.names line ≡ None) ⊎ (reply : List ℕ) × Records line reply × (at.lines ≡ 0))
-ComparisonFault setting at line number ReportFault.HistoryFull = (is_indented line ≡ false) × IsOver setting at.scene line
+ComparisonFault setting at line number ReportFault.HistoryFull = (is_indented line ≡ false) × IsUnkept setting at.scene line
 ComparisonFault setting at line number _ = ⊥
 
 -- a line could be neither played nor compared, and all before it agrees

@@ -8,7 +8,7 @@ use Rattle.report_io.specs.declared.fault.ReportFault.{ReportFault}
 use Rattle.report_io.specs.Faults.{IsReported, fault_status}
 use Rattle.report_io.specs.IndentedLines.{indented, is_indented, unindented}
 use Rattle.script_labels.specs.Names.{act_in}
-use Rattle.sm_script.specs.Runs.{IsOver}
+use Rattle.sm_script.specs.Runs.{IsUnkept}
 use Rattle.sm_script.specs.Scenes.{LeadsTo, Scene, Setting, first_scene}
 use Rattle.core_state.specs.Shown.{Shows}
 use Rattle.core_state.specs.State.{State}
@@ -45,11 +45,12 @@ pub record ExplanationCutOff (setting : Setting) (only : Bool) (old new : Option
 -- why the line of this number was not explained
 abbrev pub ExplanationFault : Setting → Scene → List ℕ → ℕ → ReportFault → Type 0
 ExplanationFault setting scene line number (ReportFault.BadLine n reason) = (act_in scene.names line ≡ None) × (n ≡ number)
-ExplanationFault setting scene line number ReportFault.HistoryFull = IsOver setting scene line
+ExplanationFault setting scene line number ReportFault.HistoryFull = IsUnkept setting scene line
 ExplanationFault setting scene line number _ = ⊥
 
 -- a line was not explained, and what was written explains exactly the lines before it
-pub record IsUnexplained (setting : Setting) (only : Bool) (old new : Option (List ℕ)) (lines : List (List ℕ)) (fault : ReportFault) : Type 0 where
+pub record IsUnexplained (setting : Setting) (only : Bool) (old new : Option (List ℕ)) (lines : List (List ℕ))
+    (fault : ReportFault) : Type 0 where
   pub before : List (List ℕ)
   pub line : List ℕ
   pub after : List (List ℕ)
@@ -140,7 +141,8 @@ ExplanationStops setting scope left old new script ReportFault.NoMemory =
 ExplanationStops setting scope left old new script fault = IsAtEnd left × WholeStop setting scope old new script fault
 
 -- these bytes were read, and of their lines what is in the scope was told. Without a fault they are all that there is
-pub record Explains (setting : Setting) (scope : Scope) (left_before left old new : Option (List ℕ)) (result : Result (Unit {0}) ReportFault) : Type 0 where
+pub record Explains (setting : Setting) (scope : Scope) (left_before left old new : Option (List ℕ))
+    (result : Result (Unit {0}) ReportFault) : Type 0 where
   pub script : List ℕ
   pub taken : Consumes left_before left script
   pub outcome : MatchResult result
@@ -153,7 +155,8 @@ explaining_status (Ok done) = 0
 explaining_status (Err fault) = fault_status fault
 
 -- a script was explained, with this outcome: the status is its status, and its fault, if there is one, was told
-pub record EndsExplained (setting : Setting) (scope : Scope) (left_before left old new told_before told : Option (List ℕ)) (status : ℕ) : Type 0 where
+pub record EndsExplained (setting : Setting) (scope : Scope) (left_before left old new told_before told : Option (List ℕ))
+    (status : ℕ) : Type 0 where
   pub outcome : Result (Unit {0}) ReportFault
   pub explains : Explains setting scope left_before left old new outcome
   pub status_is : status ≡ explaining_status outcome

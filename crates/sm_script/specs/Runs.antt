@@ -31,7 +31,7 @@ pub record IsCutOff (setting : Setting) (old new : Option (List ℕ)) (lines : L
   pub written : WritesPart old new texts
 
 -- the line makes a call, and as many events were made as may be
-pub record IsOver (setting : Setting) (scene : Scene) (line : List ℕ) : Type 0 where
+pub record IsUnkept (setting : Setting) (scene : Scene) (line : List ℕ) : Type 0 where
   pub client : ℕ
   pub call : Call
   pub binds : Binds
@@ -41,7 +41,7 @@ pub record IsOver (setting : Setting) (scene : Scene) (line : List ℕ) : Type 0
 -- why a line, the one of this number, was not answered: memory may be refused at any line, and the other faults are not a line's
 abbrev pub IsWhy : Setting → Scene → List ℕ → ℕ → ScriptFault → Type 0
 IsWhy setting scene line number (ScriptFault.BadLine n) = (act_in scene.names line ≡ None) × (n ≡ number)
-IsWhy setting scene line number ScriptFault.HistoryFull = IsOver setting scene line
+IsWhy setting scene line number ScriptFault.HistoryFull = IsUnkept setting scene line
 IsWhy setting scene line number ScriptFault.NoMemory = ⊤
 IsWhy setting scene line number _ = ⊥
 

@@ -42,7 +42,7 @@ fn forget(forest: &mut Forest, key: NodeKey) -> bool {
 fn end(forest: &mut Forest, key: NodeKey) -> bool {
     let before = forest.len();
     spend(forest, key);
-    forest.forget_over(HERE);
+    forest.forget_unkept(HERE);
     forest.node(key).is_none() && forest.len().checked_add(1) == Some(before)
 }
 
@@ -83,8 +83,8 @@ impl Past {
     }
 
     /// Forgets all nodes that are gone and spent, in one pass.
-    pub fn forget_over(&mut self) {
-        self.forest.forget_over(HERE);
+    pub fn forget_unkept(&mut self) {
+        self.forest.forget_unkept(HERE);
     }
 
     /// Forgets the collection, if nothing is left of it, and answers whether that is so.

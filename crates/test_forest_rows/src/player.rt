@@ -93,7 +93,7 @@ fn forget_in(past: &mut Past, keys: &[NodeKey], line: &Line) -> bool {
         Verb::Forget if line.count > 0 => past.leave_each(keys, range, Leaving::Forget),
         Verb::Forget => past.forget_collection(),
         _ => {
-            past.forget_over();
+            past.forget_unkept();
             true
         }
     }

@@ -1,8 +1,8 @@
 -- What was finished of one collection, told of the forest.
 use Rattle.alloc_event.proofs.Common.{◌≡◌, ℕ, Bool, true, false, ◌||◌, nat_lt, List, [], ◌∷◌, ◌++◌, Option, Some, None, refl, sym, ap}
-use Rattle.alloc_event.proofs.Common.{subst, ◌∙◌, arith, option_map_or, NodeKey, same_key, Table, Change, Node, Collection, Shelf}
+use Rattle.alloc_event.proofs.Common.{subst, ◌∙◌, arith, option_map_or, NodeKey, same_key, Table, Change, Node, Collection, CollectionRow}
 use Rattle.alloc_event.proofs.Common.{IsStored, forest_of, Handles, collection_or_new, Settled, Finishes, Gives, with_birth, before_is}
-use Rattle.forest_store.specs.Shelves.{SameTable}
+use Rattle.forest_store.specs.CollectionRows.{SameTable}
 use Rattle.sm_names.specs.Forced.{forced}
 use Rattle.forest_store.specs.Settling.{Settles, standing, changed, given_back, is_birth, no_key}
 use Rattle.std.proofs.Common.{nat_le, slice_index_or}
@@ -12,7 +12,7 @@ use Rattle.forest_store.specs.Forest.{given, beside}
 use Rattle.forest_store.specs.Nodes.{new_child}
 
 -- a key was given by the forest where the table gave it
-pub given_is : (t : Table Node) (ss : List Shelf) (key : NodeKey) → t.first ≡ 0 → given (forest_of t ss) key ≡ was_given t key
+pub given_is : (t : Table Node) (ss : List CollectionRow) (key : NodeKey) → t.first ≡ 0 → given (forest_of t ss) key ≡ was_given t key
 given_is t ss key first =
     let low : nat_le t.first key.generation ≡ true = le-leb _ _ (omega arith) in
     rw (low, first) refl
@@ -31,8 +31,8 @@ changed_id (Change.Effect on effect) key c = refl
 changed_id (Change.Loss origin cause) key c = refl
 changed_id Change.Nothing key c = refl
 
-module _ (pool : ℕ) (handles : Handles) {t : Table Node} (now : Table Node) {ss : List Shelf}
-    (behind : List Shelf) (ok : IsStored t ss) (id : ℕ) where
+module _ (pool : ℕ) (handles : Handles) {t : Table Node} (now : Table Node) {ss : List CollectionRow}
+    (behind : List CollectionRow) (ok : IsStored t ss) (id : ℕ) where
   -- the collection has the id
   id_is : (change : Change) (key : NodeKey) → (changed change key (collection_or_new (forest_of t ss) id)).id ≡ id
   id_is change key = changed_id change key (collection_or_new (forest_of t ss) id) ∙ (before_is t ss ok id).id_is

@@ -1,13 +1,13 @@
 -- What stays true of a forest where the end of a node is put elsewhere.
 use Rattle.alloc_event.proofs.Common.{◌≡◌, ◌≢◌, true, map, Some, option_map, refl, sym, ap, subst, List, AllByRecursion}
-use Rattle.alloc_event.proofs.Common.{NodeKey, Table, node_at, Entry, Node, with_nodes, Shelf, are_filed, forest_of, shelves_of}
-use Rattle.alloc_event.proofs.Common.{is_over, IsStored, Writes, table_with_node, same_key-equal, on_collections, with_end}
+use Rattle.alloc_event.proofs.Common.{NodeKey, Table, node_at, Entry, Node, with_nodes, CollectionRow, are_filed, forest_of, rows_of}
+use Rattle.alloc_event.proofs.Common.{is_unkept, IsStored, Writes, table_with_node, same_key-equal, on_collections, with_end}
 use Rattle.node_table.proofs.Keys.{same_key-apart}
 use Rattle.forest_store.specs.declared.node.End.{End}
 use Rattle.forest_store.specs.Calm.{AreCounted}
-use Rattle.forest_store.specs.Garbage.{IsNotedIn}
+use Rattle.forest_store.specs.Unkept.{IsNotedIn}
 use Rattle.forest_store.proofs.quiescence.Together.{together_same}
-use Rattle.forest_store.proofs.shelves.Counted.{ends_tidy, mapped_all}
+use Rattle.forest_store.proofs.rows.Counted.{ends_tidy, mapped_all}
 use Rattle.forest_store.proofs.tables.Writing.{IsSameNode, look-changed, kept-map, collections-map, parents-written}
 
 module _ (key : NodeKey) (end : End) where
@@ -32,7 +32,7 @@ module _ (key : NodeKey) (end : End) where
         Writes t now x (record n { end = end })) named w) was (ends-own n named) knows ends-others k
 
     -- the forest stays sound
-    pub ends-kept : {es : List Shelf} → now ≡ table_with_node t n.key (record n { end = end }) → IsStored t es → IsStored now es
+    pub ends-kept : {es : List CollectionRow} → now ≡ table_with_node t n.key (record n { end = end }) → IsStored t es → IsStored now es
     ends-kept {es} becomes ok =
         kept-map _ same_node (λ m. refl) (λ ns. together_same ns (with_end key end)
         (record { key = λ m. refl; head = λ m. refl; allocated = λ m. refl; gone = λ m. refl })) t now
@@ -40,7 +40,7 @@ module _ (key : NodeKey) (end : End) where
         (parents-written t now _ _ w) es ok
 
     -- and shows the end
-    pub ends-shown : {es : List Shelf} → now ≡ table_with_node t n.key (record n { end = end }) → IsStored t es →
+    pub ends-shown : {es : List CollectionRow} → now ≡ table_with_node t n.key (record n { end = end }) → IsStored t es →
         forest_of now es ≡ on_collections (with_nodes (map (with_end key end))) (forest_of t es)
     ends-shown {es} becomes ok = λ i. record {
       limit = (ap (λ (x : Table Node). x.limit) becomes) i;
@@ -48,10 +48,10 @@ module _ (key : NodeKey) (end : End) where
       nexts = (ap (λ (x : Table Node). x.nexts) becomes) i;
     }
 
-    -- what is counted of a node is not its end; a node that is dead by that is noted by its own entry
+    -- what is counted of a node is not its end; a node that is unkept by that is noted by its own entry
     pub ends-counted : ((k : NodeKey) (m : Node) → node_at t k ≡ Some m → m.key ≡ k) → (es : List Entry) →
-        are_filed t (shelves_of es) ≡ true → AreCounted t es →
-        (is_over (record n { end = end }) ≡ true → AllByRecursion (λ (e : Entry). e.id ≡ n.collection → IsNotedIn e key) es) →
+        are_filed t (rows_of es) ≡ true → AreCounted t es →
+        (is_unkept (record n { end = end }) ≡ true → AllByRecursion (λ (e : Entry). e.id ≡ n.collection → IsNotedIn e key) es) →
         AreCounted now es
     ends-counted knows es filed counted noted =
         mapped_all t now (with_end key end)

@@ -2,12 +2,12 @@
 use Rattle.alloc_event.proofs.Common.{◌≡◌, ◌≢◌, ℕ, zero, suc, ◌+◌, ◌<◌, ◌==◌, Bool, true, false, ◌||◌, not, List, [], ◌∷◌}
 use Rattle.alloc_event.proofs.Common.{◌++◌, map, length, get_or, Option, Some, None, option_map, is_some, cond, refl, sym, ap}
 use Rattle.alloc_event.proofs.Common.{subst, ◌∙◌, arith, filter, AllByRecursion, option_map_or, eqb-true, false≢true, NodeKey}
-use Rattle.alloc_event.proofs.Common.{same_key, and_left, some-injective, Table, node_at, Entry, Node, with_nodes, Shelf}
-use Rattle.alloc_event.proofs.Common.{shelf_of, shelves_of, place_in, AreRising, IsStored, collection_in, all_keys, are_filed}
-use Rattle.alloc_event.proofs.Common.{is_of, none_in, shelf_found, same_key-equal, looked-kept, get_or_default, place_is}
+use Rattle.alloc_event.proofs.Common.{same_key, and_left, some-injective, Table, node_at, Entry, Node, with_nodes, CollectionRow}
+use Rattle.alloc_event.proofs.Common.{row_of, rows_of, place_in, AreRising, IsStored, collection_in, all_keys, are_filed}
+use Rattle.alloc_event.proofs.Common.{is_of, none_in, row_found, same_key-equal, looked-kept, get_or_default, place_is}
 use Rattle.std.specs.List.{list_all, list_any}
 use Rattle.sm_names.proofs.SamenessLaws.{and_right, either_way, same_key-true}
-use Rattle.forest_store.specs.Shelves.{is_filed, IsWhole, TakesOut}
+use Rattle.forest_store.specs.CollectionRows.{is_filed, IsWhole, TakesOut}
 use Rattle.std.proofs.Common.{set, inl, inr}
 use Rattle.std.proofs.lemmas.Bool.{eqb-false}
 use Rattle.node_table.specs.Table.{parent_at}
@@ -23,26 +23,26 @@ use Rattle.forest_store.proofs.leaving.Thinning.{IsWhole-filter, apart-filter, l
 abbrev pub is_other : NodeKey → NodeKey → Bool
 is_other key other = not (same_key key other)
 
--- the shelf without the key
-abbrev pub shelf_without : NodeKey → Shelf → Shelf
-shelf_without key s = record s { keys = filter (is_other key) s.keys }
+-- the row without the key
+abbrev pub row_without : NodeKey → CollectionRow → CollectionRow
+row_without key s = record s { keys = filter (is_other key) s.keys }
 
 -- ---- the forest
 
 -- the keys without it
-all_keys-without : (key : NodeKey) (ss : List Shelf) → all_keys (map (shelf_without key) ss) ≡ filter (is_other key) (all_keys ss)
+all_keys-without : (key : NodeKey) (ss : List CollectionRow) → all_keys (map (row_without key) ss) ≡ filter (is_other key) (all_keys ss)
 all_keys-without key [] = refl
 all_keys-without key (s ∷ ss) =
     ap (λ ks. filter (is_other key) s.keys ++ ks) (all_keys-without key ss) ∙ sym (filter-append (is_other key) s.keys (all_keys ss))
 
 -- the ids still rise
-above-without : (key : NodeKey) (id : ℕ) (ss : List Shelf) → AllByRecursion (λ (later : Shelf). id < later.id) ss →
-    AllByRecursion (λ (later : Shelf). id < later.id) (map (shelf_without key) ss)
+above-without : (key : NodeKey) (id : ℕ) (ss : List CollectionRow) → AllByRecursion (λ (later : CollectionRow). id < later.id) ss →
+    AllByRecursion (λ (later : CollectionRow). id < later.id) (map (row_without key) ss)
 above-without key id [] all = tt
 above-without key id (s ∷ ss) all = (all.0, above-without key id ss all.1)
 
 -- by induction: fewer keys, the same ids
-rising-without : (key : NodeKey) (ss : List Shelf) → AreRising ss → AreRising (map (shelf_without key) ss)
+rising-without : (key : NodeKey) (ss : List CollectionRow) → AreRising ss → AreRising (map (row_without key) ss)
 rising-without key [] rising = tt
 rising-without key (s ∷ ss) rising = (above-without key _ ss rising.0, rising-without key ss rising.1)
 
@@ -52,8 +52,8 @@ module _ {t now : Table Node} {key : NodeKey} {node : Node} (out : TakesOut t no
   goes gone m is = let same : Some node ≡ Some m = sym out.was ∙ is in let one : node ≡ m = cc in ap (λ (x : Node). x.gone) (sym one) ∙ gone
 
   -- the collections without the node
-  pub collections-without : ((k : NodeKey) (n : Node) → node_at t k ≡ Some n → n.key ≡ k) → (ss : List Shelf) →
-      map (collection_in now) (map (shelf_without key) ss) ≡ map (with_nodes (filter (λ n. not (is_of key n)))) (map (collection_in t) ss)
+  pub collections-without : ((k : NodeKey) (n : Node) → node_at t k ≡ Some n → n.key ≡ k) → (ss : List CollectionRow) →
+      map (collection_in now) (map (row_without key) ss) ≡ map (with_nodes (filter (λ n. not (is_of key n)))) (map (collection_in t) ss)
   collections-without named [] = refl
   collections-without named (s ∷ ss) =
       let none : node_at now key ≡ None = out.look key ∙ rw (same_key-equal key key refl) refl in
@@ -77,17 +77,17 @@ module _ {t now : Table Node} {key : NodeKey} {node : Node} (out : TakesOut t no
   filed-without id (k ∷ ks) filed =
       filed-without-by id k ks _ refl (and_left _ _ filed) (filed-without id ks (and_right _ _ filed))
 
-  -- in all shelves
-  all_filed-without : (ss : List Shelf) → are_filed t ss ≡ true → are_filed now (map (shelf_without key) ss) ≡ true
+  -- in all rows
+  all_filed-without : (ss : List CollectionRow) → are_filed t ss ≡ true → are_filed now (map (row_without key) ss) ≡ true
   all_filed-without [] filed = refl
   all_filed-without (s ∷ ss) filed =
       let first : list_all (is_filed now s.id) (filter (is_other key) s.keys) ≡ true = filed-without _ _ (and_left _ _ filed) in
       rw first (all_filed-without ss (and_right _ _ filed))
 
   -- the collections stay whole, where the node is gone
-  whole-without : node.gone ≡ true → ((k : NodeKey) (n : Node) → node_at t k ≡ Some n → n.key ≡ k) → (ss : List Shelf) →
-      AllByRecursion (λ (s : Shelf). IsWhole (collection_in t s)) ss →
-      AllByRecursion (λ (s : Shelf). IsWhole (collection_in now s)) (map (shelf_without key) ss)
+  whole-without : node.gone ≡ true → ((k : NodeKey) (n : Node) → node_at t k ≡ Some n → n.key ≡ k) → (ss : List CollectionRow) →
+      AllByRecursion (λ (s : CollectionRow). IsWhole (collection_in t s)) ss →
+      AllByRecursion (λ (s : CollectionRow). IsWhole (collection_in now s)) (map (row_without key) ss)
   whole-without gone named [] all = tt
   whole-without gone named (s ∷ ss) all =
       let none : node_at now key ≡ None = out.look key ∙ rw (same_key-equal key key refl) refl in
@@ -126,7 +126,7 @@ module _ {t now : Table Node} {key : NodeKey} {node : Node} (out : TakesOut t no
   any-other k is (x ∷ xs) there = any-other-by k is x xs _ refl _ refl there (any-other k is xs)
 
   -- a node that is not gone keeps its parent, where the other is gone
-  linked-without : node.gone ≡ true → {ss : List Shelf} → IsStored t ss → (k : NodeKey) {n : Node} → node_at now k ≡ Some n →
+  linked-without : node.gone ≡ true → {ss : List CollectionRow} → IsStored t ss → (k : NodeKey) {n : Node} → node_at now k ≡ Some n →
       n.gone ≡ false →
       parent_at now k ≡ n.parent
   linked-without gone {ss} ok k {n} is here =
@@ -135,7 +135,7 @@ module _ {t now : Table Node} {key : NodeKey} {node : Node} (out : TakesOut t no
       ∙ ok.linked k n was.1 here
 
   -- all that holds of forests holds
-  pub kept-without : node.gone ≡ true → {ss : List Shelf} → IsStored t ss → IsStored now (map (shelf_without key) ss)
+  pub kept-without : node.gone ≡ true → {ss : List CollectionRow} → IsStored t ss → IsStored now (map (row_without key) ss)
   kept-without gone {ss} ok =
       let keys = all_keys-without key ss in
       record {
@@ -155,9 +155,9 @@ module _ {t now : Table Node} {key : NodeKey} {node : Node} (out : TakesOut t no
 
 -- ---- the entries
 
--- a shelf of another collection has not the key
-lacks_without : (t : Table Node) (key : NodeKey) {node : Node} (s : Shelf) → node_at t key ≡ Some node →
-    list_all (is_filed t s.id) s.keys ≡ true → s.id ≢ node.collection → shelf_without key s ≡ s
+-- a row of another collection has not the key
+lacks_without : (t : Table Node) (key : NodeKey) {node : Node} (s : CollectionRow) → node_at t key ≡ Some node →
+    list_all (is_filed t s.id) s.keys ≡ true → s.id ≢ node.collection → row_without key s ≡ s
 lacks_without t key {node} s was filed differ =
     let none : list_any (same_key key) s.keys ≡ false = elim (either_way (list_any (same_key key) s.keys)) [
       | inl there ↦ absurd (differ (sym (eqb-true _ _ (filed_at t _ _ key _ filed was there))))
@@ -166,8 +166,8 @@ lacks_without t key {node} s was filed differ =
     λ i. record s { keys = lacks-filter key s.keys none i }
 
 -- so with all of greater ids
-above_lack : (t : Table Node) (key : NodeKey) {node : Node} (ss : List Shelf) → node_at t key ≡ Some node → are_filed t ss ≡ true →
-    AllByRecursion (λ (later : Shelf). node.collection < later.id) ss → map (shelf_without key) ss ≡ ss
+above_lack : (t : Table Node) (key : NodeKey) {node : Node} (ss : List CollectionRow) → node_at t key ≡ Some node → are_filed t ss ≡ true →
+    AllByRecursion (λ (later : CollectionRow). node.collection < later.id) ss → map (row_without key) ss ≡ ss
 above_lack t key [] was filed all = refl
 above_lack t key (s ∷ ss) was filed all =
     let first = lacks_without t key s was (and_left _ _ filed) (λ same. omega (arith, all.0)) in
@@ -176,15 +176,15 @@ above_lack t key (s ∷ ss) was filed all =
 
 -- by whether the first entry is the collection's
 set_without-by : (t : Table Node) (key : NodeKey) {node : Node} (new x : Entry) (es : List Entry) {at : ℕ} → node_at t key ≡ Some node →
-    are_filed t (shelves_of (x ∷ es)) ≡ true → AreRising (shelves_of (x ∷ es)) →
-    shelf_of new ≡ shelf_without key (shelf_of (get_or (x ∷ es) at new)) → (here : Bool) → (x.id == node.collection) ≡ here →
-    (behind : Option ℕ) → ((n : ℕ) → behind ≡ Some n → shelf_of new ≡ shelf_without key (shelf_of (get_or es n new)) →
-    shelves_of (set es n new) ≡ map (shelf_without key) (shelves_of es)) →
+    are_filed t (rows_of (x ∷ es)) ≡ true → AreRising (rows_of (x ∷ es)) →
+    row_of new ≡ row_without key (row_of (get_or (x ∷ es) at new)) → (here : Bool) → (x.id == node.collection) ≡ here →
+    (behind : Option ℕ) → ((n : ℕ) → behind ≡ Some n → row_of new ≡ row_without key (row_of (get_or es n new)) →
+    rows_of (set es n new) ≡ map (row_without key) (rows_of es)) →
     cond here (Some 0) (option_map (λ n. n + 1) behind) ≡ Some at →
-    shelves_of (set (x ∷ es) at new) ≡ map (shelf_without key) (shelves_of (x ∷ es))
+    rows_of (set (x ∷ es) at new) ≡ map (row_without key) (rows_of (x ∷ es))
 set_without-by t key {node} new x es {at} was filed rising is true here behind on told =
     let first : zero ≡ at = cc in
-    let own : shelf_of new ≡ shelf_without key (shelf_of x) = rw (← first) at is in
+    let own : row_of new ≡ row_without key (row_of x) = rw (← first) at is in
     let low = rw (eqb-true _ _ here) at rising.0 in
     let rest = above_lack t key _ was (and_right _ _ filed) low in
     rw (← first) (λ i. own i ∷ sym rest i)
@@ -192,15 +192,15 @@ set_without-by t key new x es was filed rising is false other None on told = abs
 set_without-by t key {node} new x es {at} was filed rising is false other (Some n) on told =
     let next : at ≡ suc n = omega (arith, some-injective _ at told) in
     let first = lacks_without t key _ was (and_left _ _ filed) (λ same. eqb-false x.id node.collection other same) in
-    let own : shelf_of new ≡ shelf_without key (shelf_of (get_or es n new)) = rw next at is in
+    let own : row_of new ≡ row_without key (row_of (get_or es n new)) = rw next at is in
     let rest = on n refl own in
     rw next (λ i. sym first i ∷ rest i)
 
--- one entry without the key is all shelves without it
+-- one entry without the key is all rows without it
 set_without : (t : Table Node) (key : NodeKey) {node : Node} (new : Entry) (es : List Entry) {at : ℕ} → node_at t key ≡ Some node →
-    are_filed t (shelves_of es) ≡ true → AreRising (shelves_of es) → place_in node.collection es ≡ Some at →
-    shelf_of new ≡ shelf_without key (shelf_of (get_or es at new)) →
-    shelves_of (set es at new) ≡ map (shelf_without key) (shelves_of es)
+    are_filed t (rows_of es) ≡ true → AreRising (rows_of es) → place_in node.collection es ≡ Some at →
+    row_of new ≡ row_without key (row_of (get_or es at new)) →
+    rows_of (set es at new) ≡ map (row_without key) (rows_of es)
 set_without t key new [] was filed rising told is = absurd (cc)
 set_without t key {node} new (x ∷ es) was filed rising told is =
     set_without-by t key new x es was filed rising is _ refl _
@@ -209,15 +209,15 @@ set_without t key {node} new (x ∷ es) was filed rising told is =
 -- so where the entry at the place lost the key
 pub set_forgotten : (t : Table Node) (key : NodeKey) {node : Node} (old new : Entry) (es : List Entry) {at : ℕ} →
     node_at t key ≡ Some node →
-    IsStored t (shelves_of es) → place_in node.collection es ≡ Some at → old ≡ get_or es at old →
-    shelf_of new ≡ shelf_without key (shelf_of old) → shelves_of (set es at new) ≡ map (shelf_without key) (shelves_of es)
+    IsStored t (rows_of es) → place_in node.collection es ≡ Some at → old ≡ get_or es at old →
+    row_of new ≡ row_without key (row_of old) → rows_of (set es at new) ≡ map (row_without key) (rows_of es)
 set_forgotten t key old new es {at} was kept told is own = set_without t key new es was kept.filed kept.rising told
-    (own ∙ ap (λ (x : Entry). shelf_without key (shelf_of x)) (is ∙ get_or_default es at old new (place_is _ es at told).within))
+    (own ∙ ap (λ (x : Entry). row_without key (row_of x)) (is ∙ get_or_default es at old new (place_is _ es at told).within))
 
 -- the collection of a node has its entry
-pub never_none : {t : Table Node} (es : List Entry) (key : NodeKey) {node : Node} → IsStored t (shelves_of es) → node_at t key ≡ Some node →
+pub never_none : {t : Table Node} (es : List Entry) (key : NodeKey) {node : Node} → IsStored t (rows_of es) → node_at t key ≡ Some node →
     place_in node.collection es ≡ None → ⊥
 never_none {t} es key {node} ok was none =
     let some = kept_of t _ key _ ok.filed was (ok.there key node was) in
-    let no = shelf_found _ es ∙ ap (option_map shelf_of) (none_in _ es none) in
+    let no = row_found _ es ∙ ap (option_map row_of) (none_in _ es none) in
     false≢true (ap is_some (sym no) ∙ some)

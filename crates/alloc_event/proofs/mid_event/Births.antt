@@ -1,8 +1,8 @@
 -- A birth, after which the forced steps are made at the place of the collection.
 use Rattle.alloc_event.proofs.Common.{◌≡◌, ℕ, ◌==◌, refl, ap, sym, ◌∙◌, subst, true, false, List, [], ◌∷◌, map, get_or}
 use Rattle.alloc_event.proofs.Common.{Option, Some, None, find, HeldBuffer, NodeKey, Table, Change, Entry, Node, Unit}
-use Rattle.alloc_event.proofs.Common.{Collection, IsStored, Shelf, collection_in, forest_of, nodes_with, place_in}
-use Rattle.alloc_event.proofs.Common.{shelves_of, is_of, Handles, collection_or_new, Holdings, MayClose, AreServedByGiven}
+use Rattle.alloc_event.proofs.Common.{Collection, IsStored, CollectionRow, collection_in, forest_of, nodes_with, place_in}
+use Rattle.alloc_event.proofs.Common.{rows_of, is_of, Handles, collection_or_new, Holdings, MayClose, AreServedByGiven}
 use Rattle.alloc_event.proofs.Common.{none_in, place_is, get_or_default, sorted_by, Finishes, Gives, with_birth, before_is}
 use Rattle.alloc_event.proofs.Common.{IsForest, Closes, is_some, false≢true, node_at, collection_at, collection_none}
 use Rattle.forest_store.specs.Forest.{IsPoolOf}
@@ -18,7 +18,7 @@ use Rattle.forest_store.proofs.lists.SameIntervals.{start_of}
 use Rattle.forest_store.proofs.newborns.Newborn.{Above, Root, Child, Gives-same, born_collection, found_above, key_is, above_is}
 use Rattle.forest_store.proofs.newborns.Forest.{keys_before}
 use Rattle.forest_store.proofs.newborns.Quiet.{behind_shown, grown_is, quiet_held, quiet_kept}
-use Rattle.forest_store.proofs.shelves.Putting.{cases_place}
+use Rattle.forest_store.proofs.rows.Putting.{cases_place}
 use Rattle.forest_steps.proofs.mid_event.Stepping.{inside_of}
 use Rattle.forest_steps.proofs.mid_event.GivenKept.{given_at, given_born, given_change, given_put}
 use Rattle.forest_steps.proofs.mid_event.Joining.{here_is, joined}
@@ -40,7 +40,7 @@ found_put new id (c ∷ cs) own =
     rw (other, below, differs) (found_put new id cs own))
 
 -- an entry whose collection is found has a place
-placed_there : (t : Table Node) (id : ℕ) (es : List Entry) → is_some (collection_at (forest_of t (shelves_of es)) id) ≡ true →
+placed_there : (t : Table Node) (id : ℕ) (es : List Entry) → is_some (collection_at (forest_of t (rows_of es)) id) ≡ true →
     (at : ℕ) × (place_in id es ≡ Some at)
 placed_there t id es there = from (place_in id es) refl
   where
@@ -53,7 +53,7 @@ placed_there t id es there = from (place_in id es) refl
 
 -- a calm collection is under way with nothing loose and nothing due
 calm_close : (handles : Handles) {t : Table Node} (us : List Unit) (es : List Entry) (id : ℕ) {at : ℕ} → place_in id es ≡ Some at →
-    IsStored t (shelves_of es) → AreCounted t es → HaveUnits us t es → HaveGiven t (shelves_of es) → MayClose handles t us es at
+    IsStored t (rows_of es) → AreCounted t es → HaveUnits us t es → HaveGiven t (rows_of es) → MayClose handles t us es at
 calm_close handles us [] id told kept all units given = absurd (cc)
 calm_close handles {t} us (x ∷ xs) id {at} told kept all units given =
     let es : List Entry = x ∷ xs in
@@ -62,12 +62,13 @@ calm_close handles {t} us (x ∷ xs) id {at} told kept all units given =
     let is : e ≡ get_or es at e = get_or_default es at x e place.within in
     ready_close handles es id told is all
     (ready_under us es id e told is kept all units (inside_of us es kept units)
-    (subst IsServedByGiven (here_is t es id e told is) (given_at t (shelves_of es) id given)))
+    (subst IsServedByGiven (here_is t es id e told is) (given_at t (rows_of es) id given)))
 
 -- ---- the birth
 
 -- the node above is there, and not gone
-above_in : {t : Table Node} {ss : List Shelf} {id : ℕ} {parent : Option NodeKey} {above : Option Node} → Above t ss id parent above →
+above_in : {t : Table Node} {ss : List CollectionRow} {id : ℕ} {parent : Option NodeKey} {above : Option Node} →
+    Above t ss id parent above →
     IsStored t ss → (n : Node) → above ≡ Some n → (n.gone ≡ false) × In n (collection_or_new (forest_of t ss) id).nodes
 above_in (Root none) kept n is = cc
 above_in {t = t} {ss = ss} {id = id} (Child k m there own here) kept n is =
@@ -80,22 +81,22 @@ above_in {t = t} {ss = ss} {id = id} (Child k m there own here) kept n is =
     )
 
 module _ {t mid : Table Node} {es born_es : List Entry} {us : List Unit} (forest : IsForest t es us) {id : ℕ} {b : Birth}
-    (may : MayChange (forest_of t (shelves_of es)) id (birth_change b)) {key : NodeKey} (ok : IsInserted t mid es born_es id b key) where
-  -- the shelves of the entries before the birth
-  abbrev ss : List Shelf
-  ss = shelves_of es
+    (may : MayChange (forest_of t (rows_of es)) id (birth_change b)) {key : NodeKey} (ok : IsInserted t mid es born_es id b key) where
+  -- the rows of the entries before the birth
+  abbrev ss : List CollectionRow
+  ss = rows_of es
 
   -- the node that the table has under the key of the parent, if the birth names a parent
   abbrev over : Option Node
   over = option_and_then (node_at t) b.parent
 
   -- the node above is there, or the birth is of a root
-  up : Above t (shelves_of es) id b.parent over
+  up : Above t (rows_of es) id b.parent over
   up = above_is t ss forest.kept id b.parent b.attached b.client b.event may
 
   -- the collection as the birth specifies it
   abbrev after : Collection
-  after = with_birth b.parent b.attached b.client b.event key (collection_or_new (forest_of t (shelves_of es)) id)
+  after = with_birth b.parent b.attached b.client b.event key (collection_or_new (forest_of t (rows_of es)) id)
 
   -- the collection before the birth, with the new node behind its nodes
   abbrev child : Collection
@@ -110,11 +111,11 @@ module _ {t mid : Table Node} {es born_es : List Entry} {us : List Unit} (forest
   after_is = grown_is t mid ss forest.kept id b.parent b.attached b.client b.event over up key ok.bears
 
   -- the collection is put among the others, which stay
-  shown : map (collection_in mid) (shelves_of born_es) ≡ put child (map (collection_in t) (shelves_of es))
-  shown = behind_shown t mid ss forest.kept id b.parent b.attached b.client b.event over up key ok.bears (shelves_of born_es) ok.entries
+  shown : map (collection_in mid) (rows_of born_es) ≡ put child (map (collection_in t) (rows_of es))
+  shown = behind_shown t mid ss forest.kept id b.parent b.attached b.client b.event over up key ok.bears (rows_of born_es) ok.entries
 
   -- the collection that was put is found
-  found : collection_at (forest_of mid (shelves_of born_es)) id ≡ Some child
+  found : collection_at (forest_of mid (rows_of born_es)) id ≡ Some child
   found = ap (find (λ (c : Collection). c.id == id)) shown ∙ found_put child id (map (collection_in t) ss) child_id
 
   -- so it is there then
@@ -122,21 +123,21 @@ module _ {t mid : Table Node} {es born_es : List Entry} {us : List Unit} (forest
   child_there = placed_there mid id born_es (ap is_some found)
 
   -- a birth of which nothing follows keeps the store
-  pub kept_born : IsStored mid (shelves_of born_es)
-  kept_born = quiet_kept t mid ss forest.kept id b.parent b.attached b.client b.event over up key ok.bears (shelves_of born_es) ok.entries
+  pub kept_born : IsStored mid (rows_of born_es)
+  kept_born = quiet_kept t mid ss forest.kept id b.parent b.attached b.client b.event over up key ok.bears (rows_of born_es) ok.entries
 
   -- the pages stay
-  pub pool_born : (pool : Holdings) → IsPoolOf pool (forest_of t (shelves_of es)) → IsPoolOf pool (forest_of mid (shelves_of born_es))
+  pub pool_born : (pool : Holdings) → IsPoolOf pool (forest_of t (rows_of es)) → IsPoolOf pool (forest_of mid (rows_of born_es))
   pool_born pool of =
       of ∙ ap (λ (hs : List HeldBuffer). sorted_by start_of (map (λ (h : HeldBuffer). h.pages) hs))
-      (sym (quiet_held t mid ss forest.kept id b.parent b.attached b.client b.event over up key ok.bears (shelves_of born_es) ok.entries))
+      (sym (quiet_held t mid ss forest.kept id b.parent b.attached b.client b.event over up key ok.bears (rows_of born_es) ok.entries))
 
   -- no new one is made
-  begun_is : collection_or_new (forest_of mid (shelves_of born_es)) id ≡ child
+  begun_is : collection_or_new (forest_of mid (rows_of born_es)) id ≡ child
   begun_is = ap (λ (o : Option Collection). unwrap_or o (record { id = id; nodes = []; buffers = None; held = [] })) found
 
   -- and a node has buffers only where some were given
-  given_born_all : HaveGiven mid (shelves_of born_es)
+  given_born_all : HaveGiven mid (rows_of born_es)
   given_born_all =
       subst AreServedByGiven (sym shown)
       (given_put child (map (collection_in t) ss)
@@ -155,7 +156,7 @@ module _ {t mid : Table Node} {es born_es : List Entry} {us : List Unit} (forest
   born_closed {handles} {pool} {now} {behind} closed size = record {
     finishes = joined t ss after refl
         (shown ∙ ap (λ (c : Collection). put c (map (collection_in t) ss)) (sym after_is)) (λ c settles. settles)
-        (subst (λ (c : Collection). Finishes pool.size handles mid (shelves_of born_es) now (shelves_of behind) c) (begun_is ∙ sym after_is)
+        (subst (λ (c : Collection). Finishes pool.size handles mid (rows_of born_es) now (rows_of behind) c) (begun_is ∙ sym after_is)
         closed.settled.finishes);
     gives = Gives-same t mid now key
         (subst (Gives t mid) (key_is t mid ss forest.kept id b.parent b.attached b.client b.event over up key ok.bears) ok.bears.gives)

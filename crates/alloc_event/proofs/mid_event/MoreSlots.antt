@@ -1,6 +1,6 @@
 -- A list of units that got slots which count nothing: what it counts stays.
 use Rattle.alloc_event.proofs.Common.{◌∙◌, List, ◌∷◌, [], map, arith, AllByRecursion, Table, Node, Entry}
-use Rattle.alloc_event.proofs.Common.{Unit, AreUnits, Collection, collection_in, shelves_of, IsForest}
+use Rattle.alloc_event.proofs.Common.{Unit, AreUnits, Collection, collection_in, rows_of, IsForest}
 use Rattle.forest_store.specs.Counts.{Extends, HasUnit}
 
 -- the slots count what they did
@@ -20,6 +20,6 @@ pub forest_longer : (t : Table Node) (es : List Entry) (us next : List Unit) →
 forest_longer t es us next forest longer = record {
   kept = forest.kept;
   counted = forest.counted;
-  units = units_stay us next longer (map (collection_in t) (shelves_of es)) forest.units;
+  units = units_stay us next longer (map (collection_in t) (rows_of es)) forest.units;
   given = forest.given;
 }

@@ -5,9 +5,9 @@ use Rattle.std.proofs.lemmas.Bool.{eqb-true, eqb-false, eq-eqb, ltb-true, ltb-fa
 use Rattle.std.specs.List.{find, AllByRecursion}
 use Rattle.sm_names.proofs.ListLaws.{In}
 use Rattle.sm_names.proofs.SamenessLaws.{either_way, false_if}
-use Rattle.forest_store.specs.Forest.{Collection, is_left, tidied, without_over_in}
+use Rattle.forest_store.specs.Forest.{Collection, is_left, tidied, without_unkept_in}
 use Rattle.forest_store.specs.Settling.{put}
-use Rattle.core_state.specs.Steps.{without_over}
+use Rattle.core_state.specs.Steps.{without_unkept}
 use Rattle.core_state.specs.Whole.{Rise, IsTidy}
 
 -- the ids of collections
@@ -120,19 +120,19 @@ stays c rest tidy = by (tidied c) tidy.tidied tidy.kept
     by t same kept = rw (same, kept) refl
 
 -- where all are tidy, nothing is left out
-pub all_tidy : (cs : List Collection) → ((c : Collection) → In c cs → IsTidy c) → without_over cs ≡ cs
+pub all_tidy : (cs : List Collection) → ((c : Collection) → In c cs → IsTidy c) → without_unkept cs ≡ cs
 all_tidy [] tidy = refl
 all_tidy (c ∷ cs) tidy =
-    stays c (without_over cs) (tidy c (inl refl)) ∙ ap (λ (rest : List Collection). c ∷ rest) (all_tidy cs (λ d on. tidy d (inr on)))
+    stays c (without_unkept cs) (tidy c (inl refl)) ∙ ap (λ (rest : List Collection). c ∷ rest) (all_tidy cs (λ d on. tidy d (inr on)))
 
 -- where all others are tidy, it is enough to look at one
 pub others_tidy : (id : ℕ) (cs : List Collection) → Rise (ids cs) → ((c : Collection) → In c cs → (c.id == id) ≡ false → IsTidy c) →
-    without_over_in id cs ≡ without_over cs
+    without_unkept_in id cs ≡ without_unkept cs
 others_tidy id [] rise tidy = refl
 others_tidy id (c ∷ cs) rise tidy = by (c.id == id) refl (others_tidy id cs rise.1 (λ d on. tidy d (inr on)))
   where
     -- since ids rise, no other has this id, so all others are tidy
-    rest_tidy : c.id ≡ id → without_over cs ≡ cs
+    rest_tidy : c.id ≡ id → without_unkept cs ≡ cs
     rest_tidy is = all_tidy cs (λ d on. tidy d (inr on) (false_if (d.id == id) (λ same.
         let equal : d.id ≡ id = eqb-true d.id id same in
         let less : c.id < d.id = later_apart c cs d rise.0 on in
@@ -145,6 +145,7 @@ others_tidy id (c ∷ cs) rise tidy = by (c.id == id) refl (others_tidy id cs ri
     pick false t rest same = ap (λ (ds : List Collection). t ∷ ds) (sym same)
 
     -- by cases: this collection is the one to look at and the others are tidy, or it is tidy itself
-    by : (here : Bool) → (c.id == id) ≡ here → without_over_in id cs ≡ without_over cs → without_over_in id (c ∷ cs) ≡ without_over (c ∷ cs)
-    by true is on = rw is (pick (is_left (tidied c)) (tidied c) (without_over cs) (rest_tidy (eqb-true c.id id is)))
-    by false is on = rw is (ap (λ (ds : List Collection). c ∷ ds) on ∙ sym (stays c (without_over cs) (tidy c (inl refl) is)))
+    by : (here : Bool) → (c.id == id) ≡ here → without_unkept_in id cs ≡ without_unkept cs →
+        without_unkept_in id (c ∷ cs) ≡ without_unkept (c ∷ cs)
+    by true is on = rw is (pick (is_left (tidied c)) (tidied c) (without_unkept cs) (rest_tidy (eqb-true c.id id is)))
+    by false is on = rw is (ap (λ (ds : List Collection). c ∷ ds) on ∙ sym (stays c (without_unkept cs) (tidy c (inl refl) is)))

@@ -32,7 +32,7 @@ use Rattle.sm_names.proofs.SamenessLaws.{both_ways, false_if, none_or_some, same
 use Rattle.history_laws.proofs.SettledLaws.{In-was_born, find_birth}
 use Rattle.history_laws.proofs.WholeLaws.{IsWhole}
 use Rattle.forest_store.specs.declared.node.End.{End}
-use Rattle.forest_store.specs.Nodes.{is_over}
+use Rattle.forest_store.specs.Nodes.{is_unkept}
 use Rattle.core_state.specs.declared.task.Place.{Place}
 use Rattle.core_state.specs.Shown.{node_after, nodes_after, held_after, collection_after}
 use Rattle.core_state.specs.Steps.{end_by}
@@ -191,7 +191,7 @@ module _ (pool : ℕ) (limits : Bound) (marks : Timeline) (grown : Grows pool li
       pub collection_called : collection_after pool (Called client reply call ∷ marks) theirs ≡ collection_after pool marks theirs
       collection_called = λ i. record {
         id = theirs;
-        nodes = filter (λ n. not (is_over n)) (nodes_called i);
+        nodes = filter (λ n. not (is_unkept n)) (nodes_called i);
         buffers = buffers_of marks theirs;
         held = held_called i;
       }
@@ -218,7 +218,7 @@ collection_beside : (pool ours theirs : ℕ) (earlier later : Timeline) → Same
     collection_after pool later theirs ≡ collection_after pool earlier theirs
 collection_beside pool ours theirs earlier later s other = λ i. record {
   id = theirs;
-  nodes = filter (λ n. not (is_over n)) (s.nodes theirs other i);
+  nodes = filter (λ n. not (is_unkept n)) (s.nodes theirs other i);
   buffers = s.buffers theirs other i;
   held = s.pages theirs other i;
 }

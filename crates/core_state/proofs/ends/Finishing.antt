@@ -18,16 +18,16 @@ use Rattle.sm_names.proofs.ListLaws.{In, In-map, filter-In, map-map}
 use Rattle.sm_names.proofs.SamenessLaws.{and_left, and_right, either_way, or_right}
 use Rattle.forest_store.specs.declared.node.Node.{Node}
 use Rattle.forest_store.specs.Forest.{Collection, Forest, with_nodes, is_left}
-use Rattle.forest_store.specs.Nodes.{is_over}
+use Rattle.forest_store.specs.Nodes.{is_unkept}
 use Rattle.core_state.specs.declared.task.Place.{Place}
 use Rattle.core_state.specs.Shown.{node_after, nodes_after, held_after, collection_after, kept_ids}
-use Rattle.core_state.specs.Steps.{place_of, with_place, without_over}
+use Rattle.core_state.specs.Steps.{place_of, with_place, without_unkept}
 use Rattle.core_state.proofs.ends.NotRead.{placed_node, placed_in}
 use Rattle.core_state.proofs.collections.Ids.{ids, kept_are}
 use Rattle.core_state.proofs.ends.Forgotten.{left_after}
 use Rattle.core_state.proofs.lists.Maps.{filter-filter}
 use Rattle.core_state.proofs.theorem.Follows.{Matches}
-use Rattle.core_state.proofs.views.Nodes.{not_over}
+use Rattle.core_state.proofs.views.Nodes.{not_unkept}
 use Rattle.core_state.proofs.collections.Replacing.{filter-map_asked, map-asked, map-stays}
 
 -- ---- an end elsewhere
@@ -43,13 +43,13 @@ placed_collections (Some place) f = refl
 
 -- the collection with that end there and without the nodes that are over
 abbrev pub finished : Option Place → Collection → Collection
-finished o c = with_nodes (filter (λ n. not (is_over n))) (placed_in (place_of o) c)
+finished o c = with_nodes (filter (λ n. not (is_unkept n))) (placed_in (place_of o) c)
 
 -- among collections by their ids, those that are left
 pub finished_ids : (o : Option Place) (f : Forest) (w : ℕ → Collection) (k : ℕ → Bool) (ds : List ℕ) → f.collections ≡ map w (filter k ds) →
-    without_over (with_place o f).collections ≡ map (λ d. finished o (w d)) (filter (λ d. k d && not (is_left (finished o (w d)))) ds)
+    without_unkept (with_place o f).collections ≡ map (λ d. finished o (w d)) (filter (λ d. k d && not (is_left (finished o (w d)))) ds)
 finished_ids o f w k ds is =
-    let over : Collection → Collection = with_nodes (filter (λ n. not (is_over n))) in
+    let over : Collection → Collection = with_nodes (filter (λ n. not (is_unkept n))) in
     let made : map over (with_place o f).collections ≡ map (λ d. finished o (w d)) (filter k ds) =
     ap (map over) (placed_collections o f ∙ ap (map (placed_in (place_of o))) is)
     ∙ (map-map over (placed_in (place_of o)) (map w (filter k ds)) ∙ map-map (finished o) w (filter k ds)) in
@@ -64,7 +64,7 @@ ComesTo pool o w k marks d =
 pub finished_kept : (pool : ℕ) (limits : Bound) (marks : Timeline) → Grows pool limits [] marks → (o : Option Place) (f : Forest) (w : ℕ →
     Collection) (k : ℕ → Bool) →
     f.collections ≡ map w (filter k (ids (births marks))) → ((d : ℕ) → In d (ids (births marks)) → ComesTo pool o w k marks d) →
-    without_over (with_place o f).collections ≡ map (collection_after pool marks) (kept_ids marks)
+    without_unkept (with_place o f).collections ≡ map (collection_after pool marks) (kept_ids marks)
 finished_kept pool limits marks grown o f w k is each =
     finished_ids o f w k (ids (births marks)) is
     ∙ (map-asked (λ d. finished o (w d)) (collection_after pool marks) (λ d. k d && not (is_left (finished o (w d))))
@@ -94,7 +94,7 @@ pub left_finished : (o : Option Place) (c : Collection) → is_left c ≡ true �
 left_finished o c h =
     let none : c.nodes ≡ [] = no_length c.nodes (and_left (length c.nodes == 0) _ h) in
     let pages : (length c.held == 0) ≡ true = and_right (length c.nodes == 0) _ h in
-    (λ i. length (filter (λ n. not (is_over n)) (map (placed_node (place_of o)) (none i))) == 0 && length c.held == 0) ∙ pages
+    (λ i. length (filter (λ n. not (is_unkept n)) (map (placed_node (place_of o)) (none i))) == 0 && length c.held == 0) ∙ pages
 
 -- ---- a collection that follows the marks
 
@@ -113,17 +113,17 @@ over_mark marks mark node over =
     parts false t h = cc
 
 -- a node that is over stays so
-over_stays : (pool : ℕ) (limits : Bound) (marks later : Timeline) → Grows pool limits marks later → (node : NodeKey) →
+unkept_stays : (pool : ℕ) (limits : Bound) (marks later : Timeline) → Grows pool limits marks later → (node : NodeKey) →
     is_kept marks node ≡ false → is_kept later node ≡ false
-over_stays pool limits marks _ Stays node over = over
-over_stays pool limits marks _ (Answers before client reply call g answer) node over =
-    over_mark before (Called client reply call) node (over_stays pool limits marks before g node over)
-over_stays pool limits marks _ (Loses before origin cause g born) node over =
-    over_mark before (Loss origin cause) node (over_stays pool limits marks before g node over)
-over_stays pool limits marks _ (Allocates before collection head g e) node over =
-    over_mark before (Allocated head) node (over_stays pool limits marks before g node over)
-over_stays pool limits marks _ (Ends before collection top g e) node over =
-    over_mark before (Ended top) node (over_stays pool limits marks before g node over)
+unkept_stays pool limits marks _ Stays node over = over
+unkept_stays pool limits marks _ (Answers before client reply call g answer) node over =
+    over_mark before (Called client reply call) node (unkept_stays pool limits marks before g node over)
+unkept_stays pool limits marks _ (Loses before origin cause g born) node over =
+    over_mark before (Loss origin cause) node (unkept_stays pool limits marks before g node over)
+unkept_stays pool limits marks _ (Allocates before collection head g e) node over =
+    over_mark before (Allocated head) node (unkept_stays pool limits marks before g node over)
+unkept_stays pool limits marks _ (Ends before collection top g e) node over =
+    over_mark before (Ended top) node (unkept_stays pool limits marks before g node over)
 
 -- where the collection with that end there follows later marks, and holds what they hold, it comes to what they make of it
 pub finished_is : (pool : ℕ) (limits : Bound) (marks later : Timeline) → Grows pool limits marks later →
@@ -138,7 +138,7 @@ finished_is pool limits marks later g others o c m held = λ i. record {
 }
   where
     -- by cases: a node that is not kept before is over later
-    asks : (n : Node) → In n (nodes_after later c.id) → (is_kept marks n.key && not (is_over n)) ≡ not (is_over n)
+    asks : (n : Node) → In n (nodes_after later c.id) → (is_kept marks n.key && not (is_unkept n)) ≡ not (is_unkept n)
     asks n on =
         let b = In-map (node_after later) (births_in later c.id) n on in
         elim (either_way (is_kept marks n.key)) [
@@ -146,14 +146,15 @@ finished_is pool limits marks later g others o c m held = λ i. record {
           | inr e ↦
               let key : n.key ≡ b.0.node = ap (λ (x : Node). x.key) b.2 in
               let over : is_kept later b.0.node ≡ false =
-              over_stays pool limits marks later g b.0.node (ap (is_kept marks) (sym key) ∙ e) in
-              let now : not (is_over n) ≡ false = ap (λ (x : Node). not (is_over x)) b.2 ∙ (not_over later b.0 ∙ over) in
+              unkept_stays pool limits marks later g b.0.node (ap (is_kept marks) (sym key) ∙ e) in
+              let now : not (is_unkept n) ≡ false = ap (λ (x : Node). not (is_unkept x)) b.2 ∙ (not_unkept later b.0 ∙ over) in
               rw (e, now) refl
         ]
 
     -- by filtering twice, which is filtering by both tests
-    nodes : filter (λ n. not (is_over n)) (map (placed_node (place_of o)) c.nodes) ≡ filter (λ n. not (is_over n)) (nodes_after later c.id)
+    nodes : filter (λ n. not (is_unkept n)) (map (placed_node (place_of o)) c.nodes)
+        ≡ filter (λ n. not (is_unkept n)) (nodes_after later c.id)
     nodes =
-        ap (filter (λ n. not (is_over n))) m.nodes
-        ∙ (filter-filter (λ n. not (is_over n)) (λ (n : Node). is_kept marks n.key) (nodes_after later c.id)
-        ∙ filter-In (λ (n : Node). is_kept marks n.key && not (is_over n)) (λ n. not (is_over n)) (nodes_after later c.id) asks)
+        ap (filter (λ n. not (is_unkept n))) m.nodes
+        ∙ (filter-filter (λ n. not (is_unkept n)) (λ (n : Node). is_kept marks n.key) (nodes_after later c.id)
+        ∙ filter-In (λ (n : Node). is_kept marks n.key && not (is_unkept n)) (λ n. not (is_unkept n)) (nodes_after later c.id) asks)

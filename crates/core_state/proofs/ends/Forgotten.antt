@@ -24,10 +24,10 @@ use Rattle.sm_names.proofs.ListLaws.{In-list_any, In-map, In-map-back, In-any}
 use Rattle.event_laws.proofs.HandleBufferLaws.{open_named}
 use Rattle.forest_store.specs.declared.node.Node.{Node}
 use Rattle.forest_store.specs.Forest.{is_left}
-use Rattle.forest_store.specs.Nodes.{is_over}
+use Rattle.forest_store.specs.Nodes.{is_unkept}
 use Rattle.core_state.proofs.handles.HeldNames.{held_left}
 use Rattle.core_state.proofs.nodes.Members.{in_order}
-use Rattle.core_state.proofs.views.Nodes.{not_over}
+use Rattle.core_state.proofs.views.Nodes.{not_unkept}
 use Rattle.core_state.proofs.views.Held.{held_kept}
 use Rattle.core_state.specs.Shown.{node_after, nodes_after, held_after, collection_after}
 
@@ -48,15 +48,15 @@ left-none test (x ∷ xs) =
 
 -- some node of the collection is left exactly if some is kept
 pub nodes_left : (marks : Timeline) (collection : ℕ) →
-    list_any (λ n. not (is_over n)) (nodes_after marks collection) ≡ list_any (λ (b : Birth).
+    list_any (λ n. not (is_unkept n)) (nodes_after marks collection) ≡ list_any (λ (b : Birth).
     b.collection == collection && is_kept marks b.node) (births marks)
 nodes_left marks collection = both_tests _ _
     (λ h.
-    let a = In-list_any (λ n. not (is_over n)) (nodes_after marks collection) h in
+    let a = In-list_any (λ n. not (is_unkept n)) (nodes_after marks collection) h in
     let m = In-map (node_after marks) (births_in marks collection) a.0 a.1 in
     let b : Birth = m.0 in
     let t = birth_of_collection marks collection b m.1 in
-    let kept : is_kept marks b.node ≡ true = sym (not_over marks b) ∙ (ap (λ (n : Node). not (is_over n)) (sym m.2) ∙ a.2) in
+    let kept : is_kept marks b.node ≡ true = sym (not_unkept marks b) ∙ (ap (λ (n : Node). not (is_unkept n)) (sym m.2) ∙ a.2) in
     In-any (λ (x : Birth). x.collection == collection && is_kept marks x.node) (births marks) b t.0 (and_both (b.collection == collection) _
     t.1 kept))
     (λ h.
@@ -64,8 +64,8 @@ nodes_left marks collection = both_tests _ _
     let b : Birth = a.0 in
     let ours : (b.collection == collection) ≡ true = and_left (b.collection == collection) _ a.2 in
     let kept : is_kept marks b.node ≡ true = and_right (b.collection == collection) _ a.2 in
-    In-any (λ n. not (is_over n)) (nodes_after marks collection) (node_after marks b) (In-map-back (node_after marks)
-    (births_in marks collection) b (in_order marks collection b a.1 (eqb-true b.collection collection ours))) (not_over marks b ∙ kept))
+    In-any (λ n. not (is_unkept n)) (nodes_after marks collection) (node_after marks b) (In-map-back (node_after marks)
+    (births_in marks collection) b (in_order marks collection b a.1 (eqb-true b.collection collection ours))) (not_unkept marks b ∙ kept))
 
 -- ---- collections
 
@@ -73,9 +73,9 @@ nodes_left marks collection = both_tests _ _
 pub left_after : (pool : ℕ) (limits : Bound) (marks : Timeline) → Grows pool limits [] marks → (collection : ℕ) →
     not (is_left (collection_after pool marks collection)) ≡ is_kept_collection marks collection
 left_after pool limits marks g collection =
-    let nodes : (length (filter (λ n. not (is_over n)) (nodes_after marks collection)) == 0) ≡ not (list_any (λ (b : Birth).
+    let nodes : (length (filter (λ n. not (is_unkept n)) (nodes_after marks collection)) == 0) ≡ not (list_any (λ (b : Birth).
     b.collection == collection && is_kept marks b.node) (births marks)) =
-    left-none (λ n. not (is_over n)) (nodes_after marks collection) ∙ ap not (nodes_left marks collection) in
+    left-none (λ n. not (is_unkept n)) (nodes_after marks collection) ∙ ap not (nodes_left marks collection) in
     let pages : (length (held_after pool marks collection) == 0) ≡ (left marks collection == 0) =
     ap (λ (n : ℕ). n == 0) (held_left pool limits marks g collection) in
     (λ i. not (nodes i && pages i)) ∙ parts (list_any (λ (b : Birth). b.collection == collection && is_kept marks b.node) (births marks))

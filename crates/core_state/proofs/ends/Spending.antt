@@ -10,9 +10,9 @@ use Rattle.sm_names.proofs.ListLaws.{In, In-map}
 use Rattle.sm_names.proofs.SamenessLaws.{and_right, false_if, same_key-true}
 use Rattle.forest_store.specs.declared.node.End.{End}
 use Rattle.forest_store.specs.declared.node.Node.{Node}
-use Rattle.forest_store.specs.Forest.{Collection, Forest, SameKeys, all_held, is_left, tidied, with_nodes, without_over_in}
+use Rattle.forest_store.specs.Forest.{Collection, Forest, SameKeys, all_held, is_left, tidied, with_nodes, without_unkept_in}
 use Rattle.forest_store.specs.Nodes.{with_end}
-use Rattle.core_state.specs.Steps.{with_place, without_over}
+use Rattle.core_state.specs.Steps.{with_place, without_unkept}
 use Rattle.core_state.specs.Tasks.{spent_place}
 use Rattle.core_state.specs.Whole.{IsAmid, IsTidy, Rise}
 use Rattle.core_state.proofs.collections.ById.{ids, others_tidy}
@@ -42,14 +42,15 @@ empty nodes (x ∷ xs) left = let none : length (x ∷ xs) ≡ 0 =
     eqb-true (length (x ∷ xs)) 0 (and_right (length nodes == 0) (length (x ∷ xs) == 0) left) in absurd (omega arith)
 
 -- forgetting gives back no pages
-held_left : (cs : List Collection) → flat_map (λ (c : Collection). c.held) (without_over cs) ≡ flat_map (λ (c : Collection). c.held) cs
+held_left : (cs : List Collection) → flat_map (λ (c : Collection). c.held) (without_unkept cs) ≡ flat_map (λ (c : Collection). c.held) cs
 held_left [] = refl
 held_left (c ∷ cs) = by (is_left (tidied c)) refl (held_left cs)
   where
     -- by cases: a collection that is left out holds no pages, and any other keeps them
-    by : (left : Bool) → is_left (tidied c) ≡ left → flat_map (λ (d : Collection). d.held) (without_over cs) ≡ flat_map (λ (d : Collection).
+    by : (left : Bool) → is_left (tidied c) ≡ left → flat_map (λ (d : Collection). d.held) (without_unkept cs)
+        ≡ flat_map (λ (d : Collection).
         d.held) cs →
-        flat_map (λ (d : Collection). d.held) (if not left then tidied c ∷ without_over cs else without_over cs) ≡ c.held ++ flat_map
+        flat_map (λ (d : Collection). d.held) (if not left then tidied c ∷ without_unkept cs else without_unkept cs) ≡ c.held ++ flat_map
         (λ (d : Collection). d.held) cs
     by true is rest = rw (empty (tidied c).nodes c.held is) rest
     by false is rest = ap (λ (hs : List HeldBuffer). c.held ++ hs) rest
@@ -95,7 +96,7 @@ module _ (f : Forest) (id : ℕ) (leaving : Option NodeKey) (amid : IsAmid f id 
       subst IsTidy (sym same) (amid.tidy from.0 from.1 elsewhere)
 
   -- so it is enough to look at that one
-  pub forgets_all : without_over_in id (with_place (spent_place leaving) f).collections ≡ without_over (with_place (spent_place leaving)
+  pub forgets_all : without_unkept_in id (with_place (spent_place leaving) f).collections ≡ without_unkept (with_place (spent_place leaving)
       f).collections
   forgets_all =
       rw (spent_is leaving f)
@@ -104,14 +105,14 @@ module _ (f : Forest) (id : ℕ) (leaving : Option NodeKey) (amid : IsAmid f id 
 
 module _ (f g : Forest) (id : ℕ) (leaving : Option NodeKey) (amid : IsAmid f id leaving)
     (same : SameKeys (with_place (spent_place leaving) f) g)
-    (collections : g.collections ≡ without_over_in id (with_place (spent_place leaving) f).collections) where
+    (collections : g.collections ≡ without_unkept_in id (with_place (spent_place leaving) f).collections) where
   -- the collections are those that are left
-  pub are_left : g.collections ≡ without_over (with_place (spent_place leaving) f).collections
+  pub are_left : g.collections ≡ without_unkept (with_place (spent_place leaving) f).collections
   are_left = collections ∙ forgets_all f id leaving amid
 
   -- the same, over the collections one by one
-  are_left_of : g.collections ≡ without_over (map (spent_in_one leaving) f.collections)
-  are_left_of = are_left ∙ ap without_over (spent_is leaving f)
+  are_left_of : g.collections ≡ without_unkept (map (spent_in_one leaving) f.collections)
+  are_left_of = are_left ∙ ap without_unkept (spent_is leaving f)
 
   -- no page was given back
   pub same_held : all_held g ≡ all_held f

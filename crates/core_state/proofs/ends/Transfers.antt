@@ -11,9 +11,9 @@ use Rattle.sm_names.proofs.ListLaws.{In, In-filter, In-map, filter-all}
 use Rattle.forest_store.specs.declared.node.End.{End}
 use Rattle.forest_store.specs.declared.node.Node.{Node}
 use Rattle.forest_store.specs.Forest.{Collection, Forest, SameKeys, all_held, node_at, with_nodes}
-use Rattle.forest_store.specs.Nodes.{is_over, is_spent, with_end}
+use Rattle.forest_store.specs.Nodes.{is_unkept, is_spent, with_end}
 use Rattle.core_state.specs.declared.task.Place.{Place}
-use Rattle.core_state.specs.Steps.{with_place, without_over}
+use Rattle.core_state.specs.Steps.{with_place, without_unkept}
 use Rattle.core_state.specs.Whole.{CanCarry, IsSound, IsTidy}
 use Rattle.core_state.proofs.collections.ById.{all_tidy}
 
@@ -28,7 +28,7 @@ module _ (key : NodeKey) (end : End) (unspent : is_spent end ≡ false) where
   placed_held (c ∷ cs) = ap (λ (hs : List HeldBuffer). c.held ++ hs) (placed_held cs)
 
   -- a node that was not over is not over
-  still_there : (n : Node) → is_over n ≡ false → is_over (with_end key end n) ≡ false
+  still_there : (n : Node) → is_unkept n ≡ false → is_unkept (with_end key end n) ≡ false
   still_there n before = by n.gone (same_key key n.key) before
     where
       by : (gone same : Bool) → (gone && is_spent n.end) ≡ false → (gone && is_spent (if same then end else n.end)) ≡ false
@@ -37,18 +37,18 @@ module _ (key : NodeKey) (end : End) (unspent : is_spent end ≡ false) where
       by true false before = before
 
   -- nodes of which none was over
-  none_over : (nodes : List Node) → filter (λ (n : Node). not (is_over n)) nodes ≡ nodes →
-      filter (λ (n : Node). not (is_over n)) (map (with_end key end) nodes) ≡ map (with_end key end) nodes
-  none_over nodes tidy = filter-all (λ (n : Node). not (is_over n)) (map (with_end key end) nodes) (λ n there.
+  none_unkept : (nodes : List Node) → filter (λ (n : Node). not (is_unkept n)) nodes ≡ nodes →
+      filter (λ (n : Node). not (is_unkept n)) (map (with_end key end) nodes) ≡ map (with_end key end) nodes
+  none_unkept nodes tidy = filter-all (λ (n : Node). not (is_unkept n)) (map (with_end key end) nodes) (λ n there.
       let from = In-map (with_end key end) nodes n there in
-      let before = In-filter (λ (m : Node). not (is_over m)) nodes from.0 (subst (In from.0) (sym tidy) from.1) in
-      let after : is_over (with_end key end from.0) ≡ false = still_there from.0 (not-true (is_over from.0) before.1) in
+      let before = In-filter (λ (m : Node). not (is_unkept m)) nodes from.0 (subst (In from.0) (sym tidy) from.1) in
+      let after : is_unkept (with_end key end from.0) ≡ false = still_there from.0 (not-true (is_unkept from.0) before.1) in
       rw (from.2, after) refl)
 
   -- a tidy collection stays tidy
   placed_tidy : (c : Collection) → IsTidy c → IsTidy (placed_in c)
   placed_tidy c tidy = record {
-    tidied = λ i. record c { nodes = none_over c.nodes (ap (λ (d : Collection). d.nodes) tidy.tidied) i };
+    tidied = λ i. record c { nodes = none_unkept c.nodes (ap (λ (d : Collection). d.nodes) tidy.tidied) i };
     kept = rw (length-map c.nodes) tidy.kept;
   }
 
@@ -59,7 +59,7 @@ module _ (f : Forest) (sound : IsSound f) (key : NodeKey) (end : End) (here : No
   g = with_place (Some (record { key = key; end = end })) f
 
   -- nothing is over
-  pub carried_tidy : g.collections ≡ without_over g.collections
+  pub carried_tidy : g.collections ≡ without_unkept g.collections
   carried_tidy = sym (all_tidy g.collections (λ c on.
       let from = In-map (placed_in key end unspent) f.collections c on in
       subst IsTidy (sym from.2) (placed_tidy key end unspent from.0 (sound.tidy from.0 from.1))))
@@ -70,7 +70,7 @@ module _ (f : Forest) (sound : IsSound f) (key : NodeKey) (end : End) (here : No
 
 -- the forest once the end that is moved, if one is, has its new holder
 pub record Carries (f g : Forest) : Type 0 where
-  pub tidy : g.collections ≡ without_over g.collections
+  pub tidy : g.collections ≡ without_unkept g.collections
   pub held : all_held g ≡ all_held f
   pub same : SameKeys f g
 

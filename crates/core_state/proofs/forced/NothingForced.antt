@@ -27,7 +27,7 @@ use Rattle.forest_store.specs.Settling.{Handles, buffer_names, standing}
 use Rattle.core_state.specs.declared.task.Place.{Place}
 use Rattle.core_state.specs.Shown.{IsAfter, held_after, collection_after, kept_ids}
 use Rattle.core_state.specs.State.{State}
-use Rattle.core_state.specs.Steps.{end_by, place_of, with_place, without_over}
+use Rattle.core_state.specs.Steps.{end_by, place_of, with_place, without_unkept}
 use Rattle.core_state.proofs.forced.CallStep.{IsIdle, births_idle, follows_idle, held_idle}
 use Rattle.core_state.proofs.ends.NotRead.{placed_in, standing_placed}
 use Rattle.core_state.proofs.ends.Finishing.{finished, ComesTo, finished_is, finished_kept, left_finished}
@@ -119,7 +119,7 @@ module _ (s : State) (marks : Timeline) (shown : IsAfter s marks) (limits : Boun
       ]
 
   -- so what is left is what the marks keep
-  pub idle_collections : without_over (with_place (end_by client call reply) s.forest).collections ≡ map
+  pub idle_collections : without_unkept (with_place (end_by client call reply) s.forest).collections ≡ map
       (collection_after s.pool (Called client reply call ∷ marks)) (kept_ids (Called client reply call ∷ marks))
   idle_collections =
       let born : births called ≡ births marks =

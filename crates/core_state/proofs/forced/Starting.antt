@@ -26,7 +26,7 @@ use Rattle.sm_names.proofs.ListLaws.{In, In-filter, In-list_any, In-map, filter-
 use Rattle.sm_names.proofs.SamenessLaws.{either_way, false_if, both_ways, or_left, both_tests}
 use Rattle.forest_store.specs.declared.node.Node.{Node}
 use Rattle.forest_store.specs.Forest.{Collection, all_held, beside, pages_in}
-use Rattle.forest_store.specs.Nodes.{is_over}
+use Rattle.forest_store.specs.Nodes.{is_unkept}
 use Rattle.forest_store.specs.Settling.{collection_or_new}
 use Rattle.core_state.specs.Shown.{IsAfter, node_after, nodes_after, held_after, collection_after, kept_ids}
 use Rattle.core_state.specs.State.{State}
@@ -34,7 +34,7 @@ use Rattle.core_state.proofs.collections.MarksApart.{is_beside, pages_beside}
 use Rattle.core_state.proofs.nodes.Ancestors.{Keeps, nodes_kept}
 use Rattle.core_state.proofs.theorem.Follows.{Matches}
 use Rattle.core_state.proofs.lists.Reorderings.{Mixed, In-mixed, In-mixed_back, mixed_filter, mixed_map}
-use Rattle.core_state.proofs.views.Nodes.{collection_kept, collection_is, not_over}
+use Rattle.core_state.proofs.views.Nodes.{collection_kept, collection_is, not_unkept}
 use Rattle.core_state.proofs.views.Held.{mixed_held}
 
 -- ---- pages
@@ -94,9 +94,9 @@ module _ (s : State) (marks : Timeline) (shown : IsAfter s marks) (limits : Boun
 
   -- the nodes of a collection that the state has are those that are kept
   pub nodes_same : (id : ℕ) → (collection_after s.pool marks id).nodes ≡ nodes_kept (is_kept marks) marks id
-  nodes_same id = filter-In (λ n. not (is_over n)) (λ (n : Node). is_kept marks n.key) (nodes_after marks id) (λ n on.
+  nodes_same id = filter-In (λ n. not (is_unkept n)) (λ (n : Node). is_kept marks n.key) (nodes_after marks id) (λ n on.
       let m = In-map (node_after marks) (births_in marks id) n on in
-      ap (λ (x : Node). not (is_over x)) m.2 ∙ (not_over marks m.0 ∙ ap (λ (x : Node). is_kept marks x.key) (sym m.2)))
+      ap (λ (x : Node). not (is_unkept x)) m.2 ∙ (not_unkept marks m.0 ∙ ap (λ (x : Node). is_kept marks x.key) (sym m.2)))
 
   -- nothing is forgotten that is not gone
   pub keeps_left : Keeps (is_kept marks) marks
@@ -158,7 +158,7 @@ module _ (s : State) (marks : Timeline) (shown : IsAfter s marks) (limits : Boun
       collection_after s.pool marks id ≡ record { id = id; nodes = []; buffers = None; held = [] }
   still_empty id late = λ i. record {
     id = id;
-    nodes = filter (λ n. not (is_over n)) (map (node_after marks) (none_born id late i));
+    nodes = filter (λ n. not (is_unkept n)) (map (node_after marks) (none_born id late i));
     buffers = not_given id late i;
     held = none_held id (not_given id late) i;
   }

@@ -25,12 +25,12 @@ use Rattle.sm_names.proofs.ListLaws.{In, In-filter, In-map, filter-all}
 use Rattle.sm_names.proofs.SamenessLaws.{either_way, both_ways, false_if, same_key-true}
 use Rattle.forest_store.specs.declared.node.Node.{Node}
 use Rattle.forest_store.specs.Forest.{Collection, Forest, beside, is_left}
-use Rattle.forest_store.specs.Nodes.{is_over}
+use Rattle.forest_store.specs.Nodes.{is_unkept}
 use Rattle.forest_store.specs.Settling.{Handles, Settled, Settles, changed, collection_or_new, given_back, no_key, put}
 use Rattle.core_state.specs.declared.task.Place.{Place}
 use Rattle.core_state.specs.Shown.{IsAfter, node_after, nodes_after, held_after, collection_after, kept_ids}
 use Rattle.core_state.specs.State.{State}
-use Rattle.core_state.specs.Steps.{Work, end_by, place_of, with_place, without_over}
+use Rattle.core_state.specs.Steps.{Work, end_by, place_of, with_place, without_unkept}
 use Rattle.core_state.proofs.collections.Elsewhere.{came, named_in, collects_end, ends_named, collection_elsewhere}
 use Rattle.core_state.proofs.ends.NotRead.{placed_node, placed_in, settles_placed, given_placed}
 use Rattle.core_state.proofs.ends.Finishing.{finished, ComesTo, finished_is, finished_kept}
@@ -180,14 +180,14 @@ module _ (s : State) (marks : Timeline) (shown : IsAfter s marks) (limits : Boun
         let c : Collection = collection_after s.pool marks d in
         let ends : map (placed_node (place_of moved)) c.nodes ≡ c.nodes =
         map-stays (placed_node (place_of moved)) c.nodes (λ n on. stays n (birth_there n on)) in
-        let none_over : filter (λ n. not (is_over n)) c.nodes ≡ c.nodes =
-        filter-all (λ n. not (is_over n)) c.nodes (λ n on. (In-filter (λ n. not (is_over n)) (nodes_after marks d) n on).1) in
-        λ i. record c { nodes = (ap (filter (λ n. not (is_over n))) ends ∙ none_over) i }
+        let none_unkept : filter (λ n. not (is_unkept n)) c.nodes ≡ c.nodes =
+        filter-all (λ n. not (is_unkept n)) c.nodes (λ n on. (In-filter (λ n. not (is_unkept n)) (nodes_after marks d) n on).1) in
+        λ i. record c { nodes = (ap (filter (λ n. not (is_unkept n))) ends ∙ none_unkept) i }
       where
         birth_there : (n : Node) → In n (collection_after s.pool marks d).nodes → (b : Birth) × In b (births marks) × (b.collection ≡ d) ×
             (n.key ≡ b.node)
         birth_there n on =
-            let m = In-map (node_after marks) (births_in marks d) n (In-filter (λ n. not (is_over n)) (nodes_after marks d) n on).0 in
+            let m = In-map (node_after marks) (births_in marks d) n (In-filter (λ n. not (is_unkept n)) (nodes_after marks d) n on).0 in
             let t = birth_of_collection marks d m.0 m.1 in
             (m.0, t.0, eqb-true m.0.collection d t.1, ap (λ (x : Node). x.key) m.2)
 
@@ -281,7 +281,7 @@ module _ (s : State) (marks : Timeline) (shown : IsAfter s marks) (limits : Boun
         (ids (births later)) (ids_rise s.pool limits later grown_later) out_listed)
 
     -- so what is left is what the marks keep
-    pub worked_collections : without_over (with_place (end_by client call reply) worked).collections ≡ map
+    pub worked_collections : without_unkept (with_place (end_by client call reply) worked).collections ≡ map
         (collection_after s.pool (after s.pool marks (client, call, reply))) (kept_ids (after s.pool marks (client, call, reply)))
     worked_collections =
         finished_kept s.pool limits later grown_later moved worked (with_new (collection_after s.pool marks) (λ d. refl) out) (λ d.

@@ -25,7 +25,7 @@ use Rattle.core_state.specs.declared.task.Task.{Task}
 use Rattle.core_state.specs.Hands.{collects_handle}
 use Rattle.core_state.specs.Reads.{open_end_of, readings_of, world_in}
 use Rattle.core_state.specs.State.{State, counts_of}
-use Rattle.core_state.specs.Steps.{Follows, GainsTracker, end_by, swept, tracker_by, with_place, without_over, work_of}
+use Rattle.core_state.specs.Steps.{Follows, GainsTracker, end_by, swept, tracker_by, with_place, without_unkept, work_of}
 use Rattle.core_state.specs.Tasks.{DoesSome, MayDo, Parts, Reworked, SpendsThere, TakesEffect, carried_by, with_key}
 use Rattle.core_state.specs.Tasks.{end_placed, spent_by, spent_in, spent_place, takes_room, work_in, work_on}
 use Rattle.core_state.specs.Whole.{CanCarry, CanFinish}
@@ -227,7 +227,7 @@ module _ (s : State) (client : ℕ) (call : Call) (asked reply : Reply) (task : 
               (there.0.0, rw same there.0.1, there.0.2, there.1)
 
       module _ (forest : Forest) (trackers : TrackerTable)
-          (collections : forest.collections ≡ without_over (with_place (end_placed task carried)
+          (collections : forest.collections ≡ without_unkept (with_place (end_placed task carried)
           parts.forest).collections) (keys : SameKeys parts.forest forest)
           (sweeps : trackers ≡ swept (world_in parts.forest (total parts.holds)) (s.events + 1) parts.trackers) where
         -- the state after the event
@@ -259,7 +259,7 @@ module _ (s : State) (client : ℕ) (call : Call) (asked reply : Reply) (task : 
               ∙ sym (same_handles client call asked takes.key (counts_of s.holds));
           worked = parts.forest;
           work = worked_is (total parts.holds) s client call asked task takes.key parts.forest b.work made takes.work;
-          collections = collections ∙ ap (λ (o : Option Place). without_over (with_place o parts.forest).collections) placed_is;
+          collections = collections ∙ ap (λ (o : Option Place). without_unkept (with_place o parts.forest).collections) placed_is;
           keys = keys;
           attached = parts.trackers;
           gains = subst (λ (o : Option Waiting). GainsTracker s.trackers o parts.trackers) (b.tracks

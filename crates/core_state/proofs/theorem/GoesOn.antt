@@ -28,7 +28,7 @@ use Rattle.event_laws.proofs.MomentLaws.{events_after}
 use Rattle.core_state.specs.Reads.{readings_of}
 use Rattle.core_state.specs.Shown.{IsAfter, Shows, collection_after, handles_after, kept_ids}
 use Rattle.core_state.specs.State.{HandleCounts, State, counts_of}
-use Rattle.core_state.specs.Steps.{Follows, Work, Worked, clients_by, end_by, handles_by, with_place, without_over, work_of}
+use Rattle.core_state.specs.Steps.{Follows, Work, Worked, clients_by, end_by, handles_by, with_place, without_unkept, work_of}
 use Rattle.core_state.specs.Theorem.{GoesOn}
 use Rattle.core_state.proofs.forced.CallStep.{IsIdle}
 use Rattle.core_state.proofs.answers.Changes.{idle, starts}
@@ -62,19 +62,19 @@ module _ (s : State) (marks : Timeline) (shown : IsAfter s marks) (limits : Boun
   module _ (handles : Handles) (counts : Counts handles (Called client reply call ∷ marks)) (worked : Forest)
       (work : Worked s handles (work_of s client call reply) (new_key reply) worked) where
     -- the collections that are left are those that the marks keep
-    left_collections : without_over (with_place (end_by client call reply) worked).collections ≡ map
+    left_collections : without_unkept (with_place (end_by client call reply) worked).collections ≡ map
         (collection_after s.pool (after s.pool marks (client, call, reply))) (kept_ids (after s.pool marks (client, call, reply)))
     left_collections = from (work_of s client call reply) refl work
       where
         -- the collections agree, whether or not the event does work on one of them
         from : (o : Option Work) → work_of s client call reply ≡ o → Worked s handles o (new_key reply) worked →
-            without_over (with_place (end_by client call reply) worked).collections ≡ map
+            without_unkept (with_place (end_by client call reply) worked).collections ≡ map
             (collection_after s.pool (after s.pool marks (client, call, reply))) (kept_ids (after s.pool marks (client, call, reply)))
         from None e same =
             let i : IsIdle marks client reply call = idle s marks shown limits grown client reply call answer e in
             let now : after s.pool marks (client, call, reply) ≡ called =
             idle_after s marks shown limits grown client reply call answer i rests in
-            ap (λ (f : Forest). without_over (with_place (end_by client call reply) f).collections) same
+            ap (λ (f : Forest). without_unkept (with_place (end_by client call reply) f).collections) same
             ∙ (idle_collections s marks shown limits grown client reply call answer i rests
             ∙ ap (λ (t : Timeline). map (collection_after s.pool t) (kept_ids t)) (sym now))
         from (Some w) e settled =

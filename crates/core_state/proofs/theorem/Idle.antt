@@ -16,7 +16,7 @@ use Rattle.forest_store.specs.Settling.{no_key}
 use Rattle.core_state.specs.Hands.{MovesHandles}
 use Rattle.core_state.specs.Reads.{readings_of, world_in}
 use Rattle.core_state.specs.State.{Client, State}
-use Rattle.core_state.specs.Steps.{Follows, client_by, clients_by, swept, tracker_by, without_over, work_of}
+use Rattle.core_state.specs.Steps.{Follows, client_by, clients_by, swept, tracker_by, without_unkept, work_of}
 use Rattle.trackers.specs.declared.waiting.Waiting.{Waiting}
 use Rattle.trackers.specs.Table.{is_due}
 use Rattle.core_state.specs.Tasks.{Parts, TakesEffect, carried_by, changes_nothing, with_key, spent_by}
@@ -187,7 +187,7 @@ pub record Idles (s : State) (client : ℕ) (call : Call) (asked : Reply) : Type
   pub begins : Begins s client call asked None None
   pub takes : TakesEffect s.pool (parts_of s) (parts_of s) client call asked None None asked
   pub carries : None ≡ carried_by client call asked
-  pub tidy : s.forest.collections ≡ without_over s.forest.collections
+  pub tidy : s.forest.collections ≡ without_unkept s.forest.collections
   pub still : s.trackers ≡ swept (world_in s.forest (total s.holds)) (s.events + 1) s.trackers
 
 -- an idle call takes effect on a whole core without a change, and makes no tracker due

@@ -41,7 +41,7 @@ use Rattle.trackers.specs.Table.{is_due}
 use Rattle.buffer_holds.specs.Counts.{total}
 use Rattle.forest_store.specs.declared.node.Node.{Node}
 use Rattle.forest_store.specs.Forest.{Collection, given, is_left}
-use Rattle.forest_store.specs.Nodes.{is_over, members_of}
+use Rattle.forest_store.specs.Nodes.{is_unkept, members_of}
 use Rattle.core_state.specs.Reads.{world_in}
 use Rattle.core_state.specs.Shown.{IsAfter, client_after, collection_after, kept_ids, node_after, nodes_after, tracked_as}
 use Rattle.core_state.specs.State.{Client, HandleCounts, State, counts_of}
@@ -56,7 +56,7 @@ use Rattle.core_state.proofs.joined.Numbers.{joined_number}
 use Rattle.core_state.proofs.nodes.Members.{of_collection, one_birth}
 use Rattle.core_state.proofs.views.Ends.{strong_live_is, totals_are}
 use Rattle.core_state.proofs.views.ForTrackers.{none_left, over_gone}
-use Rattle.core_state.proofs.views.Nodes.{collection_forgotten, collection_kept, node_forgotten, node_kept, not_over, spent_end}
+use Rattle.core_state.proofs.views.Nodes.{collection_forgotten, collection_kept, node_forgotten, node_kept, not_unkept, spent_end}
 
 -- ---- numbers that rise
 
@@ -174,13 +174,13 @@ module _ (s : State) (marks : Timeline) (shown : IsAfter s marks) (limits : Boun
       (b.collection ≡ c.id) × (is_kept marks b.node ≡ true) × (n ≡ node_after marks b)
   born_of c on n n_in =
       let k = kept_of c on in
-      let f = In-filter (λ x. not (is_over x)) (nodes_after marks k.0) n (subst (λ (x : Collection). In n x.nodes) k.3 n_in) in
+      let f = In-filter (λ x. not (is_unkept x)) (nodes_after marks k.0) n (subst (λ (x : Collection). In n x.nodes) k.3 n_in) in
       let m = In-map (node_after marks) (births_in marks k.0) n f.0 in
       let b = of_collection marks k.0 m.0 m.1 in (
         m.0,
         b.0,
         b.1 ∙ sym (ap (λ (x : Collection). x.id) k.3),
-        sym (not_over marks m.0) ∙ (ap (λ (x : Node). not (is_over x)) (sym m.2) ∙ f.1),
+        sym (not_unkept marks m.0) ∙ (ap (λ (x : Node). not (is_unkept x)) (sym m.2) ∙ f.1),
         m.2,
       )
 
@@ -226,7 +226,7 @@ module _ (s : State) (marks : Timeline) (shown : IsAfter s marks) (limits : Boun
   tidy_of : (c : Collection) → In c s.forest.collections → IsTidy c
   tidy_of c on =
       let k = kept_of c on in
-      let keep : Node → Bool = λ n. not (is_over n) in
+      let keep : Node → Bool = λ n. not (is_unkept n) in
       let nodes : List Node = nodes_after marks k.0 in
       let still : filter keep (filter keep nodes) ≡ filter keep nodes =
       filter-all keep (filter keep nodes) (λ n there. (In-filter keep nodes n there).1) in

@@ -23,7 +23,7 @@ use Rattle.sm_names.proofs.ListLaws.{In, In-filter, In-filter-back, In-map, In-m
 use Rattle.sm_names.proofs.SamenessLaws.{both_ways, or_none_left, or_none_right, or_cases}
 use Rattle.forest_store.specs.declared.node.Node.{Node}
 use Rattle.forest_store.specs.Forest.{Collection, Forest, beside}
-use Rattle.forest_store.specs.Nodes.{is_over, members_of}
+use Rattle.forest_store.specs.Nodes.{is_unkept, members_of}
 use Rattle.forest_store.specs.Settling.{Handles, Settled, given_back}
 use Rattle.core_state.specs.declared.task.Place.{Place}
 use Rattle.core_state.specs.Shown.{IsAfter, collection_after, held_after, node_after, nodes_after}
@@ -39,7 +39,7 @@ use Rattle.core_state.proofs.theorem.Follows.{Counts, Matches, members_match}
 use Rattle.core_state.proofs.nodes.Members.{in_order}
 use Rattle.core_state.proofs.collections.Replacing.{with_new}
 use Rattle.core_state.proofs.views.Ends.{strong_live_is}
-use Rattle.core_state.proofs.views.Nodes.{not_over}
+use Rattle.core_state.proofs.views.Nodes.{not_unkept}
 use Rattle.core_state.proofs.collections.Roots.{HasRoot, kept_root}
 use Rattle.core_state.proofs.views.Forests.{AreStanding, Stands, standing_seen}
 use Rattle.core_state.proofs.views.ForTrackers.{IsSeen}
@@ -131,14 +131,14 @@ module _ (s : State) (marks : Timeline) (shown : IsAfter s marks) (limits : Boun
     };
     told = λ n on.
         let there : In n (nodes_after later id) =
-        (In-filter (λ n. not (is_over n)) (nodes_after later id) n (subst (λ (c : Collection). In n c.nodes) (sym same) on)).0 in
+        (In-filter (λ n. not (is_unkept n)) (nodes_after later id) n (subst (λ (c : Collection). In n c.nodes) (sym same) on)).0 in
         let b = In-map (node_after later) (births_in later id) n there in
         as_told n b.0 b.2;
     found = λ b on ours kept.
         let there : In (node_after marks b) (nodes_after marks id) =
         In-map-back (node_after marks) (births_in marks id) b (in_order marks id b on ours) in (
           node_after marks b,
-          In-filter-back (λ n. not (is_over n)) (nodes_after marks id) (node_after marks b) there (not_over marks b
+          In-filter-back (λ n. not (is_unkept n)) (nodes_after marks id) (node_after marks b) there (not_unkept marks b
               ∙ kept),
           refl,
         );

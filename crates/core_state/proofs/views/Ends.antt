@@ -27,7 +27,7 @@ use Rattle.buffer_holds.specs.Counts.{total}
 use Rattle.forest_store.specs.declared.node.End.{End}
 use Rattle.forest_store.specs.declared.node.Node.{Node}
 use Rattle.forest_store.specs.Forest.{node_at}
-use Rattle.forest_store.specs.Nodes.{is_over, is_spent, member_of, members_of}
+use Rattle.forest_store.specs.Nodes.{is_unkept, is_spent, member_of, members_of}
 use Rattle.core_state.specs.Reads.{holder_of, is_moving, buffers_in, to_open_in, open_end_of, end_in}
 use Rattle.core_state.specs.Shown.{IsAfter, end_after, node_after, nodes_after, collection_after}
 use Rattle.core_state.specs.State.{HandleCounts, State}
@@ -48,8 +48,9 @@ strong_members nodes =
     ∙ any-left is_strong_live (λ n. not n.gone) nodes (λ n on lost. rw lost refl)
 
 -- so the nodes that are over tell nothing of it
-strong_kept : (nodes : List Node) → list_any is_strong_live (filter (λ n. not (is_over n)) nodes) ≡ list_any is_strong_live nodes
-strong_kept nodes = any-left is_strong_live (λ n. not (is_over n)) nodes (λ n on over. dead n.gone n.released n.weak (is_spent n.end) over)
+strong_kept : (nodes : List Node) → list_any is_strong_live (filter (λ n. not (is_unkept n)) nodes) ≡ list_any is_strong_live nodes
+strong_kept nodes = any-left is_strong_live (λ n. not (is_unkept n)) nodes
+    (λ n on over. dead n.gone n.released n.weak (is_spent n.end) over)
   where
     -- by cases: a strong node that is over is gone
     dead : (g r w s : Bool) → not (g && s) ≡ false → ((not g && not r) && not w) ≡ false

@@ -37,7 +37,7 @@ SeesNode marks later key None = is_kept marks key ≡ false
 SeesNode marks later key (Some n) = (n.gone ≡ gone later key) × (n.allocated ≡ allocated later key)
 
 -- the collection with this id was not kept by the earlier marks, nor is it by the later ones, and was given no more buffers
-pub record IsOver (marks later : Timeline) (id : ℕ) : Type 0 where
+pub record IsUnkept (marks later : Timeline) (id : ℕ) : Type 0 where
   pub before : is_kept_collection marks id ≡ false
   pub now : is_kept_collection later id ≡ false
   pub given : buffers_of later id ≡ buffers_of marks id
@@ -52,7 +52,7 @@ pub record IsThere (later : Timeline) (id : ℕ) (c : Collection) : Type 0 where
 
 -- the collection that is found with this id is as the later marks tell; where none is found, it is over
 abbrev pub SeesCollection : Timeline → Timeline → ℕ → Option Collection → Type 0
-SeesCollection marks later id None = IsOver marks later id
+SeesCollection marks later id None = IsUnkept marks later id
 SeesCollection marks later id (Some c) = IsThere later id c
 
 -- the forest, before it forgets anything, has what the later marks tell, but for what was over by the earlier ones

@@ -17,7 +17,7 @@ use Rattle.forest_store.specs.Settling.{Handles}
 use Rattle.core_state.proofs.collections.Roots.{collection_of_kept}
 use Rattle.core_state.proofs.theorem.Follows.{Counts}
 use Rattle.core_state.proofs.forced.Forest.{node_in, in_all_nodes}
-use Rattle.core_state.proofs.views.ForTrackers.{IsOver, IsSeen, IsThere, SeesCollection, SeesNode}
+use Rattle.core_state.proofs.views.ForTrackers.{IsUnkept, IsSeen, IsThere, SeesCollection, SeesNode}
 
 -- where nothing is found, no element passes
 find_misses : {A B : Type 0} (test : A → Bool) (xs : List A) (x : A) → find test xs ≡ None → In x xs → test x ≡ true → B
@@ -39,7 +39,7 @@ module _ (marks later : Timeline) where
     pub are : worked.collections ≡ map at (filter has ids)
     pub listed : (id : ℕ) → has id ≡ true → In id ids
     pub stands : (id : ℕ) → has id ≡ true → Stands id (at id)
-    pub over : (id : ℕ) → has id ≡ false → IsOver marks later id
+    pub over : (id : ℕ) → has id ≡ false → IsUnkept marks later id
 
   module _ (worked : Forest) (s : AreStanding worked) where
     -- a collection of the forest is one of those that stand

@@ -23,7 +23,7 @@ use Rattle.history_laws.proofs.SumLaws.{any_one}
 use Rattle.forest_store.specs.declared.node.End.{End}
 use Rattle.forest_store.specs.declared.node.Node.{Node}
 use Rattle.forest_store.specs.Forest.{Collection, collection_at, node_at, all_nodes}
-use Rattle.forest_store.specs.Nodes.{is_of, is_over, is_spent}
+use Rattle.forest_store.specs.Nodes.{is_of, is_unkept, is_spent}
 use Rattle.core_state.specs.Shown.{IsAfter, end_after, node_after, collection_after, kept_ids}
 use Rattle.core_state.specs.State.{State}
 use Rattle.core_state.proofs.lists.Parts.{mixed_turned}
@@ -45,8 +45,8 @@ spent_end marks node =
     ]
 
 -- a node is over if it is not kept
-pub not_over : (marks : Timeline) (b : Birth) → not (is_over (node_after marks b)) ≡ is_kept marks b.node
-not_over marks b = ap (λ (s : Bool). not (gone marks b.node && s)) (spent_end marks b.node)
+pub not_unkept : (marks : Timeline) (b : Birth) → not (is_unkept (node_after marks b)) ≡ is_kept marks b.node
+not_unkept marks b = ap (λ (s : Bool). not (gone marks b.node && s)) (spent_end marks b.node)
     ∙ either (gone marks b.node) (spent marks b.node)
   where
     -- by cases on both switches
@@ -73,8 +73,8 @@ pub nodes_of_collection : (pool : ℕ) (marks : Timeline) (collection : ℕ) →
     (collection_after pool marks collection).nodes ≡ map (node_after marks) (kept_in marks collection)
 nodes_of_collection pool marks collection =
     let ours : Birth → Bool = λ (b : Birth). b.collection == collection in
-    filter-map (λ n. not (is_over n)) (node_after marks) (births_in marks collection)
-    ∙ ((λ i. map (node_after marks) (filter (λ b. not_over marks b i) (births_in marks collection)))
+    filter-map (λ n. not (is_unkept n)) (node_after marks) (births_in marks collection)
+    ∙ ((λ i. map (node_after marks) (filter (λ b. not_unkept marks b i) (births_in marks collection)))
     ∙ ap (map (node_after marks)) (filter-reverse (λ (b : Birth). is_kept marks b.node) (filter ours (births marks))
     ∙ ap reverse (filter-swap (λ (b : Birth). is_kept marks b.node) ours (births marks))))
 

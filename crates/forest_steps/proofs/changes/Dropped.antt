@@ -3,13 +3,13 @@ use Rattle.forest_steps.proofs.Common.{◌≡◌, ℕ, ◌<◌, ◌==◌, zero, 
 use Rattle.forest_steps.proofs.Common.{map, length, get_or, set, Option, Some, None, option_map, refl, sym, ap, subst, ◌∙◌, ◌⊎◌}
 use Rattle.forest_steps.proofs.Common.{inl, inr, arith, find, filter, AllByRecursion, option_map_or, Interval, HeldBuffer}
 use Rattle.forest_steps.proofs.Common.{either_way, Table, node_at, Entry, Node, Unit, has_strong, Collection, IsStored, IsWhole}
-use Rattle.forest_steps.proofs.Common.{Shelf, collection_in, forest_of, nodes_with, place_in, put_shelf, shelf_of, shelves_of}
+use Rattle.forest_steps.proofs.Common.{CollectionRow, collection_in, forest_of, nodes_with, place_in, put_row, row_of, rows_of}
 use Rattle.forest_steps.proofs.Common.{members_of, is_root_left, Handles, collection_or_new, put, get_or_default, unwrap_or}
 use Rattle.forest_steps.proofs.Common.{BufferName, Strength, is_home, sorted_by, AreCounted, IsCounted, HaveUnits, decided}
 use Rattle.forest_steps.proofs.Common.{mark_of, are_rest_out, has_given_root, all_held, beside, collection_at, pages_in, Finishes}
 use Rattle.forest_steps.proofs.Common.{Stores, stored, starts_differ, by_page, given_few, is_held_strongly, is_out, pages_held}
 use Rattle.forest_steps.proofs.Common.{given_back, none_calm, forced_made, still_decided, found_filed, found_put, found_whole}
-use Rattle.forest_steps.proofs.Common.{start_of, shelves_put, IsPlace, place_is, set_put, put-map, collection_is, shelf_found}
+use Rattle.forest_steps.proofs.Common.{start_of, rows_put, IsPlace, place_is, set_put, put-map, collection_is, row_found}
 use Rattle.forest_steps.proofs.Common.{and-false, same_buffer-true, filter-list_all, Rests, found_counted, strong_told, kept-put}
 use Rattle.forest_steps.proofs.Common.{list_all, is_filed, strong_count, ◌||◌, list_any, Member, is_strong, member_of}
 use Rattle.sm_names.specs.Members.{some_strong_live, is_live as lives}
@@ -39,9 +39,9 @@ strong_members ns = strong-any ns ns
 
 -- the collection of an entry that is found
 pub strong_found : (t : Table Node) (es : List Entry) (id : ℕ) {e : Entry} → find (λ (x : Entry). x.id == id) es ≡ Some e →
-    option_map_or (λ (c : Collection). some_strong_live (members_of c.nodes)) (collection_at (forest_of t (shelves_of es)) id)
+    option_map_or (λ (c : Collection). some_strong_live (members_of c.nodes)) (collection_at (forest_of t (rows_of es)) id)
     false ≡ list_any is_strong (nodes_with t e.keys.items)
-strong_found t es id {e} found = grind (arith, collection_is, shelf_found, strong_members)
+strong_found t es id {e} found = grind (arith, collection_is, row_found, strong_members)
 
 -- ---- the buffers
 
@@ -91,7 +91,7 @@ one_entry es id {at} x y told is also = is ∙ get_or_default es at x y (place_i
 
 -- a strong node is live by the count, the root has no buffers, or a strong handle is open on these
 pub kept_root : (t : Table Node) (e : Entry) (strong_open : Bool) → list_all (is_filed t e.id) e.keys.items ≡ true →
-    IsWhole (collection_in t (shelf_of e)) → e.strong ≡ strong_count (nodes_with t e.keys.items) →
+    IsWhole (collection_in t (row_of e)) → e.strong ≡ strong_count (nodes_with t e.keys.items) →
     (nat_lt 0 e.strong ≡ true) ⊎ ((has_given_root t e.keys.items && not strong_open) ≡ false) →
     (has_strong (nodes_with t e.keys.items) ≡ true)
     ⊎ ((option_map_or (λ (root : Node). root.allocated) (find is_root_left (nodes_with t e.keys.items)) false && not strong_open) ≡ false)
@@ -105,14 +105,14 @@ kept_root t e strong_open filed whole counts (inr none) = inr (elim (either_way 
 ])
 
 module _ (handles : Handles) {t : Table Node} (es : List Entry) (id : ℕ) {at : ℕ} (old : Entry) (told : place_in id es ≡ Some at)
-    (is : old ≡ get_or es at old) (kept : IsStored t (shelves_of es)) (all : AreCounted t es) where
-  -- the shelves of all the entries
-  abbrev ss : List Shelf
-  ss = shelves_of es
+    (is : old ≡ get_or es at old) (kept : IsStored t (rows_of es)) (all : AreCounted t es) where
+  -- the rows of all the entries
+  abbrev ss : List CollectionRow
+  ss = rows_of es
 
   -- the collection that the table and the old entry hold
   abbrev c : Collection
-  c = collection_in t (shelf_of old)
+  c = collection_in t (row_of old)
 
   -- the entry is found at its place
   place : IsPlace id es at
@@ -126,28 +126,28 @@ module _ (handles : Handles) {t : Table Node} (es : List Entry) (id : ℕ) {at :
   found : find (λ (e : Entry). e.id == id) es ≡ Some old
   found = place.found old ∙ ap Some (sym is)
 
-  -- the shelf of the entry is found where the entry is
-  shelf_is : find (λ (x : Shelf). x.id == id) (shelves_of es) ≡ Some (shelf_of old)
-  shelf_is = shelf_found id es ∙ ap (option_map shelf_of) found
+  -- the row of the entry is found where the entry is
+  row_is : find (λ (x : CollectionRow). x.id == id) (rows_of es) ≡ Some (row_of old)
+  row_is = row_found id es ∙ ap (option_map row_of) found
 
   -- each entry is counted
   counted : IsCounted t old
   counted = found_counted t id es old all found
 
   -- each collection is whole
-  whole : IsWhole (collection_in t (shelf_of old))
-  whole = found_whole t id ss _ kept.whole shelf_is
+  whole : IsWhole (collection_in t (row_of old))
+  whole = found_whole t id ss _ kept.whole row_is
 
   -- it was given few buffers
   pub few_at : given_few old.buffers ≡ true
   few_at = whole.sound.few
 
-  -- the forest has the collection of each shelf
-  there : collection_at (forest_of t (shelves_of es)) id ≡ Some (collection_in t (shelf_of old))
-  there = collection_is t id ss ∙ ap (option_map (collection_in t)) shelf_is
+  -- the forest has the collection of each row
+  there : collection_at (forest_of t (rows_of es)) id ≡ Some (collection_in t (row_of old))
+  there = collection_is t id ss ∙ ap (option_map (collection_in t)) row_is
 
   -- it is there, so no new one is made
-  before_is : collection_or_new (forest_of t (shelves_of es)) id ≡ collection_in t (shelf_of old)
+  before_is : collection_or_new (forest_of t (rows_of es)) id ≡ collection_in t (row_of old)
   before_is = ap (λ o. unwrap_or o (record { id = id; nodes = []; buffers = None; held = [] })) there
 
   -- a strong node lives exactly if the count is not 0
@@ -155,7 +155,7 @@ module _ (handles : Handles) {t : Table Node} (es : List Entry) (id : ℕ) {at :
   live = strong_members (nodes_with t old.keys.items) ∙ sym (strong_told (nodes_with t old.keys.items) _ counted.strong)
 
   -- its other buffers are out
-  pub rest_at : (buffer : BufferName) → option_map_or (are_others_out handles buffer) (collection_at (forest_of t (shelves_of es)) id)
+  pub rest_at : (buffer : BufferName) → option_map_or (are_others_out handles buffer) (collection_at (forest_of t (rows_of es)) id)
       false ≡ true → are_rest_out handles buffer (nat_lt 0 old.strong) old.held.items ≡ true
   rest_at buffer out = grind (arith, live, there)
 
@@ -164,42 +164,42 @@ module _ (handles : Handles) {t : Table Node} (es : List Entry) (id : ℕ) {at :
       ⊎ ((has_given_root t old.keys.items && not (is_held_strongly handles old.id old.buffers)) ≡ false) →
       decided (nodes_with t old.keys.items) old.buffers (is_held_strongly handles old.id old.buffers) ≡ None
   decides_none why = still_decided _ _ _ (none_calm c counted.calm)
-      (kept_root t old _ (found_filed t id ss _ kept.filed shelf_is) whole counted.strong why)
+      (kept_root t old _ (found_filed t id ss _ kept.filed row_is) whole counted.strong why)
 
   -- the same with the entry's own id
-  own_found : find (λ (x : Shelf). x.id == old.id) (shelves_of es) ≡ Some (shelf_of old)
-  own_found = subst (λ i. find (λ (x : Shelf). x.id == i) (shelves_of es) ≡ Some (shelf_of old)) (sym own_id) shelf_is
+  own_found : find (λ (x : CollectionRow). x.id == old.id) (rows_of es) ≡ Some (row_of old)
+  own_found = subst (λ i. find (λ (x : CollectionRow). x.id == i) (rows_of es) ≡ Some (row_of old)) (sym own_id) row_is
 
-  -- a shelf that is put in its own place changes nothing
-  put_same : put_shelf (shelf_of old) (shelves_of es) ≡ shelves_of es
+  -- a row that is put in its own place changes nothing
+  put_same : put_row (row_of old) (rows_of es) ≡ rows_of es
   put_same = found_put _ ss kept.rising own_found
 
   -- the pages beside it
   pub pool_at : (held : List Interval) → starts_differ held ≡ true →
-      held ≡ sorted_by start_of (map (λ (h : HeldBuffer). h.pages) (all_held (forest_of t (shelves_of es)))) →
-      held ≡ by_page (pages_held old.held.items ++ beside (forest_of t (shelves_of es)) old.id)
+      held ≡ sorted_by start_of (map (λ (h : HeldBuffer). h.pages) (all_held (forest_of t (rows_of es)))) →
+      held ≡ by_page (pages_held old.held.items ++ beside (forest_of t (rows_of es)) old.id)
   pool_at held parted of =
       pool_beside _ t _ ss kept.rising parted (of
       ∙ ap (λ xs. sorted_by start_of (map (λ (h : HeldBuffer). h.pages) (all_held (forest_of t xs)))) (sym put_same))
 
   module _ {new : Entry} (r : IsReturned handles old new) where
     -- id, nodes and buffers stay, and the buffers that are out are those that stay held
-    shown : collection_in t (shelf_of new) ≡ given_back handles (collection_in t (shelf_of old))
+    shown : collection_in t (row_of new) ≡ given_back handles (collection_in t (row_of old))
     shown = grind (arith, live)
 
     -- the entry is set at the place of its id
-    set_is : shelves_of (set es at new) ≡ put_shelf (shelf_of new) (shelves_of es)
-    set_is = ap shelves_of (set_put new es at kept.rising (rw (r.id ∙ own_id) told)) ∙ shelves_put new es
+    set_is : rows_of (set es at new) ≡ put_row (row_of new) (rows_of es)
+    set_is = ap rows_of (set_put new es at kept.rising (rw (r.id ∙ own_id) told)) ∙ rows_put new es
 
-    -- putting the shelf puts its collection
-    collections_are : map (collection_in t) (put_shelf (shelf_of new) (shelves_of es)) ≡ put (given_back handles (collection_in t
-        (shelf_of old))) (map (collection_in t) (shelves_of es))
+    -- putting the row puts its collection
+    collections_are : map (collection_in t) (put_row (row_of new) (rows_of es)) ≡ put (given_back handles (collection_in t
+        (row_of old))) (map (collection_in t) (rows_of es))
     collections_are = put-map t _ ss ∙ ap (λ x. put x (map (collection_in t) ss)) shown
 
     -- nothing is decided, so the collection with its buffers given back is the last state
     pub finishes_so : decided (nodes_with t old.keys.items) old.buffers (is_held_strongly handles old.id old.buffers) ≡ None →
-        (pool : ℕ) → Finishes pool handles t (shelves_of es) t (shelves_of (set es at new))
-        (collection_or_new (forest_of t (shelves_of es)) id)
+        (pool : ℕ) → Finishes pool handles t (rows_of es) t (rows_of (set es at new))
+        (collection_or_new (forest_of t (rows_of es)) id)
     finishes_so none pool =
         rw before_is
         (record {
@@ -207,13 +207,13 @@ module _ (handles : Handles) {t : Table Node} (es : List Entry) (id : ℕ) {at :
           settles = Rests c (forced_made handles _ (beside (forest_of t ss) old.id) c
               ∙ ap (option_map (mark_of pool (pages_in c ++ beside (forest_of t ss) old.id))) none);
           collections = ap (map (collection_in t)) set_is ∙ collections_are;
-          rests = let others : List Interval = beside (forest_of t (shelves_of (set es at new))) old.id in
+          rests = let others : List Interval = beside (forest_of t (rows_of (set es at new))) old.id in
               forced_made handles pool others (given_back handles c)
               ∙ ap (option_map (mark_of pool (pages_in (given_back handles c) ++ others))) none;
         })
 
     -- only the held buffers change, of which being whole says nothing
-    pub stored_so : IsStored t (shelves_of (set es at new))
+    pub stored_so : IsStored t (rows_of (set es at new))
     stored_so =
         let back : IsWhole (given_back handles c) = record {
           sound = record {
@@ -228,7 +228,7 @@ module _ (handles : Handles) {t : Table Node} (es : List Entry) (id : ℕ) {at :
         } in
         let before : AllByRecursion IsWhole (put c (map (collection_in t) ss)) =
         subst (AllByRecursion IsWhole) (put-map t _ ss) (whole-map t _ (rw put_same kept.whole)) in
-        rw set_is (kept-put t t old.id [] (nothing_stored t) kept.named refl refl (shelf_of new) (shelf_of old) ss (sym r.id)
+        rw set_is (kept-put t t old.id [] (nothing_stored t) kept.named refl refl (row_of new) (row_of old) ss (sym r.id)
         (ap (λ ks. ks.items) (sym r.keys)) kept.rising (rw put_same kept) tt tt
         (whole-unmap t _ (subst (AllByRecursion IsWhole) (sym collections_are) (whole-put _ c _ refl back before))))
 
@@ -239,8 +239,8 @@ module _ (handles : Handles) {t : Table Node} (es : List Entry) (id : ℕ) {at :
 
     -- the pool's intervals are those of all collections, of which one changed
     pub pool_so : (held : List Interval) → starts_differ held ≡ true →
-        held ≡ by_page (pages_held new.held.items ++ beside (forest_of t (shelves_of es)) old.id) →
-        held ≡ sorted_by start_of (map (λ (h : HeldBuffer). h.pages) (all_held (forest_of t (shelves_of (set es at new)))))
+        held ≡ by_page (pages_held new.held.items ++ beside (forest_of t (rows_of es)) old.id) →
+        held ≡ sorted_by start_of (map (λ (h : HeldBuffer). h.pages) (all_held (forest_of t (rows_of (set es at new)))))
     pool_so held parted of =
         pool_back _ t t _ _ ss kept.rising collections_are parted
         (of ∙ ap (λ x. sorted_by start_of (pages_in x ++ beside (forest_of t ss) old.id)) shown)

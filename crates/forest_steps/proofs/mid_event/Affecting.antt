@@ -2,8 +2,8 @@
 use Rattle.forest_steps.proofs.Common.{arith, ◌≡◌, ◌+◌, ◌<◌, ◌==◌, is_none, refl, ap, sym, ◌∙◌, subst, true, false, not, ◌&&◌, ◌||◌}
 use Rattle.forest_steps.proofs.Common.{List, map, length, set, Option, Some, None, eq-eqb, find, list_all, list_any, option_map_or}
 use Rattle.forest_steps.proofs.Common.{NodeKey, same_key, times, In, In-map-back, and_both, false_if, same_key-true, In-any, Table}
-use Rattle.forest_steps.proofs.Common.{node_at, Effect, Entry, Node, Unit, over_except, strong_count, lives_in, unit_at, waits_in}
-use Rattle.forest_steps.proofs.Common.{Shelf, is_filed, nodes_with, shelf_of, affected, is_live_node, reserved_count, same_key-equal}
+use Rattle.forest_steps.proofs.Common.{node_at, Effect, Entry, Node, Unit, unkept_except, strong_count, lives_in, unit_at, waits_in}
+use Rattle.forest_steps.proofs.Common.{CollectionRow, is_filed, nodes_with, row_of, affected, is_live_node, reserved_count, same_key-equal}
 use Rattle.forest_steps.proofs.Common.{Writes, table_with_node, row_at, is_unready, is_strong, camped, StoreAgrees, any_map, all-In}
 use Rattle.forest_steps.proofs.Common.{found_whole, same_affected, remains_affected, IsSameNode, IsSome, set-get_or, bit, is_plain}
 use Rattle.forest_steps.proofs.Common.{EffectMade, is_head_left, alone_affected, head, plain_affected, node_is, look-changed, ℕ}
@@ -50,18 +50,19 @@ camped_plain key Effect.Tracked n is = refl
 
 -- ---- the store then
 
-module _ {t : Table Node} {us : List Unit} {ss : List Shelf} {e : Entry} (store : StoreAgrees t us ss e) (key : NodeKey) (effect : Effect)
+module _ {t : Table Node} {us : List Unit} {ss : List CollectionRow} {e : Entry} (store : StoreAgrees t us ss e) (key : NodeKey)
+    (effect : Effect)
     {n : Node} (was : node_at t key ≡ Some n) (here : n.gone ≡ false) (own : n.collection ≡ e.id) where
   -- the nodes that the table has under the entry's keys before the effect
   abbrev members : List Node
   members = nodes_with t e.keys.items
 
-  -- the shelf of the entry
-  abbrev s : Shelf
-  s = shelf_of e
+  -- the row of the entry
+  abbrev s : CollectionRow
+  s = row_of e
 
   -- the effect may be made, since the node is of the collection and not gone
-  pub may_here : MayAffect t us ss (shelf_of e) key e.strong
+  pub may_here : MayAffect t us ss (row_of e) key e.strong
   may_here = record {
     kept = store.kept;
     found = store.found;
@@ -142,28 +143,28 @@ module _ {t : Table Node} {us : List Unit} {ss : List Shelf} {e : Entry} (store 
 
       module _ (next : Unit) (live_next : next.live ≡ times (lives_in n.head) (map made members))
           (unready_next : next.unready ≡ times (waits_in n.head) (map made members))
-          (below_next : next.below ≡ (unit_at us n.head.slot).below) (new : Entry) (shelf : shelf_of new ≡ shelf_of e)
-          (garbage : new.garbage.items ≡ e.garbage.items) (garbage_known : new.garbage_known ≡ e.garbage_known)
+          (below_next : next.below ≡ (unit_at us n.head.slot).below) (new : Entry) (row : row_of new ≡ row_of e)
+          (unkept : new.unkept.items ≡ e.unkept.items) (unkept_known : new.unkept_known ≡ e.unkept_known)
           (strong : new.strong ≡ strong_count (map made members))
           (reserved : new.reserved ≡ reserved_count (map made members)) where
-        -- the shelf is the same
+        -- the row is the same
         keys_same : new.keys.items ≡ e.keys.items
-        keys_same = ap (λ (x : Shelf). x.keys) shelf
+        keys_same = ap (λ (x : CollectionRow). x.keys) row
 
         -- the same nodes, by the same keys
         members_now : nodes_with now new.keys.items ≡ map made members
         members_now = ap (nodes_with now) keys_same ∙ nodes_here
 
         -- being over is kept, and so is the key
-        over_same : (m : Node) → over_except new.garbage.items (made m) ≡ over_except e.garbage.items m
-        over_same m = λ i. (remains_affected key effect m).over i && not (list_any (same_key ((stays m).key i)) (garbage i))
+        over_same : (m : Node) → unkept_except new.unkept.items (made m) ≡ unkept_except e.unkept.items m
+        over_same m = λ i. (remains_affected key effect m).over i && not (list_any (same_key ((stays m).key i)) (unkept i))
 
         -- the node and the counts of its unit are written, and all else is as it was
         pub affected_here : EffectMade t now (set us n.head.slot next) ss e new key effect n.head
         affected_here = record {
           store = record {
             kept = kept_now t now us key effect n was becomes writes ss s e.strong may_here;
-            found = subst (λ (x : Shelf). find (λ (y : Shelf). y.id == x.id) ss ≡ Some x) (sym shelf) store.found;
+            found = subst (λ (x : CollectionRow). find (λ (y : CollectionRow). y.id == x.id) ss ≡ Some x) (sym row) store.found;
             units = units_join t now us key effect n was becomes writes ss s e.strong may_here (set us n.head.slot next)
                 (stays_one t now us key effect n was becomes writes ss s e.strong may_here
                 within_here next live_next unready_next below_next)
@@ -172,10 +173,10 @@ module _ {t : Table Node} {us : List Unit} {ss : List Shelf} {e : Entry} (store 
             inside = inside_now next;
             strong = strong ∙ ap strong_count (sym members_now);
             reserved = reserved ∙ ap reserved_count (sym members_now);
-            garbage_known = λ h. ap (list_any (over_except new.garbage.items)) members_now
-                ∙ (any_map _ _ _ members over_same ∙ store.garbage_known (sym garbage_known ∙ h));
+            unkept_known = λ h. ap (list_any (unkept_except new.unkept.items)) members_now
+                ∙ (any_map _ _ _ members over_same ∙ store.unkept_known (sym unkept_known ∙ h));
           };
-          shelf = shelf;
+          row = row;
           nodes = nodes_here;
           left = ap (λ (ns : List Node). is_head_left ns n.head) nodes_here ∙ left_now;
           beside = record {
@@ -186,7 +187,7 @@ module _ {t : Table Node} {us : List Unit} {ss : List Shelf} {e : Entry} (store 
               len = writes.len;
             };
             others = λ x listed differ. beside_same t now us key effect n was becomes writes ss s e.strong may_here x differ
-                (all-In (λ (y : Shelf). list_all (is_filed t y.id) y.keys) ss x listed store.kept.filed);
+                (all-In (λ (y : CollectionRow). list_all (is_filed t y.id) y.keys) ss x listed store.kept.filed);
           };
         }
 
@@ -247,10 +248,10 @@ module _ {t : Table Node} {us : List Unit} {ss : List Shelf} {e : Entry} (store 
             (reserved_here ∙ ap (λ k. k + camped (made n)) (sym store.reserved))
 
         -- so the node and these counts are what the effect makes
-        pub counted_here : (new : Entry) → shelf_of new ≡ shelf_of e → new.garbage.items ≡ e.garbage.items →
-            new.garbage_known ≡ e.garbage_known → new.strong ≡ c.strong →
+        pub counted_here : (new : Entry) → row_of new ≡ row_of e → new.unkept.items ≡ e.unkept.items →
+            new.unkept_known ≡ e.unkept_known → new.strong ≡ c.strong →
             new.reserved ≡ reserved_count (map (affected key effect) (nodes_with t e.keys.items)) →
             EffectMade t now (set us c.head.slot c.unit) ss e new key effect n.head
-        counted_here new shelf garbage garbage_known strong reserved =
+        counted_here new row unkept unkept_known strong reserved =
             rw counts.head
-            (affected_here _ live_next unready_next below_next new shelf garbage garbage_known (strong ∙ strong_next) reserved)
+            (affected_here _ live_next unready_next below_next new row unkept unkept_known (strong ∙ strong_next) reserved)

@@ -7,9 +7,9 @@ use Rattle.forest_steps.proofs.Common.{both_ways, either_way, false_if, or_left,
 use Rattle.forest_steps.proofs.Common.{In-any, Node, is_next_node, is_ready_node, is_root_left, is_head, or-true, list_any-map}
 use Rattle.forest_steps.proofs.Common.{hangs_in, is_allocated_node, any_map, all-In, IsSameNode, arith, are_held_except, holds_unit}
 use Rattle.forest_steps.proofs.Common.{is_held, is_next_except, waits_among, find_map, ◌<◌, ◌==◌, subst, times, Table, node_at}
-use Rattle.forest_steps.proofs.Common.{Effect, Entry, Unit, strong_count, unit_at, waits_in, Shelf, collection_in, nodes_with}
-use Rattle.forest_steps.proofs.Common.{shelf_of, affected, Writes, table_with_node, is_unready, is_strong, has_buffers}
-use Rattle.forest_steps.proofs.Common.{same_affected, remains_affected, in_shelf, distinct_one, EffectMade, AfterEffect, MidEvent}
+use Rattle.forest_steps.proofs.Common.{Effect, Entry, Unit, strong_count, unit_at, waits_in, CollectionRow, collection_in, nodes_with}
+use Rattle.forest_steps.proofs.Common.{row_of, affected, Writes, table_with_node, is_unready, is_strong, has_buffers}
+use Rattle.forest_steps.proofs.Common.{same_affected, remains_affected, in_row, distinct_one, EffectMade, AfterEffect, MidEvent}
 use Rattle.forest_steps.proofs.Common.{alone_affected, head, plain_affected, Bool, eqb-false, parent_at, waiting, Handles, Settles}
 use Rattle.forest_steps.proofs.Common.{or_none_left, or_none_right, heads_below, is_held_by, unit_of, is_kept_by, times_map}
 use Rattle.forest_steps.proofs.Common.{or_first, EffectCounts, after_effect, PropagatedFrom, AreCounts, AreCountsThen, KeepsCounts}
@@ -22,7 +22,7 @@ use Rattle.forest_steps.proofs.mid_event.Affecting.{live_next, unready_next, bel
 use Rattle.forest_steps.proofs.mid_event.Ready.{under_with, unit_told, whole_under}
 use Rattle.forest_steps.proofs.mid_event.RootLost.{IsReadyRoot, ready_root}
 use Rattle.forest_steps.proofs.mid_event.RootMade.{under_held}
-use Rattle.forest_steps.proofs.tables.OfShelf.{at_key, linked}
+use Rattle.forest_steps.proofs.tables.OfRow.{at_key, linked}
 use Rattle.forest_steps.proofs.tables.Upward.{head_there}
 
 -- one of three is not so where not all are
@@ -40,7 +40,7 @@ ready_if x r a s h = grind arith
 -- ---- a unit that is not due
 
 -- the unit with this head is not due, where no node with that key heads it while it is ready for its buffers
-module _ {t : Table Node} {us : List Unit} {ss : List Shelf} {e : Entry} {k : NodeKey} (under : MidEvent t us ss e [] (k ∷ []))
+module _ {t : Table Node} {us : List Unit} {ss : List CollectionRow} {e : Entry} {k : NodeKey} (under : MidEvent t us ss e [] (k ∷ []))
     (none : (x : Node) → In x (nodes_with t e.keys.items) → x.key ≡ k → x.gone ≡ false → x.allocated ≡ false →
     option_map_or (λ p. list_any (is_allocated_node p) (nodes_with t e.keys.items)) x.parent true ≡ true →
     list_all (is_ready_node k) (nodes_with t e.keys.items) ≡ true → ⊥) where
@@ -252,7 +252,7 @@ module _ (nodes : List Node) (f : Node → Node) (same : (n : Node) → IsSameNo
 
 -- ---- by an effect
 
-module _ {t now : Table Node} {us after : List Unit} {ss : List Shelf} {e new : Entry} {key : NodeKey} {effect : Effect} {n : Node}
+module _ {t now : Table Node} {us after : List Unit} {ss : List CollectionRow} {e new : Entry} {key : NodeKey} {effect : Effect} {n : Node}
     (was : node_at t key ≡ Some n) (own : n.collection ≡ e.id) (under : MidEvent t us ss e [] [])
     (made : EffectMade t now after ss e new key effect n.head) where
   -- the nodes that the table has under the entry's keys before the effect
@@ -269,7 +269,7 @@ module _ {t now : Table Node} {us after : List Unit} {ss : List Shelf} {e new : 
 
   -- the table has it, and it is of the collection
   on_nodes : In n nodes
-  on_nodes = in_shelf t ss under.store.kept _ _ under.store.found _ n (ap (node_at t) own_key ∙ was) own
+  on_nodes = in_row t ss under.store.kept _ _ under.store.found _ n (ap (node_at t) own_key ∙ was) own
 
   -- an effect keeps the node's place
   same : (m : Node) → IsSameNode (f m) m
@@ -293,7 +293,7 @@ module _ {t now : Table Node} {us after : List Unit} {ss : List Shelf} {e new : 
 
   -- the same nodes, by the same keys
   nodes_are : nodes_with now new.keys.items ≡ map f nodes
-  nodes_are = ap (λ (x : Shelf). nodes_with now x.keys) made.shelf ∙ made.nodes
+  nodes_are = ap (λ (x : CollectionRow). nodes_with now x.keys) made.row ∙ made.nodes
 
   -- the collection's nodes after the effect
   abbrev then : List Node
@@ -306,7 +306,7 @@ module _ {t now : Table Node} {us after : List Unit} {ss : List Shelf} {e new : 
       store = made.store;
       bare = λ none. ap (list_any has_buffers) nodes_are
           ∙ (any_map has_buffers _ f nodes (λ m. λ i. not (gone m i) && alloc m i)
-          ∙ under.bare (sym (ap (λ (x : Shelf). x.buffers) made.shelf) ∙ none));
+          ∙ under.bare (sym (ap (λ (x : CollectionRow). x.buffers) made.row) ∙ none));
       held = ap (are_held_except (n.head ∷ [])) nodes_are
           ∙ held_but _ f same gone alloc n alone one under.held;
       next = ap (λ ns. list_any (is_next_except (n.head ∷ []) ns) ns) nodes_are
@@ -314,7 +314,7 @@ module _ {t now : Table Node} {us after : List Unit} {ss : List Shelf} {e new : 
       root = ap (waits_among (n.head ∷ [])) nodes_are
           ∙ waits_but _ f same gone alloc n alone one under.root;
     };
-    shelf = made.shelf;
+    row = made.row;
     nodes = made.nodes;
     left = made.left;
     beside = made.beside;
@@ -432,9 +432,9 @@ module _ {t now : Table Node} {us after : List Unit} {ss : List Shelf} {e new : 
     still_played handles counts worked out = record {
       pending = [];
       under = still_under counts worked out;
-      shelf = made.shelf;
+      row = made.row;
       leads = λ pool others last settles.
-          subst (λ c. Settles pool handles others c last) (λ i. record (collection_in t (shelf_of e)) { nodes = made.nodes i }) settles;
+          subst (λ c. Settles pool handles others c last) (λ i. record (collection_in t (row_of e)) { nodes = made.nodes i }) settles;
       beside = made.beside;
       out = inl refl;
     }
@@ -447,11 +447,11 @@ module _ {t now : Table Node} {us after : List Unit} {ss : List Shelf} {e new : 
 
     -- and the collection is kept by these, or rests without, where it was and did
     pub still_kept : (handles : Handles) (counts : Option EffectCounts) → AreCountsThen t us e key effect counts →
-        is_kept_by handles t (shelf_of e) (strong_then e counts) ≡ true → is_kept_by handles now (shelf_of new) new.strong ≡ true
+        is_kept_by handles t (row_of e) (strong_then e counts) ≡ true → is_kept_by handles now (row_of new) new.strong ≡ true
     still_kept handles counts worked kept =
         let count : new.strong ≡ strong_then e counts = made.store.strong ∙ (ap strong_count nodes_are ∙ sym (strong_told _ worked)) in
         let same = same_affected key effect in
-        (λ i. is_kept_by handles now (made.shelf i) (count i)) ∙ rests_on handles t now (shelf_of e) _
-        (roots_stay t now f (look_here _ was under.store.kept.named writes) (shelf_of e).keys (λ m there none.
+        (λ i. is_kept_by handles now (made.row i) (count i)) ∙ rests_on handles t now (row_of e) _
+        (roots_stay t now f (look_here _ was under.store.kept.named writes) (row_of e).keys (λ m there none.
         (λ i. (is_none ((same m).parent i) && not ((remains_affected key effect m).gone i)) && (remains_affected key effect m).allocated i)
         ∙ none)) kept

@@ -3,7 +3,7 @@ use Rattle.forest_steps.proofs.Common.{◌≡◌, ◌<◌, ℕ, ◌⊎◌, inl, 
 use Rattle.forest_steps.proofs.Common.{List, [], map, get_or, set, Option, Some, None, option_map, arith, eqb-true, lt-ltb, not-true}
 use Rattle.forest_steps.proofs.Common.{filter, list_all, HeldBuffer, Interval, NodeKey, Cause, forced, and_left, and_right, both_ways}
 use Rattle.forest_steps.proofs.Common.{either_way, some-injective, Table, Change, Entry, Node, Unit, has_strong, Collection, with_nodes}
-use Rattle.forest_steps.proofs.Common.{IsStored, IsWhole, Shelf, collection_in, forest_of, nodes_with, place_in, shelf_of, shelves_of}
+use Rattle.forest_steps.proofs.Common.{IsStored, IsWhole, CollectionRow, collection_in, forest_of, nodes_with, place_in, row_of, rows_of}
 use Rattle.forest_steps.proofs.Common.{Handles, Settles, standing, le-ltb, get_or-set_same, get_or_default, Fault, Loss, sorted_by}
 use Rattle.forest_steps.proofs.Common.{Holdings, AreCounted, IsCounted, HaveUnits, decided, mark_of, has_given_root, all_held, beside}
 use Rattle.forest_steps.proofs.Common.{pages_in, after_loss, IsSettledIn, is_kept_by, starts_differ, by_page, is_held_strongly, is_out}
@@ -16,14 +16,15 @@ use Rattle.forest_steps.proofs.changes.Dropped.{IsReturned, finishes_so, one_ent
 use Rattle.forest_steps.proofs.changes.Dropped.{stored_so, strong_keeps, units_so, kept_root}
 use Rattle.forest_steps.proofs.failures.AllGone.{AreGone, none_decides, none_strong}
 use Rattle.forest_steps.proofs.intervals.Pools.{pool_stays}
-use Rattle.forest_store.proofs.shelves.Counted.{counted_put}
-use Rattle.forest_steps.proofs.mid_event.Joining.{but_beside, here_is, place_set, settled_on, shelves_stay}
+use Rattle.forest_store.proofs.rows.Counted.{counted_put}
+use Rattle.forest_steps.proofs.mid_event.Joining.{but_beside, here_is, place_set, settled_on, rows_stay}
 use Rattle.forest_steps.proofs.mid_event.Ready.{counted_under, no_end_under, none_under, whole_under}
 use Rattle.forest_steps.proofs.mid_event.Roots.{IsGivenRoot, all_lost, given_root, root_decided, root_here, root_on, root_top}
 
 -- ---- where the buffers are kept
 
-module _ (handles : Handles) {t : Table Node} {us : List Unit} {ss : List Shelf} {e : Entry} (under : MidEvent t us ss e [] []) where
+module _ (handles : Handles) {t : Table Node} {us : List Unit} {ss : List CollectionRow} {e : Entry}
+    (under : MidEvent t us ss e [] []) where
   -- a strong node lives, the root has no buffers, or a strong handle is open
   pub closed_still : (nat_lt 0 e.strong ≡ true)
       ⊎ ((has_given_root t e.keys.items && not (is_held_strongly handles e.id e.buffers)) ≡ false) → IsClosed handles t t us ss e e
@@ -31,7 +32,7 @@ module _ (handles : Handles) {t : Table Node} {us : List Unit} {ss : List Shelf}
     kept = under.store.kept;
     units = under.store.units;
     counted = counted_under under;
-    shelf = refl;
+    row = refl;
     fewer = omega arith;
     none = still_decided _ _ _ (none_under under)
         (kept_root t e _ (found_filed t _ ss _ under.store.kept.filed under.store.found) (whole_under under) under.store.strong why);
@@ -41,11 +42,11 @@ module _ (handles : Handles) {t : Table Node} {us : List Unit} {ss : List Shelf}
 
 -- ---- where they are abandoned
 
-module _ (handles : Handles) {t : Table Node} {us : List Unit} {ss : List Shelf} {e : Entry} {pending : List NodeKey}
+module _ (handles : Handles) {t : Table Node} {us : List Unit} {ss : List CollectionRow} {e : Entry} {pending : List NodeKey}
     (under : MidEvent t us ss e [] pending) (abandoned : is_abandoned_in handles t e ≡ true) where
   -- the collection whose buffers are abandoned
   abbrev c : Collection
-  c = collection_in t (shelf_of e)
+  c = collection_in t (row_of e)
 
   -- whether a strong handle is open on one of the buffers that the collection was given
   abbrev strong_open : Bool
@@ -64,7 +65,7 @@ module _ (handles : Handles) {t : Table Node} {us : List Unit} {ss : List Shelf}
   root = given_root t under.store.kept.named _ (and_left _ _ rest)
 
   -- each collection is whole
-  whole : IsWhole (collection_in t (shelf_of e))
+  whole : IsWhole (collection_in t (row_of e))
   whole = whole_under under
 
   -- the count of strong nodes is 0
@@ -87,7 +88,7 @@ module _ (handles : Handles) {t : Table Node} {us : List Unit} {ss : List Shelf}
   may_go is = grind (arith, left_in, root, root_here, root_is, root_on)
 
   -- its loss is forced
-  forces : (pool : ℕ) (others : List Interval) → forced pool (standing handles others (collection_in t (shelf_of e)))
+  forces : (pool : ℕ) (others : List Interval) → forced pool (standing handles others (collection_in t (row_of e)))
       ≡ Some (Loss root.node.key Cause.NoStrong)
   forces pool others =
       forced_made handles _ others c ∙ ap (option_map (mark_of pool (pages_in c ++ others)))
@@ -108,12 +109,12 @@ module _ (handles : Handles) {t : Table Node} {us : List Unit} {ss : List Shelf}
 
     -- the new entry has the same keys
     gone_new : AreGone (nodes_with now new.keys.items)
-    gone_new = subst (λ (s : Shelf). AreGone (nodes_with now s.keys)) (sym went.shelf) gone
+    gone_new = subst (λ (s : CollectionRow). AreGone (nodes_with now s.keys)) (sym went.row) gone
 
     -- only the nodes change
-    lost_is : with_nodes (after_loss (record { cause = Cause.NoStrong; origin = root.node.key })) (collection_in t (shelf_of e))
-        ≡ collection_in now (shelf_of e)
-    lost_is = λ i. record (collection_in t (shelf_of e)) { nodes = sym lost i }
+    lost_is : with_nodes (after_loss (record { cause = Cause.NoStrong; origin = root.node.key })) (collection_in t (row_of e))
+        ≡ collection_in now (row_of e)
+    lost_is = λ i. record (collection_in t (row_of e)) { nodes = sym lost i }
 
     -- all are gone then, and nothing is forced
     pub closed_lost : IsClosed handles t now after ss e new
@@ -124,9 +125,9 @@ module _ (handles : Handles) {t : Table Node} {us : List Unit} {ss : List Shelf}
         calm = none_decides (nodes_with now new.keys.items) new.buffers true gone_new;
         strong = went.under.store.strong;
         reserved = went.under.store.reserved;
-        garbage_known = went.under.store.garbage_known;
+        unkept_known = went.under.store.unkept_known;
       };
-      shelf = went.shelf;
+      row = went.row;
       fewer = let none = went.under.store.strong ∙ none_strong (nodes_with now new.keys.items) gone_new in omega (arith, none);
       none = none_decides (nodes_with now e.keys.items) e.buffers strong_open gone;
       leads = λ pool others after_all settles.
@@ -139,16 +140,16 @@ module _ (handles : Handles) {t : Table Node} {us : List Unit} {ss : List Shelf}
 
 module _ {handles : Handles} {t : Table Node} {us : List Unit} {es : List Entry} {at : ℕ} (may : MayClose handles t us es at) (id : ℕ)
     (told : place_in id es ≡ Some at) (old : Entry) (is : old ≡ get_or es at old) where
-  -- the shelves of all the entries
-  abbrev ss : List Shelf
-  ss = shelves_of es
+  -- the rows of all the entries
+  abbrev ss : List CollectionRow
+  ss = rows_of es
 
   -- both stand at the place
   pub entry_is : may.entry ≡ old
   entry_is = one_entry es id _ old told (sym may.is) is
 
   -- the premise, at the entry that is there
-  pub under_is : MidEvent t us (shelves_of es) old [] may.pending
+  pub under_is : MidEvent t us (rows_of es) old [] may.pending
   under_is = rw entry_is at may.under
 
   -- the premise, at the entry that is there
@@ -159,18 +160,18 @@ module _ {handles : Handles} {t : Table Node} {us : List Unit} {es : List Entry}
   own : old.id ≡ id
   own = ap (λ (e : Entry). e.id) is ∙ (place_is id es at told).id_is old
 
-  module _ {now : Table Node} {after : List Unit} {new : Entry} (closed : IsClosed handles t now after (shelves_of es) old new) where
+  module _ {now : Table Node} {after : List Unit} {new : Entry} (closed : IsClosed handles t now after (rows_of es) old new) where
     -- the entries with the new entry at the place of the old one
     abbrev mid : List Entry
     mid = set es at new
 
-    -- the shelf, and with it the id, is the same
+    -- the row, and with it the id, is the same
     new_id : new.id ≡ id
-    new_id = ap (λ (s : Shelf). s.id) closed.shelf ∙ own
+    new_id = ap (λ (s : CollectionRow). s.id) closed.row ∙ own
 
-    -- the shelf is the same, so the list of shelves stays
-    shelves_mid : shelves_of (set es at new) ≡ shelves_of es
-    shelves_mid = shelves_stay es at old new is closed.shelf
+    -- the row is the same, so the list of rows stays
+    rows_mid : rows_of (set es at new) ≡ rows_of es
+    rows_mid = rows_stay es at old new is closed.row
 
     -- the new entry has the id, so it is found at the same place
     told_mid : place_in id (set es at new) ≡ Some at
@@ -180,13 +181,13 @@ module _ {handles : Handles} {t : Table Node} {us : List Unit} {es : List Entry}
     is_mid : new ≡ get_or (set es at new) at new
     is_mid = sym (get_or-set_same es at new new (place_is id es at told).within)
 
-    -- the list of shelves stays
-    kept_mid : IsStored now (shelves_of (set es at new))
-    kept_mid = subst (IsStored now) (sym shelves_mid) closed.kept
+    -- the list of rows stays
+    kept_mid : IsStored now (rows_of (set es at new))
+    kept_mid = subst (IsStored now) (sym rows_mid) closed.kept
 
     -- only this collection changed
-    by : IsBeside t now (shelves_of es) id
-    by = subst (IsBeside t now (shelves_of es)) own closed.beside
+    by : IsBeside t now (rows_of es) id
+    by = subst (IsBeside t now (rows_of es)) own closed.beside
 
     -- the others are counted as before, and this one as the step says
     counted_mid : AreCounted now (set es at new)
@@ -195,17 +196,17 @@ module _ {handles : Handles} {t : Table Node} {us : List Unit} {es : List Entry}
         (counted_put now new es under_is.store.kept.rising
         (rw new_id (but_beside es by (rw own at (rw entry_is at may.others)))) closed.counted)
 
-    -- the list of shelves stays
+    -- the list of rows stays
     units_mid : HaveUnits after now (set es at new)
-    units_mid = rw shelves_mid closed.units
+    units_mid = rw rows_mid closed.units
 
     -- the pages beside it
     pub pages_mid : (held : List Interval) → starts_differ held ≡ true →
-        held ≡ sorted_by start_of (map (λ (h : HeldBuffer). h.pages) (all_held (forest_of t (shelves_of es)))) →
-        held ≡ by_page (pages_held new.held.items ++ beside (forest_of now (shelves_of (set es at new))) new.id)
+        held ≡ sorted_by start_of (map (λ (h : HeldBuffer). h.pages) (all_held (forest_of t (rows_of es)))) →
+        held ≡ by_page (pages_held new.held.items ++ beside (forest_of now (rows_of (set es at new))) new.id)
     pages_mid held parted of =
         pool_at handles mid id new told_mid is_mid kept_mid counted_mid _ parted
-        (pool_stays _ t now _ _ shelves_mid of)
+        (pool_stays _ t now _ _ rows_mid of)
 
     module _ (last : Entry) (is_last : last ≡ record new { held = last.held })
         (out : last.held.items ≡ filter (is_out handles (nat_lt 0 new.strong)) new.held.items) where
@@ -222,7 +223,7 @@ module _ {handles : Handles} {t : Table Node} {us : List Unit} {es : List Entry}
       twice : set (set es at new) at last ≡ set es at last
       twice = set-set es at new last
 
-      -- the shelf is the same
+      -- the row is the same
       none_mid : decided (nodes_with now new.keys.items) new.buffers (is_held_strongly handles new.id new.buffers) ≡ None
       none_mid = grind arith
 
@@ -230,20 +231,20 @@ module _ {handles : Handles} {t : Table Node} {us : List Unit} {es : List Entry}
       counted_last : IsCounted now new → IsCounted now last
       counted_last counted =
           subst (IsCounted now) (sym is_last)
-          (record { calm = counted.calm; strong = counted.strong; reserved = counted.reserved; garbage_known = counted.garbage_known })
+          (record { calm = counted.calm; strong = counted.strong; reserved = counted.reserved; unkept_known = counted.unkept_known })
 
       -- what was forced was made
       pub closes : (pool left : Holdings) → starts_differ left.held ≡ true →
-          left.held ≡ by_page (pages_held last.held.items ++ beside (forest_of now (shelves_of (set es at new))) new.id) →
+          left.held ≡ by_page (pages_held last.held.items ++ beside (forest_of now (rows_of (set es at new))) new.id) →
           Closes handles pool left t now es (set es at last) after id
       closes pool left parted of = record {
         settled = settled_on handles es told under_is.store.kept by new new_id pool pool left refl now (set es at last)
             Change.Nothing refl
-            (subst (λ d. Reaches pool.size handles (beside (forest_of t ss) id) d (collection_in now (shelf_of new)))
+            (subst (λ d. Reaches pool.size handles (beside (forest_of t ss) id) d (collection_in now (row_of new)))
             (sym (here_is t es id old told is))
-            (subst (λ (s : Shelf). Reaches pool.size handles (beside (forest_of t ss) id)
-            (collection_in t (shelf_of old)) (collection_in now s))
-            (sym closed.shelf) (closed.leads pool.size (beside (forest_of t ss) id))))
+            (subst (λ (s : CollectionRow). Reaches pool.size handles (beside (forest_of t ss) id)
+            (collection_in t (row_of old)) (collection_in now s))
+            (sym closed.row) (closed.leads pool.size (beside (forest_of t ss) id))))
             (subst (λ xs. IsSettledIn handles pool left now now mid xs id Change.Nothing) twice
             (record {
               finishes = finishes_so handles mid id new told_mid is_mid kept_mid counted_mid back none_mid pool.size;
@@ -259,7 +260,7 @@ module _ {handles : Handles} {t : Table Node} {us : List Unit} {es : List Entry}
 
   -- where a strong node lives, nothing is left to be done
   pub closes_strong : 0 < old.strong → (pool : Holdings) → starts_differ pool.held ≡ true →
-      pool.held ≡ sorted_by start_of (map (λ (h : HeldBuffer). h.pages) (all_held (forest_of t (shelves_of es)))) →
+      pool.held ≡ sorted_by start_of (map (λ (h : HeldBuffer). h.pages) (all_held (forest_of t (rows_of es)))) →
       Closes handles pool pool t t es (set es at old) us id
   closes_strong some pool parted of =
       let live : nat_lt 0 old.strong ≡ true = lt-ltb 0 old.strong some in
@@ -268,7 +269,7 @@ module _ {handles : Handles} {t : Table Node} {us : List Unit} {es : List Entry}
         | inr gone ↦
             let weak : old.strong ≡ 0 = eqb-true _ 0 (and_left _ _ gone) in absurd (omega arith)
       ] in
-      let closed : IsClosed handles t t us (shelves_of es) old old = closed_still _
+      let closed : IsClosed handles t t us (rows_of es) old old = closed_still _
       (rw none at under_is) (inl live) in
       closes closed old refl
       (sym (filter-list_all _ _
@@ -276,9 +277,9 @@ module _ {handles : Handles} {t : Table Node} {us : List Unit} {es : List Entry}
       (pages_mid closed _ parted of)
 
   -- where none does, but the collection rests without one, nothing is either
-  closes_resting : nat_lt 0 old.strong ≡ false → is_at_rest handles t (shelf_of old) ≡ true → (pool : Holdings) →
+  closes_resting : nat_lt 0 old.strong ≡ false → is_at_rest handles t (row_of old) ≡ true → (pool : Holdings) →
       starts_differ pool.held ≡ true →
-      pool.held ≡ sorted_by start_of (map (λ (h : HeldBuffer). h.pages) (all_held (forest_of t (shelves_of es)))) →
+      pool.held ≡ sorted_by start_of (map (λ (h : HeldBuffer). h.pages) (all_held (forest_of t (rows_of es)))) →
       Closes handles pool pool t t es (set es at old) us id
   closes_resting weak rests pool parted of =
       let kept : (has_given_root t old.keys.items && not (is_held_strongly handles old.id old.buffers)) ≡ false =
@@ -287,7 +288,7 @@ module _ {handles : Handles} {t : Table Node} {us : List Unit} {es : List Entry}
         | inl e ↦ e
         | inr gone ↦ both_ways _ (and_right _ _ gone) kept
       ] in
-      let closed : IsClosed handles t t us (shelves_of es) old old = closed_still _
+      let closed : IsClosed handles t t us (rows_of es) old old = closed_still _
       (rw none at under_is) (inr kept) in
       closes closed old refl
       (sym (filter-list_all _ _
@@ -295,8 +296,8 @@ module _ {handles : Handles} {t : Table Node} {us : List Unit} {es : List Entry}
       (pages_mid closed _ parted of)
 
   -- so where one of the two holds
-  pub closes_kept : is_kept_by handles t (shelf_of old) old.strong ≡ true → (pool : Holdings) → starts_differ pool.held ≡ true →
-      pool.held ≡ sorted_by start_of (map (λ (h : HeldBuffer). h.pages) (all_held (forest_of t (shelves_of es)))) →
+  pub closes_kept : is_kept_by handles t (row_of old) old.strong ≡ true → (pool : Holdings) → starts_differ pool.held ≡ true →
+      pool.held ≡ sorted_by start_of (map (λ (h : HeldBuffer). h.pages) (all_held (forest_of t (rows_of es)))) →
       Closes handles pool pool t t es (set es at old) us id
   closes_kept kept pool parted of = elim (either_way (nat_lt 0 old.strong)) [
     | inl live ↦ closes_strong (ltb-true 0 old.strong live) _ parted of
@@ -304,7 +305,7 @@ module _ {handles : Handles} {t : Table Node} {us : List Unit} {es : List Entry}
   ]
 
   -- where none does, those that are home go back
-  module _ {now : Table Node} {after : List Unit} {new : Entry} (closed : IsClosed handles t now after (shelves_of es) old new)
+  module _ {now : Table Node} {after : List Unit} {new : Entry} (closed : IsClosed handles t now after (rows_of es) old new)
       (weak : old.strong ≡ 0) where
     -- the count of strong nodes does not grow
     none_strong_new : nat_lt 0 new.strong ≡ false
@@ -314,7 +315,7 @@ module _ {handles : Handles} {t : Table Node} {us : List Unit} {es : List Entry}
     pub closes_weak : (last : Entry) → last ≡ record new { held = last.held } →
         last.held.items ≡ filter (is_out handles false) new.held.items → (pool left : Holdings) →
         starts_differ left.held ≡ true →
-        left.held ≡ by_page (pages_held last.held.items ++ beside (forest_of now (shelves_of (set es at new))) new.id) →
+        left.held ≡ by_page (pages_held last.held.items ++ beside (forest_of now (rows_of (set es at new))) new.id) →
         Closes handles pool left t now es (set es at last) after id
     closes_weak last is_last out =
         closes closed _ is_last (out ∙ ap (λ b. filter (is_out handles b) new.held.items) (sym none_strong_new))

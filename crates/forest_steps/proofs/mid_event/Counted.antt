@@ -1,7 +1,7 @@
 -- An effect that was worked out, and forces nothing by its counts, is all that is made.
 use Rattle.forest_steps.proofs.Common.{◌≡◌, ℕ, refl, ap, sym, ◌∙◌, subst, true, false, List, [], map, get_or, set, Option, Some}
 use Rattle.forest_steps.proofs.Common.{None, NodeKey, Table, node_at, Change, Effect, Entry, Node, Unit, with_nodes, waiting}
-use Rattle.forest_steps.proofs.Common.{Shelf, collection_in, forest_of, nodes_with, place_in, shelf_of, shelves_of, affected}
+use Rattle.forest_steps.proofs.Common.{CollectionRow, collection_in, forest_of, nodes_with, place_in, row_of, rows_of, affected}
 use Rattle.forest_steps.proofs.Common.{Handles, get_or-set_same, Holdings, Writes, table_with_node, IsPoolOf, starts_differ}
 use Rattle.forest_steps.proofs.Common.{is_kept_by, StoreAgrees, none_calm, place_is, set-set, EffectCounts, is_plain}
 use Rattle.forest_steps.proofs.Common.{after_effect, Closes, EffectMade, MidEvent, PropagatedFrom, AreCountsThen, KeepsCounts}
@@ -27,10 +27,10 @@ counts_kept Effect.Released is = cc
 counts_kept Effect.Tracked is = record { plain = refl; strong = λ key n. refl }
 
 -- an effect that changes no count makes no unit ready, so the root's does not wait for its buffers
-pub waits_plain : {t : Table Node} {us : List Unit} {ss : List Shelf} {e : Entry} → MidEvent t us ss e [] [] → (key : NodeKey)
+pub waits_plain : {t : Table Node} {us : List Unit} {ss : List CollectionRow} {e : Entry} → MidEvent t us ss e [] [] → (key : NodeKey)
     (effect : Effect) → is_plain effect ≡ true → waiting (map (affected key effect) (nodes_with t e.keys.items)) ≡ None
 waits_plain {t} {e} under key effect plain =
-    let c = collection_in t (shelf_of e) in
+    let c = collection_in t (row_of e) in
     (none_calm (with_nodes (map (affected key effect)) c)
     (calm_map c _ (plain_affected key _ plain) (counted_under under).calm)).no_root
 
@@ -51,10 +51,10 @@ module _ (handles : Handles) {t : Table Node} {us : List Unit} {es : List Entry}
     (key : NodeKey) (effect : Effect) (may : IsReadyAt t es us at (Change.Effect key effect)) (now : Table Node) (after : List Unit)
     (new : Entry) (becomes : (n : Node) → node_at t key ≡ Some n → now ≡ table_with_node t key (affected key effect n))
     (writes : (n : Node) → node_at t key ≡ Some n → Writes t now key (affected key effect n))
-    (made : (n : Node) → node_at t key ≡ Some n → n.gone ≡ false → n.collection ≡ e.id → StoreAgrees t us (shelves_of es) e →
-    EffectMade t now after (shelves_of es) e new key effect n.head)
+    (made : (n : Node) → node_at t key ≡ Some n → n.gone ≡ false → n.collection ≡ e.id → StoreAgrees t us (rows_of es) e →
+    EffectMade t now after (rows_of es) e new key effect n.head)
     (counts : Option EffectCounts) (worked : AreCountsThen t us e key effect counts) (out : may_force counts ≡ false)
-    (kept : is_kept_by handles t (shelf_of e) (strong_then e counts) ≡ true) where
+    (kept : is_kept_by handles t (row_of e) (strong_then e counts) ≡ true) where
   -- the node is there, not gone, and of the collection
   there : (n : Node) × (node_at t key ≡ Some n) × (n.gone ≡ false) × (n.collection ≡ may.id)
   there = node_there may.ready.kept _ key may.ready.change.named
@@ -64,20 +64,20 @@ module _ (handles : Handles) {t : Table Node} {us : List Unit} {es : List Entry}
   own_there = there.3 ∙ sym (own_id handles e may.place is may.ready refl)
 
   -- the collection is under way, with nothing loose and nothing due
-  under_there : MidEvent t us (shelves_of es) e [] []
+  under_there : MidEvent t us (rows_of es) e [] []
   under_there = begins_at handles e is may refl
 
   -- the store agrees again
-  made_own : EffectMade t now after (shelves_of es) e new key effect there.0.head
+  made_own : EffectMade t now after (rows_of es) e new key effect there.0.head
   made_own = made there.0 there.1 there.2 own_there under_there.store
 
   -- nothing more is forced
-  played : PropagatedFrom handles (after_effect key effect (nodes_with t e.keys.items)) t now after (shelves_of es) e new
+  played : PropagatedFrom handles (after_effect key effect (nodes_with t e.keys.items)) t now after (rows_of es) e new
   played = still_played there.1 own_there under_there made_own there.2 (becomes there.0 there.1) (writes there.0 there.1) _ _
       worked out
 
   -- the collection is kept then
-  kept_now : is_kept_by handles now (shelf_of new) new.strong ≡ true
+  kept_now : is_kept_by handles now (row_of new) new.strong ≡ true
   kept_now = still_kept there.1 own_there under_there made_own there.2 (becomes there.0 there.1) (writes there.0 there.1) handles _
       worked kept
 
@@ -86,7 +86,7 @@ module _ (handles : Handles) {t : Table Node} {us : List Unit} {es : List Entry}
   is_new id told = sym (get_or-set_same es at new new (place_is id es at told).within)
 
   -- the collection stays kept and nothing is forced, so the effect is the whole outcome
-  pub outcome_still : (pool : Holdings) → starts_differ pool.held ≡ true → IsPoolOf pool (forest_of t (shelves_of es)) →
+  pub outcome_still : (pool : Holdings) → starts_differ pool.held ≡ true → IsPoolOf pool (forest_of t (rows_of es)) →
       IsOutcomeAt true handles pool pool t now es (set es at new) after at (Change.Effect key effect)
   outcome_still pool parted of =
       outcome_there handles e is may refl refl played

@@ -3,8 +3,8 @@ use Rattle.forest_steps.proofs.Common.{◌≡◌, ℕ, zero, suc, ◌≤◌, ref
 use Rattle.forest_steps.proofs.Common.{inr, List, [], ◌∷◌, ◌++◌, length, reverse, Option, Some, None, option_map, arith, eq-eqb, eqb-true}
 use Rattle.forest_steps.proofs.Common.{not-true, cons_option, find, list_any, option_and_then, Interval, NodeKey, forced, same_key, times}
 use Rattle.forest_steps.proofs.Common.{when, In, In-find, In-list_any, and_both, and_left, and_right, either_way, or_right, same_key-true}
-use Rattle.forest_steps.proofs.Common.{all_on, Table, node_at, Entry, Node, Unit, lives_in, unit_at, Collection, Shelf, all_keys}
-use Rattle.forest_steps.proofs.Common.{collection_in, nodes_with, shelf_of, is_deserted_node, Handles, Settles, standing, is_head}
+use Rattle.forest_steps.proofs.Common.{all_on, Table, node_at, Entry, Node, Unit, lives_in, unit_at, Collection, CollectionRow, all_keys}
+use Rattle.forest_steps.proofs.Common.{collection_in, nodes_with, row_of, is_deserted_node, Handles, Settles, standing, is_head}
 use Rattle.forest_steps.proofs.Common.{ltb-false, or_none_left, or_none_right, table_len, heads_below, is_held_by, unit_of, Ends, decided}
 use Rattle.forest_steps.proofs.Common.{mark_of, pages_in, after_end, is_below, Forces, forced_made, all-In, in_all, looked_there}
 use Rattle.forest_steps.proofs.Common.{distinct_one, left_in, left_node, left_parent, length-reverse, Ended, climbed, AfterSteps}
@@ -16,7 +16,7 @@ use Rattle.std.proofs.lemmas.List.{length-append}
 use Rattle.forest_steps.proofs.mid_event.Ending.{AreLoose, begins, climbs, first_deserted, held_now, is_one}
 use Rattle.forest_steps.proofs.mid_event.Ready.{under_with, whole_under, unit_told}
 use Rattle.forest_steps.proofs.mid_event.Leading.{led_none}
-use Rattle.forest_steps.proofs.tables.OfShelf.{linked}
+use Rattle.forest_steps.proofs.tables.OfRow.{linked}
 
 module _ (t : Table Node) (us : List Unit) where
   -- it ends where there is no next one
@@ -48,11 +48,11 @@ module _ (t : Table Node) (us : List Unit) where
 
 -- ---- lengths
 
--- a shelf has no more keys than all of them
-few_keys : (ss : List Shelf) (s : Shelf) → In s ss → length s.keys ≤ length (all_keys ss)
+-- a row has no more keys than all of them
+few_keys : (ss : List CollectionRow) (s : CollectionRow) → In s ss → length s.keys ≤ length (all_keys ss)
 few_keys [] s on = absurd on
 few_keys (x ∷ xs) s (inl is) =
-    let same : length s.keys ≡ length x.keys = ap (λ (y : Shelf). length y.keys) is in
+    let same : length s.keys ≡ length x.keys = ap (λ (y : CollectionRow). length y.keys) is in
     omega (arith, length-append x.keys (all_keys xs))
 few_keys (x ∷ xs) s (inr there) =
     let rest = few_keys xs s there in
@@ -113,7 +113,7 @@ pub record IsTop (nodes : List Node) (t : Table Node) (us : List Unit) (first : 
   pub is : climbed n t us from ≡ top.key
   pub last : unit_over t us top.key ≡ None
 
-module _ {t : Table Node} {us : List Unit} {ss : List Shelf} {e : Entry} {first : NodeKey} {pending : List NodeKey}
+module _ {t : Table Node} {us : List Unit} {ss : List CollectionRow} {e : Entry} {first : NodeKey} {pending : List NodeKey}
     (ok : MidEvent t us ss e (first ∷ []) pending) where
   -- the nodes that the table has under the entry's keys
   abbrev nodes : List Node
@@ -121,11 +121,11 @@ module _ {t : Table Node} {us : List Unit} {ss : List Shelf} {e : Entry} {first 
 
   -- the collection that the table and the entry hold
   abbrev c : Collection
-  c = collection_in t (shelf_of e)
+  c = collection_in t (row_of e)
 
-  -- the shelf is found among them
-  on_shelf : In (shelf_of e) ss
-  on_shelf = (In-find _ ss _ ok.store.found).0
+  -- the row is found among them
+  on_row : In (row_of e) ss
+  on_row = (In-find _ ss _ ok.store.found).0
 
   -- the keys above a key, from its parent up to the root
   abbrev above : NodeKey → List NodeKey
@@ -141,29 +141,29 @@ module _ {t : Table Node} {us : List Unit} {ss : List Shelf} {e : Entry} {first 
       let a = above_short (reverse nodes) key in
       let b : length (reverse nodes) ≡ length nodes = length-reverse nodes in
       let d = few_nodes t e.keys.items in
-      let f = few_keys ss (shelf_of e) on_shelf in
+      let f = few_keys ss (row_of e) on_row in
       omega (arith, a, b, d, f, ok.store.kept.counted)
 
   -- ---- the climb
 
   -- the head of the unit right above
-  abbrev over_at : Option Node → Option NodeKey
-  over_at o = option_and_then (λ (n : Node). when (is_held_once t us n) n.head) o
+  abbrev unkept_at : Option Node → Option NodeKey
+  unkept_at o = option_and_then (λ (n : Node). when (is_held_once t us n) n.head) o
 
   -- the parent in the table is the one of the node
   over_by : (h : Node) → In h nodes → h.gone ≡ false →
-      unit_over t us h.key ≡ option_and_then (λ p. over_at (node_at t p)) h.parent
-  over_by h on here = ap (λ o. option_and_then (λ p. over_at (node_at t p)) o) (linked ok.store.kept ok.store.found h on here)
+      unit_over t us h.key ≡ option_and_then (λ p. unkept_at (node_at t p)) h.parent
+  over_by h on here = ap (λ o. option_and_then (λ p. unkept_at (node_at t p)) o) (linked ok.store.kept ok.store.found h on here)
 
   -- the climb leads to a unit that is there
   opened : (h : Node) → In h nodes → h.gone ≡ false → {over : NodeKey} → unit_over t us h.key ≡ Some over → IsAbove nodes h over
   opened h on here {over} is = from h.parent refl (sym (over_by h on here) ∙ is)
     where
-      from : (o : Option NodeKey) → h.parent ≡ o → option_and_then (λ p. over_at (node_at t p)) o ≡ Some over → IsAbove nodes h over
+      from : (o : Option NodeKey) → h.parent ≡ o → option_and_then (λ p. unkept_at (node_at t p)) o ≡ Some over → IsAbove nodes h over
       from None none h = cc
       from (Some p) hung h =
           let x = left_node _ p (left_parent _ (whole_under ok).rooted _ p on here hung) in
-          let w = when-Some _ _ _ (sym (ap over_at (ap (node_at t) (sym x.is) ∙ at _ x.on)) ∙ h) in
+          let w = when-Some _ _ _ (sym (ap unkept_at (ap (node_at t) (sym x.is) ∙ at _ x.on)) ∙ h) in
           let once = and_right _ _ w.0 in
           let r = head_there (whole_under ok) _ x.on x.here in
           let known = unit_told ok r.0 r.1 in
@@ -196,7 +196,7 @@ module _ {t : Table Node} {us : List Unit} {ss : List Shelf} {e : Entry} {first 
       eq-eqb _ 1 (ap (λ (u : Unit). u.below) counts ∙ below) in
       let once : is_held_once t us q ≡ true = and_both _ _ there (and_both _ _ none_live one_below) in
       let some : unit_over t us top.key ≡ Some q.head =
-      over_by top on here ∙ ap (option_and_then (λ p. over_at (node_at t p))) hung ∙ ap over_at (at q q_on)
+      over_by top on here ∙ ap (option_and_then (λ p. unkept_at (node_at t p))) hung ∙ ap unkept_at (at q q_on)
       ∙ ap (λ b. when b q.head) once in
       let no : Some q.head ≡ None = sym some ∙ last in
       cc
@@ -213,7 +213,7 @@ module _ {t : Table Node} {us : List Unit} {ss : List Shelf} {e : Entry} {first 
     last = over_by h unheld.on unheld.here ∙ from h.parent refl;
   }
     where
-      from : (o : Option NodeKey) → h.parent ≡ o → option_and_then (λ p. over_at (node_at t p)) o ≡ None
+      from : (o : Option NodeKey) → h.parent ≡ o → option_and_then (λ p. unkept_at (node_at t p)) o ≡ None
       from None is = refl
       from (Some p) is =
           let long : length (above h.key) ≡ length (p ∷ above p) =
@@ -348,8 +348,8 @@ module _ {t : Table Node} {us : List Unit} {ss : List Shelf} {e : Entry} {first 
           AfterSteps handles t now after ss e new [] pending
       ended_led handles {key} is {now} went = record {
         under = under_with went.under (subst (λ ns. are_held_except [] ns ≡ true)
-            (sym (ap (λ (s : Shelf). nodes_with now s.keys) went.shelf ∙ went_is)) held_then) went.under.next went.under.root;
-        shelf = went.shelf;
+            (sym (ap (λ (s : CollectionRow). nodes_with now s.keys) went.row ∙ went_is)) held_then) went.under.next went.under.root;
+        row = went.row;
         leads = λ pool others last settles. Forces c last (Ended top.key) (forced_is pool handles others)
             (subst (λ d. Settles pool handles others d last) (λ i. record c { nodes = went_is i }) settles);
         beside = went.beside;

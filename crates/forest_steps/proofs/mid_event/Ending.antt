@@ -253,12 +253,12 @@ module _ {c : Collection} (whole : IsWhole c) where
           rw is (left_in _ h on here),
           rw is (below_self whole h.key),
         );
-    still = λ x there left dead. released _ live x there left (alone_is _ _ dead);
-    under = λ x there left attached p above q q_on q_is dead. both_ways _
+    still = λ x there left unkept. released _ live x there left (alone_is _ _ unkept);
+    under = λ x there left attached p above q q_on q_is unkept. both_ways _
         (In-any (heads_below nodes h.key) _ x there
-        (counts _ x q left attached above q_on q_is (alone_is _ _ dead)))
+        (counts _ x q left attached above q_on q_is (alone_is _ _ unkept)))
         (count_none (heads_below nodes h.key) nodes below);
-    over = λ x there dead other p above q q_on q_is. both_ways _ (same_key-equal x.key h.key (alone_is _ _ dead)) other;
+    over = λ x there unkept other p above q q_on q_is. both_ways _ (same_key-equal x.key h.key (alone_is _ _ unkept)) other;
   }
 
   -- and continues to the unit above, where no node of that is live, and one unit alone hangs right below it
@@ -280,11 +280,11 @@ module _ {c : Collection} (whole : IsWhole c) where
             (unheld.low k e).1 high,
       )
     ];
-    still = λ x there left dead. elim (or_cases _ _ dead) [
+    still = λ x there left unkept. elim (or_cases _ _ unkept) [
       | inl e ↦ released o.key live x there left (same_key-true _ _ e)
       | inr e ↦ unheld.still x there left e
     ];
-    under = λ x there left attached p above r r_on r_is dead. elim (or_cases _ _ dead) [
+    under = λ x there left attached p above r r_on r_is unkept. elim (or_cases _ _ unkept) [
       | inl e ↦
           let same : x ≡ h = one_counts (heads_below nodes o.key) nodes x h below there unheld.on
           (counts _ x r left attached above r_on r_is (same_key-true _ _ e))
@@ -292,7 +292,7 @@ module _ {c : Collection} (whole : IsWhole c) where
           or_right _ _ (subst (λ (m : Node). is_one keys m.key ≡ true) (sym same) unheld.own)
       | inr e ↦ or_right _ _ (unheld.under x there left attached p above r r_on r_is e)
     ];
-    over = λ x there dead other p above r r_on r_is. elim (or_cases _ _ dead) [
+    over = λ x there unkept other p above r r_on r_is. elim (or_cases _ _ unkept) [
       | inl e ↦ both_ways _ e other
       | inr e ↦ elim (either_way (same_key x.key h.key)) [
         | inl same ↦
@@ -325,7 +325,7 @@ module _ {c : Collection} (whole : IsWhole c) where
     -- below the highest, what hangs in a unit hangs in one of these
     inner : (k : NodeKey) → is_one keys k ≡ false → (x : Node) → In x nodes → is_one keys x.key ≡ true → same_key x.key top.key ≡ false →
         hangs_in nodes k x ≡ true → ⊥
-    inner k alive x there dead lower h = grind (arith, hung)
+    inner k alive x there unkept lower h = grind (arith, hung)
 
     -- so something else holds each unit but these
     at_top : (y : Node) → In y nodes → is_one keys y.key ≡ false → top.attached ≡ true → hangs_in nodes y.key top ≡ true →
@@ -350,7 +350,7 @@ module _ {c : Collection} (whole : IsWhole c) where
           (λ is. out y u.2 on u.3 (u.1 ∙ ap Some (sym u.4)) u.5 (none_counts (lives_in y.key) nodes e) is) in
           let rest : (x.0.attached && hangs_in nodes y.key x.0) ≡ true = and_right (not x.0.gone) _ x.2 in
           elim (either_way (is_one keys x.0.key)) [
-            | inl dead ↦ absurd (inner _ alive x.0 x.1 dead x.3 (and_right x.0.attached _ rest))
+            | inl unkept ↦ absurd (inner _ alive x.0 x.1 unkept x.3 (and_right x.0.attached _ rest))
             | inr free ↦ record {
               node = x.0;
               on = x.1;
@@ -383,8 +383,8 @@ module _ {c : Collection} (whole : IsWhole c) where
               here = left;
               holds = inr (and_left x.0.attached _ b, free, and_right x.0.attached _ b);
             }
-            | inl dead ↦ elim (either_way (same_key x.0.key top.key)) [
-              | inr lower ↦ absurd (inner _ alive x.0 x.1 dead lower (and_right x.0.attached _ b))
+            | inl unkept ↦ elim (either_way (same_key x.0.key top.key)) [
+              | inr lower ↦ absurd (inner _ alive x.0 x.1 unkept lower (and_right x.0.attached _ b))
               | inl same ↦
                   let is : x.0 ≡ top = one x.0 top x.1 unheld.on (same_key-true _ _ same) in
                   at_top y on alive (sym (ap (λ (m : Node). m.attached) is) ∙ and_left x.0.attached _ b)
@@ -458,7 +458,7 @@ module _ {c : Collection} (whole : IsWhole c) where
         let rest = and_right _ _ d in
         let here : y.gone ≡ false = not-true _ (and_left _ _ rest) in
         elim (either_way (is_one keys y.key)) [
-          | inl dead ↦ (here, (unheld.low y.key dead).1)
+          | inl unkept ↦ (here, (unheld.low y.key unkept).1)
           | inr alive ↦
               both_ways _ (lives_at y on here (and_left _ _ d) alive) (not-true _ (and_right _ _ rest))
         ]

@@ -3,14 +3,14 @@ use Rattle.forest_steps.proofs.Common.{◌≡◌, ◌≢◌, ◌+◌, ◌<◌, �
 use Rattle.forest_steps.proofs.Common.{inr, List, map, reverse, length, Option, Some, None, option_map, arith, eqb-false, eqb-true}
 use Rattle.forest_steps.proofs.Common.{AllByRecursion, find, list_all, list_any, option_map_or, NodeKey, same_key, times, In, In-find}
 use Rattle.forest_steps.proofs.Common.{In-list_any, In-map, In-map-back, both_ways, either_way, false_if, same_key-true, In-any}
-use Rattle.forest_steps.proofs.Common.{Table, node_at, parent_at, Node, Unit, over_except, strong_count, AreUnits, lives_in, unit_at}
-use Rattle.forest_steps.proofs.Common.{waits_in, Collection, with_nodes, IsStored, IsWhole, Shelf, collection_in, is_filed}
-use Rattle.forest_steps.proofs.Common.{nodes_with, shelf_of, reserved_count, are_rooted, is_head, Entry, Contains-from_any}
+use Rattle.forest_steps.proofs.Common.{Table, node_at, parent_at, Node, Unit, unkept_except, strong_count, AreUnits, lives_in, unit_at}
+use Rattle.forest_steps.proofs.Common.{waits_in, Collection, with_nodes, IsStored, IsWhole, CollectionRow, collection_in, is_filed}
+use Rattle.forest_steps.proofs.Common.{nodes_with, row_of, reserved_count, are_rooted, is_head, Entry, Contains-from_any}
 use Rattle.forest_steps.proofs.Common.{list_any-from_Contains, and-false, blocked_at, Going, HasUnits, hangs_in, heads_below, unit_of}
 use Rattle.forest_steps.proofs.Common.{IsTaken, gone_by, Stores, all_of, stored, is_blocking, GoTogether, found_whole, times_map}
-use Rattle.forest_steps.proofs.Common.{in_looked, in_all, looked_there, in_shelf, all_at, all-In, IsSameNode, Up, StoreAgrees}
+use Rattle.forest_steps.proofs.Common.{in_looked, in_all, looked_there, in_row, all_at, all-In, IsSameNode, Up, StoreAgrees}
 use Rattle.forest_steps.proofs.Common.{or_none_right, unreckoned, given_of, goes_in, goes_not, goes_of, gone_of, same_of, all_in}
-use Rattle.forest_steps.proofs.Common.{hangs_mapped, looked-map, one_shelf, IsSound-map, kept-with, IsGoneSo, went_now}
+use Rattle.forest_steps.proofs.Common.{hangs_mapped, looked-map, one_row, IsSound-map, kept-with, IsGoneSo, went_now}
 use Rattle.forest_store.specs.Counts.{HasUnit, AreUnitsExcept, head_above}
 use Rattle.forest_steps.proofs.tables.Upward.{head_there}
 use Rattle.forest_store.specs.LossMarks.{untallied}
@@ -24,7 +24,7 @@ use Rattle.forest_store.proofs.quiescence.Together.{StepsUp, goes_up, together_t
 use Rattle.forest_store.proofs.quiescence.United.{united_mapped}
 use Rattle.forest_store.proofs.tallies.Untold.{but, taken_count, times_same, untallied_long, untallied_other, untallied_takes}
 use Rattle.forest_store.proofs.leaving.Noted.{more_noted}
-use Rattle.forest_steps.proofs.tables.OfShelf.{of_it, linked}
+use Rattle.forest_steps.proofs.tables.OfRow.{of_it, linked}
 
 -- the nodes of a whole collection are formed so
 whole_formed : {c : Collection} → IsWhole c → AreFormed c.nodes
@@ -42,11 +42,11 @@ one_option n e = cc
 
 -- ---- the change
 
-module _ {t : Table Node} {us : List Unit} {ss : List Shelf} {old : Entry} (store : StoreAgrees t us ss old) (going : Going)
+module _ {t : Table Node} {us : List Unit} {ss : List CollectionRow} {old : Entry} (store : StoreAgrees t us ss old) (going : Going)
     {origin : NodeKey} {keys : List NodeKey} (taken : IsTaken t origin keys) (own : all_of old.id (nodes_with t keys) ≡ true) where
-  -- the shelf of the entry as it was
-  abbrev pub s : Shelf
-  s = shelf_of old
+  -- the row of the entry as it was
+  abbrev pub s : CollectionRow
+  s = row_of old
 
   -- a node after the removal: it is marked as gone if its key is one of the removed keys
   abbrev pub f : Node → Node
@@ -83,7 +83,7 @@ module _ {t : Table Node} {us : List Unit} {ss : List Shelf} {old : Entry} (stor
   -- what falls is of the collection
   pub within : (n : Node) → In n fallen → In n nodes
   within n on =
-      in_shelf t ss store.kept _ s store.found _ n (in_all _ _ (looked_there t store.kept.named _) n on)
+      in_row t ss store.kept _ s store.found _ n (in_all _ _ (looked_there t store.kept.named _) n on)
       (eqb-true _ _ (all-In _ _ n on own))
 
   -- what fell is taken from the count
@@ -254,7 +254,7 @@ module _ {t : Table Node} {us : List Unit} {ss : List Shelf} {old : Entry} (stor
     filed = filed_fallen t store.kept.named _ _ _ own
 
     -- the other collections stay as they are
-    pub beside_same : (x : Shelf) → x.id ≢ s.id → list_all (is_filed t x.id) x.keys ≡ true → collection_in now x ≡ collection_in t x
+    pub beside_same : (x : CollectionRow) → x.id ≢ s.id → list_all (is_filed t x.id) x.keys ≡ true → collection_in now x ≡ collection_in t x
     beside_same x differ x_filed = collection-beside t now _ _ stores store.kept.named filed x differ x_filed
 
     -- a test that none of those that went passes, and none did before, none passes
@@ -294,15 +294,15 @@ module _ {t : Table Node} {us : List Unit} {ss : List Shelf} {old : Entry} (stor
       together = together_now;
     }
 
-    -- the search by id finds the shelf, so the list of shelves has it
-    in_shelves : In s ss
-    in_shelves = (In-find _ ss s store.found).0
+    -- the search by id finds the row, so the list of rows has it
+    in_rows : In s ss
+    in_rows = (In-find _ ss s store.found).0
 
     -- this collection is whole, and the others stay
-    whole_now : AllByRecursion (λ (x : Shelf). IsWhole (collection_in now x)) ss
+    whole_now : AllByRecursion (λ (x : CollectionRow). IsWhole (collection_in now x)) ss
     whole_now = all_in _ ss (λ x on. elim (either_way (x.id == s.id)) [
       | inl e ↦
-          rw (one_shelf ss store.kept.rising x s on in_shelves (eqb-true _ _ e))
+          rw (one_row ss store.kept.rising x s on in_rows (eqb-true _ _ e))
           (subst IsWhole (sym now_is) whole_after)
       | inr e ↦
           subst IsWhole (sym (beside_same stores x (eqb-false x.id s.id e) (all-In _ ss x on store.kept.filed)))
@@ -320,7 +320,7 @@ module _ {t : Table Node} {us : List Unit} {ss : List Shelf} {old : Entry} (stor
         but_join new _ _ (but_moved t now new _ ss (λ x there differ.
         beside_same stores x differ (all-In _ ss x there store.kept.filed)) units_but) (λ c on is.
         let x = In-map _ ss c on in
-        let one : x.0 ≡ s = one_shelf ss store.kept.rising x.0 s x.1 in_shelves (sym (ap (λ (d : Collection). d.id) x.2) ∙ is) in
+        let one : x.0 ≡ s = one_row ss store.kept.rising x.0 s x.1 in_rows (sym (ap (λ (d : Collection). d.id) x.2) ∙ is) in
         rw (x.2 ∙ (ap (collection_in now) one ∙ now_is)) has_now)
 
   -- ---- the whole
@@ -328,16 +328,16 @@ module _ {t : Table Node} {us : List Unit} {ss : List Shelf} {old : Entry} (stor
   -- the store agrees again
   module _ {now : Table Node} {after : List Unit} {entry : Entry} (gone : IsGoneSo t now us after old entry going origin keys)
       (rooted_now : are_rooted (reverse (map f nodes)) ≡ true) where
-    -- the shelf is the same
+    -- the row is the same
     same_keys : entry.keys.items ≡ old.keys.items
-    same_keys = ap (λ (x : Shelf). x.keys) gone.shelf
+    same_keys = ap (λ (x : CollectionRow). x.keys) gone.row
 
     -- the same keys
     nodes_are : nodes_with now entry.keys.items ≡ map f nodes
     nodes_are = ap (nodes_with now) same_keys ∙ nodes_then gone.stores
 
     -- what went is noted, or the entry is no longer tidy
-    stays_over : entry.garbage_known ≡ true → list_any (over_except entry.garbage.items) (nodes_with now entry.keys.items) ≡ false
+    stays_over : entry.unkept_known ≡ true → list_any (unkept_except entry.unkept.items) (nodes_with now entry.keys.items) ≡ false
     stays_over h = grind (arith, more_noted, over_now, same_keys, went_now)
 
     -- what went is counted nowhere any more, so the counts are those of what is left
@@ -348,7 +348,7 @@ module _ {t : Table Node} {us : List Unit} {ss : List Shelf} {old : Entry} (stor
         let count : entry.strong ≡ strong_count (map f nodes) = omega arith in
         record {
           kept = kept_now gone.stores rooted_now;
-          found = subst (λ (x : Shelf). find (λ (y : Shelf). y.id == x.id) ss ≡ Some x) (sym gone.shelf) store.found;
+          found = subst (λ (x : CollectionRow). find (λ (y : CollectionRow). y.id == x.id) ss ≡ Some x) (sym gone.row) store.found;
           units = subst (λ x. AreUnits x (map (collection_in now) ss)) (sym gone.units)
               (units_now gone.stores rooted_now);
           inside = λ key n is.
@@ -357,5 +357,5 @@ module _ {t : Table Node} {us : List Unit} {ss : List Shelf} {old : Entry} (stor
           strong = count ∙ ap strong_count (sym nodes_are);
           reserved = gone.reserved (reserved_count (nodes_with now entry.keys.items))
               ((λ i. reserved_count (nodes_are i) + reserved_count fallen) ∙ (reserved_is ∙ sym store.reserved));
-          garbage_known = stays_over;
+          unkept_known = stays_over;
         }

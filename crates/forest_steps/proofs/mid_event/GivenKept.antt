@@ -3,7 +3,7 @@ use Rattle.forest_steps.proofs.Common.{◌≡◌, ◌==◌, if◌then◌else◌,
 use Rattle.forest_steps.proofs.Common.{inr, List, [], ◌∷◌, ◌++◌, map, Option, Some, None, option_map, is_none, filter, find, list_any}
 use Rattle.forest_steps.proofs.Common.{option_map_or, Interval, NodeKey, Cause, forced, when, In, In-find, In-list_any, In-map, both_ways}
 use Rattle.forest_steps.proofs.Common.{either_way, false_if, In-any, Table, Change, Effect, Entry, Node, Unit, has_strong, Collection}
-use Rattle.forest_steps.proofs.Common.{with_nodes, IsStored, Shelf, collection_in, forest_of, affected, are_distinct, is_deserted_node}
+use Rattle.forest_steps.proofs.Common.{with_nodes, IsStored, CollectionRow, collection_in, forest_of, affected, are_distinct, is_deserted_node}
 use Rattle.forest_steps.proofs.Common.{is_root_left, Handles, Settles, collection_or_new, put, standing, list_any-append, unwrap_or}
 use Rattle.forest_steps.proofs.Common.{Failure, Fault, outcome, Mark, Loss, places, pages_of, Holdings, HaveUnits, Decision, Ends, Loses}
 use Rattle.forest_steps.proofs.Common.{Places, decided, first_step, mark_of, wanted_by, collection_at, pages_in, Finishes, IsOutcomeIn}
@@ -13,9 +13,9 @@ use Rattle.forest_steps.proofs.Common.{cases_place, losing, first_some, remains_
 use Rattle.std.proofs.Common.{IfSome}
 use Rattle.sm_names.specs.Marks.{Called}
 use Rattle.forest_store.specs.Calm.{IsForest}
-use Rattle.forest_store.specs.Forest.{is_left, tidied, without_over_in}
+use Rattle.forest_store.specs.Forest.{is_left, tidied, without_unkept_in}
 use Rattle.forest_store.specs.Given.{AreServedByGiven}
-use Rattle.forest_store.specs.Shelves.{born}
+use Rattle.forest_store.specs.CollectionRows.{born}
 use Rattle.forest_store.proofs.changes.Altering.{change_makes}
 use Rattle.forest_store.proofs.leaving.Thinning.{none-filter}
 use Rattle.forest_store.proofs.newborns.Newborn.{before_is}
@@ -190,14 +190,14 @@ given_put new (c ∷ cs) own all =
     (λ other below. rw (other, below) (all.0, given_put new cs own all.1))
 
 -- what is finished keeps it of all
-pub given_finished : {pool : ℕ} {handles : Handles} {old : Table Node} {before : List Shelf} {new : Table Node} {behind : List Shelf}
+pub given_finished : {pool : ℕ} {handles : Handles} {old : Table Node} {before : List CollectionRow} {new : Table Node} {behind : List CollectionRow}
     {c : Collection} → Finishes pool handles old before new behind c → are_distinct c.nodes ≡ true → IsServedByGiven c →
     AreServedByGiven (map (collection_in old) before) → AreServedByGiven (map (collection_in new) behind)
 given_finished f apart own all =
     subst AreServedByGiven (sym f.collections) (given_put _ _ (given_settled apart own f.settles) all)
 
 -- the collection with the id, or an empty one
-pub given_at : (t : Table Node) (ss : List Shelf) (id : ℕ) → AreServedByGiven (map (collection_in t) ss) →
+pub given_at : (t : Table Node) (ss : List CollectionRow) (id : ℕ) → AreServedByGiven (map (collection_in t) ss) →
     IsServedByGiven (collection_or_new (forest_of t ss) id)
 given_at t ss id all = from (collection_at (forest_of t ss) id) refl
   where
@@ -208,7 +208,7 @@ given_at t ss id all = from (collection_at (forest_of t ss) id) refl
     from (Some c) is = all_at _ _ all c (In-find _ _ c is).0
 
 -- a change with all that it forces keeps it of all
-pub given_change : {pool : ℕ} {handles : Handles} {t now : Table Node} {ss behind : List Shelf} (id : ℕ) (change : Change) →
+pub given_change : {pool : ℕ} {handles : Handles} {t now : Table Node} {ss behind : List CollectionRow} (id : ℕ) (change : Change) →
     IsStored t ss → is_birth change ≡ false →
     Finishes pool handles t ss now behind (changed change no_key (collection_or_new (forest_of t ss) id)) →
     AreServedByGiven (map (collection_in t) ss) → AreServedByGiven (map (collection_in now) behind)
@@ -242,13 +242,13 @@ given_some p (c ∷ cs) all = from (p c) (given_some p cs all.1)
     from false on = on
 
 -- by induction: nodes are left out, and perhaps the collection
-pub given_over : (id : ℕ) (cs : List Collection) → AreServedByGiven cs → AreServedByGiven (without_over_in id cs)
+pub given_over : (id : ℕ) (cs : List Collection) → AreServedByGiven cs → AreServedByGiven (without_unkept_in id cs)
 given_over id [] all = tt
 given_over id (c ∷ cs) all = from (c.id == id) (is_left (tidied c)) (given_over id cs all.1)
   where
     -- by cases: this collection is tidied or left out, and the others stay
-    from : (here bare : Bool) → AreServedByGiven (without_over_in id cs) →
-        AreServedByGiven (if here then (if bare then cs else tidied c ∷ cs) else c ∷ without_over_in id cs)
+    from : (here bare : Bool) → AreServedByGiven (without_unkept_in id cs) →
+        AreServedByGiven (if here then (if bare then cs else tidied c ∷ cs) else c ∷ without_unkept_in id cs)
     from here bare h = grind (arith, none-filter)
 
 -- so what holds of each forest holds after a change

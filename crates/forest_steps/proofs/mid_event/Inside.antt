@@ -2,19 +2,20 @@
 use Rattle.forest_steps.proofs.Common.{◌≡◌, ◌==◌, ap, sym, ◌∙◌, subst, Bool, true, false, not, ◌&&◌, ◌||◌, ◌⊎◌, inl, inr, List, [], ◌∷◌}
 use Rattle.forest_steps.proofs.Common.{Some, arith, not-true, find, list_any, option_map_or, NodeKey, same_key, In, In-list_any, and_left}
 use Rattle.forest_steps.proofs.Common.{and_right, either_way, or_left, same_key-refl, same_key-true, In-any, Table, node_at, parent_at}
-use Rattle.forest_steps.proofs.Common.{Node, Unit, IsStored, Shelf, nodes_with, same_key-equal, Contains-from_any, list_any-from_Contains}
+use Rattle.forest_steps.proofs.Common.{Node, Unit, IsStored, CollectionRow, nodes_with, same_key-equal, Contains-from_any, list_any-from_Contains}
 use Rattle.forest_steps.proofs.Common.{Below, Top, Within, stopped_at, HasUnits, is_head_at, node_there, head_own, left_node, left_parent}
 use Rattle.forest_steps.proofs.Common.{In-filter, In-filter-back, AreHeads, IsGathered, hangs_below, is_ready_head}
 use Rattle.forest_store.specs.UnitAllocation.{is_outside}
 use Rattle.forest_steps.proofs.tables.Upward.{own_head, by_unit}
 use Rattle.forest_steps.proofs.failures.Ties.{key_equivalence}
 use Rattle.forest_store.proofs.allocation.Before.{some_there}
-use Rattle.forest_steps.proofs.tables.OfShelf.{whole, at_key}
+use Rattle.forest_steps.proofs.tables.OfRow.{whole, at_key}
 
-module _ {t : Table Node} {ss : List Shelf} (kept : IsStored t ss) {s : Shelf} (found : find (λ (x : Shelf). x.id == s.id) ss ≡ Some s)
+module _ {t : Table Node} {ss : List CollectionRow} (kept : IsStored t ss) {s : CollectionRow}
+    (found : find (λ (x : CollectionRow). x.id == s.id) ss ≡ Some s)
     {us : List Unit} (counts : HasUnits us (nodes_with t s.keys)) {k : NodeKey}
     {hs : List NodeKey} {ks : List NodeKey} (gathered : IsGathered t us s.id k hs ks) where
-  -- the nodes that the table has under the shelf's keys
+  -- the nodes that the table has under the row's keys
   abbrev nodes : List Node
   nodes = nodes_with t s.keys
 

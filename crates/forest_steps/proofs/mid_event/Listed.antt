@@ -2,10 +2,10 @@
 use Rattle.forest_steps.proofs.Common.{◌≡◌, ℕ, ◌==◌, refl, ap, sym, ◌∙◌, subst, Bool, true, false, not, ◌&&◌, inl, inr, List, Option}
 use Rattle.forest_steps.proofs.Common.{Some, None, arith, not-true, find, list_any, sum_by, option_map_or, NodeKey, Buffers, Demand}
 use Rattle.forest_steps.proofs.Common.{same_key, In, and_left, and_right, both_ways, either_way, false_if, same_key-true, Table}
-use Rattle.forest_steps.proofs.Common.{node_at, parent_at, Effect, Node, affected, IsStored, Shelf, nodes_with, reserved_count}
+use Rattle.forest_steps.proofs.Common.{node_at, parent_at, Effect, Node, affected, IsStored, CollectionRow, nodes_with, reserved_count}
 use Rattle.forest_steps.proofs.Common.{same_key-equal, Contains-from_any, list_any-from_Contains, filter_map, greatest, Writes}
 use Rattle.forest_steps.proofs.Common.{Below, Top, Within, stopped_at, Going, late_failure, demands_of, is_in_unit, same_affected}
-use Rattle.forest_steps.proofs.Common.{in_looked, IsBareHead, key_listed, head_own, in_all, looked_there, in_shelf, camped_sum}
+use Rattle.forest_steps.proofs.Common.{in_looked, IsBareHead, key_listed, head_own, in_all, looked_there, in_row, camped_sum}
 use Rattle.forest_steps.proofs.Common.{and-false, ◌↔◌, Contains, refusal, IsUnitListed, asked_there, parents-written, amount_within}
 use Rattle.forest_steps.proofs.tables.Upward.{own_head, by_unit}
 use Rattle.std.specs.Option.{option_map}
@@ -13,11 +13,12 @@ use Rattle.forest_steps.proofs.failures.Ties.{key_equivalence}
 use Rattle.forest_steps.proofs.allocation.Sums.{asked_back, asked_of, asks_passes, joined, greatest_same}
 use Rattle.forest_steps.proofs.mid_event.Affecting.{look_here}
 use Rattle.forest_steps.proofs.tables.Rows.{child_node}
-use Rattle.forest_steps.proofs.tables.OfShelf.{whole, linked, at_key, of_it}
+use Rattle.forest_steps.proofs.tables.OfRow.{whole, linked, at_key, of_it}
 
-module _ {t : Table Node} {ss : List Shelf} (kept : IsStored t ss) {s : Shelf} (found : find (λ (x : Shelf). x.id == s.id) ss ≡ Some s)
+module _ {t : Table Node} {ss : List CollectionRow} (kept : IsStored t ss) {s : CollectionRow}
+    (found : find (λ (x : CollectionRow). x.id == s.id) ss ≡ Some s)
     {k : NodeKey} (top : IsBareHead (nodes_with t s.keys) k) {ks : List NodeKey} (listed : IsUnitListed t k ks) where
-  -- the nodes that the table has under the shelf's keys
+  -- the nodes that the table has under the row's keys
   abbrev nodes : List Node
   nodes = nodes_with t s.keys
 
@@ -83,7 +84,7 @@ module _ {t : Table Node} {ss : List Shelf} (kept : IsStored t ss) {s : Shelf} (
       let m = inside_node _ (key_inside _ (key_listed t kept.named ks n on)) in
       let both : Some n ≡ Some m.0 = sym is ∙ m.1 in
       let same : n ≡ m.0 = cc in
-      in_shelf t ss kept _ s found _ n is (ap (λ (x : Node). x.collection) same ∙ m.2)
+      in_row t ss kept _ s found _ n is (ap (λ (x : Node). x.collection) same ∙ m.2)
 
   -- the same, said of a key
   pub key_within : {n : Node} → node_at t n.key ≡ Some n → list_any (same_key n.key) ks ≡ true → In n nodes

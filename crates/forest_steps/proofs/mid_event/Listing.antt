@@ -4,11 +4,11 @@ use Rattle.forest_steps.proofs.Common.{inr, get_or, length, List, [], ◌∷◌,
 use Rattle.forest_steps.proofs.Common.{find, list_any, option_map_or, NodeKey, same_key, In-list_any, In-map, In-map-back, and_both}
 use Rattle.forest_steps.proofs.Common.{and_left, and_right, both_ways, either_way, false_if, or_cases, or_right, same_key-refl}
 use Rattle.forest_steps.proofs.Common.{same_key-true, some-injective, In-any, Table, node_at, parent_at, Entry, Node, Unit, AreUnits}
-use Rattle.forest_steps.proofs.Common.{unit_at, IsStored, Shelf, collection_in, nodes_with, shelf_of, Below, Top, Within, Going}
-use Rattle.forest_steps.proofs.Common.{HasUnits, Hangs, Roots, is_head_at, is_waiting_head, in_looked, key_listed, node_there, in_shelf}
+use Rattle.forest_steps.proofs.Common.{unit_at, IsStored, CollectionRow, collection_in, nodes_with, row_of, Below, Top, Within, Going}
+use Rattle.forest_steps.proofs.Common.{HasUnits, Hangs, Roots, is_head_at, is_waiting_head, in_looked, key_listed, node_there, in_row}
 use Rattle.forest_steps.proofs.Common.{slice_get, In-get_or, PendingUnit, AreHeads, IsGathered, hangs_below, is_ready_head, AreClosed}
 use Rattle.forest_steps.proofs.Common.{ArePlacedIfThere, AreTurns, MidEvent, is_head_left, turn_heads, eq-eqb}
-use Rattle.forest_store.proofs.changes.Altering.{Some-shelf}
+use Rattle.forest_store.proofs.changes.Altering.{Some-row}
 use Rattle.forest_store.proofs.allocation.Before.{closed_below}
 use Rattle.std.proofs.Common.{filter}
 use Rattle.std.proofs.lemmas.List.Sorted.{All-permutation, IsPermutation-map, list_any-IsPermutation}
@@ -16,13 +16,13 @@ use Rattle.std.proofs.lemmas.Option.{slice_get_read}
 use Rattle.std.specs.List.Sorted.{IsNonDecreasingBy, IsPermutation}
 use Rattle.sm_names.specs.Elements.{In}
 use Rattle.sm_names.proofs.ListLaws.{In-append}
-use Rattle.forest_store.specs.Garbage.{IsPlace}
+use Rattle.forest_store.specs.Unkept.{IsPlace}
 use Rattle.forest_store.specs.UnitAllocation.{IsWalked, left_out_at}
 use Rattle.forest_steps.specs.MidEvent.{AreInTurn}
 use Rattle.forest_steps.proofs.lists.ByKey.{place_of}
 use Rattle.forest_steps.proofs.turns.Places.{grown, key_node, node_key, one_place}
 use Rattle.forest_steps.proofs.mid_event.EndAbove.{head_left}
-use Rattle.forest_steps.proofs.tables.OfShelf.{of_it}
+use Rattle.forest_steps.proofs.tables.OfRow.{of_it}
 use Rattle.forest_steps.proofs.mid_event.Inside as inside
 
 -- ---- lists of turns
@@ -60,17 +60,19 @@ placed_more keys ws w vs is before more v on there =
 -- ---- counts
 
 -- the counts of a collection are among those of all
-pub units_found : (t : Table Node) (us : List Unit) (id : ℕ) (ss : List Shelf) {s : Shelf} → AreUnits us (map (collection_in t) ss) →
-    find (λ (x : Shelf). x.id == id) ss ≡ Some s → HasUnits us (nodes_with t s.keys)
+pub units_found : (t : Table Node) (us : List Unit) (id : ℕ) (ss : List CollectionRow) {s : CollectionRow} →
+    AreUnits us (map (collection_in t) ss) →
+    find (λ (x : CollectionRow). x.id == id) ss ≡ Some s → HasUnits us (nodes_with t s.keys)
 units_found t us id [] all found = cc
 units_found t us id (x ∷ xs) {s} all found = elim (either_way (x.id == id)) [
-  | inl e ↦ rw (Some-shelf x s (rw e at found)) at all.0
+  | inl e ↦ rw (Some-row x s (rw e at found)) at all.0
   | inr e ↦ units_found t us id xs all.1 (rw e at found)
 ]
 
-module _ {t : Table Node} {ss : List Shelf} (kept : IsStored t ss) {s : Shelf} (found : find (λ (x : Shelf). x.id == s.id) ss ≡ Some s)
+module _ {t : Table Node} {ss : List CollectionRow} (kept : IsStored t ss) {s : CollectionRow}
+    (found : find (λ (x : CollectionRow). x.id == s.id) ss ≡ Some s)
     (k : NodeKey) where
-  -- the nodes that the table has under the shelf's keys
+  -- the nodes that the table has under the row's keys
   abbrev nodes : List Node
   nodes = nodes_with t s.keys
 
@@ -123,9 +125,9 @@ module _ {t : Table Node} {ss : List Shelf} (kept : IsStored t ss) {s : Shelf} (
 
     -- a node of the table that heads a unit as it is asked for is one of the collection
     in_nodes : (j : NodeKey) {m : Node} → node_at t j ≡ Some m → is_ready_head us s.id m ≡ true → In m nodes
-    in_nodes j {m} is ready = in_shelf t ss kept _ s found j m is (eqb-true _ _ (and_left _ _ ready))
+    in_nodes j {m} is ready = in_row t ss kept _ s found j m is (eqb-true _ _ (and_left _ _ ready))
 
-    -- each node's key is one of the shelf's
+    -- each node's key is one of the row's
     listed : (j : NodeKey) {m : Node} → node_at t j ≡ Some m → In m nodes → list_any (same_key j) s.keys ≡ true
     listed j {m} is on = rw (kept.named j m is) at (key_listed t kept.named _ m on)
 
@@ -170,7 +172,7 @@ module _ {t : Table Node} {ss : List Shelf} (kept : IsStored t ss) {s : Shelf} (
           ],
         )
 
-    -- the key of the head that is left is one of the shelf's
+    -- the key of the head that is left is one of the row's
     first_listed : list_any (same_key k) s.keys ≡ true
     first_listed = let h = head_left nodes k left in rw h.is at (key_listed t kept.named _ h.node h.on)
 
@@ -233,14 +235,14 @@ module _ {t : Table Node} {ss : List Shelf} (kept : IsStored t ss) {s : Shelf} (
 -- ---- in a collection under way
 
 -- the lemmas above, at the collection of the entry
-pub turns_listed : {t : Table Node} {us : List Unit} {ss : List Shelf} {e : Entry} {unheld pending : List NodeKey} →
+pub turns_listed : {t : Table Node} {us : List Unit} {ss : List CollectionRow} {e : Entry} {unheld pending : List NodeKey} →
     MidEvent t us ss e unheld pending → {k : NodeKey} → is_head_left (nodes_with t e.keys.items) k ≡ true →
     {ks : List NodeKey} → IsWalked t us e.id k ks → (ws vs : List PendingUnit) →
     turn_heads ws ≡ filter (is_head_at t us e.id k) ks → ArePlacedIfThere e.keys.items ws → IsPermutation ws vs →
     IsNonDecreasingBy (λ (w : PendingUnit). w.place) vs →
     AreTurns t e.keys.items vs × ((place : ℕ) × (rest : List PendingUnit) × (vs ≡ record { place = place; head = k } ∷ rest))
 turns_listed {t} {us} {ss} {e} under {k} left walked ws vs heads placed moved rising =
-    let s : Shelf = shelf_of e in
+    let s : CollectionRow = row_of e in
     let counts : HasUnits us (nodes_with t s.keys) = units_found t us _ ss under.store.units under.store.found in (
       are_turns under.store.kept under.store.found k counts under.store.inside left walked ws vs heads placed moved rising,
       first_is under.store.kept under.store.found k counts under.store.inside left walked ws vs heads placed moved rising,

@@ -2,14 +2,14 @@
 use Rattle.forest_steps.proofs.Common.{◌≡◌, ℕ, refl, ap, sym, ◌∙◌, subst, Bool, true, false, not, inl, inr, List, [], ◌∷◌, Option}
 use Rattle.forest_steps.proofs.Common.{Some, None, eq-eqb, not-true, list_all, list_any, option_map_or, NodeKey, same_key, times, In}
 use Rattle.forest_steps.proofs.Common.{In-list_any, and_both, and_left, and_right, both_ways, either_way, false_if, same_key-true}
-use Rattle.forest_steps.proofs.Common.{all_on, In-any, Table, node_at, parent_at, Entry, Node, Unit, unit_at, waits_in, waiting, Shelf}
+use Rattle.forest_steps.proofs.Common.{all_on, In-any, Table, node_at, parent_at, Entry, Node, Unit, unit_at, waits_in, waiting, CollectionRow}
 use Rattle.forest_steps.proofs.Common.{nodes_with, is_next_node, is_ready_node, same_key-equal, row_at, unit_of, is_allocated_node}
 use Rattle.forest_steps.proofs.Common.{is_waiting_head, count_none, arith, or_first, IsSome, PendingUnit, has_turn_at, is_next_there}
 use Rattle.forest_steps.proofs.Common.{MidEvent, is_head_left, is_next_except, turn_heads, waits_among, or_left}
 use Rattle.forest_store.specs.UnitAllocation.{has_buffers_there}
 use Rattle.forest_steps.proofs.turns.Gifts.{not_this}
 use Rattle.forest_steps.proofs.mid_event.Ready.{none_next, under_with, unit_told}
-use Rattle.forest_steps.proofs.tables.OfShelf.{at_key}
+use Rattle.forest_steps.proofs.tables.OfRow.{at_key}
 
 -- ---- which are due
 
@@ -35,7 +35,7 @@ next_fewer nodes pending few next each = false_if _ (λ h.
 
 -- ---- what the counts tell
 
-module _ {t : Table Node} {us : List Unit} {ss : List Shelf} {e : Entry} {unheld pending : List NodeKey}
+module _ {t : Table Node} {us : List Unit} {ss : List CollectionRow} {e : Entry} {unheld pending : List NodeKey}
     (u : MidEvent t us ss e unheld pending) (k : NodeKey) (head : Node) (head_on : In head (nodes_with t e.keys.items))
     (head_key : head.key ≡ k) where
   -- the nodes that the table has under the entry's keys
@@ -101,7 +101,7 @@ next_by t k read us r b told same is = ap (λ xs. is_next_there t xs k) (sym sam
 pub told_there : (t : Table Node) (us : List Unit) (k : NodeKey) → is_next_there t us k ≡ true → IsSome (row_at t k)
 told_there t us k told = grind arith
 
-module _ {t : Table Node} {us : List Unit} {ss : List Shelf} {e : Entry} {k : NodeKey} (u : MidEvent t us ss e [] (k ∷ []))
+module _ {t : Table Node} {us : List Unit} {ss : List CollectionRow} {e : Entry} {k : NodeKey} (u : MidEvent t us ss e [] (k ∷ []))
     (no_wait : waits_among [] (nodes_with t e.keys.items) ≡ true) where
   -- the nodes that the table has under the entry's keys
   abbrev nodes_one : List Node

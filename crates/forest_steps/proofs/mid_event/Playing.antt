@@ -2,8 +2,8 @@
 use Rattle.forest_steps.proofs.Common.{◌≡◌, refl, ap, sym, ◌∙◌, subst, Bool, true, false, not, ◌&&◌, ◌||◌, ◌⊎◌, inl, inr, List, [], ◌∷◌}
 use Rattle.forest_steps.proofs.Common.{Option, Some, None, not-true, list_any, option_map_or, NodeKey, same_key, In, In-list_any}
 use Rattle.forest_steps.proofs.Common.{In-map, In-map-back, and_both, and_left, and_right, either_way, same_key-true, all_on, In-any}
-use Rattle.forest_steps.proofs.Common.{Table, Effect, Entry, Node, Unit, waiting, Collection, IsWhole, Shelf, collection_in, nodes_with}
-use Rattle.forest_steps.proofs.Common.{shelf_of, is_of, Handles, Settles, is_head, arith, Fault, or_none_right, after_end, after_loss}
+use Rattle.forest_steps.proofs.Common.{Table, Effect, Entry, Node, Unit, waiting, Collection, IsWhole, CollectionRow, collection_in, nodes_with}
+use Rattle.forest_steps.proofs.Common.{row_of, is_of, Handles, Settles, is_head, arith, Fault, or_none_right, after_end, after_loss}
 use Rattle.forest_steps.proofs.Common.{ended, all-In, found_whole, distinct_one, IsSameNode, or_first, after_effect, AreOrEnd}
 use Rattle.forest_steps.proofs.Common.{AfterEffect, IsBeside, AfterLoss, AfterSteps, PropagatedFrom, AfterPropagation, MidEvent}
 use Rattle.forest_steps.proofs.Common.{Reaches, are_held_except, holds_unit, is_head_left, is_held, waits_among, hangs_mapped}
@@ -15,13 +15,13 @@ use Rattle.forest_steps.proofs.mid_event.RootLost.{ready_root}
 -- ---- a loss
 
 -- nothing is due after a loss
-pub played_lost : {handles : Handles} {t now : Table Node} {us : List Unit} {ss : List Shelf} {old new : Entry} {fault : Fault} →
+pub played_lost : {handles : Handles} {t now : Table Node} {us : List Unit} {ss : List CollectionRow} {old new : Entry} {fault : Fault} →
     AfterLoss handles t now us ss old new fault [] →
     PropagatedFrom handles (after_loss fault (nodes_with t old.keys.items)) t now us ss old new
 played_lost felled = record {
   pending = [];
   under = felled.under;
-  shelf = felled.shelf;
+  row = felled.row;
   leads = felled.leads;
   beside = felled.beside;
   out = inl refl;
@@ -123,11 +123,11 @@ module _ {c d : Collection} (whole : IsWhole c) (whole_then : IsWhole d) (head :
 
 -- ---- an effect
 
-module _ {t mid : Table Node} {us : List Unit} {ss : List Shelf} {e e1 : Entry} {key : NodeKey} {effect : Effect} {head : NodeKey}
+module _ {t mid : Table Node} {us : List Unit} {ss : List CollectionRow} {e e1 : Entry} {key : NodeKey} {effect : Effect} {head : NodeKey}
     (affected : AfterEffect t mid us ss e e1 key effect head) where
   -- the head of its unit is left
   pub still_left : is_head_left (nodes_with mid e1.keys.items) head ≡ true
-  still_left = subst (λ (s : Shelf). is_head_left (nodes_with mid s.keys) head ≡ true) (sym affected.shelf) affected.left
+  still_left = subst (λ (s : CollectionRow). is_head_left (nodes_with mid s.keys) head ≡ true) (sym affected.row) affected.left
 
   module _ {handles : Handles} {then : Table Node} {vs : List Unit} {e2 : Entry}
       (led : AfterSteps handles mid then vs ss e1 e2 [] (head ∷ []))
@@ -138,11 +138,11 @@ module _ {t mid : Table Node} {us : List Unit} {ss : List Shelf} {e e1 : Entry} 
 
     -- the same nodes, by the same keys
     were : nodes_with mid e1.keys.items ≡ nodes
-    were = ap (λ (s : Shelf). nodes_with mid s.keys) affected.shelf ∙ affected.nodes
+    were = ap (λ (s : CollectionRow). nodes_with mid s.keys) affected.row ∙ affected.nodes
 
     -- the same keys
     ends_then : AreOrEnd (nodes_with mid e1.keys.items) (nodes_with then e2.keys.items)
-    ends_then = subst (λ (s : Shelf). AreOrEnd (nodes_with mid e1.keys.items) (nodes_with then s.keys)) (sym led.shelf) ends
+    ends_then = subst (λ (s : CollectionRow). AreOrEnd (nodes_with mid e1.keys.items) (nodes_with then s.keys)) (sym led.row) ends
 
     -- it is there then
     there_then : list_any (is_of head) (nodes_with then e2.keys.items) ≡ true
@@ -152,7 +152,7 @@ module _ {t mid : Table Node} {us : List Unit} {ss : List Shelf} {e e1 : Entry} 
     none_waits_then : (are_held_except [] nodes ≡ true → waiting nodes ≡ None) → waits_among [] (nodes_with then e2.keys.items) ≡ true
     none_waits_then waits =
         root_none (found_whole mid _ ss _ affected.under.store.kept.whole affected.under.store.found)
-        (found_whole then e2.id ss (shelf_of e2) led.under.store.kept.whole led.under.store.found)
+        (found_whole then e2.id ss (row_of e2) led.under.store.kept.whole led.under.store.found)
         _ affected.under.held still_left ends_then
         led.under.held led.under.root (rw were waits)
 
@@ -162,22 +162,22 @@ module _ {t mid : Table Node} {us : List Unit} {ss : List Shelf} {e e1 : Entry} 
         waits_among [] (nodes_with then e2.keys.items) ≡ true → e2.buffers ≡ e.buffers → AfterPropagation handles then now ws ss e2 e3) →
         PropagatedFrom handles nodes t now ws ss e e3
     played_affected waits now ws e3 more =
-        let out = more led.under there_then (none_waits_then waits) (ap (λ (s : Shelf). s.buffers) (led.shelf ∙ affected.shelf)) in
+        let out = more led.under there_then (none_waits_then waits) (ap (λ (s : CollectionRow). s.buffers) (led.row ∙ affected.row)) in
         let all = led_on led out.led in
         record {
           pending = out.pending;
           under = all.under;
-          shelf = all.shelf ∙ affected.shelf;
+          row = all.row ∙ affected.row;
           leads = λ pool others after on. subst (λ c. Settles pool handles others c after)
-              (λ i. record (collection_in t (shelf_of e)) { nodes = affected.nodes i })
-              (subst (λ s. Reaches pool handles others (collection_in mid s) (collection_in now s)) affected.shelf
+              (λ i. record (collection_in t (row_of e)) { nodes = affected.nodes i })
+              (subst (λ s. Reaches pool handles others (collection_in mid s) (collection_in now s)) affected.row
               (all.leads pool others) after on);
           beside = beside_on affected.beside
-              (subst (λ id. IsBeside mid now ss id) (ap (λ (s : Shelf). s.id) affected.shelf) all.beside);
+              (subst (λ id. IsBeside mid now ss id) (ap (λ (s : CollectionRow). s.id) affected.row) all.beside);
           out = out.out;
         }
 
 -- where nothing more is due it is played out
-pub played_none : (handles : Handles) {t : Table Node} {us : List Unit} {ss : List Shelf} {e : Entry} → MidEvent t us ss e [] [] →
+pub played_none : (handles : Handles) {t : Table Node} {us : List Unit} {ss : List CollectionRow} {e : Entry} → MidEvent t us ss e [] [] →
     AfterPropagation handles t t us ss e e
 played_none handles under = record { pending = []; led = led_none _ under; out = inl refl }

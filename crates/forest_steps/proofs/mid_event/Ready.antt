@@ -2,7 +2,7 @@
 use Rattle.forest_steps.proofs.Common.{◌≡◌, ◌<◌, ℕ, ◌==◌, refl, ap, sym, ◌∙◌, subst, true, false, inl, List, [], map, length}
 use Rattle.forest_steps.proofs.Common.{get_or, Option, Some, None, find, list_any, option_map_or, NodeKey, Buffers, same_key}
 use Rattle.forest_steps.proofs.Common.{In-list_any, In-any, Table, node_at, Entry, Node, Unit, AreUnits, waiting, IsStored, IsWhole}
-use Rattle.forest_steps.proofs.Common.{Shelf, collection_in, nodes_with, place_in, shelf_of, shelves_of, is_deserted_node}
+use Rattle.forest_steps.proofs.Common.{CollectionRow, collection_in, nodes_with, place_in, row_of, rows_of, is_deserted_node}
 use Rattle.forest_steps.proofs.Common.{is_next_node, Handles, AreCounted, IsCounted, HaveUnits, has_buffers, none_calm, found_whole}
 use Rattle.forest_steps.proofs.Common.{counted_but, place_is, arith, MayClose, MidEvent, is_next_except, found_counted}
 use Rattle.forest_steps.proofs.Common.{are_held_except, waits_among, unit_at, unit_of, In, in_all, all_at, In-map-back, In-find}
@@ -11,7 +11,7 @@ use Rattle.std.proofs.Math.Bool.{and-true}
 use Rattle.sm_names.proofs.ListLaws.{find-none, none-find}
 use Rattle.sm_names.proofs.SamenessLaws.{map-None}
 use Rattle.forest_store.proofs.tallies.Holding.{held_where, none_deserted}
-use Rattle.forest_steps.proofs.mid_event.Joining.{shelf_here}
+use Rattle.forest_steps.proofs.mid_event.Joining.{row_here}
 
 -- ---- where no unit is due
 
@@ -25,26 +25,26 @@ waits_none None h = refl
 waits_none (Some n) h = let no : false ≡ true = h in absurd (cc)
 
 -- the collection of the entry is whole
-pub whole_under : {t : Table Node} {us : List Unit} {ss : List Shelf} {e : Entry} {unheld pending : List NodeKey} →
-    MidEvent t us ss e unheld pending → IsWhole (collection_in t (shelf_of e))
+pub whole_under : {t : Table Node} {us : List Unit} {ss : List CollectionRow} {e : Entry} {unheld pending : List NodeKey} →
+    MidEvent t us ss e unheld pending → IsWhole (collection_in t (row_of e))
 whole_under {t} {ss} under = found_whole t _ ss _ under.store.kept.whole under.store.found
 
 -- the slot of each node's key has the counts of the unit that it would head
-pub unit_told : {t : Table Node} {us : List Unit} {ss : List Shelf} {e : Entry} {unheld pending : List NodeKey} →
+pub unit_told : {t : Table Node} {us : List Unit} {ss : List CollectionRow} {e : Entry} {unheld pending : List NodeKey} →
     MidEvent t us ss e unheld pending → (m : Node) → In m (nodes_with t e.keys.items) →
     unit_at us m.key.slot ≡ unit_of (nodes_with t e.keys.items) m.key
-unit_told {t} {ss} {e} u m on = (in_all _ _ (all_at _ _ u.store.units (collection_in t (shelf_of e))
+unit_told {t} {ss} {e} u m on = (in_all _ _ (all_at _ _ u.store.units (collection_in t (row_of e))
     (In-map-back _ ss _ (In-find _ ss _ u.store.found).0)) m on).1
 
 -- what is loose and what is due may be told otherwise, of the same store
-pub under_with : {t : Table Node} {us : List Unit} {ss : List Shelf} {e : Entry} {unheld pending loose due : List NodeKey} →
+pub under_with : {t : Table Node} {us : List Unit} {ss : List CollectionRow} {e : Entry} {unheld pending loose due : List NodeKey} →
     MidEvent t us ss e unheld pending → are_held_except loose (nodes_with t e.keys.items) ≡ true →
     list_any (is_next_except due (nodes_with t e.keys.items)) (nodes_with t e.keys.items) ≡ false →
     waits_among due (nodes_with t e.keys.items) ≡ true → MidEvent t us ss e loose due
 under_with under held next root = record { store = under.store; bare = under.bare; held = held; next = next; root = root }
 
 -- no node is deserted where no unit is loose
-pub no_end_under : {t : Table Node} {us : List Unit} {ss : List Shelf} {e : Entry} {pending : List NodeKey} →
+pub no_end_under : {t : Table Node} {us : List Unit} {ss : List CollectionRow} {e : Entry} {pending : List NodeKey} →
     MidEvent t us ss e [] pending →
     find (is_deserted_node (nodes_with t e.keys.items)) (nodes_with t e.keys.items) ≡ None
 no_end_under {t} {e} under =
@@ -54,7 +54,7 @@ no_end_under {t} {e} under =
     (none_deserted nodes whole.sound.distinct whole.sound.heads whole.rooted whole.united under.held)
 
 -- so no step is left but that its buffers may be abandoned
-pub none_under : {t : Table Node} {us : List Unit} {ss : List Shelf} {e : Entry} → MidEvent t us ss e [] [] →
+pub none_under : {t : Table Node} {us : List Unit} {ss : List CollectionRow} {e : Entry} → MidEvent t us ss e [] [] →
     AreNone (nodes_with t e.keys.items) e.buffers
 none_under {t} {e} under = record {
   no_end = no_end_under under;
@@ -67,12 +67,12 @@ none_under {t} {e} under = record {
     from o = grind (arith, find-none, next_none)
 
 -- and it is counted
-pub counted_under : {t : Table Node} {us : List Unit} {ss : List Shelf} {e : Entry} → MidEvent t us ss e [] [] → IsCounted t e
+pub counted_under : {t : Table Node} {us : List Unit} {ss : List CollectionRow} {e : Entry} → MidEvent t us ss e [] [] → IsCounted t e
 counted_under {t} {e} under = record {
-  calm = calm_none (collection_in t (shelf_of e)) (none_under under);
+  calm = calm_none (collection_in t (row_of e)) (none_under under);
   strong = under.store.strong;
   reserved = under.store.reserved;
-  garbage_known = under.store.garbage_known;
+  unkept_known = under.store.unkept_known;
 }
 
 -- ---- the other way round
@@ -81,19 +81,19 @@ counted_under {t} {e} under = record {
 pub none_next : (nodes : List Node) → list_any has_buffers nodes ≡ false → list_any (is_next_node nodes) nodes ≡ false
 none_next nodes none = grind (arith, In-any, In-list_any, none)
 
-module _ {t : Table Node} (us : List Unit) {ss : List Shelf} {e : Entry} (kept : IsStored t ss)
-    (found : find (λ (x : Shelf). x.id == e.id) ss ≡ Some (shelf_of e)) (counted : IsCounted t e) where
+module _ {t : Table Node} (us : List Unit) {ss : List CollectionRow} {e : Entry} (kept : IsStored t ss)
+    (found : find (λ (x : CollectionRow). x.id == e.id) ss ≡ Some (row_of e)) (counted : IsCounted t e) where
   -- the nodes that the table has under the entry's keys
   abbrev nodes : List Node
   nodes = nodes_with t e.keys.items
 
   -- each collection is whole
-  whole : IsWhole (collection_in t (shelf_of e))
+  whole : IsWhole (collection_in t (row_of e))
   whole = found_whole t _ ss _ kept.whole found
 
   -- a counted collection is calm
   none : AreNone (nodes_with t e.keys.items) e.buffers
-  none = none_calm (collection_in t (shelf_of e)) counted.calm
+  none = none_calm (collection_in t (row_of e)) counted.calm
 
   -- without buffers no unit is next; with them none is, as the collection is calm
   no_next : (o : Option Buffers) → (o ≡ None → list_any has_buffers nodes ≡ false) → later nodes o ≡ None →
@@ -114,7 +114,7 @@ module _ {t : Table Node} (us : List Unit) {ss : List Shelf} {e : Entry} (kept :
       inside = inside;
       strong = counted.strong;
       reserved = counted.reserved;
-      garbage_known = counted.garbage_known;
+      unkept_known = counted.unkept_known;
     };
     bare = bare;
     held = held_where nodes whole.sound.distinct whole.sound.heads whole.rooted whole.united
@@ -126,21 +126,21 @@ module _ {t : Table Node} (us : List Unit) {ss : List Shelf} {e : Entry} (kept :
 -- the collection to which a change may be made
 pub ready_under : {t : Table Node} (us : List Unit) (es : List Entry) (id : ℕ) {at : ℕ} (e : Entry) →
     place_in id es ≡ Some at → e ≡ get_or es at e →
-    IsStored t (shelves_of es) → AreCounted t es → HaveUnits us t es →
+    IsStored t (rows_of es) → AreCounted t es → HaveUnits us t es →
     ((key : NodeKey) (n : Node) → node_at t key ≡ Some n → key.slot < length us) →
     (e.buffers ≡ None → list_any has_buffers (nodes_with t e.keys.items) ≡ false) →
-    MidEvent t us (shelves_of es) e [] []
+    MidEvent t us (rows_of es) e [] []
 ready_under {t} us es id {at} e told is kept all units inside bare =
     let place = place_is id es at told in
     let own : e.id ≡ id = ap (λ (x : Entry). x.id) is ∙ place.id_is e in
     under_counted us kept
-    (subst (λ i. find (λ (x : Shelf). x.id == i) (shelves_of es) ≡ Some (shelf_of e)) (sym own) (shelf_here es id e told is))
+    (subst (λ i. find (λ (x : CollectionRow). x.id == i) (rows_of es) ≡ Some (row_of e)) (sym own) (row_here es id e told is))
     (found_counted t id es e all (place.found e ∙ ap Some (sym is))) units inside bare
 
 -- and it may be closed
 pub ready_close : (handles : Handles) {t : Table Node} {us : List Unit} (es : List Entry) (id : ℕ) {at : ℕ} {e : Entry} →
     place_in id es ≡ Some at →
-    e ≡ get_or es at e → AreCounted t es → MidEvent t us (shelves_of es) e [] [] → MayClose handles t us es at
+    e ≡ get_or es at e → AreCounted t es → MidEvent t us (rows_of es) e [] [] → MayClose handles t us es at
 ready_close handles {t} es id {at} {e} told is all under = record {
   entry = e;
   pending = [];

@@ -2,12 +2,12 @@
 use Rattle.forest_steps.proofs.Common.{◌≡◌, ◌≢◌, ℕ, ◌==◌, nat_lt, refl, ap, sym, ◌∙◌, subst, Bool, true, false, not, ◌&&◌, is_none}
 use Rattle.forest_steps.proofs.Common.{inl, inr, List, [], ◌∷◌, map, Option, Some, None, eqb-true, find, list_any, option_map_or}
 use Rattle.forest_steps.proofs.Common.{HeldBuffer, NodeKey, Buffers, same_key, In, and_both, either_way, or_left, same_key-refl}
-use Rattle.forest_steps.proofs.Common.{same_key-true, In-any, Table, Entry, Node, Unit, over_except, strong_count, AreUnits}
-use Rattle.forest_steps.proofs.Common.{waiting, Collection, IsStored, IsWhole, Shelf, collection_in, nodes_with, put_shelf}
-use Rattle.forest_steps.proofs.Common.{shelf_of, is_of, reserved_count, Handles, Settles, is_head, same_key-equal, is_strong}
+use Rattle.forest_steps.proofs.Common.{same_key-true, In-any, Table, Entry, Node, Unit, unkept_except, strong_count, AreUnits}
+use Rattle.forest_steps.proofs.Common.{waiting, Collection, IsStored, IsWhole, CollectionRow, collection_in, nodes_with, put_row}
+use Rattle.forest_steps.proofs.Common.{row_of, is_of, reserved_count, Handles, Settles, is_head, same_key-equal, is_strong}
 use Rattle.forest_steps.proofs.Common.{after_allocation, given_few, IsGivenAt, given_at, any_map, times_map, all-In, found_put}
 use Rattle.forest_steps.proofs.Common.{IsBareHead, in_all, looked_there, arith, or_false, AllocationOutcome, PendingUnit, IsComing}
-use Rattle.forest_steps.proofs.Common.{IsRooted, first_made, shelf_then, IsUnitListed, AreTurns, AfterPropagation, MidEvent}
+use Rattle.forest_steps.proofs.Common.{IsRooted, first_made, row_then, IsUnitListed, AreTurns, AfterPropagation, MidEvent}
 use Rattle.forest_steps.proofs.Common.{are_held_except, is_head_left, is_next_except, turn_heads, waits_among, kept-put}
 use Rattle.forest_steps.proofs.changes.Dropped.{nothing_stored}
 use Rattle.forest_steps.proofs.changes.FirstAllocated.{all_there, found_there, units_there}
@@ -22,8 +22,8 @@ use Rattle.forest_steps.proofs.mid_event.UnitGiven.{next_parts, next_then, serve
 use Rattle.forest_steps.proofs.tables.Rows.{same_on}
 use Rattle.forest_steps.proofs.tables.Upward.{own_head}
 
--- another shelf stays where one is put
-in_put : (new : Shelf) (ss : List Shelf) (x : Shelf) → In x ss → x.id ≢ new.id → In x (put_shelf new ss)
+-- another row stays where one is put
+in_put : (new : CollectionRow) (ss : List CollectionRow) (x : CollectionRow) → In x ss → x.id ≢ new.id → In x (put_row new ss)
 in_put new [] x on differ = absurd on
 in_put new (s ∷ ss) x on differ = elim (either_way (s.id == new.id)) [
   | inl e ↦ rw e (by on (eqb-true _ _ e))
@@ -33,18 +33,18 @@ in_put new (s ∷ ss) x on differ = elim (either_way (s.id == new.id)) [
   ])
 ]
   where
-    -- by cases: the shelf with the id is not this one, which stays behind
+    -- by cases: the row with the id is not this one, which stays behind
     by : In x (s ∷ ss) → s.id ≡ new.id → In x (new ∷ ss)
-    by (inl is) same = absurd (differ (ap (λ (y : Shelf). y.id) is ∙ same))
+    by (inl is) same = absurd (differ (ap (λ (y : CollectionRow). y.id) is ∙ same))
     by (inr there) same = inr there
 
-    -- by cases: the first shelf stays, and the others are behind it
-    rest : (In x ss → In x (put_shelf new ss)) → In x (s ∷ ss) → In x (s ∷ put_shelf new ss)
+    -- by cases: the first row stays, and the others are behind it
+    rest : (In x ss → In x (put_row new ss)) → In x (s ∷ ss) → In x (s ∷ put_row new ss)
     rest more (inl is) = inl is
     rest more (inr there) = inr (more there)
 
 -- more units may be due
-pub under_due : {t : Table Node} {us : List Unit} {ss : List Shelf} {e : Entry} {unheld few : List NodeKey} (more : List NodeKey) →
+pub under_due : {t : Table Node} {us : List Unit} {ss : List CollectionRow} {e : Entry} {unheld few : List NodeKey} (more : List NodeKey) →
     ((k : NodeKey) → list_any (same_key k) few ≡ true → list_any (same_key k) more ≡ true) →
     MidEvent t us ss e unheld few → MidEvent t us ss e unheld more
 under_due {t} {e} {few} more all under =
@@ -66,21 +66,21 @@ root_left {nodes} {k} coming =
     (and_both _ _ (ap (same_key r.key) (sym coming.own) ∙ same_key-refl r.key)
     (and_both _ _ (ap not root.here) (or_left _ r.attached (ap is_none root.top))))
 
-module _ {t now : Table Node} {us : List Unit} {ss : List Shelf} {e : Entry} {k : NodeKey}
+module _ {t now : Table Node} {us : List Unit} {ss : List CollectionRow} {e : Entry} {k : NodeKey}
     (u : MidEvent t us ss e [] (k ∷ [])) (coming : IsComing (nodes_with t e.keys.items) k)
     {ks : List NodeKey} (listed : IsUnitListed t k ks) (given : IsGivenAt t now (k ∷ []) ks)
     (buffers : Buffers) (few : given_few (Some buffers) ≡ true) (held : List HeldBuffer) where
-  -- the shelf of the entry before the allocation
-  abbrev s : Shelf
-  s = shelf_of e
+  -- the row of the entry before the allocation
+  abbrev s : CollectionRow
+  s = row_of e
 
   -- with the buffers
-  abbrev s' : Shelf
+  abbrev s' : CollectionRow
   s' = record { id = e.id; keys = e.keys.items; buffers = Some buffers; held = held }
 
-  -- the shelves once the new one is put
-  abbrev ss' : List Shelf
-  ss' = put_shelf s' ss
+  -- the rows once the new one is put
+  abbrev ss' : List CollectionRow
+  ss' = put_row s' ss
 
   -- the collection's nodes before the allocation
   abbrev nodes : List Node
@@ -121,7 +121,7 @@ module _ {t now : Table Node} {us : List Unit} {ss : List Shelf} {e : Entry} {k 
   }
   made_then = λ i. record { id = e.id; nodes = (unit.nodes ∙ given_is k _) i; buffers = Some buffers; held = held }
 
-  -- ---- the shelves
+  -- ---- the rows
 
   -- only the buffers change, of which being whole says that they are few
   whole' : IsWhole (collection_in t s')
@@ -137,19 +137,19 @@ module _ {t now : Table Node} {us : List Unit} {ss : List Shelf} {e : Entry} {k 
     together = (whole_under u).together;
   }
 
-  -- the shelf is put at its place, with the same keys
+  -- the row is put at its place, with the same keys
   kept' : IsStored t ss'
   kept' =
-      let put_same : put_shelf (shelf_of e) ss ≡ ss = found_put s ss u.store.kept.rising u.store.found in
+      let put_same : put_row (row_of e) ss ≡ ss = found_put s ss u.store.kept.rising u.store.found in
       kept-put t t e.id [] (nothing_stored t) u.store.kept.named refl refl s' s ss refl refl u.store.kept.rising
       (rw put_same u.store.kept) tt tt
       (all_there s s' refl _ ss u.store.kept.rising u.store.found whole' u.store.kept.whole)
 
-  -- the shelf is found where it was put
-  found' : find (λ (x : Shelf). x.id == e.id) ss' ≡ Some s'
+  -- the row is found where it was put
+  found' : find (λ (x : CollectionRow). x.id == e.id) ss' ≡ Some s'
   found' = found_there s s' refl ss u.store.kept.rising u.store.found
 
-  -- the shelf has the same keys
+  -- the row has the same keys
   units' : AreUnits us (map (collection_in t) ss')
   units' = units_there s s' refl us t ss u.store.kept.rising u.store.found (units_found t us _ ss u.store.units u.store.found) u.store.units
 
@@ -196,30 +196,30 @@ module _ {t now : Table Node} {us : List Unit} {ss : List Shelf} {e : Entry} {k 
 
     -- ---- under way
 
-    module _ (new : Entry) (shelf : shelf_of new ≡ s') (strong : new.strong ≡ e.strong)
-        (garbage_known : new.garbage_known ≡ e.garbage_known)
-        (garbage : new.garbage.items ≡ e.garbage.items)
+    module _ (new : Entry) (row : row_of new ≡ s') (strong : new.strong ≡ e.strong)
+        (unkept_known : new.unkept_known ≡ e.unkept_known)
+        (unkept : new.unkept.items ≡ e.unkept.items)
         (reserved : new.reserved ≡ reserved_count (after_allocation k (nodes_with t e.keys.items))) where
       -- the same nodes, by the same keys
       keys_new : nodes_with now new.keys.items ≡ served k nodes
-      keys_new = ap (λ (x : Shelf). nodes_with now x.keys) shelf ∙ unit.nodes
+      keys_new = ap (λ (x : CollectionRow). nodes_with now x.keys) row ∙ unit.nodes
 
-      -- the store agrees with the new shelf, and the units behind are those that are due
-      pub under_then : MidEvent now us (put_shelf s' ss) new [] (turn_heads ws)
+      -- the store agrees with the new row, and the units behind are those that are due
+      pub under_then : MidEvent now us (put_row s' ss) new [] (turn_heads ws)
       under_then = record {
         store = record {
           kept = unit.stored (Some buffers) held ss' kept' found';
-          found = subst (λ (x : Shelf). find (λ (y : Shelf). y.id == x.id) ss' ≡ Some x) (sym shelf) found';
+          found = subst (λ (x : CollectionRow). find (λ (y : CollectionRow). y.id == x.id) ss' ≡ Some x) (sym row) found';
           units = unit.units us ss' units';
           inside = λ key n at. let x = was_there (given_at (k ∷ []) ks) t now given.look key at in u.store.inside key x.0 x.1;
           strong = strong ∙ (u.store.strong ∙ sym (ap strong_count keys_new ∙ times_map is_strong is_strong (f k) nodes (λ m. refl)));
           reserved = reserved ∙ ap reserved_count (sym (given_is k nodes) ∙ sym keys_new);
-          garbage_known = λ h. ap (list_any (over_except new.garbage.items)) keys_new
-              ∙ (any_map (over_except new.garbage.items) (over_except new.garbage.items) (f k) nodes (λ m. refl)
-              ∙ (ap (λ (ks : List NodeKey). list_any (over_except ks) nodes) garbage ∙ u.store.garbage_known (sym garbage_known ∙ h)));
+          unkept_known = λ h. ap (list_any (unkept_except new.unkept.items)) keys_new
+              ∙ (any_map (unkept_except new.unkept.items) (unkept_except new.unkept.items) (f k) nodes (λ m. refl)
+              ∙ (ap (λ (ks : List NodeKey). list_any (unkept_except ks) nodes) unkept ∙ u.store.unkept_known (sym unkept_known ∙ h)));
         };
         bare = λ none.
-            let no : Some buffers ≡ None = sym (ap (λ (x : Shelf). x.buffers) shelf) ∙ none in
+            let no : Some buffers ≡ None = sym (ap (λ (x : CollectionRow). x.buffers) row) ∙ none in
             absurd (cc);
         held = subst (λ ns. are_held_except [] ns ≡ true) (sym keys_new) (held_then k nodes u.held);
         next = subst (λ ns. list_any (is_next_except (turn_heads ws) ns) ns ≡ false) (sym keys_new) next_behind;
@@ -231,30 +231,30 @@ module _ {t now : Table Node} {us : List Unit} {ss : List Shelf} {e : Entry} {k 
 
       -- the allocation is the step, and what follows was played out
       pub rooted_given : {handles : Handles} {end : Table Node} {after : List Unit} {last : Entry} →
-          AfterPropagation handles now end after (put_shelf s' ss) new last → (v : AllocationOutcome) →
+          AfterPropagation handles now end after (put_row s' ss) new last → (v : AllocationOutcome) →
           ((c : Collection) → first_made k v c ≡ record {
             id = c.id;
             nodes = after_allocation k c.nodes;
             buffers = Some buffers;
             held = held;
-          }) → shelf_then v (shelf_of e) ≡ s' →
+          }) → row_then v (row_of e) ≡ s' →
           IsRooted handles t end after ss e last k v
-      rooted_given {handles} {end} {last} played v first_is shelf_is = record {
+      rooted_given {handles} {end} {last} played v first_is row_is = record {
         pending = played.pending;
-        under = rw shelf_last played.led.under;
-        shelf = shelf_last ∙ sym shelf_is;
+        under = rw row_last played.led.under;
+        row = row_last ∙ sym row_is;
         leads = λ pool others final settles. rw
-            (ap (collection_in now) shelf ∙ (made_then ∙ sym (first_is (collection_in t (shelf_of e))))) at
+            (ap (collection_in now) row ∙ (made_then ∙ sym (first_is (collection_in t (row_of e))))) at
             (played.led.leads pool others final
-            (subst (λ x. Settles pool handles others (collection_in end x) final) played.led.shelf settles));
+            (subst (λ x. Settles pool handles others (collection_in end x) final) played.led.row settles));
         beside = record {
           same = same_on given.same played.led.beside.same;
           others = λ x on differ. played.led.beside.others x (in_put s' ss x on differ)
-              (λ same. differ (same ∙ ap (λ (y : Shelf). y.id) shelf)) ∙ unit.others x differ
+              (λ same. differ (same ∙ ap (λ (y : CollectionRow). y.id) row)) ∙ unit.others x differ
               (all-In _ ss x on u.store.kept.filed);
         };
         out = played.out;
       }
         where
-          shelf_last : shelf_of last ≡ s'
-          shelf_last = played.led.shelf ∙ shelf
+          row_last : row_of last ≡ s'
+          row_last = played.led.row ∙ row

@@ -1,8 +1,8 @@
 -- A root whose unit becomes ready, and is lost instead.
 use Rattle.forest_steps.proofs.Common.{◌≡◌, refl, ap, sym, ◌∙◌, subst, true, false, not, ◌&&◌, inl, List, [], ◌∷◌, Option}
 use Rattle.forest_steps.proofs.Common.{Some, None, not-true, find, list_all, option_and_then, NodeKey, Cause, when, In}
-use Rattle.forest_steps.proofs.Common.{In-find, and_left, and_right, Table, Entry, Node, Unit, waiting, with_nodes, Shelf}
-use Rattle.forest_steps.proofs.Common.{collection_in, nodes_with, put_shelf, shelf_of, is_ready_node, is_root_left, Handles}
+use Rattle.forest_steps.proofs.Common.{In-find, and_left, and_right, Table, Entry, Node, Unit, waiting, with_nodes, CollectionRow}
+use Rattle.forest_steps.proofs.Common.{collection_in, nodes_with, put_row, row_of, is_ready_node, is_root_left, Handles}
 use Rattle.forest_steps.proofs.Common.{Failure, after_loss, found_put, left_in, arith, AllocationOutcome, IsComing, IsRooted}
 use Rattle.forest_steps.proofs.Common.{MidEvent, AfterRemoval, MayGo, when-Some, none_if, map, and_both, In-map, is_some, drop}
 use Rattle.forest_steps.proofs.failures.AllGone.{AreGone, held_gone, next_gone, root_gone}
@@ -63,13 +63,13 @@ waits_was f nodes one {r} waits each =
     )
 
 -- in a collection that is gone nothing is loose and nothing is due
-pub all_gone_under : {t : Table Node} {us : List Unit} {ss : List Shelf} {e : Entry} {unheld pending : List NodeKey} →
+pub all_gone_under : {t : Table Node} {us : List Unit} {ss : List CollectionRow} {e : Entry} {unheld pending : List NodeKey} →
     AreGone (nodes_with t e.keys.items) → MidEvent t us ss e unheld pending → MidEvent t us ss e [] []
 all_gone_under gone under = under_with under (held_gone [] _ gone) (next_gone [] _ gone) (root_gone [] _ gone)
 
 -- ---- the loss
 
-module _ {t : Table Node} {us : List Unit} {ss : List Shelf} {e : Entry} {head : NodeKey} (why : Failure)
+module _ {t : Table Node} {us : List Unit} {ss : List CollectionRow} {e : Entry} {head : NodeKey} (why : Failure)
     (under : MidEvent t us ss e [] (head ∷ [])) (coming : IsComing (nodes_with t e.keys.items) head) where
   -- the root that waits is left
   root : IsReadyRoot (nodes_with t e.keys.items) coming.root
@@ -89,23 +89,23 @@ module _ {t : Table Node} {us : List Unit} {ss : List Shelf} {e : Entry} {head :
 
     -- the new entry has the same keys
     gone_new : AreGone (nodes_with now new.keys.items)
-    gone_new = subst (λ (s : Shelf). AreGone (nodes_with now s.keys)) (sym went.shelf) gone
+    gone_new = subst (λ (s : CollectionRow). AreGone (nodes_with now s.keys)) (sym went.row) gone
 
-    -- the shelf has the same place
-    same_shelves : put_shelf (shelf_of new) ss ≡ ss
-    same_shelves = found_put _ ss went.under.store.kept.rising went.under.store.found
+    -- the row has the same place
+    same_rows : put_row (row_of new) ss ≡ ss
+    same_rows = found_put _ ss went.under.store.kept.rising went.under.store.found
 
     -- only the nodes change
-    lost_is : with_nodes (after_loss (record { cause = Cause.Failed why; origin = head })) (collection_in t (shelf_of e))
-        ≡ collection_in now (shelf_of new)
+    lost_is : with_nodes (after_loss (record { cause = Cause.Failed why; origin = head })) (collection_in t (row_of e))
+        ≡ collection_in now (row_of new)
     lost_is = grind arith
 
     -- all are gone, and no step is left
     pub rooted_lost : IsRooted handles t now after ss e new head (AllocationOutcome.Fails why)
     rooted_lost = record {
       pending = [];
-      under = rw same_shelves (all_gone_under gone_new went.under);
-      shelf = went.shelf;
+      under = rw same_rows (all_gone_under gone_new went.under);
+      row = went.row;
       leads = λ pool others last settles. rw lost_is settles;
       beside = went.beside;
       out = inl refl;

@@ -2,7 +2,7 @@
 use Rattle.forest_steps.proofs.Common.{◌≡◌, ℕ, refl, ap, sym, ◌∙◌, subst, Bool, true, false, not, ◌||◌, inl, inr, is_none, ◌⊎◌}
 use Rattle.forest_steps.proofs.Common.{List, [], ◌∷◌, ◌++◌, map, Option, Some, None, find, list_any, HeldBuffer, Interval}
 use Rattle.forest_steps.proofs.Common.{NodeKey, Buffers, Cause, same_key, when, either_way, same_key-true, all_on, Table}
-use Rattle.forest_steps.proofs.Common.{Entry, Node, Unit, has_strong, Collection, Shelf, nodes_with, is_deserted_node, Failure}
+use Rattle.forest_steps.proofs.Common.{Entry, Node, Unit, has_strong, Collection, CollectionRow, nodes_with, is_deserted_node, Failure}
 use Rattle.forest_steps.proofs.Common.{outcome, names, places, pages_of, first_some, Holdings, with_buffers, Decision, Loses}
 use Rattle.forest_steps.proofs.Common.{Places, decided, first_step, mark_of, wanted_by, pages_in, after_allocation, IsSound}
 use Rattle.forest_steps.proofs.Common.{by_page, made, all-In, arith, Result, Ok, Err, laid_out, AllocationOutcome, IsPlacing}
@@ -15,7 +15,8 @@ use Rattle.forest_steps.proofs.mid_event.RootLost.{ready_root}
 use Rattle.forest_steps.proofs.mid_event.Ready.{under_with}
 
 -- where something holds the unit with this head, it is not loose
-module _ {t : Table Node} {us : List Unit} {ss : List Shelf} {e : Entry} {head : NodeKey} (unheld : List NodeKey) {pending : List NodeKey}
+module _ {t : Table Node} {us : List Unit} {ss : List CollectionRow} {e : Entry} {head : NodeKey}
+    (unheld : List NodeKey) {pending : List NodeKey}
     (some : list_any (holds_unit (nodes_with t e.keys.items) head) (nodes_with t e.keys.items) ≡ true)
     (under : MidEvent t us ss e (head ∷ unheld) pending) where
   -- the nodes that the table has under the entry's keys

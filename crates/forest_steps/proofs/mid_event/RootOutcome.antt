@@ -2,14 +2,14 @@
 use Rattle.forest_steps.proofs.Common.{◌≡◌, ℕ, refl, ap, sym, ◌∙◌, subst, true, false, inl, inr, List, [], ◌∷◌, ◌++◌, map, get_or}
 use Rattle.forest_steps.proofs.Common.{set, Some, None, option_map, find, list_any, sum_by, HeldBuffer, Interval, NodeKey, Demand}
 use Rattle.forest_steps.proofs.Common.{forced, Table, Change, Effect, Entry, Node, Unit, has_strong, waiting, Collection, with_nodes}
-use Rattle.forest_steps.proofs.Common.{Shelf, collection_in, forest_of, nodes_with, place_in, put_shelf, shelf_of, shelves_of}
+use Rattle.forest_steps.proofs.Common.{CollectionRow, collection_in, forest_of, nodes_with, place_in, put_row, row_of, rows_of}
 use Rattle.forest_steps.proofs.Common.{affected, is_deserted_node, reserved_count, Handles, collection_or_new, put, standing}
 use Rattle.forest_steps.proofs.Common.{get_or-set_same, Mark, sorted_by, Holdings, first_step, mark_of, wanted_by, IsPoolOf, all_held}
 use Rattle.forest_steps.proofs.Common.{beside, pages_in, IsOpen, Finishes, after_allocation, IsOutcomeIn, IsReady, IsSettledIn}
 use Rattle.forest_steps.proofs.Common.{changed_in, starts_differ, by_page, asked_with, Forces, changed, made, no_key, forced_made}
-use Rattle.forest_steps.proofs.Common.{start_of, counted_but, shelves_put, IsPlace, place_is, set_put, arith, AllocationOutcome}
+use Rattle.forest_steps.proofs.Common.{start_of, counted_but, rows_put, IsPlace, place_is, set_put, arith, AllocationOutcome}
 use Rattle.forest_steps.proofs.Common.{Closes, MayClose, IsComing, IsPlanned, IsRooted, IsAllocationOutcome, comes_first, first_made}
-use Rattle.forest_steps.proofs.Common.{shelf_then, wants_of, AfterEffect, IsBeside, MidEvent, Reaches, are_held_except, holds_unit}
+use Rattle.forest_steps.proofs.Common.{row_then, wants_of, AfterEffect, IsBeside, MidEvent, Reaches, are_held_except, holds_unit}
 use Rattle.forest_steps.specs.declared.initial_allocation.Plan.{Plan}
 use Rattle.forest_store.specs.Calm.{put_in}
 use Rattle.forest_steps.specs.InitialAllocation.{IsReservedThen}
@@ -25,14 +25,14 @@ use Rattle.forest_steps.proofs.mid_event.Stepping.{node_there}
 use Rattle.forest_steps.proofs.mid_event.RootReady.{comes_coming, comes_held, none_waits_held, strong_then}
 use Rattle.forest_steps.proofs.mid_event.RootReady.{sound_then, reserved_alone, wanted_then, reserved_then}
 
--- the shelf's id and keys stay
-then_id : (v : AllocationOutcome) (s : Shelf) → (shelf_then v s).id ≡ s.id
+-- the row's id and keys stay
+then_id : (v : AllocationOutcome) (s : CollectionRow) → (row_then v s).id ≡ s.id
 then_id (AllocationOutcome.Fails why) s = refl
 then_id (AllocationOutcome.Given buffers held) s = refl
 
 -- its buffers are those of the collection
-then_held : (head : NodeKey) (v : AllocationOutcome) (s : Shelf) (c : Collection) → c.held ≡ s.held →
-    (first_made head v c).held ≡ (shelf_then v s).held
+then_held : (head : NodeKey) (v : AllocationOutcome) (s : CollectionRow) (c : Collection) → c.held ≡ s.held →
+    (first_made head v c).held ≡ (row_then v s).held
 then_held head (AllocationOutcome.Fails why) s c same = same
 then_held head (AllocationOutcome.Given buffers held) s c same = refl
 
@@ -50,12 +50,12 @@ waits_not {t} {es} {id} {at} old told is {us} key effect ready none held =
 
 module _ (handles : Handles) {t : Table Node} {es : List Entry} {id at : ℕ} {old : Entry} (told : place_in id es ≡ Some at)
     (is : old ≡ get_or es at old) {us : List Unit} {key : NodeKey} {effect : Effect} (ready : IsReady t es us id (Change.Effect key effect))
-    (under : MidEvent t us (shelves_of es) old [] []) {plan : Plan} (planned : IsPlanned t us old key effect plan)
+    (under : MidEvent t us (rows_of es) old [] []) {plan : Plan} (planned : IsPlanned t us old key effect plan)
     (comes : comes_first t us key effect ≡ true) {now : Table Node} {after : List Unit} {mid : Entry}
-    (affects : AfterEffect t now after (shelves_of es) old mid key effect planned.node.head) where
-  -- the shelves of the entries before the effect
-  abbrev ss : List Shelf
-  ss = shelves_of es
+    (affects : AfterEffect t now after (rows_of es) old mid key effect planned.node.head) where
+  -- the rows of the entries before the effect
+  abbrev ss : List CollectionRow
+  ss = rows_of es
 
   -- the node that the effect changes
   abbrev n : Node
@@ -67,7 +67,7 @@ module _ (handles : Handles) {t : Table Node} {es : List Entry} {id at : ℕ} {o
 
   -- with the effect
   abbrev c1 : Collection
-  c1 = with_nodes (map (affected key effect)) (collection_in t (shelf_of old))
+  c1 = with_nodes (map (affected key effect)) (collection_in t (row_of old))
 
   -- the place is that of the first entry with the id
   place : IsPlace id es at
@@ -78,16 +78,16 @@ module _ (handles : Handles) {t : Table Node} {es : List Entry} {id at : ℕ} {o
   own_id = ap (λ (e : Entry). e.id) is ∙ place.id_is old
 
   -- the change may be made, and the entry is counted
-  opens : IsOpen t us (shelves_of es) (shelf_of old) (Change.Effect key effect) old.strong
+  opens : IsOpen t us (rows_of es) (row_of old) (Change.Effect key effect) old.strong
   opens = opens_at t es id at old place is ready.kept ready.counted us ready.units _ ready.change
 
   -- the same nodes, by the same keys
   nodes_mid : nodes_with now mid.keys.items ≡ map (affected key effect) (nodes_with t old.keys.items)
-  nodes_mid = ap (λ (s : Shelf). nodes_with now s.keys) affects.shelf ∙ affects.nodes
+  nodes_mid = ap (λ (s : CollectionRow). nodes_with now s.keys) affects.row ∙ affects.nodes
 
   -- only the nodes change
-  is_mid : collection_in now (shelf_of mid) ≡ with_nodes (map (affected key effect)) (collection_in t (shelf_of old))
-  is_mid = ap (collection_in now) affects.shelf ∙ (λ i. record (collection_in t (shelf_of old)) { nodes = affects.nodes i })
+  is_mid : collection_in now (row_of mid) ≡ with_nodes (map (affected key effect)) (collection_in t (row_of old))
+  is_mid = ap (collection_in now) affects.row ∙ (λ i. record (collection_in t (row_of old)) { nodes = affects.nodes i })
 
   -- the plan comes only where something holds the unit
   held1 : list_any (holds_unit nodes1 n.head) nodes1 ≡ true
@@ -98,12 +98,12 @@ module _ (handles : Handles) {t : Table Node} {es : List Entry} {id at : ℕ} {o
   coming1 = comes_coming key _ planned.was opens comes
 
   -- something holds the root's unit, which waits
-  under1 : MidEvent now after (shelves_of es) mid [] (planned.node.head ∷ [])
+  under1 : MidEvent now after (rows_of es) mid [] (planned.node.head ∷ [])
   under1 = under_held []
       (rw nodes_mid held1) affects.under
 
   -- the plan is of the node's unit
-  pub under_mid : MidEvent now after (shelves_of es) mid [] (plan.head ∷ [])
+  pub under_mid : MidEvent now after (rows_of es) mid [] (plan.head ∷ [])
   under_mid = rw planned.head_is under1
 
   -- the plan is of the node's unit, in the new table
@@ -140,12 +140,12 @@ module _ (handles : Handles) {t : Table Node} {es : List Entry} {id at : ℕ} {o
   module _ (before between : Holdings) (verdict : AllocationOutcome)
       (found : IsAllocationOutcome before between id old.held.items plan.wants verdict) where
     module _ (parted : starts_differ before.held ≡ true)
-        (of : before.held ≡ sorted_by start_of (map (λ (h : HeldBuffer). h.pages) (all_held (forest_of t (shelves_of es)))))
+        (of : before.held ≡ sorted_by start_of (map (λ (h : HeldBuffer). h.pages) (all_held (forest_of t (rows_of es)))))
         {then : Table Node} {units : List Unit} {new : Entry}
-        (rooted : IsRooted handles now then units (shelves_of es) mid new plan.head verdict) where
+        (rooted : IsRooted handles now then units (rows_of es) mid new plan.head verdict) where
       -- the pages of the other collections
       abbrev others : List Interval
-      others = beside (forest_of t (shelves_of es)) old.id
+      others = beside (forest_of t (rows_of es)) old.id
 
       -- the entries with the new entry at the place of the old one
       abbrev es2 : List Entry
@@ -173,47 +173,48 @@ module _ (handles : Handles) {t : Table Node} {es : List Entry} {id at : ℕ} {o
           (coming_decided _ _ coming1 no_end1)
 
       -- wherever what follows leads, the effect leads
-      leads : Reaches before.size handles (beside (forest_of t (shelves_of es)) old.id) c1 (collection_in then (shelf_of new))
+      leads : Reaches before.size handles (beside (forest_of t (rows_of es)) old.id) c1 (collection_in then (row_of new))
       leads last settles =
           Forces c1 last mark forces
           (rw ((λ i. first_made (planned.head_is i) verdict (is_mid i)) ∙ sym step.0) at
           (rooted.leads before.size others last settles))
 
-      -- ---- the shelves
+      -- ---- the rows
 
-      -- the effect keeps the shelf, and the allocation changes its buffers
-      shelf_new : shelf_of new ≡ shelf_then verdict (shelf_of old)
-      shelf_new = rooted.shelf ∙ ap (shelf_then verdict) affects.shelf
+      -- the effect keeps the row, and the allocation changes its buffers
+      row_new : row_of new ≡ row_then verdict (row_of old)
+      row_new = rooted.row ∙ ap (row_then verdict) affects.row
 
       -- no verdict changes the id
       id_new : new.id ≡ old.id
-      id_new = ap (λ (s : Shelf). s.id) shelf_new ∙ then_id _ _
+      id_new = ap (λ (s : CollectionRow). s.id) row_new ∙ then_id _ _
 
       -- the entry is set at the place of its id
       put_at : set es at new ≡ put_in new es
       put_at = set_put new es at ready.kept.rising (rw (id_new ∙ own_id) told)
 
-      -- so its shelf is put among the others
-      shelves_are : shelves_of (set es at new) ≡ put_shelf (shelf_of new) (shelves_of es)
-      shelves_are = ap shelves_of put_at ∙ shelves_put new es
+      -- so its row is put among the others
+      rows_are : rows_of (set es at new) ≡ put_row (row_of new) (rows_of es)
+      rows_are = ap rows_of put_at ∙ rows_put new es
 
       -- one after the other
-      by : IsBeside t then (shelves_of es) old.id
+      by : IsBeside t then (rows_of es) old.id
       by = record {
         same = same_on affects.beside.same rooted.beside.same;
         others = λ x on differ.
-            rooted.beside.others x on (λ same. differ (same ∙ ap (λ (s : Shelf). s.id) affects.shelf)) ∙ affects.beside.others x on differ;
+            rooted.beside.others x on (λ same. differ (same ∙ ap (λ (s : CollectionRow). s.id) affects.row))
+            ∙ affects.beside.others x on differ;
       }
 
       -- the others stay
-      put_is : map (collection_in then) (put_shelf (shelf_of new) (shelves_of es))
-          ≡ put (collection_in then (shelf_of new)) (map (collection_in t) (shelves_of es))
-      put_is = put_there (shelf_of old) (shelf_of new) id_new t then ss ready.kept.rising opens.found by.others
+      put_is : map (collection_in then) (put_row (row_of new) (rows_of es))
+          ≡ put (collection_in then (row_of new)) (map (collection_in t) (rows_of es))
+      put_is = put_there (row_of old) (row_of new) id_new t then ss ready.kept.rising opens.found by.others
 
       -- so its collection is put among the others
-      collections_are : map (collection_in then) (shelves_of (set es at new))
-          ≡ put (collection_in then (shelf_of new)) (map (collection_in t) (shelves_of es))
-      collections_are = ap (map (collection_in then)) shelves_are ∙ put_is
+      collections_are : map (collection_in then) (rows_of (set es at new))
+          ≡ put (collection_in then (row_of new)) (map (collection_in t) (rows_of es))
+      collections_are = ap (map (collection_in then)) rows_are ∙ put_is
 
       -- it stands where it was set
       is_new : get_or (set es at new) at new ≡ new
@@ -227,9 +228,9 @@ module _ (handles : Handles) {t : Table Node} {es : List Entry} {id at : ℕ} {o
       told_own : place_in new.id (set es at new) ≡ Some at
       told_own = subst (λ i. place_in i (set es at new) ≡ Some at) (sym (id_new ∙ own_id)) told_new
 
-      -- the list of shelves is the one with the new shelf
-      under_then : MidEvent then units (shelves_of (set es at new)) new [] rooted.pending
-      under_then = rw shelves_are rooted.under
+      -- the list of rows is the one with the new row
+      under_then : MidEvent then units (rows_of (set es at new)) new [] rooted.pending
+      under_then = rw rows_are rooted.under
 
       -- ---- what comes last may be made
 
@@ -246,15 +247,15 @@ module _ (handles : Handles) {t : Table Node} {es : List Entry} {id at : ℕ} {o
       }
 
       -- the pool holds what the step left it
-      held_new : between.held ≡ by_page (pages_in (collection_in then (shelf_of new)) ++ beside (forest_of t (shelves_of es)) new.id)
-      held_new = grind (arith, id_new, shelf_new, step, then_held)
+      held_new : between.held ≡ by_page (pages_in (collection_in then (row_of new)) ++ beside (forest_of t (rows_of es)) new.id)
+      held_new = grind (arith, id_new, row_new, step, then_held)
 
       -- so it holds the buffers of all collections
-      pub pool_then : starts_differ between.held ≡ true → IsPoolOf between (forest_of then (shelves_of (set es at new)))
+      pub pool_then : starts_differ between.held ≡ true → IsPoolOf between (forest_of then (rows_of (set es at new)))
       pool_then parted' =
           pool_back _ t then _ _ ss ready.kept.rising put_is parted' held_new
           ∙ ap (λ xs. sorted_by start_of (map (λ (h : HeldBuffer). h.pages) (all_held (forest_of then xs))))
-          (sym shelves_are)
+          (sym rows_are)
 
       -- ---- and all was made
 
@@ -266,11 +267,11 @@ module _ (handles : Handles) {t : Table Node} {es : List Entry} {id at : ℕ} {o
         change_is = ap (changed (Change.Effect key effect) no_key) (here_is t es id old told is)
 
         -- the collection is found at its place
-        then_is : collection_or_new (forest_of then (shelves_of (set es at new))) id ≡ collection_in then (shelf_of new)
+        then_is : collection_or_new (forest_of then (rows_of (set es at new))) id ≡ collection_in then (row_of new)
         then_is = here_is then es2 id new told_new (sym is_new)
 
         -- the closing finishes from there
-        rest : Finishes before.size handles then (shelves_of (set es at new)) last (shelves_of behind) (collection_in then (shelf_of new))
+        rest : Finishes before.size handles then (rows_of (set es at new)) last (rows_of behind) (collection_in then (row_of new))
         rest = rw then_is at (rw size1 at closes.settled.finishes)
 
         -- the step and the closing are all that is forced

@@ -4,7 +4,7 @@ use Rattle.forest_steps.proofs.Common.{◌≡◌, ℕ, ◌+◌, ◌==◌, nat_lt
 use Rattle.forest_steps.proofs.Common.{inr, List, [], ◌∷◌, map, Option, Some, None, arith, not-true, list_all, list_any, option_and_then}
 use Rattle.forest_steps.proofs.Common.{option_map_or, NodeKey, same_key, times, when, In, In-map, In-map-back, and_both, and_left}
 use Rattle.forest_steps.proofs.Common.{and_right, both_ways, either_way, same_key-refl, same_key-true, all_on, Table, node_at, Change}
-use Rattle.forest_steps.proofs.Common.{Effect, Node, Unit, lives_in, unit_at, waits_in, has_strong, waiting, Shelf, collection_in}
+use Rattle.forest_steps.proofs.Common.{Effect, Node, Unit, lives_in, unit_at, waits_in, has_strong, waiting, CollectionRow, collection_in}
 use Rattle.forest_steps.proofs.Common.{nodes_with, affected, is_live_node, is_ready_node, is_root_left, is_head, hangs_in, heads_below}
 use Rattle.forest_steps.proofs.Common.{is_unready, unit_of, IsOpen, is_strong, count_none, none_calm, all-In, same_affected}
 use Rattle.forest_steps.proofs.Common.{remains_affected, IsSameNode, all_at, or-true, unit_then, bit, IsComing, comes_first, is_bare_root}
@@ -75,7 +75,7 @@ held_told nodes head = grind (arith, head, holds_told, ready_told, some_told)
 -- ---- the effect
 
 module _ {t : Table Node} {us : List Unit} (key : NodeKey) (effect : Effect) {n : Node} (was : node_at t key ≡ Some n)
-    {ss : List Shelf} {s : Shelf} {strong : ℕ} (opens : IsOpen t us ss s (Change.Effect key effect) strong) where
+    {ss : List CollectionRow} {s : CollectionRow} {strong : ℕ} (opens : IsOpen t us ss s (Change.Effect key effect) strong) where
   -- a node after the effect, which changes only the node with the key
   abbrev f : Node → Node
   f = affected key effect

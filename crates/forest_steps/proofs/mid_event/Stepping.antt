@@ -1,36 +1,37 @@
 -- Steps that were made from a collection to which a change was made, joined to the whole event.
 use Rattle.forest_steps.proofs.Common.{◌≡◌, ℕ, zero, suc, ◌<◌, length, arith, true, false, refl, ap, subst, ◌∙◌, List, [], ◌∷◌, ◌++◌}
 use Rattle.forest_steps.proofs.Common.{map, set, get_or, Option, Some, None, HeldBuffer, NodeKey, Interval, Table, node_at, Change}
-use Rattle.forest_steps.proofs.Common.{Entry, Node, Unit, IsStored, Shelf, collection_in, forest_of, place_in, shelf_of, shelves_of}
+use Rattle.forest_steps.proofs.Common.{Entry, Node, Unit, IsStored, CollectionRow, collection_in, forest_of, place_in, row_of, rows_of}
 use Rattle.forest_steps.proofs.Common.{Handles, sorted_by, Holdings, row_at, AreCountedExcept, IsPoolOf, all_held, beside, IsOutcomeIn}
 use Rattle.forest_steps.proofs.Common.{IsReady, changed_in, given_few, changed, is_birth, no_key, found_whole, counted_but, place_is}
-use Rattle.forest_steps.proofs.Common.{shelf_found, IsSome, Closes, MayClose, IsServedByGiven, PropagatedFrom, MidEvent, Reaches}
+use Rattle.forest_steps.proofs.Common.{row_found, IsSome, Closes, MayClose, IsServedByGiven, PropagatedFrom, MidEvent, Reaches}
 use Rattle.forest_steps.proofs.Common.{node_is, inl, inr, sym, cons_option, list_any, same_key, In, or_cases, same_key-true, AreUnits}
 use Rattle.forest_steps.proofs.Common.{all_keys, nodes_with, list_any-append, in_all, HaveUnits, IsOutcomeAt, IsReadyAt}
 use Rattle.forest_store.specs.Settling.{is_there as is_there_in}
 use Rattle.forest_store.proofs.changes.Altering.{change_kept}
-use Rattle.forest_store.proofs.shelves.Entries.{none_in}
+use Rattle.forest_store.proofs.rows.Entries.{none_in}
 use Rattle.forest_steps.proofs.mid_event.GivenKept.{given_at}
-use Rattle.forest_steps.proofs.mid_event.Joining.{here_is, may_close, outcome_on, place_set, shelves_stay}
+use Rattle.forest_steps.proofs.mid_event.Joining.{here_is, may_close, outcome_on, place_set, rows_stay}
 use Rattle.forest_steps.proofs.mid_event.Ready.{ready_close, ready_under}
 
--- the pages of the same shelves are the same, whatever the nodes
-held_same : (t now : Table Node) (ss : List Shelf) → all_held (forest_of t ss) ≡ all_held (forest_of now ss)
+-- the pages of the same rows are the same, whatever the nodes
+held_same : (t now : Table Node) (ss : List CollectionRow) → all_held (forest_of t ss) ≡ all_held (forest_of now ss)
 held_same t now [] = refl
 held_same t now (s ∷ ss) = ap (λ hs. s.held ++ hs) (held_same t now ss)
 
 -- the pool speaks of held buffers alone, which stay
-pub pool_same : (pool : Holdings) (t now : Table Node) (ss : List Shelf) → IsPoolOf pool (forest_of t ss) → IsPoolOf pool (forest_of now ss)
+pub pool_same : (pool : Holdings) (t now : Table Node) (ss : List CollectionRow) → IsPoolOf pool (forest_of t ss) →
+    IsPoolOf pool (forest_of now ss)
 pool_same pool t now ss of =
     of ∙ ap (λ hs. sorted_by (λ (i : Interval). i.start) (map (λ (h : HeldBuffer). h.pages) hs)) (held_same t now ss)
 
 -- each slot is in the list
-pub inside_of : {t : Table Node} (us : List Unit) (es : List Entry) → IsStored t (shelves_of es) → HaveUnits us t es →
+pub inside_of : {t : Table Node} (us : List Unit) (es : List Entry) → IsStored t (rows_of es) → HaveUnits us t es →
     (key : NodeKey) {n : Node} → node_at t key ≡ Some n → key.slot < length us
-inside_of {t} us es kept units key {n} is = from (shelves_of es) units (kept.there key n is)
+inside_of {t} us es kept units key {n} is = from (rows_of es) units (kept.there key n is)
   where
-    -- by induction: the shelf with the key has the counts of its unit
-    from : (ss : List Shelf) → AreUnits us (map (collection_in t) ss) → list_any (same_key key) (all_keys ss) ≡ true →
+    -- by induction: the row with the key has the counts of its unit
+    from : (ss : List CollectionRow) → AreUnits us (map (collection_in t) ss) → list_any (same_key key) (all_keys ss) ≡ true →
         key.slot < length us
     from [] all h = let no : false ≡ true = h in absurd (cc)
     from (s ∷ ss) all h = elim (or_cases _ _ (sym (list_any-append (same_key key) s.keys (all_keys ss)) ∙ h)) [
@@ -53,7 +54,7 @@ inside_of {t} us es kept units key {n} is = from (shelves_of es) units (kept.the
 -- the collection of a change that is no birth is there
 pub is_there : {t : Table Node} {us : List Unit} {es : List Entry} {id : ℕ} {change : Change} → is_birth change ≡ false →
     IsReady t es us id change → (place_in id es ≡ None → ⊥)
-is_there {t} {es} {id} {change} birth ready none = grind (arith, change_kept, none_in, shelf_found)
+is_there {t} {es} {id} {change} birth ready none = grind (arith, change_kept, none_in, row_found)
 
 -- an entry stands at each place
 pub entry_there : (es : List Entry) (at : ℕ) → at < length es → (e : Entry) × (e ≡ get_or es at e)
@@ -62,12 +63,13 @@ entry_there (e ∷ es) zero within = (e, refl)
 entry_there (e ∷ es) (suc n) within = entry_there es n (omega arith)
 
 -- a node that the change names has a row
-pub row_there : {t : Table Node} {ss : List Shelf} → IsStored t ss → (id : ℕ) (key : NodeKey) → is_there_in (forest_of t ss) id key ≡ true →
+pub row_there : {t : Table Node} {ss : List CollectionRow} → IsStored t ss → (id : ℕ) (key : NodeKey) →
+    is_there_in (forest_of t ss) id key ≡ true →
     IsSome (row_at t key)
 row_there {t} {ss} kept id key there = grind (arith, node_is)
 
 -- and it is that node, which is not gone, and of the collection
-pub node_there : {t : Table Node} {ss : List Shelf} → IsStored t ss → (id : ℕ) (key : NodeKey) →
+pub node_there : {t : Table Node} {ss : List CollectionRow} → IsStored t ss → (id : ℕ) (key : NodeKey) →
     is_there_in (forest_of t ss) id key ≡ true →
     (n : Node) × (node_at t key ≡ Some n) × (n.gone ≡ false) × (n.collection ≡ id)
 node_there {t} {ss} kept id key there = by (node_at t key) refl
@@ -83,7 +85,7 @@ module _ (handles : Handles) {t : Table Node} {us : List Unit} {es : List Entry}
   own_id = ap (λ (x : Entry). x.id) is ∙ (place_is id es at told).id_is e
 
   -- the collection is under way, with nothing loose and nothing due
-  pub begins : MidEvent t us (shelves_of es) e [] []
+  pub begins : MidEvent t us (rows_of es) e [] []
   begins =
       ready_under us es id e told is ready.kept ready.counted ready.units
       (inside_of us es ready.kept ready.units)
@@ -98,41 +100,41 @@ module _ (handles : Handles) {t : Table Node} {us : List Unit} {es : List Entry}
   closes_now = ready_close _ es id told is ready.counted begins
 
   -- the collection is found at its place
-  pub changed_is : changed_in t es id change ≡ changed change no_key (collection_in t (shelf_of e))
+  pub changed_is : changed_in t es id change ≡ changed change no_key (collection_in t (row_of e))
   changed_is = ap (changed change no_key) (here_is t es id e told is)
 
   -- ---- steps that were made from these nodes
 
   module _ {between : List Node}
-      (made : changed change no_key (collection_in t (shelf_of e)) ≡ record (collection_in t (shelf_of e)) { nodes = between })
-      {mid : Table Node} {after : List Unit} {new : Entry} (played : PropagatedFrom handles between t mid after (shelves_of es) e new) where
-    -- the shelf is the same, so the list of shelves stays
-    shelves : shelves_of (set es at new) ≡ shelves_of es
-    shelves = shelves_stay es at e new is played.shelf
+      (made : changed change no_key (collection_in t (row_of e)) ≡ record (collection_in t (row_of e)) { nodes = between })
+      {mid : Table Node} {after : List Unit} {new : Entry} (played : PropagatedFrom handles between t mid after (rows_of es) e new) where
+    -- the row is the same, so the list of rows stays
+    rows : rows_of (set es at new) ≡ rows_of es
+    rows = rows_stay es at e new is played.row
 
-    -- the shelf, and with it the id, is the same
+    -- the row, and with it the id, is the same
     new_id : new.id ≡ id
-    new_id = ap (λ (s : Shelf). s.id) played.shelf ∙ own_id
+    new_id = ap (λ (s : CollectionRow). s.id) played.row ∙ own_id
 
     -- what is due is what is abandoned, or nothing
     pub may_play : MayClose handles mid after (set es at new) at
     may_play =
         may_close _ es told (rw own_id at played.beside)
         (subst (λ i. AreCountedExcept t i es) own_id (counted_but t _ es ready.counted)) new_id
-        (rw shelves played.under) played.out
+        (rw rows played.under) played.out
 
     -- at its place
     pub placed_played : place_in id (set es at new) ≡ Some at
     placed_played = place_set id at es new new_id told
 
     -- the pool speaks of held buffers alone, which stay
-    pub pool_played : (pool : Holdings) → IsPoolOf pool (forest_of t (shelves_of es)) →
-        IsPoolOf pool (forest_of mid (shelves_of (set es at new)))
-    pool_played pool of = rw shelves (pool_same pool t mid (shelves_of es) of)
+    pub pool_played : (pool : Holdings) → IsPoolOf pool (forest_of t (rows_of es)) →
+        IsPoolOf pool (forest_of mid (rows_of (set es at new)))
+    pool_played pool of = rw rows (pool_same pool t mid (rows_of es) of)
 
     -- the steps lead from the changed collection on
-    leads_on : (pool : ℕ) → Reaches pool handles (beside (forest_of t (shelves_of es)) id) (changed_in t es id change)
-        (collection_in mid (shelf_of new))
+    leads_on : (pool : ℕ) → Reaches pool handles (beside (forest_of t (rows_of es)) id) (changed_in t es id change)
+        (collection_in mid (row_of new))
     leads_on pool = grind (arith, changed_is)
 
     -- the steps that were played and the closing are all that is forced
@@ -171,19 +173,19 @@ ready_at {es} {at} may id told = rw (one_id es _ id may.place told) at may.ready
 module _ (handles : Handles) {t : Table Node} {us : List Unit} {es : List Entry} {at : ℕ} (e : Entry) (is : e ≡ get_or es at e)
     {change : Change} (may : IsReadyAt t es us at change) (birth : is_birth change ≡ false) where
   -- the collection is under way, with nothing loose and nothing due
-  pub begins_at : MidEvent t us (shelves_of es) e [] []
+  pub begins_at : MidEvent t us (rows_of es) e [] []
   begins_at = begins handles e may.place is may.ready birth
 
   module _ {between : List Node}
-      (made : changed change no_key (collection_in t (shelf_of e)) ≡ record (collection_in t (shelf_of e)) { nodes = between })
-      {mid : Table Node} {after : List Unit} {new : Entry} (played : PropagatedFrom handles between t mid after (shelves_of es) e new) where
+      (made : changed change no_key (collection_in t (row_of e)) ≡ record (collection_in t (row_of e)) { nodes = between })
+      {mid : Table Node} {after : List Unit} {new : Entry} (played : PropagatedFrom handles between t mid after (rows_of es) e new) where
     -- what is due is what is abandoned, or nothing
     pub may_finish : MayClose handles mid after (set es at new) at
     may_finish = may_play _ e may.place is may.ready birth made played
 
     -- the held buffers stay
-    pub pool_there : (pool : Holdings) → IsPoolOf pool (forest_of t (shelves_of es)) →
-        IsPoolOf pool (forest_of mid (shelves_of (set es at new)))
+    pub pool_there : (pool : Holdings) → IsPoolOf pool (forest_of t (rows_of es)) →
+        IsPoolOf pool (forest_of mid (rows_of (set es at new)))
     pool_there = pool_played _ e may.place is may.ready birth made played
 
     -- once what comes last is made, all is

@@ -2,7 +2,7 @@
 use Rattle.forest_steps.proofs.Common.{◌≡◌, ◌==◌, refl, ap, sym, ◌∙◌, subst, Bool, true, false, ◌⊎◌, inl, inr, List, [], ◌∷◌}
 use Rattle.forest_steps.proofs.Common.{length, Some, arith, find, list_any, option_map_or, NodeKey, same_key, In, both_ways}
 use Rattle.forest_steps.proofs.Common.{either_way, false_if, same_key-true, Table, parent_at, Node, is_left_of, IsStored}
-use Rattle.forest_steps.proofs.Common.{Shelf, nodes_with, Contains-from_any, list_any-from_Contains, flat_map, Up, IsForest}
+use Rattle.forest_steps.proofs.Common.{CollectionRow, nodes_with, Contains-from_any, list_any-from_Contains, flat_map, Up, IsForest}
 use Rattle.forest_steps.proofs.Common.{blocked_at, IsTaken, is_below, is_blocking, IsLeft, left_in, left_node, left_parent}
 use Rattle.forest_steps.proofs.tables.Upward.{below_self, line, step, shorter, in_unit_below, below_through}
 use Rattle.std.specs.List.{Contains}
@@ -10,12 +10,12 @@ use Rattle.node_table.specs.Table.{children_at}
 use Rattle.failure_domains.specs.Falls.{IsByLayers}
 use Rattle.failure_domains.proofs.Lists.{Contains-cases, flat_map_source}
 use Rattle.forest_steps.proofs.failures.Ties.{fall_line, highest_at, highest_left, key_equivalence}
-use Rattle.forest_steps.proofs.tables.OfShelf.{at_key, linked, tied, whole}
+use Rattle.forest_steps.proofs.tables.OfRow.{at_key, linked, tied, whole}
 
-module _ {t : Table Node} {ss : List Shelf} {s : Shelf} (kept : IsStored t ss)
-    (found : find (λ (x : Shelf). x.id == s.id) ss ≡ Some s) (forest : IsForest t) {origin : NodeKey}
+module _ {t : Table Node} {ss : List CollectionRow} {s : CollectionRow} (kept : IsStored t ss)
+    (found : find (λ (x : CollectionRow). x.id == s.id) ss ≡ Some s) (forest : IsForest t) {origin : NodeKey}
     (left : is_left_of (nodes_with t s.keys) origin ≡ true) {keys : List NodeKey} (taken : IsTaken t origin keys) where
-  -- the nodes that the table has under the shelf's keys
+  -- the nodes that the table has under the row's keys
   abbrev nodes : List Node
   nodes = nodes_with t s.keys
 

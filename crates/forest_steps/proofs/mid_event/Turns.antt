@@ -4,13 +4,13 @@ use Rattle.forest_steps.proofs.Common.{◌≡◌, ℕ, zero, suc, ◌<◌, ◌�
 use Rattle.forest_steps.proofs.Common.{List, [], ◌∷◌, Option, Some, None, arith, eqb-true, not-true, find, list_all, list_any}
 use Rattle.forest_steps.proofs.Common.{option_map_or, NodeKey, same_key, In, In-list_any, In-map, and_both, and_left, and_right}
 use Rattle.forest_steps.proofs.Common.{both_ways, either_way, false_if, or_cases, same_key-refl, same_key-true, some-injective, In-any}
-use Rattle.forest_steps.proofs.Common.{Table, node_at, Entry, Node, Unit, is_left_of, waiting, Shelf, collection_in, nodes_with}
-use Rattle.forest_steps.proofs.Common.{shelf_of, is_of, is_next_node, is_ready_node, Handles, is_waiting_head, IsBareHead, head_own}
+use Rattle.forest_steps.proofs.Common.{Table, node_at, Entry, Node, Unit, is_left_of, waiting, CollectionRow, collection_in, nodes_with}
+use Rattle.forest_steps.proofs.Common.{row_of, is_of, is_next_node, is_ready_node, Handles, is_waiting_head, IsBareHead, head_own}
 use Rattle.forest_steps.proofs.Common.{distinct_one, left_in, PendingUnit, has_turn_at, is_next_there, AreClosed, AreTurns, AfterSteps}
 use Rattle.forest_steps.proofs.Common.{MidEvent, hangs_in_some, is_next_except, turn_heads, waits_among, ◌==◌, ◌++◌, lt-ltb, Interval}
 use Rattle.forest_steps.proofs.Common.{Buffers, Cause, forced, when, has_strong, is_filed, is_root_left, standing, Failure, first_some}
 use Rattle.forest_steps.proofs.Common.{Ends, Loses, decided, first_step, late_failure, mark_of, pages_in, is_held_strongly}
-use Rattle.forest_steps.proofs.Common.{forced_made, found_filed, is_abandoned_in, ◌+◌, subst, sum_by, Demand, or_left, over_except}
+use Rattle.forest_steps.proofs.Common.{forced_made, found_filed, is_abandoned_in, ◌+◌, subst, sum_by, Demand, or_left, unkept_except}
 use Rattle.forest_steps.proofs.Common.{strong_count, Collection, reserved_count, or_none_left, is_strong, demands_of, IsGivenAt}
 use Rattle.forest_steps.proofs.Common.{is_root_of, made, any_map, times_map, all-In, Allocated, IsUnitListed, are_held_except}
 use Rattle.forest_steps.proofs.Common.{is_coming, or_false, map, reverse, node_of, same_key-equal, Fault, above_among, is_below}
@@ -21,7 +21,7 @@ use Rattle.forest_store.specs.Decisions.{later_step, Allocates}
 use Rattle.forest_store.proofs.allocation.Before.{IsDueHead, due_bare, due_head, no_root}
 use Rattle.std.proofs.lemmas.Option.{slice_get-get_or}
 use Rattle.std.specs.List.{slice_get}
-use Rattle.forest_store.specs.Garbage.{IsPlace}
+use Rattle.forest_store.specs.Unkept.{IsPlace}
 use Rattle.forest_steps.proofs.turns.Gifts.{not_this}
 use Rattle.forest_steps.proofs.mid_event.NextThere.{next_fewer, next_told, none_waits, ready_by, wait_among}
 use Rattle.forest_steps.proofs.turns.Places.{above_first, at_one_place, got_In, key_node, node_key, one_place}
@@ -37,7 +37,7 @@ use Rattle.forest_steps.proofs.mid_event.Listed.{refusal_is, sum_is}
 use Rattle.forest_steps.proofs.mid_event.Ready.{no_end_under, whole_under, under_with}
 use Rattle.forest_steps.proofs.changes.Dropped.{kept_root}
 use Rattle.forest_steps.proofs.mid_event.Leading.{led_none}
-use Rattle.forest_steps.proofs.tables.OfShelf.{at_key}
+use Rattle.forest_steps.proofs.tables.OfRow.{at_key}
 use Rattle.forest_store.proofs.lists.Filters.{any-map_filter}
 
 -- the highest node that a failure of the node with this key reaches
@@ -113,12 +113,12 @@ kept_or : (n : ℕ) (b : Bool) → (n == 0 && b) ≡ false → (nat_lt 0 n ≡ t
 kept_or zero b h = inr h
 kept_or (suc n) b h = inl (lt-ltb 0 (suc n) (omega arith))
 
-module _ {t : Table Node} {us : List Unit} {ss : List Shelf} {e : Entry} {k : NodeKey} (place : ℕ) (ws : List PendingUnit)
+module _ {t : Table Node} {us : List Unit} {ss : List CollectionRow} {e : Entry} {k : NodeKey} (place : ℕ) (ws : List PendingUnit)
     (u : MidEvent t us ss e [] (k ∷ turn_heads ws)) (turns : AreTurns t e.keys.items (record { place = place; head = k } ∷ ws))
   where
-    -- the shelf of the entry
-    abbrev pub s : Shelf
-    s = shelf_of e
+    -- the row of the entry
+    abbrev pub s : CollectionRow
+    s = row_of e
 
     -- the nodes that the table has under the entry's keys
     abbrev pub nodes : List Node
@@ -281,7 +281,7 @@ module _ {t : Table Node} {us : List Unit} {ss : List Shelf} {e : Entry} {k : No
           (stays : is_abandoned_in handles t e ≡ false) where
         -- the collection before the refusal
         abbrev c0 : Collection
-        c0 = collection_in t (shelf_of e)
+        c0 = collection_in t (row_of e)
 
         -- whether a strong handle is open on one of the buffers that the collection was given
         abbrev opened : Bool
@@ -325,7 +325,7 @@ module _ {t : Table Node} {us : List Unit} {ss : List Shelf} {e : Entry} {k : No
 
           -- a fault, or a fault and an end, make nodes gone
           gone : HaveGone fault nodes ns
-          gone = subst (λ (x : Shelf). HaveGone fault nodes (nodes_with now x.keys)) (sym felled.shelf) (have_gone _ _ _ felled.nodes)
+          gone = subst (λ (x : CollectionRow). HaveGone fault nodes (nodes_with now x.keys)) (sym felled.row) (have_gone _ _ _ felled.nodes)
 
           -- the fault takes the node where it began
           head_gone : (gone.f head).gone ≡ true
@@ -368,7 +368,7 @@ module _ {t : Table Node} {us : List Unit} {ss : List Shelf} {e : Entry} {k : No
               under = under_with felled.under felled.under.held
                   (next_fewer ns (k ∷ turn_heads ws) (turn_heads ws) felled.under.next (λ n on is h. rw (other n on is) at h))
                   (wait_among ns (turn_heads ws) waits_now);
-              shelf = felled.shelf;
+              row = felled.row;
               leads = λ pool others end settles. Forces c0 end _ (forced_is (Some why) short pool others)
                   (felled.leads pool others end settles);
               beside = felled.beside;
@@ -377,11 +377,11 @@ module _ {t : Table Node} {us : List Unit} {ss : List Shelf} {e : Entry} {k : No
               record {
                 placed = turns_behind.placed;
                 in_turn = turns_behind.in_turn;
-                closed = subst (λ (x : Shelf). AreClosed (nodes_with now x.keys) (turn_heads ws)) felled.shelf
+                closed = subst (λ (x : CollectionRow). AreClosed (nodes_with now x.keys) (turn_heads ws)) felled.row
                     (subst (λ xs. AreClosed xs (turn_heads ws)) (sym gone.is)
                     (closed_on (whole_under u).sound gone.only together_now (turn_heads ws) turns_behind.closed));
               },
-              subst (λ (x : Shelf). waits_among [] (nodes_with now x.keys) ≡ true) felled.shelf (wait_among ns [] waits_now),
+              subst (λ (x : CollectionRow). waits_among [] (nodes_with now x.keys) ≡ true) felled.row (wait_among ns [] waits_now),
             ),
           )
 
@@ -432,8 +432,9 @@ module _ {t : Table Node} {us : List Unit} {ss : List Shelf} {e : Entry} {k : No
               inside = λ key n is. let x = was_there _ t now given.look key is in u.store.inside key x.0 x.1;
               strong = u.store.strong ∙ sym (ap strong_count unit.nodes ∙ times_map is_strong is_strong (f k) nodes (λ m. refl));
               reserved = ap (λ m. m + asks.camping) u.store.reserved ∙ sym (ap reserved_count unit.nodes ∙ reserved_then);
-              garbage_known = λ h. ap (list_any (over_except e.garbage.items)) unit.nodes
-                  ∙ (any_map (over_except e.garbage.items) (over_except e.garbage.items) (f k) nodes (λ m. refl) ∙ u.store.garbage_known h);
+              unkept_known = λ h. ap (list_any (unkept_except e.unkept.items)) unit.nodes
+                  ∙ (any_map (unkept_except e.unkept.items) (unkept_except e.unkept.items) (f k) nodes (λ m. refl)
+                  ∙ u.store.unkept_known h);
             };
             bare = λ none. let no : Some b ≡ None = sym has ∙ none in absurd (cc);
             held = ap (are_held_except []) unit.nodes ∙ held_then k nodes u.held;
@@ -448,13 +449,13 @@ module _ {t : Table Node} {us : List Unit} {ss : List Shelf} {e : Entry} {k : No
           allocated_by enough = (
             record {
               under = under_then;
-              shelf = refl;
+              row = refl;
               leads = λ pool others after on. Forces c0 after _ (forced_is None enough pool others)
                   (subst (λ c. Settles pool handles others c after) (made_is pool others) on);
               beside = record {
                 same = given.same;
                 others = λ x there differ. unit.others x differ
-                    (all-In (λ (y : Shelf). list_all (is_filed t y.id) y.keys) ss x there u.store.kept.filed);
+                    (all-In (λ (y : CollectionRow). list_all (is_filed t y.id) y.keys) ss x there u.store.kept.filed);
               };
             },
             (

@@ -4,11 +4,11 @@ use Rattle.forest_steps.proofs.Common.{List, [], ◌∷◌, map, Option, Some, N
 use Rattle.forest_steps.proofs.Common.{list_all, list_any, option_map_or, NodeKey, Buffers, same_key, In, In-find, In-list_any, In-map}
 use Rattle.forest_steps.proofs.Common.{and_both, and_left, and_right, both_ways, either_way, false_if, or_cases, same_key-true, In-any}
 use Rattle.forest_steps.proofs.Common.{Table, node_at, Entry, Node, Unit, AreUnits, lives_in, waits_in, with_nodes, IsStored, IsWhole}
-use Rattle.forest_steps.proofs.Common.{Shelf, collection_in, is_filed, nodes_with, shelf_of, is_of, is_next_node, is_head, find}
+use Rattle.forest_steps.proofs.Common.{CollectionRow, collection_in, is_filed, nodes_with, row_of, is_of, is_next_node, is_head, find}
 use Rattle.forest_steps.proofs.Common.{HeldBuffer, map-In, hangs_in, given_all, after_allocation, is_allocated_node, IsGivenAt, given_at}
 use Rattle.forest_steps.proofs.Common.{GoTogether, any_map, all-In, looked-of, after_all, IsBareHead, in_all, looked_there, IsSameNode}
 use Rattle.forest_steps.proofs.Common.{all_at, arith, or_false, IsUnitListed, AreClosed, are_held_except, hangs_in_some, holds_unit}
-use Rattle.forest_steps.proofs.Common.{is_coming, is_held, is_next_except, looked-map, all_in, kept-with, one_shelf}
+use Rattle.forest_steps.proofs.Common.{is_coming, is_held, is_next_except, looked-map, all_in, kept-with, one_row}
 use Rattle.forest_store.proofs.quiescence.Together.{together_given}
 use Rattle.forest_store.proofs.lists.Lookups.{same_key-swap}
 use Rattle.forest_steps.proofs.allocation.Giving.{given_in, given_other, given_out, kept_given, same_given}
@@ -16,7 +16,7 @@ use Rattle.forest_store.proofs.tables.Writing.{IsWhole-map, collections-map}
 use Rattle.forest_store.proofs.tallies.Slots.{units_with}
 use Rattle.forest_steps.proofs.turns.Gifts.{ready_same, closed_mapped}
 use Rattle.forest_steps.proofs.mid_event.Listed.{key_within, of_unit}
-use Rattle.forest_steps.proofs.tables.OfShelf.{of_it}
+use Rattle.forest_steps.proofs.tables.OfRow.{of_it}
 
 -- ---- lists
 
@@ -143,14 +143,14 @@ next_then k nodes hs hung was = false_if (list_any (is_next_except hs (served k 
 pub record IsUnitGiven (t now : Table Node) (e : Entry) (k : NodeKey) : Type 0 where
   pub bare : (m : Node) → In m (nodes_with t e.keys.items) → m.head ≡ k → m.allocated ≡ false
   pub nodes : nodes_with now e.keys.items ≡ served k (nodes_with t e.keys.items)
-  pub others : (x : Shelf) → x.id ≢ e.id → list_all (is_filed t x.id) x.keys ≡ true → collection_in now x ≡ collection_in t x
-  pub stored : (buffers : Option Buffers) (held : List HeldBuffer) (ss : List Shelf) → IsStored t ss →
-      find (λ (x : Shelf). x.id == e.id) ss ≡ Some (record { id = e.id; keys = e.keys.items; buffers = buffers; held = held }) →
+  pub others : (x : CollectionRow) → x.id ≢ e.id → list_all (is_filed t x.id) x.keys ≡ true → collection_in now x ≡ collection_in t x
+  pub stored : (buffers : Option Buffers) (held : List HeldBuffer) (ss : List CollectionRow) → IsStored t ss →
+      find (λ (x : CollectionRow). x.id == e.id) ss ≡ Some (record { id = e.id; keys = e.keys.items; buffers = buffers; held = held }) →
       IsStored now ss
-  pub units : (us : List Unit) (ss : List Shelf) → AreUnits us (map (collection_in t) ss) → AreUnits us (map (collection_in now) ss)
+  pub units : (us : List Unit) (ss : List CollectionRow) → AreUnits us (map (collection_in t) ss) → AreUnits us (map (collection_in now) ss)
 
-module _ {t now : Table Node} {ss : List Shelf} (e : Entry) {k : NodeKey} (kept : IsStored t ss)
-    (found : find (λ (x : Shelf). x.id == e.id) ss ≡ Some (shelf_of e)) (formed : IsWhole (collection_in t (shelf_of e)))
+module _ {t now : Table Node} {ss : List CollectionRow} (e : Entry) {k : NodeKey} (kept : IsStored t ss)
+    (found : find (λ (x : CollectionRow). x.id == e.id) ss ≡ Some (row_of e)) (formed : IsWhole (collection_in t (row_of e)))
     (top : IsBareHead (nodes_with t e.keys.items) k) {ks : List NodeKey} (listed : IsUnitListed t k ks)
     (given : IsGivenAt t now (k ∷ []) ks)
   where
@@ -191,7 +191,7 @@ module _ {t now : Table Node} {ss : List Shelf} (e : Entry) {k : NodeKey} (kept 
     nodes_then = looked-map g _ _ given.look _ ∙ map-In g _ _ each_given
 
     -- the nodes of other collections are of other units
-    others_stay : (x : Shelf) → x.id ≢ e.id → list_all (is_filed t x.id) x.keys ≡ true → collection_in now x ≡ collection_in t x
+    others_stay : (x : CollectionRow) → x.id ≢ e.id → list_all (is_filed t x.id) x.keys ≡ true → collection_in now x ≡ collection_in t x
     others_stay x differ filed = λ i. record (collection_in t x) { nodes = stay i }
       where
         apart : (m : Node) → In m (nodes_with t x.keys) → g m ≡ m
@@ -204,14 +204,14 @@ module _ {t now : Table Node} {ss : List Shelf} (e : Entry) {k : NodeKey} (kept 
         stay = looked-map g _ _ given.look _ ∙ still_map g _ apart
 
     -- this collection is whole, the others stay, and each node keeps its place
-    stored_on : (buffers : Option Buffers) (held : List HeldBuffer) {xs : List Shelf} → IsStored t xs →
-        find (λ (x : Shelf). x.id == e.id) xs ≡ Some (record { id = e.id; keys = e.keys.items; buffers = buffers; held = held }) →
+    stored_on : (buffers : Option Buffers) (held : List HeldBuffer) {xs : List CollectionRow} → IsStored t xs →
+        find (λ (x : CollectionRow). x.id == e.id) xs ≡ Some (record { id = e.id; keys = e.keys.items; buffers = buffers; held = held }) →
         IsStored now xs
     stored_on buffers held {xs} old there =
         kept-with g same_g (λ m h. sym (kept_given (λ (x : Node). x.gone) hs (λ x. refl) ks m) ∙ h) t now
         given.same.first given.same.nexts given.same.len given.look given.parents xs whole_then old
       where
-        own : Shelf
+        own : CollectionRow
         own = record { id = e.id; keys = e.keys.items; buffers = buffers; held = held }
 
         on_list : In own xs
@@ -220,10 +220,10 @@ module _ {t now : Table Node} {ss : List Shelf} (e : Entry) {k : NodeKey} (kept 
         then : collection_in now own ≡ with_nodes (after_all hs) (collection_in t own)
         then = λ i. record (collection_in t own) { nodes = nodes_then i }
 
-        whole_then : AllByRecursion (λ (x : Shelf). IsWhole (collection_in now x)) xs
+        whole_then : AllByRecursion (λ (x : CollectionRow). IsWhole (collection_in now x)) xs
         whole_then = all_in _ xs (λ x on. elim (either_way (x.id == e.id)) [
           | inl h ↦
-              rw (one_shelf xs old.rising x own on on_list (eqb-true _ _ h))
+              rw (one_row xs old.rising x own on on_list (eqb-true _ _ h))
               (subst IsWhole (sym then)
               (IsWhole-map _ (λ m. record { key = refl; parent = refl; attached = refl; collection = refl; head = refl })
               (λ m. refl) _ (together_then k) (all_at _ xs old.whole own on_list)))
@@ -233,7 +233,8 @@ module _ {t now : Table Node} {ss : List Shelf} (e : Entry) {k : NodeKey} (kept 
         ])
 
     -- allocation changes none of the counts of units
-    units_on : (us : List Unit) (xs : List Shelf) → AreUnits us (map (collection_in t) xs) → AreUnits us (map (collection_in now) xs)
+    units_on : (us : List Unit) (xs : List CollectionRow) → AreUnits us (map (collection_in t) xs) →
+        AreUnits us (map (collection_in now) xs)
     units_on us xs all = subst (AreUnits us) (sym (collections-map g same_g t now given.look xs))
         (units_with us g same_g (λ m. kept_given (λ x. x.gone) hs (λ x. refl) ks m)
         (λ j m. kept_given (lives_in j) hs (λ x. refl) ks m)

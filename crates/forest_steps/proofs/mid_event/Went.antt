@@ -3,7 +3,7 @@ use Rattle.forest_steps.proofs.Common.{◌≡◌, ◌==◌, refl, ap, sym, ◌�
 use Rattle.forest_steps.proofs.Common.{List, map, reverse, Option, Some, None, option_map, list_any, option_map_or, NodeKey}
 use Rattle.forest_steps.proofs.Common.{same_key, In, In-list_any, In-map, In-map-back, and_both, both_ways, either_way, false_if}
 use Rattle.forest_steps.proofs.Common.{or_cases, or_left, or_right, In-any, Table, node_at, parent_at, Entry, Node, Unit, is_left_of}
-use Rattle.forest_steps.proofs.Common.{Shelf, collection_in, nodes_with, shelf_of, is_of, are_rooted, is_head, arith, same_key-equal}
+use Rattle.forest_steps.proofs.Common.{CollectionRow, collection_in, nodes_with, row_of, is_of, are_rooted, is_head, arith, same_key-equal}
 use Rattle.forest_steps.proofs.Common.{Fault, map-In, Going, gone_by, all_of, after_end, after_loss, ended, lost, is_below}
 use Rattle.forest_steps.proofs.Common.{has_buffers, is_blocking, found_filed, looked-of, all-In, IsLeft, distinct_one, left_node}
 use Rattle.forest_steps.proofs.Common.{IsGoneSo, head_over, IsBeside, MidEvent, AfterRemoval, are_held_except, is_head_left}
@@ -19,11 +19,11 @@ use Rattle.forest_store.proofs.tables.KeptRoots.{rooted_end, rooted_loss}
 use Rattle.forest_steps.proofs.mid_event.Fallen.{beside_same, nodes_then, store_now}
 use Rattle.forest_steps.proofs.mid_event.Owned.{own_taken}
 use Rattle.forest_steps.proofs.mid_event.Tops.{blocks, head_out, parent, stands_first, top, top_here, top_on, up_falls, takes_below}
-use Rattle.forest_steps.proofs.tables.OfShelf.{at_key, linked, tied}
+use Rattle.forest_steps.proofs.tables.OfRow.{at_key, linked, tied}
 use Rattle.forest_steps.proofs.mid_event.Roots.{below_root}
 use Rattle.forest_steps.proofs.mid_event.Ready.{whole_under}
 
-module _ {t : Table Node} {us : List Unit} {ss : List Shelf} {old : Entry} {unheld pending : List NodeKey}
+module _ {t : Table Node} {us : List Unit} {ss : List CollectionRow} {old : Entry} {unheld pending : List NodeKey}
     (opens : MidEvent t us ss old unheld pending) {now : Table Node} {after : List Unit} {new : Entry} {going : Going}
     {origin : NodeKey} {keys : List NodeKey} (gone : IsGoneSo t now us after old new going origin keys)
     (left : is_left_of (nodes_with t old.keys.items) origin ≡ true) where
@@ -31,9 +31,9 @@ module _ {t : Table Node} {us : List Unit} {ss : List Shelf} {old : Entry} {unhe
   abbrev pub nodes : List Node
   nodes = nodes_with t old.keys.items
 
-  -- the shelf of the entry before the removal
-  abbrev s : Shelf
-  s = shelf_of old
+  -- the row of the entry before the removal
+  abbrev s : CollectionRow
+  s = row_of old
 
   -- whether the key is one of the removed keys
   abbrev falls : NodeKey → Bool
@@ -59,7 +59,7 @@ module _ {t : Table Node} {us : List Unit} {ss : List Shelf} {old : Entry} {unhe
 
   -- the entry has the same keys
   nodes_new : nodes_with now new.keys.items ≡ map goes nodes
-  nodes_new = ap (λ (x : Shelf). nodes_with now x.keys) gone.shelf ∙ nodes_now
+  nodes_new = ap (λ (x : CollectionRow). nodes_with now x.keys) gone.row ∙ nodes_now
 
   -- a remaining node has buffers only where it had: a removed one gets none
   bare_new : new.buffers ≡ None → list_any has_buffers (nodes_with now new.keys.items) ≡ false
@@ -68,7 +68,7 @@ module _ {t : Table Node} {us : List Unit} {ss : List Shelf} {old : Entry} {unhe
       let y = In-map goes nodes x.0 x.1 in
       let was : has_buffers y.0 ≡ true = served_was y.0 (ap has_buffers (sym y.2) ∙ x.2) in
       both_ways _ (In-any has_buffers nodes y.0 y.1 was)
-      (opens.bare (sym (ap (λ (x : Shelf). x.buffers) gone.shelf) ∙ none)))
+      (opens.bare (sym (ap (λ (x : CollectionRow). x.buffers) gone.row) ∙ none)))
     where
       served_was : (n : Node) → has_buffers (goes n) ≡ true → has_buffers n ≡ true
       served_was n h = grind (arith, given_of, gone_of)
@@ -115,7 +115,7 @@ module _ {t : Table Node} {us : List Unit} {ss : List Shelf} {old : Entry} {unhe
         next = ap (λ ns. list_any (is_next_except pending ns) ns) nodes_new ∙ next;
         root = ap (waits_among pending) nodes_new ∙ root;
       };
-      shelf = gone.shelf;
+      row = gone.row;
       nodes = nodes_now ∙ becomes;
       left = ap (λ ns. option_map_or (is_head_left ns) above true) nodes_now ∙ heads;
       beside = beside;
@@ -227,7 +227,7 @@ module _ {t : Table Node} {us : List Unit} {ss : List Shelf} {old : Entry} {unhe
 
 -- ---- by a fault
 
-module _ {t : Table Node} {us : List Unit} {ss : List Shelf} {old : Entry} {unheld pending : List NodeKey}
+module _ {t : Table Node} {us : List Unit} {ss : List CollectionRow} {old : Entry} {unheld pending : List NodeKey}
     (opens : MidEvent t us ss old unheld pending) (now : Table Node) (after : List Unit) (new : Entry) (origin : NodeKey)
     (keys : List NodeKey) where
   -- the failure of the node takes exactly these keys

@@ -2,7 +2,7 @@
 use Rattle.forest_steps.proofs.Common.{◌≡◌, ◌∙◌, refl, Bool, Option, None, Some, option_map, NodeKey, Table}
 use Rattle.forest_steps.proofs.Common.{node_at, Node, Row, row_at, IsSome, parent_at, List, Stores, arith}
 use Rattle.sm_names.specs.Losses.{Reach, Origin, Up, Down}
-use Rattle.forest_store.specs.Shelves.{SameTable}
+use Rattle.forest_store.specs.CollectionRows.{SameTable}
 use Rattle.node_table.specs.Forest.{IsForest}
 use Rattle.node_table.specs.Table.{parent_in}
 use Rattle.node_table.proofs.Depths.{there-above}

@@ -2,13 +2,13 @@
 use Rattle.forest_steps.proofs.Common.{◌≡◌, ℕ, zero, suc, ◌<◌, ◌==◌, refl, ap, sym, ◌∙◌, true, false, ◌||◌, inl, inr, is_none, List}
 use Rattle.forest_steps.proofs.Common.{[], ◌∷◌, Option, Some, None, option_map, arith, cons_option, find, list_all, option_map_or}
 use Rattle.forest_steps.proofs.Common.{NodeKey, same_key, and_left, and_right, either_way, or_left, or_right, same_key-true}
-use Rattle.forest_steps.proofs.Common.{some-injective, same_key-refl, Table, node_at, Node, IsStored, Shelf, is_filed, nodes_with}
+use Rattle.forest_steps.proofs.Common.{some-injective, same_key-refl, Table, node_at, Node, IsStored, CollectionRow, is_filed, nodes_with}
 use Rattle.forest_steps.proofs.Common.{are_distinct, heads_itself, In, In-any, Hangs, Roots, all-In, node_there, AreGrown}
 use Rattle.std.specs.List.{slice_get}
 use Rattle.forest_store.specs.Falls.{IsHanging}
 use Rattle.forest_steps.specs.InTurn.{IsKeyAt}
 use Rattle.forest_steps.proofs.turns.Grown.{grown_by}
-use Rattle.forest_steps.proofs.tables.OfShelf.{whole, filed}
+use Rattle.forest_steps.proofs.tables.OfRow.{whole, filed}
 
 -- ---- places in lists
 
@@ -116,9 +116,9 @@ module _ (t : Table Node) (id : ℕ) (named : (key : NodeKey) (n : Node) → nod
       let r = one _ (and_left _ _ filed) in
       key_from keys (and_right _ _ filed) i (sym (ap (λ ns. slice_get ns (suc i)) (behind _ k r.1)) ∙ on)
 
-module _ {t : Table Node} {ss : List Shelf} (kept : IsStored t ss) {s : Shelf}
-    (found : find (λ (x : Shelf). x.id == s.id) ss ≡ Some s) where
-  -- the nodes that the table has under the shelf's keys
+module _ {t : Table Node} {ss : List CollectionRow} (kept : IsStored t ss) {s : CollectionRow}
+    (found : find (λ (x : CollectionRow). x.id == s.id) ss ≡ Some s) where
+  -- the nodes that the table has under the row's keys
   abbrev nodes : List Node
   nodes = nodes_with t s.keys
 

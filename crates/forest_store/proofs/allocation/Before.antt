@@ -3,7 +3,7 @@ use Rattle.forest_store.proofs.Common.{some-injective, In-any, ◌≡◌, refl, 
 use Rattle.forest_store.proofs.Common.{◌||◌, ◌==◌, inl, inr, is_none, List, Option, Some, None, eq-eqb, not-true, find, list_all}
 use Rattle.forest_store.proofs.Common.{list_any, option_map_or, NodeKey, same_key, In, In-list_any, and_both, and_left}
 use Rattle.forest_store.proofs.Common.{and_right, both_ways, either_way, same_key-refl, same_key-true, Table, node_at, parent_at}
-use Rattle.forest_store.proofs.Common.{Node, Unit, unit_at, Collection, IsStored, IsWhole, Shelf, collection_in, nodes_with}
+use Rattle.forest_store.proofs.Common.{Node, Unit, unit_at, Collection, IsStored, IsWhole, CollectionRow, collection_in, nodes_with}
 use Rattle.forest_store.proofs.Common.{is_of, is_ready_node, times-zero, HasUnits, has_buffers, IsSound, is_root_of, arith}
 use Rattle.forest_store.specs.UnitAllocation.{hangs_below, has_turn_at, is_left_out, is_of_some, is_waiting_head, left_out_at}
 use Rattle.forest_store.proofs.Basics.{In-made, all-In, found_by_key, found_whole, hangs_in_some}
@@ -63,9 +63,10 @@ abbrev pub due_bare : (t : Table Node) (nodes : List Node) (k : NodeKey) → IsD
 due_bare t nodes k pending =
     record { head = pending.head; on = pending.on; key = pending.key; own = pending.own; here = pending.here; waits = pending.waits }
 
-module _ (t : Table Node) (ss : List Shelf) (kept : IsStored t ss) (s : Shelf) (found : find (λ (x : Shelf). x.id == s.id) ss ≡ Some s)
+module _ (t : Table Node) (ss : List CollectionRow) (kept : IsStored t ss) (s : CollectionRow)
+    (found : find (λ (x : CollectionRow). x.id == s.id) ss ≡ Some s)
     (k : NodeKey) where
-  -- the nodes of the shelf, as the table has them
+  -- the nodes of the row, as the table has them
   abbrev nodes : List Node
   nodes = nodes_with t s.keys
 

@@ -3,15 +3,15 @@ use Rattle.forest_store.proofs.Common.{list_any-map, all_on, In-list_any, or_lef
 use Rattle.forest_store.proofs.Common.{List, [], ◌∷◌, map, Option, Some, None, is_some, refl, sym, ap, ◌∙◌, inl, inr, arith, list_any}
 use Rattle.forest_store.proofs.Common.{list_all, find, AllByRecursion, option_map_or, eqb-true, eq-eqb, lt-ltb, false≢true, NodeKey}
 use Rattle.forest_store.proofs.Common.{same_key, and_left, and_right, or_cases, same_key-true, Table, node_at, Change, Effect, Node}
-use Rattle.forest_store.proofs.Common.{Collection, with_nodes, Shelf, AreRising, IsStored, IsWhole, put_shelf, collection_in}
+use Rattle.forest_store.proofs.Common.{Collection, with_nodes, CollectionRow, AreRising, IsStored, IsWhole, put_row, collection_in}
 use Rattle.forest_store.proofs.Common.{nodes_with, forest_of, all_keys, are_filed, is_filed, affected, ne_eqb, ltb-true}
 use Rattle.forest_store.proofs.Common.{list_any-append, all_of, lost, is_taken, changed, is_birth, is_there, has_collection, In-find}
 use Rattle.forest_store.proofs.Common.{either_way, find-none, is_some-find, MAX_NODE_TRACKERS, forest_node, has_tracker_room, fits}
 use Rattle.forest_store.proofs.lists.Elements.{In-made, all_at, each_none, map-same}
 use Rattle.forest_store.proofs.quiescence.Steps.{all-In}
 use Rattle.forest_store.proofs.changes.Finishing.{keys_in}
-use Rattle.forest_store.proofs.shelves.Putting.{cases_place, above-weaker}
-use Rattle.forest_store.proofs.shelves.Showing.{node_is, filed_found}
+use Rattle.forest_store.proofs.rows.Putting.{cases_place, above-weaker}
+use Rattle.forest_store.proofs.rows.Showing.{node_is, filed_found}
 use Rattle.forest_store.proofs.tables.Writing.{IsSameNode}
 
 -- ---- what a change keeps
@@ -41,26 +41,27 @@ change_makes Change.Nothing key c h = record {
   is = λ i. record c { nodes = sym (map-same (λ (n : Node). n) c.nodes (λ n on. refl)) i };
 }
 
--- ---- the shelf of a collection
+-- ---- the row of a collection
 
--- one shelf is the other
-pub Some-shelf : (x s : Shelf) → Some x ≡ Some s → x ≡ s
-Some-shelf x s e = cc
+-- one row is the other
+pub Some-row : (x s : CollectionRow) → Some x ≡ Some s → x ≡ s
+Some-row x s e = cc
 
--- no shelf of a greater id is found
-pub none_above : (id : ℕ) (ss : List Shelf) → AllByRecursion (λ (later : Shelf). id < later.id) ss →
-    find (λ (s : Shelf). s.id == id) ss ≡ None
+-- no row of a greater id is found
+pub none_above : (id : ℕ) (ss : List CollectionRow) → AllByRecursion (λ (later : CollectionRow). id < later.id) ss →
+    find (λ (s : CollectionRow). s.id == id) ss ≡ None
 none_above id ss all = grind (arith, find-none, each_none, all_at, ne_eqb)
 
--- a shelf that is found has the id
-pub found_id : (id : ℕ) (ss : List Shelf) (s : Shelf) → find (λ (x : Shelf). x.id == id) ss ≡ Some s → s.id ≡ id
-found_id id ss s found = eqb-true _ _ (In-find (λ (x : Shelf). x.id == id) ss s found).1
+-- a row that is found has the id
+pub found_id : (id : ℕ) (ss : List CollectionRow) (s : CollectionRow) → find (λ (x : CollectionRow). x.id == id) ss ≡ Some s → s.id ≡ id
+found_id id ss s found = eqb-true _ _ (In-find (λ (x : CollectionRow). x.id == id) ss s found).1
 
--- a shelf that is found stands in its place
-pub found_put : (s : Shelf) (ss : List Shelf) → AreRising ss → find (λ (x : Shelf). x.id == s.id) ss ≡ Some s → put_shelf s ss ≡ ss
+-- a row that is found stands in its place
+pub found_put : (s : CollectionRow) (ss : List CollectionRow) → AreRising ss → find (λ (x : CollectionRow). x.id == s.id) ss ≡ Some s →
+    put_row s ss ≡ ss
 found_put s [] rising found = absurd (cc)
 found_put s (x ∷ xs) rising found = cases_place _ _ _
-    (λ same. let one : x ≡ s = Some-shelf x s (rw same at found) in rw same (ap (λ y. y ∷ xs) (sym one)))
+    (λ same. let one : x ≡ s = Some-row x s (rw same at found) in rw same (ap (λ y. y ∷ xs) (sym one)))
     (λ other above.
     let less : s.id < x.id = ltb-true _ _ above in
     let none = none_above _ _ (above-weaker _ _ _ less rising.0) in
@@ -77,13 +78,13 @@ pub filed_at : (t : Table Node) (id : ℕ) (keys : List NodeKey) (key : NodeKey)
 filed_at t id keys key n filed is there = grind (arith, In-list_any, same_key-true, all-In)
 
 -- a node that is there is of a collection that is there
-pub kept_of : (t : Table Node) (ss : List Shelf) (key : NodeKey) (n : Node) → are_filed t ss ≡ true → node_at t key ≡ Some n →
-    list_any (same_key key) (all_keys ss) ≡ true → is_some (find (λ (s : Shelf). s.id == n.collection) ss) ≡ true
+pub kept_of : (t : Table Node) (ss : List CollectionRow) (key : NodeKey) (n : Node) → are_filed t ss ≡ true → node_at t key ≡ Some n →
+    list_any (same_key key) (all_keys ss) ≡ true → is_some (find (λ (s : CollectionRow). s.id == n.collection) ss) ≡ true
 kept_of t ss key n filed is there = is_some-find _ ss ∙ kept ss filed there
   where
-    -- by induction on the shelves: the one that has the key is of the node's collection
-    kept : (ss : List Shelf) → are_filed t ss ≡ true → list_any (same_key key) (all_keys ss) ≡ true →
-        list_any (λ (s : Shelf). s.id == n.collection) ss ≡ true
+    -- by induction on the rows: the one that has the key is of the node's collection
+    kept : (ss : List CollectionRow) → are_filed t ss ≡ true → list_any (same_key key) (all_keys ss) ≡ true →
+        list_any (λ (s : CollectionRow). s.id == n.collection) ss ≡ true
     kept [] filed there = absurd (false≢true there)
     kept (s ∷ ss) filed there = elim (or_cases _ _ (sym (list_any-append (same_key key) s.keys (all_keys ss)) ∙ there)) [
       | inl here ↦ or_left _ _ (eq-eqb s.id n.collection (sym (eqb-true _ _ (filed_at t s.id s.keys key n (and_left _ _ filed) is here))))
@@ -91,32 +92,35 @@ kept_of t ss key n filed is there = is_some-find _ ss ∙ kept ss filed there
     ]
 
 -- by the node
-there_kept-by : (t : Table Node) (ss : List Shelf) → IsStored t ss → (id : ℕ) (key : NodeKey) (o : Option Node) → node_at t key ≡ o →
-    option_map_or (λ (n : Node). n.collection == id && not n.gone) o false ≡ true → is_some (find (λ (s : Shelf). s.id == id) ss) ≡ true
+there_kept-by : (t : Table Node) (ss : List CollectionRow) → IsStored t ss → (id : ℕ) (key : NodeKey) (o : Option Node) →
+    node_at t key ≡ o →
+    option_map_or (λ (n : Node). n.collection == id && not n.gone) o false ≡ true →
+    is_some (find (λ (s : CollectionRow). s.id == id) ss) ≡ true
 there_kept-by t ss ok id key None is there = absurd (false≢true there)
 there_kept-by t ss ok id key (Some n) is there =
     let own : n.collection ≡ id = eqb-true _ _ (and_left _ _ there) in
     rw (← own) (kept_of t _ _ n ok.filed is (ok.there key n is))
 
 -- a key that is in the collection, and its collection
-there_kept : (t : Table Node) (ss : List Shelf) → IsStored t ss → (id : ℕ) (key : NodeKey) → is_there (forest_of t ss) id key ≡ true →
-    is_some (find (λ (s : Shelf). s.id == id) ss) ≡ true
+there_kept : (t : Table Node) (ss : List CollectionRow) → IsStored t ss → (id : ℕ) (key : NodeKey) →
+    is_there (forest_of t ss) id key ≡ true →
+    is_some (find (λ (s : CollectionRow). s.id == id) ss) ≡ true
 there_kept t ss ok id key there =
     there_kept-by t _ ok _ _ _ refl (ap (λ o. option_map_or (λ (n : Node). n.collection == id && not n.gone) o false)
     (sym (node_is t _ ok key)) ∙ there)
 
--- a collection that is kept has a shelf
-collection_kept : (t : Table Node) (ss : List Shelf) (id : ℕ) → has_collection (forest_of t ss) id ≡ true →
-    is_some (find (λ (s : Shelf). s.id == id) ss) ≡ true
+-- a collection that is kept has a row
+collection_kept : (t : Table Node) (ss : List CollectionRow) (id : ℕ) → has_collection (forest_of t ss) id ≡ true →
+    is_some (find (λ (s : CollectionRow). s.id == id) ss) ≡ true
 collection_kept t ss id fit = grind (arith, is_some-find, list_any-map)
 
 -- a collection that is changed is there
-pub change_kept : (t : Table Node) (ss : List Shelf) → IsStored t ss → (id : ℕ) (change : Change) → is_birth change ≡ false →
-    fits (forest_of t ss) id change ≡ true → is_some (find (λ (s : Shelf). s.id == id) ss) ≡ true
+pub change_kept : (t : Table Node) (ss : List CollectionRow) → IsStored t ss → (id : ℕ) (change : Change) → is_birth change ≡ false →
+    fits (forest_of t ss) id change ≡ true → is_some (find (λ (s : CollectionRow). s.id == id) ss) ≡ true
 change_kept t ss ok id change h fit = grind (arith, there_kept, collection_kept)
 
 -- the node of a tracker has room for it
-pub tracker_room : (t : Table Node) (ss : List Shelf) → IsStored t ss → (asked : NodeKey) (effect : Effect) →
+pub tracker_room : (t : Table Node) (ss : List CollectionRow) → IsStored t ss → (asked : NodeKey) (effect : Effect) →
     ((n : Node) → effect ≡ Effect.Tracked → forest_node (forest_of t ss) asked ≡ Some n → n.trackers < MAX_NODE_TRACKERS) →
     (key : NodeKey) (n : Node) →
     node_at t key ≡ Some n → has_tracker_room asked effect n ≡ true
@@ -136,16 +140,17 @@ tracker_room t ss ok asked Effect.Released few key n is = refl
 
 -- ---- a collection that is changed
 
--- the shelf that would show the collection
-abbrev pub shelf_by : Collection → Shelf
-shelf_by c = record { id = c.id; keys = keys_in c.nodes; buffers = c.buffers; held = c.held }
+-- the row that would show the collection
+abbrev pub row_by : Collection → CollectionRow
+row_by c = record { id = c.id; keys = keys_in c.nodes; buffers = c.buffers; held = c.held }
 
--- the shelf of the id
-pub found_filed : (t : Table Node) (id : ℕ) (ss : List Shelf) (s : Shelf) → are_filed t ss ≡ true →
-    find (λ (x : Shelf). x.id == id) ss ≡ Some s → list_all (is_filed t s.id) s.keys ≡ true
+-- the row of the id
+pub found_filed : (t : Table Node) (id : ℕ) (ss : List CollectionRow) (s : CollectionRow) → are_filed t ss ≡ true →
+    find (λ (x : CollectionRow). x.id == id) ss ≡ Some s → list_all (is_filed t s.id) s.keys ≡ true
 found_filed t id ss s filed found = filed_found t id ss filed s found
 
 -- its collection is whole
-pub found_whole : (t : Table Node) (id : ℕ) (ss : List Shelf) (s : Shelf) → AllByRecursion (λ (x : Shelf). IsWhole (collection_in t x)) ss →
-    find (λ (x : Shelf). x.id == id) ss ≡ Some s → IsWhole (collection_in t s)
+pub found_whole : (t : Table Node) (id : ℕ) (ss : List CollectionRow) (s : CollectionRow) →
+    AllByRecursion (λ (x : CollectionRow). IsWhole (collection_in t x)) ss →
+    find (λ (x : CollectionRow). x.id == id) ss ≡ Some s → IsWhole (collection_in t s)
 found_whole t id ss s all found = all_at _ _ all s (In-find _ _ s found).0

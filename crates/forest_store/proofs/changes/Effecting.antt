@@ -3,12 +3,12 @@ use Rattle.forest_store.proofs.Common.{◌≡◌, ◌≢◌, ℕ, ◌+◌, ◌==
 use Rattle.forest_store.proofs.Common.{length, set, Option, Some, option_map, refl, sym, ap, subst, ◌∙◌, arith, eqb-true, lt-ltb}
 use Rattle.forest_store.proofs.Common.{list_all, NodeKey, Cause, same_key, times, In, In-find, In-map, In-map-back, and_both, both_ways}
 use Rattle.forest_store.proofs.Common.{either_way, same_key-refl, same_key-true, Table, node_at, Change, Effect, Node, Unit}
-use Rattle.forest_store.proofs.Common.{strong_count, AreUnits, lives_in, unit_at, waits_in, Collection, IsStored, IsWhole, Shelf}
-use Rattle.forest_store.proofs.Common.{collection_in, is_filed, nodes_with, affected, is_over, is_live_node, is_head, get_or-set_other}
+use Rattle.forest_store.proofs.Common.{strong_count, AreUnits, lives_in, unit_at, waits_in, Collection, IsStored, IsWhole, CollectionRow}
+use Rattle.forest_store.proofs.Common.{collection_in, is_filed, nodes_with, affected, is_unkept, is_live_node, is_head, get_or-set_other}
 use Rattle.forest_store.proofs.Common.{get_or-set_same, length-set, and-false, or_none_right, Writes, table_with_node, HasUnit, HasUnits}
 use Rattle.forest_store.proofs.Common.{heads_below, is_unready, no_unit, unit_of, bit, is_strong, decrement_if, MayAffect, is_plain}
 use Rattle.forest_store.proofs.tables.LeftParents.{loss_left}
-use Rattle.forest_store.proofs.tallies.Slots.{Stays, all_at, but_all, but_join, but_moved, but_stays, one_shelf, one_slot}
+use Rattle.forest_store.proofs.tallies.Slots.{Stays, all_at, but_all, but_join, but_moved, but_stays, one_row, one_slot}
 use Rattle.forest_store.proofs.Basics.{together_effect, times_changed, found_filed, found_whole, looked-of, same_affected}
 use Rattle.forest_store.proofs.Basics.{IsPlain, collection-beside, all_in, in_all, looked_there, head_there, below_mapped}
 use Rattle.forest_store.proofs.Basics.{looked-map, lives_other, lives_own, waits_other, waits_own, IsLeft, left_node, node_is}
@@ -24,11 +24,11 @@ plain_affected key effect is n = grind arith
 pub alone_affected : (key : NodeKey) (effect : Effect) (m : Node) → same_key key m.key ≡ false → affected key effect m ≡ m
 alone_affected key effect m other = grind (arith, and-false)
 
--- no effect changes whether a node is gone, allocated or dead; releases and demands stay
+-- no effect changes whether a node is gone, allocated or unkept; releases and demands stay
 pub record Remains (m n : Node) : Type 0 where
   pub gone : m.gone ≡ n.gone
   pub allocated : m.allocated ≡ n.allocated
-  pub over : is_over m ≡ is_over n
+  pub over : is_unkept m ≡ is_unkept n
   pub released : m.released ≡ false → n.released ≡ false
   pub weak : m.weak ≡ false → n.weak ≡ false
   pub asks : is_some m.constraints ≡ false → is_some n.constraints ≡ false
@@ -86,12 +86,12 @@ decremented count was is real before e = grind (arith, lt-ltb)
 module _ (t now : Table Node) (us : List Unit) (key : NodeKey) (effect : Effect) (n : Node) (was : node_at t key ≡ Some n)
     (becomes : now ≡ table_with_node t (affected key effect n).key (affected key effect n))
     (writes : Writes t now (affected key effect n).key (affected key effect n))
-    (ss : List Shelf) (s : Shelf) (strong : ℕ) (opens : MayAffect t us ss s key strong) where
+    (ss : List CollectionRow) (s : CollectionRow) (strong : ℕ) (opens : MayAffect t us ss s key strong) where
   -- the change of one node: the effect, if the node has the key
   abbrev pub f : Node → Node
   f = affected key effect
 
-  -- the nodes of the shelf before the effect
+  -- the nodes of the row before the effect
   abbrev nodes : List Node
   nodes = nodes_with t s.keys
 
@@ -163,20 +163,20 @@ module _ (t now : Table Node) (us : List Unit) (key : NodeKey) (effect : Effect)
   filed = grind (arith, own, node_is)
 
   -- the other collections stay
-  pub beside_same : (x : Shelf) → x.id ≢ s.id → list_all (is_filed t x.id) x.keys ≡ true → collection_in now x ≡ collection_in t x
+  pub beside_same : (x : CollectionRow) → x.id ≢ s.id → list_all (is_filed t x.id) x.keys ≡ true → collection_in now x ≡ collection_in t x
   beside_same x differ own_filed = collection-beside t now _ _
       (Stores-more t t _ _ _ opens.kept.named (Stores-none t) becomes writes) opens.kept.named
       (and_both _ _ filed refl) x differ own_filed
 
   -- ---- the units
 
-  -- the shelf is found among them
-  pub in_shelves : In s ss
-  in_shelves = (In-find _ _ s opens.found).0
+  -- the row is found among them
+  pub in_rows : In s ss
+  in_rows = (In-find _ _ s opens.found).0
 
   -- the counts of each collection's units are right, so of this one's
   pub unit_has : HasUnits us nodes
-  unit_has = all_at _ _ opens.units _ (In-map-back _ _ s in_shelves)
+  unit_has = all_at _ _ opens.units _ (In-map-back _ _ s in_rows)
 
   -- the units of other collections stay, and those of this one are counted anew
   pub units_join : (after : List Unit) → Stays t s.id us after → HasUnits after (map f nodes) → AreUnits after (map (collection_in now) ss)
@@ -185,7 +185,7 @@ module _ (t now : Table Node) (us : List Unit) (key : NodeKey) (effect : Effect)
       (but_stays t opens.kept.named _ after _ stays _ opens.kept.filed (but_all _ s.id _ opens.units)))
       (λ c there is.
       let x = In-map _ _ c there in
-      let one : x.0 ≡ s = one_shelf _ opens.kept.rising _ s x.1 in_shelves (sym (ap (λ (d : Collection). d.id) x.2) ∙ is) in
+      let one : x.0 ≡ s = one_row _ opens.kept.rising _ s x.1 in_rows (sym (ap (λ (d : Collection). d.id) x.2) ∙ is) in
       rw (x.2 ∙ ap (collection_in now) one) (subst (HasUnits after) (sym nodes_now) has))
 
   -- no effect changes how many units hang right below one

@@ -2,14 +2,14 @@
 use Rattle.forest_store.proofs.Common.{◌≡◌, ◌≢◌, ℕ, ◌==◌, Bool, true, false, List, [], ◌∷◌, map, Option, Some, None, option_map, is_some}
 use Rattle.forest_store.proofs.Common.{cond, refl, sym, ap, ◌∙◌, inl, inr, list_all, AllByRecursion, cons_option, option_map_or, eqb-true}
 use Rattle.forest_store.proofs.Common.{false≢true, NodeKey, same_key, and_left, and_right, same_key-true, Table, node_at, parent_at, Node}
-use Rattle.forest_store.proofs.Common.{Collection, Shelf, AreRising, IsStored, IsWhole, put_shelf, collection_in, nodes_with, all_keys}
+use Rattle.forest_store.proofs.Common.{Collection, CollectionRow, AreRising, IsStored, IsWhole, put_row, collection_in, nodes_with, all_keys}
 use Rattle.forest_store.proofs.Common.{is_filed, put, cases_eq, was_given, Stores, all_of, stored, AreHeadsGiven, arith}
 use Rattle.forest_store.proofs.tables.Kin.{kin_kept}
 use Rattle.forest_store.proofs.tables.Writing.{given-same}
 use Rattle.forest_store.proofs.tables.Hanging.{in_all}
 use Rattle.forest_store.proofs.lists.Elements.{all_mapped, made-In}
 use Rattle.forest_store.proofs.quiescence.Steps.{all-In}
-use Rattle.forest_store.proofs.shelves.Putting.{cases_place, rising-put, keys-put, filed-same, filed-put}
+use Rattle.forest_store.proofs.rows.Putting.{cases_place, rising-put, keys-put, filed-same, filed-put}
 use Rattle.forest_store.proofs.tables.Storing.{stored-key, stored_one}
 
 -- the keys of nodes
@@ -92,7 +92,8 @@ module _ (t now : Table Node) (id : ℕ) (ns : List Node) (stores : Stores t now
       ∙ filed-still-by all other _ _ refl
 
   -- another collection stays
-  pub collection-beside : (s : Shelf) → s.id ≢ id → list_all (is_filed t s.id) s.keys ≡ true → collection_in now s ≡ collection_in t s
+  pub collection-beside : (s : CollectionRow) → s.id ≢ id → list_all (is_filed t s.id) s.keys ≡ true →
+      collection_in now s ≡ collection_in t s
   collection-beside s differ filed = λ i. record {
     id = s.id;
     nodes = nodes-beside t now id ns stores.look named own s.id differ s.keys filed i;
@@ -132,12 +133,13 @@ module _ (t now : Table Node) (id : ℕ) (ns : List Node) (stores : Stores t now
       ])
 
   -- all stays so
-  pub kept-put : all_of id ns ≡ true → (new old : Shelf) (ss : List Shelf) → old.id ≡ new.id → old.keys ≡ new.keys → AreRising ss →
-      IsStored t (put_shelf old ss) → AllByRecursion (λ (n : Node). n.gone ≡ false → parent_at t n.key ≡ n.parent) ns →
+  pub kept-put : all_of id ns ≡ true → (new old : CollectionRow) (ss : List CollectionRow) → old.id ≡ new.id → old.keys ≡ new.keys →
+      AreRising ss →
+      IsStored t (put_row old ss) → AllByRecursion (λ (n : Node). n.gone ≡ false → parent_at t n.key ≡ n.parent) ns →
       AreHeadsGiven t ns →
-      AllByRecursion (λ (s : Shelf). IsWhole (collection_in now s)) (put_shelf new ss) → IsStored now (put_shelf new ss)
+      AllByRecursion (λ (s : CollectionRow). IsWhole (collection_in now s)) (put_row new ss) → IsStored now (put_row new ss)
   kept-put all new old ss ids keys rising ok linked heads whole =
-      let same_keys : all_keys (put_shelf new ss) ≡ all_keys (put_shelf old ss) = sym (keys-put _ _ ss ids keys) in
+      let same_keys : all_keys (put_row new ss) ≡ all_keys (put_row old ss) = sym (keys-put _ _ ss ids keys) in
       record {
         first = stores.same.first ∙ ok.first;
         rising = rising-put new _ rising;
@@ -145,7 +147,7 @@ module _ (t now : Table Node) (id : ℕ) (ns : List Node) (stores : Stores t now
         named = λ key n is.
             let was = found-before key _ n (sym (stores.look key) ∙ is) in
             was.2 ∙ named key was.0 was.1;
-        filed = filed-same t now (filed-still all) (put_shelf new ss) ∙ sym (filed-put t _ new ss ids keys) ∙ ok.filed;
+        filed = filed-same t now (filed-still all) (put_row new ss) ∙ sym (filed-put t _ new ss ids keys) ∙ ok.filed;
         there = λ key n is.
             let was = found-before key _ n (sym (stores.look key) ∙ is) in
             rw same_keys (ok.there key was.0 was.1);
@@ -162,14 +164,14 @@ module _ (t now : Table Node) (id : ℕ) (ns : List Node) (stores : Stores t now
 
 -- ---- wholeness
 
--- of shelves and of their collections
-pub whole-map : (t : Table Node) (ss : List Shelf) → AllByRecursion (λ (s : Shelf). IsWhole (collection_in t s)) ss →
+-- of rows and of their collections
+pub whole-map : (t : Table Node) (ss : List CollectionRow) → AllByRecursion (λ (s : CollectionRow). IsWhole (collection_in t s)) ss →
     AllByRecursion IsWhole (map (collection_in t) ss)
 whole-map t ss all = all_mapped _ _ ss all
 
 -- and back
-pub whole-unmap : (t : Table Node) (ss : List Shelf) → AllByRecursion IsWhole (map (collection_in t) ss) →
-    AllByRecursion (λ (s : Shelf). IsWhole (collection_in t s)) ss
+pub whole-unmap : (t : Table Node) (ss : List CollectionRow) → AllByRecursion IsWhole (map (collection_in t) ss) →
+    AllByRecursion (λ (s : CollectionRow). IsWhole (collection_in t s)) ss
 whole-unmap t [] all = tt
 whole-unmap t (s ∷ ss) all = (all.0, whole-unmap t ss all.1)
 

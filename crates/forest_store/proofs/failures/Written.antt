@@ -3,7 +3,7 @@ use Rattle.forest_store.proofs.Common.{◌≡◌, ◌≢◌, ℕ, zero, suc, ◌
 use Rattle.forest_store.proofs.Common.{length, map, take, get_or, Option, Some, None, option_map, refl, ap, sym, ◌∙◌, subst, arith}
 use Rattle.forest_store.proofs.Common.{cons_option, list_any, option_map_or, NodeKey, Unit, head_above, head_of, unreckoned}
 use Rattle.forest_store.proofs.Common.{untallied, without_below, not, same_key, or_right, same_key-refl, Table, node_at, Node}
-use Rattle.forest_store.proofs.Common.{nodes_with, is_over, map-append, filter_map-append, AllPairs, or_none_left, or_none_right}
+use Rattle.forest_store.proofs.Common.{nodes_with, is_unkept, map-append, filter_map-append, AllPairs, or_none_left, or_none_right}
 use Rattle.forest_store.proofs.Common.{IsSome, is_some, row_at, Writes, table_with_node, Going, gone_by, Stores, stored, common_steps}
 use Rattle.forest_store.proofs.failures.GoneNodes.{same_of}
 use Rattle.forest_store.proofs.tables.Storing.{node_there, row_there}
@@ -96,10 +96,10 @@ module _ (t : Table Node) (named : (key : NodeKey) (n : Node) → node_at t key 
           (subst (Stores t now) (sym (map-append (gone_by going) (nodes_with t done) (n ∷ [])))
           (Stores-more t u _ _ _ named stores (rw (← key) (becomes n is)) (rw (← key) (writes n is))))
 
-  -- one of them is dead where one was, or this one is
-  pub over_more : (over one : Bool) → over ≡ list_any is_over went →
-      one ≡ option_map_or (λ (n : Node). is_over (gone_by going n)) (node_at u k) false →
-      (over || one) ≡ list_any is_over (map (gone_by going) (nodes_with t (done ++ k ∷ [])))
+  -- one of them is unkept where one was, or this one is
+  pub over_more : (over one : Bool) → over ≡ list_any is_unkept went →
+      one ≡ option_map_or (λ (n : Node). is_unkept (gone_by going n)) (node_at u k) false →
+      (over || one) ≡ list_any is_unkept (map (gone_by going) (nodes_with t (done ++ k ∷ [])))
   over_more over one was is = grind (arith, common_steps, still_there, with_more)
 
 -- the keys of nodes that went find them as they are then

@@ -2,9 +2,9 @@
 use Rattle.forest_store.proofs.Common.{◌≡◌, ℕ, zero, suc, ◌<◌, refl, ap, sym, ◌∙◌, subst, Bool, true, false, not, ◌==◌, cond, get_or}
 use Rattle.forest_store.proofs.Common.{List, [], ◌∷◌, ◌++◌, length, Some, arith, filter, find, list_any, false≢true, not-true}
 use Rattle.forest_store.proofs.Common.{NodeKey, same_key, and_both, and_left, and_right, false_if, or_left, or_right, same_key-refl}
-use Rattle.forest_store.proofs.Common.{same_key-true, Shelf, all_keys, remove, list_any-append, or_none_left, are_apart}
+use Rattle.forest_store.proofs.Common.{same_key-true, CollectionRow, all_keys, remove, list_any-append, or_none_left, are_apart}
 use Rattle.forest_store.proofs.leaving.Thinning.{lacks-filter}
-use Rattle.forest_store.proofs.changes.Altering.{Some-shelf}
+use Rattle.forest_store.proofs.changes.Altering.{Some-row}
 
 -- what stands at a place is listed
 pub listed_at : (key : NodeKey) (ks : List NodeKey) (at : ℕ) → at < length ks → get_or ks at key ≡ key → list_any (same_key key) ks ≡ true
@@ -37,13 +37,14 @@ apart_right [] ys h = h
 apart_right (x ∷ xs) ys h = apart_right xs ys (and_right _ _ h)
 
 -- so are those of one collection
-pub found_apart : (id : ℕ) (ss : List Shelf) (s : Shelf) → are_apart (all_keys ss) ≡ true → find (λ (x : Shelf). x.id == id) ss ≡ Some s →
+pub found_apart : (id : ℕ) (ss : List CollectionRow) (s : CollectionRow) → are_apart (all_keys ss) ≡ true →
+    find (λ (x : CollectionRow). x.id == id) ss ≡ Some s →
     are_apart s.keys ≡ true
 found_apart id [] s apart found = absurd (cc)
 found_apart id (x ∷ xs) s apart found = by (x.id == id) found (found_apart id xs s (apart_right x.keys (all_keys xs) apart))
   where
     -- by cases: it is the first one, whose keys are apart, or one behind it
-    by : (b : Bool) → cond b (Some x) (find (λ (y : Shelf). y.id == id) xs) ≡ Some s →
-        (find (λ (y : Shelf). y.id == id) xs ≡ Some s → are_apart s.keys ≡ true) → are_apart s.keys ≡ true
-    by true is on = rw (← (Some-shelf x s is)) (apart_left x.keys (all_keys xs) apart)
+    by : (b : Bool) → cond b (Some x) (find (λ (y : CollectionRow). y.id == id) xs) ≡ Some s →
+        (find (λ (y : CollectionRow). y.id == id) xs ≡ Some s → are_apart s.keys ≡ true) → are_apart s.keys ≡ true
+    by true is on = rw (← (Some-row x s is)) (apart_left x.keys (all_keys xs) apart)
     by false is on = on is

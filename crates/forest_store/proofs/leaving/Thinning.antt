@@ -3,7 +3,7 @@ use Rattle.forest_store.proofs.Common.{In-any, In-filter, In-filter-back, In-lis
 use Rattle.forest_store.proofs.Common.{Bool, true, false, not, List, [], ◌∷◌, map, length, drop, Option, Some, None, is_some, cond, refl}
 use Rattle.forest_store.proofs.Common.{sym, ap, subst, ◌∙◌, inl, inr, arith, list_any, list_all, filter, AllByRecursion, option_map_or}
 use Rattle.forest_store.proofs.Common.{false≢true, not-true, NodeKey, same_key, In, and_both, and_left, and_right, either_way}
-use Rattle.forest_store.proofs.Common.{same_key-true, Table, node_at, parent_at, Node, Collection, with_nodes, Shelf, AreRising}
+use Rattle.forest_store.proofs.Common.{same_key-true, Table, node_at, parent_at, Node, Collection, with_nodes, CollectionRow, AreRising}
 use Rattle.forest_store.proofs.Common.{IsStored, IsWhole, all_keys, are_filed, collection_in, is_filed, nodes_with, is_of, are_distinct}
 use Rattle.forest_store.proofs.Common.{heads_itself, filter-append, filter-list_all, list_all-filter, table_len, same_key-equal}
 use Rattle.forest_store.proofs.Common.{TakesOut, is_found, thinned, are_apart, IsSound, filter-all, filter-less, list_all-append}
@@ -99,15 +99,15 @@ IsWhole-filter p c over ok = record {
   together = together_filter p c.nodes ok.together;
 }
 
--- ---- shelves with the keys that a table has
+-- ---- rows with the keys that a table has
 
 -- the ids still rise
-thinned-rising : (t : Table Node) (ss : List Shelf) → AreRising ss → AreRising (map (thinned t) ss)
+thinned-rising : (t : Table Node) (ss : List CollectionRow) → AreRising ss → AreRising (map (thinned t) ss)
 thinned-rising t [] rising = tt
 thinned-rising t (s ∷ ss) rising = (all_mapped _ _ ss rising.0, thinned-rising t ss rising.1)
 
 -- the keys are those that the table has
-pub thinned-keys : (t : Table Node) (ss : List Shelf) → all_keys (map (thinned t) ss) ≡ filter (is_found t) (all_keys ss)
+pub thinned-keys : (t : Table Node) (ss : List CollectionRow) → all_keys (map (thinned t) ss) ≡ filter (is_found t) (all_keys ss)
 thinned-keys t [] = refl
 thinned-keys t (s ∷ ss) = grind (arith, thinned-keys t ss, filter-append)
 
@@ -115,16 +115,16 @@ thinned-keys t (s ∷ ss) = grind (arith, thinned-keys t ss, filter-append)
 pub filed_all : (t : Table Node) (id : ℕ) (ks : List NodeKey) → list_all (is_filed t id) ks ≡ true → list_all (is_found t) ks ≡ true
 filed_all t id ks h = all_on _ ks (λ k on. place-filed id (node_at t k) (all-In (is_filed t id) ks k on h))
 
--- a shelf whose keys are filed has only keys that the table has
-pub thinned-same : (t : Table Node) (s : Shelf) → list_all (is_filed t s.id) s.keys ≡ true → thinned t s ≡ s
+-- a row whose keys are filed has only keys that the table has
+pub thinned-same : (t : Table Node) (s : CollectionRow) → list_all (is_filed t s.id) s.keys ≡ true → thinned t s ≡ s
 thinned-same t s filed = λ i. record s { keys = filter-list_all (is_found t) s.keys (filed_all t _ _ filed) i }
 
--- so have all shelves
-pub all_thinned-same : (t : Table Node) (ss : List Shelf) → are_filed t ss ≡ true → map (thinned t) ss ≡ ss
+-- so have all rows
+pub all_thinned-same : (t : Table Node) (ss : List CollectionRow) → are_filed t ss ≡ true → map (thinned t) ss ≡ ss
 all_thinned-same t ss filed = grind (arith, map-same, thinned-same, all-In)
 
 -- what is kept by a table, and by one that has fewer nodes
-pub thinned-twice : (t now : Table Node) → ((k : NodeKey) → is_found now k ≡ true → is_found t k ≡ true) → (ss : List Shelf) →
+pub thinned-twice : (t now : Table Node) → ((k : NodeKey) → is_found now k ≡ true → is_found t k ≡ true) → (ss : List CollectionRow) →
     map (thinned now) (map (thinned t) ss) ≡ map (thinned now) ss
 thinned-twice t now fewer [] = refl
 thinned-twice t now fewer (s ∷ ss) =
@@ -161,8 +161,8 @@ module _ (t now : Table Node) (key : NodeKey) (out : TakesOut t now key) where
             ap (λ o. option_map_or (λ (n : Node). n.collection == id) o false) there ∙ all-In (is_filed t id) ks k x.0 filed
       ])
 
-  -- by induction over the shelves
-  all_filed-kept : (ss : List Shelf) → are_filed t ss ≡ true → are_filed now (map (thinned now) ss) ≡ true
+  -- by induction over the rows
+  all_filed-kept : (ss : List CollectionRow) → are_filed t ss ≡ true → are_filed now (map (thinned now) ss) ≡ true
   all_filed-kept [] filed = refl
   all_filed-kept (s ∷ ss) filed = and_both _ _ (filed-kept _ _ (and_left _ _ filed)) (all_filed-kept ss (and_right _ _ filed))
 
@@ -175,7 +175,7 @@ module _ (t now : Table Node) (key : NodeKey) (out : TakesOut t now key) where
       ])
 
   -- all keys have nodes
-  all_found : (ss : List Shelf) → are_filed t ss ≡ true → list_all (is_found t) (all_keys ss) ≡ true
+  all_found : (ss : List CollectionRow) → are_filed t ss ≡ true → list_all (is_found t) (all_keys ss) ≡ true
   all_found [] filed = refl
   all_found (s ∷ ss) filed = list_all-append _ s.keys (all_keys ss)
       ∙ and_both _ _ (filed_all t s.id s.keys (and_left _ _ filed)) (all_found ss (and_right _ _ filed))
@@ -187,14 +187,15 @@ module _ (t now : Table Node) (key : NodeKey) (out : TakesOut t now key) where
 
   -- the collections stay whole, where the node is gone
   whole-kept : ((m : Node) → node_at t key ≡ Some m → m.gone ≡ true) → ((k : NodeKey) (n : Node) → node_at t k ≡ Some n → n.key ≡ k) →
-      (ss : List Shelf) → AllByRecursion (λ (s : Shelf). IsWhole (collection_in t s)) ss →
-      AllByRecursion (λ (s : Shelf). IsWhole (collection_in now s)) (map (thinned now) ss)
+      (ss : List CollectionRow) → AllByRecursion (λ (s : CollectionRow). IsWhole (collection_in t s)) ss →
+      AllByRecursion (λ (s : CollectionRow). IsWhole (collection_in now s)) (map (thinned now) ss)
   whole-kept goes named ss all = all_mapped _ _ ss (all_weaker _ _ ss (λ s whole.
       rw (nodes_left named s.keys)
       (IsWhole-filter (λ n. not (is_of key n)) (collection_in t s) (looked_gone t named key goes s.keys) whole)) all)
 
   -- a node that is not gone keeps its parent, where the other is gone
-  linked-kept : ((m : Node) → node_at t key ≡ Some m → m.gone ≡ true) → (ss : List Shelf) → IsStored t ss → (k : NodeKey) (n : Node) →
+  linked-kept : ((m : Node) → node_at t key ≡ Some m → m.gone ≡ true) → (ss : List CollectionRow) → IsStored t ss →
+      (k : NodeKey) (n : Node) →
       node_at now k ≡ Some n → n.gone ≡ false → parent_at now k ≡ n.parent
   linked-kept goes ss ok k n is here =
       let was = still k n is in
@@ -202,7 +203,7 @@ module _ (t now : Table Node) (key : NodeKey) (out : TakesOut t now key) where
       ∙ ok.linked k n was.1 here
 
   -- by the node that is gone
-  counted-by : (ss : List Shelf) → IsStored t ss → (o : Option Node) → node_at t key ≡ o → is_some o ≡ true →
+  counted-by : (ss : List CollectionRow) → IsStored t ss → (o : Option Node) → node_at t key ≡ o → is_some o ≡ true →
       length (all_keys (map (thinned now) ss)) ≡ table_len now
   counted-by ss ok None is was = absurd (false≢true was)
   counted-by ss ok (Some n) is was =
@@ -210,8 +211,8 @@ module _ (t now : Table Node) (key : NodeKey) (out : TakesOut t now key) where
       let left = ap length (thinned-keys now ss ∙ found-others (all_keys ss) (all_found ss ok.filed)) in
       omega (arith, fewer, left, ok.counted, out.shorter)
 
-  -- all that holds of forests holds of the shelves without the key
-  pub taken-kept : ((m : Node) → node_at t key ≡ Some m → m.gone ≡ true) → (ss : List Shelf) → IsStored t ss →
+  -- all that holds of forests holds of the rows without the key
+  pub taken-kept : ((m : Node) → node_at t key ≡ Some m → m.gone ≡ true) → (ss : List CollectionRow) → IsStored t ss →
       IsStored now (map (thinned now) ss)
   taken-kept goes ss ok = record {
     first = same_first t now out.keys ∙ ok.first;

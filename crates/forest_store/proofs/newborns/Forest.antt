@@ -3,7 +3,7 @@ use Rattle.forest_store.proofs.Common.{all_on, and_both, map-In, ◌≡◌, ℕ,
 use Rattle.forest_store.proofs.Common.{◌∷◌, ◌++◌, map, length, Option, Some, None, refl, sym, ap, subst, ◌∙◌, inl, inr, arith}
 use Rattle.forest_store.proofs.Common.{list_any, list_all, find, cons_option, AllByRecursion, option_map_or, eq-eqb, false≢true}
 use Rattle.forest_store.proofs.Common.{NodeKey, same_key, HeldBuffer, and_left, and_right, or_right, same_key-true, some-injective}
-use Rattle.forest_store.proofs.Common.{Table, node_at, parent_at, Node, Collection, Shelf, AreRising, IsStored, IsWhole, put_shelf}
+use Rattle.forest_store.proofs.Common.{Table, node_at, parent_at, Node, Collection, CollectionRow, AreRising, IsStored, IsWhole, put_row}
 use Rattle.forest_store.proofs.Common.{collection_in, nodes_with, forest_of, all_keys, are_filed, is_filed, put, append_assoc}
 use Rattle.forest_store.proofs.Common.{flat_map, ltb-true, filter_map-append, list_any-append, was_given, key_cases}
 use Rattle.forest_store.proofs.Common.{same_key-equal, same_key-apart, all_held, AreKin, Bears, are_apart, list_all-append}
@@ -53,19 +53,20 @@ SameKeys-front : (xs ys zs : List NodeKey) → SameKeys ys zs → SameKeys (xs +
 SameKeys-front [] ys zs p = p
 SameKeys-front (x ∷ xs) ys zs p = SameKeys-cons x _ _ (SameKeys-front xs ys zs p)
 
--- ---- a shelf with one key more
+-- ---- a row with one key more
 
--- the keys, the buffers' pages of the shelf with the id
-abbrev pub keys_before : ℕ → List Shelf → List NodeKey
-keys_before id ss = option_map_or (λ (s : Shelf). s.keys) (find (λ (s : Shelf). s.id == id) ss) []
+-- the keys, the buffers' pages of the row with the id
+abbrev pub keys_before : ℕ → List CollectionRow → List NodeKey
+keys_before id ss = option_map_or (λ (s : CollectionRow). s.keys) (find (λ (s : CollectionRow). s.id == id) ss) []
 
--- the held buffers of the shelf with the id, or none if there is no such shelf
-abbrev pub held_before : ℕ → List Shelf → List HeldBuffer
-held_before id ss = option_map_or (λ (s : Shelf). s.held) (find (λ (s : Shelf). s.id == id) ss) []
+-- the held buffers of the row with the id, or none if there is no such row
+abbrev pub held_before : ℕ → List CollectionRow → List HeldBuffer
+held_before id ss = option_map_or (λ (s : CollectionRow). s.held) (find (λ (s : CollectionRow). s.id == id) ss) []
 
 -- all keys are those there were, and this one
-pub keys-born : (new : Shelf) (key : NodeKey) (ss : List Shelf) → AreRising ss → new.keys ≡ keys_before new.id ss ++ key ∷ [] →
-    SameKeys (all_keys (put_shelf new ss)) (key ∷ all_keys ss)
+pub keys-born : (new : CollectionRow) (key : NodeKey) (ss : List CollectionRow) → AreRising ss →
+    new.keys ≡ keys_before new.id ss ++ key ∷ [] →
+    SameKeys (all_keys (put_row new ss)) (key ∷ all_keys ss)
 keys-born new key [] rising keys = rw keys (SameKeys-refl _)
 keys-born new key (s ∷ ss) rising keys = cases_place _ _ _ (λ same.
     let own : new.keys ≡ s.keys ++ key ∷ [] = rw same at keys in
@@ -79,8 +80,8 @@ keys-born new key (s ∷ ss) rising keys = cases_place _ _ _ (λ same.
     (keys-born new key ss rising.1 own)) (SameKeys-move s.keys key _)))
 
 -- the pages are those there were
-pub helds-born : (new : Shelf) (ss : List Shelf) → AreRising ss → new.held ≡ held_before new.id ss →
-    flat_map (λ (s : Shelf). s.held) (put_shelf new ss) ≡ flat_map (λ (s : Shelf). s.held) ss
+pub helds-born : (new : CollectionRow) (ss : List CollectionRow) → AreRising ss → new.held ≡ held_before new.id ss →
+    flat_map (λ (s : CollectionRow). s.held) (put_row new ss) ≡ flat_map (λ (s : CollectionRow). s.held) ss
 helds-born new [] rising held = rw held refl
 helds-born new (s ∷ ss) rising held = cases_place _ _ _
     (λ same. let own : new.held ≡ s.held = rw same at held in rw (same, own) refl) (λ other above.
@@ -91,16 +92,17 @@ helds-born new (s ∷ ss) rising held = cases_place _ _ _
     let own : new.held ≡ held_before new.id ss = rw other at held in
     rw (other, below) (ap (λ l. s.held ++ l) (helds-born new ss rising.1 own)))
 
--- the pages of a forest are those of its shelves
-pub helds_in : (t : Table Node) (ss : List Shelf) → all_held (forest_of t ss) ≡ flat_map (λ (s : Shelf). s.held) ss
+-- the pages of a forest are those of its rows
+pub helds_in : (t : Table Node) (ss : List CollectionRow) → all_held (forest_of t ss) ≡ flat_map (λ (s : CollectionRow). s.held) ss
 helds_in t [] = refl
 helds_in t (s ∷ ss) = ap (λ l. s.held ++ l) (helds_in t ss)
 
--- a shelf more that is filed
-filed-born : (t : Table Node) (new : Shelf) (ss : List Shelf) → list_all (is_filed t new.id) new.keys ≡ true → are_filed t ss ≡ true →
-    are_filed t (put_shelf new ss) ≡ true
+-- a row more that is filed
+filed-born : (t : Table Node) (new : CollectionRow) (ss : List CollectionRow) → list_all (is_filed t new.id) new.keys ≡ true →
+    are_filed t ss ≡ true →
+    are_filed t (put_row new ss) ≡ true
 filed-born t new [] own all = rw own refl
-filed-born t new (s ∷ ss) own all = cases_place s.id new.id (are_filed t (put_shelf new (s ∷ ss)) ≡ true)
+filed-born t new (s ∷ ss) own all = cases_place s.id new.id (are_filed t (put_row new (s ∷ ss)) ≡ true)
     (λ same. rw (same, own) (and_right _ _ all)) (λ other above. rw (other, above, own) all) (λ other below.
     let first : list_all (is_filed t s.id) s.keys ≡ true = and_left _ _ all in
     rw (other, below, first) (filed-born t new ss own (and_right _ _ all)))
@@ -148,15 +150,15 @@ module _ (t now : Table Node) (node : Node) (bears : Bears t now node) where
       ap (λ (o : Option Node). option_map_or (λ (n : Node). n.collection == id) o false) (still_found id k _ refl own) ∙ own)
 
   -- all of them
-  still_all_filed : (ss : List Shelf) → are_filed t ss ≡ true → are_filed now ss ≡ true
+  still_all_filed : (ss : List CollectionRow) → are_filed t ss ≡ true → are_filed now ss ≡ true
   still_all_filed ss filed = grind (arith, all_on, still_filed, all-In)
 
   -- a collection stays
-  pub still_collection : (s : Shelf) → list_all (is_filed t s.id) s.keys ≡ true → collection_in now s ≡ collection_in t s
+  pub still_collection : (s : CollectionRow) → list_all (is_filed t s.id) s.keys ≡ true → collection_in now s ≡ collection_in t s
   still_collection s filed = λ i. record { id = s.id; nodes = still_looked _ _ filed i; buffers = s.buffers; held = s.held }
 
   -- so do all
-  pub still_collections : (ss : List Shelf) → are_filed t ss ≡ true → map (collection_in now) ss ≡ map (collection_in t) ss
+  pub still_collections : (ss : List CollectionRow) → are_filed t ss ≡ true → map (collection_in now) ss ≡ map (collection_in t) ss
   still_collections ss filed = grind (arith, map-In, still_collection, all-In)
 
   -- the keys with that of the node find the nodes with the node
@@ -181,14 +183,14 @@ module _ (t now : Table Node) (node : Node) (bears : Bears t now node) where
   ]
 
   -- each node knows its key
-  named_more : {ss : List Shelf} → IsStored t ss → (key : NodeKey) (n : Node) → node_at now key ≡ Some n → n.key ≡ key
+  named_more : {ss : List CollectionRow} → IsStored t ss → (key : NodeKey) (n : Node) → node_at now key ≡ Some n → n.key ≡ key
   named_more ok key n is = elim (found_more key n is) [
     | inl new ↦ ap (λ (m : Node). m.key) (sym new.1) ∙ new.0
     | inr was ↦ ok.named key n was
   ]
 
   -- each node has its key among all
-  there_more : {ss : List Shelf} → IsStored t ss → (key : NodeKey) (n : Node) → node_at now key ≡ Some n →
+  there_more : {ss : List CollectionRow} → IsStored t ss → (key : NodeKey) (n : Node) → node_at now key ≡ Some n →
       list_any (same_key key) (node.key ∷ all_keys ss) ≡ true
   there_more ok key n is = elim (found_more key n is) [
     | inl new ↦ rw (same_key-equal key node.key (sym new.0)) refl
@@ -196,7 +198,7 @@ module _ (t now : Table Node) (node : Node) (bears : Bears t now node) where
   ]
 
   -- each node that is not gone has its parent
-  linked_more : {ss : List Shelf} → IsStored t ss → (key : NodeKey) (n : Node) → node_at now key ≡ Some n → n.gone ≡ false →
+  linked_more : {ss : List CollectionRow} → IsStored t ss → (key : NodeKey) (n : Node) → node_at now key ≡ Some n → n.gone ≡ false →
       parent_at now key ≡ n.parent
   linked_more ok key n is here = bears.parents key ∙ (elim (key_cases node.key key) [
     | inl same ↦
@@ -209,14 +211,15 @@ module _ (t now : Table Node) (node : Node) (bears : Bears t now node) where
   ])
 
   -- the head of each node was given
-  heads_more : {ss : List Shelf} → IsStored t ss → was_given now node.head ≡ true → (key : NodeKey) (n : Node) → node_at now key ≡ Some n →
+  heads_more : {ss : List CollectionRow} → IsStored t ss → was_given now node.head ≡ true → (key : NodeKey) (n : Node) →
+      node_at now key ≡ Some n →
       was_given now n.head ≡ true
   heads_more ok head key n is = elim (found_more key n is) [
     | inl new ↦ ap (λ (m : Node). was_given now m.head) (sym new.1) ∙ head
     | inr was ↦ bears.gives.given n.head ∙ or_right (same_key node.key n.head) (was_given t n.head) (ok.heads key n was)
   ]
 
-  module _ {ss : List Shelf} (ok : IsStored t ss) (above : (p : NodeKey) → node.parent ≡ Some p →
+  module _ {ss : List CollectionRow} (ok : IsStored t ss) (above : (p : NodeKey) → node.parent ≡ Some p →
       (q : Node) × (node_at t p ≡ Some q) × (q.collection ≡ node.collection)) where
     -- the key of each parent was given
     parents_more : (key p : NodeKey) → parent_at now key ≡ Some p → was_given now p ≡ true
@@ -251,18 +254,18 @@ module _ (t now : Table Node) (node : Node) (bears : Bears t now node) where
           ]
     ]
 
-  -- no shelf has the key yet
-  none_yet : (ss : List Shelf) → are_filed t ss ≡ true → list_any (same_key node.key) (all_keys ss) ≡ false
+  -- no row has the key yet
+  none_yet : (ss : List CollectionRow) → are_filed t ss ≡ true → list_any (same_key node.key) (all_keys ss) ≡ false
   none_yet [] filed = refl
   none_yet (s ∷ ss) filed = list_any-append _ s.keys _
       ∙ both_none (none_there _ _ (and_left _ _ filed)) (none_yet ss (and_right _ _ filed))
 
   -- it stands apart
-  apart_more : {ss : List Shelf} → IsStored t ss → are_apart (node.key ∷ all_keys ss) ≡ true
+  apart_more : {ss : List CollectionRow} → IsStored t ss → are_apart (node.key ∷ all_keys ss) ≡ true
   apart_more {ss} ok = rw (none_yet _ ok.filed) ok.apart
 
-  -- the shelf is filed
-  own_more : (new : Shelf) (ss : List Shelf) → new.keys ≡ keys_before new.id ss ++ node.key ∷ [] →
+  -- the row is filed
+  own_more : (new : CollectionRow) (ss : List CollectionRow) → new.keys ≡ keys_before new.id ss ++ node.key ∷ [] →
       list_all (is_filed t new.id) (keys_before new.id ss) ≡ true → node.collection ≡ new.id →
       list_all (is_filed now new.id) new.keys ≡ true
   own_more new ss keys own of =
@@ -270,10 +273,10 @@ module _ (t now : Table Node) (node : Node) (bears : Bears t now node) where
       (rw (born_at, eq-eqb node.collection new.id of) refl))
 
   -- all that holds of forests holds
-  pub kept-born : (new : Shelf) (ss : List Shelf) → IsStored t ss → new.keys ≡ keys_before new.id ss ++ node.key ∷ [] →
+  pub kept-born : (new : CollectionRow) (ss : List CollectionRow) → IsStored t ss → new.keys ≡ keys_before new.id ss ++ node.key ∷ [] →
       list_all (is_filed t new.id) (keys_before new.id ss) ≡ true → node.collection ≡ new.id → was_given now node.head ≡ true →
       IsWhole (collection_in now new) → ((p : NodeKey) → node.parent ≡ Some p → (q : Node) × (node_at t p ≡ Some q) ×
-      (q.collection ≡ node.collection)) → IsStored now (put_shelf new ss)
+      (q.collection ≡ node.collection)) → IsStored now (put_row new ss)
   kept-born new ss ok keys own of head whole above =
       let same = keys-born _ _ _ ok.rising keys in
       record {

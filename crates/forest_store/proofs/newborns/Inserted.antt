@@ -2,21 +2,21 @@
 use Rattle.forest_store.proofs.Common.{IfOk, IfSome, IsSome, row_at, ◌≡◌, ℕ, ◌≤◌, false, if◌then◌else◌, List, length, get_or}
 use Rattle.forest_store.proofs.Common.{set, Some, None, option_map, OnErr, Result, sym, ◌∙◌, ap, option_and_then, option_map_or}
 use Rattle.forest_store.proofs.Common.{NodeKey, Table, node_at, Entry, Node, AreCounted, Bears, IsStored, MayChange, forest_of}
-use Rattle.forest_store.proofs.Common.{named, no_key, no_shelf, place_in, put_in, shelf_of, shelf_with, shelves_of}
+use Rattle.forest_store.proofs.Common.{named, no_key, no_row, place_in, put_in, row_of, row_with, rows_of}
 use Rattle.forest_store.specs.declared.insertion.Birth.{Birth}
 use Rattle.forest_store.specs.Insertion.{IsEntryWith, IsEntryWithout, IsInserted, IsRefused, KeepsNotes, birth_change, born_at}
-use Rattle.forest_store.proofs.newborns.Entries.{among_counted, among_shelves, by_both, first_counted}
-use Rattle.forest_store.proofs.newborns.Entries.{first_shelves, refused_counted, refused_shelves, refused_two}
+use Rattle.forest_store.proofs.newborns.Entries.{among_counted, among_rows, by_both, first_counted}
+use Rattle.forest_store.proofs.newborns.Entries.{first_rows, refused_counted, refused_rows, refused_two}
 use Rattle.forest_store.proofs.newborns.Newborn.{Above, above_is, above_key, above_there}
-use Rattle.forest_store.proofs.shelves.Counted.{count_few}
+use Rattle.forest_store.proofs.rows.Counted.{count_few}
 use Rattle.forest_store.proofs.Basics.{IsPlace, born_parent, born_weak, filed_found}
-use Rattle.forest_store.proofs.Basics.{found_counted, named_bears, none_in, place_is, shelf_found}
+use Rattle.forest_store.proofs.Basics.{found_counted, named_bears, none_in, place_is, row_found}
 
-module _ {t : Table Node} (es : List Entry) (kept : IsStored t (shelves_of es)) (id : ℕ) (b : Birth)
-    (may : MayChange (forest_of t (shelves_of es)) id (birth_change b)) {draft : Node} (is : draft ≡ born_at t id b no_key) where
+module _ {t : Table Node} (es : List Entry) (kept : IsStored t (rows_of es)) (id : ℕ) (b : Birth)
+    (may : MayChange (forest_of t (rows_of es)) id (birth_change b)) {draft : Node} (is : draft ≡ born_at t id b no_key) where
   -- the node above, by what the change asks
-  above : Above t (shelves_of es) id b.parent (option_and_then (node_at t) b.parent)
-  above = above_is t (shelves_of es) kept id b.parent b.attached b.client b.event may
+  above : Above t (rows_of es) id b.parent (option_and_then (node_at t) b.parent)
+  above = above_is t (rows_of es) kept id b.parent b.attached b.client b.event may
 
   -- the draft has the one above as its parent, which has a row
   pub parent_there : IfSome draft.parent (λ p. IsSome (row_at t p))
@@ -44,7 +44,7 @@ module _ {t : Table Node} (es : List Entry) (kept : IsStored t (shelves_of es)) 
       pub few : old.strong ≤ length old.keys.items
       few =
           let found = place.found old ∙ ap Some (sym read) in
-          count_few _ _ (filed_found t id (shelves_of es) kept.filed _ (shelf_found id es ∙ ap (option_map shelf_of) found))
+          count_few _ _ (filed_found t id (rows_of es) kept.filed _ (row_found id es ∙ ap (option_map row_of) found))
           (found_counted _ _ _ _ counted found)
 
       -- the node is inserted among those of the collection: the entry has its key and counts it
@@ -53,9 +53,9 @@ module _ {t : Table Node} (es : List Entry) (kept : IsStored t (shelves_of es)) 
           IfOk result (IsInserted t now es (set es at new) id b)
       inserted now new result born entry notes = by_both result (bears_it now result born) entry (λ key bears entry. record {
         bears = bears;
-        entries = among_shelves t es kept counted id at told place old read key new entry.shelf;
-        counted = among_counted t es kept counted id at told place old read key new entry.shelf now b.parent b.attached b.client
-            b.event _ above bears (rw weak at entry.strong) notes.reserved notes.garbage_known notes.garbage;
+        entries = among_rows t es kept counted id at told place old read key new entry.row;
+        counted = among_counted t es kept counted id at told place old read key new entry.row now b.parent b.attached b.client
+            b.event _ above bears (rw weak at entry.strong) notes.reserved notes.unkept_known notes.unkept;
       })
 
       -- or memory was refused: the entry has more room, and nothing else changed
@@ -63,20 +63,20 @@ module _ {t : Table Node} (es : List Entry) (kept : IsStored t (shelves_of es)) 
           OnErr result (IsEntryWithout old new) → KeepsNotes old new → OnErr result (IsRefused t now es (set es at new))
       refused now new result table entry notes = refused_two result table entry (λ table entry. record {
         table = table;
-        entries = refused_shelves t es kept counted id at told place old read new entry.shelf entry.strong notes.reserved
-            notes.garbage_known notes.garbage;
-        counted = refused_counted t es kept counted id at told place old read new entry.shelf entry.strong notes.reserved
-            notes.garbage_known notes.garbage;
+        entries = refused_rows t es kept counted id at told place old read new entry.row entry.strong notes.reserved
+            notes.unkept_known notes.unkept;
+        counted = refused_counted t es kept counted id at told place old read new entry.row entry.strong notes.reserved
+            notes.unkept_known notes.unkept;
       })
 
     -- the node is inserted as the first of the collection, in an entry of its own
     pub inserted_first : {E : Type 0} (now : Table Node) (behind : List Entry) (result : Result NodeKey E) → place_in id es ≡ None →
         IfOk result (λ key. Bears t now (named key draft)) →
-        IfOk result (λ key. (e : Entry) × (behind ≡ put_in e es) × (shelf_of e ≡ shelf_with (no_shelf id) key)
+        IfOk result (λ key. (e : Entry) × (behind ≡ put_in e es) × (row_of e ≡ row_with (no_row id) key)
         × (e.strong ≡ (if draft.weak then 0 else 1)) × (e.reserved ≡ 0)) → IfOk result (IsInserted t now es behind id b)
     inserted_first now behind result none born entries = by_both result (bears_it now result born) entries (λ key bears e. record {
       bears = bears;
-      entries = ap shelves_of e.1 ∙ first_shelves t es kept counted id (none_in id es none) key e.0 e.2;
+      entries = ap rows_of e.1 ∙ first_rows t es kept counted id (none_in id es none) key e.0 e.2;
       counted = rw e.1 (first_counted t es kept counted id (none_in id es none) key e.0 e.2 now b.parent b.attached b.client
           b.event _ above bears (rw weak at e.3) e.4);
     })

@@ -4,14 +4,14 @@ use Rattle.forest_store.proofs.Common.{Option, Some, None, option_map, is_some, 
 use Rattle.forest_store.proofs.Common.{list_all, find, option_map_or, option_and_then, eqb-true, eq-eqb, false≢true, not-true}
 use Rattle.forest_store.proofs.Common.{NodeKey, same_key, In, In-find, and_left, and_right, both_ways, either_way, or_cases, or_left}
 use Rattle.forest_store.proofs.Common.{or_right, same_key-refl, same_key-true, some-injective, In-any, Table, node_at, Change, Node}
-use Rattle.forest_store.proofs.Common.{is_left_of, Collection, Shelf, AreRising, IsStored, IsWhole, put_shelf, collection_in}
+use Rattle.forest_store.proofs.Common.{is_left_of, Collection, CollectionRow, AreRising, IsStored, IsWhole, put_row, collection_in}
 use Rattle.forest_store.proofs.Common.{nodes_with, forest_of, all_keys, are_filed, is_filed, is_of, node_of, are_distinct}
 use Rattle.forest_store.proofs.Common.{heads_itself, collection_or_new, IsSome, IfSome, unwrap_or, map-append, list_any-append}
 use Rattle.forest_store.proofs.Common.{or_none_left, or_none_right, row_at, was_given, same_key-equal, all_held, Bears, born}
 use Rattle.forest_store.proofs.Common.{new_root, MayChange, with_birth, has_collection, shares_unit, Gives, SameTable, arith}
 use Rattle.forest_store.proofs.newborns.Forest.{keys_before, held_before, kept-born, helds-born}
 use Rattle.forest_store.proofs.newborns.Forest.{helds_in, born_looked, none_there, all-append}
-use Rattle.forest_store.proofs.Basics.{filed_at, kept_of, found_id, found_filed, found_whole, shelf_by, none_above, born_key, keys_in}
+use Rattle.forest_store.proofs.Basics.{filed_at, kept_of, found_id, found_filed, found_whole, row_by, none_above, born_key, keys_in}
 use Rattle.forest_store.proofs.Basics.{looked-keys, in_all, looked_there, rooted_birth, node_of-looked, same_key-swap, distinct_one}
 use Rattle.forest_store.proofs.Basics.{left_in, whole_rooted, node_is, collection_is, row_there, together_born, together_none, united_born}
 
@@ -20,21 +20,22 @@ abbrev pub grown : Collection → Node → Collection
 grown c node = record c { nodes = c.nodes ++ node ∷ [] }
 
 -- the collection with the id, or an empty one, has these nodes and pages
-pub record IsBefore (t : Table Node) (ss : List Shelf) (id : ℕ) (c : Collection) : Type 0 where
+pub record IsBefore (t : Table Node) (ss : List CollectionRow) (id : ℕ) (c : Collection) : Type 0 where
   pub id_is : c.id ≡ id
   pub nodes : c.nodes ≡ nodes_with t (keys_before id ss)
   pub held : c.held ≡ held_before id ss
   pub filed : list_all (is_filed t id) (keys_before id ss) ≡ true
   pub whole : IsWhole c
 
--- by the shelf that is found
-before-by : (t : Table Node) (ss : List Shelf) → IsStored t ss → (id : ℕ) (o : Option Shelf) → find (λ (s : Shelf). s.id == id) ss ≡ o →
+-- by the row that is found
+before-by : (t : Table Node) (ss : List CollectionRow) → IsStored t ss → (id : ℕ) (o : Option CollectionRow) →
+    find (λ (s : CollectionRow). s.id == id) ss ≡ o →
     IsBefore t ss id (unwrap_or (option_map (collection_in t) o) (record { id = id; nodes = []; buffers = None; held = [] }))
 before-by t ss ok id None is = record {
   id_is = refl;
-  nodes = ap (λ (o : Option Shelf). nodes_with t (option_map_or (λ (s : Shelf). s.keys) o [])) (sym is);
-  held = ap (λ (o : Option Shelf). option_map_or (λ (s : Shelf). s.held) o []) (sym is);
-  filed = ap (λ (o : Option Shelf). list_all (is_filed t id) (option_map_or (λ (s : Shelf). s.keys) o [])) is;
+  nodes = ap (λ (o : Option CollectionRow). nodes_with t (option_map_or (λ (s : CollectionRow). s.keys) o [])) (sym is);
+  held = ap (λ (o : Option CollectionRow). option_map_or (λ (s : CollectionRow). s.held) o []) (sym is);
+  filed = ap (λ (o : Option CollectionRow). list_all (is_filed t id) (option_map_or (λ (s : CollectionRow). s.keys) o [])) is;
   whole = record {
     sound = record { distinct = refl; heads = refl; one_root = refl; few = refl };
     rooted = refl;
@@ -46,19 +47,21 @@ before-by t ss ok id (Some s) is =
     let own = found_id id ss s is in
     record {
       id_is = own;
-      nodes = ap (λ (o : Option Shelf). nodes_with t (option_map_or (λ (x : Shelf). x.keys) o [])) (sym is);
-      held = ap (λ (o : Option Shelf). option_map_or (λ (x : Shelf). x.held) o []) (sym is);
-      filed = ap (λ (o : Option Shelf). list_all (is_filed t id) (option_map_or (λ (x : Shelf). x.keys) o [])) is
+      nodes = ap (λ (o : Option CollectionRow). nodes_with t (option_map_or (λ (x : CollectionRow). x.keys) o [])) (sym is);
+      held = ap (λ (o : Option CollectionRow). option_map_or (λ (x : CollectionRow). x.held) o []) (sym is);
+      filed = ap (λ (o : Option CollectionRow). list_all (is_filed t id) (option_map_or (λ (x : CollectionRow). x.keys) o [])) is
           ∙ subst (λ (i : ℕ). list_all (is_filed t i) s.keys ≡ true) own (found_filed t id ss s ok.filed is);
       whole = found_whole t id ss s ok.whole is;
     }
 
 -- the collection with the id, or an empty one
-pub before_is : (t : Table Node) (ss : List Shelf) → IsStored t ss → (id : ℕ) → IsBefore t ss id (collection_or_new (forest_of t ss) id)
+pub before_is : (t : Table Node) (ss : List CollectionRow) → IsStored t ss → (id : ℕ) →
+    IsBefore t ss id (collection_or_new (forest_of t ss) id)
 before_is t ss ok id = rw (collection_is t id ss) (before-by t _ ok _ _ refl)
 
 -- a node of the collection has its key there
-in_own : (t : Table Node) (ss : List Shelf) (key : NodeKey) (n : Node) → AreRising ss → are_filed t ss ≡ true → node_at t key ≡ Some n →
+in_own : (t : Table Node) (ss : List CollectionRow) (key : NodeKey) (n : Node) → AreRising ss → are_filed t ss ≡ true →
+    node_at t key ≡ Some n →
     list_any (same_key key) (all_keys ss) ≡ true → list_any (same_key key) (keys_before n.collection ss) ≡ true
 in_own t [] key n rising filed is there = absurd (false≢true there)
 in_own t (s ∷ ss) key n rising filed is there = elim (or_cases _ _ (sym (list_any-append (same_key key) s.keys (all_keys ss)) ∙ there)) [
@@ -94,8 +97,8 @@ one_root-more ns node kind ok = grind (arith, all-append)
 -- ---- a birth
 
 -- the node above is there, or the collection is new
-pub data Above (t : Table Node) (ss : List Shelf) (id : ℕ) : Option NodeKey → Option Node → Type 0 where
-  Root : find (λ (s : Shelf). s.id == id) ss ≡ None → Above t ss id None None
+pub data Above (t : Table Node) (ss : List CollectionRow) (id : ℕ) : Option NodeKey → Option Node → Type 0 where
+  Root : find (λ (s : CollectionRow). s.id == id) ss ≡ None → Above t ss id None None
   Child : (key : NodeKey) (n : Node) → node_at t key ≡ Some n → n.collection ≡ id → n.gone ≡ false → Above t ss id (Some key) (Some n)
 
 -- where a node that is born belongs, and what the one above is to it
@@ -121,11 +124,12 @@ lacks_key : (t : Table Node) (id : ℕ) → ((key : NodeKey) (n : Node) → node
 lacks_key t id named key ns keys is filed none = grind (arith, any-is_of, keys_in, looked-keys)
 
 -- the node above is found in the collection
-pub found_above : (t : Table Node) (ss : List Shelf) → IsStored t ss → (c : Collection) (up : NodeKey) (n : Node) → node_at t up ≡ Some n →
+pub found_above : (t : Table Node) (ss : List CollectionRow) → IsStored t ss → (c : Collection) (up : NodeKey) (n : Node) →
+    node_at t up ≡ Some n →
     c.nodes ≡ nodes_with t (keys_before n.collection ss) → node_of c.nodes up ≡ Some n
 found_above t ss ok c up n is nodes = grind (arith, in_own, node_of-looked)
 
-module _ {t : Table Node} {ss : List Shelf} (ok : IsStored t ss) (c : Collection) where
+module _ {t : Table Node} {ss : List CollectionRow} (ok : IsStored t ss) (c : Collection) where
   -- so is the one above a node that is born
   found_child : {id : ℕ} → IsBefore t ss id c → (up : NodeKey) (n : Node) → node_at t up ≡ Some n → n.collection ≡ id →
       node_of c.nodes up ≡ Some n
@@ -186,12 +190,13 @@ born_here None attached id event client key = refl
 born_here (Some above) attached id event client key = refl
 
 -- it has the key that is named
-pub above_key : (t : Table Node) (ss : List Shelf) → IsStored t ss → (id : ℕ) (parent : Option NodeKey) (above : Option Node) →
+pub above_key : (t : Table Node) (ss : List CollectionRow) → IsStored t ss → (id : ℕ) (parent : Option NodeKey) (above : Option Node) →
     Above t ss id parent above → option_map (λ (n : Node). n.key) above ≡ parent
 above_key t ss ok id _ _ (Root none) = refl
 above_key t ss ok id _ _ (Child up n is own here) = ap Some (ok.named up n is)
 
-module _ (t now : Table Node) (ss : List Shelf) (ok : IsStored t ss) (id : ℕ) (parent : Option NodeKey) (attached : Bool) (client event : ℕ)
+module _ (t now : Table Node) (ss : List CollectionRow) (ok : IsStored t ss) (id : ℕ) (parent : Option NodeKey) (attached : Bool)
+    (client event : ℕ)
     (above : Option Node) (at : Above t ss id parent above) (key : NodeKey)
     (bears : Bears t now (born above attached id event client key)) where
   -- the node
@@ -250,7 +255,7 @@ module _ (t now : Table Node) (ss : List Shelf) (ok : IsStored t ss) (id : ℕ) 
   born_keys = grind (arith, map-append, keys_in, before, looked-keys)
 
   -- the table has it
-  pub born_shown : collection_in now (shelf_by born_collection) ≡ born_collection
+  pub born_shown : collection_in now (row_by born_collection) ≡ born_collection
   born_shown = λ i. record {
     id = c0.id;
     nodes = (ap (nodes_with now) born_keys ∙ born_looked t now node bears id (keys_before id ss) before.filed
@@ -260,15 +265,15 @@ module _ (t now : Table Node) (ss : List Shelf) (ok : IsStored t ss) (id : ℕ) 
   }
 
   -- all that holds of forests holds
-  pub born_kept : IsStored now (put_shelf (shelf_by born_collection) ss)
+  pub born_kept : IsStored now (put_row (row_by born_collection) ss)
   born_kept = kept-born t _ _ bears _ _ ok (rw before.id_is born_keys) (rw before.id_is before.filed)
       (birth.of ∙ sym before.id_is) (birth.given now bears)
       (subst IsWhole (sym born_shown) born_whole)
       birth.above
 
   -- the pages stay
-  pub born_held : all_held (forest_of now (put_shelf (shelf_by born_collection) ss)) ≡ all_held (forest_of t ss)
-  born_held = grind (arith, helds_in, shelf_by, helds-born, before)
+  pub born_held : all_held (forest_of now (put_row (row_by born_collection) ss)) ≡ all_held (forest_of t ss)
+  born_held = grind (arith, helds_in, row_by, helds-born, before)
 
   -- it is the collection with the birth
   pub born_is : with_birth parent attached client event key c0 ≡ born_collection
@@ -276,31 +281,32 @@ module _ (t now : Table Node) (ss : List Shelf) (ok : IsStored t ss) (id : ℕ) 
 
 -- ---- what may be changed
 
--- a shelf that shows no collection
-none_by : (t : Table Node) (o : Option Shelf) → is_some (option_map (collection_in t) o) ≡ false → o ≡ None
+-- a row that shows no collection
+none_by : (t : Table Node) (o : Option CollectionRow) → is_some (option_map (collection_in t) o) ≡ false → o ≡ None
 none_by t None h = refl
 none_by t (Some s) h = absurd (false≢true (sym h))
 
 -- a new collection is not there yet
-new_root_is : (t : Table Node) (ss : List Shelf) (id : ℕ) → not (has_collection (forest_of t ss) id) ≡ true →
-    find (λ (s : Shelf). s.id == id) ss ≡ None
+new_root_is : (t : Table Node) (ss : List CollectionRow) (id : ℕ) → not (has_collection (forest_of t ss) id) ≡ true →
+    find (λ (s : CollectionRow). s.id == id) ss ≡ None
 new_root_is t ss id new = none_by t _ (not-true _ (ap (λ o. not (is_some o)) (sym (collection_is t id ss)) ∙ new))
 
 -- by the node above
-child_is : (t : Table Node) (ss : List Shelf) (id : ℕ) (up : NodeKey) (o : Option Node) → node_at t up ≡ o →
+child_is : (t : Table Node) (ss : List CollectionRow) (id : ℕ) (up : NodeKey) (o : Option Node) → node_at t up ≡ o →
     option_map_or (λ (n : Node). n.collection == id && not n.gone) o false ≡ true → Above t ss id (Some up) o
 child_is t ss id up None is fit = absurd (false≢true fit)
 child_is t ss id up (Some n) is fit = Child _ n is (eqb-true _ _ (and_left _ _ fit)) (not-true _ (and_right _ _ fit))
 
 -- the node above, by what the change asks
-pub above_is : (t : Table Node) (ss : List Shelf) → IsStored t ss → (id : ℕ) (parent : Option NodeKey) (attached : Bool)
+pub above_is : (t : Table Node) (ss : List CollectionRow) → IsStored t ss → (id : ℕ) (parent : Option NodeKey) (attached : Bool)
     (client event : ℕ) →
     MayChange (forest_of t ss) id (Change.Birth parent attached client event) → Above t ss id parent (option_and_then (node_at t) parent)
 above_is t ss ok id None attached client event may = Root (new_root_is t ss id may.named)
 above_is t ss ok id (Some up) attached client event may = grind (arith, child_is, node_is)
 
 -- a node above has a row
-pub above_there : (t : Table Node) (ss : List Shelf) (id : ℕ) (parent : Option NodeKey) (above : Option Node) → Above t ss id parent above →
+pub above_there : (t : Table Node) (ss : List CollectionRow) (id : ℕ) (parent : Option NodeKey) (above : Option Node) →
+    Above t ss id parent above →
     IfSome parent (λ p. IsSome (row_at t p))
 above_there t ss id _ _ (Root none) = tt
 above_there t ss id _ _ (Child _ n is own here) = row_there t _ (ap is_some is)

@@ -2,14 +2,14 @@
 use Rattle.forest_store.proofs.Common.{◌≡◌, ℕ, ◌+◌, Bool, true, false, ◌||◌, ◌==◌, if◌then◌else◌, List, [], ◌∷◌, ◌++◌, map}
 use Rattle.forest_store.proofs.Common.{reverse, Option, Some, None, option_map, refl, sym, ap, subst, ◌∙◌, arith, find, list_any}
 use Rattle.forest_store.proofs.Common.{option_map_or, NodeKey, same_key, both_ways, same_key-refl, In-any, Table, Entry, Node}
-use Rattle.forest_store.proofs.Common.{strong_count, over_except, Collection, Shelf, IsStored, put_shelf, collection_in}
-use Rattle.forest_store.proofs.Common.{forest_of, shelf_of, is_of, reserved_count, collection_or_new, put, are_rooted, unwrap_or}
+use Rattle.forest_store.proofs.Common.{strong_count, unkept_except, Collection, CollectionRow, IsStored, put_row, collection_in}
+use Rattle.forest_store.proofs.Common.{forest_of, row_of, is_of, reserved_count, collection_or_new, put, are_rooted, unwrap_or}
 use Rattle.forest_store.proofs.Common.{map-append, list_any-append, times-append, or_both, IsQuiescent, IsCounted, all_held}
-use Rattle.forest_store.proofs.Common.{Bears, born, is_strong, with_birth, no_shelf, shelf_before, shelf_with}
+use Rattle.forest_store.proofs.Common.{Bears, born, is_strong, with_birth, no_row, row_before, row_with}
 use Rattle.forest_store.proofs.newborns.Forest.{still_collections}
 use Rattle.forest_store.proofs.newborns.Newborn.{Above, before_is, born_collection, born_fresh, born_held}
 use Rattle.forest_store.proofs.newborns.Newborn.{born_here, born_is, born_kept, born_shown, key_is}
-use Rattle.forest_store.proofs.Basics.{not_over_but, shelf_by, HaveOthers, births_calm, reserved_append, reserved_one}
+use Rattle.forest_store.proofs.Basics.{not_unkept_but, row_by, HaveOthers, births_calm, reserved_append, reserved_one}
 use Rattle.forest_store.proofs.Basics.{keys_in, looked-keys, put-map, left_node, left_parent, collection_is, filed_found}
 
 -- ---- parents
@@ -24,7 +24,8 @@ no_children nodes key rooted fresh n on here up =
 
 -- ---- the birth
 
-module _ (t now : Table Node) (ss : List Shelf) (ok : IsStored t ss) (id : ℕ) (parent : Option NodeKey) (attached : Bool) (client event : ℕ)
+module _ (t now : Table Node) (ss : List CollectionRow) (ok : IsStored t ss) (id : ℕ) (parent : Option NodeKey) (attached : Bool)
+    (client event : ℕ)
     (above : Option Node) (at : Above t ss id parent above) (key : NodeKey) (bears : Bears t now (born above attached id event client key))
   where
     -- the collection before the birth, or an empty one
@@ -51,23 +52,23 @@ module _ (t now : Table Node) (ss : List Shelf) (ok : IsStored t ss) (id : ℕ) 
     fresh : list_any (is_of key) c0.nodes ≡ false
     fresh = rw (← own) (born_fresh t now ss ok id parent _ client event above at key bears)
 
-    -- the shelf that showed the collection
-    before_shelf : shelf_by c0 ≡ shelf_before id ss
-    before_shelf =
-        ap (λ (o : Option Collection). shelf_by (unwrap_or o (record { id = id; nodes = []; buffers = None; held = [] })))
+    -- the row that showed the collection
+    before_row : row_by c0 ≡ row_before id ss
+    before_row =
+        ap (λ (o : Option Collection). row_by (unwrap_or o (record { id = id; nodes = []; buffers = None; held = [] })))
         (collection_is t id ss)
         ∙ from _ refl
       where
-        from : (o : Option Shelf) → find (λ (s : Shelf). s.id == id) ss ≡ o →
-            shelf_by (unwrap_or (option_map (collection_in t) o) (record { id = id; nodes = []; buffers = None; held = [] })) ≡ unwrap_or o
-            (no_shelf id)
+        from : (o : Option CollectionRow) → find (λ (s : CollectionRow). s.id == id) ss ≡ o →
+            row_by (unwrap_or (option_map (collection_in t) o) (record { id = id; nodes = []; buffers = None; held = [] })) ≡ unwrap_or o
+            (no_row id)
         from None found = refl
         from (Some s) found = λ i. record s { keys = looked-keys t _ ok.named _ (filed_found t _ ss ok.filed s found) i }
 
     -- with the key behind it shows the collection with the node
-    shelf_is : shelf_with (shelf_before id ss) key
-        ≡ shelf_by (born_collection t now ss ok id parent attached client event above at key bears)
-    shelf_is = ap (λ (s : Shelf). shelf_with s key) (sym before_shelf)
+    row_is : row_with (row_before id ss) key
+        ≡ row_by (born_collection t now ss ok id parent attached client event above at key bears)
+    row_is = ap (λ (s : CollectionRow). row_with s key) (sym before_row)
         ∙ λ i. record {
           id = c0.id;
           keys = sym (map-append (λ (n : Node). n.key) c0.nodes (node ∷ []) ∙ ap (λ (k : NodeKey). keys_in c0.nodes ++ k ∷ []) own) i;
@@ -86,29 +87,29 @@ module _ (t now : Table Node) (ss : List Shelf) (ok : IsStored t ss) (id : ℕ) 
 
     -- an entry with the key and the counts is counted
     pub counted_born : IsQuiescent (collection_or_new (forest_of t ss) id) → (e : Entry) →
-        shelf_of e ≡ shelf_with (shelf_before id ss) key →
+        row_of e ≡ row_with (row_before id ss) key →
         e.strong ≡ strong_count c0.nodes + (if option_map_or (λ (n : Node). n.weak) above false then 0 else 1) →
         e.reserved ≡ reserved_count c0.nodes →
-        (e.garbage_known ≡ true → list_any (over_except e.garbage.items) c0.nodes ≡ false) → IsCounted now e
-    counted_born calm e is strong reserved garbage_known =
-        let shown : collection_in now (shelf_of e) ≡ born_collection t now ss ok id parent _ client event above at key bears =
-        ap (collection_in now) (is ∙ shelf_is) ∙ born_shown t now ss ok id parent _ client event above at key bears in
+        (e.unkept_known ≡ true → list_any (unkept_except e.unkept.items) c0.nodes ≡ false) → IsCounted now e
+    counted_born calm e is strong reserved unkept_known =
+        let shown : collection_in now (row_of e) ≡ born_collection t now ss ok id parent _ client event above at key bears =
+        ap (collection_in now) (is ∙ row_is) ∙ born_shown t now ss ok id parent _ client event above at key bears in
         record {
           calm = subst IsQuiescent (sym (shown ∙ sym grown_is)) (births_calm _ calm parent _ client event _ fresh
               (no_children _ _ (before_is t _ ok id).whole.rooted fresh));
           strong = strong ∙ ap (λ (n : ℕ). strong_count c0.nodes + n) (sym (strong_more above))
               ∙ sym (times-append is_strong c0.nodes (node ∷ [])) ∙ ap (λ (c : Collection). strong_count c.nodes) (sym shown);
           reserved = reserved ∙ reserved_more ∙ ap (λ (c : Collection). reserved_count c.nodes) (sym shown);
-          garbage_known = λ h. ap (λ (c : Collection). list_any (over_except e.garbage.items) c.nodes) shown
-              ∙ list_any-append (over_except e.garbage.items) c0.nodes (node ∷ [])
-              ∙ or_both _ _ (garbage_known h)
-              (ap (λ (b : Bool). b || false) (not_over_but e.garbage.items node (rw (born_here above attached id event client key) refl)));
+          unkept_known = λ h. ap (λ (c : Collection). list_any (unkept_except e.unkept.items) c.nodes) shown
+              ∙ list_any-append (unkept_except e.unkept.items) c0.nodes (node ∷ [])
+              ∙ or_both _ _ (unkept_known h)
+              (ap (λ (b : Bool). b || false) (not_unkept_but e.unkept.items node (rw (born_here above attached id event client key) refl)));
         }
 
-    module _ (behind : List Shelf) (placed : behind ≡ put_shelf (shelf_with (shelf_before id ss) key) ss) where
-      -- the shelves show the collection with the node
-      pub behind_is : behind ≡ put_shelf (shelf_by (born_collection t now ss ok id parent attached client event above at key bears)) ss
-      behind_is = placed ∙ ap (λ (s : Shelf). put_shelf s ss) shelf_is
+    module _ (behind : List CollectionRow) (placed : behind ≡ put_row (row_with (row_before id ss) key) ss) where
+      -- the rows show the collection with the node
+      pub behind_is : behind ≡ put_row (row_by (born_collection t now ss ok id parent attached client event above at key bears)) ss
+      behind_is = placed ∙ ap (λ (s : CollectionRow). put_row s ss) row_is
 
       -- and the collections are those with it
       pub behind_shown : map (collection_in now) behind

@@ -3,20 +3,21 @@ use Rattle.forest_store.proofs.Common.{In-behind, In-front, ◌≡◌, ◌≢◌
 use Rattle.forest_store.proofs.Common.{◌++◌, map, length, reverse, set, Option, Some, None, refl, sym, ap, subst, ◌∙◌, ◌⊎◌, inl, inr}
 use Rattle.forest_store.proofs.Common.{arith, eqb-true, cons_option, list_all, list_any, NodeKey, same_key, times, In, In-find, both_ways}
 use Rattle.forest_store.proofs.Common.{either_way, same_key-refl, In-any, Table, node_at, Node, Unit, AreUnits, lives_in, unit_at}
-use Rattle.forest_store.proofs.Common.{waits_in, Collection, IsStored, IsWhole, Shelf, all_keys, collection_in, forest_of, is_filed}
-use Rattle.forest_store.proofs.Common.{nodes_with, put_shelf, is_of, are_distinct, collection_or_new, put, are_rooted, get_or-set_other}
+use Rattle.forest_store.proofs.Common.{waits_in, Collection, IsStored, IsWhole, CollectionRow, all_keys, collection_in, forest_of, is_filed}
+use Rattle.forest_store.proofs.Common.{nodes_with, put_row, is_of, are_distinct, collection_or_new, put, are_rooted, get_or-set_other}
 use Rattle.forest_store.proofs.Common.{get_or-set_same, length-append, length-set, unwrap_or, In-append, times-append, times-le-length}
 use Rattle.forest_store.proofs.Common.{times-zero, table_len, AreUnitsExcept, HasUnit, HasUnits, head_above, heads_below, no_unit}
-use Rattle.forest_store.proofs.Common.{reckoned, tallied, unit_of, collection_at, Bears, born, shelf_before, shelf_with}
+use Rattle.forest_store.proofs.Common.{reckoned, tallied, unit_of, collection_at, Bears, born, row_before, row_with}
 use Rattle.forest_store.proofs.newborns.Newborn.{Above, IsBefore, before_is, born_collection, born_fresh, born_here, born_shown, key_is}
 use Rattle.forest_store.proofs.newborns.Quiet.{behind_is, behind_shown, quiet_kept}
 use Rattle.forest_store.proofs.tallies.Slots.{Stays, all_at, but_put, one_slot, units_own}
-use Rattle.forest_store.proofs.Basics.{looked-of, shelf_by, all_in, in_all, looked_there, head_there, above_node, hung_by, hung_hangs}
+use Rattle.forest_store.proofs.Basics.{looked-of, row_by, all_in, in_all, looked_there, head_there, above_node, hung_by, hung_hangs}
 use Rattle.forest_store.proofs.Basics.{hung_is, is_above, is_hung, other_slots, own_is, own_unit, same_long, tallied_by, lives_gone}
 use Rattle.forest_store.proofs.Basics.{lives_other, tallied_adds, waits_gone, waits_other, filed-length, times_same, all-In}
 
 -- the table has the old nodes and the one that was born, and the others have their counts
-module _ (t : Table Node) (ss : List Shelf) (kept : IsStored t ss) (id : ℕ) (s : Shelf) (on : In s ss) (own : s.id ≡ id) (old : List Node)
+module _ (t : Table Node) (ss : List CollectionRow) (kept : IsStored t ss) (id : ℕ) (s : CollectionRow) (on : In s ss) (own : s.id ≡ id)
+    (old : List Node)
     (node : Node)
     (grown : nodes_with t s.keys ≡ old ++ node ∷ []) (here : node.gone ≡ false) (fresh : list_any (is_of node.key) old ≡ false)
     (distinct : are_distinct old ≡ true) (rooted : are_rooted (reverse old) ≡ true)
@@ -25,7 +26,7 @@ module _ (t : Table Node) (ss : List Shelf) (kept : IsStored t ss) (id : ℕ) (s
     (us : List Unit) (own_inside : node.key.slot < length us) (has : HasUnits us old)
     (but : AreUnitsExcept us id (map (collection_in t) ss))
     (few : length (nodes_with t s.keys) ≤ 18446744073709551615) where
-  -- the nodes of the shelf, the new one among them
+  -- the nodes of the row, the new one among them
   abbrev nodes : List Node
   nodes = nodes_with t s.keys
 
@@ -209,24 +210,25 @@ module _ (t : Table Node) (ss : List Shelf) (kept : IsStored t ss) (id : ℕ) (s
 
 -- ---- a birth where nothing else changes
 
--- a shelf that is put among others is one of them
-in_put_shelf : (s : Shelf) (ss : List Shelf) → In s (put_shelf s ss)
-in_put_shelf s [] = inl refl
-in_put_shelf s (x ∷ xs) = from _ _ (in_put_shelf s xs)
+-- a row that is put among others is one of them
+in_put_row : (s : CollectionRow) (ss : List CollectionRow) → In s (put_row s ss)
+in_put_row s [] = inl refl
+in_put_row s (x ∷ xs) = from _ _ (in_put_row s xs)
   where
-    -- by cases: the shelf stands first, or among those behind
-    from : (here above : Bool) → In s (put_shelf s xs) → In s (if here then s ∷ xs else (if above then s ∷ x ∷ xs else x ∷ put_shelf s xs))
+    -- by cases: the row stands first, or among those behind
+    from : (here above : Bool) → In s (put_row s xs) → In s (if here then s ∷ xs else (if above then s ∷ x ∷ xs else x ∷ put_row s xs))
     from here above on = grind arith
 
 -- its keys are some of all
-keys_fewer : (s : Shelf) (ss : List Shelf) → In s ss → length s.keys ≤ length (all_keys ss)
+keys_fewer : (s : CollectionRow) (ss : List CollectionRow) → In s ss → length s.keys ≤ length (all_keys ss)
 keys_fewer s [] on = absurd on
 keys_fewer s (x ∷ xs) (inl is) = grind (arith, length-append)
 keys_fewer s (x ∷ xs) (inr on) = omega (arith, length-append x.keys (all_keys xs), keys_fewer s xs on)
 
-module _ (t now : Table Node) (ss : List Shelf) (ok : IsStored t ss) (id : ℕ) (parent : Option NodeKey) (attached : Bool) (client event : ℕ)
+module _ (t now : Table Node) (ss : List CollectionRow) (ok : IsStored t ss) (id : ℕ) (parent : Option NodeKey) (attached : Bool)
+    (client event : ℕ)
     (above : Option Node) (up : Above t ss id parent above) (key : NodeKey) (bears : Bears t now (born above attached id event client key))
-    (behind : List Shelf) (placed : behind ≡ put_shelf (shelf_with (shelf_before id ss) key) ss) where
+    (behind : List CollectionRow) (placed : behind ≡ put_row (row_with (row_before id ss) key) ss) where
   -- the collection before the birth, or an empty one
   abbrev c0 : Collection
   c0 = collection_or_new (forest_of t ss) id
@@ -247,14 +249,14 @@ module _ (t now : Table Node) (ss : List Shelf) (ok : IsStored t ss) (id : ℕ) 
   kept_now : IsStored now behind
   kept_now = quiet_kept t now _ ok _ parent _ client event above up _ bears _ placed
 
-  -- the shelf that was put is among them
-  shelf_on : In (shelf_by with_it) behind
-  shelf_on = subst (In (shelf_by with_it)) (sym (behind_is t now _ ok _ parent _ client event above up _ bears
-      _ placed)) (in_put_shelf _ ss)
+  -- the row that was put is among them
+  row_on : In (row_by with_it) behind
+  row_on = subst (In (row_by with_it)) (sym (behind_is t now _ ok _ parent _ client event above up _ bears
+      _ placed)) (in_put_row _ ss)
 
-  -- each key of each shelf is filed
-  filed_keys : list_all (is_filed now (shelf_by with_it).id) (shelf_by with_it).keys ≡ true
-  filed_keys = all-In _ _ _ shelf_on kept_now.filed
+  -- each key of each row is filed
+  filed_keys : list_all (is_filed now (row_by with_it).id) (row_by with_it).keys ≡ true
+  filed_keys = all-In _ _ _ row_on kept_now.filed
 
   -- the collection that is found has its counts; a new one has no node
   had : (us : List Unit) → AreUnits us (map (collection_in t) ss) → HasUnits us c0.nodes
@@ -275,23 +277,23 @@ module _ (t now : Table Node) (ss : List Shelf) (ok : IsStored t ss) (id : ℕ) 
       let found_key : node_at now key ≡ Some child = bears.look key
       ∙ rw (ap (λ (k : NodeKey). same_key k key) named ∙ same_key-refl key) refl in
       let one : nodes_with now (key ∷ []) ≡ child ∷ [] = ap (λ (o : Option Node). cons_option o []) found_key in
-      let long = filed-length now (shelf_by with_it).id (shelf_by with_it).keys filed_keys in
-      let short : length (nodes_with now (shelf_by with_it).keys) ≤ 18446744073709551615 =
-      omega (arith, keys_fewer (shelf_by with_it) behind shelf_on, kept_now.counted) in
+      let long = filed-length now (row_by with_it).id (row_by with_it).keys filed_keys in
+      let short : length (nodes_with now (row_by with_it).keys) ≤ 18446744073709551615 =
+      omega (arith, keys_fewer (row_by with_it) behind row_on, kept_now.counted) in
       let but : AreUnitsExcept us id (map (collection_in now) behind) =
       subst (AreUnitsExcept us id) (sym (behind_shown t now _ ok _ parent _ client event above up _ bears _ placed))
       (subst (λ (i : ℕ). AreUnitsExcept us i (put with_it (map (collection_in t) ss))) own (but_put _ with_it _
       all)) in
       let made : AreUnits (reckoned now (child ∷ []) (set us child.key.slot no_unit)) (map (collection_in now) behind) =
-      born_units _ _ kept_now _ _ shelf_on own _ _
+      born_units _ _ kept_now _ _ row_on own _ _
       (ap (λ (c : Collection). c.nodes) (born_shown t now ss ok id parent _ client event above up key bears))
       (born_here above _ id event client key)
       (born_fresh t now ss ok id parent _ client event above up key bears)
       before_it.whole.sound.distinct before_it.whole.rooted
       (λ n on here. let h = head_there _ before_it.whole.sound.distinct before_it.whole.sound.heads before_it.whole.rooted
       before_it.whole.united n on here in (h.0, h.1, h.2))
-      (λ n on. eqb-true n.collection (shelf_by with_it).id (all-In _
-      _ n on (looked-of now (shelf_by with_it).id (shelf_by with_it).keys filed_keys)) ∙ own)
+      (λ n on. eqb-true n.collection (row_by with_it).id (all-In _
+      _ n on (looked-of now (row_by with_it).id (row_by with_it).keys filed_keys)) ∙ own)
       us (rw named inside) (had _ all) but short in
       rw one (subst (λ (k : NodeKey). AreUnits (reckoned now (child ∷ []) (set us k.slot no_unit))
       (map (collection_in now) behind)) named made)

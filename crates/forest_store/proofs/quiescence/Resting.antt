@@ -2,7 +2,7 @@
 use Rattle.forest_store.proofs.Common.{arith, ◌≡◌, ℕ, ◌==◌, ◌⊎◌, Bool, true, false, ◌&&◌, not, inl, inr, List, [], ◌∷◌, drop, Option, Some}
 use Rattle.forest_store.proofs.Common.{None, option_map, is_none, is_some, refl, ap, ◌∙◌, cons_option, find, list_all, option_map_or}
 use Rattle.forest_store.proofs.Common.{option_and_then, NodeKey, Buffers, Cause, when, and_left, and_right, either_way, Table, node_at}
-use Rattle.forest_store.proofs.Common.{Node, has_strong, Shelf, is_filed, nodes_with, is_root_left, Handles, In, Loses, decided}
+use Rattle.forest_store.proofs.Common.{Node, has_strong, CollectionRow, is_filed, nodes_with, is_root_left, Handles, In, Loses, decided}
 use Rattle.forest_store.specs.Dropped.{has_given_root}
 use Rattle.forest_store.specs.Resting.{is_kept_by}
 use Rattle.forest_store.proofs.quiescence.Calming.{AreNone, none_decided}
@@ -70,7 +70,7 @@ roots_stay t now f look (k ∷ ks) stays none =
     from (Some n) stays none = stays n (inl refl) none
 
 -- if no root gets buffers, it rests as before
-pub rests_on : (handles : Handles) (t now : Table Node) (s : Shelf) (lives : ℕ) →
+pub rests_on : (handles : Handles) (t now : Table Node) (s : CollectionRow) (lives : ℕ) →
     (has_given_root t s.keys ≡ false → has_given_root now s.keys ≡ false) → is_kept_by handles t s lives ≡ true →
     is_kept_by handles now s lives ≡ true
 rests_on handles t now s lives roots kept = grind arith

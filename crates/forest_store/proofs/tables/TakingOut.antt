@@ -1,7 +1,7 @@
 -- A node that is taken out of the table, with its children cut.
 use Rattle.forest_store.proofs.Common.{◌≡◌, ◌≢◌, suc, ◌+◌, ◌<◌, nat_lt, Bool, not, List, [], ◌∷◌, length, Option, Some, None}
 use Rattle.forest_store.proofs.Common.{option_map, cond, if◌then◌else◌, refl, sym, ap, subst, ◌∙◌, inl, inr, arith, NodeKey}
-use Rattle.forest_store.proofs.Common.{same_key, some-injective, Table, node_at, parent_at, Node, Shelf, forest_of, slice_index_or}
+use Rattle.forest_store.proofs.Common.{same_key, some-injective, Table, node_at, parent_at, Node, CollectionRow, forest_of, slice_index_or}
 use Rattle.forest_store.proofs.Common.{IsSome, get_or_past, Row, row_at, parent_in, children_at, table_len, SameKeys, at_parent}
 use Rattle.forest_store.proofs.Common.{key_cases, same_key-equal, same_key-apart, TakesOut, Contains, MatchOption, children_in}
 use Rattle.forest_store.proofs.Common.{Cuts, Removes, without_child, without_parent, SameForest, IsChild, Unlinks, Leaves}
@@ -180,7 +180,7 @@ takes_out t u now key n was un removes = record {
 }
 
 -- forests of two tables that gave the same keys tell of the same keys
-pub SameKeys-shown : (t now : Table Node) (ss after : List Shelf) → t.first ≡ 0 → SameKeys t now →
+pub SameKeys-shown : (t now : Table Node) (ss after : List CollectionRow) → t.first ≡ 0 → SameKeys t now →
     SameForest (forest_of t ss) (forest_of now after)
 SameKeys-shown t now ss after first keys = record {
   limit = keys.limit;

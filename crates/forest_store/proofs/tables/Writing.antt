@@ -2,7 +2,7 @@
 use Rattle.forest_store.proofs.Common.{◌≡◌, ◌≢◌, ℕ, ◌==◌, false, List, [], ◌∷◌, map, drop, Option, Some, None, option_map, is_some}
 use Rattle.forest_store.proofs.Common.{if◌then◌else◌, refl, sym, ap, subst, ◌∙◌, inl, inr, list_any, list_all, AllByRecursion}
 use Rattle.forest_store.proofs.Common.{option_map_or, NodeKey, same_key, Table, node_at, parent_at, Node, Collection, with_nodes}
-use Rattle.forest_store.proofs.Common.{Shelf, collection_in, is_filed, are_filed, IsStored, IsWhole, nodes_with, is_of}
+use Rattle.forest_store.proofs.Common.{CollectionRow, collection_in, is_filed, are_filed, IsStored, IsWhole, nodes_with, is_of}
 use Rattle.forest_store.proofs.Common.{are_distinct, heads_itself, Row, row_at, parent_in, table_len, was_given, Writes, with_node}
 use Rattle.forest_store.proofs.Common.{key_cases, same_key-equal, same_key-apart, IsSound, GoTogether, arith}
 use Rattle.forest_store.proofs.tables.KeptRoots.{rooted_same}
@@ -84,12 +84,14 @@ module _ (f : Node → Node) (same : (n : Node) → IsSameNode (f n) n) where
       ]
 
   -- so in all entries
-  pub all_filed-map : (t now : Table Node) → ((key : NodeKey) → node_at now key ≡ option_map f (node_at t key)) → (es : List Shelf) →
+  pub all_filed-map : (t now : Table Node) → ((key : NodeKey) → node_at now key ≡ option_map f (node_at t key)) →
+      (es : List CollectionRow) →
       are_filed now es ≡ are_filed t es
-  all_filed-map t now each es = λ i. list_all (λ (s : Shelf). list_all (λ key. filed-map t now each s.id key i) s.keys) es
+  all_filed-map t now each es = λ i. list_all (λ (s : CollectionRow). list_all (λ key. filed-map t now each s.id key i) s.keys) es
 
   -- the collections are as f makes their nodes
-  pub collections-map : (t now : Table Node) → ((key : NodeKey) → node_at now key ≡ option_map f (node_at t key)) → (es : List Shelf) →
+  pub collections-map : (t now : Table Node) → ((key : NodeKey) → node_at now key ≡ option_map f (node_at t key)) →
+      (es : List CollectionRow) →
       map (collection_in now) es ≡ map (with_nodes (map f)) (map (collection_in t) es)
   collections-map t now each [] = refl
   collections-map t now each (e ∷ es) = rw (looked-map f _ _ each e.keys, collections-map t now each es) refl
@@ -106,8 +108,9 @@ module _ (f : Node → Node) (same : (n : Node) → IsSameNode (f n) n) where
 
   -- the collections stay whole
   whole-map : ((n : Node) → (f n).gone ≡ n.gone) → ((ns : List Node) → GoTogether ns → GoTogether (map f ns)) → (t now : Table Node) →
-      ((key : NodeKey) → node_at now key ≡ option_map f (node_at t key)) → (es : List Shelf) →
-      AllByRecursion (λ (e : Shelf). IsWhole (collection_in t e)) es → AllByRecursion (λ (e : Shelf). IsWhole (collection_in now e)) es
+      ((key : NodeKey) → node_at now key ≡ option_map f (node_at t key)) → (es : List CollectionRow) →
+      AllByRecursion (λ (e : CollectionRow). IsWhole (collection_in t e)) es →
+      AllByRecursion (λ (e : CollectionRow). IsWhole (collection_in now e)) es
   whole-map gone together t now each es whole = all_weaker _ _ es (λ e formed.
       rw (looked-map f (node_at t) (node_at now) each e.keys)
       (IsWhole-map gone (collection_in t e) (together (nodes_with t e.keys)) formed)) whole
@@ -115,8 +118,8 @@ module _ (f : Node → Node) (same : (n : Node) → IsSameNode (f n) n) where
   -- all stays so, where no node comes back, and the collections stay whole
   pub kept-with : ((n : Node) → (f n).gone ≡ false → n.gone ≡ false) → (t now : Table Node) → now.first ≡ t.first →
       now.nexts ≡ t.nexts → table_len now ≡ table_len t → ((key : NodeKey) → node_at now key ≡ option_map f (node_at t key)) →
-      ((key : NodeKey) → parent_at now key ≡ parent_at t key) → (es : List Shelf) →
-      AllByRecursion (λ (e : Shelf). IsWhole (collection_in now e)) es → IsStored t es → IsStored now es
+      ((key : NodeKey) → parent_at now key ≡ parent_at t key) → (es : List CollectionRow) →
+      AllByRecursion (λ (e : CollectionRow). IsWhole (collection_in now e)) es → IsStored t es → IsStored now es
   kept-with before t now first nexts len each parents es whole ok = record {
     first = first ∙ ok.first;
     rising = ok.rising;
@@ -144,7 +147,7 @@ module _ (f : Node → Node) (same : (n : Node) → IsSameNode (f n) n) where
   pub kept-map : ((n : Node) → (f n).gone ≡ n.gone) → ((ns : List Node) → GoTogether ns → GoTogether (map f ns)) → (t now : Table Node) →
       now.first ≡ t.first → now.nexts ≡ t.nexts → table_len now ≡ table_len t →
       ((key : NodeKey) → node_at now key ≡ option_map f (node_at t key)) → ((key : NodeKey) → parent_at now key ≡ parent_at t key) →
-      (es : List Shelf) → IsStored t es → IsStored now es
+      (es : List CollectionRow) → IsStored t es → IsStored now es
   kept-map gone together t now first nexts len each parents es ok =
       kept-with (λ n h. sym (gone n) ∙ h) t _ first nexts len each parents _ (whole-map gone together t now each _ ok.whole) ok
 

@@ -270,27 +270,27 @@ module _ (nodes : List Node) (distinct : are_distinct nodes ≡ true) (heads : l
         both_ways _ x.2 (not_deserted _ x.1))
 
   -- where no node of these units is live, nor of those below, their heads are deserted
-  module _ (dead : NodeKey → Bool)
-      (still : (x : Node) → In x nodes → x.gone ≡ false → dead x.head ≡ true → x.released ≡ true)
+  module _ (unkept : NodeKey → Bool)
+      (still : (x : Node) → In x nodes → x.gone ≡ false → unkept x.head ≡ true → x.released ≡ true)
       (under : (x : Node) → In x nodes → x.gone ≡ false → x.attached ≡ true → (p : NodeKey) → x.parent ≡ Some p →
-      (q : Node) → In q nodes → q.key ≡ p → dead q.head ≡ true → dead x.key ≡ true) where
+      (q : Node) → In q nodes → q.key ≡ p → unkept q.head ≡ true → unkept x.key ≡ true) where
     -- a root has no line
     no_line : (n : Node) → In n nodes → n.gone ≡ false → n.parent ≡ None → line n.key ≡ []
     no_line n on here is = one_line _ _ _ _ (chain _ (left_in _ n on here)) (linked n on here ∙ is)
 
     -- all below such a head is of such units
-    dead_below : (fuel : ℕ) (y : Node) → In y nodes → y.gone ≡ false → (h : Node) → In h nodes → is_head h ≡ true → dead h.key ≡ true →
-        is_below nodes h.key y.key ≡ true → length (line y.key) < fuel → dead y.head ≡ true
+    dead_below : (fuel : ℕ) (y : Node) → In y nodes → y.gone ≡ false → (h : Node) → In h nodes → is_head h ≡ true → unkept h.key ≡ true →
+        is_below nodes h.key y.key ≡ true → length (line y.key) < fuel → unkept y.head ≡ true
     dead_below zero y on here h there head is_dead b few = absurd (omega arith)
     dead_below (suc fuel) y on here h there head is_dead b few =
         elim (or_cases _ _ b) [
-          | inl e ↦ rw (one y h on there (sym (same_key-true _ _ e))) (ap dead (own_head h there head) ∙ is_dead)
+          | inl e ↦ rw (one y h on there (sym (same_key-true _ _ e))) (ap unkept (own_head h there head) ∙ is_dead)
           | inr e ↦ from (λ q on' here' b' few'. dead_below fuel q on' here' h there head is_dead b' few') y.parent refl e
         ]
       where
         from : ((q : Node) → In q nodes → q.gone ≡ false → is_below nodes h.key q.key ≡ true → length (line q.key) < fuel →
-            dead q.head ≡ true) →
-            (o : Option NodeKey) → y.parent ≡ o → list_any (same_key h.key) (line y.key) ≡ true → dead y.head ≡ true
+            unkept q.head ≡ true) →
+            (o : Option NodeKey) → y.parent ≡ o → list_any (same_key h.key) (line y.key) ≡ true → unkept y.head ≡ true
         from lower None is e =
             let no : false ≡ true = sym (ap (list_any (same_key h.key)) (no_line y on here is)) ∙ e in cc
         from lower (Some p) is e =
@@ -299,20 +299,20 @@ module _ (nodes : List Node) (distinct : are_distinct nodes ≡ true) (heads : l
             let at : is_below nodes h.key p ≡ true = sym (ap (list_any (same_key h.key)) next) ∙ e in
             let long : length (line y.key) ≡ length (p ∷ line p) = ap length next in
             let same : length (line x.node.key) ≡ length (line p) = ap (λ (k : NodeKey). length (line k)) x.is in
-            let above : dead x.node.head ≡ true =
+            let above : unkept x.node.head ≡ true =
             lower x.node x.on x.here (subst (λ (k : NodeKey). is_below nodes h.key k ≡ true) (sym x.is) at) (omega arith) in
             elim (either_way (is_head y)) [
               | inl d ↦
                   let attached : y.attached ≡ true = rw is at d in
-                  ap dead (own_head y on d) ∙ under y on here attached p is x.node x.on x.is above
+                  ap unkept (own_head y on d) ∙ under y on here attached p is x.node x.on x.is above
               | inr d ↦
                   let q = shared y on here d p is in
                   let one_parent : q.0 ≡ x.node = one q.0 x.node q.1 x.on (q.2 ∙ sym x.is) in
-                  subst (λ (k : NodeKey). dead k ≡ true) (sym (ap (λ (n : Node). n.head) one_parent) ∙ q.3) above
+                  subst (λ (k : NodeKey). unkept k ≡ true) (sym (ap (λ (n : Node). n.head) one_parent) ∙ q.3) above
             ]
 
     -- nothing that holds it lives, so no node below it does
-    pub dead_deserted : (h : Node) → In h nodes → h.gone ≡ false → is_head h ≡ true → dead h.key ≡ true → is_deserted_node nodes h ≡ true
+    pub dead_deserted : (h : Node) → In h nodes → h.gone ≡ false → is_head h ≡ true → unkept h.key ≡ true → is_deserted_node nodes h ≡ true
     dead_deserted h on here head is_dead = grind (arith, In-list_any, dead_below)
 
   -- ---- what holds the units
@@ -327,13 +327,13 @@ module _ (nodes : List Node) (distinct : are_distinct nodes ≡ true) (heads : l
         both_ways _
         (In-any _ _ h on
         (dead_deserted _
-        (λ x there here dead. elim (either_way x.released) [
+        (λ x there here unkept. elim (either_way x.released) [
           | inl r ↦ r
-          | inr r ↦ both_ways _ (In-any _ _ x there (rw (here, dead, r) refl)) b
-        ]) (λ x there here attached p up q in_nodes is dead.
+          | inr r ↦ both_ways _ (In-any _ _ x there (rw (here, unkept, r) refl)) b
+        ]) (λ x there here attached p up q in_nodes is unkept.
         let hangs : hangs_in nodes h.key x ≡ true =
         ap (λ (o : Option NodeKey). option_map_or (λ k. list_any (λ (y : Node). is_of k y && same_key y.head h.key) nodes) o false) up
-        ∙ In-any _ _ q in_nodes (and_both _ _ (ap (λ (k : NodeKey). same_key k p) is ∙ same_key-refl p) dead) in
+        ∙ In-any _ _ q in_nodes (and_both _ _ (ap (λ (k : NodeKey). same_key k p) is ∙ same_key-refl p) unkept) in
         let holds = and_both _ _ (ap not here) (or_right _ _ (and_both _ _ attached hangs)) in
         both_ways _ (In-any _ _ x there holds) b) h on (or_none_left h.gone _ e) a (same_key-refl h.key))) none
   ])

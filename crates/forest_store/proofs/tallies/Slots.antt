@@ -4,10 +4,10 @@ use Rattle.forest_store.proofs.Common.{if◌then◌else◌, List, [], ◌∷◌,
 use Rattle.forest_store.proofs.Common.{eqb-true, AllByRecursion, list_all, list_any, option_map_or, Interval, NodeKey, same_key, times}
 use Rattle.forest_store.proofs.Common.{In, In-find, In-list_any, In-map, In-map-back, and_left, both_ways, either_way, false_if}
 use Rattle.forest_store.proofs.Common.{same_key-true, In-any, Table, node_at, Change, Node, Unit, AreUnits, lives_in, unit_at, waits_in}
-use Rattle.forest_store.proofs.Common.{Collection, with_nodes, AreRising, IsStored, IsWhole, Shelf, are_filed, collection_in, is_filed}
+use Rattle.forest_store.proofs.Common.{Collection, with_nodes, AreRising, IsStored, IsWhole, CollectionRow, are_filed, collection_in, is_filed}
 use Rattle.forest_store.proofs.Common.{nodes_with, is_of, are_distinct, Handles, Settles, collection_or_new, put, are_rooted, unwrap_or}
 use Rattle.forest_store.proofs.Common.{Mark, In-filter, In-filter-back, next_at, AreUnitsExcept, HasUnits, hangs_in, heads_below, unit_of}
-use Rattle.forest_store.proofs.Common.{collection_at, tidied, without_over_in, Forces, Rests, changed, is_birth, made, filter, Forest}
+use Rattle.forest_store.proofs.Common.{collection_at, tidied, without_unkept_in, Forces, Rests, changed, is_birth, made, filter, Forest}
 pub use Rattle.forest_store.proofs.tables.Hanging.{all_at}
 use Rattle.forest_store.proofs.Basics.{all_mapped, all_filter, all_weaker, looked-of, times_map, all_in, in_all, looked_gone, looked_there}
 use Rattle.forest_store.proofs.Basics.{below_mapped, all-In, distinct_one, left_node, left_parent, IsSameNode, times_same, times_filter}
@@ -29,19 +29,19 @@ one_slot t a b n m one two slots =
 
 -- ---- lists
 
--- shelves with one id are one
-pub one_shelf : (ss : List Shelf) → AreRising ss → (x y : Shelf) → In x ss → In y ss → x.id ≡ y.id → x ≡ y
-one_shelf [] rising x y on too same = absurd on
-one_shelf (s ∷ ss) rising x y (inl here) (inl there) same = here ∙ sym there
-one_shelf (s ∷ ss) rising x y (inl here) (inr there) same =
+-- rows with one id are one
+pub one_row : (ss : List CollectionRow) → AreRising ss → (x y : CollectionRow) → In x ss → In y ss → x.id ≡ y.id → x ≡ y
+one_row [] rising x y on too same = absurd on
+one_row (s ∷ ss) rising x y (inl here) (inl there) same = here ∙ sym there
+one_row (s ∷ ss) rising x y (inl here) (inr there) same =
     let less : s.id < y.id = all_at _ _ rising.0 y there in
-    let one : x.id ≡ s.id = ap (λ (z : Shelf). z.id) here in
+    let one : x.id ≡ s.id = ap (λ (z : CollectionRow). z.id) here in
     absurd (omega arith)
-one_shelf (s ∷ ss) rising x y (inr here) (inl there) same =
+one_row (s ∷ ss) rising x y (inr here) (inl there) same =
     let less : s.id < x.id = all_at _ _ rising.0 x here in
-    let one : y.id ≡ s.id = ap (λ (z : Shelf). z.id) there in
+    let one : y.id ≡ s.id = ap (λ (z : CollectionRow). z.id) there in
     absurd (omega arith)
-one_shelf (s ∷ ss) rising x y (inr here) (inr there) same = one_shelf ss rising.1 x y here there same
+one_row (s ∷ ss) rising x y (inr here) (inr there) same = one_row ss rising.1 x y here there same
 
 -- ---- counts that stay
 
@@ -61,8 +61,8 @@ module _ (t : Table Node) (named : (key : NodeKey) (n : Node) → node_at t key 
       let s = stays n.key n (in_all _ _ (looked_there t named keys) n on) (λ h. differ (sym own ∙ h)) was.0 in
       (s.0, s.1 ∙ was.1))
 
-  -- so do those of all shelves but one
-  pub but_stays : (ss : List Shelf) → are_filed t ss ≡ true → AreUnitsExcept us id (map (collection_in t) ss) →
+  -- so do those of all rows but one
+  pub but_stays : (ss : List CollectionRow) → are_filed t ss ≡ true → AreUnitsExcept us id (map (collection_in t) ss) →
       AreUnitsExcept new id (map (collection_in t) ss)
   but_stays ss filed all = grind (arith, all_mapped, all_in, units_stay, all-In, all_at, In-map-back)
 
@@ -76,17 +76,17 @@ pub but_join : (us : List Unit) (id : ℕ) (cs : List Collection) → AreUnitsEx
 but_join us id cs but own = grind (arith, all_in, eqb-true, all_at, eqb-false)
 
 -- where the one has its counts and those of the others stay
-pub units_own : (t : Table Node) (ss : List Shelf) → IsStored t ss → (id : ℕ) (us new : List Unit) → Stays t id us new →
+pub units_own : (t : Table Node) (ss : List CollectionRow) → IsStored t ss → (id : ℕ) (us new : List Unit) → Stays t id us new →
     AreUnitsExcept us id (map (collection_in t) ss) →
-    (s : Shelf) → In s ss → s.id ≡ id → HasUnits new (nodes_with t s.keys) → AreUnits new (map (collection_in t) ss)
+    (s : CollectionRow) → In s ss → s.id ≡ id → HasUnits new (nodes_with t s.keys) → AreUnits new (map (collection_in t) ss)
 units_own t ss kept id us new stays but s on own has =
     but_join new id (map (collection_in t) ss) (but_stays t kept.named us new id stays ss kept.filed but) (λ c there same.
     let x = In-map _ _ c there in
-    let one : x.0 ≡ s = one_shelf ss kept.rising x.0 s x.1 on (sym (ap (λ (d : Collection). d.id) x.2) ∙ same ∙ sym own) in
+    let one : x.0 ≡ s = one_row ss kept.rising x.0 s x.1 on (sym (ap (λ (d : Collection). d.id) x.2) ∙ same ∙ sym own) in
     rw (x.2 ∙ ap (collection_in t) one) has)
 
 -- where the others are the same
-pub but_moved : (t now : Table Node) (us : List Unit) (id : ℕ) (ss : List Shelf) → ((s : Shelf) → In s ss → s.id ≢ id →
+pub but_moved : (t now : Table Node) (us : List Unit) (id : ℕ) (ss : List CollectionRow) → ((s : CollectionRow) → In s ss → s.id ≢ id →
     collection_in now s ≡ collection_in t s) →
     AreUnitsExcept us id (map (collection_in t) ss) → AreUnitsExcept us id (map (collection_in now) ss)
 but_moved t now us id ss same but = grind (arith, all_mapped, all_in, all_at, In-map-back)
@@ -219,32 +219,32 @@ units_with us f same gone lives waits cs all = all_mapped _ _ cs (all_weaker _ _
 
 -- where a node that is gone is forgotten
 pub units_without : (t : Table Node) (us : List Unit) (key : NodeKey) → ((k : NodeKey) (n : Node) → node_at t k ≡ Some n → n.key ≡ k) →
-    ((m : Node) → node_at t key ≡ Some m → m.gone ≡ true) → (ss : List Shelf) →
-    AllByRecursion (λ (s : Shelf). IsWhole (collection_in t s)) ss → AreUnits us (map (collection_in t) ss) →
+    ((m : Node) → node_at t key ≡ Some m → m.gone ≡ true) → (ss : List CollectionRow) →
+    AllByRecursion (λ (s : CollectionRow). IsWhole (collection_in t s)) ss → AreUnits us (map (collection_in t) ss) →
     AreUnits us (map (with_nodes (filter (λ n. not (is_of key n)))) (map (collection_in t) ss))
 units_without t us key named goes ss formed all = all_mapped _ _ _ (all_mapped _ _ ss (all_in _ ss (λ s on.
     let whole = all_at _ ss formed s on in
     units_filter us (λ n. not (is_of key n)) (nodes_with t s.keys) whole.sound.distinct whole.rooted
     (looked_gone t named key goes s.keys) (all_at _ _ all _ (In-map-back (collection_in t) ss s on)))))
 
--- where all of a collection that are dead are
+-- where all of a collection that are unkept are
 pub units_over : (us : List Unit) (id : ℕ) (cs : List Collection) → AllByRecursion IsWhole cs → AreUnits us cs →
-    AreUnits us (without_over_in id cs)
+    AreUnits us (without_unkept_in id cs)
 units_over us id [] formed all = tt
 units_over us id (c ∷ cs) formed all = from _ _ (units_over us id cs formed.1 all.1)
   where
     -- since only nodes that are over are left out, and these are gone
-    garbage_known : HasUnits us (tidied c).nodes
-    garbage_known = units_filter _ _ _ formed.0.sound.distinct formed.0.rooted (λ n on out. over _ _ out) all.0
+    unkept_known : HasUnits us (tidied c).nodes
+    unkept_known = units_filter _ _ _ formed.0.sound.distinct formed.0.rooted (λ n on out. over _ _ out) all.0
       where
         over : (g e : Bool) → not (g && e) ≡ false → g ≡ true
         over true e h = refl
         over false e h = cc
 
     -- by cases: this collection is tidied or left out, and the others stay
-    from : (here bare : Bool) → AreUnits us (without_over_in id cs) →
-        AreUnits us (if here then (if bare then cs else tidied c ∷ cs) else c ∷ without_over_in id cs)
-    from here bare on = grind (arith, garbage_known)
+    from : (here bare : Bool) → AreUnits us (without_unkept_in id cs) →
+        AreUnits us (if here then (if bare then cs else tidied c ∷ cs) else c ∷ without_unkept_in id cs)
+    from here bare on = grind (arith, unkept_known)
 
 -- and where collections are
 pub units_some : (us : List Unit) (p : Collection → Bool) (cs : List Collection) → AreUnits us cs → AreUnits us (filter p cs)

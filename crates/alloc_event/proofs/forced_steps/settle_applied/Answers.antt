@@ -1,5 +1,5 @@
 -- The effect is made, and what is forced by it, and then the collection is closed.
-use Rattle.alloc_event.proofs.Common.{List, refl, sym, ◌∙◌, arith, total, Change, Entry, nodes_with, shelves_of, place_is}
+use Rattle.alloc_event.proofs.Common.{List, refl, sym, ◌∙◌, arith, total, Change, Entry, nodes_with, rows_of, place_is}
 use Rattle.alloc_event.proofs.Common.{PropagatedFrom, begins_at, may_finish, outcome_there, pool_there, few_there}
 use Rattle.forest_store.specs.Nodes.{after_effect}
 use Rattle.forest_steps.proofs.mid_event.Counted.{may_make}
@@ -25,7 +25,7 @@ played : (c : After-apply_effect) → PropagatedFrom (total c.args.holds.now)
     (after_effect c.args.made.now.key c.args.made.now.effect
     (nodes_with c.args.store.now.nodes.table c.index_mut-entry.result.now.keys.items))
     c.args.store.now.nodes.table c.apply_effect.new.nodes.table c.apply_effect.new.nodes.units.items
-    (shelves_of c.args.store.now.entries.items) c.index_mut-entry.result.now c.apply_effect.new.entry
+    (rows_of c.args.store.now.entries.items) c.index_mut-entry.result.now c.apply_effect.new.entry
 played c =
     let handles = total c.args.holds.now in
     let es : List Entry = c.args.store.now.entries.items in
@@ -34,7 +34,7 @@ played c =
     let may = c.requires.ready in
     let there = node_there may.ready.kept _ _ may.ready.change.named in
     let own = own_id handles e may.place c.index_mut-entry.ensures.value may.ready refl in
-    c.apply_effect.ensures.out (shelves_of es) there.0 there.1 there.2 (there.3 ∙ sym own)
+    c.apply_effect.ensures.out (rows_of es) there.0 there.1 there.2 (there.3 ∙ sym own)
     (begins_at handles e c.index_mut-entry.ensures.value may refl) (c.requires.waits e c.index_mut-entry.ensures.value)
 
 pub finish_event-requires-clause-may : goal.finish_event-requires-clause-may

@@ -1,9 +1,9 @@
 -- The loss is made, and what is forced by it, and then the collection is closed.
-use Rattle.alloc_event.proofs.Common.{List, refl, arith, total, Change, Entry, nodes_with, shelves_of, place_is}
+use Rattle.alloc_event.proofs.Common.{List, refl, arith, total, Change, Entry, nodes_with, rows_of, place_is}
 use Rattle.alloc_event.proofs.Common.{PropagatedFrom, begins_at, may_finish, outcome_there, pool_there, row_there}
 use Rattle.forest_store.specs.Nodes.{after_loss}
 use Rattle.forest_store.proofs.tables.LeftParents.{loss_left}
-use Rattle.forest_steps.proofs.mid_event.Joining.{shelf_here}
+use Rattle.forest_steps.proofs.mid_event.Joining.{row_here}
 use Rattle.alloc_event.proofs.forced_steps.settle_loss.Goals.{After-apply_loss}
 use Rattle.alloc_event.proofs.forced_steps.settle_loss.Goals as goal
 
@@ -17,7 +17,7 @@ apply_loss-requires-clause-there c = row_there c.requires.ready.ready.kept _ _ c
 -- what the loss forces was made
 played : (c : After-apply_loss) → PropagatedFrom (total c.args.holds.now)
     (after_loss c.args.fault (nodes_with c.args.store.now.nodes.table c.index_mut-entry.result.now.keys.items)) c.args.store.now.nodes.table
-    c.apply_loss.new.nodes.table c.apply_loss.new.nodes.units.items (shelves_of c.args.store.now.entries.items) c.index_mut-entry.result.now
+    c.apply_loss.new.nodes.table c.apply_loss.new.nodes.units.items (rows_of c.args.store.now.entries.items) c.index_mut-entry.result.now
     c.apply_loss.new.entry
 played c =
     let t = c.args.store.now.nodes.table in
@@ -25,10 +25,10 @@ played c =
     let e : Entry = c.index_mut-entry.result.now in
     let change : Change = Change.Loss c.args.fault.origin c.args.fault.cause in
     let may = c.requires.ready in
-    c.apply_loss.ensures.out (shelves_of es)
+    c.apply_loss.ensures.out (rows_of es)
     (begins_at (total c.args.holds.now) e c.index_mut-entry.ensures.value may refl)
     (loss_left t _ may.ready.kept _ _ may.ready.change _
-    (shelf_here es _ e may.place c.index_mut-entry.ensures.value))
+    (row_here es _ e may.place c.index_mut-entry.ensures.value))
 
 pub finish_event-requires-clause-may : goal.finish_event-requires-clause-may
 finish_event-requires-clause-may c =

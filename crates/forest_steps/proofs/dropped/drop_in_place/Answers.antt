@@ -1,9 +1,9 @@
 -- The buffer of the collection is home, and nothing is forced in the collection.
 use Rattle.forest_steps.proofs.Common.{◌≡◌, ◌∙◌, ◌&&◌, nat_lt, not, refl, subst, sym, ap, arith, total, Entry}
-use Rattle.forest_steps.proofs.Common.{forest_of, shelves_of, has_given_root, are_rest_out, beside}
+use Rattle.forest_steps.proofs.Common.{forest_of, rows_of, has_given_root, are_rest_out, beside}
 use Rattle.forest_steps.proofs.Common.{is_held_strongly, get_or, some-injective, both_ways, ◌||◌, le-ltb, or_both}
 use Rattle.forest_store.proofs.leaving.EntryAt.{place_told}
-use Rattle.forest_store.proofs.shelves.Entries.{place_within}
+use Rattle.forest_store.proofs.rows.Entries.{place_within}
 use Rattle.forest_steps.proofs.changes.Dropped.{few_at, finishes_so, one_entry, pool_at, pool_so, rest_at, stored_so, units_so}
 use Rattle.forest_steps.proofs.dropped.drop_in_place.Answers.Points.{counted_now, held_before, none, returned, told}
 use Rattle.forest_steps.proofs.dropped.drop_in_place.Goals as goal
@@ -25,7 +25,7 @@ is_abandoned-requires c =
 
 pub free_if_home-requires-clause-pool : goal.free_if_home-requires-clause-pool
 free_if_home-requires-clause-pool c = (
-  beside (forest_of c.args.table.now (shelves_of c.args.entries.now.items)) c.index_mut.result.now.id,
+  beside (forest_of c.args.table.now (rows_of c.args.entries.now.items)) c.index_mut.result.now.id,
   pool_at (total c.args.holds.now) _ _ _ (place_told _ _ _ _ _ c.deref.ensures.value c.place_of.ensures c.in-Some.is)
       c.index_mut.ensures.value c.requires.kept c.requires.counted _ c.assert_disjoint.ensures c.requires.pool,
 )
@@ -52,7 +52,7 @@ returns-clause-outcome c =
         kept = stored_so _ _ _ now (told c) is kept counted (returned c);
         counted = counted_now c;
         holds = pool_so _ _ _ now (told c) is kept counted (returned c) _ c.assert_disjoint-2.ensures
-            (c.free_if_home.ensures.pool (beside (forest_of t (shelves_of c.args.entries.now.items)) now.id) (held_before c));
+            (c.free_if_home.ensures.pool (beside (forest_of t (rows_of c.args.entries.now.items)) now.id) (held_before c));
       };
       unchanged = λ not. cc;
       same_pool = λ not. cc;

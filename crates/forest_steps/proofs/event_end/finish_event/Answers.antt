@@ -1,5 +1,5 @@
 -- What is left to be done is done at the place of the collection.
-use Rattle.forest_steps.proofs.Common.{◌≡◌, refl, arith, set, total, Entry, forest_of, shelves_of, beside, place_is, IsClosed}
+use Rattle.forest_steps.proofs.Common.{◌≡◌, refl, arith, set, total, Entry, forest_of, rows_of, beside, place_is, IsClosed}
 use Rattle.forest_steps.proofs.mid_event.Closing.{closes_strong, closes_weak, out_is, pages_mid, under_is}
 use Rattle.forest_steps.proofs.mid_event.Ready.{whole_under}
 use Rattle.forest_steps.proofs.event_end.finish_event.Goals as goal
@@ -27,12 +27,12 @@ free_home_buffers-requires c =
     let is = c.index_mut-entry.ensures.value in
     let id = c.requires.may.entry.id in
     let place = c.requires.may.place in
-    let closed : IsClosed handles t c.fail_if_abandoned.new.nodes.table c.fail_if_abandoned.new.nodes.units.items (shelves_of es) old
+    let closed : IsClosed handles t c.fail_if_abandoned.new.nodes.table c.fail_if_abandoned.new.nodes.units.items (rows_of es) old
     c.fail_if_abandoned.new.entry =
-    c.fail_if_abandoned.ensures.closed (shelves_of es) c.requires.may.pending
+    c.fail_if_abandoned.ensures.closed (rows_of es) c.requires.may.pending
     (under_is c.requires.may id place old is) (out_is c.requires.may id place old is)
     (omega (arith, c.if-entry-gt0.false)) in (
-      beside (forest_of c.fail_if_abandoned.new.nodes.table (shelves_of (set es c.args.at c.fail_if_abandoned.new.entry)))
+      beside (forest_of c.fail_if_abandoned.new.nodes.table (rows_of (set es c.args.at c.fail_if_abandoned.new.entry)))
           c.fail_if_abandoned.new.entry.id,
       pages_mid c.requires.may id place old is closed _ c.assert_disjoint-2.ensures c.requires.pool,
     )
@@ -45,14 +45,14 @@ returns-clause-closes c id told =
     let old = c.index_mut-entry.result.now in
     let is = c.index_mut-entry.ensures.value in
     let weak : old.strong ≡ 0 = omega (arith, c.if-entry-gt0.false) in
-    let closed : IsClosed handles t c.fail_if_abandoned.new.nodes.table c.fail_if_abandoned.new.nodes.units.items (shelves_of es) old
+    let closed : IsClosed handles t c.fail_if_abandoned.new.nodes.table c.fail_if_abandoned.new.nodes.units.items (rows_of es) old
     c.fail_if_abandoned.new.entry =
-    c.fail_if_abandoned.ensures.closed (shelves_of es) c.requires.may.pending
+    c.fail_if_abandoned.ensures.closed (rows_of es) c.requires.may.pending
     (under_is c.requires.may id told old is) (out_is c.requires.may id told old is) weak in
     let last : Entry = record (c.fail_if_abandoned.new.entry) { held = c.free_home_buffers.new.held } in
     closes_weak c.requires.may id told old is
     closed weak _ refl c.free_home_buffers.ensures.held _ _ c.assert_disjoint-3.ensures
     (c.free_home_buffers.ensures.pool
-    (beside (forest_of c.fail_if_abandoned.new.nodes.table (shelves_of (set es c.args.at c.fail_if_abandoned.new.entry)))
+    (beside (forest_of c.fail_if_abandoned.new.nodes.table (rows_of (set es c.args.at c.fail_if_abandoned.new.entry)))
     c.fail_if_abandoned.new.entry.id) (pages_mid c.requires.may id told old is
     closed _ c.assert_disjoint-2.ensures c.requires.pool))

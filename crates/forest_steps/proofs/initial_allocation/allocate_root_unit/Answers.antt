@@ -1,6 +1,6 @@
 -- The root's unit has its buffers, and those that follow it had their turns.
 use Rattle.forest_steps.proofs.Common.{◌≡◌, ℕ, ◌+◌, ◌∷◌, [], List, Some, length, refl, ap, sym, subst, ◌∙◌, arith, HeldBuffer}
-use Rattle.forest_steps.proofs.Common.{total, Entry, Shelf, nodes_with, put_shelf, shelf_of, reserved_count, after_allocation}
+use Rattle.forest_steps.proofs.Common.{total, Entry, CollectionRow, nodes_with, put_row, row_of, reserved_count, after_allocation}
 use Rattle.forest_steps.proofs.Common.{IsGivenAt, AllocationOutcome, PendingUnit, IsComing, IsRooted, AreTurns, MidEvent}
 use Rattle.forest_steps.proofs.mid_event.RootGiven.{root_left, rooted_given, turns_then, under_then, waits_no_more}
 use Rattle.std.proofs.Common.{rules}
@@ -16,7 +16,7 @@ returns-in_default-clause-rooted c ss under coming reserved =
     let none : length c.deref-3.result.now ≡ 0 = c.in_default.ensures.cases in
     absurd (omega (arith, long, same, none))
 
-module _ (c : goal.After-allocate_all_pending) {ss : List Shelf}
+module _ (c : goal.After-allocate_all_pending) {ss : List CollectionRow}
     (under : MidEvent c.args.nodes.now.table c.args.nodes.now.units.items ss c.args.entry.now [] (c.args.plan.now.head ∷ []))
     (coming : IsComing (nodes_with c.args.nodes.now.table c.args.entry.now.keys.items) c.args.plan.now.head)
     (reserved : c.args.plan.now.reserved
@@ -58,7 +58,7 @@ module _ (c : goal.After-allocate_all_pending) {ss : List Shelf}
         let few = c.requires.few in
         rooted_given under coming c.requires.listed given c.args.buffers few held ws listed.1.0
         turns new refl refl refl refl reserved
-        (c.allocate_all_pending.ensures.out (put_shelf (shelf_of new) ss)
+        (c.allocate_all_pending.ensures.out (put_row (row_of new) ss)
         (under_then under coming c.requires.listed given c.args.buffers few held ws listed.1.0
         turns new refl refl refl refl reserved)
         (turns_then under coming c.requires.listed given c.args.buffers few held ws listed.1.0 turns)

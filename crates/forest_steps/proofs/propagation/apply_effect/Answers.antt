@@ -1,6 +1,6 @@
 -- The effect is made, what nothing holds then ends, and what is due has its turn.
 use Rattle.forest_steps.proofs.Common.{◌≡◌, ◌∙◌, sym, ap, subst, not, refl, List, [], ◌∷◌, Option, Some, None}
-use Rattle.forest_steps.proofs.Common.{NodeKey, total, Table, node_at, Effect, Entry, Node, Unit, Shelf}
+use Rattle.forest_steps.proofs.Common.{NodeKey, total, Table, node_at, Effect, Entry, Node, Unit, CollectionRow}
 use Rattle.forest_steps.proofs.Common.{EffectCounts, AfterEffect, EffectMade, MidEvent, AreCountsThen, KeepsCounts}
 use Rattle.forest_steps.proofs.mid_event.Changing.{affected_on, still_played}
 use Rattle.forest_steps.proofs.mid_event.Felled.{head_row, lent_there}
@@ -21,7 +21,7 @@ returns-in_default-clause-out c ss n at here own under waits =
     (c.make_effect.ensures.writes n at) (total c.args.holds.now) None keeps refl
 
 -- the effect was made on the node of the unit that was counted
-counted_on : (t mid : Table Node) (us after : List Unit) (ss : List Shelf) (e e1 : Entry) (key : NodeKey) (effect : Effect)
+counted_on : (t mid : Table Node) (us after : List Unit) (ss : List CollectionRow) (e e1 : Entry) (key : NodeKey) (effect : Effect)
     (counts : Option EffectCounts) (c : EffectCounts) → counts ≡ Some c → AreCountsThen t us e key effect counts → (n : Node) →
     node_at t key ≡ Some n → n.collection ≡ e.id → MidEvent t us ss e [] [] → EffectMade t mid after ss e e1 key effect n.head →
     AfterEffect t mid after ss e e1 key effect c.head

@@ -1,5 +1,5 @@
 -- The nodes that a failure takes are written as gone, and neither the units nor the entry count them any more.
-use Rattle.forest_steps.proofs.Common.{List, NodeKey, IsSome, row_at, get_or, subst, ◌+◌, sym, ◌∙◌, ap, list_any, over_except}
+use Rattle.forest_steps.proofs.Common.{List, NodeKey, IsSome, row_at, get_or, subst, ◌+◌, sym, ◌∙◌, ap, list_any, unkept_except}
 use Rattle.forest_steps.proofs.Common.{strong_count, nodes_with, reserved_count, arith, ◌-◌, rules, unreckoned, head_over, went_now}
 use Rattle.std.proofs.Common.{All}
 use Rattle.std.proofs.lemmas.List.Elements.{Contains-get_or}
@@ -36,16 +36,16 @@ returns-clause-gone c =
           c.remove_all-removed.ensures.stores;
       units = c.remove_all-removed.ensures.units
           ∙ ap (λ ks. unreckoned t (nodes_with t ks) c.args.nodes.now.units.items) c.deref-2.ensures.value;
-      shelf = c.note_gone.ensures.entry.shelf;
+      row = c.note_gone.ensures.entry.row;
       strong = c.note_gone.ensures.entry.strong ∙ (c.saturating_sub-entry.ensures
           ∙ ap (λ k. c.args.entry.now.strong - k) (c.remove_all-removed.ensures.strong
           ∙ ap (λ ks. strong_count (nodes_with t ks)) c.deref-2.ensures.value));
       reserved = λ left is. c.note_gone.ensures.entry.reserved ∙ c.without-entry.ensures left
           (ap (λ k. left + k) (c.remove_all-removed.ensures.reserved
           ∙ ap (λ ks. reserved_count (nodes_with t ks)) c.deref-2.ensures.value) ∙ is);
-      garbage_known = c.note_gone.ensures.entry.garbage_known;
+      unkept_known = c.note_gone.ensures.entry.unkept_known;
       more = c.note_gone.ensures.entry.more;
-      over = λ h. ap (λ ks. list_any (over_except c.note_gone.new.entry.garbage.items) (nodes_with now ks))
+      over = λ h. ap (λ ks. list_any (unkept_except c.note_gone.new.entry.unkept.items) (nodes_with now ks))
           (sym c.deref-3.ensures.value) ∙ c.note_gone.ensures.over h;
     }
 

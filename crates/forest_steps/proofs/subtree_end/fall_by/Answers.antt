@@ -1,5 +1,5 @@
 -- What fell is gone, and what nothing holds then ended.
-use Rattle.forest_steps.proofs.Common.{◌≡◌, refl, sym, ◌∙◌, subst, true, Shelf, nodes_with, is_head_left}
+use Rattle.forest_steps.proofs.Common.{◌≡◌, refl, sym, ◌∙◌, subst, true, CollectionRow, nodes_with, is_head_left}
 use Rattle.forest_steps.proofs.mid_event.Felled.{felled_alone, felled_on, head_row, lent_there}
 use Rattle.std.proofs.Common.{rules}
 use Rattle.forest_steps.proofs.subtree_end.fall_by.Goals as goal
@@ -12,8 +12,8 @@ pub returns-then-is_some-clause-felled : goal.returns-then-is_some-clause-felled
 returns-then-is_some-clause-felled c handles ss pending u left =
     let went = c.in-Some.ensures.went ss _ pending u (left, refl) in
     let still : is_head_left (nodes_with c.remove_subtree.new.nodes.table c.remove_subtree.new.entry.keys.items) c.in-Some.above ≡ true =
-    subst (λ (s : Shelf). is_head_left (nodes_with c.remove_subtree.new.nodes.table s.keys) c.in-Some.above
-    ≡ true) (sym went.shelf) went.left in
+    subst (λ (s : CollectionRow). is_head_left (nodes_with c.remove_subtree.new.nodes.table s.keys) c.in-Some.above
+    ≡ true) (sym went.row) went.left in
     felled_on _ went (c.end_above.ensures.led handles ss pending went.under still)
     (c.end_above.ensures.ended ss pending went.under still)
 

@@ -1,5 +1,5 @@
 -- The effect is all that is made.
-use Rattle.forest_steps.proofs.Common.{arith, not-true, and_left, and_right, shelves_of, place_is}
+use Rattle.forest_steps.proofs.Common.{arith, not-true, and_left, and_right, rows_of, place_is}
 use Rattle.forest_steps.proofs.mid_event.Counted.{may_make, outcome_still}
 use Rattle.forest_steps.proofs.unforced.apply_unforced.Goals as goal
 
@@ -16,6 +16,6 @@ returns c =
     let e = c.index_mut.result.now in
     let still = c.requires.unforced e c.index_mut.ensures.value in
     outcome_still _ e c.index_mut.ensures.value _ _ c.requires.ready _ _ _
-    c.make_effect.ensures.becomes c.make_effect.ensures.writes (c.make_effect.ensures.affected (shelves_of c.args.store.now.entries.items))
+    c.make_effect.ensures.becomes c.make_effect.ensures.writes (c.make_effect.ensures.affected (rows_of c.args.store.now.entries.items))
     _ (c.requires.worked e c.index_mut.ensures.value) (not-true _ (and_left _ _ still)) (and_right _ _ still)
     _ c.assert_disjoint.ensures c.requires.pool

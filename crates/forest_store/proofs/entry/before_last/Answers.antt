@@ -1,6 +1,6 @@
 -- The ids rise, so all smaller ones stand before the last.
 use Rattle.forest_store.proofs.Common.{arith}
-use Rattle.forest_store.proofs.shelves.Entries.{before_equal, before_greater}
+use Rattle.forest_store.proofs.rows.Entries.{before_equal, before_greater}
 use Rattle.forest_store.proofs.entry.before_last.Goals as goal
 
 pub returns-then-entries-last : goal.returns-then-entries-last

@@ -1,6 +1,6 @@
 -- The entry is the one at its place.
 use Rattle.forest_store.proofs.Common.{◌≡◌, sym, ◌∙◌, arith, slice_get, common_steps, option_copied, gets}
-use Rattle.forest_store.proofs.shelves.Entries.{none_in, placed}
+use Rattle.forest_store.proofs.rows.Entries.{none_in, placed}
 use Rattle.forest_store.proofs.entry.entry_of.Goals as goal
 
 pub returns-in-Some : goal.returns-in-Some

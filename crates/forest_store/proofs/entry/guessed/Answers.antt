@@ -1,6 +1,6 @@
 -- The ids rise, so the collection stands behind all smaller ones.
 use Rattle.forest_store.proofs.Common.{arith}
-use Rattle.forest_store.proofs.shelves.Entries.{before_equal, stands_at}
+use Rattle.forest_store.proofs.rows.Entries.{before_equal, stands_at}
 use Rattle.forest_store.proofs.entry.guessed.Goals as goal
 
 pub returns-then-entries-at-clause-before : goal.returns-then-entries-at-clause-before

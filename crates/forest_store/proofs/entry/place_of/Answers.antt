@@ -1,6 +1,6 @@
 -- The ids rise: the entry with the id is the last, or stands where it is guessed, or where a search ends.
 use Rattle.forest_store.proofs.Common.{sym, arith}
-use Rattle.forest_store.proofs.shelves.Entries.{stands_at, stands_nowhere}
+use Rattle.forest_store.proofs.rows.Entries.{stands_at, stands_nowhere}
 use Rattle.forest_store.proofs.entry.place_of.Goals as goal
 
 pub returns-then-entries-last : goal.returns-then-entries-last

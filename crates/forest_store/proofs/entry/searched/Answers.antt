@@ -1,6 +1,6 @@
 -- The test of ids is partitioned, since the ids rise.
 use Rattle.forest_store.proofs.Common.{nat_lt, Entry, rules, IsPartitionedBy-ltb, IsPartitionPoint-from_clause}
-use Rattle.forest_store.proofs.shelves.Entries.{rises, prefix_len-partition}
+use Rattle.forest_store.proofs.rows.Entries.{rises, prefix_len-partition}
 use Rattle.forest_store.proofs.entry.searched.Goals as goal
 
 pub returns : goal.returns

@@ -2,7 +2,7 @@
 use Rattle.forest_store.proofs.Common.{sym, arith, get_or_default}
 use Rattle.forest_store.proofs.entry.searched_place.Goals.{else-at-entries-via-then-at-entries+else-entries-at}
 use Rattle.forest_store.proofs.entry.searched_place.Goals.{else-at-entries-via-else-at-entries}
-use Rattle.forest_store.proofs.shelves.Entries.{place_found, place_none}
+use Rattle.forest_store.proofs.rows.Entries.{place_found, place_none}
 use Rattle.forest_store.proofs.entry.searched_place.Goals as goal
 
 pub returns-then-entries-at : goal.returns-then-entries-at

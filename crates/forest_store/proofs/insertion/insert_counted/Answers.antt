@@ -1,5 +1,5 @@
 -- The node is born, and counted for its unit.
-use Rattle.forest_store.proofs.Common.{ℕ, ◌<◌, length, ap, sym, subst, ◌∙◌, NodeKey, shelves_of}
+use Rattle.forest_store.proofs.Common.{ℕ, ◌<◌, length, ap, sym, subst, ◌∙◌, NodeKey, rows_of}
 use Rattle.forest_store.proofs.newborns.Units.{newborn_units}
 use Rattle.forest_store.proofs.newborns.Newborn.{above_is}
 use Rattle.forest_store.proofs.newborns.Bearing.{born_key, born_row}
@@ -17,7 +17,7 @@ returns-clause-units c =
     let inside = subst (λ (slot : ℕ). slot < length c.args.store.now.nodes.units.items) (sym slot_is) c.requires.reached in
     rw (c.count_at.ensures, c.put_unit.ensures, c.no_unit.ensures, c.insert_uncounted.ensures.units)
     (newborn_units _ _ _ c.requires.forest.kept _ _ _ _ _ _ at c.in_ok-key.key c.in_ok-key.ensures.ok.bears
-    (shelves_of c.insert_uncounted.new.store.entries.items) c.in_ok-key.ensures.ok.entries c.args.store.now.nodes.units.items
+    (rows_of c.insert_uncounted.new.store.entries.items) c.in_ok-key.ensures.ok.entries c.args.store.now.nodes.units.items
     c.requires.forest.units inside c.bound.ensures)
 
 -- where memory was refused, nothing that is counted changed

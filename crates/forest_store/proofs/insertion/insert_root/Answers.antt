@@ -1,5 +1,5 @@
 -- The entry of the new collection has the key alone.
-use Rattle.forest_store.proofs.Common.{◌≡◌, refl, true, None, [], ◌∷◌, ap, ◌∙◌, Entry, shelf_of, rules, put_in, no_shelf, shelf_with}
+use Rattle.forest_store.proofs.Common.{◌≡◌, refl, true, None, [], ◌∷◌, ap, ◌∙◌, Entry, row_of, rules, put_in, no_row, row_with}
 use Rattle.forest_store.proofs.insertion.insert_root.Goals as goal
 
 pub returns-clause-entries : goal.returns-clause-entries
@@ -11,15 +11,15 @@ returns-clause-entries c =
       held = c.new-2.result;
       strong = c.strong_with-strong.result;
       reserved = 0;
-      garbage_known = true;
-      garbage = c.new-3.result;
+      unkept_known = true;
+      unkept = c.new-3.result;
       guess = c.new-4.result;
     } in
     let items : c.push.new.self.items ≡ c.in_ok-key.key ∷ [] = search rules in
     let held : c.new-2.result.items ≡ [] = c.new-2.ensures.items in
-    let shelf : shelf_of new ≡ shelf_with (no_shelf c.args.id) c.in_ok-key.key =
+    let row : row_of new ≡ row_with (no_row c.args.id) c.in_ok-key.key =
     λ i. record { id = c.args.id; keys = items i; buffers = None; held = held i } in
-    (new, c.put_entry.ensures.items ∙ ap (put_in new) c.reserve.ensures.items, shelf, c.strong_with-strong.ensures, refl)
+    (new, c.put_entry.ensures.items ∙ ap (put_in new) c.reserve.ensures.items, row, c.strong_with-strong.ensures, refl)
 
 pub returns-then-is_err-clause-ok : goal.returns-then-is_err-clause-ok
 returns-then-is_err-clause-ok c = search rules

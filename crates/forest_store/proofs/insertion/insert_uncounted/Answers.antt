@@ -1,5 +1,5 @@
 -- The node is born among those of its collection, or is its first.
-use Rattle.forest_store.proofs.Common.{ap, arith, shelves_of}
+use Rattle.forest_store.proofs.Common.{ap, arith, rows_of}
 use Rattle.forest_store.proofs.leaving.EntryAt.{place_told}
 use Rattle.forest_store.proofs.newborns.Entries.{refused_two}
 use Rattle.forest_store.proofs.newborns.Inserted.{few, inserted, inserted_first, parent_there, refused}
@@ -54,6 +54,6 @@ pub returns-in-None-clause-err : goal.returns-in-None-clause-err
 returns-in-None-clause-err c =
     refused_two c.insert_root.result c.insert_root.ensures.err c.insert_root.ensures.err_entries (λ table entries. record {
       table = table;
-      entries = ap shelves_of entries;
+      entries = ap rows_of entries;
       counted = rw entries c.requires.forest.counted;
     })

@@ -1,7 +1,7 @@
 -- The nodes of one entry more come last.
 use Rattle.forest_store.proofs.Common.{arith, common_steps, flat_map-append, map-append, filter_map-append}
 use Rattle.std.proofs.lemmas.Result.{IfOk-from_err}
-use Rattle.forest_store.proofs.Common.{Entry, List, all_keys, nodes_with, shelves_of}
+use Rattle.forest_store.proofs.Common.{Entry, List, all_keys, nodes_with, rows_of}
 use Rattle.forest_store.proofs.lists.Growth.{made_all}
 use Rattle.forest_store.proofs.lookup.kept_nodes.Goals as goal
 
@@ -19,5 +19,5 @@ returns-in_err-add_kept c = IfOk-from_err _ _ c.from_residual-in_err-add_kept.en
 
 pub returns : goal.returns
 returns c =
-    made_all (λ (es : List Entry). nodes_with c.args.table.now (all_keys (shelves_of es)))
+    made_all (λ (es : List Entry). nodes_with c.args.table.now (all_keys (rows_of es)))
     _ _ c.loop-entry-test.false _ c.loop-entry.invariant

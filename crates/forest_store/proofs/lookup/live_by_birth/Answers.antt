@@ -1,5 +1,5 @@
 -- The nodes of one entry more come last.
-use Rattle.forest_store.proofs.Common.{List, arith, map, ap, ◌∙◌, filter, Entry, all_keys, nodes_with, shelves_of}
+use Rattle.forest_store.proofs.Common.{List, arith, map, ap, ◌∙◌, filter, Entry, all_keys, nodes_with, rows_of}
 use Rattle.forest_store.proofs.Common.{Node, is_live_node, rules, common_steps, flat_map-append, map-append}
 use Rattle.forest_store.proofs.Common.{take_all, filter_map-append, filter-append, answers_always, sorted_by}
 use Rattle.forest_store.proofs.lists.StableSort.{stable_sorted}
@@ -13,7 +13,7 @@ loop-entry-preserved c = grind (arith, common_steps, map-append, flat_map-append
 pub returns : goal.returns
 returns c =
     let all = c.loop-entry.invariant
-    ∙ ap (λ (es : List Entry). filter is_live_node (nodes_with c.args.table.now (all_keys (shelves_of es))))
+    ∙ ap (λ (es : List Entry). filter is_live_node (nodes_with c.args.table.now (all_keys (rows_of es))))
     (take_all c.loop-entry.entry-index c.args.entries.now c.loop-entry-test.false) in
     let sorted = stable_sorted (λ (n : Node). n.event) _ _ (c.in_ok-sort_by_key.ensures.sorted (λ n.
     n.event) (answers_always _ _ _ (λ f a r g h. search rules)))

@@ -1,7 +1,7 @@
 -- The entry takes its place.
-use Rattle.forest_store.proofs.Common.{◌≡◌, sym, ◌∙◌, ap, arith, shelves_of, rules, insert}
-use Rattle.forest_store.proofs.shelves.Counted.{shelves_put}
-use Rattle.forest_store.proofs.shelves.Entries.{place_within, before, before_within, set_put, insert_put}
+use Rattle.forest_store.proofs.Common.{◌≡◌, sym, ◌∙◌, ap, arith, rows_of, rules, insert}
+use Rattle.forest_store.proofs.rows.Counted.{rows_put}
+use Rattle.forest_store.proofs.rows.Entries.{place_within, before, before_within, set_put, insert_put}
 use Rattle.forest_store.proofs.store.put_entry.Goals as goal
 
 pub index_mut-requires : goal.index_mut-requires
@@ -16,11 +16,11 @@ returns-in-Some-clause-items c =
     set_put _ _ _ c.requires.rising (sym (rw c.deref.ensures.value at c.place_of.ensures)
     ∙ c.in-Some.is)
 
-pub returns-in-Some-clause-shelves : goal.returns-in-Some-clause-shelves
-returns-in-Some-clause-shelves c =
-    ap shelves_of (set_put _ _ _ c.requires.rising
+pub returns-in-Some-clause-rows : goal.returns-in-Some-clause-rows
+returns-in-Some-clause-rows c =
+    ap rows_of (set_put _ _ _ c.requires.rising
     (sym (rw c.deref.ensures.value at c.place_of.ensures) ∙ c.in-Some.is))
-    ∙ shelves_put c.args.entry c.args.entries.now.items
+    ∙ rows_put c.args.entry c.args.entries.now.items
 
 pub returns-in-None-clause-items : goal.returns-in-None-clause-items
 returns-in-None-clause-items c =
@@ -31,5 +31,5 @@ returns-in-None-clause-items c =
     (items ∙ ap (λ n. insert c.args.entries.now.items n c.args.entry) at)
     ∙ insert_put _ _ c.requires.rising told
 
-pub returns-in-None-clause-shelves : goal.returns-in-None-clause-shelves
-returns-in-None-clause-shelves c = ap shelves_of (returns-in-None-clause-items c) ∙ shelves_put c.args.entry c.args.entries.now.items
+pub returns-in-None-clause-rows : goal.returns-in-None-clause-rows
+returns-in-None-clause-rows c = ap rows_of (returns-in-None-clause-items c) ∙ rows_put c.args.entry c.args.entries.now.items

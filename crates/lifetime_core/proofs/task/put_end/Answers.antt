@@ -1,6 +1,6 @@
 use Rattle.std.proofs.Common.{◌≡◌, refl, ap, subst, Option, Some, None, is_some}
 use Rattle.std.specs.Option.{option_or}
-use Rattle.forest_store.specs.Forest.{Forest, SameKeys, without_over_in}
+use Rattle.forest_store.specs.Forest.{Forest, SameKeys, without_unkept_in}
 use Rattle.core_state.specs.declared.task.Place.{Place}
 use Rattle.core_state.specs.declared.task.Task.{Task}
 use Rattle.core_state.specs.Steps.{with_place}
@@ -30,18 +30,18 @@ returns c =
     let f : Forest = c.args.forest.now in
     let t : Task = c.in-Some.task in
     let amid : IsAmid f t.collection t.spends = subst (CanFinish f) c.in-Some.is c.requires.task in
-    let same : SameKeys (with_place (spent_place t.spends) f) c.forget_over.new.self =
-    subst (λ (x : Forest). SameKeys x c.forget_over.new.self) c.spend.ensures c.forget_over.ensures.keys in
-    let less : c.forget_over.new.self.collections ≡ without_over_in t.collection (with_place (spent_place t.spends) f).collections =
-    subst (λ (x : Forest). c.forget_over.new.self.collections ≡ without_over_in t.collection x.collections) c.spend.ensures
-    c.forget_over.ensures.collections in
+    let same : SameKeys (with_place (spent_place t.spends) f) c.forget_unkept.new.self =
+    subst (λ (x : Forest). SameKeys x c.forget_unkept.new.self) c.spend.ensures c.forget_unkept.ensures.keys in
+    let less : c.forget_unkept.new.self.collections ≡ without_unkept_in t.collection (with_place (spent_place t.spends) f).collections =
+    subst (λ (x : Forest). c.forget_unkept.new.self.collections ≡ without_unkept_in t.collection x.collections) c.spend.ensures
+    c.forget_unkept.ensures.collections in
     let none : c.args.carried ≡ None = c.requires.one (ap is_some c.in-Some.is) in
     let place : end_placed c.args.task.now c.args.carried ≡ spent_place t.spends =
     rw (c.in-Some.is, none) (first (spent_place t.spends)) in
     record {
-      collections = rw place (are_left f c.forget_over.new.self t.collection t.spends amid same less);
-      keys = same_worked t.spends f c.forget_over.new.self same;
-      held = same_held f c.forget_over.new.self t.collection t.spends amid same less;
+      collections = rw place (are_left f c.forget_unkept.new.self t.collection t.spends amid same less);
+      keys = same_worked t.spends f c.forget_unkept.new.self same;
+      held = same_held f c.forget_unkept.new.self t.collection t.spends amid same less;
     }
   where
     first : (o : Option Place) → option_or o None ≡ o

@@ -1,8 +1,8 @@
 -- The entry with the id is the collection.
-use Rattle.alloc_event.proofs.Common.{◌≡◌, Some, length, sym, ◌∙◌, ap, option_map, arith, shelf_of}
-use Rattle.alloc_event.proofs.Common.{shelves_of, collection_none, shelf_found, found_whole}
+use Rattle.alloc_event.proofs.Common.{◌≡◌, Some, length, sym, ◌∙◌, ap, option_map, arith, row_of}
+use Rattle.alloc_event.proofs.Common.{rows_of, collection_none, row_found, found_whole}
 use Rattle.forest_store.specs.Forest.{summary_of}
-use Rattle.forest_store.proofs.shelves.Showing.{collection_some, few_given}
+use Rattle.forest_store.proofs.rows.Showing.{collection_some, few_given}
 use Rattle.alloc_event.proofs.forest.Forest.collection.Goals as goal
 
 pub returns-in-Some-clause-value : goal.returns-in-Some-clause-value
@@ -18,9 +18,9 @@ returns-in-Some-clause-value c =
 pub returns-in-Some-clause-few : goal.returns-in-Some-clause-few
 returns-in-Some-clause-few c =
     let entry = c.in-Some.entry.now in
-    let found = shelf_found c.args.id c.self.inside.store.entries.items
-    ∙ ap (option_map shelf_of) (sym (rw c.deref.ensures.value at c.in-Some.ensures)) in
-    few_given _ (found_whole c.self.inside.store.nodes.table c.args.id (shelves_of c.self.inside.store.entries.items) (shelf_of entry)
+    let found = row_found c.args.id c.self.inside.store.entries.items
+    ∙ ap (option_map row_of) (sym (rw c.deref.ensures.value at c.in-Some.ensures)) in
+    few_given _ (found_whole c.self.inside.store.nodes.table c.args.id (rows_of c.self.inside.store.entries.items) (row_of entry)
     c.self.invariant.kept.whole found).sound.few
 
 pub returns-in-None-clause-value : goal.returns-in-None-clause-value

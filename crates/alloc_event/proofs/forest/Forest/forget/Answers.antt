@@ -1,11 +1,11 @@
 -- The node leaves the table, and its key the entry of its collection.
 use Rattle.alloc_event.proofs.Common.{◌≡◌, not, map, true, false, None, is_some, refl, sym, ◌∙◌, ap, subst, arith, option_map_or}
-use Rattle.alloc_event.proofs.Common.{and_left, node_at, Entry, AreUnits, collection_in, nodes_with, shelf_of, shelves_of, is_of}
-use Rattle.alloc_event.proofs.Common.{is_over, Forest, AreServedByGiven, place_is, node_is, get_or_default, looked-kept, SameKeys-shown}
+use Rattle.alloc_event.proofs.Common.{and_left, node_at, Entry, AreUnits, collection_in, nodes_with, row_of, rows_of, is_of}
+use Rattle.alloc_event.proofs.Common.{is_unkept, Forest, AreServedByGiven, place_is, node_is, get_or_default, looked-kept, SameKeys-shown}
 use Rattle.sm_names.proofs.SamenessLaws.{same_key-refl}
 use Rattle.forest_store.specs.Forest.{node_at as forest_node}
 use Rattle.forest_store.specs.Calm.{IsCounted}
-use Rattle.forest_store.proofs.shelves.Counted.{counted_set, dropped_all, drops_one, recounted}
+use Rattle.forest_store.proofs.rows.Counted.{counted_set, dropped_all, drops_one, recounted}
 use Rattle.alloc_event.proofs.leaving.Leaving.{set_forgotten, goes, kept-without, collections-without, never_none}
 use Rattle.forest_store.proofs.tallies.Slots.{units_without}
 use Rattle.forest_store.proofs.tables.TakingOut.{taken}
@@ -28,11 +28,11 @@ invariant_of-self c =
     let e : Entry = record (c.index_mut.result.now) { keys = c.forget.new.self } in
     let same = set_forgotten c.self.inside.store.nodes.table c.args.key c.index_mut.result.now e c.self.inside.store.entries.items
     c.take_out-node.ensures.was c.self.invariant.kept told c.index_mut.ensures.value
-    (λ i. record (shelf_of c.index_mut.result.now) { keys = c.forget.ensures i }) in
-    let found = node_is c.self.inside.store.nodes.table (shelves_of c.self.inside.store.entries.items) c.self.invariant.kept c.args.key
+    (λ i. record (row_of c.index_mut.result.now) { keys = c.forget.ensures i }) in
+    let found = node_is c.self.inside.store.nodes.table (rows_of c.self.inside.store.entries.items) c.self.invariant.kept c.args.key
     ∙ c.take_out-node.ensures.was in
-    let over : is_over c.take_out-node.result ≡ true = ap (λ o. option_map_or is_over o false) (sym found)
-    ∙ ap (λ (f : Forest). option_map_or is_over (forest_node f c.args.key) false) c.self.view_is ∙ c.requires.over in
+    let over : is_unkept c.take_out-node.result ≡ true = ap (λ o. option_map_or is_unkept o false) (sym found)
+    ∙ ap (λ (f : Forest). option_map_or is_unkept (forest_node f c.args.key) false) c.self.view_is ∙ c.requires.over in
     let out = taken c.self.inside.store.nodes.table c.take_out-node.new.table c.args.key c.take_out-node.result c.take_out-node.ensures.out
     c.take_out-node.ensures.was in
     let drops = drops_one c.self.inside.store.nodes.table c.take_out-node.new.table c.args.key
@@ -41,8 +41,8 @@ invariant_of-self c =
     let none : node_at c.take_out-node.new.table c.args.key ≡ None =
     c.take_out-node.ensures.out.look c.args.key ∙ (rw (same_key-refl c.args.key) refl) in
     let old : Entry = c.index_mut.result.now in
-    let shown : collection_in c.take_out-node.new.table (shelf_of e) ≡ collection_in c.take_out-node.new.table (shelf_of old) =
-    λ i. record (collection_in c.take_out-node.new.table (shelf_of old)) {
+    let shown : collection_in c.take_out-node.new.table (row_of e) ≡ collection_in c.take_out-node.new.table (row_of old) =
+    λ i. record (collection_in c.take_out-node.new.table (row_of old)) {
       nodes = (ap (nodes_with c.take_out-node.new.table) c.forget.ensures
           ∙ looked-kept c.args.key (node_at c.take_out-node.new.table) none old.keys.items) i;
     } in
@@ -54,19 +54,19 @@ invariant_of-self c =
           (λ there counted. let own : IsCounted c.take_out-node.new.table old =
           subst (IsCounted c.take_out-node.new.table)
           (get_or_default _ _ e old there ∙ sym c.index_mut.ensures.value) counted in
-          recounted c.take_out-node.new.table old e shown refl refl own.garbage_known own)
+          recounted c.take_out-node.new.table old e shown refl refl own.unkept_known own)
           (dropped_all c.self.inside.store.nodes.table c.take_out-node.new.table c.self.invariant.kept.named
           drops c.self.inside.store.entries.items
           c.self.invariant.kept.whole c.self.invariant.counted);
       units = rw same (subst (AreUnits c.self.inside.store.nodes.units.items) (sym (collections-without
-          out c.self.invariant.kept.named (shelves_of c.self.inside.store.entries.items)))
+          out c.self.invariant.kept.named (rows_of c.self.inside.store.entries.items)))
           (units_without c.self.inside.store.nodes.table c.self.inside.store.nodes.units.items c.args.key c.self.invariant.kept.named
           (goes out (and_left _ _ over))
-          (shelves_of c.self.inside.store.entries.items) c.self.invariant.kept.whole c.self.invariant.units));
+          (rows_of c.self.inside.store.entries.items) c.self.invariant.kept.whole c.self.invariant.units));
       given = rw same (subst AreServedByGiven (sym (collections-without
-          out c.self.invariant.kept.named (shelves_of c.self.inside.store.entries.items)))
+          out c.self.invariant.kept.named (rows_of c.self.inside.store.entries.items)))
           (given_filtered (λ n. not (is_of c.args.key n)) (map (collection_in c.self.inside.store.nodes.table)
-          (shelves_of c.self.inside.store.entries.items)) c.self.invariant.given));
+          (rows_of c.self.inside.store.entries.items)) c.self.invariant.given));
     }
 
 pub invariant_of-self-in_default : goal.invariant_of-self-in_default
@@ -80,7 +80,7 @@ returns-in-Some-clause-nodes c =
     let e : Entry = record (c.index_mut.result.now) { keys = c.forget.new.self } in
     let same = set_forgotten c.self.inside.store.nodes.table c.args.key c.index_mut.result.now e c.self.inside.store.entries.items
     c.take_out-node.ensures.was c.self.invariant.kept told c.index_mut.ensures.value
-    (λ i. record (shelf_of c.index_mut.result.now) { keys = c.forget.ensures i }) in
+    (λ i. record (row_of c.index_mut.result.now) { keys = c.forget.ensures i }) in
     rw (same, ← c.self.view_is) (collections-without
     (taken _ _ _ _ c.take_out-node.ensures.out c.take_out-node.ensures.was) c.self.invariant.kept.named _)
 
@@ -91,12 +91,12 @@ returns-in_default-clause-nodes c =
 
 pub returns-in-Some-clause-keys : goal.returns-in-Some-clause-keys
 returns-in-Some-clause-keys c =
-    let ss = shelves_of c.self.inside.store.entries.items in
+    let ss = rows_of c.self.inside.store.entries.items in
     let same = SameKeys-shown _ _ ss ss c.self.invariant.kept.first c.take_out-node.ensures.out.keys in
     rw (← c.self.view_is) (record { limit = same.limit; keys = same.keys })
 
 pub returns-in_default-clause-keys : goal.returns-in_default-clause-keys
 returns-in_default-clause-keys c =
-    let ss = shelves_of c.self.inside.store.entries.items in
+    let ss = rows_of c.self.inside.store.entries.items in
     let same = SameKeys-shown _ _ ss ss c.self.invariant.kept.first c.take_out-node.ensures.out.keys in
     rw (← c.self.view_is) (record { limit = same.limit; keys = same.keys })

@@ -1,8 +1,8 @@
 -- The entry has no node, and is removed.
 use Rattle.alloc_event.proofs.Common.{◌==◌, not, false, sym, ◌∙◌, ap, subst, arith, option_map_or, false≢true, AreUnits, Collection}
-use Rattle.alloc_event.proofs.Common.{shelves_of, AreServedByGiven, place_is, none_in, collection_none, collection_at, is_left}
-use Rattle.forest_store.proofs.shelves.Counted.{counted_removed}
-use Rattle.alloc_event.proofs.leaving.Emptying.{remove_shelf, collections_beside, kept-beside, left_none}
+use Rattle.alloc_event.proofs.Common.{rows_of, AreServedByGiven, place_is, none_in, collection_none, collection_at, is_left}
+use Rattle.forest_store.proofs.rows.Counted.{counted_removed}
+use Rattle.alloc_event.proofs.leaving.Emptying.{remove_row, collections_beside, kept-beside, left_none}
 use Rattle.forest_store.proofs.tallies.Slots.{units_some}
 use Rattle.forest_steps.proofs.mid_event.GivenKept.{given_some}
 use Rattle.alloc_event.proofs.forest.Forest.forget_collection.Goals as goal
@@ -15,28 +15,28 @@ remove-requires c =
 pub invariant_of-self : goal.invariant_of-self
 invariant_of-self c =
     let told = sym (rw c.deref.ensures.value at c.place_of.ensures) ∙ c.in-Some.is in
-    let same = ap shelves_of c.remove.ensures.items ∙ remove_shelf _ _ c.self.invariant.kept.rising told in
+    let same = ap rows_of c.remove.ensures.items ∙ remove_row _ _ c.self.invariant.kept.rising told in
     let left = ap (λ f. option_map_or is_left (collection_at f c.args.id) false) c.self.view_is ∙ c.requires in
     record {
       kept = rw same (kept-beside _ c.self.invariant.kept
           (left_none c.self.inside.store.nodes.table c.args.id
-          (shelves_of c.self.inside.store.entries.items) c.self.invariant.kept.filed left));
+          (rows_of c.self.inside.store.entries.items) c.self.invariant.kept.filed left));
       counted = rw c.remove.ensures.items (counted_removed _ _ _
           c.self.invariant.counted);
       units = rw same (subst (AreUnits c.self.inside.store.nodes.units.items)
-          (sym (collections_beside c.self.inside.store.nodes.table c.args.id (shelves_of c.self.inside.store.entries.items)))
+          (sym (collections_beside c.self.inside.store.nodes.table c.args.id (rows_of c.self.inside.store.entries.items)))
           (units_some _ (λ (d : Collection). not (d.id == c.args.id)) _ c.self.invariant.units));
       given = rw same (subst AreServedByGiven
-          (sym (collections_beside c.self.inside.store.nodes.table c.args.id (shelves_of c.self.inside.store.entries.items)))
+          (sym (collections_beside c.self.inside.store.nodes.table c.args.id (rows_of c.self.inside.store.entries.items)))
           (given_some (λ (d : Collection). not (d.id == c.args.id)) _ c.self.invariant.given));
     }
 
 pub returns-in-Some-clause-collections : goal.returns-in-Some-clause-collections
 returns-in-Some-clause-collections c =
     let told = sym (rw c.deref.ensures.value at c.place_of.ensures) ∙ c.in-Some.is in
-    let same = ap shelves_of c.remove.ensures.items ∙ remove_shelf _ _ c.self.invariant.kept.rising told in
+    let same = ap rows_of c.remove.ensures.items ∙ remove_row _ _ c.self.invariant.kept.rising told in
     rw (same, ← c.self.view_is)
-    (collections_beside c.self.inside.store.nodes.table c.args.id (shelves_of c.self.inside.store.entries.items))
+    (collections_beside c.self.inside.store.nodes.table c.args.id (rows_of c.self.inside.store.entries.items))
 
 pub returns-in_default-clause-collections : goal.returns-in_default-clause-collections
 returns-in_default-clause-collections c =

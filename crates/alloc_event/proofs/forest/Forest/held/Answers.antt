@@ -1,6 +1,6 @@
 -- The buffers of all collections are those of the entries.
 use Rattle.alloc_event.proofs.Common.{sym, ◌∙◌}
-use Rattle.alloc_event.proofs.shelves.Ordered.{held_in_order}
+use Rattle.alloc_event.proofs.rows.Ordered.{held_in_order}
 use Rattle.alloc_event.proofs.forest.Forest.held.Goals as goal
 
 pub returns-in-Ok : goal.returns-in-Ok

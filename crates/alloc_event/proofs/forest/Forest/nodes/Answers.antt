@@ -1,8 +1,8 @@
 -- The nodes of all collections are those of all keys.
-use Rattle.alloc_event.proofs.Common.{sym, ◌∙◌, shelves_of, nodes_of_all}
+use Rattle.alloc_event.proofs.Common.{sym, ◌∙◌, rows_of, nodes_of_all}
 use Rattle.alloc_event.proofs.forest.Forest.nodes.Goals as goal
 
 pub returns-in-Ok : goal.returns-in-Ok
 returns-in-Ok c =
     let listed = rw c.deref.ensures.value at c.in-Ok.ensures in
-    rw (← c.self.view_is) (listed ∙ sym (nodes_of_all c.self.inside.store.nodes.table (shelves_of c.self.inside.store.entries.items)))
+    rw (← c.self.view_is) (listed ∙ sym (nodes_of_all c.self.inside.store.nodes.table (rows_of c.self.inside.store.entries.items)))

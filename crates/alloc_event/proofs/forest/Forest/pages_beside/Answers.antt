@@ -1,6 +1,6 @@
 -- The other entries hold the pages of the other collections.
 use Rattle.alloc_event.proofs.Common.{sym, ◌∙◌}
-use Rattle.forest_store.proofs.shelves.Showing.{pages_of_others}
+use Rattle.forest_store.proofs.rows.Showing.{pages_of_others}
 use Rattle.alloc_event.proofs.forest.Forest.pages_beside.Goals as goal
 
 pub returns-in-Ok : goal.returns-in-Ok

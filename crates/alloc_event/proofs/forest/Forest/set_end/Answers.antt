@@ -1,7 +1,7 @@
 -- One node is written, and the others stay.
 use Rattle.alloc_event.proofs.Common.{refl, sym, ◌∙◌, ◌≡◌, true, false, List, Some, is_some, map, ap, subst}
 use Rattle.alloc_event.proofs.Common.{false≢true, NodeKey, option_map_or, Table, node_at, Node, AreUnits, with_nodes}
-use Rattle.alloc_event.proofs.Common.{IsStored, Shelf, are_filed, forest_of, shelves_of, is_over, Forest}
+use Rattle.alloc_event.proofs.Common.{IsStored, CollectionRow, are_filed, forest_of, rows_of, is_unkept, Forest}
 use Rattle.alloc_event.proofs.Common.{AreServedByGiven, node_is, Writes, table_with_node, on_collections, with_end}
 use Rattle.forest_store.specs.Forest.{node_at as forest_node}
 use Rattle.alloc_event.proofs.leaving.Ends.{ends-counted, ends-kept, ends-shown}
@@ -11,11 +11,11 @@ use Rattle.forest_steps.proofs.mid_event.GivenKept.{given_mapped}
 use Rattle.alloc_event.proofs.forest.Forest.set_end.Goals as goal
 
 -- a node that the forest has is in the table
-known : (t : Table Node) (ss : List Shelf) → IsStored t ss → (f : Forest) (key : NodeKey) → forest_of t ss ≡ f →
+known : (t : Table Node) (ss : List CollectionRow) → IsStored t ss → (f : Forest) (key : NodeKey) → forest_of t ss ≡ f →
     is_some (forest_node f key) ≡ true → is_some (node_at t key) ≡ true
 known t ss kept f key is some = ap is_some (sym (node_is t ss kept key)) ∙ ap (λ g. is_some (forest_node g key)) is ∙ some
 
-module _ (c : goal.After-list_garbage) where
+module _ (c : goal.After-list_unkept) where
   -- the key is known, so the table has a node there
   there : (n : Node) × (node_at c.self.inside.store.nodes.table c.args.key ≡ Some n)
   there = some_is _ (known _ _
@@ -41,15 +41,15 @@ module _ (c : goal.After-list_garbage) where
   becomes = c.put_end.ensures.becomes n there.1 ∙ ap (λ k. table_with_node c.self.inside.store.nodes.table k after) (sym named)
 
   -- what the forest is then
-  shown : forest_of c.put_end.new.table (shelves_of c.list_garbage.new.entries.items)
+  shown : forest_of c.put_end.new.table (rows_of c.list_unkept.new.entries.items)
       ≡ on_collections (with_nodes (map (with_end c.args.key c.args.end))) (forest_of c.self.inside.store.nodes.table
-      (shelves_of c.self.inside.store.entries.items))
+      (rows_of c.self.inside.store.entries.items))
   shown =
-      ap (forest_of c.put_end.new.table) c.list_garbage.ensures.shelves ∙ ends-shown _ _ there.1
+      ap (forest_of c.put_end.new.table) c.list_unkept.ensures.rows ∙ ends-shown _ _ there.1
       named writes becomes c.self.invariant.kept
 
   -- what was told of the node
-  over_is : c.in-Some.over ≡ is_over (record n { end = c.args.end })
+  over_is : c.in-Some.over ≡ is_unkept (record n { end = c.args.end })
   over_is = ap (λ o. option_map_or (λ p. p.1) o false) (sym c.in-Some.is ∙ c.put_end.ensures.told n there.1)
 
   -- the function answers the collection of the node
@@ -60,14 +60,14 @@ pub invariant_of-self : goal.invariant_of-self
 invariant_of-self c =
     let now = there c in
     record {
-      kept = subst (IsStored c.put_end.new.table) (sym c.list_garbage.ensures.shelves)
+      kept = subst (IsStored c.put_end.new.table) (sym c.list_unkept.ensures.rows)
           (ends-kept _ _ now.1 (named c) (writes c)
           (becomes c) c.self.invariant.kept);
       counted =
-          let all = c.list_garbage.ensures.counted c.self.inside.store.nodes.table c.self.invariant.counted in
+          let all = c.list_unkept.ensures.counted c.self.inside.store.nodes.table c.self.invariant.counted in
           ends-counted _ _ now.1 (named c) (writes c) c.self.invariant.kept.named _
-          (ap (are_filed c.self.inside.store.nodes.table) c.list_garbage.ensures.shelves ∙ c.self.invariant.kept.filed) all
-          (λ over. rw (id_is c) at (c.list_garbage.ensures.garbage (over_is c ∙ over)));
+          (ap (are_filed c.self.inside.store.nodes.table) c.list_unkept.ensures.rows ∙ c.self.invariant.kept.filed) all
+          (λ over. rw (id_is c) at (c.list_unkept.ensures.unkept (over_is c ∙ over)));
       units = subst (AreUnits c.self.inside.store.nodes.units.items) (sym (ap (λ (f : Forest). f.collections) (shown c)))
           (units_with _ _
           (λ n. record { key = refl; parent = refl; attached = refl; collection = refl; head = refl }) (λ n. refl) (λ k n. refl)

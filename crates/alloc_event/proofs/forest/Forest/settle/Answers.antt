@@ -1,21 +1,21 @@
 -- What was finished is told of the forest.
-use Rattle.alloc_event.proofs.Common.{Some, refl, sym, subst, total, forest_of, shelves_of, Settled, forest_after}
+use Rattle.alloc_event.proofs.Common.{Some, refl, sym, subst, total, forest_of, rows_of, Settled, forest_after}
 use Rattle.alloc_event.proofs.changes.Tellings.{settled_birth, settled_change, no_birth}
 use Rattle.alloc_event.proofs.forest.Forest.settle.Goals as goal
 
 pub returns-in-Birth-clause-ok : goal.returns-in-Birth-clause-ok
 returns-in-Birth-clause-ok c =
     let settled = settled_birth c.args.pool.now.size (total c.args.holds.now) c.settle_birth.new.store.nodes.table
-    (shelves_of c.settle_birth.new.store.entries.items) c.self.invariant.kept c.args.collection
+    (rows_of c.settle_birth.new.store.entries.items) c.self.invariant.kept c.args.collection
     c.in-Birth.parent c.in-Birth.attached c.in-Birth.client c.in-Birth.event c.in_ok-key.ensures.ok.finishes
     c.in_ok-key.ensures.ok.gives in
     let told = subst (λ change.
     Settled c.args.pool.now.size (total c.args.holds.now)
-    (forest_of c.self.inside.store.nodes.table (shelves_of c.self.inside.store.entries.items))
-    (forest_of c.settle_birth.new.store.nodes.table (shelves_of c.settle_birth.new.store.entries.items)) c.args.collection change
+    (forest_of c.self.inside.store.nodes.table (rows_of c.self.inside.store.entries.items))
+    (forest_of c.settle_birth.new.store.nodes.table (rows_of c.settle_birth.new.store.entries.items)) c.args.collection change
     (Some c.in_ok-key.key)) (sym c.in-Birth.is) settled in
     subst (λ f. Settled c.args.pool.now.size (total c.args.holds.now) f (forest_of c.settle_birth.new.store.nodes.table
-    (shelves_of c.settle_birth.new.store.entries.items)) c.args.collection c.args.change (Some c.in_ok-key.key)) c.self.view_is told
+    (rows_of c.settle_birth.new.store.entries.items)) c.args.collection c.args.change (Some c.in_ok-key.key)) c.self.view_is told
 
 -- what holds of each forest holds then
 pub invariant_of-self-2 : goal.invariant_of-self-2

@@ -1,5 +1,5 @@
 -- What was finished is told of the forest.
-use Rattle.alloc_event.proofs.Common.{None, refl, subst, total, Change, forest_of, shelves_of, Settled, forest_after}
+use Rattle.alloc_event.proofs.Common.{None, refl, subst, total, Change, forest_of, rows_of, Settled, forest_after}
 use Rattle.alloc_event.proofs.Outcomes.{on_ok}
 use Rattle.alloc_event.proofs.changes.Tellings.{settled_change}
 use Rattle.alloc_event.proofs.forest.Forest.settle_drop.Goals as goal
@@ -12,8 +12,8 @@ invariant_of-self c =
 pub returns-clause-ok : goal.returns-clause-ok
 returns-clause-ok c = on_ok c.settle_dropped.result (λ made.
     subst (λ f. Settled c.args.pool.now.size (total c.args.holds.now) f (forest_of c.settle_dropped.new.store.nodes.table
-    (shelves_of c.settle_dropped.new.store.entries.items)) c.args.buffer.collection Change.Nothing None) c.self.view_is
+    (rows_of c.settle_dropped.new.store.entries.items)) c.args.buffer.collection Change.Nothing None) c.self.view_is
     (settled_change c.args.pool.now.size (total c.args.holds.now) c.settle_dropped.new.store.nodes.table
-    (shelves_of c.settle_dropped.new.store.entries.items) c.self.invariant.kept
+    (rows_of c.settle_dropped.new.store.entries.items) c.self.invariant.kept
     c.args.buffer.collection Change.Nothing refl (c.settle_dropped.ensures.outcome.settled made).finishes
     c.settle_dropped.ensures.outcome.same))

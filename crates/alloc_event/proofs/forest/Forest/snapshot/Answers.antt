@@ -1,6 +1,6 @@
 -- The entry with the id is the collection.
-use Rattle.alloc_event.proofs.Common.{Some, sym, ◌∙◌, ap, option_map, collection_in, shelf_of, shelves_of}
-use Rattle.alloc_event.proofs.Common.{collection_none, shelf_found, found_whole, collection_is}
+use Rattle.alloc_event.proofs.Common.{Some, sym, ◌∙◌, ap, option_map, collection_in, row_of, rows_of}
+use Rattle.alloc_event.proofs.Common.{collection_none, row_found, found_whole, collection_is}
 use Rattle.alloc_event.proofs.forest.Forest.snapshot.Goals as goal
 
 pub returns-in_default-clause-value : goal.returns-in_default-clause-value
@@ -11,18 +11,18 @@ returns-in_default-clause-value c =
 
 pub returns-in-Ok-clause-value : goal.returns-in-Ok-clause-value
 returns-in-Ok-clause-value c =
-    let found = shelf_found c.args.id c.self.inside.store.entries.items
-    ∙ ap (option_map shelf_of) (sym (rw c.deref.ensures.value at c.in-Some.ensures)) in
+    let found = row_found c.args.id c.self.inside.store.entries.items
+    ∙ ap (option_map row_of) (sym (rw c.deref.ensures.value at c.in-Some.ensures)) in
     rw (← c.self.view_is)
     (ap Some c.in-Ok.ensures
-    ∙ sym (collection_is c.self.inside.store.nodes.table c.args.id (shelves_of c.self.inside.store.entries.items)
+    ∙ sym (collection_is c.self.inside.store.nodes.table c.args.id (rows_of c.self.inside.store.entries.items)
     ∙ ap (option_map (collection_in c.self.inside.store.nodes.table)) found))
 
 -- as each of the forest is
 pub returns-in-Ok-clause-sound : goal.returns-in-Ok-clause-sound
 returns-in-Ok-clause-sound c =
-    let found = shelf_found c.args.id c.self.inside.store.entries.items
-    ∙ ap (option_map shelf_of) (sym (rw c.deref.ensures.value at c.in-Some.ensures)) in
+    let found = row_found c.args.id c.self.inside.store.entries.items
+    ∙ ap (option_map row_of) (sym (rw c.deref.ensures.value at c.in-Some.ensures)) in
     rw c.in-Ok.ensures
-    (found_whole c.self.inside.store.nodes.table c.args.id (shelves_of c.self.inside.store.entries.items) (shelf_of c.in-Some.entry.now)
+    (found_whole c.self.inside.store.nodes.table c.args.id (rows_of c.self.inside.store.entries.items) (row_of c.in-Some.entry.now)
     c.self.invariant.kept.whole found).sound

@@ -1,7 +1,7 @@
 -- What the last goals of `drop_in_place` have in common: the entry that was read is the one that is changed, and nothing is forced.
 use Rattle.forest_steps.proofs.Common.{◌≡◌, ◌∙◌, ◌&&◌, ◌⊎◌, ◌++◌, ℕ, List, nat_lt, not, false, true, None, Some, Handles, Node}
 use Rattle.forest_steps.proofs.Common.{Table, inl, inr, refl, set, subst, sym, ap, lt-ltb, filter, total, Entry, forest_of}
-use Rattle.forest_steps.proofs.Common.{nodes_with, place_in, shelves_of, get_or_default, AreCounted, IsCounted, decided}
+use Rattle.forest_steps.proofs.Common.{nodes_with, place_in, rows_of, get_or_default, AreCounted, IsCounted, decided}
 use Rattle.forest_steps.proofs.Common.{has_given_root, beside, by_page, is_held_strongly, is_out, pages_held, counted_set}
 use Rattle.forest_store.proofs.leaving.EntryAt.{place_told}
 use Rattle.forest_steps.proofs.changes.Dropped.{IsReturned, decides_none, one_entry, pool_at}
@@ -72,7 +72,7 @@ module _ (c : After-assert_disjoint-2) where
       ]
 
   -- the pool holds the buffers of the collection and those of the others
-  pub held_before : c.args.pool.now.held ≡ by_page (pages_held old.held.items ++ beside (forest_of t (shelves_of es)) old.id)
+  pub held_before : c.args.pool.now.held ≡ by_page (pages_held old.held.items ++ beside (forest_of t (rows_of es)) old.id)
   held_before =
       pool_at handles es id old told c.index_mut.ensures.value c.requires.kept c.requires.counted _ c.assert_disjoint.ensures
       c.requires.pool
@@ -82,4 +82,4 @@ module _ (c : After-assert_disjoint-2) where
   counted_now =
       counted_set _ es at new (λ within was.
       let then = subst (IsCounted t) (get_or_default es at new old within ∙ sym c.index_mut.ensures.value) was in
-      record { calm = then.calm; strong = then.strong; reserved = then.reserved; garbage_known = then.garbage_known }) c.requires.counted
+      record { calm = then.calm; strong = then.strong; reserved = then.reserved; unkept_known = then.unkept_known }) c.requires.counted

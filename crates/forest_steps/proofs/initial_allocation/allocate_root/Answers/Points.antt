@@ -1,6 +1,6 @@
 -- What the last goals of `allocate_root` have in common: the collection with the effect, and then with its root's unit allocated or lost.
 use Rattle.forest_steps.proofs.Common.{◌≡◌, ◌∙◌, true, List, [], Some, refl, set, sym, ap, subst, total, Handles, NodeKey}
-use Rattle.forest_steps.proofs.Common.{Table, Change, Effect, Entry, Node, Unit, place_in, shelves_of, get_or_default}
+use Rattle.forest_steps.proofs.Common.{Table, Change, Effect, Entry, Node, Unit, place_in, rows_of, get_or_default}
 use Rattle.forest_steps.proofs.Common.{Holdings, IsOutcomeIn, StoreAgrees, IsPlace, place_is, Closes, IsPlanned, IsRooted}
 use Rattle.forest_steps.proofs.Common.{IsAllocationOutcome, comes_first, EffectMade, AfterEffect, MidEvent}
 use Rattle.forest_steps.specs.declared.initial_allocation.Plan.{Plan}
@@ -60,7 +60,7 @@ module _ (c : After-finish_event-arg-3-1) where
       ∙ sym c.index-entry.ensures
 
   -- the collection is under way, with nothing loose and nothing due
-  pub under : MidEvent t us (shelves_of es) old [] []
+  pub under : MidEvent t us (rows_of es) old [] []
   under = begins_at handles old c.index-entry.ensures c.requires.ready refl
 
   -- the contract of the plan: whose unit it is
@@ -72,7 +72,7 @@ module _ (c : After-finish_event-arg-3-1) where
   comes = c.in-Some-planned.ensures.comes
 
   -- the effect was made on the node of the plan, which alone concerns its unit
-  pub affects : AfterEffect t c.make_effect.new.nodes.table c.make_effect.new.nodes.units.items (shelves_of es) old mid key effect
+  pub affects : AfterEffect t c.make_effect.new.nodes.table c.make_effect.new.nodes.units.items (rows_of es) old mid key effect
       planned.node.head
   affects =
       let x = node_there c.requires.ready.ready.kept c.requires.ready.id key c.requires.ready.ready.change.named in
@@ -81,11 +81,11 @@ module _ (c : After-finish_event-arg-3-1) where
       let own : planned.node.collection ≡ old.id =
       ap (λ (m : Node). m.collection) one ∙ (x.3 ∙ sym (ap (λ (e : Entry). e.id) c.index-entry.ensures ∙ place.id_is old)) in
       affected_on planned.was own under
-      (subst (λ e. EffectMade t c.make_effect.new.nodes.table c.make_effect.new.nodes.units.items (shelves_of es) e mid key effect
+      (subst (λ e. EffectMade t c.make_effect.new.nodes.table c.make_effect.new.nodes.units.items (rows_of es) e mid key effect
       planned.node.head) again
-      (c.make_effect.ensures.affected (shelves_of es) planned.node planned.was (ap (λ (m : Node). m.gone) one ∙ x.2)
+      (c.make_effect.ensures.affected (rows_of es) planned.node planned.was (ap (λ (m : Node). m.gone) one ∙ x.2)
       (own ∙ sym (ap (λ (e : Entry). e.id) again))
-      (subst (λ (e : Entry). StoreAgrees t us (shelves_of es) e) (sym again) under.store)))
+      (subst (λ (e : Entry). StoreAgrees t us (rows_of es) e) (sym again) under.store)))
 
   -- the contract of the placing
   pub found : IsAllocationOutcome c.args.pool.now c.place_wanted.new.pool c.requires.ready.id old.held.items plan.wants
@@ -94,11 +94,11 @@ module _ (c : After-finish_event-arg-3-1) where
 
   -- the contract of the allocation, from the collection with the effect
   pub rooted : IsRooted handles c.make_effect.new.nodes.table c.settle_first.new.nodes.table c.settle_first.new.nodes.units.items
-      (shelves_of es) mid new plan.head c.in_ok-verdict.verdict
+      (rows_of es) mid new plan.head c.in_ok-verdict.verdict
   rooted =
       let told = c.requires.ready.place in
       let r = c.requires.ready.ready in
-      c.settle_first.ensures.rooted (shelves_of es)
+      c.settle_first.ensures.rooted (rows_of es)
       (under_mid handles told c.index-entry.ensures r under planned comes affects)
       (coming_mid handles told c.index-entry.ensures r under planned comes affects)
       (reserved_mid handles told c.index-entry.ensures r under planned comes affects)

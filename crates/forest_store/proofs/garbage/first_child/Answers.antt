@@ -1,6 +1,0 @@
--- The first of the children is one of them.
-use Rattle.forest_store.proofs.tables.TakingOut.{first_child_is}
-use Rattle.forest_store.proofs.garbage.first_child.Goals as goal
-
-pub returns : goal.returns
-returns c = first_child_is _ _ c.first_child.ensures.forest _ c.first_child.ensures.value

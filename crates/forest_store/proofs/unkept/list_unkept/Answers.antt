@@ -1,0 +1,31 @@
+-- Only the entry of the collection is noted.
+use Rattle.forest_store.proofs.Common.{sym, ◌∙◌, ap, arith, Entry, row_of, get_or_default}
+use Rattle.forest_store.proofs.rows.Counted.{unkept, noted_none, noted_set, set_rows}
+use Rattle.forest_store.proofs.rows.Entries.{place_within}
+use Rattle.forest_store.proofs.unkept.list_unkept.Goals as goal
+
+pub index_mut-requires : goal.index_mut-requires
+index_mut-requires c = omega (arith, place_within _ _ _ _ _ c.deref.ensures.value c.place_of.ensures c.in-Some.is)
+
+pub returns-in-Some-clause-rows : goal.returns-in-Some-clause-rows
+returns-in-Some-clause-rows c =
+    let old : Entry = c.index_mut.result.now in
+    let new : Entry = c.note_key.new.entry in
+    set_rows _ _ _
+    (λ within. c.note_key.ensures.entry.row ∙ ap row_of (c.index_mut.ensures.value ∙ get_or_default _ _ old new within))
+
+pub returns-in-Some-clause-counted : goal.returns-in-Some-clause-counted
+returns-in-Some-clause-counted c t all =
+    let old : Entry = c.index_mut.result.now in
+    let new : Entry = c.note_key.new.entry in
+    unkept t _ _ _
+    (λ within. rw (← (c.index_mut.ensures.value ∙ get_or_default _ _ old new within)) c.note_key.ensures.entry) all
+
+pub returns-in-Some-clause-unkept : goal.returns-in-Some-clause-unkept
+returns-in-Some-clause-unkept c over =
+    let told = sym (rw c.deref.ensures.value at c.place_of.ensures) ∙ c.in-Some.is in
+    noted_set _ _ _ _ _ c.requires told c.note_key.ensures.unkept
+
+pub returns-in_default-clause-unkept : goal.returns-in_default-clause-unkept
+returns-in_default-clause-unkept c over =
+    noted_none _ _ _ (sym (rw c.deref.ensures.value at c.place_of.ensures) ∙ c.in_default.is)
