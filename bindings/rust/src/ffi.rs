@@ -188,14 +188,13 @@ extern "C" {
     fn sysmem_close(handle: *mut Handle) -> u32;
 }
 
-#[cfg(test)]
-thread_local! {
-    /// Whether memory is refused to the calls of this thread.
-    pub(crate) static REFUSING: std::cell::Cell<bool> = const { std::cell::Cell::new(false) };
-}
-
 /// An open core. Each function takes `&mut self`, so that at most one call at a time is made on it.
-pub(crate) struct Core(Handle);
+pub(crate) struct Core {
+    handle: Handle,
+    /// Whether memory is refused to each call.
+    #[cfg(test)]
+    pub is_refusing: bool,
+}
 
 // SAFETY: it is proved of the library that its handle may move to another thread.
 unsafe impl Send for Core {}
@@ -207,14 +206,20 @@ impl Core {
         limits: [u32; 4],
         seed: Option<[u8; 16]>,
     ) -> Result<Core, u32> {
-        let mut core = Core(Handle { is_open: false, core: null_mut() });
+        let mut core = Core {
+            handle: Handle { is_open: false, core: null_mut() },
+            #[cfg(test)]
+            is_refusing: false,
+        };
         let [n, c, t, h] = limits;
         let seed = seed.unwrap_or([0; 16]);
         // SAFETY: the handle is of zeros, and a seed has 16 bytes.
         let code = unsafe {
             match events {
-                Some(e) => sysmem_open_seeded(&mut core.0, pages, e, n, c, t, h, seed.as_ptr()),
-                None => sysmem_open_lasting(&mut core.0, pages, n, c, t, h, seed.as_ptr()),
+                Some(e) => {
+                    sysmem_open_seeded(&mut core.handle, pages, e, n, c, t, h, seed.as_ptr())
+                }
+                None => sysmem_open_lasting(&mut core.handle, pages, n, c, t, h, seed.as_ptr()),
             }
         };
         if code == 0 {
@@ -228,11 +233,11 @@ impl Core {
     #[inline]
     pub fn step(&mut self, client: u64, asked: &CallWords, told: &mut ReplyWords) -> u32 {
         #[cfg(test)]
-        if REFUSING.with(|refusing| refusing.get()) {
+        if self.is_refusing {
             return 6;
         }
         // SAFETY: the pointers are of this handle, this call and this reply.
-        unsafe { sysmem_step(&mut self.0, client, asked, told) }
+        unsafe { sysmem_step(&mut self.handle, client, asked, told) }
     }
 
     pub fn live(&mut self) -> Result<Vec<KeyWords>, u32> {
@@ -248,7 +253,7 @@ impl Core {
         let mut all = vec![T::default()];
         loop {
             // SAFETY: `out` has as many places as `room` says.
-            match unsafe { look(&mut self.0, all.as_mut_ptr(), all.len(), &mut count) } {
+            match unsafe { look(&mut self.handle, all.as_mut_ptr(), all.len(), &mut count) } {
                 0 if count as usize > all.len() => all.resize(count as usize, T::default()),
                 0 => break,
                 code => return Err(code),
@@ -262,21 +267,21 @@ impl Core {
     pub fn fired_at(&mut self, place: u64) -> (FiredWords, u64) {
         let (mut one, mut count) = (FiredWords::default(), 0);
         // SAFETY: `out` has one place.
-        unsafe { sysmem_fired_from(&mut self.0, place, &mut one, 1, &mut count) };
+        unsafe { sysmem_fired_from(&mut self.handle, place, &mut one, 1, &mut count) };
         (one, count)
     }
 
     pub fn is_live(&mut self, key: KeyWords) -> bool {
         let mut live = 0;
         // SAFETY: the pointers are of this handle, this key and this number.
-        unsafe { sysmem_is_live(&mut self.0, &key, &mut live) };
+        unsafe { sysmem_is_live(&mut self.handle, &key, &mut live) };
         live == 1
     }
 
     pub fn cause(&mut self, key: KeyWords) -> Option<(u32, KeyWords)> {
         let (mut cause, mut origin) = (0, KeyWords::default());
         // SAFETY: as above.
-        let code = unsafe { sysmem_cause(&mut self.0, &key, &mut cause, &mut origin) };
+        let code = unsafe { sysmem_cause(&mut self.handle, &key, &mut cause, &mut origin) };
         (code == 0).then_some((cause, origin))
     }
 
@@ -288,7 +293,7 @@ impl Core {
     pub fn node(&mut self, key: KeyWords) -> Option<NodeWords> {
         let (mut is_kept, mut node) = (0, NodeWords::default());
         // SAFETY: the pointers are of this handle, this key and these words.
-        unsafe { sysmem_node_of(&mut self.0, &key, &mut is_kept, &mut node) };
+        unsafe { sysmem_node_of(&mut self.handle, &key, &mut is_kept, &mut node) };
         (is_kept == 1).then_some(node)
     }
 
@@ -296,7 +301,7 @@ impl Core {
     pub fn held_of(&mut self, collection: u64) -> Vec<HeldWords> {
         let (mut all, mut count) = ([HeldWords::default(); 64], 0);
         // SAFETY: `out` has as many places as `room` says.
-        unsafe { sysmem_held_of(&mut self.0, collection, all.as_mut_ptr(), 64, &mut count) };
+        unsafe { sysmem_held_of(&mut self.handle, collection, all.as_mut_ptr(), 64, &mut count) };
         all[..count as usize].to_vec()
     }
 
@@ -304,7 +309,7 @@ impl Core {
     pub fn given(&mut self, collection: u64) -> (u32, u32) {
         let (mut count, mut size) = (0, 0);
         // SAFETY: the pointers are of this handle and these numbers.
-        unsafe { sysmem_given(&mut self.0, collection, &mut count, &mut size) };
+        unsafe { sysmem_given(&mut self.handle, collection, &mut count, &mut size) };
         (count, size)
     }
 
@@ -312,7 +317,7 @@ impl Core {
         let mut count = 0;
         // SAFETY: as above.
         unsafe {
-            sysmem_open_handles(&mut self.0, client, collection, index, strength, &mut count)
+            sysmem_open_handles(&mut self.handle, client, collection, index, strength, &mut count)
         };
         count
     }
@@ -320,21 +325,23 @@ impl Core {
     pub fn handles_in_parcels(&mut self, collection: u64, index: u8, strength: u32) -> u32 {
         let mut count = 0;
         // SAFETY: as above.
-        unsafe { sysmem_handles_in_parcels(&mut self.0, collection, index, strength, &mut count) };
+        unsafe {
+            sysmem_handles_in_parcels(&mut self.handle, collection, index, strength, &mut count)
+        };
         count
     }
 
     pub fn remaining(&mut self) -> u64 {
         let mut events = 0;
         // SAFETY: as above.
-        unsafe { sysmem_remaining(&mut self.0, &mut events) };
+        unsafe { sysmem_remaining(&mut self.handle, &mut events) };
         events
     }
 
     /// False if memory was refused.
     pub fn forget_fired(&mut self) -> bool {
         // SAFETY: the pointer is of this handle.
-        unsafe { sysmem_forget_fired(&mut self.0) == 0 }
+        unsafe { sysmem_forget_fired(&mut self.handle) == 0 }
     }
 
     /// The firings after the first `from`.
@@ -344,21 +351,21 @@ impl Core {
         let mut none = FiredWords::default();
         let out = if all.is_empty() { &mut none } else { all.as_mut_ptr() };
         // SAFETY: `out` has as many places as `room` says.
-        unsafe { sysmem_fired_from(&mut self.0, from, out, all.len(), &mut 0) };
+        unsafe { sysmem_fired_from(&mut self.handle, from, out, all.len(), &mut 0) };
         all
     }
 
     pub fn free_pages(&mut self) -> u32 {
         let mut pages = 0;
         // SAFETY: as above.
-        unsafe { sysmem_free_pages(&mut self.0, &mut pages) };
+        unsafe { sysmem_free_pages(&mut self.handle, &mut pages) };
         pages
     }
 
     pub fn events(&mut self) -> u64 {
         let mut events = 0;
         // SAFETY: as above.
-        unsafe { sysmem_events(&mut self.0, &mut events) };
+        unsafe { sysmem_events(&mut self.handle, &mut events) };
         events
     }
 }
@@ -366,7 +373,7 @@ impl Core {
 impl Drop for Core {
     fn drop(&mut self) {
         // SAFETY: the handle is this core's. A call on a handle that is not open is safe.
-        unsafe { sysmem_close(&mut self.0) };
+        unsafe { sysmem_close(&mut self.handle) };
     }
 }
 
