@@ -341,6 +341,7 @@ impl Holds {
         ensures closed { OnTrue result (Sets self.old self.new client buffer strength
             (of self.old client buffer strength - 1) (moving_count self.old buffer strength)
             (total self.old buffer strength - 1)) }
+        ensures within { OnTrue result (total self.new buffer strength < self.new.limit) }
         ensures places { self.new.places ≡ self.old.places }
         ensures unchanged { OnFalse result (self.new ≡ self.old) }
     {

@@ -51,7 +51,6 @@ pub fn apply_handles(
         }
         Call::DropHandle(buffer, strength) => {
             if let Reply::Done = *reply {
-                prove!(holds.total(buffer, strength) > 0);
                 holds.sub(client, buffer, strength);
             }
         }

@@ -6,7 +6,7 @@ ghost use Rattle.sysmem.specs.Words.{said};
 
 use crate::codes::{BAD_CALL, DONE, HISTORY_FULL, NO_MEMORY, NOT_OPEN};
 use crate::handle::{Handle, put, take};
-use crate::words::{CallWords, ReplyWords, call_of, words_of};
+use crate::words::{CallWords, ReplyWords, call_of, tell};
 use lifetime_core::Core;
 use sm_names::{ClientId, StepFault};
 use std::alloc::Global;
@@ -28,7 +28,7 @@ fn step_by_words(core: &mut Core, client: ClientId, asked: &CallWords, told: &mu
     };
     match core.step(client, call) {
         Ok(reply) => {
-            *told = words_of(&reply);
+            tell(told, &reply);
             DONE
         }
         Err(StepFault::HistoryFull) => HISTORY_FULL,

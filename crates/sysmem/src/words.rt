@@ -1,11 +1,11 @@
 //! Calls and replies as numbers.
 ghost use Rattle.std.specs.Prelude.{◌≡◌};
-ghost use Rattle.sysmem.specs.Words.{argument_said, object_said, said, said_strength, said_constraints, blank_reply, reply_words};
+ghost use Rattle.sysmem.specs.Words.{said, said_strength, blank_reply, reply_words};
 ghost use Rattle.sysmem.specs.Words.{strength_number, kind_number, cause_number};
 
 use sm_names::{
-    Argument, ArgumentForm, BufferName, Call, CallParts, Cause, ClientId, Constraints, Failure,
-    Kind, NodeKey, Object, Reply, Strength, Target, call_of as parts_call, kind_at, row_of,
+    BufferName, Call, CallKind, Cause, Constraints, Failure, Kind, NodeKey, Reply, Strength,
+    kind_at,
 };
 
 /// A call, by the number of its kind. Each kind reads only the fields that it needs.
@@ -52,58 +52,62 @@ pub(crate) fn strength_of(number: u32) -> Option<Strength>
     }
 }
 
-// The constraints of these numbers, if they are in range.
-fn constraints_of(camping: u8, at_least: u8, size: u32) -> Option<Constraints>
-    ensures { result ≡ said_constraints camping at_least size }
+// The node that the words name.
+fn node_of(words: &CallWords) -> NodeKey
+    ensures { result ≡ record { slot = words.now.slot; generation = words.now.generation } }
 {
-    Constraints::new(camping, at_least, size)
-}
-
-// The object that the call is made on.
-fn object_of(words: &CallWords, on: Target) -> Object<NodeKey, BufferName>
-    ensures { result ≡ object_said words.now on }
-{
-    match on {
-        Target::Nothing => Object::Nothing,
-        Target::Handle => Object::Buffer(BufferName {
-            collection: words.collection,
-            index: words.index,
-        }),
-        Target::Token | Target::Collection | Target::End => Object::Node(NodeKey {
-            slot: words.slot,
-            generation: words.generation,
-        }),
+    NodeKey {
+        slot: words.slot,
+        generation: words.generation,
     }
 }
 
-// The call's argument. `None` if the words encode no argument of this form.
-fn argument_of(words: &CallWords, form: ArgumentForm) -> Option<Argument<ClientId>>
-    ensures { result ≡ argument_said words.now form }
+// The buffer that the words name.
+fn buffer_of(words: &CallWords) -> BufferName
+    ensures { result ≡ record { collection = words.now.collection; index = words.now.index } }
 {
-    Some(match form {
-        ArgumentForm::Nothing => Argument::Nothing,
-        ArgumentForm::Client => Argument::Client(words.client),
-        ArgumentForm::Children => Argument::Children(words.children != 0),
-        ArgumentForm::Constraints => {
-            Argument::Constraints(constraints_of(words.camping, words.at_least, words.size)?)
-        }
-        ArgumentForm::Most => Argument::Most(words.left),
-        ArgumentForm::Strength => Argument::Strength(strength_of(words.strength)?),
-        ArgumentForm::Gift => Argument::Gift(strength_of(words.strength)?, words.client),
-    })
+    BufferName {
+        collection: words.collection,
+        index: words.index,
+    }
 }
 
-// The call that the words encode. `None` if they encode none.
+// The call that the words encode. `None` if they encode none. One match makes each call: to make it of its parts, by the
+// table of calls, takes some 40 instructions more.
 pub(crate) fn call_of(words: &CallWords) -> Option<Call>
     ensures { result ≡ said words.now }
 {
-    let kind = kind_at(words.kind)?;
-    let row = row_of(kind);
-    let argument = argument_of(words, row.says)?;
-    parts_call(CallParts {
-        kind,
-        object: object_of(words, row.on),
-        argument,
+    let node = node_of(words);
+    let buffer = buffer_of(words);
+    Some(match kind_at(words.kind)? {
+        CallKind::Join => Call::Join,
+        CallKind::Shut => Call::Shut,
+        CallKind::OpenRoot => Call::OpenRoot,
+        CallKind::Duplicate => Call::Duplicate(node),
+        CallKind::AttachToken => Call::AttachToken(node),
+        CallKind::Sync => Call::Sync(node),
+        CallKind::Give => Call::Give(node, words.client),
+        CallKind::Collect => Call::Collect,
+        CallKind::Bind => Call::Bind(node),
+        CallKind::SetDispensable => Call::SetDispensable(node),
+        CallKind::SetWeak => Call::SetWeak(node),
+        CallKind::SetWeakOk => Call::SetWeakOk(node, words.children != 0),
+        CallKind::SetConstraints => {
+            let constraints = Constraints::new(words.camping, words.at_least, words.size)?;
+            Call::SetConstraints(node, constraints)
+        }
+        CallKind::Check => Call::Check(node),
+        CallKind::Take => Call::Take(node),
+        CallKind::Release => Call::Release(node),
+        CallKind::Close => Call::Close(node),
+        CallKind::DupHandle => Call::DupHandle(buffer, strength_of(words.strength)?),
+        CallKind::DropHandle => Call::DropHandle(buffer, strength_of(words.strength)?),
+        CallKind::GiveHandle => {
+            Call::GiveHandle(buffer, strength_of(words.strength)?, words.client)
+        }
+        CallKind::TrackNode => Call::TrackNode(node),
+        CallKind::TrackLifetime => Call::TrackLifetime(node, words.left),
+        CallKind::TrackWeak => Call::TrackWeak(buffer),
     })
 }
 
@@ -219,39 +223,44 @@ fn buffer_words(kind: u32, collection: u64, strength: Strength, set: u64, index:
     }
 }
 
-// The words of the reply.
-pub(crate) fn words_of(reply: &Reply) -> ReplyWords
-    ensures { result ≡ reply_words reply.now }
+// Writes the words of the reply. Each arm writes for itself: words that are returned are written twice.
+#[inline(always)]
+pub(crate) fn tell(told: &mut ReplyWords, reply: &Reply)
+    ensures { told.new ≡ reply_words reply.now }
 {
     match *reply {
-        Reply::Done => NOTHING,
-        Reply::Joined(id) => id_words(1, id),
-        Reply::Shut(left) => id_words(2, left),
-        Reply::Token { key, collection } => node_words(3, key, 0, collection),
+        Reply::Done => *told = NOTHING,
+        Reply::Joined(id) => *told = id_words(1, id),
+        Reply::Shut(left) => *told = id_words(2, left),
+        Reply::Token { key, collection } => *told = node_words(3, key, 0, collection),
         Reply::Collected {
             key,
             kind,
             collection,
-        } => node_words(4, key, kind_word(kind), collection),
+        } => *told = node_words(4, key, kind_word(kind), collection),
         Reply::CollectedHandle { buffer, strength } => {
-            buffer_words(5, buffer.collection, strength, 0, buffer.index)
+            *told = buffer_words(5, buffer.collection, strength, 0, buffer.index);
         }
-        Reply::Empty => detail_words(6, 0),
-        Reply::Pending => detail_words(7, 0),
-        Reply::Allocated { count, size } => ReplyWords {
-            kind: 8,
-            count,
-            size,
-            ..NOTHING
-        },
+        Reply::Empty => *told = detail_words(6, 0),
+        Reply::Pending => *told = detail_words(7, 0),
+        Reply::Allocated { count, size } => {
+            *told = ReplyWords {
+                kind: 8,
+                count,
+                size,
+                ..NOTHING
+            };
+        }
         Reply::Taken {
             collection,
             strength,
             set,
-        } => buffer_words(9, collection, strength, set, 0),
-        Reply::Tracker(id) => id_words(10, id),
-        Reply::Refused(refusal) => detail_words(11, u32::from(refusal.number())),
-        Reply::Misused(misuse) => detail_words(12, u32::from(misuse.number())),
-        Reply::PeerClosed { cause, origin } => node_words(13, origin, cause_word(cause), 0),
+        } => *told = buffer_words(9, collection, strength, set, 0),
+        Reply::Tracker(id) => *told = id_words(10, id),
+        Reply::Refused(refusal) => *told = detail_words(11, u32::from(refusal.number())),
+        Reply::Misused(misuse) => *told = detail_words(12, u32::from(misuse.number())),
+        Reply::PeerClosed { cause, origin } => {
+            *told = node_words(13, origin, cause_word(cause), 0);
+        }
     }
 }

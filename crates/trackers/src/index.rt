@@ -50,13 +50,12 @@ fn rank(condition: Condition) -> u64
     }
 }
 
-/// Where the list of the condition stands, or is to stand: behind those of smaller numbers. Only
-/// the cost of a search rests on that order, since a second list of the same would be asked too.
-fn place_for(lists: &[WaitList], condition: Condition) -> usize
+/// Where the list of this rank stands, or is to stand: behind those of smaller ranks. Only the cost of
+/// a search rests on that order, since a second list of the same would be asked too.
+fn place_for(lists: &[WaitList], rank: u64) -> usize
     ensures { result ≤ length lists.now }
 {
-    let number = rank(condition);
-    lists.partition_point(|list| rank(list.condition) < number)
+    lists.partition_point(|list| list.rank < rank)
 }
 
 /// Puts the place into the list, of which the condition is one.
@@ -82,12 +81,14 @@ fn insert_place(
     ensures err { OnErr result ((f : Wish → ℕ) → weigh f (entries_in lists.new.items)
         ≡ weigh f (entries_in lists.old.items)) }
 {
-    let at = place_for(lists, condition);
+    let rank = rank(condition);
+    let at = place_for(lists, rank);
     if at < lists.len() && is_of(&lists[at], condition) {
         return put(&mut lists[at], condition, place);
     }
     let mut list = WaitList {
         condition,
+        rank,
         waiting: BinaryHeap::new(alloc),
     };
     put(&mut list, condition, place)?;

@@ -13,6 +13,8 @@ use std::collections::BinaryHeap;
 pub(crate) struct WaitList {
     /// What one of them waits for: only the number of buffers differs.
     pub(crate) condition: Condition,
+    /// The condition's rank: a search reads it of each list that it passes.
+    pub(crate) rank: u64,
     /// How many buffers may be left, or 0, and the place of the row.
     pub(crate) waiting: BinaryHeap<(u32, usize)>,
     ghost widest_first: { IsHeap (λ x y. ordering_then (nat_cmp x.0 y.0) (nat_cmp x.1 y.1))

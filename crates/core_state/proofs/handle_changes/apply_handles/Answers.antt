@@ -1,11 +1,10 @@
-use Rattle.std.proofs.Common.{◌<◌, ◌-◌, ◌^◌, arith, refl, rules, subst, sym}
+use Rattle.std.proofs.Common.{◌<◌, ◌-◌, ◌^◌, refl, rules, subst, sym}
 use Rattle.std.proofs.lemmas.Bool.{OnTrue_at}
 use Rattle.std.proofs.lemmas.Result.{on_ok_weaker}
 use Rattle.sm_names.specs.declared.messages.Call.{Call}
 use Rattle.sm_names.specs.declared.messages.Reply.{Reply}
 use Rattle.sm_names.specs.Marks.{Called}
 use Rattle.buffer_holds.specs.Counts.{Counts, of, total}
-use Rattle.core_state.proofs.handles.Opening.{of-le-total}
 use Rattle.core_state.proofs.handles.Places.{moves_reserved, places_closed, places_given, places_landed}
 use Rattle.core_state.proofs.handles.Undoing.{moves_taken, moves_dropped, moves_given, moves_collected}
 use Rattle.core_state.proofs.handles.Untouched.{take_stays, dup_stays, drop_stays, give_stays, collect_stays, other_stays}
@@ -17,14 +16,6 @@ returns-in-Taken-clause-ok c =
     let fits : t.set < 2 ^ 64 = search rules in
     rw (c.in-Take.is, c.in-Taken.is) (on_ok_weaker c.open_all.result (moves_taken c.args.client c.in-Take.field-0 t.collection t.strength
     t.set fits c.args.holds.now c.open_all.new.holds) c.open_all.ensures.ok)
-
--- what the client has open is open
-pub prove-unreachable-requires : goal.prove-unreachable-requires
-prove-unreachable-requires c =
-    let d = c.in-DropHandle in
-    let some = rw (c.in-DropHandle.is, c.in-Done-reply.is) at c.requires.may in
-    let all = of-le-total c.args.holds.now c.args.client d.buffer d.strength in
-    omega (arith, some, all, c.total.ensures.value)
 
 pub returns-in-Done-reply-clause-ok : goal.returns-in-Done-reply-clause-ok
 returns-in-Done-reply-clause-ok c =

@@ -1,9 +1,11 @@
 use Rattle.std.proofs.Common.{◌-◌, refl, sym, ap, arith, Some}
 use Rattle.buffer_holds.specs.declared.tally.Tally.{Tally}
+use Rattle.buffer_holds.specs.Counts.{total}
 use Rattle.buffer_holds.specs.Kinds.{hold_of, kind_of}
 use Rattle.buffer_holds.specs.Rows.{row_at}
+use Rattle.buffer_holds.proofs.KindLemmas.{same_kind-refl}
 use Rattle.buffer_holds.proofs.Most.{newer_after, up_to_after}
-use Rattle.buffer_holds.proofs.SoundLemmas.{one_row-some, count_at-le-total, one_row-le-clients}
+use Rattle.buffer_holds.proofs.SoundLemmas.{one_row-some, count_at-le-total, one_row-le-clients, total_is}
 use Rattle.buffer_holds.proofs.Steps.{Step-lowered, sound_after, sets_by}
 use Rattle.buffer_holds.proofs.TallyRows.{placed_from_something, lent_there, tally_lent, row_written}
 use Rattle.buffer_holds.proofs.holds.Holds.sub.Goals as goal
@@ -85,3 +87,21 @@ returns-clause-closed c =
     (omega (arith, had, among, ap (λ (t : Tally). t.total) kept, ap (λ (t : Tally). t.moving) kept)) in
     sets_by c.args.client c.args.buffer c.args.strength step c.args.self.now c.self.view_is (λ n. n - 1) (λ n. n) (λ n. n - 1)
     refl (ap (λ (t : Tally). t.moving) (sym kept)) (ap (λ (t : Tally). t.total - 1) (sym kept))
+
+-- one less of at most the limit
+pub returns-clause-within : goal.returns-clause-within
+returns-clause-within c =
+    let inside = c.self.inside in
+    let hold = hold_of c.args.client c.args.buffer c.args.strength in
+    let sets = returns-clause-closed c in
+    omega (
+      arith,
+      rw (same_kind-refl hold.kind) at (sets.totals c.args.buffer c.args.strength),
+      sets.limit,
+      c.if-not-lower.ensures.had.0 refl,
+      count_at-le-total inside.limit inside.rows.entries inside.tallies.entries c.self.invariant.0 hold,
+      (c.self.invariant.0.tallied hold.kind).within,
+      total_is inside.limit inside.rows.entries inside.tallies.entries c.self.invariant.0 c.args.buffer c.args.strength,
+      ap (λ counts. total counts c.args.buffer c.args.strength) c.self.view_is,
+      ap (λ counts. counts.limit) c.self.view_is,
+    )
