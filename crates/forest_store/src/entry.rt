@@ -1,6 +1,6 @@
 //! A collection as it is kept, and the collections by their ids.
-ghost use Rattle.std.specs.Prelude.{◌≡◌, ◌==◌, nat_lt, option_copied, IfSome, Some};
-ghost use Rattle.std.specs.List.{prefix_len, find};
+ghost use Rattle.std.specs.Prelude.{◌≡◌, ◌==◌, ◌<◌, ◌≤◌, nat_lt, option_copied, vec_capacity, vec_len, IfSome, Some};
+ghost use Rattle.std.specs.List.{prefix_len, find, insert, remove};
 ghost use Rattle.forest_store.specs.CollectionRows.{AreRising, place_in, rows_of};
 
 use crate::key_list::KeyList;
@@ -143,5 +143,32 @@ pub fn entry_of(entries: &[Entry], id: CollectionId) -> Option<&Entry>
     match place_of(entries, id) {
         Some(at) => entries.get(at),
         None => None,
+    }
+}
+
+/// Puts the entry at this index, into a list that has room. At the end no other moves.
+#[inline(always)]
+pub(crate) fn insert_at(entries: &mut Vec<Entry>, at: usize, entry: Entry)
+    requires within { at ≤ vec_len entries.old }
+    requires room { vec_len entries.old < vec_capacity entries.old }
+    ensures { entries.new.items ≡ insert entries.old.items at entry }
+{
+    if at == entries.len() {
+        entries.push_reserved(entry);
+    } else {
+        entries.insert(at, entry).unwrap();
+    }
+}
+
+/// Removes the entry at this index. At the end no other moves.
+#[inline(always)]
+pub(crate) fn remove_at(entries: &mut Vec<Entry>, at: usize)
+    requires { at < vec_len entries.old }
+    ensures { entries.new.items ≡ remove entries.old.items at }
+{
+    if at + 1 == entries.len() {
+        entries.pop();
+    } else {
+        entries.remove(at);
     }
 }

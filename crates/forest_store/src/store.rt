@@ -8,7 +8,7 @@ ghost use Rattle.forest_store.specs.Calm.{put_in};
 ghost use Rattle.forest_store.specs.CollectionRows.{row_of, rows_of, put_row, AreRising};
 ghost use Rattle.forest_store.specs.Nodes.{is_unkept};
 
-use crate::entry::{Entry, entries_before, place_of};
+use crate::entry::{Entry, entries_before, insert_at, place_of};
 use crate::lookup::is_unkept;
 use crate::node::{End, Node};
 use crate::unit_counts::Unit;
@@ -65,7 +65,7 @@ pub(crate) fn put_entry(entries: &mut Vec<Entry>, entry: Entry)
         Some(at) => entries[at] = entry,
         None => {
             let at = entries_before(entries, entry.id);
-            entries.insert(at, entry).unwrap();
+            insert_at(entries, at, entry);
         }
     }
 }

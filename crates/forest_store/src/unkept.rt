@@ -16,7 +16,7 @@ ghost use Rattle.forest_store.specs.CollectionRows.{AreRising, IsStored, Collect
 ghost use Rattle.forest_store.specs.Nodes.{is_unkept};
 ghost use Rattle.forest_store.specs.Stores.{AreNamed};
 
-use crate::entry::{Entry, place_of};
+use crate::entry::{Entry, place_of, remove_at};
 use crate::key_list::KeyList;
 use crate::lookup::is_unkept;
 use crate::node::Node;
@@ -278,7 +278,7 @@ pub(crate) fn drop_bare(entries: &mut Vec<Entry>, id: CollectionId, spare: &mut 
     if let Some(at) = place_of(entries, id) {
         if is_bare(&entries[at]) {
             mem::swap(&mut entries[at].keys, spare);
-            entries.remove(at);
+            remove_at(entries, at);
         }
     }
 }

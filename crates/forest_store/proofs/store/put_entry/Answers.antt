@@ -1,5 +1,5 @@
 -- The entry takes its place.
-use Rattle.forest_store.proofs.Common.{◌≡◌, sym, ◌∙◌, ap, arith, rows_of, rules, insert}
+use Rattle.forest_store.proofs.Common.{◌≡◌, sym, ◌∙◌, ap, arith, rows_of, insert}
 use Rattle.forest_store.proofs.rows.Counted.{rows_put}
 use Rattle.forest_store.proofs.rows.Entries.{place_within, before, before_within, set_put, insert_put}
 use Rattle.forest_store.proofs.store.put_entry.Goals as goal
@@ -7,8 +7,8 @@ use Rattle.forest_store.proofs.store.put_entry.Goals as goal
 pub index_mut-requires : goal.index_mut-requires
 index_mut-requires c = omega (arith, place_within _ _ _ _ _ c.deref.ensures.value c.place_of.ensures c.in-Some.is)
 
-pub insert-requires : goal.insert-requires
-insert-requires c =
+pub insert_at-requires : goal.insert_at-requires
+insert_at-requires c =
     omega (arith, rw c.deref-in-None.ensures.value at c.entries_before-at.ensures, before_within c.args.entry.id c.args.entries.now.items)
 
 pub returns-in-Some-clause-items : goal.returns-in-Some-clause-items
@@ -27,8 +27,7 @@ returns-in-None-clause-items c =
     let at : c.entries_before-at.result ≡ before c.args.entry.id c.args.entries.now.items =
     rw c.deref-in-None.ensures.value at c.entries_before-at.ensures in
     let told = sym (rw c.deref.ensures.value at c.place_of.ensures) ∙ c.in-None.is in
-    let items : c.insert.new.self.items ≡ insert c.args.entries.now.items c.entries_before-at.result c.args.entry = search rules in
-    (items ∙ ap (λ n. insert c.args.entries.now.items n c.args.entry) at)
+    (c.insert_at.ensures ∙ ap (λ n. insert c.args.entries.now.items n c.args.entry) at)
     ∙ insert_put _ _ c.requires.rising told
 
 pub returns-in-None-clause-rows : goal.returns-in-None-clause-rows

@@ -11,15 +11,15 @@ index-requires c = omega (arith, place_within _ _ _ _ _ c.deref.ensures.value c.
 pub index_mut-requires : goal.index_mut-requires
 index_mut-requires c = omega (arith, place_within _ _ _ _ _ c.deref.ensures.value c.place_of.ensures c.in-Some.is)
 
-pub remove-requires : goal.remove-requires
-remove-requires c = omega (arith, place_within _ _ _ _ _ c.deref.ensures.value c.place_of.ensures c.in-Some.is)
+pub remove_at-requires : goal.remove_at-requires
+remove_at-requires c = omega (arith, place_within _ _ _ _ _ c.deref.ensures.value c.place_of.ensures c.in-Some.is)
 
 pub returns-then-is_bare-clause-rows : goal.returns-then-is_bare-clause-rows
 returns-then-is_bare-clause-rows c =
     let told = sym (rw c.deref.ensures.value at c.place_of.ensures) ∙ c.in-Some.is in
     let bare : is_bare (row_of (get_or c.args.entries.now.items c.in-Some.at c.index.result.now)) ≡ true =
     ap (λ (x : Entry). is_bare (row_of x)) (sym c.index.ensures) ∙ sym c.is_bare.ensures ∙ c.if-is_bare.true in
-    ap rows_of (c.remove.ensures.items
+    ap rows_of (c.remove_at.ensures
     ∙ remove_changed c.args.entries.now.items c.in-Some.at (record c.index_mut.result.now { keys = c.swap.new.x }))
     ∙ remove_bare _ _ _ _ c.requires told bare
 
@@ -36,6 +36,6 @@ returns-in_default-clause-rows c =
 
 pub returns-then-is_bare-clause-counted : goal.returns-then-is_bare-clause-counted
 returns-then-is_bare-clause-counted c t all =
-    rw (c.remove.ensures.items
+    rw (c.remove_at.ensures
     ∙ remove_changed c.args.entries.now.items c.in-Some.at (record c.index_mut.result.now { keys = c.swap.new.x }))
     (counted_removed t _ _ all)
