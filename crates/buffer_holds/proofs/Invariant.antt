@@ -1,5 +1,5 @@
 -- The invariant of `Holds` after a change of one row and of the tally of its kind.
-use Rattle.std.proofs.Common.{◌≡◌, ◌+◌, ◌≤◌, ◌<◌, ◌∙◌, ℕ, sym, ap, subst, List, Option, Some, arith}
+use Rattle.std.proofs.Common.{◌≡◌, ◌≤◌, ◌<◌, ◌∙◌, ℕ, sym, ap, subst, List, Option, Some, arith}
 use Rattle.buffer_holds.specs.declared.kinds.HandleKind.{HandleKind}
 use Rattle.buffer_holds.specs.declared.kinds.Hold.{Hold}
 use Rattle.buffer_holds.specs.declared.tally.Tally.{Tally}

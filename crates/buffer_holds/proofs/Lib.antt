@@ -6,6 +6,7 @@ pub mod Opening
 pub mod Outcomes
 pub mod Places
 pub mod RowLemmas
+pub mod SetLemmas
 pub mod SoundLemmas
 pub mod Steps
 pub mod TallyRows

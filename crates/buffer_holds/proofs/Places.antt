@@ -1,11 +1,9 @@
 -- How many handles are in parcels, after a change of one tally.
-use Rattle.std.proofs.Common.{◌≡◌, ◌+◌, ◌≤◌, ◌∙◌, refl, ℕ, List, [], ◌∷◌, Option, Some, None, sum_by, unwrap_or, arith}
+use Rattle.std.proofs.Common.{◌≡◌, ◌+◌, ◌≤◌, refl, ℕ, List, [], ◌∷◌, Option, Some, None, sum_by, unwrap_or, arith}
 use Rattle.std.proofs.lemmas.List.Sums.{sum_by-cons}
-use Rattle.sm_names.specs.declared.keys.BufferName.{BufferName}
-use Rattle.sm_names.specs.declared.keys.Strength.{Strength}
 use Rattle.buffer_holds.specs.declared.kinds.HandleKind.{HandleKind}
 use Rattle.buffer_holds.specs.declared.tally.Tally.{Tally}
-use Rattle.buffer_holds.specs.Kinds.{kind_of, same_handle_kind}
+use Rattle.buffer_holds.specs.Kinds.{same_handle_kind}
 use Rattle.buffer_holds.specs.Rows.{Resets, weight_at}
 use Rattle.buffer_holds.specs.Sound.{in_parcels, no_tally, parcels_in, sent_in, tally_at, tally_row}
 use Rattle.buffer_holds.proofs.KindLemmas.{same_kind-one}

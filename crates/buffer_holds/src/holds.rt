@@ -51,7 +51,7 @@ pub struct Holds {
     places: u32,
     rows: Rows,
     tallies: Tallies,
-    last: Last,
+    pub(crate) last: Last,
 }
 
 impl Model for Holds {
@@ -221,6 +221,7 @@ impl Holds {
     ///
     /// `TooMany` comes exactly where as many are open as may be, and `NoMemory` only where the
     /// client has no room and memory was refused. Neither changes anything. Two look-ups.
+    #[inline(never)]
     pub fn add(
         &mut self,
         client: ClientId,
@@ -238,7 +239,7 @@ impl Holds {
         ensures err { OnErr result (self.new ≡ self.old) }
     {
         let mut near = self.last.spot(strength);
-        self.add_by_search(client, buffer, strength, &mut near)
+        self.add_near(client, buffer, strength, &mut near)
     }
 
     /// Does what `add` does. It looks at the spot first, and then moves the spot behind what it
@@ -264,12 +265,15 @@ impl Holds {
         if self.add_at_spot(client, buffer, strength, near) {
             return Ok(());
         }
-        self.add_by_search(client, buffer, strength, near)
+        // A copy is lent, so that the spot of a loop can stay in registers.
+        let mut found = *near;
+        let added = self.add_by_search(client, buffer, strength, &mut found);
+        *near = found;
+        added
     }
 
     // Does what `add` does, where the row and the tally stand at the spot, and more handles of one
-    // kind than of this one were ever open. Then the spot moves behind them. Elsewhere, and at a new
-    // spot, nothing changes.
+    // kind than of this one were ever open. Then the spot moves behind them. Elsewhere nothing changes.
     #[inline(always)]
     fn add_at_spot(
         &mut self,
@@ -287,7 +291,7 @@ impl Holds {
     {
         let kind = HandleKind { buffer, strength };
         let hold = Hold { client, kind };
-        if near.tally == 0 || self.newest < buffer.collection {
+        if self.newest < buffer.collection {
             return false;
         }
         if !is_at_spot(&self.rows, &self.tallies, hold, self.most, *near) {

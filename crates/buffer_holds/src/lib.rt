@@ -8,6 +8,7 @@ mod hashing;
 mod holds;
 mod kinds;
 mod rows;
+mod sets;
 mod spot;
 mod tally;
 

@@ -82,7 +82,7 @@ pub(crate) fn count_of(rows: &Rows, hold: Hold, last: &Cell<usize>) -> u32
 }
 
 // A row of one handle, where there is none. This many places stay free behind it.
-#[inline(never)]
+#[inline(always)]
 pub(crate) fn add_row(
     rows: &mut Rows,
     hold: Hold,
@@ -100,6 +100,24 @@ pub(crate) fn add_row(
     let _ = rows.insert(hold, 1);
     *place = rows.len();
     Ok(())
+}
+
+// The same, apart from the code of its caller.
+#[inline(never)]
+fn add_row_apart(
+    rows: &mut Rows,
+    hold: Hold,
+    place: &mut usize,
+    free: u32,
+) -> Result<(), AllocError>
+    requires { row_at rows.old.entries hold ≡ None }
+    ensures ok { OnOk result (Raises rows.old.entries rows.new.entries hold) }
+    ensures places { OnOk result (free ≤ spare rows.new) }
+    ensures room { free < spare rows.old → IsOk result }
+    ensures err { OnErr result (rows.new.entries ≡ rows.old.entries) }
+    ensures kept { OnErr result (spare rows.old ≤ spare rows.new) }
+{
+    add_row(rows, hold, place, free)
 }
 
 // One handle more in the row of this hold, which stands at the place.
@@ -134,7 +152,7 @@ pub(crate) fn raise(
     ensures kept { OnErr result (spare rows.old ≤ spare rows.new) }
 {
     let Some(found) = row_place_near(rows, hold, *place, last) else {
-        return add_row(rows, hold, place, free);
+        return add_row_apart(rows, hold, place, free);
     };
     raise_at(rows, hold, found);
     *place = found.wrapping_add(1);

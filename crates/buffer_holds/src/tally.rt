@@ -192,7 +192,7 @@ pub(crate) fn leave(tallies: &mut Tallies, kind: HandleKind, hint: &Hint)
 
 // One handle more, the first of its kind, as `open` says. The step that takes room for the tally comes
 // first, so that a refusal leaves all as it was.
-#[inline(never)]
+#[inline(always)]
 fn open_first(
     rows: &mut Rows,
     tallies: &mut Tallies,

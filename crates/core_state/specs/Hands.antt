@@ -1,5 +1,5 @@
 -- What an event does to the rows of handles. No public clause cites this module.
-use Rattle.std.specs.Prelude.{◌≡◌, ℕ, ◌+◌, ◌<◌, ⊤, Bool, true, false, ◌&&◌, ◌==◌, nat_lt}
+use Rattle.std.specs.Prelude.{◌≡◌, ℕ, ◌+◌, ◌<◌, ⊤, Bool, true, false, ◌&&◌, ◌==◌}
 use Rattle.std.specs.Int.{bit_at}
 use Rattle.sm_names.specs.declared.keys.BufferName.{BufferName}
 use Rattle.sm_names.specs.declared.keys.Strength.{Strength}
@@ -68,11 +68,6 @@ takes_handle_room _ _ = false
 -- the buffer and strength are these
 abbrev pub is_the : BufferName → Strength → BufferName → Strength → Bool
 is_the buffer strength b s = same_buffer buffer b && same_strength strength s
-
--- the buffer is one of the set, below this index, and the strength is this one
-abbrev pub is_in_set_below : ℕ → Strength → ℕ → ℕ → BufferName → Strength → Bool
-is_in_set_below collection strength set end b s =
-    collection == b.collection && (same_strength strength s && (bit_at set b.index == 1 && nat_lt b.index end))
 
 -- from the old counts to the new the client opened one handle of each buffer and strength that pass, and no other
 pub record Opens (old new : Counts) (client : ℕ) (passes : BufferName → Strength → Bool) : Type 0 where

@@ -1,12 +1,12 @@
 //! The handles that an event opens, drops or moves.
-ghost use Rattle.std.specs.Prelude.{◌≡◌, ◌+◌, ◌/◌, ◌%◌, ◌^◌, ◌<◌, ◌≤◌, ℕ, OnOk, OnErr, true, false};
-ghost use Rattle.std.specs.Int.{bit_at};
+ghost use Rattle.std.specs.Prelude.{◌≡◌, ◌+◌, ◌<◌, ◌≤◌, OnOk, OnErr, true, false};
 ghost use Rattle.sm_names.specs.Marks.{Called};
+ghost use Rattle.buffer_holds.specs.Changes.{is_in_set_below};
 ghost use Rattle.buffer_holds.specs.Counts.{Counts, HasPlaces, of, total};
-ghost use Rattle.core_state.specs.Hands.{MayMove, MovesHandles, CanUndo, Opens, CanOpen, TidiesAfter, collects_handle, is_the, is_in_set_below, takes_handle_room};
+ghost use Rattle.core_state.specs.Hands.{MayMove, MovesHandles, CanUndo, Opens, CanOpen, TidiesAfter, collects_handle, is_the, takes_handle_room};
 ghost use Rattle.core_state.specs.State.{counts_of};
 
-use buffer_holds::{HoldFault, Holds, Spot};
+use buffer_holds::{HoldFault, Holds};
 use sm_names::{BufferName, Call, ClientId, CollectionId, NoMemory, Reply, Strength, has_buffer};
 
 // How many bits a set of buffers has.
@@ -132,7 +132,7 @@ pub fn tidy_up(holds: &mut Holds, client: ClientId, call: &Call)
     }
 }
 
-// Opens a handle on each buffer of the set, up to its last one.
+// Opens a handle on each buffer of the set.
 fn open_all(
     holds: &mut Holds,
     client: ClientId,
@@ -147,21 +147,13 @@ fn open_all(
     ensures err { OnErr result (counts_of holds.new ≡ counts_of holds.old) }
     ensures limit { holds.new.limit ≡ holds.old.limit }
 {
-    let mut near = Spot::new();
-    let mut rest = set;
-    let mut end = 0;
-    while rest != 0 {
-        match open_at(holds, client, collection, strength, rest, end, &mut near) {
-            Ok(()) => {}
-            Err(NoMemory) => {
-                close_below(holds, client, collection, strength, set, end);
-                return Err(NoMemory);
-            }
+    match holds.add_set(client, collection, strength, set) {
+        Ok(()) => Ok(()),
+        Err(end) => {
+            close_below(holds, client, collection, strength, set, end);
+            Err(NoMemory)
         }
-        rest /= 2;
-        end += 1;
     }
-    Ok(())
 }
 
 // Closes a handle on each buffer of the set whose index is below the end.
@@ -186,38 +178,6 @@ fn close_below(
     }
 }
 
-// Opens a handle on the buffer with this index, if a set has it of which the rest is that from the index on.
-fn open_at(
-    holds: &mut Holds,
-    client: ClientId,
-    collection: CollectionId,
-    strength: Strength,
-    rest: u64,
-    index: u8,
-    near: &mut Spot,
-) -> Result<(), NoMemory>
-    requires room { rest % 2 ≡ 1 →
-        total holds.old (record { collection = collection; index = index }) strength
-        < holds.old.limit }
-    ensures ok { OnOk result ((before : Counts) (set : ℕ) → set / 2 ^ index ≡ rest →
-        Opens before holds.old client (is_in_set_below collection strength set index) →
-        Opens before holds.new client (is_in_set_below collection strength set (index + 1))) }
-    ensures places { HasPlaces holds.old → HasPlaces holds.new }
-    ensures err { OnErr result (holds.new ≡ holds.old) }
-    ensures limit { holds.new.limit ≡ holds.old.limit }
-{
-    if rest % 2 == 0 {
-        return Ok(());
-    }
-    open(
-        holds,
-        client,
-        BufferName { collection, index },
-        strength,
-        near,
-    )
-}
-
 // Closes a handle on the buffer with this index, if the set has it.
 fn close_at(
     holds: &mut Holds,
@@ -240,27 +200,6 @@ fn close_at(
 }
 
 // Opens a handle.
-fn open(
-    holds: &mut Holds,
-    client: ClientId,
-    buffer: BufferName,
-    strength: Strength,
-    near: &mut Spot,
-) -> Result<(), NoMemory>
-    requires { total holds.old buffer strength < holds.old.limit }
-    ensures ok { OnOk result (Opens holds.old holds.new client (is_the buffer strength)) }
-    ensures places { HasPlaces holds.old → HasPlaces holds.new }
-    ensures err { OnErr result (holds.new ≡ holds.old) }
-    ensures limit { holds.new.limit ≡ holds.old.limit }
-{
-    match holds.add_near(client, buffer, strength, near) {
-        Ok(()) => Ok(()),
-        Err(HoldFault::NoMemory) => Err(NoMemory),
-        Err(HoldFault::TooMany) => unreachable!(),
-    }
-}
-
-// Opens a handle that is looked for where the last one was.
 #[inline(always)]
 fn open_one(
     holds: &mut Holds,

@@ -157,6 +157,18 @@ impl Handles {
         }
     }
 
+    // Opens a handle on each buffer of a set, where there is room.
+    fn open_each(&mut self, line: &Line) -> &'static str {
+        let [client, set, strength, _] = line.numbers;
+        if !self.holds.have_room() {
+            return ": no room";
+        }
+        match self.holds.add_set(client, HERE, strength_of(strength), set) {
+            Ok(()) => "",
+            Err(_) => ": no memory",
+        }
+    }
+
     // What becomes of a handle, in a word.
     fn change(&mut self, line: &Line) -> &'static str {
         let [client, buffer, strength, _] = line.numbers;
@@ -167,6 +179,7 @@ impl Handles {
                 self.holds
                     .add_near(client, buffer, strength, &mut self.near),
             ),
+            Verb::Each => self.open_each(line),
             Verb::Close => found(self.holds.sub(client, buffer, strength)),
             Verb::Lift => self.lift(client, buffer, strength),
             Verb::Land => self.land(client, buffer, strength),

@@ -28,6 +28,7 @@ pub enum Verb {
     Held,
     Open,
     Next,
+    Each,
     Close,
     Lift,
     Land,
@@ -54,7 +55,7 @@ pub enum Verb {
     Unknown,
 }
 
-const VERBS: [(&str, Verb); 48] = [
+const VERBS: [(&str, Verb); 49] = [
     ("table", Verb::Table),
     ("pool", Verb::Pool),
     ("counts", Verb::Counts),
@@ -80,6 +81,7 @@ const VERBS: [(&str, Verb); 48] = [
     ("held", Verb::Held),
     ("open", Verb::Open),
     ("next", Verb::Next),
+    ("each", Verb::Each),
     ("close", Verb::Close),
     ("lift", Verb::Lift),
     ("land", Verb::Land),

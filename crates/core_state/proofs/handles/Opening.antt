@@ -1,23 +1,23 @@
 -- What opening and closing handles does to the counts.
-use Rattle.std.proofs.Common.{ℕ, zero, suc, ◌≡◌, ◌+◌, ◌-◌, ◌/◌, ◌^◌, ◌<◌, ◌≤◌, ◌==◌, ◌&&◌, nat_lt}
-use Rattle.std.proofs.Common.{refl, sym, subst, ap, ◌∙◌, Bool, true, false, if◌then◌else◌, arith}
+use Rattle.std.proofs.Common.{ℕ, ◌≡◌, ◌+◌, ◌-◌, ◌<◌, ◌≤◌, ◌==◌, ◌&&◌, nat_lt}
+use Rattle.std.proofs.Common.{refl, sym, ap, ◌∙◌, Bool, true, false, if◌then◌else◌, arith}
 use Rattle.std.specs.Int.{bit_at}
-use Rattle.std.proofs.lemmas.Bool.{eqb-false, eqb-true, eq-eqb}
+use Rattle.std.proofs.lemmas.Bool.{eq-eqb}
 use Rattle.std.proofs.lemmas.Grind.{common_steps}
 use Rattle.sm_names.specs.declared.keys.BufferName.{BufferName}
 use Rattle.sm_names.specs.declared.keys.Strength.{Strength}
 use Rattle.sm_names.specs.Sameness.{same_buffer, same_strength}
 use Rattle.sm_names.proofs.SamenessLaws.{and_right}
 use Rattle.event_laws.specs.ByEvent.{one_if}
-use Rattle.event_laws.proofs.SetLaws.{rest_next, rest_bit}
-use Rattle.buffer_holds.specs.Changes.{Sets, Tidies}
+use Rattle.buffer_holds.specs.Changes.{AddsSet, Sets, Tidies, is_in_set_below}
 use Rattle.buffer_holds.specs.Counts.{Counts, of, moving_count, total, share}
 use Rattle.buffer_holds.specs.Kinds.{kind_of, hold_of, same_hold}
 use Rattle.buffer_holds.specs.Rows.{row_at}
 use Rattle.buffer_holds.proofs.KindLemmas.{same_hold-one, same_kind-one, same_hold-refl, same_kind-refl}
 use Rattle.buffer_holds.proofs.RowLemmas.{weight_at-le-sum_by}
+use Rattle.buffer_holds.proofs.SetLemmas.{next_below, nothing_below, still, up}
 use Rattle.buffer_holds.proofs.SoundLemmas.{weight_at-share}
-use Rattle.core_state.specs.Hands.{Opens, is_the, is_in_set_below}
+use Rattle.core_state.specs.Hands.{Opens, is_the}
 use Rattle.core_state.specs.State.{counts_of}
 
 -- a client's handles are at most all
@@ -31,18 +31,6 @@ of-le-total holds client buffer strength =
       weight_at-share hold.kind hold (row_at holds.rows hold) true (same_kind-refl hold.kind),
     )
 
--- where something is left of a set of 64, its end is not reached
-pub something_left : (set end : ℕ) → set < 2 ^ 64 → end ≤ 64 → (set / 2 ^ end ≡ 0 → ⊥) → end + 1 ≤ 64
-something_left set end fits within some = by (end == 64) refl
-  where
-    by : (last : Bool) → (end == 64) ≡ last → end + 1 ≤ 64
-    by true is =
-        let none : set / 2 ^ 64 ≡ 0 = omega (arith, fits) in
-        absurd (some (ap (λ n. set / 2 ^ n) (eqb-true end 64 is) ∙ none))
-    by false is =
-        let other = eqb-false end 64 is in
-        omega (arith, within, other)
-
 -- counts that agree everywhere are the same
 pub same_counts : (old new : Counts) → ((c : ℕ) (b : BufferName) (s : Strength) → of new c b s ≡ of old c b s) →
     ((b : BufferName) (s : Strength) → moving_count new b s ≡ moving_count old b s) →
@@ -55,20 +43,10 @@ same_counts old new each in_parcels in_all = λ i. record {
 
 -- ---- one count, where only that of these handles changes
 
--- it grows
-pub up : {new old at : ℕ} (x : Bool) → new ≡ (if x then at + 1 else old) → (x ≡ true → at ≡ old) → new ≡ old + one_if x
-up true is one = let here = one refl in omega arith
-up false is one = omega arith
-
 -- it shrinks
 pub down : {new old at : ℕ} (x : Bool) → 0 < at → new ≡ (if x then at - 1 else old) → (x ≡ true → at ≡ old) → old ≡ new + one_if x
 down true some is one = let here = one refl in omega arith
 down false some is one = omega arith
-
--- it stays
-pub still : {new old at : ℕ} (x : Bool) → new ≡ (if x then at else old) → (x ≡ true → at ≡ old) → new ≡ old
-still true is one = is ∙ one refl
-still false is one = is
 
 -- these handles have one count
 module _ (client : ℕ) (buffer : BufferName) (strength : Strength) where
@@ -111,6 +89,12 @@ closes_one old mid new client buffer strength some sets tidies = record {
       ∙ sets.totals b s) (one_kind client buffer strength (total old) b s);
 }
 
+-- one handle more on each buffer of the set below this index
+pub opens_set : (old new : Counts) (client collection : ℕ) (strength : Strength) (set end : ℕ) →
+    AddsSet old new client collection strength set end → Opens old new client (is_in_set_below collection strength set end)
+opens_set old new client collection strength set end adds =
+    record { counts = adds.counts; parcels = adds.parcels; totals = adds.totals }
+
 -- a handle that was opened is there
 pub has_one : (old new : Counts) (client : ℕ) (buffer : BufferName) (strength : Strength) → Opens old new client (is_the buffer strength) →
     0 < of new client buffer strength
@@ -127,100 +111,26 @@ same_before before new old client passes opened closed = same_counts before new
     (λ b s. sym (closed.parcels b s) ∙ opened.parcels b s)
     (λ b s. let a = opened.totals b s in let d = closed.totals b s in omega arith)
 
--- a number that is not the next is below it only where it is below this one
-next_lt : (n m : ℕ) → (m == n) ≡ false → nat_lt n (m + 1) ≡ nat_lt n m
-next_lt n m other = grind (arith, common_steps)
-
 -- a number is below the next
 next_is : (n : ℕ) → nat_lt n (n + 1) ≡ true
 next_is n = grind (arith, common_steps)
-
--- nothing is added
-plus_zero : (n : ℕ) → n + 0 ≡ n
-plus_zero n = omega arith
-
--- a test that fails fails beside others
-and_false : (a b c : Bool) → (a && (b && (c && false))) ≡ false
-and_false true true true = refl
-and_false true true false = refl
-and_false true false c = refl
-and_false false b c = refl
 
 module _ (collection : ℕ) (strength : Strength) (set : ℕ) where
   -- the buffer with this index
   abbrev at : ℕ → BufferName
   at index = record { collection = collection; index = index }
 
-  -- the buffers of the set below the next index are those below this one, and the one with this index
-  next_below : (who : Bool) (index : ℕ) (b : BufferName) (s : Strength) → bit_at set index ≡ 1 →
-      one_if (who && is_in_set_below collection strength set (index + 1) b s)
-      ≡ one_if (who && is_in_set_below collection strength set index b s) + one_if (who && is_the (at index) strength b s)
-  next_below who index b s has = split who (collection == b.collection) (same_strength strength s) (index == b.index) refl
-    where
-      split : (who here strong same : Bool) → (index == b.index) ≡ same →
-          one_if (who && (here && (strong && (bit_at set b.index == 1 && nat_lt b.index (index + 1)))))
-          ≡ one_if (who && (here && (strong && (bit_at set b.index == 1 && nat_lt b.index index)))) + one_if
-          (who && ((here && same) && strong))
-      split false here strong same is = refl
-      split true false strong same is = refl
-      split true true false true is = refl
-      split true true false false is = refl
-      split true true true true is =
-          let here : index ≡ b.index = eqb-true index b.index is in
-          let bit : bit_at set b.index ≡ 1 = ap (bit_at set) (sym here) ∙ has in
-          rw bit (grind (arith, common_steps))
-      split true true true false is = ap (λ t. one_if (bit_at set b.index == 1 && t)) (next_lt b.index index is) ∙ sym (plus_zero _)
-
-  -- where the set has not the buffer with this index there is none more
-  none_below : (index : ℕ) (b : BufferName) (s : Strength) → (bit_at set index == 1) ≡ false →
-      is_in_set_below collection strength set (index + 1) b s ≡ is_in_set_below collection strength set index b s
-  none_below index b s lacks = ap (λ t. collection == b.collection && (same_strength strength s && t)) (by (index == b.index) refl)
-    where
-      by : (same : Bool) → (index == b.index) ≡ same →
-          (bit_at set b.index == 1 && nat_lt b.index (index + 1)) ≡ (bit_at set b.index == 1 && nat_lt b.index index)
-      by true is =
-          let here : index ≡ b.index = eqb-true index b.index is in
-          let bit : (bit_at set b.index == 1) ≡ false = ap (λ i. bit_at set i == 1) (sym here) ∙ lacks in
-          rw bit refl
-      by false is = ap (λ t. bit_at set b.index == 1 && t) (next_lt b.index index is)
-
-  -- nothing is below 0
-  nothing_below : (b : BufferName) (s : Strength) → is_in_set_below collection strength set 0 b s ≡ false
-  nothing_below b s =
-      let never : nat_lt b.index 0 ≡ false = grind (arith, common_steps) in
-      rw never (and_false (collection == b.collection) (same_strength strength s) (bit_at set b.index == 1))
-
-  -- nor is one below itself, so a buffer at the end has as many handles as before
-  pub none_at_end : (before new : Counts) (client index : ℕ) → Opens before new client (is_in_set_below collection strength set index) →
-      total new (at index) strength ≡ total before (at index) strength
-  none_at_end before new client index opened =
-      let never : nat_lt index index ≡ false = grind (arith, common_steps) in
-      let none : is_in_set_below collection strength set index (at index) strength ≡ false =
-      rw never (and_false (collection == collection) (same_strength strength strength) (bit_at set index == 1)) in
-      omega (arith, opened.totals (at index) strength, ap one_if none)
-
   -- no handle was opened yet
-  pub opens_none : (holds : Counts) (client : ℕ) → Opens holds holds client (is_in_set_below collection strength set 0)
+  opens_none : (holds : Counts) (client : ℕ) → Opens holds holds client (is_in_set_below collection strength set 0)
   opens_none holds client = record {
-    counts = λ c b s. rw (nothing_below b s) (none_more (client == c));
+    counts = λ c b s. rw (nothing_below collection strength set b s) (none_more (client == c));
     parcels = λ b s. refl;
-    totals = λ b s. rw (nothing_below b s) (omega arith);
+    totals = λ b s. rw (nothing_below collection strength set b s) (omega arith);
   }
     where
       none_more : {n : ℕ} (who : Bool) → n ≡ n + one_if (who && false)
       none_more true = omega arith
       none_more false = omega arith
-
-  -- one more, where the set has it
-  pub opens_next : (before old new : Counts) (client index : ℕ) → bit_at set index ≡ 1 → Opens old new client (is_the (at index) strength) →
-      Opens before old client (is_in_set_below collection strength set index) →
-      Opens before new client (is_in_set_below collection strength set (index + 1))
-  opens_next before old new client index has one opened = record {
-    counts = λ c b s. let d =
-        one.counts c b s in let a = opened.counts c b s in let e = next_below (client == c) index b s has in omega arith;
-    parcels = λ b s. one.parcels b s ∙ opened.parcels b s;
-    totals = λ b s. let d = one.totals b s in let a = opened.totals b s in let e = next_below true index b s has in omega arith;
-  }
 
   -- one less, where the set has it
   pub opens_less : (before old new : Counts) (client index : ℕ) → bit_at set index ≡ 1 → (0 < of old client (at index) strength →
@@ -235,34 +145,18 @@ module _ (collection : ℕ) (strength : Strength) (set : ℕ) where
       let one : Opens new old client (is_the (at index) strength) =
       closes (omega (arith, opened.counts client (at index) strength, there)) in
       record {
-        counts = λ c b s. let d =
-            one.counts c b s in let a = opened.counts c b s in let e = next_below (client == c) index b s has in omega arith;
+        counts = λ c b s.
+            let d = one.counts c b s in
+            let a = opened.counts c b s in
+            let e = next_below collection strength set (client == c) index b s has in
+            omega arith;
         parcels = λ b s. sym (one.parcels b s) ∙ opened.parcels b s;
-        totals = λ b s. let d = one.totals b s in let a = opened.totals b s in let e = next_below true index b s has in omega arith;
+        totals = λ b s.
+            let d = one.totals b s in
+            let a = opened.totals b s in
+            let e = next_below collection strength set true index b s has in
+            omega arith;
       }
-
-  -- none more, where the set lacks it
-  pub opens_same : (before new : Counts) (client index : ℕ) → (bit_at set index == 1) ≡ false →
-      Opens before new client (is_in_set_below collection strength set index) →
-      Opens before new client (is_in_set_below collection strength set (index + 1))
-  opens_same before new client index lacks opened = record {
-    counts = λ c b s. rw (none_below index b s lacks) (opened.counts c b s);
-    parcels = opened.parcels;
-    totals = λ b s. rw (none_below index b s lacks) (opened.totals b s);
-  }
-
-  -- nor more from here on, where nothing is left of the set
-  pub opens_on : (more : ℕ) (before new : Counts) (client index : ℕ) → set / 2 ^ index ≡ 0 →
-      Opens before new client (is_in_set_below collection strength set index) →
-      Opens before new client (is_in_set_below collection strength set (index + more))
-  opens_on zero before new client index none opened =
-      let same : index ≡ index + 0 = omega arith in
-      subst (λ end. Opens before new client (is_in_set_below collection strength set end)) same opened
-  opens_on (suc more) before new client index none opened =
-      let next : (index + 1) + more ≡ index + suc more = omega arith in
-      subst (λ end. Opens before new client (is_in_set_below collection strength set end)) next
-      (opens_on more before new client (index + 1) (rest_next set index none)
-      (opens_same before new client index (rest_bit set index none) opened))
 
   -- where none is left open the counts are those before
   pub all_closed : (before new : Counts) (client : ℕ) → Opens before new client (is_in_set_below collection strength set 0) →

@@ -4,7 +4,7 @@ use Rattle.std.specs.Bool.{OnTrue, OnFalse}
 use Rattle.sm_names.specs.declared.keys.BufferName.{BufferName}
 use Rattle.sm_names.specs.declared.keys.Strength.{Strength}
 use Rattle.buffer_holds.specs.Counts.{Counts, HasPlaces, moving_count, sent}
-use Rattle.buffer_holds.specs.Changes.{Sets, Tidies}
+use Rattle.buffer_holds.specs.Changes.{AddsSet, Sets, Tidies}
 use Rattle.sm_names.specs.Marks.{Mark}
 use Rattle.core_state.specs.Hands.{MovesHandles}
 
@@ -48,6 +48,11 @@ module _ (old new : Counts) (client : ℕ) (buffer : BufferName) (strength : Str
 pub places_tidied : (old new : Counts) (client : ℕ) (buffer : BufferName) (strength : Strength) → Tidies old new client buffer strength →
     HasPlaces old → HasPlaces new
 places_tidied old new client buffer strength tidies has = omega (arith, tidies.sent, tidies.places, has)
+
+-- handles are opened on a set of buffers: no parcel changes
+pub places_set : (old new : Counts) (client collection : ℕ) (strength : Strength) (set end : ℕ) →
+    AddsSet old new client collection strength set end → HasPlaces old → HasPlaces new
+places_set old new client collection strength set end adds has = omega (arith, adds.sent, adds.places, has)
 
 -- a place more changes no count
 pub moves_reserved : (before old new : Counts) (mark : Mark) → old ≡ record before { places = before.places + 1 } →

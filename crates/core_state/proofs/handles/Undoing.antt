@@ -15,13 +15,14 @@ use Rattle.sm_names.specs.Sameness.{same_strength}
 use Rattle.sm_names.proofs.SamenessLaws.{or_false}
 use Rattle.event_laws.specs.ByEvent.{GoesBy, one_if, anyone, only, is_about_handles}
 use Rattle.event_laws.proofs.HandleEventLaws.{idle_gains, idle_loses, idle_opens, idle_drops, idle_lifts, idle_lands}
-use Rattle.buffer_holds.specs.Changes.{Sets}
+use Rattle.buffer_holds.specs.Changes.{Sets, is_in_set_below}
 use Rattle.buffer_holds.specs.declared.fault.HoldFault.{HoldFault}
 use Rattle.buffer_holds.specs.Counts.{Counts, of, moving_count, total}
+use Rattle.buffer_holds.proofs.SetLemmas.{still, up}
 use Rattle.core_state.specs.declared.handle_changes.TheConstants.{SET_BITS}
-use Rattle.core_state.specs.Hands.{MovesHandles, Opens, collects_handle, is_the, is_in_set_below}
+use Rattle.core_state.specs.Hands.{MovesHandles, Opens, collects_handle, is_the}
 use Rattle.core_state.specs.State.{counts_of}
-use Rattle.core_state.proofs.handles.Opening.{same_counts, up, down, still, one_hold, one_kind, of-le-total}
+use Rattle.core_state.proofs.handles.Opening.{same_counts, down, one_hold, one_kind, of-le-total}
 
 -- ---- one count
 

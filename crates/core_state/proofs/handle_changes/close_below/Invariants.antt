@@ -1,7 +1,8 @@
 use Rattle.std.proofs.Common.{◌≡◌, ◌≤◌}
 use Rattle.buffer_holds.specs.Counts.{Counts, HasPlaces}
+use Rattle.buffer_holds.specs.Changes.{is_in_set_below}
 use Rattle.core_state.specs.declared.handle_changes.TheConstants.{SET_BITS}
-use Rattle.core_state.specs.Hands.{Opens, is_in_set_below}
+use Rattle.core_state.specs.Hands.{Opens}
 use Rattle.core_state.proofs.handle_changes.close_below.Given as goal
 
 -- the handles from the end on are closed

@@ -1,0 +1,107 @@
+//! Handles on several buffers of a collection at once.
+ghost use Rattle.std.specs.Prelude.{◌≡◌, ◌+◌, ◌/◌, ◌%◌, ◌^◌, ◌<◌, ◌≤◌, ℕ, true, IfErr, IsOk, OnErr, OnOk};
+ghost use Rattle.std.specs.Int.{bit_at};
+ghost use Rattle.buffer_holds.specs.Changes.{AddsSet, Sets};
+ghost use Rattle.buffer_holds.specs.Counts.{Counts, has_handle_room, moving_count, of, total};
+
+use crate::fault::HoldFault;
+use crate::holds::Holds;
+use crate::spot::Spot;
+use sm_names::{BufferName, ClientId, CollectionId, NoMemory, Strength};
+
+// How many bits a set of buffers has.
+const SET_BITS: u8 = 64;
+
+impl Holds {
+    /// Opens one more handle of this strength for the client on each buffer of the set: bit i stands for
+    /// the buffer with the index i. On each of them fewer handles of the strength must be open than may be.
+    ///
+    /// It begins with the buffer of the lowest index. An error is the index of the buffer at which memory
+    /// was refused: those of the set below it were opened, and no other count changes. There is no error
+    /// where the client has room on each buffer. Two look-ups for each buffer of the set at most, and none
+    /// where the counts of the buffers stand one after the other.
+    pub fn add_set(
+        &mut self,
+        client: ClientId,
+        collection: CollectionId,
+        strength: Strength,
+        set: u64,
+    ) -> Result<(), u8>
+        requires { (index : ℕ) → bit_at set index ≡ 1 →
+            total self.old (record { collection = collection; index = index }) strength
+            < self.old.limit }
+        ensures opened { OnOk result (AddsSet self.old self.new client collection strength set 64) }
+        ensures below { IfErr result (λ end.
+            AddsSet self.old self.new client collection strength set end) }
+        ensures within { IfErr result (λ end. end < 64) }
+        ensures room { ((index : ℕ) → bit_at set index ≡ 1 → has_handle_room self.old client
+            (record { collection = collection; index = index }) strength ≡ true)
+            → IsOk result }
+    {
+        let mut near = self.last.spot(strength);
+        let mut rest = set;
+        let mut index = 0;
+        while rest != 0 {
+            match self.add_at(client, collection, strength, rest, index, &mut near) {
+                Ok(()) => {}
+                Err(NoMemory) => return Err(index),
+            }
+            rest /= 2;
+            index += 1;
+        }
+        Ok(())
+    }
+
+    // Opens a handle on the buffer with this index, if a set has it of which the rest is that from the
+    // index on.
+    #[inline(always)]
+    fn add_at(
+        &mut self,
+        client: ClientId,
+        collection: CollectionId,
+        strength: Strength,
+        rest: u64,
+        index: u8,
+        near: &mut Spot,
+    ) -> Result<(), NoMemory>
+        requires fewer { rest % 2 ≡ 1 →
+            total self.old (record { collection = collection; index = index }) strength
+            < self.old.limit }
+        ensures ok { OnOk result ((before : Counts) (set : ℕ) → set / 2 ^ index ≡ rest →
+            AddsSet before self.old client collection strength set index →
+            AddsSet before self.new client collection strength set (index + 1)) }
+        ensures room { (rest % 2 ≡ 1 → has_handle_room self.old client
+            (record { collection = collection; index = index }) strength ≡ true)
+            → IsOk result }
+        ensures err { OnErr result (self.new ≡ self.old) }
+    {
+        if rest % 2 == 0 {
+            return Ok(());
+        }
+        self.add_one(client, BufferName { collection, index }, strength, near)
+    }
+
+    // Does what `add_near` does, where fewer are open than may be.
+    #[inline(always)]
+    fn add_one(
+        &mut self,
+        client: ClientId,
+        buffer: BufferName,
+        strength: Strength,
+        near: &mut Spot,
+    ) -> Result<(), NoMemory>
+        requires { total self.old buffer strength < self.old.limit }
+        ensures opened { OnOk result (Sets self.old self.new client buffer strength
+            (of self.old client buffer strength + 1) (moving_count self.old buffer strength)
+            (total self.old buffer strength + 1)) }
+        ensures room { has_handle_room self.old client buffer strength ≡ true → IsOk result }
+        ensures places { self.new.places ≡ self.old.places }
+        ensures err { OnErr result (self.new ≡ self.old) }
+    {
+        match self.add_near(client, buffer, strength, near) {
+            Ok(()) => Ok(()),
+            Err(HoldFault::NoMemory) => Err(NoMemory),
+            Err(HoldFault::TooMany) => unreachable!(),
+        }
+    }
+}
