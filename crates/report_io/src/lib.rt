@@ -4,7 +4,7 @@
 mod ending;
 mod fault;
 mod indents;
-mod numbers;
+pub mod laws;
 mod reading;
 mod reasons;
 mod wanted;
