@@ -16,7 +16,7 @@ use Rattle.failure_domains.proofs.walks.walk.Goals as goal
 pub down-preserved : goal.down-preserved
 down-preserved g c =
     let t = c.args.table.now in
-    let stops = g.B.Bound.stops c.args.bound.now in
+    let stops = g.B.WalkBound.stops c.args.bound.now in
     let top : NodeKey = c.args.top in
     let keys = c.down.keys.items in
     let key = c.index.result.now in
@@ -40,7 +40,7 @@ down-preserved g c =
 pub returns-in_err-append_within-clause-room : goal.returns-in_err-append_within-clause-room
 returns-in_err-append_within-clause-room g c h =
     let t = c.args.table.now in
-    let stops = g.B.Bound.stops c.args.bound.now in
+    let stops = g.B.WalkBound.stops c.args.bound.now in
     let top : NodeKey = c.args.top in
     let keys = c.down.keys.items in
     let key = c.index.result.now in
