@@ -36,9 +36,9 @@ use std::marker::Model;
 /// looks at all clients: a look-up is one at the place where the last one ended and at the one behind
 /// it, and where the counts stand elsewhere one in a hash table. Where the last one ended changes what
 /// a call costs, and no count. A new row is amortised: where a table grows, its entries are moved.
-/// `total_near` and `add_near` look behind the last entry that was found first: handles that are opened
-/// one after the other lie so, until others that were opened before them are tidied away and leave
-/// their places to the last ones.
+/// `total_near`, `add_near` and `add_set` look behind the last entry that was found first: handles that
+/// are opened one after the other lie so, until others that were opened before them are tidied away and
+/// leave their places to the last ones.
 #[derive(Drop)]
 pub struct Holds {
     limit: u32,
