@@ -2,9 +2,7 @@
 #![tactic(auto)]
 
 mod claim;
-mod number;
 mod parser;
-mod words;
 
 pub use claim::{Claim, Fact, NodeFact, NodeName, Often, SaidCause};
 pub use parser::{is_claim, read_claim};

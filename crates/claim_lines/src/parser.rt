@@ -11,9 +11,7 @@ ghost use Rattle.claim_lines.specs.declared.claim.NodeName.{NodeName as Name};
 ghost use Rattle.claim_lines.specs.Claims.{claim_behind, claim_of, fact_behind, fact_of, failed_by as failed_told, failure_named as failure_told, failure_of, fails_by as fails_told, full_name as full_told, is_claim_line, misuse_named as misuse_told, misused_by as misused_told, name_of as name_told, node_fact_of, node_said as node_told, often_named as often_told, origin_of, plain_name as plain_told, said_by as said_told};
 
 use crate::claim::{Claim, Fact, NodeFact, NodeName, Often, SaidCause};
-use crate::number::number;
-use crate::words::{cut, is, next_word, place_of};
-use script_lines::Label;
+use script_lines::{Label, cut, is_word, next_word, place_of, read_number};
 use sm_names::{Failure, Misuse};
 
 /// Whether the line, without its end, is a claim, good or bad: its first word is `#!`. Costs O(n) for n bytes.
@@ -21,7 +19,7 @@ pub fn is_claim(line: &[u8]) -> bool
     ensures { result ≡ is_claim_line line.now }
 {
     let (first, _) = cut(line);
-    is(first, "#!")
+    is_word(first, "#!")
 }
 
 /// What the claim says, without the end of its line, or `None` where the line is no good claim. Costs O(n) for n bytes.
@@ -29,7 +27,11 @@ pub fn read_claim(line: &[u8]) -> Option<Claim>
     ensures { result ≡ claim_of line.now }
 {
     let (first, rest) = cut(line);
-    if is(first, "#!") { claim(rest) } else { None }
+    if is_word(first, "#!") {
+        claim(rest)
+    } else {
+        None
+    }
 }
 
 // The claim of the words behind `#!`.
@@ -49,11 +51,11 @@ fn claim(rest: Option<&[u8]>) -> Option<Claim>
 fn often_named(word: &[u8]) -> Option<Often>
     ensures { result ≡ often_told word.now }
 {
-    if is(word, "never") {
+    if is_word(word, "never") {
         Some(Often::Never)
-    } else if is(word, "always") {
+    } else if is_word(word, "always") {
         Some(Often::Always)
-    } else if is(word, "sometimes") {
+    } else if is_word(word, "sometimes") {
         Some(Often::Sometimes)
     } else {
         None
@@ -84,13 +86,13 @@ fn fact_on(subject: &[u8], rest: Option<&[u8]>) -> Option<Fact>
 fn said_by(subject: &[u8], verb: &[u8], rest: Option<&[u8]>) -> Option<Fact>
     ensures { result ≡ said_told subject.now verb.now (words_left rest.entry) }
 {
-    if is(subject, "free") {
+    if is_word(subject, "free") {
         return free(verb, rest);
     }
-    if is(verb, "waits") {
+    if is_word(verb, "waits") {
         return waits(subject, rest);
     }
-    if is(verb, "fires") {
+    if is_word(verb, "fires") {
         return fires(subject, rest);
     }
     node_said(subject, verb, rest)
@@ -100,7 +102,7 @@ fn said_by(subject: &[u8], verb: &[u8], rest: Option<&[u8]>) -> Option<Fact>
 fn free(word: &[u8], rest: Option<&[u8]>) -> Option<Fact>
     ensures { result ≡ at_end (words_left rest.entry) (option_map (λ (pages : ℕ). FactTold.Free pages) (number_of word.now)) }
 {
-    match (next_word(rest), number(word)) {
+    match (next_word(rest), read_number(word)) {
         (None, Some(pages)) => Some(Fact::Free(pages)),
         _ => None,
     }
@@ -178,13 +180,13 @@ fn full_name(client: &[u8], word: &[u8]) -> Option<NodeName>
 fn node_fact(verb: &[u8], rest: Option<&[u8]>) -> Option<NodeFact>
     ensures { result ≡ node_fact_of verb.now (words_left rest.entry) }
 {
-    if is(verb, "fails") {
+    if is_word(verb, "fails") {
         failure(rest)
-    } else if is(verb, "ends") {
+    } else if is_word(verb, "ends") {
         alone(rest, NodeFact::Ends)
-    } else if is(verb, "lives") {
+    } else if is_word(verb, "lives") {
         alone(rest, NodeFact::Lives)
-    } else if is(verb, "pending") {
+    } else if is_word(verb, "pending") {
         alone(rest, NodeFact::Pending)
     } else {
         None
@@ -211,15 +213,15 @@ fn failure(rest: Option<&[u8]>) -> Option<NodeFact>
             origin: None,
         });
     };
-    if is(word, "by") {
+    if is_word(word, "by") {
         origin(None, rest)
-    } else if is(word, "lost") {
+    } else if is_word(word, "lost") {
         fails_by(Some(SaidCause::Lost), rest)
-    } else if is(word, "nostrong") {
+    } else if is_word(word, "nostrong") {
         fails_by(Some(SaidCause::NoStrong), rest)
-    } else if is(word, "misused") {
+    } else if is_word(word, "misused") {
         misused_by(rest)
-    } else if is(word, "failed") {
+    } else if is_word(word, "failed") {
         failed_by(rest)
     } else {
         None
@@ -232,7 +234,7 @@ fn fails_by(cause: Option<SaidCause>, rest: Option<&[u8]>) -> Option<NodeFact>
 {
     match next_word(rest) {
         Some((word, rest)) => {
-            if is(word, "by") {
+            if is_word(word, "by") {
                 origin(cause, rest)
             } else {
                 None
@@ -268,7 +270,7 @@ fn misused_by(rest: Option<&[u8]>) -> Option<NodeFact>
     let Some((word, rest)) = next_word(rest) else {
         return fails_by(Some(SaidCause::Misused(None)), None);
     };
-    if is(word, "by") {
+    if is_word(word, "by") {
         return origin(Some(SaidCause::Misused(None)), rest);
     }
     match misuse_named(word) {
@@ -284,7 +286,7 @@ fn failed_by(rest: Option<&[u8]>) -> Option<NodeFact>
     let Some((word, rest)) = next_word(rest) else {
         return fails_by(Some(SaidCause::Failed(None)), None);
     };
-    if is(word, "by") {
+    if is_word(word, "by") {
         return origin(Some(SaidCause::Failed(None)), rest);
     }
     match failure_named(word) {
@@ -297,15 +299,15 @@ fn failed_by(rest: Option<&[u8]>) -> Option<NodeFact>
 fn misuse_named(word: &[u8]) -> Option<Misuse>
     ensures { result ≡ misuse_told word.now }
 {
-    if is(word, "SecondConstraints") {
+    if is_word(word, "SecondConstraints") {
         Some(Misuse::SecondConstraints)
-    } else if is(word, "LateWeak") {
+    } else if is_word(word, "LateWeak") {
         Some(Misuse::LateWeak)
-    } else if is(word, "LateWeakOk") {
+    } else if is_word(word, "LateWeakOk") {
         Some(Misuse::LateWeakOk)
-    } else if is(word, "WeakNotOk") {
+    } else if is_word(word, "WeakNotOk") {
         Some(Misuse::WeakNotOk)
-    } else if is(word, "TooManyNodeTrackers") {
+    } else if is_word(word, "TooManyNodeTrackers") {
         Some(Misuse::TooManyNodeTrackers)
     } else {
         None
@@ -316,17 +318,17 @@ fn misuse_named(word: &[u8]) -> Option<Misuse>
 fn failure_named(word: &[u8]) -> Option<Failure>
     ensures { result ≡ failure_told word.now }
 {
-    if is(word, "NoStrong") {
+    if is_word(word, "NoStrong") {
         Some(Failure::NoStrong)
-    } else if is(word, "NoBuffers") {
+    } else if is_word(word, "NoBuffers") {
         Some(Failure::NoBuffers)
-    } else if is(word, "TooManyBuffers") {
+    } else if is_word(word, "TooManyBuffers") {
         Some(Failure::TooManyBuffers)
-    } else if is(word, "PoolFull") {
+    } else if is_word(word, "PoolFull") {
         Some(Failure::PoolFull)
-    } else if is(word, "TooFew") {
+    } else if is_word(word, "TooFew") {
         Some(Failure::TooFew)
-    } else if is(word, "TooSmall") {
+    } else if is_word(word, "TooSmall") {
         Some(Failure::TooSmall)
     } else {
         None

@@ -4,7 +4,6 @@
 mod ending;
 mod fault;
 mod indents;
-mod numbers;
 mod reading;
 mod reasons;
 mod wanted;

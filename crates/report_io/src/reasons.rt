@@ -8,14 +8,12 @@ ghost use Rattle.script_labels.specs.Tables.{Keeps};
 ghost use Rattle.report_io.specs.declared.wanted.Wanted.{Wanted as Word};
 ghost use Rattle.report_io.specs.Reasons.{before_word, bound, bound_reason, client_reason, is_within, label_reason, line_reason, missing_reason, no_word, plain, reason_text, reason_unless, rest_reason, said_reason, told, unbound, verb_reason, view_reason, word_reason, words_reason};
 
-use crate::numbers::has_number;
 use crate::wanted::{Wanted, wanted_words};
 use crate::words::{
-    cut, has_empty_word, has_end, is, is_strength, is_view, next_word, part_before_point,
-    push_shown,
+    has_empty_word, has_end, has_number, is_strength, is_view, part_before_point, push_shown,
 };
 use script_labels::Tables;
-use script_lines::{BufferLabel, Label, MOST_LINE_BYTES, push};
+use script_lines::{BufferLabel, Label, MOST_LINE_BYTES, cut, is_word, next_word, push};
 use sm_names::{MAX_AT_LEAST, MAX_CAMPING, MAX_SIZE};
 use std::alloc::AllocError;
 
@@ -119,7 +117,7 @@ fn said_fault<'a>(tables: &Tables, first: &'a [u8], rest: Option<&'a [u8]>) -> O
     ensures { (names : Names) → Keeps tables.now names →
         option_map told result ≡ said_reason names (first.now ∷ words_left rest.entry) }
 {
-    if is(first, "show") {
+    if is_word(first, "show") {
         return view_fault(rest);
     }
     match Label::new(first) {
@@ -167,7 +165,7 @@ fn verb_fault<'a>(
     match wanted_words(verb) {
         Some(wanted) => {
             let is_bound = tables.client(client).is_some();
-            let fault = client_fault(first, is(verb, "join"), is_bound);
+            let fault = client_fault(first, is_word(verb, "join"), is_bound);
             if fault.is_some() {
                 return fault;
             }
@@ -261,7 +259,7 @@ fn children_fault<'a>(word: &'a [u8]) -> Option<Reason<'a>>
         (no_word word.now) }
 {
     let reason = with_word("no such word: ", word);
-    unless(is(word, "children"), reason)
+    unless(is_word(word, "children"), reason)
 }
 
 // The word spells a number from the least to the most.

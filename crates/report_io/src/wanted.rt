@@ -2,7 +2,7 @@
 ghost use Rattle.std.specs.Prelude.{◌≡◌, option_map};
 ghost use Rattle.report_io.specs.Reasons.{new_wanted, wanted_behind, wanted_by, wanted_of_kind, wanted_on};
 
-use crate::words::is;
+use script_lines::is_word;
 use sm_names::{ArgumentForm, CallKind, Product, Target, kind_named, row_of};
 
 // What a word behind a verb is to be.
@@ -29,7 +29,7 @@ pub(crate) enum Wanted {
 pub(crate) fn wanted_words(verb: &[u8]) -> Option<[Wanted; 4]>
     ensures { result ≡ wanted_behind verb.now }
 {
-    if is(verb, "poll") {
+    if is_word(verb, "poll") {
         return Some(four_words(Target::Nothing, Wanted::Tracker, Wanted::End, Wanted::End));
     }
     match kind_named(verb) {

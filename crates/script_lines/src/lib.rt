@@ -20,11 +20,12 @@ pub use hashing::LabelHash;
 pub use label::Label;
 pub use line::{Line, Request, View};
 pub use line_text::{push_line, strength_name};
+pub use number::number as read_number;
 pub use pages::Pages;
 pub use parser::line as read_line;
 pub use parts::{Part, push_parts};
 pub use spelling::{push, push_label, push_number};
-pub use words::line_end;
+pub use words::{cut, is_word, line_end, next_word, place_of};
 pub use writing::{WriteFault, write_line, write_out};
 
 /// The greatest size of a script, in bytes.

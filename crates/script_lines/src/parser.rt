@@ -8,7 +8,7 @@ use crate::buffer_label::BufferLabel;
 use crate::label::Label;
 use crate::line::{Line, Request, View};
 use crate::number::number;
-use crate::words::{cut, is, next_word};
+use crate::words::{cut, is_word, next_word};
 use sm_names::{
     Argument, ArgumentForm, CallKind, Constraints, MAX_AT_LEAST, MAX_CAMPING, Object, Product,
     Strength, Target, kind_named, row_of,
@@ -36,7 +36,7 @@ pub fn line(bytes: &[u8]) -> Option<Line>
 fn said(first: &[u8], rest: Option<&[u8]>) -> Option<Line>
     ensures { result ≡ said_of (first.now ∷ words_left rest.entry) }
 {
-    if is(first, "show") {
+    if is_word(first, "show") {
         return show(rest);
     }
     match (Label::new(first), next_word(rest)) {
@@ -62,13 +62,13 @@ fn show(rest: Option<&[u8]>) -> Option<Line>
 fn view(word: &[u8]) -> Option<View>
     ensures { result ≡ view_of word.now }
 {
-    if is(word, "live") {
+    if is_word(word, "live") {
         Some(View::Live)
-    } else if is(word, "held") {
+    } else if is_word(word, "held") {
         Some(View::Held)
-    } else if is(word, "fired") {
+    } else if is_word(word, "fired") {
         Some(View::Fired)
-    } else if is(word, "free") {
+    } else if is_word(word, "free") {
         Some(View::Free)
     } else {
         None
@@ -79,13 +79,13 @@ fn view(word: &[u8]) -> Option<View>
 fn call(client: Label, word: &[u8], rest: Option<&[u8]>) -> Option<Line>
     ensures { result ≡ call_read client word.now (words_left rest.entry) }
 {
-    if is(word, "join") {
+    if is_word(word, "join") {
         return match next_word(rest) {
             None => Some(Line::Join { client }),
             Some(_) => None,
         };
     }
-    if is(word, "poll") {
+    if is_word(word, "poll") {
         return poll(client, rest);
     }
     ask(client, word, rest)
@@ -184,7 +184,7 @@ fn children(rest: Option<&[u8]>) -> Option<(Argument<Label>, Option<&[u8]>)>
     match next_word(rest) {
         None => Some((Argument::Children(false), None)),
         Some((word, rest)) => {
-            if is(word, "children") {
+            if is_word(word, "children") {
                 Some((Argument::Children(true), rest))
             } else {
                 None
@@ -251,9 +251,9 @@ fn in_range(camping: u32, at_least: u32, size: u32) -> Option<Constraints>
 fn strength(word: &[u8]) -> Option<Strength>
     ensures { result ≡ strength_told word.now }
 {
-    if is(word, "strong") {
+    if is_word(word, "strong") {
         Some(Strength::Strong)
-    } else if is(word, "weak") {
+    } else if is_word(word, "weak") {
         Some(Strength::Weak)
     } else {
         None

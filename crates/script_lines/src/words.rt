@@ -6,15 +6,16 @@ ghost use Rattle.script_lines.specs.Words.{words, words_left};
 
 use memchr::memchr;
 
-// Whether the word is this one.
-pub(crate) fn is(word: &[u8], name: &str) -> bool
+/// Whether the word is this one. Takes O(n) time for a word of n bytes.
+pub fn is_word(word: &[u8], name: &str) -> bool
     ensures { result ≡ bytes_eq word.now name.now }
 {
     word == name.as_bytes()
 }
 
-// The first word of the text, and what stands behind the space that ends it.
-pub(crate) fn cut(text: &[u8]) -> (&[u8], Option<&[u8]>)
+/// The first word of the text, and what stands behind the space that ends it: `None` where no space
+/// does. A text without bytes has one word, which has none either. Takes O(n) time for a word of n bytes.
+pub fn cut(text: &[u8]) -> (&[u8], Option<&[u8]>)
     ensures { words text.now ≡ result.0.now ∷ words_left result.1 }
 {
     match place_of(b' ', text) {
@@ -23,8 +24,9 @@ pub(crate) fn cut(text: &[u8]) -> (&[u8], Option<&[u8]>)
     }
 }
 
-// The next of the words that are left, with those behind it.
-pub(crate) fn next_word(rest: Option<&[u8]>) -> Option<(&[u8], Option<&[u8]>)>
+/// The first of the words that are left, with those behind it, or `None` where no word is left. Takes
+/// O(n) time for a word of n bytes.
+pub fn next_word(rest: Option<&[u8]>) -> Option<(&[u8], Option<&[u8]>)>
     ensures { MatchOption result (words_left rest.entry ≡ [])
         (λ w. words_left rest.entry ≡ w.0.now ∷ words_left w.1) }
 {
@@ -43,8 +45,8 @@ pub fn line_end(bytes: &[u8]) -> Option<usize>
     memchr(b'\n', bytes)
 }
 
-// Where the byte stands first, if it does. Takes a time in proportion to the length.
-pub(crate) fn place_of(byte: u8, bytes: &[u8]) -> Option<usize>
+/// Where the byte stands first, if it does. Takes a time in proportion to that place, or to the length.
+pub fn place_of(byte: u8, bytes: &[u8]) -> Option<usize>
     ensures value { result ≡ position (λ b. b == byte) bytes.now }
     ensures within { IfSome result (λ at. at < length bytes.now) }
 {
