@@ -1,3 +1,5 @@
+pub mod BadLines
+pub mod GoodWords
 pub mod Incoming
 pub mod Indenting
 pub mod LinesTaken

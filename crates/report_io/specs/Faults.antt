@@ -2,8 +2,10 @@
 use Rattle.std.specs.Prelude.{ℕ, ◌≡◌, ◌≢◌, List, [], ◌∷◌, ◌++◌, codes, decimal, Option, Result, MatchResult, ◌⊎◌, ⊤}
 use Rattle.script_lines.specs.Written.{WritesPart}
 use Rattle.script_labels.specs.declared.stop.Stop.{Stop}
+use Rattle.script_labels.specs.Names.{Names}
 use Rattle.report_io.specs.declared.fault.ReportFault.{ReportFault}
 use Rattle.report_io.specs.declared.fault.Sought.{Sought}
+use Rattle.report_io.specs.Reasons.{IsReason}
 
 -- the status that a program ends with: 1 for the streams, 2 for what is not there, 3 for the script, 4 for want of
 -- memory or of room in the history
@@ -67,3 +69,8 @@ IsBadLine number _ = ⊥
 abbrev pub HasReason : List ℕ → ReportFault → Type 0
 HasReason words (ReportFault.BadLine n reason) = reason.items ≡ words
 HasReason words _ = ⊤
+
+-- the fault of a bad line gives the reason of this line, where labels stand for these
+abbrev pub GivesReason : Names → List ℕ → ReportFault → Type 0
+GivesReason names line (ReportFault.BadLine n reason) = IsReason names line reason.items
+GivesReason names line _ = ⊤

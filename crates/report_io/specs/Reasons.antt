@@ -1,6 +1,6 @@
 -- Why a line is bad: a reason for each test of a line, in the order in which the tests are tried. Where no test fails there
 -- is no reason.
-use Rattle.std.specs.Prelude.{ℕ, Bool, false, ◌==◌, ◌-◌, ◌&&◌, nat_le, nat_lt, not, if◌then◌else◌, List, [], ◌∷◌, ◌++◌, length, map, take, codes, slice_get, Option, Some, None, is_some}
+use Rattle.std.specs.Prelude.{ℕ, ◌≡◌, Bool, false, ◌==◌, ◌-◌, ◌&&◌, nat_le, nat_lt, not, if◌then◌else◌, List, [], ◌∷◌, ◌++◌, length, map, take, codes, slice_get, Option, Some, None, is_some}
 use Rattle.std.specs.List.{list_any, position}
 use Rattle.std.specs.Option.{option_map, option_map_or}
 use Rattle.std.specs.Str.{bytes_eq}
@@ -220,6 +220,10 @@ line_reason names line =
     then Some (plain (codes "one space stands between words, and none before or behind them")) else said in
     let ended : Option Reason = if ends_in 13 line then Some (plain (codes "the line ends in CR")) else spaced in
     if nat_lt MOST_LINE_BYTES (length line) then Some (plain (codes "the line is longer than 256 bytes")) else ended
+
+-- the words are the reason of the line: that of the first test that fails, and one does
+abbrev pub IsReason : Names → List ℕ → List ℕ → Type 0
+IsReason names line words = (reason : Reason) × ((line_reason names line ≡ Some reason) × (words ≡ reason_text reason))
 
 -- what is told of a line that was called bad: the reason, or these words where no test fails
 abbrev pub bad_text : Names → List ℕ → List ℕ

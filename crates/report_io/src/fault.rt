@@ -1,9 +1,9 @@
 //! Why a script was not reported on to its end.
-ghost use Rattle.std.specs.Prelude.{◌≡◌, ◌++◌, OnOk, codes};
-ghost use Rattle.script_labels.specs.Names.{Names};
+ghost use Rattle.std.specs.Prelude.{◌≡◌, ◌++◌, None, OnOk, codes};
+ghost use Rattle.script_labels.specs.Names.{Names, act_in};
 ghost use Rattle.script_labels.specs.Tables.{Keeps};
 ghost use Rattle.report_io.specs.Reasons.{bad_text};
-ghost use Rattle.report_io.specs.Faults.{HasReason, IsBadLine, IsFaultOf, fault_status, fault_text, sought_name};
+ghost use Rattle.report_io.specs.Faults.{GivesReason, HasReason, IsBadLine, IsFaultOf, fault_status, fault_text, sought_name};
 
 use crate::reasons::line_fault;
 use script_labels::{Stop, Tables};
@@ -113,11 +113,13 @@ impl ReportFault {
 }
 
 /// The fault of the line of this number, which was not answered, where the labels of those before it stand
-/// so. Takes a time in proportion to the line, and a look into a table for each label.
+/// so. The fault of a bad line has its number and its reason, and each line that asks for nothing has one. Takes a time in proportion to the line, and a look into a table for each label.
 pub fn fault_of(alloc: Global, stop: Stop, tables: &Tables, number: u64, line: &[u8]) -> ReportFault
     ensures line { IsFaultOf number stop result }
     ensures reason { (names : Names) → Keeps tables.now names →
         HasReason (bad_text names line.now) result }
+    ensures known { (names : Names) → Keeps tables.now names → act_in names line.now ≡ None →
+        GivesReason names line.now result }
 {
     match stop {
         Stop::BadLine => {

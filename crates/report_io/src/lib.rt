@@ -4,6 +4,7 @@
 mod ending;
 mod fault;
 mod indents;
+pub mod laws;
 mod reading;
 mod reasons;
 mod wanted;
