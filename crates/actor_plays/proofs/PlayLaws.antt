@@ -22,7 +22,7 @@ use Rattle.actor_plays.specs.declared.plan.Plan.{Plan}
 use Rattle.actor_plays.specs.declared.plan.Planned.{Planned}
 use Rattle.actor_plays.specs.declared.play.Play.{Play}
 use Rattle.actor_plays.specs.declared.play.Turned.{Turned}
-use Rattle.actor_plays.specs.declared.falls.Fall.{Fall}
+use Rattle.actor_plays.specs.declared.falls.GoneNode.{GoneNode}
 use Rattle.actor_plays.specs.Fates.{AreFalls, AreTold, falls_at}
 use Rattle.actor_plays.specs.Plays.{AreJoining, IsLeftWaiting, IsPlay, IsTurn, Plays, Stage, first_stage}
 use Rattle.actor_plays.specs.Plays.{is_wait, joins, next_step, passed, polls, stage_after, stage_of, stages_of}
@@ -261,7 +261,7 @@ pub fallen_before : (old mid : Play) (X : Type 0) → mid ≡ record old { actor
 fallen_before old mid X same so are = so (subst (λ (p : Play). AreFalls p.entries.items p.falls.items) (sym same) are)
 
 -- one more call was told
-tells : (history later : List Entry) (falls more : List Fall) (old new : State) (client : ℕ) (call : Call) (reply : Reply)
+tells : (history later : List Entry) (falls more : List GoneNode) (old new : State) (client : ℕ) (call : Call) (reply : Reply)
     (stages : List MarkStage) → Shows old history → Shows new (history ++ (client, call, reply) ∷ []) →
     AreStages old new client call reply stages → later ≡ history ++ (client, call, reply) ∷ [] →
     more ≡ falls ++ flat_map falls_at stages → AreFalls history falls → AreFalls later more
@@ -271,7 +271,7 @@ tells history later falls more old new client call reply stages before after are
     (AreFalls.Tells history falls old new client call reply stages fell before after are))
 
 -- the same, by the marks that are told
-pub told_by : (history later : List Entry) (falls more : List Fall) (old new : State) (client : ℕ) (call : Call) (reply : Reply)
+pub told_by : (history later : List Entry) (falls more : List GoneNode) (old new : State) (client : ℕ) (call : Call) (reply : Reply)
     (moments : Option (Vec Moment Global)) → Shows old history → Shows new (history ++ (client, call, reply) ∷ []) →
     IfSome moments (λ ms. AreStages old new client call reply (map stage_told ms.items)) → later ≡ history ++ (client, call, reply) ∷ [] →
     AreTold moments falls more → AreFalls history falls → AreFalls later more

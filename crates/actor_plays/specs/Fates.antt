@@ -19,37 +19,38 @@ use Rattle.forced_marks.specs.Marks.{AreStages, Stage}
 use Rattle.forced_marks.specs.Moments.{stage_of}
 use Rattle.event_facts.specs.Facts.{is_lost_with}
 use Rattle.actor_plays.specs.declared.ending.Fate.{Fate}
-use Rattle.actor_plays.specs.declared.falls.Fall.{Fall}
+use Rattle.actor_plays.specs.declared.falls.GoneNode.{GoneNode}
 use Rattle.actor_plays.specs.Plays.{joins}
 
 -- the node is gone, by its fault if it has one
-abbrev pub fall_told : Node → Fall
+abbrev pub fall_told : Node → GoneNode
 fall_told n = record { key = n.key; fault = n.fault }
 
 -- the node ends
-abbrev pub end_told : Node → Fall
+abbrev pub end_told : Node → GoneNode
 end_told n = record { key = n.key; fault = None }
 
 -- the nodes of these that are gone behind the mark, a loss, or that it takes, an end
-abbrev pub falls_by : Mark → List Node → List Fall
+abbrev pub falls_by : Mark → List Node → List GoneNode
 falls_by (Loss origin cause) nodes =
     map fall_told (filter (λ (n : Node). n.gone) (after_loss (record { cause = cause; origin = origin }) nodes))
 falls_by (Ended top) nodes = map end_told (filter (is_lost_with nodes top) nodes)
 falls_by _ nodes = []
 
 -- the same of a mark with the collection before it
-abbrev pub falls_at : Stage → List Fall
+abbrev pub falls_at : Stage → List GoneNode
 falls_at s = falls_by s.mark s.before.nodes
 
 -- the marks of an event are told, and with the nodes that they take those that fell are these
-abbrev pub AreTold : Option (Vec Moment Global) → List Fall → List Fall → Type 0
+abbrev pub AreTold : Option (Vec Moment Global) → List GoneNode → List GoneNode → Type 0
 AreTold None before later = ⊥
 AreTold (Some moments) before later = later ≡ before ++ flat_map falls_at (map stage_of moments.items)
 
 -- these nodes fell in the history, as the marks of its events tell
-pub data AreFalls : List Entry → List Fall → Type 0 where
+pub data AreFalls : List Entry → List GoneNode → Type 0 where
   Starts : (clients : List ℕ) → AreFalls (joins clients) []
-  Tells : (history : List Entry) (falls : List Fall) (old new : State) (client : ℕ) (call : Call) (reply : Reply) (stages : List Stage) →
+  Tells : (history : List Entry) (falls : List GoneNode) (old new : State) (client : ℕ) (call : Call) (reply : Reply)
+      (stages : List Stage) →
       AreFalls history falls → Shows old history → Shows new (history ++ (client, call, reply) ∷ []) →
       AreStages old new client call reply stages →
       AreFalls (history ++ (client, call, reply) ∷ []) (falls ++ flat_map falls_at stages)
@@ -68,9 +69,9 @@ abbrev pub fate_of : Node → Fate
 fate_of n = if n.gone then fate_gone n.fault else fate_there n.released n.allocated
 
 -- what became of a node that is not: as it fell first
-abbrev pub fate_fallen : List Fall → NodeKey → Option Fate
-fate_fallen falls key = option_map (λ (f : Fall). fate_gone f.fault) (find (λ (f : Fall). same_key f.key key) falls)
+abbrev pub fate_fallen : List GoneNode → NodeKey → Option Fate
+fate_fallen falls key = option_map (λ (f : GoneNode). fate_gone f.fault) (find (λ (f : GoneNode). same_key f.key key) falls)
 
 -- what became of a node
-abbrev pub fate_in : State → List Fall → NodeKey → Option Fate
+abbrev pub fate_in : State → List GoneNode → NodeKey → Option Fate
 fate_in s falls key = option_map_or (λ (n : Node). Some (fate_of n)) (node_at s.forest key) (fate_fallen falls key)

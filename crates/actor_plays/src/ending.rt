@@ -2,7 +2,7 @@
 ghost use Rattle.std.specs.Prelude.{◌≡◌};
 ghost use Rattle.actor_plays.specs.Fates.{fate_fallen, fate_gone as gone_told, fate_of as fate_told};
 
-use crate::falls::Fall;
+use crate::falls::GoneNode;
 use forest_store::Node;
 use sm_names::{Fault, NodeKey};
 
@@ -45,7 +45,7 @@ pub(crate) fn fate_of(node: &Node) -> Fate
 }
 
 // What became of a node that is not, as it fell first.
-pub(crate) fn fallen(falls: &[Fall], key: NodeKey) -> Option<Fate>
+pub(crate) fn fallen(falls: &[GoneNode], key: NodeKey) -> Option<Fate>
     ensures { result ≡ fate_fallen falls.now key }
 {
     match falls.iter().find(|fall| fall.key == key) {

@@ -17,19 +17,19 @@ use std::alloc::{AllocError, Global};
 
 /// A node that is gone: why it failed, if it did not end.
 #[derive(Clone, Copy)]
-pub struct Fall {
+pub struct GoneNode {
     pub key: NodeKey,
     pub fault: Option<Fault>,
 }
 
 // Adds those of the nodes that are gone.
-fn push_gone(falls: &mut Vec<Fall>, nodes: &[Node]) -> Result<(), AllocError>
+fn push_gone(falls: &mut Vec<GoneNode>, nodes: &[Node]) -> Result<(), AllocError>
     ensures { OnOk result (falls.new.items
         ≡ falls.old.items ++ map fall_told (filter (λ (n : NodeValue). n.gone) nodes.now)) }
 {
     for node in nodes {
         if node.gone {
-            falls.push(Fall {
+            falls.push(GoneNode {
                 key: node.key,
                 fault: node.fault,
             })?;
@@ -39,11 +39,11 @@ fn push_gone(falls: &mut Vec<Fall>, nodes: &[Node]) -> Result<(), AllocError>
 }
 
 // Adds the nodes, which end.
-fn push_ended(falls: &mut Vec<Fall>, nodes: &[Node]) -> Result<(), AllocError>
+fn push_ended(falls: &mut Vec<GoneNode>, nodes: &[Node]) -> Result<(), AllocError>
     ensures { OnOk result (falls.new.items ≡ falls.old.items ++ map end_told nodes.now) }
 {
     for node in nodes {
-        falls.push(Fall {
+        falls.push(GoneNode {
             key: node.key,
             fault: None,
         })?;
@@ -70,7 +70,7 @@ fn lost(alloc: Global, nodes: &Vec<Node>, fault: Fault) -> Result<Vec<Node>, All
 
 // Adds the nodes of these that the mark takes.
 fn push_taken(
-    falls: &mut Vec<Fall>,
+    falls: &mut Vec<GoneNode>,
     alloc: Global,
     mark: Forced,
     nodes: &Vec<Node>,
@@ -92,7 +92,11 @@ fn push_taken(
 }
 
 // Adds the nodes that these marks of an event take.
-fn push_falls(falls: &mut Vec<Fall>, alloc: Global, moments: &Vec<Moment>) -> Result<(), AllocError>
+fn push_falls(
+    falls: &mut Vec<GoneNode>,
+    alloc: Global,
+    moments: &Vec<Moment>,
+) -> Result<(), AllocError>
     ensures { OnOk result (falls.new.items
         ≡ falls.old.items ++ flat_map falls_at (map stage_of moments.now.items)) }
 {
@@ -104,7 +108,7 @@ fn push_falls(falls: &mut Vec<Fall>, alloc: Global, moments: &Vec<Moment>) -> Re
 
 // Adds the nodes that the marks of an event take, if they are told.
 pub(crate) fn note_falls(
-    falls: &mut Vec<Fall>,
+    falls: &mut Vec<GoneNode>,
     alloc: Global,
     moments: &Option<Vec<Moment>>,
 ) -> Result<(), StepFault>

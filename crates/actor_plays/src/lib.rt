@@ -9,6 +9,6 @@ mod play;
 
 pub use actor::Actor;
 pub use ending::Fate;
-pub use falls::Fall;
+pub use falls::GoneNode;
 pub use plan::{Plan, Planned, plan_of};
 pub use play::{Play, Turned};

@@ -11,7 +11,7 @@ ghost use Rattle.actor_scripts.specs.Tables.{known};
 
 use crate::actor::Actor;
 use crate::ending::{Fate, fallen, fate_of};
-use crate::falls::{Fall, note_falls};
+use crate::falls::{GoneNode, note_falls};
 use crate::plan::{Plan, Planned};
 use actor_scripts::{ActorState, Step, StepCall};
 use event_facts::step_with_marks;
@@ -39,7 +39,7 @@ pub struct Play {
     pub(crate) actors: Vec<Actor>,
     pub(crate) turns: Vec<usize>,
     pub(crate) entries: Vec<(ClientId, Call, Reply)>,
-    pub(crate) falls: Vec<Fall>,
+    pub(crate) falls: Vec<GoneNode>,
 }
 
 // The next step of an actor, its call, and the client that makes it.
@@ -487,7 +487,7 @@ impl Play {
     }
 
     /// The nodes that fell in calls that were told. Costs O(1).
-    pub fn falls(&self) -> &[Fall]
+    pub fn falls(&self) -> &[GoneNode]
         ensures { result.now ≡ self.now.falls.items }
     {
         &self.falls

@@ -19,7 +19,7 @@ use Rattle.script_lines.specs.declared.line.Request.{Request}
 use Rattle.actor_scripts.specs.declared.step.Step.{Step}
 use Rattle.actor_scripts.specs.declared.step.StepBuffer.{StepBuffer}
 use Rattle.actor_scripts.specs.declared.object.StepCall.{StepCall}
-use Rattle.actor_scripts.specs.declared.object.Object.{Object}
+use Rattle.actor_scripts.specs.declared.object.ActorObject.{ActorObject}
 use Rattle.actor_scripts.specs.ActorStates.{Fits, FitsACollection, FitsAToken, FitsNone, FitsObject, FitsThere}
 use Rattle.actor_scripts.specs.ActorStates.{Known, NamesHandle, NamesNode, NamesNothing, argument_at, argument_held}
 use Rattle.actor_scripts.specs.ActorStates.{asked_strength, bare_call, call_at, call_for, call_on, end_slot}
@@ -33,14 +33,14 @@ takes P made call is so = let same : made ≡ call = cc in subst P same so
 
 -- a token is one for calls on tokens, and for those on ends
 token_target : (key : NodeKey) (collection : ℕ) (on : Target) (target : Named NodeKey BufferName) →
-    target_of on (Object.Token key collection) ≡ Some target → FitsAToken key on target
+    target_of on (ActorObject.Token key collection) ≡ Some target → FitsAToken key on target
 token_target key collection Target.Token target is = takes (NamesNode key) (Named.Node key) target is refl
 token_target key collection Target.End target is = takes (NamesNode key) (Named.Node key) target is refl
 token_target key collection _ target is = absurd (false≢true (ap is_some is))
 
 -- so is a collection
 collection_target : (key : NodeKey) (collection : ℕ) (on : Target) (target : Named NodeKey BufferName) →
-    target_of on (Object.Collection key collection) ≡ Some target → FitsACollection key on target
+    target_of on (ActorObject.Collection key collection) ≡ Some target → FitsACollection key on target
 collection_target key collection Target.Collection target is = takes (NamesNode key) (Named.Node key) target is refl
 collection_target key collection Target.End target is = takes (NamesNode key) (Named.Node key) target is refl
 collection_target key collection _ target is = absurd (false≢true (ap is_some is))
@@ -54,7 +54,7 @@ own_strength buffer held _ = refl
 
 -- so it is one for calls on handles
 handle_target : (buffer : BufferName) (held : Strength) (argument : Argument ℕ) (on : Target) (target : Named NodeKey BufferName) →
-    target_of on (Object.Handle buffer held) ≡ Some target → NamesHandle buffer held target (with_strength held argument)
+    target_of on (ActorObject.Handle buffer held) ≡ Some target → NamesHandle buffer held target (with_strength held argument)
 handle_target buffer held argument Target.Handle target is =
     takes (λ (t : Named NodeKey BufferName). NamesHandle buffer held t (with_strength held argument)) (Named.Buffer buffer) target is
     (own_strength buffer held argument)
@@ -63,22 +63,22 @@ handle_target buffer held argument _ target is = absurd (false≢true (ap is_som
 -- ---- calls
 
 -- the object takes a call that is made of parts for it
-fits_parts : (object : Object) (kind : CallKind) (target : Named NodeKey BufferName) (argument : Argument ℕ) (call : Call) →
+fits_parts : (object : ActorObject) (kind : CallKind) (target : Named NodeKey BufferName) (argument : Argument ℕ) (call : Call) →
     target_of (row_of kind).on object ≡ Some target → call_of (parts kind target (argument_held object argument)) ≡ Some call →
     FitsObject object call
-fits_parts (Object.Token key collection) kind target argument call on is =
+fits_parts (ActorObject.Token key collection) kind target argument call on is =
     subst (λ (p : CallParts). FitsAToken key (row_of p.kind).on p.object) (sym (made kind target argument call is))
     (token_target key collection (row_of kind).on target on)
-fits_parts (Object.Collection key collection) kind target argument call on is =
+fits_parts (ActorObject.Collection key collection) kind target argument call on is =
     subst (λ (p : CallParts). FitsACollection key (row_of p.kind).on p.object) (sym (made kind target argument call is))
     (collection_target key collection (row_of kind).on target on)
-fits_parts (Object.Handle buffer held) kind target argument call on is =
+fits_parts (ActorObject.Handle buffer held) kind target argument call on is =
     subst (λ (p : CallParts). NamesHandle buffer held p.object p.argument)
     (sym (made kind target (with_strength held argument) call is)) (handle_target buffer held argument (row_of kind).on target on)
 
 module _ (clients : List ℕ) (r : Request ℕ StepBuffer) where
   -- where the clients that it names are there
-  fits_argument : (object : Object) (target : Named NodeKey BufferName) → target_of (row_of r.kind).on object ≡ Some target →
+  fits_argument : (object : ActorObject) (target : Named NodeKey BufferName) → target_of (row_of r.kind).on object ≡ Some target →
       (said : Option (Argument ℕ)) (call : Call) →
       option_and_then (λ argument. call_of (parts r.kind target (argument_held object argument))) said ≡ Some call →
       FitsObject object call
@@ -86,14 +86,14 @@ module _ (clients : List ℕ) (r : Request ℕ StepBuffer) where
   fits_argument object target on (Some argument) call is = fits_parts object r.kind target argument call on is
 
   -- and where it is made on such objects
-  fits_target : (object : Object) (target : Option (Named NodeKey BufferName)) → target_of (row_of r.kind).on object ≡ target →
+  fits_target : (object : ActorObject) (target : Option (Named NodeKey BufferName)) → target_of (row_of r.kind).on object ≡ target →
       (call : Call) → option_and_then (λ t. option_and_then (λ argument. call_of (parts r.kind t (argument_held object argument)))
       (argument_at clients r.argument)) target ≡ Some call → FitsObject object call
   fits_target object None on call is = cc
   fits_target object (Some target) on call is = fits_argument object target on (argument_at clients r.argument) call is
 
   -- an object takes the call that is asked for on it
-  pub fits_on : (object : Object) (call : Call) → call_on clients r object ≡ Some call → FitsObject object call
+  pub fits_on : (object : ActorObject) (call : Call) → call_on clients r object ≡ Some call → FitsObject object call
   fits_on object call is = fits_target object (target_of (row_of r.kind).on object) refl call is
 
   -- a call that is no join and names nothing is made on nothing
@@ -120,7 +120,7 @@ module _ (clients : List ℕ) (r : Request ℕ StepBuffer) where
   pub fits_bare : (call : Call) → bare_call clients r ≡ Some call → FitsNone call
   fits_bare call is = bare_if (is_join (row_of r.kind).brings) refl call is
 
-module _ (objects : List (Option Object)) where
+module _ (objects : List (Option ActorObject)) where
   -- a call on nothing
   pub fits_nothing : (made : Option Call) (asked : StepCall) → ((call : Call) → made ≡ Some call → FitsNone call) →
       option_map (λ (c : Call). record { call = c; slot = None }) made ≡ Some asked → Fits objects asked.slot asked.call
@@ -128,20 +128,21 @@ module _ (objects : List (Option Object)) where
   fits_nothing (Some call) asked fits is =
       takes (λ (a : StepCall). Fits objects a.slot a.call) (record { call = call; slot = None }) asked is (fits call refl)
 
-module _ (objects : List (Option Object)) (f : Object → Option Call) (fits : (object : Object) (call : Call) → f object ≡ Some call →
+module _ (objects : List (Option ActorObject)) (f : ActorObject → Option Call)
+    (fits : (object : ActorObject) (call : Call) → f object ≡ Some call →
     FitsObject object call) where
   -- the call that was made of an object
-  pub fits_made : (slot : ℕ) (object : Object) (made : Option Call) (asked : StepCall) →
+  pub fits_made : (slot : ℕ) (object : ActorObject) (made : Option Call) (asked : StepCall) →
       object_at objects slot ≡ Some object → f object ≡ made →
       option_map (λ (c : Call). record { call = c; slot = Some slot }) made ≡ Some asked → Fits objects asked.slot asked.call
   fits_made slot object None asked there is so = cc
   fits_made slot object (Some call) asked there is so =
       takes (λ (a : StepCall). Fits objects a.slot a.call) (record { call = call; slot = Some slot }) asked so
-      (subst (λ (t : Option Object). FitsThere t call) (sym there) (fits object call is))
+      (subst (λ (t : Option ActorObject). FitsThere t call) (sym there) (fits object call is))
 
   -- of what lies in the slot
-  pub fits_lying : (slot : ℕ) (there : Option Object) (asked : StepCall) → object_at objects slot ≡ there →
-      option_and_then (λ (object : Object). option_map (λ (c : Call). record { call = c; slot = Some slot }) (f object)) there
+  pub fits_lying : (slot : ℕ) (there : Option ActorObject) (asked : StepCall) → object_at objects slot ≡ there →
+      option_and_then (λ (object : ActorObject). option_map (λ (c : Call). record { call = c; slot = Some slot }) (f object)) there
       ≡ Some asked →
       Fits objects asked.slot asked.call
   fits_lying slot None asked is so = cc

@@ -6,7 +6,7 @@ use Rattle.sm_names.specs.declared.rules.TheConstants.{MAX_BUFFERS}
 use Rattle.sm_names.specs.declared.keys.BufferName.{BufferName}
 use Rattle.sm_names.specs.declared.keys.Strength.{Strength}
 use Rattle.actor_scripts.specs.declared.queues.Queues.{Queues}
-use Rattle.actor_scripts.specs.declared.object.Object.{Object}
+use Rattle.actor_scripts.specs.declared.object.ActorObject.{ActorObject}
 use Rattle.sm_names.specs.declared.messages.Reply.{Reply}
 use Rattle.actor_scripts.specs.declared.step.Step.{Step}
 use Rattle.actor_scripts.specs.declared.object.StepCall.{StepCall}
@@ -23,16 +23,16 @@ both_none strong weak none none' Strength.Weak = none'
 
 module _ (collection : ℕ) (strength : Strength) (set index : ℕ) where
   -- the handles from this index on
-  abbrev pub rest_from : List Object
+  abbrev pub rest_from : List ActorObject
   rest_from = handles_from collection strength set index (MAX_BUFFERS - index)
 
   -- and those behind it
-  abbrev pub behind : List Object
+  abbrev pub behind : List ActorObject
   behind = handles_from collection strength set (index + 1) (MAX_BUFFERS - (index + 1))
 
   -- this one
-  abbrev pub handle_here : Object
-  handle_here = Object.Handle (record { collection = collection; index = index }) strength
+  abbrev pub handle_here : ActorObject
+  handle_here = ActorObject.Handle (record { collection = collection; index = index }) strength
 
   -- this many from this one on, which the set has
   pub from_with : (count : ℕ) → (bit_at set index == 1) ≡ true → handles_from collection strength set index (suc count) ≡
@@ -76,20 +76,20 @@ pub spent_so : (state without next : Known) (asked : StepCall) (reply : Reply) �
 spent_so state without next asked reply so gone remove_handle = rw (remove_handle, gone, so) refl
 
 -- what a reply changes, one after another
-pub noted : (state node tracker next last : Known) (on : Option Object) (step : Step) (asked : StepCall) (reply : Reply) →
+pub noted : (state node tracker next last : Known) (on : Option ActorObject) (step : Step) (asked : StepCall) (reply : Reply) →
     on ≡ on_of state.objects asked.slot → node ≡ with_node_label state step reply → tracker ≡ with_tracker_label node step reply →
     next ≡ without_spent tracker asked reply → last ≡ with_objects next (new_objects on asked.call reply) →
     last ≡ state_after state step asked reply
 noted state node tracker next last on step asked reply is a b c d = rw (d, c, b, a, is) refl
 
 -- one more object
-pub object_more : (state : Known) (object : Object) → (with_object state object).objects ≡ state.objects ++ Some object ∷ []
-object_more state (Object.Token key collection) = refl
-object_more state (Object.Collection key collection) = refl
-object_more state (Object.Handle buffer strength) = refl
+pub object_more : (state : Known) (object : ActorObject) → (with_object state object).objects ≡ state.objects ++ Some object ∷ []
+object_more state (ActorObject.Token key collection) = refl
+object_more state (ActorObject.Collection key collection) = refl
+object_more state (ActorObject.Handle buffer strength) = refl
 
 -- more objects
-pub objects_more : (state : Known) (objects : List Object) → (with_objects state objects).objects ≡ state.objects ++ map Some objects
+pub objects_more : (state : Known) (objects : List ActorObject) → (with_objects state objects).objects ≡ state.objects ++ map Some objects
 objects_more state [] = sym (append-nil state.objects)
 objects_more state (object ∷ objects) =
     objects_more (with_object state object) objects

@@ -20,7 +20,7 @@ use Rattle.script_lines.specs.declared.line.Request.{Request}
 use Rattle.actor_scripts.specs.declared.step.Step.{Step}
 use Rattle.actor_scripts.specs.declared.step.StepBuffer.{StepBuffer}
 use Rattle.actor_scripts.specs.declared.object.StepCall.{StepCall}
-use Rattle.actor_scripts.specs.declared.object.Object.{Object}
+use Rattle.actor_scripts.specs.declared.object.ActorObject.{ActorObject}
 
 -- a node and its collection
 abbrev pub NodePlace : Type 0
@@ -32,7 +32,7 @@ NodePlace = NodeKey × ℕ
 pub record Known : Type 0 where
   pub nodes : ℕ → Option NodePlace
   pub trackers : ℕ → Option ℕ
-  pub objects : List (Option Object)
+  pub objects : List (Option ActorObject)
   pub spots : NodeKey → Option ℕ
   pub handles : Strength → BufferName → List ℕ
 
@@ -49,11 +49,11 @@ nothing_known = record {
 -- ---- what steps ask for
 
 -- what lies in a slot
-abbrev pub object_at : List (Option Object) → ℕ → Option Object
-object_at objects slot = option_and_then (λ (t : Option Object). t) (slice_get objects slot)
+abbrev pub object_at : List (Option ActorObject) → ℕ → Option ActorObject
+object_at objects slot = option_and_then (λ (t : Option ActorObject). t) (slice_get objects slot)
 
 -- what a call is made on
-abbrev pub on_of : List (Option Object) → Option ℕ → Option Object
+abbrev pub on_of : List (Option ActorObject) → Option ℕ → Option ActorObject
 on_of objects None = None
 on_of objects (Some slot) = object_at objects slot
 
@@ -74,21 +74,21 @@ with_strength held (Argument.Gift strength to) = Argument.Gift held to
 with_strength held argument = argument
 
 -- what is said of the object: a handle has its own strength
-abbrev pub argument_held : Object → Argument ℕ → Argument ℕ
-argument_held (Object.Handle buffer held) argument = with_strength held argument
+abbrev pub argument_held : ActorObject → Argument ℕ → Argument ℕ
+argument_held (ActorObject.Handle buffer held) argument = with_strength held argument
 argument_held _ argument = argument
 
 -- the object for a call that is made on such objects
-abbrev pub target_of : Target → Object → Option (Named NodeKey BufferName)
-target_of Target.Token (Object.Token key collection) = Some (Named.Node key)
-target_of Target.End (Object.Token key collection) = Some (Named.Node key)
-target_of Target.Collection (Object.Collection key collection) = Some (Named.Node key)
-target_of Target.End (Object.Collection key collection) = Some (Named.Node key)
-target_of Target.Handle (Object.Handle buffer strength) = Some (Named.Buffer buffer)
+abbrev pub target_of : Target → ActorObject → Option (Named NodeKey BufferName)
+target_of Target.Token (ActorObject.Token key collection) = Some (Named.Node key)
+target_of Target.End (ActorObject.Token key collection) = Some (Named.Node key)
+target_of Target.Collection (ActorObject.Collection key collection) = Some (Named.Node key)
+target_of Target.End (ActorObject.Collection key collection) = Some (Named.Node key)
+target_of Target.Handle (ActorObject.Handle buffer strength) = Some (Named.Buffer buffer)
 target_of _ _ = None
 
 -- the call that is asked for on the object, whatever labels it binds
-abbrev pub call_on : List ℕ → Request ℕ StepBuffer → Object → Option Call
+abbrev pub call_on : List ℕ → Request ℕ StepBuffer → ActorObject → Option Call
 call_on clients r object = option_and_then
     (λ target. option_and_then (λ argument. call_of (parts r.kind target (argument_held object argument)))
     (argument_at clients r.argument))
@@ -137,9 +137,9 @@ handle_slot state strength label index =
     (state.nodes label)
 
 -- the call that is made on what lies in the slot
-abbrev pub slot_call : List (Option Object) → (Object → Option Call) → ℕ → Option StepCall
+abbrev pub slot_call : List (Option ActorObject) → (ActorObject → Option Call) → ℕ → Option StepCall
 slot_call objects call slot =
-    option_and_then (λ (object : Object). option_map (λ (c : Call). record { call = c; slot = Some slot }) (call object))
+    option_and_then (λ (object : ActorObject). option_map (λ (c : Call). record { call = c; slot = Some slot }) (call object))
     (object_at objects slot)
 
 -- the call that is asked for, by what it is to be made on
@@ -190,22 +190,22 @@ with_queues handles Strength.Weak queues Strength.Strong = handles Strength.Stro
 with_queues handles Strength.Weak queues Strength.Weak = queues
 
 -- one more object: it lies in the next slot
-abbrev pub with_object : Known → Object → Known
-with_object state (Object.Token key collection) = record state {
-  objects = state.objects ++ Some (Object.Token key collection) ∷ [];
+abbrev pub with_object : Known → ActorObject → Known
+with_object state (ActorObject.Token key collection) = record state {
+  objects = state.objects ++ Some (ActorObject.Token key collection) ∷ [];
   spots = with_spot state.spots key (length state.objects);
 }
-with_object state (Object.Collection key collection) = record state {
-  objects = state.objects ++ Some (Object.Collection key collection) ∷ [];
+with_object state (ActorObject.Collection key collection) = record state {
+  objects = state.objects ++ Some (ActorObject.Collection key collection) ∷ [];
   spots = with_spot state.spots key (length state.objects);
 }
-with_object state (Object.Handle buffer strength) = record state {
-  objects = state.objects ++ Some (Object.Handle buffer strength) ∷ [];
+with_object state (ActorObject.Handle buffer strength) = record state {
+  objects = state.objects ++ Some (ActorObject.Handle buffer strength) ∷ [];
   handles = with_queues state.handles strength (with_slot_last (state.handles strength) buffer (length state.objects));
 }
 
 -- more objects, one after another
-abbrev pub with_objects : Known → List Object → Known
+abbrev pub with_objects : Known → List ActorObject → Known
 with_objects state [] = state
 with_objects state (object ∷ objects) = with_objects (with_object state object) objects
 
@@ -227,7 +227,7 @@ handle_of (Call.GiveHandle buffer strength to) = Some (buffer, strength)
 handle_of _ = None
 
 -- nothing lies in the slot any more
-abbrev pub emptied : List (Option Object) → Option ℕ → List (Option Object)
+abbrev pub emptied : List (Option ActorObject) → Option ℕ → List (Option ActorObject)
 emptied objects None = objects
 emptied objects (Some slot) = set objects slot None
 
@@ -243,35 +243,35 @@ without_handle state (Some name) = record state {
 }
 
 -- handles of this many buffers of a set, from this index on: bit i stands for buffer i
-unfoldable pub handles_from : ℕ → Strength → ℕ → ℕ → ℕ → List Object
+unfoldable pub handles_from : ℕ → Strength → ℕ → ℕ → ℕ → List ActorObject
 handles_from collection strength set index zero = []
 handles_from collection strength set index (suc count) =
     let more = handles_from collection strength set (index + 1) count in
-    if bit_at set index == 1 then Object.Handle (record { collection = collection; index = index }) strength ∷ more else more
+    if bit_at set index == 1 then ActorObject.Handle (record { collection = collection; index = index }) strength ∷ more else more
 
 -- handles of all of them, by rising index
-abbrev pub handles_of_set : ℕ → Strength → ℕ → List Object
+abbrev pub handles_of_set : ℕ → Strength → ℕ → List ActorObject
 handles_of_set collection strength set = handles_from collection strength set 0 MAX_BUFFERS
 
 -- an end of this kind
-abbrev pub end_object : Kind → NodeKey → ℕ → Object
-end_object Kind.Token key collection = Object.Token key collection
-end_object Kind.Collection key collection = Object.Collection key collection
+abbrev pub end_object : Kind → NodeKey → ℕ → ActorObject
+end_object Kind.Token key collection = ActorObject.Token key collection
+end_object Kind.Collection key collection = ActorObject.Collection key collection
 
 -- a token that was bound
-abbrev pub bound : Option Object → List Object
-bound (Some (Object.Token key collection)) = Object.Collection key collection ∷ []
+abbrev pub bound : Option ActorObject → List ActorObject
+bound (Some (ActorObject.Token key collection)) = ActorObject.Collection key collection ∷ []
 bound _ = []
 
 -- the objects that the reply gives; `on` is what the call was made on
-abbrev pub new_objects : Option Object → Call → Reply → List Object
-new_objects on Call.OpenRoot (Reply.Token key collection) = Object.Token key collection ∷ []
-new_objects on (Call.Duplicate parent) (Reply.Token key collection) = Object.Token key collection ∷ []
-new_objects on (Call.AttachToken parent) (Reply.Token key collection) = Object.Token key collection ∷ []
+abbrev pub new_objects : Option ActorObject → Call → Reply → List ActorObject
+new_objects on Call.OpenRoot (Reply.Token key collection) = ActorObject.Token key collection ∷ []
+new_objects on (Call.Duplicate parent) (Reply.Token key collection) = ActorObject.Token key collection ∷ []
+new_objects on (Call.AttachToken parent) (Reply.Token key collection) = ActorObject.Token key collection ∷ []
 new_objects on Call.Collect (Reply.Collected key kind collection) = end_object kind key collection ∷ []
-new_objects on Call.Collect (Reply.CollectedHandle buffer strength) = Object.Handle buffer strength ∷ []
+new_objects on Call.Collect (Reply.CollectedHandle buffer strength) = ActorObject.Handle buffer strength ∷ []
 new_objects on (Call.Take key) (Reply.Taken collection strength set) = handles_of_set collection strength set
-new_objects on (Call.DupHandle buffer strength) Reply.Done = Object.Handle buffer strength ∷ []
+new_objects on (Call.DupHandle buffer strength) Reply.Done = ActorObject.Handle buffer strength ∷ []
 new_objects on (Call.Bind key) Reply.Done = bound on
 new_objects on _ _ = []
 
@@ -311,7 +311,7 @@ state_after state step asked reply =
     (new_objects (on_of state.objects asked.slot) asked.call reply)
 
 -- its objects alone
-abbrev pub objects_after : List (Option Object) → StepCall → Reply → List (Option Object)
+abbrev pub objects_after : List (Option ActorObject) → StepCall → Reply → List (Option ActorObject)
 objects_after objects asked reply =
     (if spends_object asked.call reply then emptied objects asked.slot else objects)
     ++ map Some (new_objects (on_of objects asked.slot) asked.call reply)
@@ -362,10 +362,10 @@ abbrev pub FitsHandle : BufferName → Strength → Call → Type 0
 FitsHandle buffer strength call = NamesHandle buffer strength (parts_of call).object (parts_of call).argument
 
 -- the object does
-abbrev pub FitsObject : Object → Call → Type 0
-FitsObject (Object.Token key collection) call = FitsToken key call
-FitsObject (Object.Collection key collection) call = FitsCollection key call
-FitsObject (Object.Handle buffer strength) call = FitsHandle buffer strength call
+abbrev pub FitsObject : ActorObject → Call → Type 0
+FitsObject (ActorObject.Token key collection) call = FitsToken key call
+FitsObject (ActorObject.Collection key collection) call = FitsCollection key call
+FitsObject (ActorObject.Handle buffer strength) call = FitsHandle buffer strength call
 
 -- a call on nothing, which makes no client
 abbrev pub NamesNothing : Product → Named NodeKey BufferName → Type 0
@@ -378,11 +378,11 @@ abbrev pub FitsNone : Call → Type 0
 FitsNone call = NamesNothing (row_for call).brings (parts_of call).object
 
 -- something lies there that takes the call
-abbrev pub FitsThere : Option Object → Call → Type 0
+abbrev pub FitsThere : Option ActorObject → Call → Type 0
 FitsThere None call = ⊥
 FitsThere (Some object) call = FitsObject object call
 
 -- what lies in the slot takes the call, and where no slot is told it is made on nothing
-abbrev pub Fits : List (Option Object) → Option ℕ → Call → Type 0
+abbrev pub Fits : List (Option ActorObject) → Option ℕ → Call → Type 0
 Fits objects None call = FitsNone call
 Fits objects (Some slot) call = FitsThere (object_at objects slot) call

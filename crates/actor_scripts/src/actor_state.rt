@@ -4,7 +4,7 @@ ghost use Rattle.actor_scripts.specs.ActorStates.{state_after, new_objects, hand
 ghost use Rattle.actor_scripts.specs.Tables.{known};
 
 use crate::calls::{asked_strength, bare_call, call_on, node_label, tracker_label};
-use crate::object::{Object as Held, StepCall};
+use crate::object::{ActorObject as Held, StepCall};
 use crate::queues::Queues;
 use crate::replies::{handle_of, new_place, new_tracker, spends_object};
 use crate::step::{Step, StepBuffer};

@@ -2,7 +2,7 @@
 ghost use Rattle.std.specs.Prelude.{◌≡◌, slice_get};
 ghost use Rattle.actor_scripts.specs.ActorStates.{argument_at as argument_told, argument_held as argument_of_handle, asked_strength as strength_told, bare_call as call_on_nothing, call_on as call_on_object, node_label as label_of_node, target_of as target_on, tracker_label as label_of_tracker};
 
-use crate::object::Object as Held;
+use crate::object::ActorObject as Held;
 use crate::step::{Step, StepBuffer};
 use script_lines::Request;
 use sm_names::{

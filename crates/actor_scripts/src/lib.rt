@@ -18,7 +18,7 @@ mod step;
 pub use actor_list::ActorList;
 pub use actor_state::ActorState;
 pub use fault::ActorScriptFault;
-pub use object::{Object, StepCall};
+pub use object::{ActorObject, StepCall};
 pub use script::read_actors;
 pub use script_lines::Request;
 pub use step::{ActorScript, Step, StepBuffer};

@@ -3,7 +3,7 @@ use sm_names::{BufferName, Call, CollectionId, NodeKey, Strength};
 
 /// One object that an actor holds.
 #[derive(Clone, Copy, PartialEq, Eq)]
-pub enum Object {
+pub enum ActorObject {
     /// A token: the node that it is the end of, and the collection that the node is in.
     Token {
         key: NodeKey,

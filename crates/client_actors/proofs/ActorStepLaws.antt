@@ -12,13 +12,13 @@ use Rattle.sm_names.specs.declared.messages.Call.{Call}
 use Rattle.sm_names.specs.declared.messages.Reply.{Reply}
 use Rattle.sm_names.specs.declared.outcomes.StepFault.{StepFault}
 use Rattle.event_laws.specs.declared.own.Own.{Own}
-use Rattle.client_ends.specs.declared.held.End.{End}
+use Rattle.client_ends.specs.declared.held.ParcelContent.{ParcelContent}
 use Rattle.client_ends.specs.Clients.{Grip, Made, Seen, last_reply}
 use Rattle.client_vanish.specs.Vanishings.{AllHeldBy, Token, Collection, Handle, owner_of, sorted}
 use Rattle.client_vanish.specs.Stacks.{kept_objects}
 use Rattle.client_vanish.proofs.BackLaws.{sorted_own}
 use Rattle.actor_scripts.specs.declared.object.StepCall.{StepCall}
-use Rattle.actor_scripts.specs.declared.object.Object.{Object}
+use Rattle.actor_scripts.specs.declared.object.ActorObject.{ActorObject}
 use Rattle.actor_scripts.specs.ActorStates.{FitsThere, bound, emptied, new_objects, handles_from, on_of, spends_object, object_at}
 use Rattle.client_actors.specs.declared.new_objects.NewObjects.{NewObjects}
 use Rattle.client_actors.specs.ObjectCalls.{NewHeldBy, Did, SlotHeldBy, filled_by, handle_seen, lies, slots_for, there, objects_in}
@@ -27,14 +27,16 @@ use Rattle.client_actors.specs.ActorSteps.{MakesCall, Asks, last_objects_first, 
 -- ---- one slot
 
 -- where something takes the call, there is a slot
-pub within : {E S W : Type 0} (items : List (Option (End E S W))) (slot : ℕ) (call : Call) → FitsThere (object_at (lies items) slot) call →
+pub within : {E S W : Type 0} (items : List (Option (ParcelContent E S W))) (slot : ℕ) (call : Call) →
+    FitsThere (object_at (lies items) slot) call →
     slot < length items
 within [] slot call fits = absurd fits
 within (x ∷ xs) zero call fits = omega arith
 within (x ∷ xs) (suc slot) call fits = let more = within xs slot call fits in omega (arith, more)
 
 -- what lies there
-pub at_slot : {E S W : Type 0} (items : List (Option (End E S W))) (slot : ℕ) (on : Option (End E S W)) → slot < length items →
+pub at_slot : {E S W : Type 0} (items : List (Option (ParcelContent E S W))) (slot : ℕ) (on : Option (ParcelContent E S W)) →
+    slot < length items →
     on ≡ slice_index_or items slot on →
     object_at (lies items) slot ≡ there on
 at_slot [] slot on lt is = absurd (omega (arith, lt))
@@ -42,7 +44,8 @@ at_slot (x ∷ xs) zero on lt is = sym (ap there is)
 at_slot (x ∷ xs) (suc slot) on lt is = at_slot xs slot on (omega (arith, lt)) is
 
 -- the same object put back changes nothing
-set_same : {E S W : Type 0} (items : List (Option (End E S W))) (slot : ℕ) (on : Option (End E S W)) → slot < length items →
+set_same : {E S W : Type 0} (items : List (Option (ParcelContent E S W))) (slot : ℕ) (on : Option (ParcelContent E S W)) →
+    slot < length items →
     on ≡ slice_index_or items slot on →
     set (lies items) slot (there on) ≡ lies items
 set_same [] slot on lt is = refl
@@ -50,15 +53,16 @@ set_same (x ∷ xs) zero on lt is = ap (λ o. there o ∷ lies xs) is
 set_same (x ∷ xs) (suc slot) on lt is = ap (λ l. there x ∷ l) (set_same xs slot on (omega (arith, lt)) is)
 
 -- an object is gone, or still there
-set_if : {E S W : Type 0} (items : List (Option (End E S W))) (slot : ℕ) (on : Option (End E S W)) → slot < length items →
+set_if : {E S W : Type 0} (items : List (Option (ParcelContent E S W))) (slot : ℕ) (on : Option (ParcelContent E S W)) →
+    slot < length items →
     on ≡ slice_index_or items slot on → (gone : Bool) →
     set (lies items) slot (if gone then None else there on) ≡ (if gone then emptied (lies items) (Some slot) else lies items)
 set_if items slot on lt is true = refl
 set_if items slot on lt is false = set_same items slot on lt is
 
 -- a call on what lies in a slot
-pub asks_at : {E S W : Type 0} (old new : Seen) (call : Call) (items items' : List (Option (End E S W))) (slot : ℕ)
-    (on on' : Option (End E S W)) (brought : NewObjects E S W) →
+pub asks_at : {E S W : Type 0} (old new : Seen) (call : Call) (items items' : List (Option (ParcelContent E S W))) (slot : ℕ)
+    (on on' : Option (ParcelContent E S W)) (brought : NewObjects E S W) →
     slot < length items → on ≡ slice_index_or items slot on → items' ≡ set items slot on' →
     Did old new call (there on) (there on') brought →
     Asks old new call (Some slot) (lies items) (lies items') brought
@@ -72,8 +76,8 @@ asks_at old new call items items' slot on on' brought lt is put did = record {
 }
 
 -- whatever comes of it
-pub asks_there : {E S W : Type 0} (old new : Seen) (call : Call) (told : Option ℕ) (items : List (Option (End E S W))) (slot : ℕ)
-    (on on' : Option (End E S W)) (result : Result (NewObjects E S W) StepFault) →
+pub asks_there : {E S W : Type 0} (old new : Seen) (call : Call) (told : Option ℕ) (items : List (Option (ParcelContent E S W))) (slot : ℕ)
+    (on on' : Option (ParcelContent E S W)) (result : Result (NewObjects E S W) StepFault) →
     told ≡ Some slot → slot < length items → on ≡ slice_index_or items slot on →
     MatchResult result (λ b. Did old new call (there on) (there on') b) (λ _. (new ≡ old) × (on' ≡ on)) →
     MatchResult result (λ b. Asks old new call told (lies items) (lies (set items slot on')) b) (λ _. (new ≡ old) ×
@@ -112,7 +116,7 @@ full_owned client (h ∷ hs) all =
     (full_owned client hs (All-tail (λ (x : Grip). x.client ≡ client) h hs all))
 
 -- all slots stay the client's once they contain what the call brought, which the client holds
-pub stored_owned : {E S W : Type 0} (client : ℕ) (slots : List (Option (End E S W))) (brought : NewObjects E S W) →
+pub stored_owned : {E S W : Type 0} (client : ℕ) (slots : List (Option (ParcelContent E S W))) (brought : NewObjects E S W) →
     All (SlotHeldBy client) slots →
     NewHeldBy client brought → All (SlotHeldBy client) (slots ++ slots_for brought)
 stored_owned client slots NewObjects.Nothing all of = All-append (SlotHeldBy client) slots [] all (All-nil (SlotHeldBy client))
@@ -123,7 +127,8 @@ stored_owned client slots (NewObjects.Handles handles) all of =
 stored_owned client slots (NewObjects.Tracker tracker) all of = All-append (SlotHeldBy client) slots [] all (All-nil (SlotHeldBy client))
 
 -- with what it brought
-pub answers : {E S W : Type 0} (old new : Seen) (asked : StepCall) (before : List (Option Object)) (mid after : List (Option (End E S W)))
+pub answers : {E S W : Type 0} (old new : Seen) (asked : StepCall) (before : List (Option ActorObject))
+    (mid after : List (Option (ParcelContent E S W)))
     (brought : NewObjects E S W) →
     Asks old new asked.call asked.slot before (lies mid) brought → after ≡ mid ++ slots_for brought →
     MakesCall old new asked before (lies after)
@@ -152,14 +157,14 @@ handles_few collection strength held index (suc count) =
     either more false is = rw is (omega (arith, more))
 
 -- a Bind of a token gives one collection, and a Bind of anything else would give nothing
-bound_few : (on : Option Object) → length (bound on) ≤ MAX_BUFFERS
-bound_few (Some (Object.Token key collection)) = omega arith
-bound_few (Some (Object.Collection key collection)) = omega arith
-bound_few (Some (Object.Handle buffer strength)) = omega arith
+bound_few : (on : Option ActorObject) → length (bound on) ≤ MAX_BUFFERS
+bound_few (Some (ActorObject.Token key collection)) = omega arith
+bound_few (Some (ActorObject.Collection key collection)) = omega arith
+bound_few (Some (ActorObject.Handle buffer strength)) = omega arith
 bound_few None = omega arith
 
 -- a call gives MAX_BUFFERS objects at most, since only a Take gives more than one
-few : (on : Option Object) (call : Call) (reply : Reply) → length (new_objects on call reply) ≤ MAX_BUFFERS
+few : (on : Option ActorObject) (call : Call) (reply : Reply) → length (new_objects on call reply) ≤ MAX_BUFFERS
 few on (Call.Take key) (Reply.Taken collection strength held) = handles_few collection strength held 0 MAX_BUFFERS
 few on (Call.Take key) _ = omega arith
 few on (Call.Bind key) Reply.Done = bound_few on
@@ -178,7 +183,7 @@ few on (Call.DupHandle buffer strength) _ = omega arith
 few on _ reply = omega arith
 
 -- so there is room for it
-pub room_for : {E S W : Type 0} (old new : Seen) (call : Call) (slot : Option ℕ) (before after : List (Option Object))
+pub room_for : {E S W : Type 0} (old new : Seen) (call : Call) (slot : Option ℕ) (before after : List (Option ActorObject))
     (brought : NewObjects E S W) → Asks old new call slot before after brought → length (slots_for brought) ≤ MAX_BUFFERS
 room_for old new call slot before after brought asks =
     subst (λ n. n ≤ MAX_BUFFERS) (sym (as_many brought ∙ ap length asks.objects)) (few (on_of before slot) call asks.reply)
@@ -208,19 +213,23 @@ pairs_more old new call reply made = ap pairs_of made.told.next
 -- ---- what an actor leaves
 
 -- turned twice, the objects are in their order
-pub left_turned : {E S W : Type 0} (slots : List (Option (End E S W))) → last_objects_first (reverse slots) ≡ objects_in_slots slots
+pub left_turned : {E S W : Type 0} (slots : List (Option (ParcelContent E S W))) →
+    last_objects_first (reverse slots) ≡ objects_in_slots slots
 left_turned slots = ap (flat_map kept_objects) (reverse-reverse slots)
 
 module _ (client : ℕ) where
   -- an object in a slot, by what is known of it
-  one_part : {E S W : Type 0} (slot : Option (End E S W)) → SlotHeldBy client slot → part_of client (there slot) ≡ kept_objects slot
+  one_part : {E S W : Type 0} (slot : Option (ParcelContent E S W)) → SlotHeldBy client slot →
+      part_of client (there slot) ≡ kept_objects slot
   one_part None of = refl
-  one_part (Some (End.Token t)) of = ap (λ c. Token (record { client = c; key = t.key; collection = t.collection }) ∷ []) (sym of)
-  one_part (Some (End.Collection t)) of = ap (λ c. Collection (record { client = c; key = t.key; collection = t.collection }) ∷ []) (sym of)
-  one_part (Some (End.Handle h)) of = ap (λ c. Handle (record { client = c; buffer = h.buffer; strength = h.strength }) ∷ []) (sym of)
+  one_part (Some (ParcelContent.Token t)) of = ap (λ c. Token (record { client = c; key = t.key; collection = t.collection }) ∷ []) (sym of)
+  one_part (Some (ParcelContent.Collection t)) of = ap (λ c. Collection
+      (record { client = c; key = t.key; collection = t.collection }) ∷ []) (sym of)
+  one_part (Some (ParcelContent.Handle h)) of = ap (λ c. Handle (record { client = c; buffer = h.buffer; strength = h.strength }) ∷ [])
+      (sym of)
 
   -- all of them
-  pub parts_left : {E S W : Type 0} (slots : List (Option (End E S W))) → All (SlotHeldBy client) slots →
+  pub parts_left : {E S W : Type 0} (slots : List (Option (ParcelContent E S W))) → All (SlotHeldBy client) slots →
       flat_map (part_of client) (lies slots) ≡ objects_in_slots slots
   parts_left [] of = refl
   parts_left (x ∷ xs) of =
@@ -228,20 +237,22 @@ module _ (client : ℕ) where
       ∙ ap (λ l. kept_objects x ++ l) (parts_left xs (All-tail (SlotHeldBy client) x xs of))
 
   -- their holder
-  one_owner : {E S W : Type 0} (slot : Option (End E S W)) → SlotHeldBy client slot → All (λ p. owner_of p ≡ client) (kept_objects slot)
+  one_owner : {E S W : Type 0} (slot : Option (ParcelContent E S W)) → SlotHeldBy client slot →
+      All (λ p. owner_of p ≡ client) (kept_objects slot)
   one_owner None of = All-nil (λ p. owner_of p ≡ client)
-  one_owner (Some (End.Token t)) of = All-cons (λ p. owner_of p ≡ client) (Token t) [] of (All-nil (λ p. owner_of p ≡ client))
-  one_owner (Some (End.Collection t)) of = All-cons (λ p. owner_of p ≡ client) (Collection t) [] of (All-nil (λ p. owner_of p ≡ client))
-  one_owner (Some (End.Handle h)) of = All-cons (λ p. owner_of p ≡ client) (Handle h) [] of (All-nil (λ p. owner_of p ≡ client))
+  one_owner (Some (ParcelContent.Token t)) of = All-cons (λ p. owner_of p ≡ client) (Token t) [] of (All-nil (λ p. owner_of p ≡ client))
+  one_owner (Some (ParcelContent.Collection t)) of = All-cons (λ p. owner_of p ≡ client) (Collection t) [] of
+      (All-nil (λ p. owner_of p ≡ client))
+  one_owner (Some (ParcelContent.Handle h)) of = All-cons (λ p. owner_of p ≡ client) (Handle h) [] of (All-nil (λ p. owner_of p ≡ client))
 
   -- each object in slots that the client holds belongs to the client
-  all_owner : {E S W : Type 0} (slots : List (Option (End E S W))) → All (SlotHeldBy client) slots →
+  all_owner : {E S W : Type 0} (slots : List (Option (ParcelContent E S W))) → All (SlotHeldBy client) slots →
       All (λ p. owner_of p ≡ client) (objects_in_slots slots)
   all_owner [] of = All-nil (λ p. owner_of p ≡ client)
   all_owner (x ∷ xs) of = All-append (λ p. owner_of p ≡ client) (kept_objects x) (objects_in_slots xs)
       (one_owner x (All-head (SlotHeldBy client) x xs of)) (all_owner xs (All-tail (SlotHeldBy client) x xs of))
 
   -- so each list of a kind is
-  pub left_owned : {E S W : Type 0} (slots : List (Option (End E S W))) → All (SlotHeldBy client) slots →
+  pub left_owned : {E S W : Type 0} (slots : List (Option (ParcelContent E S W))) → All (SlotHeldBy client) slots →
       AllHeldBy client (sorted (objects_in_slots slots))
   left_owned slots of = sorted_own client (objects_in_slots slots) (all_owner slots of)

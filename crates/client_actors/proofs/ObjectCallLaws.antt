@@ -9,18 +9,18 @@ use Rattle.sm_names.specs.declared.keys.NodeKey.{NodeKey}
 use Rattle.sm_names.specs.declared.messages.Call.{Call}
 use Rattle.sm_names.specs.declared.messages.Reply.{Reply}
 use Rattle.event_laws.specs.HandleSums.{indices_in}
-use Rattle.client_ends.specs.declared.held.End.{End}
+use Rattle.client_ends.specs.declared.held.ParcelContent.{ParcelContent}
 use Rattle.client_ends.specs.declared.why.Why.{Why}
 use Rattle.client_ends.specs.Clients.{Grip, MadeOr, Seen}
 use Rattle.client_ends.specs.Taking.{Took, grip_at, grips_at}
-use Rattle.actor_scripts.specs.declared.object.Object.{Object}
+use Rattle.actor_scripts.specs.declared.object.ActorObject.{ActorObject}
 use Rattle.actor_scripts.specs.ActorStates.{new_objects, handles_from, handles_of_set, spends_object}
 use Rattle.client_actors.specs.declared.new_objects.NewObjects.{NewObjects}
 use Rattle.client_actors.specs.ObjectCalls.{Did, handle_seen, may_spend, there}
 
 module _ (old new : Seen) (key : NodeKey) (handles : List Grip) (took : Took old new key handles) where
   -- the handles that a Take opens from this index on
-  abbrev pub seen_at : ℕ → ℕ → List Object
+  abbrev pub seen_at : ℕ → ℕ → List ActorObject
   seen_at index count =
       map handle_seen (map (grip_at old.id took.taken) (filter (λ i. bit_at took.taken.set i == 1) (range_with_len index count)))
 
@@ -52,7 +52,7 @@ module _ (old new : Seen) (key : NodeKey) (handles : List Grip) (took : Took old
       (grips_owned is)
 
 -- a call that did not spend what it might have spent gives nothing
-unspent : (on : Option Object) (call : Call) (reply : Reply) → may_spend call ≡ true →
+unspent : (on : Option ActorObject) (call : Call) (reply : Reply) → may_spend call ≡ true →
     spends_object call reply ≡ false → new_objects on call reply ≡ []
 unspent on (Call.Bind key) Reply.Done may not = cc
 unspent on (Call.Bind key) _ may not = refl
@@ -64,7 +64,8 @@ unspent on (Call.GiveHandle buffer strength to) reply may not = refl
 unspent on _ reply may not = cc
 
 -- what was not spent is where it was
-pub kept_back : {E S W : Type 0} (old new : Seen) (call : Call) (on on' : Option (End E S W)) (reply : Reply) → may_spend call ≡ true →
+pub kept_back : {E S W : Type 0} (old new : Seen) (call : Call) (on on' : Option (ParcelContent E S W)) (reply : Reply) →
+    may_spend call ≡ true →
     MadeOr (spends_object call) old new call (Why.Reply reply) → on' ≡ on →
     Did {E = E} {S = S} {W = W} old new call (there on) (there on') NewObjects.Nothing
 kept_back old new call on on' reply may so same = record {

@@ -4,7 +4,7 @@ use Rattle.std.proofs.Common.{[], ◌∷◌, ◌++◌, append_assoc, append-nil,
 use Rattle.std.specs.Prelude.{flat_map, Result, Ok, Err, OnErr, OnOk, is_err}
 use Rattle.std.specs.List.{All}
 use Rattle.sm_names.specs.declared.messages.Reply.{Reply}
-use Rattle.client_ends.specs.declared.held.End.{End}
+use Rattle.client_ends.specs.declared.held.ParcelContent.{ParcelContent}
 use Rattle.client_ends.specs.Clients.{Made, Seen, last_reply}
 use Rattle.client_vanish.specs.Vanishings.{AllHeldBy, Holds, IsBroken, IsGone, Remains, sorted}
 use Rattle.actor_scripts.specs.declared.step.Step.{Step}
@@ -36,7 +36,8 @@ broken_id old new held back (inl same) = ap (λ (c : Seen). c.id) same.0
 broken_id old new held back (inr goes) = goes.made.id
 
 -- the call of a step, and what the actor then knows
-pub has_made : {E S W : Type 0} (step : Step) (asked : StepCall) (reply : Reply) (old new : Actor E S W) (mid : List (Option (End E S W))) →
+pub has_made : {E S W : Type 0} (step : Step) (asked : StepCall) (reply : Reply) (old new : Actor E S W)
+    (mid : List (Option (ParcelContent E S W))) →
     MakesCall old.client new.client asked (lies mid) (lies new.slots.items) →
     mid ≡ old.slots.items → Some reply ≡ last_reply new.client.own → known new.state ≡ state_after (known old.state) step asked reply →
     (known new.state).objects ≡ objects_after (known old.state).objects asked reply → HasMade step asked reply old new
@@ -115,7 +116,7 @@ module _ {E S W : Type 0} (clients : List ℕ) (most : ℕ) where
   }
 
   -- what an actor holds that knows what it has
-  holds : (client : ℕ) (state : Known) (slots : List (Option (End E S W))) (held : Holds) → lies slots ≡ state.objects →
+  holds : (client : ℕ) (state : Known) (slots : List (Option (ParcelContent E S W))) (held : Holds) → lies slots ≡ state.objects →
       All (SlotHeldBy client) slots → held ≡ sorted (objects_in_slots slots) → held ≡ holds_by_state client state
   holds client state slots held has owned is =
       is ∙ ap sorted (sym (parts_left client slots owned) ∙ ap (λ t. flat_map (part_of client) t) has)

@@ -4,14 +4,14 @@ use Rattle.std.specs.List.{All}
 use Rattle.sm_names.specs.declared.messages.Call.{Call}
 use Rattle.sm_names.specs.declared.messages.Reply.{Reply}
 use Rattle.event_laws.specs.declared.own.Own.{Own}
-use Rattle.client_ends.specs.declared.held.End.{End}
+use Rattle.client_ends.specs.declared.held.ParcelContent.{ParcelContent}
 use Rattle.client_ends.specs.declared.held.Held.{Held}
 use Rattle.client_ends.specs.Clients.{Made, Seen}
 use Rattle.client_vanish.specs.Vanishings.{AllHeldBy, Holds, IsBroken, IsGone, Remains, HeldObject, Token, Collection, Handle, held_in, sorted}
 use Rattle.client_vanish.specs.Stacks.{kept_objects}
 use Rattle.actor_scripts.specs.declared.step.Step.{Step}
 use Rattle.actor_scripts.specs.declared.object.StepCall.{StepCall}
-use Rattle.actor_scripts.specs.declared.object.Object.{Object}
+use Rattle.actor_scripts.specs.declared.object.ActorObject.{ActorObject}
 use Rattle.actor_scripts.specs.ActorStates.{Known, emptied, state_after, step_call, new_objects, on_of, spends_object, objects_after}
 use Rattle.actor_scripts.specs.Tables.{known}
 use Rattle.client_actors.specs.declared.actor.Actor.{Actor}
@@ -25,13 +25,13 @@ abbrev pub pairs_of : List Own → List (Call × Reply)
 pairs_of own = map (λ (o : Own). (o.call, o.reply)) own
 
 -- an object that this client holds
-abbrev pub part_of : ℕ → Option Object → List HeldObject
+abbrev pub part_of : ℕ → Option ActorObject → List HeldObject
 part_of client None = []
-part_of client (Some (Object.Token key collection)) =
+part_of client (Some (ActorObject.Token key collection)) =
     Token (record { client = client; key = key; collection = collection }) ∷ []
-part_of client (Some (Object.Collection key collection)) =
+part_of client (Some (ActorObject.Collection key collection)) =
     Collection (record { client = client; key = key; collection = collection }) ∷ []
-part_of client (Some (Object.Handle buffer strength)) =
+part_of client (Some (ActorObject.Handle buffer strength)) =
     Handle (record { client = client; buffer = buffer; strength = strength }) ∷ []
 
 -- all that an actor holds by what it knows: in the list of each kind in the order in which it came
@@ -47,7 +47,7 @@ pub record HasFinished (clients : List ℕ) (most : ℕ) (steps : List Step) (le
   pub gone : IsGone before left.client (holds_by_state before.id state) left.refused
 
 -- a client's own list is a run of the first of its steps, and these are the objects that it then has
-pub record HasRunSome (clients : List ℕ) (most : ℕ) (steps : List Step) (client : Seen) (objects : List (Option Object)) : Type 0 where
+pub record HasRunSome (clients : List ℕ) (most : ℕ) (steps : List Step) (client : Seen) (objects : List (Option ActorObject)) : Type 0 where
   pub state : Known
   pub runs : RunsSome clients most steps (pairs_of client.own) state
   pub has : objects ≡ state.objects
@@ -63,7 +63,7 @@ pub record HasStopped (clients : List ℕ) (most : ℕ) (steps : List Step) (cli
   pub owned : AllHeldBy client.id held
 
 -- one event was made, of this call on the object in the slot, if the call has a slot: the slots became `after`, and these objects are new
-pub record Asks {E S W : Type 0} (old new : Seen) (call : Call) (slot : Option ℕ) (before after : List (Option Object))
+pub record Asks {E S W : Type 0} (old new : Seen) (call : Call) (slot : Option ℕ) (before after : List (Option ActorObject))
     (brought : NewObjects E S W) : Type 0 where
   pub reply : Reply
   pub made : Made old new call reply
@@ -72,13 +72,13 @@ pub record Asks {E S W : Type 0} (old new : Seen) (call : Call) (slot : Option �
   pub owned : NewHeldBy old.id brought
 
 -- one event was made of this call, and the slots are as after its reply
-pub record MakesCall (old new : Seen) (asked : StepCall) (before after : List (Option Object)) : Type 0 where
+pub record MakesCall (old new : Seen) (asked : StepCall) (before after : List (Option ActorObject)) : Type 0 where
   pub reply : Reply
   pub made : Made old new asked.call reply
   pub objects : after ≡ objects_after before asked reply
 
 -- a call came to a fault: it was not made and the slots are as they were, or it was and they are as after its reply
-abbrev pub Falters : Seen → Seen → StepCall → List (Option Object) → List (Option Object) → Type 0
+abbrev pub Falters : Seen → Seen → StepCall → List (Option ActorObject) → List (Option ActorObject) → Type 0
 Falters old new asked before after =
     ((new ≡ old) × (after ≡ before)) ⊎ MakesCall old new asked before after
 
@@ -99,7 +99,8 @@ abbrev pub IsAware : {E S W : Type 0} → Actor E S W → Type 0
 IsAware actor = lies actor.slots.items ≡ (known actor.state).objects
 
 -- the step made this call, whose reply is this, and the actor then knows this
-pub record HasCalled (clients : List ℕ) (step : Step) (reply : Reply) (before after : List (Call × Reply)) (state next : Known) : Type 0 where
+pub record HasCalled (clients : List ℕ) (step : Step) (reply : Reply) (before after : List (Call × Reply))
+    (state next : Known) : Type 0 where
   pub asked : StepCall
   pub is_asked : step_call clients state step ≡ Some asked
   pub made : after ≡ before ++ (asked.call, reply) ∷ []
@@ -124,11 +125,11 @@ pub record HasFaltered {E S W : Type 0} (clients : List ℕ) (step : Step) (old 
   pub has : lies new.slots.items ≡ state.objects
 
 -- the objects in slots, the newest first
-abbrev pub last_objects_first : {E S W : Type 0} → List (Option (End E S W)) → List HeldObject
+abbrev pub last_objects_first : {E S W : Type 0} → List (Option (ParcelContent E S W)) → List HeldObject
 last_objects_first slots = flat_map kept_objects (reverse slots)
 
 -- the objects in slots, in their order
-abbrev pub objects_in_slots : {E S W : Type 0} → List (Option (End E S W)) → List HeldObject
+abbrev pub objects_in_slots : {E S W : Type 0} → List (Option (ParcelContent E S W)) → List HeldObject
 objects_in_slots slots = flat_map kept_objects slots
 
 -- the actor made this call, and knows its reply

@@ -6,42 +6,42 @@ use Rattle.sm_names.specs.declared.call_parts.Spends.{Spends as Spending}
 use Rattle.sm_names.specs.declared.messages.Call.{Call}
 use Rattle.sm_names.specs.declared.messages.Reply.{Reply}
 use Rattle.sm_names.specs.CallRows.{row_for}
-use Rattle.client_ends.specs.declared.held.End.{End}
+use Rattle.client_ends.specs.declared.held.ParcelContent.{ParcelContent}
 use Rattle.client_ends.specs.Clients.{Grip, Made, Seen, Tag}
 use Rattle.client_ends.specs.Collecting.{end_client}
-use Rattle.actor_scripts.specs.declared.object.Object.{Object}
+use Rattle.actor_scripts.specs.declared.object.ActorObject.{ActorObject}
 use Rattle.actor_scripts.specs.ActorStates.{new_objects, spends_object}
 use Rattle.client_actors.specs.declared.new_objects.NewObjects.{NewObjects}
 
 -- a token, a collection and a handle, whoever holds them
-abbrev pub token_seen : Tag → Object
-token_seen t = Object.Token t.key t.collection
+abbrev pub token_seen : Tag → ActorObject
+token_seen t = ActorObject.Token t.key t.collection
 
 -- the object that a typed collection is
-abbrev pub collection_seen : Tag → Object
-collection_seen c = Object.Collection c.key c.collection
+abbrev pub collection_seen : Tag → ActorObject
+collection_seen c = ActorObject.Collection c.key c.collection
 
 -- the object that a typed handle is
-abbrev pub handle_seen : Grip → Object
-handle_seen h = Object.Handle h.buffer h.strength
+abbrev pub handle_seen : Grip → ActorObject
+handle_seen h = ActorObject.Handle h.buffer h.strength
 
 -- an object, whoever holds it
-abbrev pub object_seen : {E S W : Type 0} → End E S W → Object
-object_seen (End.Token t) = token_seen t
-object_seen (End.Collection c) = collection_seen c
-object_seen (End.Handle h) = handle_seen h
+abbrev pub object_seen : {E S W : Type 0} → ParcelContent E S W → ActorObject
+object_seen (ParcelContent.Token t) = token_seen t
+object_seen (ParcelContent.Collection c) = collection_seen c
+object_seen (ParcelContent.Handle h) = handle_seen h
 
 -- what lies in a slot
-abbrev pub there : {E S W : Type 0} → Option (End E S W) → Option Object
+abbrev pub there : {E S W : Type 0} → Option (ParcelContent E S W) → Option ActorObject
 there slot = option_map object_seen slot
 
 -- if it is something, it is this client's
-abbrev pub SlotHeldBy : {E S W : Type 0} → ℕ → Option (End E S W) → Type 0
+abbrev pub SlotHeldBy : {E S W : Type 0} → ℕ → Option (ParcelContent E S W) → Type 0
 SlotHeldBy client None = ⊤
 SlotHeldBy client (Some end) = end_client end ≡ client
 
 -- the objects that were brought
-abbrev pub objects_in : {E S W : Type 0} → NewObjects E S W → List Object
+abbrev pub objects_in : {E S W : Type 0} → NewObjects E S W → List ActorObject
 objects_in NewObjects.Nothing = []
 objects_in (NewObjects.One end) = object_seen end ∷ []
 objects_in (NewObjects.Handles handles) = map handle_seen handles.items
@@ -55,7 +55,8 @@ NewHeldBy client (NewObjects.Handles handles) = All (λ (h : Grip). h.client ≡
 NewHeldBy client (NewObjects.Tracker tracker) = ⊤
 
 -- one event was made, of this call on this object: the object became `after`, and these objects are new
-pub record Did {E S W : Type 0} (old new : Seen) (call : Call) (before after : Option Object) (brought : NewObjects E S W) : Type 0 where
+pub record Did {E S W : Type 0} (old new : Seen) (call : Call) (before after : Option ActorObject)
+    (brought : NewObjects E S W) : Type 0 where
   pub reply : Reply
   pub made : Made old new call reply
   pub left : after ≡ (if spends_object call reply then None else before)
@@ -63,7 +64,7 @@ pub record Did {E S W : Type 0} (old new : Seen) (call : Call) (before after : O
   pub owned : NewHeldBy old.id brought
 
 -- one event was made that spent what it was made on
-pub record Spent {E S W : Type 0} (old new : Seen) (call : Call) (before : Option Object) (brought : NewObjects E S W) : Type 0 where
+pub record Spent {E S W : Type 0} (old new : Seen) (call : Call) (before : Option ActorObject) (brought : NewObjects E S W) : Type 0 where
   pub reply : Reply
   pub made : Made old new call reply
   pub gone : spends_object call reply ≡ true
@@ -85,7 +86,7 @@ pub record Lent {E S W : Type 0} (old new : Seen) (call : Call) (brought : NewOb
   pub reply : Reply
   pub made : Made old new call reply
   pub stays : spends_object call reply ≡ false
-  pub objects : (on : Option Object) → objects_in brought ≡ new_objects on call reply
+  pub objects : (on : Option ActorObject) → objects_in brought ≡ new_objects on call reply
   pub owned : NewHeldBy old.id brought
 
 -- one event was made that spent what it was made on, and brought nothing in its place
@@ -93,18 +94,18 @@ pub record Spends (old new : Seen) (call : Call) : Type 0 where
   pub reply : Reply
   pub made : Made old new call reply
   pub gone : spends_object call reply ≡ true
-  pub objects : (on : Option Object) → new_objects on call reply ≡ []
+  pub objects : (on : Option ActorObject) → new_objects on call reply ≡ []
 
 -- what lies in all slots
-abbrev pub lies : {E S W : Type 0} → List (Option (End E S W)) → List (Option Object)
+abbrev pub lies : {E S W : Type 0} → List (Option (ParcelContent E S W)) → List (Option ActorObject)
 lies slots = map there slots
 
 -- a slot in which a handle lies
-abbrev pub filled_by : {E S W : Type 0} → Grip → Option (End E S W)
-filled_by handle = Some (End.Handle handle)
+abbrev pub filled_by : {E S W : Type 0} → Grip → Option (ParcelContent E S W)
+filled_by handle = Some (ParcelContent.Handle handle)
 
 -- the slots of what was brought
-abbrev pub slots_for : {E S W : Type 0} → NewObjects E S W → List (Option (End E S W))
+abbrev pub slots_for : {E S W : Type 0} → NewObjects E S W → List (Option (ParcelContent E S W))
 slots_for NewObjects.Nothing = []
 slots_for (NewObjects.One end) = Some end ∷ []
 slots_for (NewObjects.Handles handles) = map filled_by handles.items

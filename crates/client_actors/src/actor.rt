@@ -11,7 +11,7 @@ use crate::new_objects::NewObjects;
 use crate::slots::ask_there;
 use crate::stored_objects::{make_room, store};
 use actor_scripts::{ActorState, Step, StepCall};
-use client_ends::{Client, End, Held};
+use client_ends::{Client, Held, ParcelContent};
 use service_lock::{Service, Setup};
 use sm_names::{ClientId, MAX_BUFFERS, Reply, StepFault};
 use std::alloc::Global;
@@ -21,7 +21,7 @@ use std::sync::ledger::Ledger;
 // An actor while it runs: its client, its objects in their slots, and what it knows.
 pub(crate) struct Actor<E: Setup, S: Ledger, W: Ledger> {
     pub client: Client<E, S, W>,
-    pub slots: Vec<Option<End<E, S, W>>>,
+    pub slots: Vec<Option<ParcelContent<E, S, W>>>,
     // Empty lists, with room for all that lies in the slots.
     pub held: Held<E, S, W>,
     pub state: ActorState,
@@ -33,7 +33,7 @@ fn ask_on<E: Setup, S: Ledger, W: Ledger, R: Wait>(
     alloc: Global,
     service: &Service<E, S, W>,
     client: &mut Client<E, S, W>,
-    slots: &mut Vec<Option<End<E, S, W>>>,
+    slots: &mut Vec<Option<ParcelContent<E, S, W>>>,
     asked: &StepCall,
 ) -> Result<NewObjects<E, S, W>, StepFault>
     requires owned { All (SlotHeldBy client.old.id) slots.old.items }
@@ -58,7 +58,7 @@ fn ask<E: Setup, S: Ledger, W: Ledger, R: Wait>(
     alloc: Global,
     service: &Service<E, S, W>,
     client: &mut Client<E, S, W>,
-    slots: &mut Vec<Option<End<E, S, W>>>,
+    slots: &mut Vec<Option<ParcelContent<E, S, W>>>,
     asked: &StepCall,
 ) -> Result<(), StepFault>
     requires owned { All (SlotHeldBy client.old.id) slots.old.items }

@@ -4,7 +4,7 @@ ghost use Rattle.actor_scripts.specs.ActorStates.{FitsCollection, FitsEnd, FitsH
 ghost use Rattle.client_actors.specs.ObjectCalls.{Lent, may_spend};
 
 use crate::new_objects::NewObjects;
-use client_ends::{Client, CollectionEnd, End, EndOf, Handle, TokenEnd, Why};
+use client_ends::{Client, CollectionEnd, EndOf, Handle, ParcelContent, TokenEnd, Why};
 use service_lock::{Service, Setup};
 use sm_names::{Call, StepFault};
 use std::alloc::Global;
@@ -28,7 +28,7 @@ pub(crate) fn on_none<E: Setup, S: Ledger, W: Ledger, R: Wait>(
             Ok(NewObjects::Nothing)
         }
         Call::OpenRoot => match client.open_root(rt, service) {
-            Ok(token) => Ok(NewObjects::One(End::Token(token))),
+            Ok(token) => Ok(NewObjects::One(ParcelContent::Token(token))),
             Err(Why::Reply(_)) => Ok(NewObjects::Nothing),
             Err(Why::Fault(fault)) => Err(fault),
         },
@@ -99,7 +99,7 @@ pub(crate) fn on_token<E: Setup, S: Ledger, W: Ledger, R: Wait>(
             Ok(NewObjects::Nothing)
         }
         Call::Duplicate(_) => match token.duplicate(rt, service, client) {
-            Ok(child) => Ok(NewObjects::One(End::Token(child))),
+            Ok(child) => Ok(NewObjects::One(ParcelContent::Token(child))),
             Err(Why::Reply(_)) => Ok(NewObjects::Nothing),
             Err(Why::Fault(fault)) => Err(fault),
         },
@@ -125,7 +125,7 @@ pub(crate) fn on_collection<E: Setup, S: Ledger, W: Ledger, R: Wait>(
     let asked = call;
     match call {
         Call::AttachToken(_) => match collection.attach_token(rt, service, client) {
-            Ok(child) => Ok(NewObjects::One(End::Token(child))),
+            Ok(child) => Ok(NewObjects::One(ParcelContent::Token(child))),
             Err(Why::Reply(_)) => Ok(NewObjects::Nothing),
             Err(Why::Fault(fault)) => Err(fault),
         },
@@ -169,7 +169,7 @@ pub(crate) fn on_handle<E: Setup, S: Ledger, W: Ledger, R: Wait>(
 {
     match call {
         Call::DupHandle(_, _) => match handle.duplicate(rt, service, client) {
-            Ok(double) => Ok(NewObjects::One(End::Handle(double))),
+            Ok(double) => Ok(NewObjects::One(ParcelContent::Handle(double))),
             Err(Why::Reply(_)) => Ok(NewObjects::Nothing),
             Err(Why::Fault(fault)) => Err(fault),
         },

@@ -7,7 +7,7 @@ ghost use Rattle.client_actors.specs.ObjectCalls.{Did, SlotHeldBy, Lent, filled_
 use crate::lent_objects::{on_collection, on_handle, on_token};
 use crate::new_objects::NewObjects;
 use crate::spent_objects::spend;
-use client_ends::{Client, End, Handle, Kept, Why};
+use client_ends::{Client, Handle, Kept, ParcelContent, Why};
 use service_lock::{Service, Setup};
 use sm_names::{Call, Spends, StepFault, parts_of, row_of};
 use std::alloc::Global;
@@ -38,7 +38,7 @@ fn lend<E: Setup, S: Ledger, W: Ledger, R: Wait>(
     alloc: Global,
     service: &Service<E, S, W>,
     client: &mut Client<E, S, W>,
-    end: &End<E, S, W>,
+    end: &ParcelContent<E, S, W>,
     call: Call,
 ) -> Result<NewObjects<E, S, W>, StepFault>
     requires holder { end_client end.now ≡ client.old.id }
@@ -48,16 +48,19 @@ fn lend<E: Setup, S: Ledger, W: Ledger, R: Wait>(
         (λ b. Lent client.old client.new call b) (λ _. client.new ≡ client.old) }
 {
     match end {
-        End::Token(token) => on_token(rt, service, client, token, call),
-        End::Collection(collection) => {
+        ParcelContent::Token(token) => on_token(rt, service, client, token, call),
+        ParcelContent::Collection(collection) => {
             on_collection(rt, alloc, service, client, collection, call)
         }
-        End::Handle(handle) => on_handle(rt, service, client, handle, call),
+        ParcelContent::Handle(handle) => on_handle(rt, service, client, handle, call),
     }
 }
 
 // Puts an object into a slot that is empty.
-fn put_back<E: Setup, S: Ledger, W: Ledger>(on: &mut Option<End<E, S, W>>, end: End<E, S, W>)
+fn put_back<E: Setup, S: Ledger, W: Ledger>(
+    on: &mut Option<ParcelContent<E, S, W>>,
+    end: ParcelContent<E, S, W>,
+)
     requires { on.old ≡ None }
     ensures { on.new ≡ Some end }
 {
@@ -73,7 +76,7 @@ fn lend_there<E: Setup, S: Ledger, W: Ledger, R: Wait>(
     alloc: Global,
     service: &Service<E, S, W>,
     client: &mut Client<E, S, W>,
-    on: &Option<End<E, S, W>>,
+    on: &Option<ParcelContent<E, S, W>>,
     call: Call,
 ) -> Result<NewObjects<E, S, W>, StepFault>
     requires owned { SlotHeldBy client.old.id on.now }
@@ -94,7 +97,7 @@ fn spend_there<E: Setup, S: Ledger, W: Ledger, R: Wait>(
     rt: &R,
     service: &Service<E, S, W>,
     client: &mut Client<E, S, W>,
-    on: &mut Option<End<E, S, W>>,
+    on: &mut Option<ParcelContent<E, S, W>>,
     call: Call,
 ) -> Result<NewObjects<E, S, W>, StepFault>
     requires owned { SlotHeldBy client.old.id on.old }
@@ -126,7 +129,7 @@ pub(crate) fn ask_there<E: Setup, S: Ledger, W: Ledger, R: Wait>(
     alloc: Global,
     service: &Service<E, S, W>,
     client: &mut Client<E, S, W>,
-    on: &mut Option<End<E, S, W>>,
+    on: &mut Option<ParcelContent<E, S, W>>,
     call: Call,
 ) -> Result<NewObjects<E, S, W>, StepFault>
     requires owned { SlotHeldBy client.old.id on.old }
@@ -146,7 +149,7 @@ pub(crate) fn ask_there<E: Setup, S: Ledger, W: Ledger, R: Wait>(
 
 // Puts handles into the next slots, in order.
 pub(crate) fn store_handles<E: Setup, S: Ledger, W: Ledger>(
-    slots: &mut Vec<Option<End<E, S, W>>>,
+    slots: &mut Vec<Option<ParcelContent<E, S, W>>>,
     handles: Vec<Handle<E, S, W>>,
 )
     requires { vec_len slots.old + vec_len handles ≤ vec_capacity slots.old }
@@ -157,7 +160,7 @@ pub(crate) fn store_handles<E: Setup, S: Ledger, W: Ledger>(
     let mut handles = handles;
     'storing: while !handles.is_empty() {
         let handle = handles.remove(0);
-        slots.push_reserved(Some(End::Handle(handle)));
+        slots.push_reserved(Some(ParcelContent::Handle(handle)));
     }
     handles.destroy_empty();
 }

@@ -6,7 +6,7 @@ ghost use Rattle.client_ends.specs.Collecting.{end_client};
 ghost use Rattle.client_actors.specs.ObjectCalls.{Spends, Spent, may_spend, object_seen, token_seen};
 
 use crate::new_objects::NewObjects;
-use client_ends::{Client, End, EndOf, Handle, Kept, TokenEnd, Why};
+use client_ends::{Client, EndOf, Handle, Kept, ParcelContent, TokenEnd, Why};
 use service_lock::{Service, Setup};
 use sm_names::{Call, StepFault};
 use std::sync::Wait;
@@ -78,7 +78,7 @@ fn spend_token<E: Setup, S: Ledger, W: Ledger, R: Wait>(
     let asked = call;
     match call {
         Call::Bind(_) => match token.bind(rt, service, client) {
-            Ok(collection) => Ok(NewObjects::One(End::Collection(collection))),
+            Ok(collection) => Ok(NewObjects::One(ParcelContent::Collection(collection))),
             Err(kept) => Err(kept),
         },
         _ => match spend_end(rt, service, client, token, asked) {
@@ -93,9 +93,9 @@ pub(crate) fn spend<E: Setup, S: Ledger, W: Ledger, R: Wait>(
     rt: &R,
     service: &Service<E, S, W>,
     client: &mut Client<E, S, W>,
-    end: End<E, S, W>,
+    end: ParcelContent<E, S, W>,
     call: Call,
-) -> Result<NewObjects<E, S, W>, Kept<End<E, S, W>>>
+) -> Result<NewObjects<E, S, W>, Kept<ParcelContent<E, S, W>>>
     requires holder { end_client end ≡ client.old.id }
     requires fits { FitsObject (object_seen end) call }
     requires spends { may_spend call ≡ true }
@@ -104,24 +104,26 @@ pub(crate) fn spend<E: Setup, S: Ledger, W: Ledger, R: Wait>(
         (λ k. (k.value ≡ end) × MadeOr (spends_object call) client.old client.new call k.why) }
 {
     match end {
-        End::Token(token) => match spend_token(rt, service, client, token, call) {
+        ParcelContent::Token(token) => match spend_token(rt, service, client, token, call) {
             Ok(brought) => Ok(brought),
             Err(Kept { value, why }) => Err(Kept {
-                value: End::Token(value),
+                value: ParcelContent::Token(value),
                 why,
             }),
         },
-        End::Collection(collection) => match spend_end(rt, service, client, collection, call) {
+        ParcelContent::Collection(collection) => match spend_end(
+            rt, service, client, collection, call,
+        ) {
             Ok(()) => Ok(NewObjects::Nothing),
             Err(Kept { value, why }) => Err(Kept {
-                value: End::Collection(value),
+                value: ParcelContent::Collection(value),
                 why,
             }),
         },
-        End::Handle(handle) => match spend_handle(rt, service, client, handle, call) {
+        ParcelContent::Handle(handle) => match spend_handle(rt, service, client, handle, call) {
             Ok(()) => Ok(NewObjects::Nothing),
             Err(Kept { value, why }) => Err(Kept {
-                value: End::Handle(value),
+                value: ParcelContent::Handle(value),
                 why,
             }),
         },

@@ -7,7 +7,7 @@ ghost use Rattle.client_actors.specs.ObjectCalls.{slots_for};
 
 use crate::new_objects::NewObjects;
 use crate::slots::store_handles;
-use client_ends::{End, Held};
+use client_ends::{Held, ParcelContent};
 use service_lock::Setup;
 use sm_names::{MAX_BUFFERS, StepFault};
 use std::sync::ledger::Ledger;
@@ -17,7 +17,7 @@ const MOST: usize = MAX_BUFFERS as usize;
 
 // Makes room for what one call may bring.
 pub(crate) fn make_room<E: Setup, S: Ledger, W: Ledger>(
-    slots: &mut Vec<Option<End<E, S, W>>>,
+    slots: &mut Vec<Option<ParcelContent<E, S, W>>>,
     held: &mut Held<E, S, W>,
 ) -> Result<(), StepFault>
     requires { ListsHaveRoom held.old (vec_len slots.old) }
@@ -42,7 +42,7 @@ pub(crate) fn make_room<E: Setup, S: Ledger, W: Ledger>(
 
 // Puts what was brought into the next slots. A tracker is let go.
 pub(crate) fn store<E: Setup, S: Ledger, W: Ledger>(
-    slots: &mut Vec<Option<End<E, S, W>>>,
+    slots: &mut Vec<Option<ParcelContent<E, S, W>>>,
     brought: NewObjects<E, S, W>,
 )
     requires { vec_len slots.old + length (slots_for brought) ≤ vec_capacity slots.old }
@@ -59,7 +59,7 @@ pub(crate) fn store<E: Setup, S: Ledger, W: Ledger>(
 
 // Takes all objects out of their slots, the newest first, each into the list of its kind.
 pub(crate) fn unload<E: Setup, S: Ledger, W: Ledger>(
-    slots: Vec<Option<End<E, S, W>>>,
+    slots: Vec<Option<ParcelContent<E, S, W>>>,
     held: &mut Held<E, S, W>,
 )
     requires { ListsHaveRoom held.old (vec_len slots) }
@@ -69,9 +69,11 @@ pub(crate) fn unload<E: Setup, S: Ledger, W: Ledger>(
     'unloading: while let Some(slot) = slots.pop() {
         match slot {
             None => {}
-            Some(End::Token(token)) => held.tokens.push_reserved(token),
-            Some(End::Collection(collection)) => held.collections.push_reserved(collection),
-            Some(End::Handle(handle)) => held.handles.push_reserved(handle),
+            Some(ParcelContent::Token(token)) => held.tokens.push_reserved(token),
+            Some(ParcelContent::Collection(collection)) => held
+                .collections
+                .push_reserved(collection),
+            Some(ParcelContent::Handle(handle)) => held.handles.push_reserved(handle),
         }
     }
     slots.destroy_empty();

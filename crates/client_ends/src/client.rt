@@ -14,7 +14,7 @@ ghost use Rattle.client_ends.specs.Taking.{Took};
 use crate::ended::Ended;
 use crate::ends::{CollectionEnd, TokenEnd};
 use crate::handle::Handle;
-use crate::held::End;
+use crate::held::ParcelContent;
 use crate::taking::{make_room, make_taking};
 use crate::why::Why;
 use client_accounts::{Account, empty};
@@ -382,7 +382,7 @@ impl<E: Setup, S: Ledger, W: Ledger> Client<E, S, W> {
         &mut self,
         rt: &R,
         service: &Service<E, S, W>,
-    ) -> Result<Option<End<E, S, W>>, Why>
+    ) -> Result<Option<ParcelContent<E, S, W>>, Why>
         ensures { MatchResult result
             (λ found. Collected self.old self.new found)
             (λ w. MadeOr is_collect_reply self.old self.new Asked.Collect w) }
@@ -393,7 +393,10 @@ impl<E: Setup, S: Ledger, W: Ledger> Client<E, S, W> {
 
     // Does what `collect` does, under a lock that is held.
     #[tactic(auto, using(crate::proofs::ReplyLaws::none_collected))]
-    fn collect_in(&mut self, state: &mut State<E, S, W>) -> Result<Option<End<E, S, W>>, Why>
+    fn collect_in(
+        &mut self,
+        state: &mut State<E, S, W>,
+    ) -> Result<Option<ParcelContent<E, S, W>>, Why>
         ensures made { MatchResult result
             (λ found. Collected self.old self.new found)
             (λ w. MadeOr is_collect_reply self.old self.new Asked.Collect w) }
@@ -405,7 +408,7 @@ impl<E: Setup, S: Ledger, W: Ledger> Client<E, S, W> {
     {
         match self.account.make_gaining(state, self.id, Call::Collect) {
             Ok((Reply::CollectedHandle { buffer, strength }, Some(unit))) => {
-                Ok(Some(End::Handle(Handle::new(self.id, buffer, strength, unit))))
+                Ok(Some(ParcelContent::Handle(Handle::new(self.id, buffer, strength, unit))))
             }
             Ok((Reply::CollectedHandle { .. }, None)) => unreachable!(),
             Ok(
@@ -417,7 +420,7 @@ impl<E: Setup, S: Ledger, W: Ledger> Client<E, S, W> {
                     },
                     _,
                 ),
-            ) => Ok(Some(End::Token(TokenEnd::new(self.id, key, collection)))),
+            ) => Ok(Some(ParcelContent::Token(TokenEnd::new(self.id, key, collection)))),
             Ok(
                 (
                     Reply::Collected {
@@ -427,7 +430,7 @@ impl<E: Setup, S: Ledger, W: Ledger> Client<E, S, W> {
                     },
                     _,
                 ),
-            ) => Ok(Some(End::Collection(CollectionEnd::new(self.id, key, collection)))),
+            ) => Ok(Some(ParcelContent::Collection(CollectionEnd::new(self.id, key, collection)))),
             Ok((Reply::Empty, _)) => Ok(None),
             Ok((reply, _)) => Err(Why::Reply(reply)),
             Err(fault) => Err(Why::Fault(fault)),

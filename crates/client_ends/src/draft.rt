@@ -46,7 +46,7 @@ impl<E> Model for Draft<E> {
 }
 
 /// The results of the calls that were made: the new ends, and all replies, in order.
-pub struct Part<E> {
+pub struct DraftPart<E> {
     pub made: Vec<TokenEnd<E>>,
     pub replies: Vec<Reply>,
 }
@@ -151,7 +151,7 @@ impl<E: Setup> Draft<E> {
         alloc: Global,
         service: &Service<E, S, W>,
         client: &mut Client<E, S, W>,
-    ) -> Result<Synced<E>, (Draft<E>, Part<E>, StepFault)>
+    ) -> Result<Synced<E>, (Draft<E>, DraftPart<E>, StepFault)>
         requires holder { self.token.client ≡ client.old.id }
         ensures { MatchResult result
             (λ s. IsSynced client.old client.new self s.token s.replies.items s.made.items)
@@ -168,7 +168,7 @@ impl<E: Setup> Draft<E> {
         alloc: Global,
         state: &mut State<E, S, W>,
         client: &mut Client<E, S, W>,
-    ) -> Result<Synced<E>, (Draft<E>, Part<E>, StepFault)>
+    ) -> Result<Synced<E>, (Draft<E>, DraftPart<E>, StepFault)>
         ensures made { MatchResult result
             (λ s. IsSynced client.old client.new self s.token s.replies.items s.made.items)
             (λ e. DraftStopped client.old client.new self e.0 e.1.replies.items e.1.made.items) }
@@ -176,7 +176,7 @@ impl<E: Setup> Draft<E> {
             ↔ (state.new.limits.events ≤ length state.new.history)) }
     {
         let Draft { token, mut calls } = self;
-        let mut part = Part {
+        let mut part = DraftPart {
             made: Vec::new(alloc),
             replies: Vec::new(alloc),
         };
@@ -186,7 +186,7 @@ impl<E: Setup> Draft<E> {
         }
         match make_all(state, client, token.key(), &mut calls, &mut part) {
             Ok(()) => {
-                let Part { made, replies } = part;
+                let DraftPart { made, replies } = part;
                 Ok(Synced {
                     token,
                     made,

@@ -8,7 +8,7 @@ use std::alloc::Global;
 use std::sync::ledger::Ledger;
 
 /// The content of a parcel: an end of either kind, or a handle. It must be spent.
-pub enum End<E: Setup, S: Ledger, W: Ledger> {
+pub enum ParcelContent<E: Setup, S: Ledger, W: Ledger> {
     Token(TokenEnd<E>),
     Collection(CollectionEnd<E>),
     Handle(Handle<E, S, W>),

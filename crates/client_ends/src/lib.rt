@@ -24,10 +24,10 @@ mod why;
 
 pub use client::{Client, join};
 pub use client_accounts::memory_fault;
-pub use draft::{Draft, Part, Synced};
+pub use draft::{Draft, DraftPart, Synced};
 pub use ended::{Ended, end};
 pub use ends::{Bound, CollectionEnd, EndOf, TokenEnd, Unbound};
 pub use event_laws::Own;
 pub use handle::Handle;
-pub use held::{End, Held};
+pub use held::{Held, ParcelContent};
 pub use why::{Kept, Why};

@@ -7,7 +7,7 @@ ghost use Rattle.client_ends.specs.Clients.{moves_no_handle};
 ghost use Rattle.client_ends.specs.Drafts.{Went, WentFar, WentFirst, WentOn, drafted_call, drafted_calls, token_told};
 
 use crate::client::Client;
-use crate::draft::{Drafted, Part};
+use crate::draft::{DraftPart, Drafted};
 use crate::ends::TokenEnd;
 use service_lock::{Setup, State};
 use sm_names::{Call, ClientId, NodeKey, Reply, StepFault};
@@ -16,7 +16,7 @@ use std::collections::VecDeque;
 use std::sync::ledger::Ledger;
 
 /// Makes room for the ends and replies of this many events.
-pub(crate) fn make_room<E>(part: &mut Part<E>, events: usize) -> Result<(), AllocError>
+pub(crate) fn make_room<E>(part: &mut DraftPart<E>, events: usize) -> Result<(), AllocError>
     ensures replies { part.new.replies.items ≡ part.old.replies.items }
     ensures made { part.new.made.items ≡ part.old.made.items }
     ensures replies_room { OnOk result (vec_len part.new.replies + events
@@ -43,7 +43,7 @@ fn call_of(key: NodeKey, drafted: Drafted) -> Call
 }
 
 // Keeps the reply, and the new end in it.
-fn keep<E: Setup>(client: ClientId, reply: &Reply, part: &mut Part<E>)
+fn keep<E: Setup>(client: ClientId, reply: &Reply, part: &mut DraftPart<E>)
     requires replies_room { vec_len part.old.replies < vec_capacity part.old.replies }
     requires made_room { vec_len part.old.made < vec_capacity part.old.made }
     ensures replies { part.new.replies.items ≡ part.old.replies.items ++ reply.now ∷ [] }
@@ -65,7 +65,7 @@ fn make_next<E: Setup, S: Ledger, W: Ledger>(
     state: &mut State<E, S, W>,
     client: &mut Client<E, S, W>,
     call: Call,
-    part: &mut Part<E>,
+    part: &mut DraftPart<E>,
 ) -> Result<(), StepFault>
     requires plain { moves_no_handle call ≡ true }
     requires replies_room { vec_len part.old.replies < vec_capacity part.old.replies }
@@ -91,7 +91,7 @@ fn make_first<E: Setup, S: Ledger, W: Ledger>(
     client: &mut Client<E, S, W>,
     key: NodeKey,
     calls: &mut VecDeque<Drafted>,
-    part: &mut Part<E>,
+    part: &mut DraftPart<E>,
 ) -> Result<(), StepFault>
     requires some { 0 < deque_len calls.old }
     requires replies_room { vec_len part.old.replies + deque_len calls.old
@@ -121,7 +121,7 @@ fn make_drafted<E: Setup, S: Ledger, W: Ledger>(
     client: &mut Client<E, S, W>,
     key: NodeKey,
     calls: &mut VecDeque<Drafted>,
-    part: &mut Part<E>,
+    part: &mut DraftPart<E>,
 ) -> Result<(), StepFault>
     requires none { (part.old.replies.items ≡ []) × (part.old.made.items ≡ []) }
     requires replies_room { vec_len part.old.replies + deque_len calls.old
@@ -148,7 +148,7 @@ pub(crate) fn make_all<E: Setup, S: Ledger, W: Ledger>(
     client: &mut Client<E, S, W>,
     key: NodeKey,
     calls: &mut VecDeque<Drafted>,
-    part: &mut Part<E>,
+    part: &mut DraftPart<E>,
 ) -> Result<(), StepFault>
     requires none { (part.old.replies.items ≡ []) × (part.old.made.items ≡ []) }
     requires replies_room { vec_len part.old.replies + deque_len calls.old

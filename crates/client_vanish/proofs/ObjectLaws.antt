@@ -4,14 +4,15 @@ use Rattle.std.proofs.Common.{append_assoc, append-nil, length, length-append, m
 use Rattle.std.specs.Prelude.{flat_map, vec_capacity}
 use Rattle.client_ends.specs.declared.held.Held.{Held}
 use Rattle.std.proofs.lemmas.List.{reverse-append}
-use Rattle.client_ends.specs.declared.held.End.{End}
+use Rattle.client_ends.specs.declared.held.ParcelContent.{ParcelContent}
 use Rattle.client_ends.specs.Clients.{Grip, Tag}
 use Rattle.client_vanish.specs.Vanishings.{Collection, Handle, Holds, HeldObject, Token, collections_among}
 use Rattle.client_vanish.specs.Vanishings.{handles_among, held_in, sorted, object_of, tokens_among}
 use Rattle.client_vanish.specs.Stacks.{HasRoomFor, both, sorted_one, top_first}
 
 -- the last one that is put on a stack is its top
-pub top_push : {E S W : Type 0} (items : List (End E S W)) (e : End E S W) → top_first (items ++ e ∷ []) ≡ object_of e ∷ top_first items
+pub top_push : {E S W : Type 0} (items : List (ParcelContent E S W)) (e : ParcelContent E S W) →
+    top_first (items ++ e ∷ []) ≡ object_of e ∷ top_first items
 top_push items e = ap (map object_of) (reverse-append items (e ∷ []))
 
 -- the objects of a list come one by one
@@ -87,7 +88,7 @@ sorted_single x = both_none (sorted_one x)
 -- ---- room
 
 -- the top comes off a stack
-pub top_pop : {E S W : Type 0} (items rest : List (End E S W)) (e : End E S W) → items ≡ rest ++ e ∷ [] →
+pub top_pop : {E S W : Type 0} (items rest : List (ParcelContent E S W)) (e : ParcelContent E S W) → items ≡ rest ++ e ∷ [] →
     top_first items ≡ object_of e ∷ top_first rest
 top_pop items rest e is = ap top_first is ∙ top_push rest e
 

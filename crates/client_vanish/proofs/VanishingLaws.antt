@@ -5,7 +5,7 @@ use Rattle.std.specs.Prelude.{flat_map, vec_capacity, vec_len}
 use Rattle.std.specs.List.{All}
 use Rattle.std.proofs.lemmas.List.Elements.{All-append, All-cons, All-map, All-nil}
 use Rattle.sm_names.specs.declared.keys.Kind.{Kind}
-use Rattle.client_ends.specs.declared.held.End.{End}
+use Rattle.client_ends.specs.declared.held.ParcelContent.{ParcelContent}
 use Rattle.client_ends.specs.declared.held.Held.{Held}
 use Rattle.std.proofs.lemmas.List.{map-append, length-map, replicate-append-replicate}
 use Rattle.sm_names.specs.declared.messages.Call.{Call}
@@ -402,6 +402,6 @@ room_all before after n waiting told ends handles all few ends_are handles_are i
     }
 
 -- an empty stack
-pub top_none : {E S W : Type 0} (items : List (End E S W)) → length items ≡ 0 → top_first items ≡ []
+pub top_none : {E S W : Type 0} (items : List (ParcelContent E S W)) → length items ≡ 0 → top_first items ≡ []
 top_none [] none = refl
 top_none (e ∷ es) none = absurd (omega (arith, none))

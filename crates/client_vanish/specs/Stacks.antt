@@ -2,7 +2,7 @@
 use Rattle.std.specs.Prelude.{ℕ, ◌≡◌, ◌≤◌, ◌+◌, List, [], ◌∷◌, ◌++◌, length, map, reverse, flat_map, vec_len, vec_capacity}
 use Rattle.sm_names.specs.declared.messages.Call.{Call}
 use Rattle.sm_names.specs.declared.messages.Reply.{Reply}
-use Rattle.client_ends.specs.declared.held.End.{End}
+use Rattle.client_ends.specs.declared.held.ParcelContent.{ParcelContent}
 use Rattle.client_ends.specs.declared.held.Held.{Held}
 use Rattle.client_ends.specs.Clients.{Made, MadeAll, Seen}
 use Rattle.client_vanish.specs.Vanishings.{Holds, HeldObject, collections_among, end_told, handles_among, handle_told, kept_of, vanishing_call, sorted, object_of, tokens_among}
@@ -10,7 +10,7 @@ use Rattle.client_vanish.specs.declared.vanishing.Room.{Room}
 use Rattle.std.specs.Prelude.{replicate, Option, None, Some, Bool, true, ◌⊎◌}
 
 -- the objects on a stack, the top first
-abbrev pub top_first : {E S W : Type 0} → List (End E S W) → List HeldObject
+abbrev pub top_first : {E S W : Type 0} → List (ParcelContent E S W) → List HeldObject
 top_first items = map object_of (reverse items)
 
 -- one object in the list of its kind
@@ -49,7 +49,7 @@ pub record CollectsMany (old new : Seen) (told : List Reply) (ends handles : Lis
   pub handles_are : handles ≡ flat_map (handle_told old.id) told
 
 -- the object that was kept, if one was
-abbrev pub kept_objects : {E S W : Type 0} → Option (End E S W) → List HeldObject
+abbrev pub kept_objects : {E S W : Type 0} → Option (ParcelContent E S W) → List HeldObject
 kept_objects None = []
 kept_objects (Some object) = object_of object ∷ []
 

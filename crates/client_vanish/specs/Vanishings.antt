@@ -4,7 +4,7 @@ use Rattle.std.specs.List.{All}
 use Rattle.sm_names.specs.declared.keys.Kind.{Kind}
 use Rattle.sm_names.specs.declared.messages.Call.{Call}
 use Rattle.sm_names.specs.declared.messages.Reply.{Reply}
-use Rattle.client_ends.specs.declared.held.End.{End}
+use Rattle.client_ends.specs.declared.held.ParcelContent.{ParcelContent}
 use Rattle.client_ends.specs.declared.held.Held.{Held}
 use Rattle.client_ends.specs.Clients.{Grip, MadeAll, Seen, Tag, is_done}
 
@@ -35,10 +35,10 @@ pub data HeldObject : Type 0 where
   Handle : Grip → HeldObject
 
 -- what came out of a parcel
-abbrev pub object_of : {E S W : Type 0} → End E S W → HeldObject
-object_of (End.Token t) = Token t
-object_of (End.Collection c) = Collection c
-object_of (End.Handle h) = Handle h
+abbrev pub object_of : {E S W : Type 0} → ParcelContent E S W → HeldObject
+object_of (ParcelContent.Token t) = Token t
+object_of (ParcelContent.Collection c) = Collection c
+object_of (ParcelContent.Handle h) = Handle h
 
 -- the client that holds it
 abbrev pub owner_of : HeldObject → ℕ

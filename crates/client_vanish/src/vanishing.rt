@@ -7,7 +7,7 @@ ghost use Rattle.client_vanish.specs.Stacks.{CollectsFor, CollectsOne, HasRoomFo
 
 use crate::stack::{put, put_all, stack_collections, stack_ends, stack_handles, stack_tokens};
 use crate::wreck::Wreck;
-use client_ends::{Client, End, Held, Kept, Why, memory_fault};
+use client_ends::{Client, Held, Kept, ParcelContent, Why, memory_fault};
 use service_lock::{Service, Setup, State};
 use sm_names::{Reply, StepFault};
 use std::alloc::Global;
@@ -26,9 +26,9 @@ fn parcels_told(reply: &Reply) -> u64
 
 // Lists with room for the objects that the client collects, and for all that it then has.
 struct Room<E: Setup, S: Ledger, W: Ledger> {
-    ends: Vec<End<E, S, W>>,
-    handles: Vec<End<E, S, W>>,
-    stack: Vec<End<E, S, W>>,
+    ends: Vec<ParcelContent<E, S, W>>,
+    handles: Vec<ParcelContent<E, S, W>>,
+    stack: Vec<ParcelContent<E, S, W>>,
 }
 
 // The most objects that there can be, unless the sum overflows.
@@ -103,8 +103,8 @@ fn collect_one<E: Setup, S: Ledger, W: Ledger, R: Wait>(
     rt: &R,
     service: &Service<E, S, W>,
     client: &mut Client<E, S, W>,
-    ends: &mut Vec<End<E, S, W>>,
-    handles: &mut Vec<End<E, S, W>>,
+    ends: &mut Vec<ParcelContent<E, S, W>>,
+    handles: &mut Vec<ParcelContent<E, S, W>>,
 ) -> Result<(), StepFault>
     requires ends { vec_len ends.old < vec_capacity ends.old }
     requires handles { vec_len handles.old < vec_capacity handles.old }
@@ -120,8 +120,8 @@ fn collect_one<E: Setup, S: Ledger, W: Ledger, R: Wait>(
         × (vec_len handles.new ≤ vec_len handles.old + 1) }
 {
     match client.collect(rt, service) {
-        Ok(Some(End::Handle(handle))) => {
-            handles.push_reserved(End::Handle(handle));
+        Ok(Some(ParcelContent::Handle(handle))) => {
+            handles.push_reserved(ParcelContent::Handle(handle));
             Ok(())
         }
         Ok(Some(end)) => {
@@ -139,8 +139,8 @@ fn collect_all<E: Setup, S: Ledger, W: Ledger, R: Wait>(
     rt: &R,
     service: &Service<E, S, W>,
     client: &mut Client<E, S, W>,
-    ends: &mut Vec<End<E, S, W>>,
-    handles: &mut Vec<End<E, S, W>>,
+    ends: &mut Vec<ParcelContent<E, S, W>>,
+    handles: &mut Vec<ParcelContent<E, S, W>>,
     waiting: usize,
 ) -> Result<(), StepFault>
     requires ends { (ends.old.items ≡ []) × (waiting ≤ vec_capacity ends.old) }
@@ -163,25 +163,25 @@ fn part_with<E: Setup, S: Ledger, W: Ledger, R: Wait>(
     rt: &R,
     service: &Service<E, S, W>,
     client: &mut Client<E, S, W>,
-    object: End<E, S, W>,
-) -> Result<Option<End<E, S, W>>, (End<E, S, W>, StepFault)>
+    object: ParcelContent<E, S, W>,
+) -> Result<Option<ParcelContent<E, S, W>>, (ParcelContent<E, S, W>, StepFault)>
     requires { owner_of (object_of object) ≡ client.old.id }
     ensures { MatchResult result
         (λ kept. PartsWith client.old client.new (object_of object) (kept_objects kept))
         (λ e. (e.0 ≡ object) × (client.new ≡ client.old)) }
 {
     let (object, why) = match object {
-        End::Token(token) => match token.close(rt, service, client) {
+        ParcelContent::Token(token) => match token.close(rt, service, client) {
             Ok(()) => return Ok(None),
-            Err(Kept { value, why }) => (End::Token(value), why),
+            Err(Kept { value, why }) => (ParcelContent::Token(value), why),
         },
-        End::Collection(collection) => match collection.close(rt, service, client) {
+        ParcelContent::Collection(collection) => match collection.close(rt, service, client) {
             Ok(()) => return Ok(None),
-            Err(Kept { value, why }) => (End::Collection(value), why),
+            Err(Kept { value, why }) => (ParcelContent::Collection(value), why),
         },
-        End::Handle(handle) => match handle.drop_handle(rt, service, client) {
+        ParcelContent::Handle(handle) => match handle.drop_handle(rt, service, client) {
             Ok(()) => return Ok(None),
-            Err(Kept { value, why }) => (End::Handle(value), why),
+            Err(Kept { value, why }) => (ParcelContent::Handle(value), why),
         },
     };
     match why {
@@ -195,7 +195,7 @@ fn part_with_all<E: Setup, S: Ledger, W: Ledger, R: Wait>(
     rt: &R,
     service: &Service<E, S, W>,
     client: &mut Client<E, S, W>,
-    stack: &mut Vec<End<E, S, W>>,
+    stack: &mut Vec<ParcelContent<E, S, W>>,
     kept: &mut Held<E, S, W>,
 ) -> Result<(), StepFault>
     requires owner { All (λ t. owner_of t ≡ client.old.id) (top_first stack.old.items) }
@@ -225,7 +225,7 @@ fn part_if<E: Setup, S: Ledger, W: Ledger, R: Wait>(
     service: &Service<E, S, W>,
     client: &mut Client<E, S, W>,
     collected: Result<(), StepFault>,
-    stack: &mut Vec<End<E, S, W>>,
+    stack: &mut Vec<ParcelContent<E, S, W>>,
     kept: &mut Held<E, S, W>,
 ) -> Result<(), StepFault>
     requires owner { All (λ t. owner_of t ≡ client.old.id) (top_first stack.old.items) }
@@ -246,7 +246,7 @@ fn part_if<E: Setup, S: Ledger, W: Ledger, R: Wait>(
 fn stack_all<E: Setup, S: Ledger, W: Ledger>(
     room: Room<E, S, W>,
     held: &mut Held<E, S, W>,
-) -> Vec<End<E, S, W>>
+) -> Vec<ParcelContent<E, S, W>>
     requires none { room.stack.items ≡ [] }
     requires room { vec_len room.ends + vec_len room.handles + vec_len held.old.tokens
         + vec_len held.old.collections + vec_len held.old.handles ≤ vec_capacity room.stack }

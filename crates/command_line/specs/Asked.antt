@@ -6,7 +6,7 @@ use Rattle.clap.specs.Words.{first_of, one_of, subcommand_rows_of}
 use Rattle.clap.specs.declared.parser.matches.ArgMatches.{ArgMatches}
 use Rattle.command_line.specs.declared.task.Format.{Format}
 use Rattle.command_line.specs.declared.task.Search.{Search}
-use Rattle.command_line.specs.declared.task.Task.{Task}
+use Rattle.command_line.specs.declared.task.ScriptTask.{ScriptTask}
 use Rattle.command_line.specs.declared.task.Until.{Until}
 
 -- what is read as a value of the subcommand's option of this name, given or its default: there is none without a subcommand
@@ -32,15 +32,15 @@ abbrev pub subcommand_text : List ℕ → ArgMatches → Option (List ℕ)
 subcommand_text id matches = option_and_then (λ sub. first_of id sub.1) (subcommand_rows_of matches)
 
 -- what the subcommand of this name does with a script: it answers each line if it has none of the other names
-abbrev pub IsTask : Option (List ℕ) → Task → Type 0
-IsTask None task = task ≡ Task.Run
-IsTask (Some name) Task.Run = (name ≢ codes "threads") × (name ≢ codes "explain") × (name ≢ codes "draw") × (name ≢ codes "check")
+abbrev pub IsTask : Option (List ℕ) → ScriptTask → Type 0
+IsTask None task = task ≡ ScriptTask.Run
+IsTask (Some name) ScriptTask.Run = (name ≢ codes "threads") × (name ≢ codes "explain") × (name ≢ codes "draw") × (name ≢ codes "check")
     × (name ≢ codes "explore")
-IsTask (Some name) (Task.Threads output patience) = name ≡ codes "threads"
-IsTask (Some name) (Task.Explain failures summary) = name ≡ codes "explain"
-IsTask (Some name) (Task.Draw view) = name ≡ codes "draw"
-IsTask (Some name) Task.Check = name ≡ codes "check"
-IsTask (Some name) (Task.Explore search) = name ≡ codes "explore"
+IsTask (Some name) (ScriptTask.Threads output patience) = name ≡ codes "threads"
+IsTask (Some name) (ScriptTask.Explain failures summary) = name ≡ codes "explain"
+IsTask (Some name) (ScriptTask.Draw view) = name ≡ codes "draw"
+IsTask (Some name) ScriptTask.Check = name ≡ codes "check"
+IsTask (Some name) (ScriptTask.Explore search) = name ≡ codes "explore"
 
 -- the format of this name: text if it has none of the other names
 abbrev pub IsFormat : Option (List ℕ) → Format → Type 0
@@ -49,8 +49,8 @@ IsFormat name Format.Dot = name ≡ Some (codes "dot")
 IsFormat name Format.Svg = name ≡ Some (codes "svg")
 
 -- the format of a picture, if one is asked for
-abbrev pub HasFormat : Option (List ℕ) → Task → Type 0
-HasFormat name (Task.Draw view) = IsFormat name view.format
+abbrev pub HasFormat : Option (List ℕ) → ScriptTask → Type 0
+HasFormat name (ScriptTask.Draw view) = IsFormat name view.format
 HasFormat name task = ⊤
 
 -- the text is a number of 64 bits
@@ -81,8 +81,8 @@ pub record IsUntil (event line failure : Option (List ℕ)) (until : Until) : Ty
   pub is : until ≡ until_asked event_number line_number failure_number
 
 -- behind what the trees of a picture are drawn, if one is asked for
-abbrev pub HasUntil : Option (List ℕ) → Option (List ℕ) → Option (List ℕ) → Task → Type 0
-HasUntil event line failure (Task.Draw view) = IsUntil event line failure view.until
+abbrev pub HasUntil : Option (List ℕ) → Option (List ℕ) → Option (List ℕ) → ScriptTask → Type 0
+HasUntil event line failure (ScriptTask.Draw view) = IsUntil event line failure view.until
 HasUntil event line failure task = ⊤
 
 -- the file that this word names: `-` stands for standard input
@@ -97,23 +97,23 @@ pub record IsFlag (text : Option (List ℕ)) (flag : Bool) : Type 0 where
   pub unset : text ≡ Some (codes "false") → flag ≡ false
 
 -- whether a run of actors writes its record
-abbrev pub HasRecord : Option (List ℕ) → Task → Type 0
-HasRecord text (Task.Threads output patience) = IsFlag text output
+abbrev pub HasRecord : Option (List ℕ) → ScriptTask → Type 0
+HasRecord text (ScriptTask.Threads output patience) = IsFlag text output
 HasRecord text task = ⊤
 
 -- whether actors make steps again while nothing is there for them
-abbrev pub HasPatience : Option (List ℕ) → Task → Type 0
-HasPatience text (Task.Threads output patience) = IsFlag text patience
+abbrev pub HasPatience : Option (List ℕ) → ScriptTask → Type 0
+HasPatience text (ScriptTask.Threads output patience) = IsFlag text patience
 HasPatience text task = ⊤
 
 -- whether an explanation tells only the failures
-abbrev pub HasFailures : Option (List ℕ) → Task → Type 0
-HasFailures text (Task.Explain failures summary) = IsFlag text failures
+abbrev pub HasFailures : Option (List ℕ) → ScriptTask → Type 0
+HasFailures text (ScriptTask.Explain failures summary) = IsFlag text failures
 HasFailures text task = ⊤
 
 -- whether an explanation ends with a summary
-abbrev pub HasSummary : Option (List ℕ) → Task → Type 0
-HasSummary text (Task.Explain failures summary) = IsFlag text summary
+abbrev pub HasSummary : Option (List ℕ) → ScriptTask → Type 0
+HasSummary text (ScriptTask.Explain failures summary) = IsFlag text summary
 HasSummary text task = ⊤
 
 -- how many states are met at most, if this number is asked for
@@ -129,6 +129,6 @@ pub record IsSearch (outcome states : Option (List ℕ)) (search : Search) : Typ
   pub states_is : search.states ≡ states_asked states_number
 
 -- which search through the orders is asked for, if one is
-abbrev pub HasSearch : Option (List ℕ) → Option (List ℕ) → Option (List ℕ) → Task → Type 0
-HasSearch once outcome states (Task.Explore search) = IsFlag once search.once × IsSearch outcome states search
+abbrev pub HasSearch : Option (List ℕ) → Option (List ℕ) → Option (List ℕ) → ScriptTask → Type 0
+HasSearch once outcome states (ScriptTask.Explore search) = IsFlag once search.once × IsSearch outcome states search
 HasSearch once outcome states task = ⊤

@@ -8,5 +8,5 @@ mod request;
 mod task;
 
 pub use commands::command;
-pub use request::{Request, request_of};
-pub use task::{Format, Search, Task, Until, View, task_of};
+pub use request::{CommandLine, request_of};
+pub use task::{Format, ScriptTask, Search, Until, View, task_of};

@@ -4,15 +4,15 @@ ghost use Rattle.clap.specs.Matches.{subcommand_name_of};
 ghost use Rattle.command_line.specs.Asked.{AreAsked, HasFailures, HasFormat, HasPatience, HasRecord, HasSearch, HasSummary, HasUntil, IsFile, IsTask, subcommand_text, value_text};
 
 use crate::commands::{FILE, PAGES, STANDARD_INPUT};
-use crate::task::{Task, task_of};
+use crate::task::{ScriptTask, task_of};
 use clap::ArgMatches;
 use script_lines::Pages;
 
 /// What the words of the command line ask for.
 #[derive(Clone, Copy)]
-pub struct Request<'a> {
+pub struct CommandLine<'a> {
     /// What is done with the script.
-    pub task: Task,
+    pub task: ScriptTask,
     /// The size of the pool.
     pub pages: Pages,
     /// The file that has the script; `None` where standard input has it.
@@ -21,7 +21,7 @@ pub struct Request<'a> {
 
 /// What the matches of a parse ask for. `None` where no pool has as many pages as they ask for.
 /// Takes a time in proportion to the words.
-pub fn request_of<'a>(matches: &ArgMatches<'a>) -> Option<Request<'a>>
+pub fn request_of<'a>(matches: &ArgMatches<'a>) -> Option<CommandLine<'a>>
     ensures pages { AreAsked (value_text (codes "pages") matches.now)
         (option_map (λ request. request.pages.count) result) }
     ensures task { IfSome result (λ request. IsTask (subcommand_name_of matches.now) request.task) }
@@ -45,7 +45,7 @@ pub fn request_of<'a>(matches: &ArgMatches<'a>) -> Option<Request<'a>>
         (option_map (λ name. name.now) request.file)) }
 {
     match pages_of(matches) {
-        Some(pages) => Some(Request {
+        Some(pages) => Some(CommandLine {
             task: task_of(matches),
             pages,
             file: file_of(matches),

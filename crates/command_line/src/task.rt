@@ -53,7 +53,7 @@ pub struct Search {
 
 /// What a command does with a script.
 #[derive(Clone, Copy)]
-pub enum Task {
+pub enum ScriptTask {
     /// Answers each line.
     Run,
     /// Runs the clients as actors, and writes the record too if it is asked for. A patient actor makes a step
@@ -78,7 +78,7 @@ pub enum Task {
 
 /// What the matches of a parse ask for: the task of the subcommand of that name, and `Run` for any other
 /// name. Takes a time in proportion to the words.
-pub fn task_of(matches: &ArgMatches<'_>) -> Task
+pub fn task_of(matches: &ArgMatches<'_>) -> ScriptTask
     ensures task { IsTask (subcommand_name_of matches.now) result }
     ensures format { HasFormat (subcommand_text (codes "format") matches.now) result }
     ensures until { HasUntil (value_text (codes "at") matches.now)
@@ -91,30 +91,30 @@ pub fn task_of(matches: &ArgMatches<'_>) -> Task
         (value_text (codes "outcome") matches.now) (value_text (codes "states") matches.now) result }
 {
     let Some((name, inner)) = matches.subcommand() else {
-        return Task::Run;
+        return ScriptTask::Run;
     };
     if name == THREADS {
-        return Task::Threads {
+        return ScriptTask::Threads {
             has_record: inner.get_flag(RECORD),
             is_patient: inner.get_flag(PATIENT),
         };
     }
     if name == EXPLAIN {
-        return Task::Explain {
+        return ScriptTask::Explain {
             only_failures: inner.get_flag(FAILURES),
             has_summary: inner.get_flag(SUMMARY),
         };
     }
     if name == DRAW {
-        return Task::Draw(view_of(inner));
+        return ScriptTask::Draw(view_of(inner));
     }
     if name == EXPLORE {
-        return Task::Explore(search_of(inner));
+        return ScriptTask::Explore(search_of(inner));
     }
     if name == CHECK {
-        Task::Check
+        ScriptTask::Check
     } else {
-        Task::Run
+        ScriptTask::Run
     }
 }
 

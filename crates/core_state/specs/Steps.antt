@@ -29,7 +29,7 @@ use Rattle.forest_store.specs.Forest.{Collection, Forest, SameKeys, collection_a
 use Rattle.forest_store.specs.Nodes.{with_end, is_unkept}
 use Rattle.forest_store.specs.Scenes.{has_tracker_room}
 use Rattle.forest_store.specs.Settling.{Handles, Settled}
-use Rattle.core_state.specs.declared.task.Place.{Place}
+use Rattle.core_state.specs.declared.task.EndPlace.{EndPlace}
 use Rattle.core_state.specs.Reads.{world_in}
 use Rattle.core_state.specs.State.{Client, HandleCounts, State, counts_of}
 
@@ -110,7 +110,7 @@ Worked s handles (Some work) key after = Settled s.pool handles s.forest after w
 
 -- where the event puts an end: a Close that was answered Done spends it, or a Release, also of a node that was gone, a Give puts
 -- it into a parcel, and a Collect gets it for its caller. Every other event leaves all ends
-abbrev pub end_by : ℕ → Call → Reply → Option Place
+abbrev pub end_by : ℕ → Call → Reply → Option EndPlace
 end_by client (Call.Close key) Reply.Done = Some (record { key = key; end = End.Spent })
 end_by client (Call.Release key) Reply.Done = Some (record { key = key; end = End.Spent })
 end_by client (Call.Release key) (Reply.PeerClosed cause origin) = Some (record { key = key; end = End.Spent })
@@ -119,12 +119,12 @@ end_by client Call.Collect (Reply.Collected key kind collection) = Some (record 
 end_by client _ _ = None
 
 -- where an end is, once that one is put there
-abbrev pub place_of : Option Place → NodeKey → End → End
+abbrev pub place_of : Option EndPlace → NodeKey → End → End
 place_of None key end = end
 place_of (Some place) key end = if same_key place.key key then place.end else end
 
 -- the forest with that end there
-abbrev pub with_place : Option Place → Forest → Forest
+abbrev pub with_place : Option EndPlace → Forest → Forest
 with_place None f = f
 with_place (Some place) f = on_collections (with_nodes (map (with_end place.key place.end))) f
 

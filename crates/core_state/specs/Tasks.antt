@@ -17,8 +17,8 @@ use Rattle.buffer_holds.specs.Counts.{Counts, total}
 use Rattle.trackers.specs.declared.waiting.Waiting.{Waiting}
 use Rattle.trackers.specs.Table.{TrackerTable}
 use Rattle.core_state.specs.declared.decision.Decision.{Decision}
-use Rattle.core_state.specs.declared.task.Place.{Place}
-use Rattle.core_state.specs.declared.task.Task.{Task}
+use Rattle.core_state.specs.declared.task.EndPlace.{EndPlace}
+use Rattle.core_state.specs.declared.task.EventTask.{EventTask}
 use Rattle.core_state.specs.Hands.{MovesHandles, takes_handle_room}
 use Rattle.core_state.specs.Kinds.{is_releasing, is_sync}
 use Rattle.core_state.specs.Reads.{readings_of}
@@ -30,7 +30,7 @@ abbrev pub work_on : ℕ → Option Change → Option Work
 work_on collection change = option_map (λ c. record { collection = collection; change = c }) change
 
 -- what the task changes
-abbrev pub work_in : Option Task → Option Work
+abbrev pub work_in : Option EventTask → Option Work
 work_in None = None
 work_in (Some t) = work_on t.collection t.change
 
@@ -42,39 +42,39 @@ spent_by (Call.Release key) (Reply.PeerClosed cause origin) = Some key
 spent_by _ _ = None
 
 -- the end of the node, spent
-abbrev pub spent_place : Option NodeKey → Option Place
+abbrev pub spent_place : Option NodeKey → Option EndPlace
 spent_place key = option_map (λ k. record { key = k; end = End.Spent }) key
 
 -- the node whose end the task spends
-abbrev pub spent_in : Option Task → Option NodeKey
-spent_in task = option_and_then (λ (t : Task). t.spends) task
+abbrev pub spent_in : Option EventTask → Option NodeKey
+spent_in task = option_and_then (λ (t : EventTask). t.spends) task
 
 -- the end that the task spends is one of its collection
-abbrev pub SpendsThere : Forest → Task → Type 0
+abbrev pub SpendsThere : Forest → EventTask → Type 0
 SpendsThere f t = IfSome t.spends (λ key. option_map (λ (n : Node). n.collection) (node_at f key) ≡ Some t.collection)
 
 -- the task changes something or spends an end
-abbrev pub DoesSome : Task → Type 0
+abbrev pub DoesSome : EventTask → Type 0
 DoesSome t = (is_some t.change || is_some t.spends) ≡ true
 
 -- where the event puts an end, by its task or by what it carries
-abbrev pub end_placed : Option Task → Option Place → Option Place
+abbrev pub end_placed : Option EventTask → Option EndPlace → Option EndPlace
 end_placed task carried = option_or (spent_place (spent_in task)) carried
 
 -- the task may be done: its change may be made, and the end that it spends is one of its collection
-pub record MayDo (f : Forest) (t : Task) : Type 0 where
+pub record MayDo (f : Forest) (t : EventTask) : Type 0 where
   pub change : IfSome t.change (MayChange f t.collection)
   pub there : SpendsThere f t
 
 -- where a handle was dropped, the task changes nothing but the question what follows in the buffer's collection
-abbrev pub AsksOnly : Call → Option Task → Type 0
+abbrev pub AsksOnly : Call → Option EventTask → Type 0
 AsksOnly (Call.DropHandle buffer strength) task =
-    IfSome task (λ (t : Task). IfSome t.change (λ change. (change ≡ Change.Nothing) × (t.collection ≡ buffer.collection)))
+    IfSome task (λ (t : EventTask). IfSome t.change (λ change. (change ≡ Change.Nothing) × (t.collection ≡ buffer.collection)))
 AsksOnly _ task = ⊤
 
 -- and no other buffer of the collection is home
-abbrev pub OthersStay : Handles → Forest → Call → Option Task → Type 0
-OthersStay handles f (Call.DropHandle buffer strength) task = IfSome task (λ (t : Task). is_some t.change ≡ true →
+abbrev pub OthersStay : Handles → Forest → Call → Option EventTask → Type 0
+OthersStay handles f (Call.DropHandle buffer strength) task = IfSome task (λ (t : EventTask). is_some t.change ≡ true →
     option_map_or (are_others_out handles buffer) (collection_at f buffer.collection) false ≡ true)
 OthersStay handles f _ task = ⊤
 
@@ -96,7 +96,7 @@ takes_room (Call.GiveHandle buffer strength to) Reply.Done = true
 takes_room _ _ = false
 
 -- the event may take memory: for handles, a tracker, what it changes in a collection, a client or a parcel
-abbrev pub may_take_memory : Call → Reply → Option Task → Option Waiting → Bool
+abbrev pub may_take_memory : Call → Reply → Option EventTask → Option Waiting → Bool
 may_take_memory call reply task tracking =
     takes_handle_room call reply || (is_some tracking || (is_some (work_in task) || takes_room call reply))
 
@@ -107,7 +107,7 @@ looked_in world None None = None
 looked_in world None (Some t) = if holds world t.condition then Some t.collection else None
 
 -- the end that the event carries: a Give puts one into a parcel, and a Collect gets one out
-abbrev pub carried_by : ℕ → Call → Reply → Option Place
+abbrev pub carried_by : ℕ → Call → Reply → Option EndPlace
 carried_by client (Call.Give key to) Reply.Done = Some (record { key = key; end = End.InTransit client })
 carried_by client Call.Collect (Reply.Collected key kind collection) = Some (record { key = key; end = End.Held client })
 carried_by client _ _ = None
@@ -137,7 +137,7 @@ pub record Parts : Type 0 where
   pub trackers : TrackerTable
 
 -- the call that was answered so took effect, but for the trackers that fire and for what is forgotten; a new node has this key
-pub record TakesEffect (pool : ℕ) (old new : Parts) (client : ℕ) (call : Call) (asked : Reply) (task : Option Task)
+pub record TakesEffect (pool : ℕ) (old new : Parts) (client : ℕ) (call : Call) (asked : Reply) (task : Option EventTask)
     (tracking : Option Waiting) (reply : Reply) : Type 0 where
   pub key : Option NodeKey
   pub told : reply ≡ with_key asked key

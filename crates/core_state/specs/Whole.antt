@@ -17,8 +17,8 @@ use Rattle.forest_store.specs.Nodes.{is_spent}
 use Rattle.forest_store.specs.Settling.{Handles, is_home_in}
 use Rattle.trackers.specs.declared.waiting.Waiting.{Waiting}
 use Rattle.trackers.specs.Table.{Cell}
-use Rattle.core_state.specs.declared.task.Place.{Place}
-use Rattle.core_state.specs.declared.task.Task.{Task}
+use Rattle.core_state.specs.declared.task.EndPlace.{EndPlace}
+use Rattle.core_state.specs.declared.task.EventTask.{EventTask}
 use Rattle.core_state.specs.Shown.{Shows, recalling}
 use Rattle.core_state.specs.State.{State}
 
@@ -68,14 +68,14 @@ pub record IsAmid (f : Forest) (id : ℕ) (leaving : Option NodeKey) : Type 0 wh
       In n c.nodes → n.key ≡ key → ⊥
 
 -- the event can be finished: the forest is sound, except for nodes of the task's collection that may be forgotten, and the end that the task spends
-abbrev pub CanFinish : Forest → Option Task → Type 0
+abbrev pub CanFinish : Forest → Option EventTask → Type 0
 CanFinish f None = IsSound f
 CanFinish f (Some t) = IsAmid f t.collection t.spends
 
 -- the end that is carried is there, and is spent neither before nor after
-abbrev pub CanCarry : Forest → Option Place → Type 0
+abbrev pub CanCarry : Forest → Option EndPlace → Type 0
 CanCarry f carried = IfSome carried
-    (λ (c : Place). (n : Node) × (node_at f c.key ≡ Some n) × (is_spent n.end ≡ false) × (is_spent c.end ≡ false))
+    (λ (c : EndPlace). (n : Node) × (node_at f c.key ≡ Some n) × (is_spent n.end ≡ false) × (is_spent c.end ≡ false))
 
 -- each held buffer is one of its collection, and not home
 abbrev pub NoBufferHome : Handles → Forest → Type 0

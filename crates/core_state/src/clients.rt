@@ -39,12 +39,12 @@ enum Standing {
 /// A client that joined. Once it is shut and no parcel waits for it, its row of 24 bytes is all that is
 /// kept of it.
 #[derive(Drop)]
-pub struct Client {
+pub struct JoinedClient {
     id: ClientId,
     standing: Standing,
 }
 
-impl Model for Client {
+impl Model for JoinedClient {
     ghost use Rattle.core_state.specs.State.{Client};
 
     ghost Value = { Client };
@@ -139,7 +139,7 @@ impl Queue {
     }
 }
 
-impl Client {
+impl JoinedClient {
     // Whether the client is shut.
     #[inline(always)]
     fn is_shut(&self) -> bool
@@ -275,7 +275,7 @@ impl Client {
 
 /// Whether the client joined. Costs O(log clients): clients are numbered as they join.
 #[inline(always)]
-pub fn has_joined(clients: &[Client], client: ClientId) -> bool
+pub fn has_joined(clients: &[JoinedClient], client: ClientId) -> bool
     requires { Rise (map (λ (c : Row). c.id) clients.now) }
     ensures { result ≡ list_any (λ (c : Row). c.id == client) clients.now }
 {
@@ -284,7 +284,7 @@ pub fn has_joined(clients: &[Client], client: ClientId) -> bool
 
 /// Whether the client was shut. Costs O(log clients).
 #[inline(always)]
-pub fn is_shut(clients: &[Client], client: ClientId) -> bool
+pub fn is_shut(clients: &[JoinedClient], client: ClientId) -> bool
     requires { Rise (map (λ (c : Row). c.id) clients.now) }
     ensures { result ≡ option_map_or (λ (c : Row). c.shut)
         (find (λ (c : Row). c.id == client) clients.now) false }
@@ -297,7 +297,7 @@ pub fn is_shut(clients: &[Client], client: ClientId) -> bool
 
 /// How many parcels wait for the client. Costs O(log clients).
 #[inline(always)]
-pub fn count_waiting(clients: &[Client], client: ClientId) -> usize
+pub fn count_waiting(clients: &[JoinedClient], client: ClientId) -> usize
     requires { Rise (map (λ (c : Row). c.id) clients.now) }
     ensures { result ≡ length (option_map_or (λ (c : Row). c.waiting)
         (find (λ (c : Row). c.id == client) clients.now) []) }
@@ -310,7 +310,7 @@ pub fn count_waiting(clients: &[Client], client: ClientId) -> usize
 
 /// The parcel that the client collects next. Costs O(log clients).
 #[inline(always)]
-pub fn first_waiting(clients: &[Client], client: ClientId) -> Option<Parcel>
+pub fn first_waiting(clients: &[JoinedClient], client: ClientId) -> Option<Parcel>
     requires { Rise (map (λ (c : Row). c.id) clients.now) }
     ensures { result ≡ slice_get (option_map_or (λ (c : Row). c.waiting)
         (find (λ (c : Row). c.id == client) clients.now) []) 0 }
@@ -325,7 +325,7 @@ pub fn first_waiting(clients: &[Client], client: ClientId) -> Option<Parcel>
 /// O(log clients).
 #[inline(always)]
 pub fn note_client(
-    clients: &mut Vec<Client>,
+    clients: &mut Vec<JoinedClient>,
     client: ClientId,
     call: &Call,
     reply: &Reply,
@@ -369,7 +369,7 @@ pub fn note_client(
 
 // Where the client stands: at once where nothing but joins came before its own, else by a search.
 #[inline(always)]
-fn place_of(clients: &[Client], client: ClientId) -> Option<usize>
+fn place_of(clients: &[JoinedClient], client: ClientId) -> Option<usize>
     requires { Rise (map (λ (c : Row). c.id) clients.now) }
     ensures { result ≡ position (λ (c : Row). c.id == client) clients.now }
 {
@@ -384,7 +384,7 @@ fn place_of(clients: &[Client], client: ClientId) -> Option<usize>
 
 // The same, by a binary search.
 #[inline(never)]
-fn searched_place(clients: &[Client], client: ClientId) -> Option<usize>
+fn searched_place(clients: &[JoinedClient], client: ClientId) -> Option<usize>
     requires { Rise (map (λ (c : Row). c.id) clients.now) }
     ensures { result ≡ position (λ (c : Row). c.id == client) clients.now }
 {
@@ -392,11 +392,11 @@ fn searched_place(clients: &[Client], client: ClientId) -> Option<usize>
 }
 
 // Puts a client that joined just now behind all others.
-fn admit(clients: &mut Vec<Client>, made: ClientId) -> Result<(), NoMemory>
+fn admit(clients: &mut Vec<JoinedClient>, made: ClientId) -> Result<(), NoMemory>
     ensures ok { OnOk result (clients.new.items ≡ clients.old.items ++ new_client made ∷ []) }
     ensures err { OnErr result (clients.new.items ≡ clients.old.items) }
 {
-    match clients.push(Client {
+    match clients.push(JoinedClient {
         id: made,
         standing: Standing::Open,
     }) {
@@ -406,7 +406,7 @@ fn admit(clients: &mut Vec<Client>, made: ClientId) -> Result<(), NoMemory>
 }
 
 // Shuts the client.
-fn shut(clients: &mut Vec<Client>, client: ClientId)
+fn shut(clients: &mut Vec<JoinedClient>, client: ClientId)
     requires { Rise (map (λ (c : Row). c.id) clients.old.items) }
     ensures { clients.new.items ≡ with_client client now_shut clients.old.items }
 {
@@ -417,7 +417,7 @@ fn shut(clients: &mut Vec<Client>, client: ClientId)
 
 // Puts the parcel behind those that wait for the client.
 #[inline(always)]
-fn send(clients: &mut Vec<Client>, to: ClientId, parcel: Parcel) -> Result<(), NoMemory>
+fn send(clients: &mut Vec<JoinedClient>, to: ClientId, parcel: Parcel) -> Result<(), NoMemory>
     requires { Rise (map (λ (c : Row). c.id) clients.old.items) }
     ensures ok { OnOk result (clients.new.items
         ≡ with_client to (with_parcel parcel) clients.old.items) }
@@ -432,7 +432,7 @@ fn send(clients: &mut Vec<Client>, to: ClientId, parcel: Parcel) -> Result<(), N
 
 // Takes the first parcel that waits for the client.
 #[inline(always)]
-fn collect(clients: &mut Vec<Client>, client: ClientId)
+fn collect(clients: &mut Vec<JoinedClient>, client: ClientId)
     requires { Rise (map (λ (c : Row). c.id) clients.old.items) }
     ensures { clients.new.items ≡ with_client client without_first clients.old.items }
 {
@@ -442,7 +442,7 @@ fn collect(clients: &mut Vec<Client>, client: ClientId)
 }
 
 /// The numbers of the clients, in their order.
-pub fn ids_of(alloc: Global, clients: &[Client]) -> Result<Vec<ClientId>, AllocError>
+pub fn ids_of(alloc: Global, clients: &[JoinedClient]) -> Result<Vec<ClientId>, AllocError>
     ensures { IfOk result (λ ids. ids.items ≡ map (λ (c : Row). c.id) clients.now) }
 {
     let mut ids = Vec::with_capacity(alloc, clients.len())?;

@@ -2,7 +2,7 @@
 ghost use Rattle.std.specs.Prelude.{◌≡◌};
 ghost use Rattle.core_state.specs.Tasks.{changes_nothing as is_idle, with_key as keyed_by};
 
-use crate::task::Task;
+use crate::task::EventTask;
 use sm_names::{Call, NodeKey, Reply};
 use trackers::Waiting;
 
@@ -11,7 +11,7 @@ use trackers::Waiting;
 #[derive(Clone, Copy)]
 pub struct Decision {
     pub reply: Reply,
-    pub task: Option<Task>,
+    pub task: Option<EventTask>,
     pub tracking: Option<Waiting>,
 }
 

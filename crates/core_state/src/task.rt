@@ -9,7 +9,7 @@ use sm_names::{Call, ClientId, CollectionId, NodeKey, Reply};
 
 /// A change to a collection, if there is one, and the end that is spent after it, if one is.
 #[derive(Clone, Copy)]
-pub struct Task {
+pub struct EventTask {
     pub collection: CollectionId,
     pub change: Option<Change>,
     pub spends: Option<NodeKey>,
@@ -17,22 +17,22 @@ pub struct Task {
 
 /// Where the end of the node with this key is put.
 #[derive(Clone, Copy)]
-pub struct Place {
+pub struct EndPlace {
     pub key: NodeKey,
     pub end: End,
 }
 
 /// The end that a Give or a Collect, answered so, carries.
 #[inline(always)]
-pub fn carried_end(client: ClientId, call: &Call, reply: &Reply) -> Option<Place>
+pub fn carried_end(client: ClientId, call: &Call, reply: &Reply) -> Option<EndPlace>
     ensures { result ≡ carried_by client call.now reply.now }
 {
     match (*call, *reply) {
-        (Call::Give(key, _), Reply::Done) => Some(Place {
+        (Call::Give(key, _), Reply::Done) => Some(EndPlace {
             key,
             end: End::InTransit(client),
         }),
-        (Call::Collect, Reply::Collected { key, .. }) => Some(Place {
+        (Call::Collect, Reply::Collected { key, .. }) => Some(EndPlace {
             key,
             end: End::Held(client),
         }),
@@ -42,12 +42,12 @@ pub fn carried_end(client: ClientId, call: &Call, reply: &Reply) -> Option<Place
 
 /// The collection to which the task makes a change, if it makes one.
 #[inline(always)]
-pub fn changed_by(task: &Option<Task>) -> Option<CollectionId>
+pub fn changed_by(task: &Option<EventTask>) -> Option<CollectionId>
     ensures { result ≡ option_map (λ (w : Work). w.collection) (work_in task.now) }
 {
     match *task {
         Some(
-            Task {
+            EventTask {
                 collection,
                 change: Some(_),
                 ..
@@ -58,7 +58,7 @@ pub fn changed_by(task: &Option<Task>) -> Option<CollectionId>
 }
 
 /// The change that the task makes, and the collection to which it makes it, if it makes one.
-pub fn change_in(task: Option<Task>) -> Option<(CollectionId, Change)>
+pub fn change_in(task: Option<EventTask>) -> Option<(CollectionId, Change)>
     ensures { result ≡ option_map (λ (w : Work). (w.collection, w.change)) (work_in task) }
 {
     let task = task?;

@@ -19,7 +19,7 @@ use crate::deeds::{Deed, deed_of};
 use crate::labels::Labels;
 use event_facts::{Event, take_event};
 use forced_marks::{Forced, Moment};
-use script_labels::{Act, Binds, Stop};
+use script_labels::{Act, Binds, LineStop};
 use script_lines::{Label, Part, push_label, push_parts};
 use sm_names::{
     BufferName, Call, ClientId, Limits, MAX_PAGES, NoMemory, NodeKey, Reply, StepFault,
@@ -94,7 +94,7 @@ impl EventWriter {
         line: &[u8],
         reply: &mut Vec<u8>,
         facts: &mut Vec<u8>,
-    ) -> Result<(), Stop>
+    ) -> Result<(), LineStop>
         ensures ok { OnOk result ((scene : Scene) → IsAt self.old.session scene →
             Advances self.old.session self.new.session line.now reply.new.items scene) }
         ensures tells { OnOk result ((scene : Scene) (lines : KeptLines) →
@@ -103,7 +103,7 @@ impl EventWriter {
         ensures err { IfErr result (λ stop. (scene : Scene) → IsAt self.old.session scene →
             IsStopped self.old.session line.now scene stop) }
         ensures same { IfErr result (λ stop. (scene : Scene) → IsAt self.old.session scene →
-            stop ≡ Stop.BadLine → self.new.session ≡ self.old.session) }
+            stop ≡ LineStop.BadLine → self.new.session ≡ self.old.session) }
     {
         facts.clear();
         match self.session.read(line) {
@@ -116,14 +116,14 @@ impl EventWriter {
             ) => match self.take(alloc, client, call, binds, reply) {
                 Ok(event) => match self.tell(alloc, number, line, &event, facts) {
                     Ok(()) => Ok(()),
-                    Err(_) => Err(Stop::NoMemory),
+                    Err(_) => Err(LineStop::NoMemory),
                 },
                 Err(stop) => Err(stop),
             },
             Some(Act::Nothing) => self.session.answer(line, reply),
             Some(Act::Poll(_)) => self.session.answer(line, reply),
             Some(Act::Show(_)) => self.session.answer(line, reply),
-            None => Err(Stop::BadLine),
+            None => Err(LineStop::BadLine),
         }
     }
 
@@ -136,7 +136,7 @@ impl EventWriter {
         line: &[u8],
         event: &Event,
         facts: &mut Vec<u8>,
-    ) -> Result<(), Stop>
+    ) -> Result<(), LineStop>
         ensures session { self.new.session ≡ self.old.session }
         ensures labels { self.new.labels ≡ self.old.labels }
         ensures failures { self.new.failures ≡ self.old.failures }
@@ -225,7 +225,7 @@ impl EventWriter {
         call: Call,
         binds: Binds,
         reply: &mut Vec<u8>,
-    ) -> Result<Event, Stop>
+    ) -> Result<Event, LineStop>
         ensures ok { OnOk result ((scene : Scene) → IsAt self.old.session scene →
             Gains self.old.session self.new.session (Act.Ask client call binds)
             [] reply.new.items scene) }
@@ -239,7 +239,7 @@ impl EventWriter {
         ensures deeds { self.new.deeds ≡ self.old.deeds }
         ensures limits { self.new.limits ≡ self.old.limits }
         ensures failures { OnOk result (self.new.failures ≤ self.old.failures + 1) }
-        ensures err { IfErr result (λ stop. (stop ≢ Stop.BadLine) × (stop ≡ Stop.HistoryFull →
+        ensures err { IfErr result (λ stop. (stop ≢ LineStop.BadLine) × (stop ≡ LineStop.HistoryFull →
             self.old.session.core.limits.events ≤ self.old.session.core.events)) }
     {
         reply.clear();
@@ -438,14 +438,14 @@ fn kept_line_of(alloc: Global, number: u64, line: &[u8]) -> Result<KeptLine, All
 }
 
 // The event, or why it stopped the script.
-fn taken(event: Result<Event, StepFault>) -> Result<Event, Stop>
+fn taken(event: Result<Event, StepFault>) -> Result<Event, LineStop>
     ensures ok { IfOk result (λ made. event ≡ Ok made) }
-    ensures err { IfErr result (λ stop. (stop ≢ Stop.BadLine)
-        × (stop ≡ Stop.HistoryFull → event ≡ Err StepFault.HistoryFull)) }
+    ensures err { IfErr result (λ stop. (stop ≢ LineStop.BadLine)
+        × (stop ≡ LineStop.HistoryFull → event ≡ Err StepFault.HistoryFull)) }
 {
     match event {
         Ok(event) => Ok(event),
-        Err(StepFault::HistoryFull) => Err(Stop::HistoryFull),
-        Err(StepFault::NoMemory) => Err(Stop::NoMemory),
+        Err(StepFault::HistoryFull) => Err(LineStop::HistoryFull),
+        Err(StepFault::NoMemory) => Err(LineStop::NoMemory),
     }
 }

@@ -14,7 +14,7 @@ use crate::labels::Labels;
 use crate::words::push_nodes;
 use event_facts::keepers::{Holder, holders, strong_live};
 use lifetime_core::Core;
-use script_labels::{Stop, Tables, push_buffer};
+use script_labels::{LineStop, Tables, push_buffer};
 use script_lines::{Part, push, push_parts, strength_name};
 use sm_names::{BufferName, ClientId, CollectionId, HeldBuffer, NodeKey};
 use std::alloc::{AllocError, Global};
@@ -68,7 +68,7 @@ pub(crate) fn push_kept(
     labels: &Labels,
     held: &[HeldBuffer],
     with_nodes: bool,
-) -> Result<(), Stop>
+) -> Result<(), LineStop>
     ensures { OnOk result ((names : Names) → Keeps tables.now names → Calls labels.now names →
         text.new.items
         ≡ text.old.items ++ kept_text names (who_keeps_with names with_nodes core.now) held.now) }

@@ -13,7 +13,7 @@ ghost use Rattle.event_texts.specs.SummaryTexts.{colon as colon_text, events_tex
 use crate::event_writer::EventWriter;
 use crate::keepers::push_kept;
 use lifetime_core::Core;
-use script_labels::{Stop, Tables};
+use script_labels::{LineStop, Tables};
 use script_lines::{Part, push, push_parts};
 use sm_names::{Fired, TrackerId};
 use std::alloc::{AllocError, Global};
@@ -25,7 +25,7 @@ impl EventWriter {
     ///
     /// `NoMemory` where memory is refused. Costs O(e + b (n + c) + t f) for e events, b buffers with pages,
     /// the n nodes of a collection, c clients, and t trackers, of which f fired.
-    pub fn push_summary(&self, failing: &[u64], text: &mut Vec<u8>) -> Result<(), Stop>
+    pub fn push_summary(&self, failing: &[u64], text: &mut Vec<u8>) -> Result<(), LineStop>
         ensures { OnOk result ((names : Names) → Keeps self.now.session.tables names →
             Calls self.now.labels names → text.new.items ≡ text.old.items
             ++ summary_text names self.now.session.core failing.now) }
@@ -39,7 +39,7 @@ impl EventWriter {
     }
 
     // Appends all buffers that have pages, and who keeps them.
-    fn push_all_kept(&self, text: &mut Vec<u8>) -> Result<(), Stop>
+    fn push_all_kept(&self, text: &mut Vec<u8>) -> Result<(), LineStop>
         ensures { OnOk result ((names : Names) → Keeps self.now.session.tables names →
             Calls self.now.labels names → text.new.items ≡ text.old.items
             ++ kept_text names (who_keeps_with names true self.now.session.core)

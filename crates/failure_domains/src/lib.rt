@@ -7,5 +7,5 @@ mod link;
 mod walks;
 
 pub use found::Fall;
-pub use link::{Bound, Link};
+pub use link::{Link, WalkBound};
 pub use walks::{fall, fall_into, walk_within};

@@ -14,7 +14,7 @@ pub trait Link {
 }
 
 /// Where a walk down ends.
-pub trait Bound<N> {
+pub trait WalkBound<N> {
     ghost stops: { Self → N → Bool };
 
     /// Whether a walk that reaches the node leaves out all below it. `walk_within` asks once for
@@ -26,7 +26,7 @@ pub trait Bound<N> {
 /// No end: the walk takes all that is below.
 pub(crate) struct Unbounded;
 
-impl<N> Bound<N> for Unbounded {
+impl<N> WalkBound<N> for Unbounded {
     ghost stops = { λ _ _. false };
 
     fn stops(&self, _node: &N) -> bool {

@@ -9,7 +9,7 @@ ghost use Rattle.failure_domains.specs.Falls.{blocked_at, way_up, links_climbed,
 ghost use Rattle.failure_domains.specs.Walks.{Climb, IsWalk};
 
 use crate::found::Fall;
-use crate::link::{Bound, Link, Unbounded};
+use crate::link::{Link, Unbounded, WalkBound};
 use node_table::NodeTable;
 use sm_names::{NoMemory, NodeKey};
 use std::alloc::Global;
@@ -111,7 +111,7 @@ fn way_up<N: Link>(table: &NodeTable<N>, key: NodeKey) -> Option<NodeKey>
 /// the list has room for as many keys as there are nodes, it takes no memory and never fails. It
 /// never loses room. On `NoMemory`, which comes only where it was refused more, it is empty. The
 /// table stays as it is.
-pub fn walk_within<N, B: Bound<N>>(
+pub fn walk_within<N, B: WalkBound<N>>(
     table: &NodeTable<N>,
     top: NodeKey,
     keys: &mut Vec<NodeKey>,
@@ -136,7 +136,7 @@ pub fn walk_within<N, B: Bound<N>>(
 }
 
 /// The same. Each key is taken once from the list, which is a visit: how many there were.
-fn walk<N, B: Bound<N>>(
+fn walk<N, B: WalkBound<N>>(
     table: &NodeTable<N>,
     top: NodeKey,
     keys: &mut Vec<NodeKey>,
@@ -165,7 +165,7 @@ fn walk<N, B: Bound<N>>(
 }
 
 /// Appends the children of the key to the list, if it is the top or its node doesn't stop the walk.
-fn append_within<N, B: Bound<N>>(
+fn append_within<N, B: WalkBound<N>>(
     table: &NodeTable<N>,
     top: NodeKey,
     key: NodeKey,
@@ -187,7 +187,7 @@ fn append_within<N, B: Bound<N>>(
 }
 
 /// Whether the key is not the top, and its node stops the walk.
-fn stops_at<N, B: Bound<N>>(table: &NodeTable<N>, top: NodeKey, key: NodeKey, bound: &B) -> bool
+fn stops_at<N, B: WalkBound<N>>(table: &NodeTable<N>, top: NodeKey, key: NodeKey, bound: &B) -> bool
     ensures { result ≡ stopped_at (B.stops bound.now) table.now top key }
 {
     if key == top {

@@ -3,22 +3,22 @@ use Rattle.std.specs.Prelude.{◌≤◌}
 use Rattle.sm_names.specs.declared.rules.TheConstants.{MAX_SIZE}
 use Rattle.sm_names.specs.Marks.{Mark, Loss, Allocated, Ended}
 use Rattle.forest_store.specs.Decisions.{Decision as Step, Ends, Loses, Places, Allocates}
-use Rattle.forced_marks.specs.declared.decision.Decision.{Decision}
+use Rattle.forced_marks.specs.declared.decision.PendingStep.{PendingStep}
 use Rattle.forced_marks.specs.declared.decision.Forced.{Forced}
 
 -- the step that is found
-abbrev pub told : Decision → Step
-told (Decision.Ends top) = Ends top
-told (Decision.Loses origin cause) = Loses origin cause
-told (Decision.Places head wants) = Places head wants
-told (Decision.Allocates head) = Allocates head
+abbrev pub told : PendingStep → Step
+told (PendingStep.Ends top) = Ends top
+told (PendingStep.Loses origin cause) = Loses origin cause
+told (PendingStep.Places head wants) = Places head wants
+told (PendingStep.Allocates head) = Allocates head
 
 -- buffers that are to be placed have a size in range
-abbrev pub IsSized : Decision → Type 0
-IsSized (Decision.Ends top) = Unit {0}
-IsSized (Decision.Loses origin cause) = Unit {0}
-IsSized (Decision.Places head wants) = (1 ≤ wants.size) × (wants.size ≤ MAX_SIZE)
-IsSized (Decision.Allocates head) = Unit {0}
+abbrev pub IsSized : PendingStep → Type 0
+IsSized (PendingStep.Ends top) = Unit {0}
+IsSized (PendingStep.Loses origin cause) = Unit {0}
+IsSized (PendingStep.Places head wants) = (1 ≤ wants.size) × (wants.size ≤ MAX_SIZE)
+IsSized (PendingStep.Allocates head) = Unit {0}
 
 -- the mark that was made
 abbrev pub mark_told : Forced → Mark

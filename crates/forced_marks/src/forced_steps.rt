@@ -13,7 +13,7 @@ ghost use Rattle.forced_marks.specs.Marks.{SettlesInStages};
 ghost use Rattle.forced_marks.specs.Moments.{stage_of};
 
 use crate::allocation::allocate;
-use crate::decision::{Decision, Forced};
+use crate::decision::{Forced, PendingStep};
 use crate::losses::lose;
 use crate::moment::{Moment, copy_of};
 use crate::next_step::decide;
@@ -86,7 +86,7 @@ fn apply_step(
     scene: &mut Snapshot,
     pool: u32,
     others: &[Interval],
-    step: Decision,
+    step: PendingStep,
 ) -> Result<Forced, AllocError>
     requires step { IsStep (collection_of scene.old) (told step) }
     requires sized { IsSized step }
@@ -97,17 +97,17 @@ fn apply_step(
 {
     let alloc = *scene.nodes.allocator();
     match step {
-        Decision::Ends(top) => {
+        PendingStep::Ends(top) => {
             end_subtree(alloc, &mut scene.nodes, top)?;
             Ok(Forced::Ended(top))
         }
-        Decision::Loses(origin, cause) => {
+        PendingStep::Loses(origin, cause) => {
             let fault = Fault { cause, origin };
             lose(alloc, &mut scene.nodes, fault)?;
             Ok(Forced::Loss(fault))
         }
-        Decision::Places(head, wants) => allocate_root(scene, pool, others, head, wants),
-        Decision::Allocates(head) => {
+        PendingStep::Places(head, wants) => allocate_root(scene, pool, others, head, wants),
+        PendingStep::Allocates(head) => {
             allocate(&mut scene.nodes, head);
             Ok(Forced::Allocated(head))
         }

@@ -15,7 +15,7 @@ ghost use Rattle.forced_marks.specs.Steps.{told, IsSized};
 ghost use Rattle.forest_store.specs.Settling.{standing};
 
 use crate::abandonment::abandoned;
-use crate::decision::Decision;
+use crate::decision::PendingStep;
 use crate::initial_allocation::{first_wants, waiting_root};
 use crate::logical_allocation::{failure, next_head};
 use crate::subtree_end::deserted_head;
@@ -29,7 +29,7 @@ use std::alloc::{AllocError, Global};
 /// attached unit is. Costs O(n log n) for n nodes, and a look-up for each of its buffers.
 ///
 /// `AllocError` where memory is refused.
-pub fn decide(scene: &Snapshot, holds: &Holds) -> Result<Option<Decision>, AllocError>
+pub fn decide(scene: &Snapshot, holds: &Holds) -> Result<Option<PendingStep>, AllocError>
     requires { IsSound (collection_of scene.now) }
     ensures forced { IfOk result (λ step. (pool : ℕ) (others : List Interval) →
         forced pool (standing (total holds.now) others (collection_of scene.now))
@@ -83,7 +83,7 @@ fn choose(
     nodes: &[Node],
     buffers: Option<Buffers>,
     strong_open: bool,
-) -> Result<Option<Decision>, AllocError>
+) -> Result<Option<PendingStep>, AllocError>
     requires { are_distinct nodes.now ≡ true }
     ensures value { IfOk result (λ step.
         option_map told step ≡ decided nodes.now buffers strong_open) }
@@ -91,10 +91,10 @@ fn choose(
 {
     let deserted = deserted_head(alloc, nodes)?;
     if let Some(top) = deserted {
-        return Ok(Some(Decision::Ends(top)));
+        return Ok(Some(PendingStep::Ends(top)));
     }
     if let Some(root) = abandoned(nodes, strong_open) {
-        return Ok(Some(Decision::Loses(root, Cause::NoStrong)));
+        return Ok(Some(PendingStep::Loses(root, Cause::NoStrong)));
     }
     if let Some(root) = waiting_root(nodes) {
         return Ok(Some(first_allocation(nodes, root.key)));
@@ -110,23 +110,23 @@ fn choose(
 }
 
 /// The outcome of the root unit's allocation, before the pool is asked.
-fn first_allocation(nodes: &[Node], root: NodeKey) -> Decision
+fn first_allocation(nodes: &[Node], root: NodeKey) -> PendingStep
     ensures value { told result ≡ first_step nodes.now root }
     ensures sized { IsSized result }
 {
     match first_wants(nodes, root) {
-        Ok(wants) => Decision::Places(root, wants),
-        Err(why) => Decision::Loses(root, Cause::Failed(why)),
+        Ok(wants) => PendingStep::Places(root, wants),
+        Err(why) => PendingStep::Loses(root, Cause::Failed(why)),
     }
 }
 
 /// The outcome of the allocation of the attached unit with this head.
-fn later_allocation(nodes: &[Node], head: NodeKey, given: Buffers) -> Decision
+fn later_allocation(nodes: &[Node], head: NodeKey, given: Buffers) -> PendingStep
     ensures value { told result ≡ later_step nodes.now given head }
     ensures sized { IsSized result }
 {
     match failure(nodes, head, given) {
-        None => Decision::Allocates(head),
-        Some(why) => Decision::Loses(head, Cause::Failed(why)),
+        None => PendingStep::Allocates(head),
+        Some(why) => PendingStep::Loses(head, Cause::Failed(why)),
     }
 }

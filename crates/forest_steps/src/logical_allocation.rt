@@ -15,7 +15,7 @@ ghost use Rattle.forest_steps.specs.StoreSteps.{AfterStepsIn, MidEventIn};
 use crate::demand::{TotalDemand, refusal, unit_demand};
 use crate::subtree_end::fall_by;
 use crate::unit_allocation::{has_turn, mark_allocated};
-use failure_domains::{Bound, walk_within};
+use failure_domains::{WalkBound, walk_within};
 use forest_store::entry::Entry;
 use forest_store::node::Node;
 use forest_store::store::NodeStore;
@@ -27,7 +27,7 @@ use sm_names::{Buffers, Cause, Constraints, Fault, NodeKey};
 #[derive(Drop)]
 struct OneUnit;
 
-impl Bound<Node> for OneUnit {
+impl WalkBound<Node> for OneUnit {
     ghost stops = { λ _ n. n.attached };
 
     fn stops(&self, node: &Node) -> bool {

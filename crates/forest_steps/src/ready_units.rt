@@ -7,7 +7,7 @@ ghost use Rattle.node_table.specs.Table.{row_at, table_len};
 ghost use Rattle.forest_store.specs.LossMarks.{key_order};
 ghost use Rattle.forest_store.specs.UnitAllocation.{IsWalked, is_head_at, is_outside, is_ready_head, is_waiting_head};
 
-use failure_domains::{Bound, walk_within};
+use failure_domains::{WalkBound, walk_within};
 use forest_store::node::Node;
 use forest_store::unit_counts::{Unit, unit_in};
 use node_table::NodeTable;
@@ -71,7 +71,7 @@ struct Together<'a> {
     id: CollectionId,
 }
 
-impl<'a> Bound<Node> for Together<'a> {
+impl<'a> WalkBound<Node> for Together<'a> {
     ghost stops = { λ together n. is_outside together.units.now together.id n };
 
     fn stops(&self, node: &Node) -> bool {

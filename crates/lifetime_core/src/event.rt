@@ -15,9 +15,9 @@ use crate::task::make_change;
 use alloc_event::Forest;
 use buffer_holds::Holds;
 use buffer_pool::Pool;
-use core_state::clients::{Client, note_client};
+use core_state::clients::{JoinedClient, note_client};
 use core_state::handle_changes::{apply_handles, tidy_up, undo_handles};
-use core_state::task::Task;
+use core_state::task::EventTask;
 use sm_names::{Call, ClientId, NoMemory, NodeKey, Reply};
 use trackers::{Trackers, Waiting};
 
@@ -25,7 +25,7 @@ use trackers::{Trackers, Waiting};
 #[derive(Drop)]
 pub(crate) struct Contents {
     // The earliest first, so that their ids rise.
-    pub(crate) clients: Vec<Client>,
+    pub(crate) clients: Vec<JoinedClient>,
     pub(crate) forest: Forest,
     pub(crate) pool: Pool,
     pub(crate) holds: Holds,
@@ -46,7 +46,7 @@ pub(crate) fn take_effect(
     client: ClientId,
     call: &Call,
     asked: &Reply,
-    task: &Option<Task>,
+    task: &Option<EventTask>,
     tracking: Option<Waiting>,
 ) -> Result<Option<NodeKey>, NoMemory>
     requires clients { Rise (map (λ (c : Row). c.id) contents.old.clients.items) }

@@ -19,14 +19,14 @@ use alloc_event::effects::effect_of;
 use alloc_event::{Change, End, Forest, Node};
 use buffer_holds::Holds;
 use buffer_pool::Pool;
-use core_state::task::{Place, Task};
+use core_state::task::{EndPlace, EventTask};
 use sm_names::{
     BufferName, Call, Cause, ClientId, CollectionId, NoMemory, NodeKey, Reply, Strength,
 };
 
 // The birth of a node.
 #[inline(always)]
-fn birth(core: &Core, client: ClientId, call: &Call, collection: CollectionId) -> Option<Task>
+fn birth(core: &Core, client: ClientId, call: &Call, collection: CollectionId) -> Option<EventTask>
     ensures work { work_in result ≡ birth_by core.now client call.now collection }
     ensures spends { (key : Key) → spent_in result
         ≡ spent_by call.now (Reply.Token key collection) }
@@ -41,7 +41,7 @@ fn birth(core: &Core, client: ClientId, call: &Call, collection: CollectionId) -
             return None;
         }
     };
-    Some(Task {
+    Some(EventTask {
         collection,
         change: Some(Change::Birth {
             parent,
@@ -56,7 +56,7 @@ fn birth(core: &Core, client: ClientId, call: &Call, collection: CollectionId) -
 // What a dropped handle does to the collection of its buffer: nothing if another handle of this buffer
 // and strength stays open; otherwise the buffer may be home.
 #[inline(always)]
-fn dropped(core: &Core, buffer: BufferName, strength: Strength) -> Option<Task>
+fn dropped(core: &Core, buffer: BufferName, strength: Strength) -> Option<EventTask>
     ensures work { work_in result ≡ drop_at core.now buffer strength }
     ensures spends { spent_in result ≡ None }
     ensures there { IfSome result (SpendsThere core.now.forest) }
@@ -68,7 +68,7 @@ fn dropped(core: &Core, buffer: BufferName, strength: Strength) -> Option<Task>
     if !core.has_collection(buffer.collection) {
         return None;
     }
-    Some(Task {
+    Some(EventTask {
         collection: buffer.collection,
         change: Some(Change::Nothing),
         spends: None,
@@ -77,7 +77,7 @@ fn dropped(core: &Core, buffer: BufferName, strength: Strength) -> Option<Task>
 
 // The loss of the node with this key, unless the node is gone, and the spending of its end.
 #[inline(always)]
-fn closing(key: NodeKey, node: &Node) -> Task
+fn closing(key: NodeKey, node: &Node) -> EventTask
     ensures { result ≡ record {
       collection = node.now.collection;
       change = if node.now.gone then None else Some (Change.Loss key Cause.Lost);
@@ -89,7 +89,7 @@ fn closing(key: NodeKey, node: &Node) -> Task
     } else {
         Some(Change::Loss(key, Cause::Lost))
     };
-    Task {
+    EventTask {
         collection: node.collection,
         change,
         spends: Some(key),
@@ -98,7 +98,7 @@ fn closing(key: NodeKey, node: &Node) -> Task
 
 // A call on a node that was answered Done.
 #[inline(always)]
-fn done_task(core: &Core, call: &Call, node: Option<&Node>) -> Option<Task>
+fn done_task(core: &Core, call: &Call, node: Option<&Node>) -> Option<EventTask>
     requires node { option_copied node ≡ node_named core.now call.now }
     requires there { IfSome (key_in call.now) (λ key.
         is_some (node_at core.now.forest key) ≡ true) }
@@ -114,7 +114,7 @@ fn done_task(core: &Core, call: &Call, node: Option<&Node>) -> Option<Task>
     if let Call::Close(key) = *call {
         return Some(closing(key, node));
     }
-    Some(Task {
+    Some(EventTask {
         collection: node.collection,
         change: Some(effect_of(call, &Reply::Done)?),
         spends: match *call {
@@ -126,7 +126,7 @@ fn done_task(core: &Core, call: &Call, node: Option<&Node>) -> Option<Task>
 
 // The change to the node's collection, if the node is there.
 #[inline(always)]
-fn at_node(core: &Core, key: NodeKey, node: Option<&Node>, change: Change) -> Option<Task>
+fn at_node(core: &Core, key: NodeKey, node: Option<&Node>, change: Change) -> Option<EventTask>
     requires { option_copied node ≡ node_at core.now.forest key }
     ensures work { work_in result ≡ change_at core.now.forest key (λ n. change) }
     ensures spends { spent_in result ≡ None }
@@ -134,7 +134,7 @@ fn at_node(core: &Core, key: NodeKey, node: Option<&Node>, change: Change) -> Op
     ensures some { IfSome result DoesSome }
 {
     let node = node?;
-    Some(Task {
+    Some(EventTask {
         collection: node.collection,
         change: Some(change),
         spends: None,
@@ -151,7 +151,7 @@ pub(crate) fn task_of(
     reply: &Reply,
     named: Option<NodeKey>,
     node: Option<&Node>,
-) -> Option<Task>
+) -> Option<EventTask>
     requires key { key_in call.now ≡ named }
     requires node { option_copied node ≡ node_named core.now call.now }
     requires answered { reply.now
@@ -173,7 +173,7 @@ pub(crate) fn task_of(
         }
         (Call::Release(key), Reply::PeerClosed { .. }) => {
             let node = node?;
-            Some(Task {
+            Some(EventTask {
                 collection: node.collection,
                 change: None,
                 spends: Some(key),
@@ -192,7 +192,7 @@ pub(crate) fn make_change(
     forest: &mut Forest,
     pool: &mut Pool,
     holds: &Holds,
-    task: &Option<Task>,
+    task: &Option<EventTask>,
     call: &Call,
 ) -> Result<Option<NodeKey>, NoMemory>
     requires may { IfSome task.now (MayDo forest.old) }
@@ -222,11 +222,11 @@ pub(crate) fn make_change(
 
 // Puts an end into its new place, if the event moves one.
 #[inline(always)]
-fn carry(forest: &mut Forest, carried: Option<Place>)
+fn carry(forest: &mut Forest, carried: Option<EndPlace>)
     requires { CanCarry forest.old carried }
     ensures { forest.new ≡ with_place carried forest.old }
 {
-    if let Some(Place { key, end }) = carried {
+    if let Some(EndPlace { key, end }) = carried {
         forest.set_end(key, end);
     }
 }
@@ -245,7 +245,7 @@ fn spend(forest: &mut Forest, end: Option<NodeKey>)
 /// Spends the end that the event spends, or puts an end into its new place, and removes the nodes that
 /// are then no longer kept. Takes no memory. Costs what `forget_unkept` costs.
 #[inline(always)]
-pub(crate) fn put_end(forest: &mut Forest, task: &Option<Task>, carried: Option<Place>)
+pub(crate) fn put_end(forest: &mut Forest, task: &Option<EventTask>, carried: Option<EndPlace>)
     requires task { CanFinish forest.old task.now }
     requires carried { CanCarry forest.old carried }
     requires one { is_some task.now ≡ true → carried ≡ None }

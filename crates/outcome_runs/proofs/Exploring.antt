@@ -7,12 +7,12 @@ use Rattle.script_lines.specs.declared.TheConstants.{MOST_BYTES}
 use Rattle.report_io.specs.declared.fault.ReportFault.{ReportFault}
 use Rattle.report_io.specs.Streams.{IsUnread}
 use Rattle.outcome_runs.specs.declared.job.Ending.{Ending}
-use Rattle.outcome_runs.specs.declared.job.Job.{Job}
+use Rattle.outcome_runs.specs.declared.job.SearchJob.{SearchJob}
 use Rattle.outcome_runs.specs.Searches.{IsUntold}
 use Rattle.outcome_runs.specs.Explored.{Explores, IsExplored, TellingStops}
 
 -- nothing was written where nothing is told
-pub stopped_same : (job : Job) (old : Option (List ℕ)) (script : List ℕ) (fault : ReportFault) → IsUntold job script fault →
+pub stopped_same : (job : SearchJob) (old : Option (List ℕ)) (script : List ℕ) (fault : ReportFault) → IsUntold job script fault →
     TellingStops job old old script fault
 stopped_same job old script ReportFault.ReadFault why = Keeps-refl old
 stopped_same job old script ReportFault.TooLong why = absurd why
@@ -22,7 +22,7 @@ stopped_same job old script ReportFault.HistoryFull why = Keeps-refl old
 stopped_same job old script ReportFault.NoMemory why = Keeps-refl old
 stopped_same job old script (ReportFault.Missing sought n) why = absurd why
 
-module _ (job : Job) (left_before left old : Option (List ℕ)) where
+module _ (job : SearchJob) (left_before left old : Option (List ℕ)) where
   -- the script did not come in
   pub explores_unread : (fault : ReportFault) → IsUnread left_before left fault → Explores job left_before left old old (Err fault)
   explores_unread ReportFault.ReadFault came = record { script = came.bytes; taken = came.taken; outcome = (came.within, Keeps-refl old) }

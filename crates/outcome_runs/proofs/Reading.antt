@@ -10,7 +10,7 @@ use Rattle.actor_plays.specs.declared.plan.Plan.{Plan}
 use Rattle.actor_plays.specs.Plans.{planned, steps_of}
 use Rattle.outcome_texts.specs.declared.telling.Telling.{Telling}
 use Rattle.outcome_texts.specs.ClaimLines.{Text, claim_texts_of, judged}
-use Rattle.outcome_runs.specs.declared.job.Job.{Job}
+use Rattle.outcome_runs.specs.declared.job.SearchJob.{SearchJob}
 use Rattle.outcome_runs.specs.Reasons.{reason_at}
 use Rattle.outcome_runs.specs.Searches.{IsTelling, IsUnfound, IsUnheld, IsUnheldBy, IsUnjudged, IsUnlisted, IsUnsearched, IsUntold}
 
@@ -45,7 +45,7 @@ bad_told script number ReportFault.NoMemory bad line reason = tt
 bad_told script number (ReportFault.Missing sought n) bad line reason = absurd line
 
 -- why there are no actors is why nothing is told
-pub unlisted_told : (job : Job) (script : List ℕ) (fault : ReportFault) → IsUnlisted script fault → IsUntold job script fault
+pub unlisted_told : (job : SearchJob) (script : List ℕ) (fault : ReportFault) → IsUnlisted script fault → IsUntold job script fault
 unlisted_told job script ReportFault.ReadFault why = tt
 unlisted_told job script ReportFault.TooLong why = absurd why
 unlisted_told job script ReportFault.WriteFault why = absurd why
@@ -55,7 +55,8 @@ unlisted_told job script ReportFault.NoMemory why = tt
 unlisted_told job script (ReportFault.Missing sought n) why = absurd why
 
 -- so is a bad claim
-pub unheld_told : (job : Job) (script : List ℕ) (list : ActorList) (fault : ReportFault) → script_actors script ≡ Ok (actors_of list) →
+pub unheld_told : (job : SearchJob) (script : List ℕ) (list : ActorList) (fault : ReportFault) →
+    script_actors script ≡ Ok (actors_of list) →
     IsUnheld job script list fault → IsUntold job script fault
 unheld_told job script list ReportFault.ReadFault is why = absurd why
 unheld_told job script list ReportFault.TooLong is why = absurd why
@@ -66,7 +67,7 @@ unheld_told job script list ReportFault.NoMemory is why = tt
 unheld_told job script list (ReportFault.Missing sought n) is why = absurd why
 
 -- by the plans of the list
-pub unheld_in : (job : Job) (script : List ℕ) (list : ActorList) (plans : List Plan) (fault : ReportFault) →
+pub unheld_in : (job : SearchJob) (script : List ℕ) (list : ActorList) (plans : List Plan) (fault : ReportFault) →
     map steps_of plans ≡ map (λ (one : ActorScript). planned job.once one.steps.items) list.scripts.items →
     IsUnheldBy script list plans fault → IsUnheld job script list fault
 unheld_in job script list plans ReportFault.ReadFault is why = absurd why

@@ -4,7 +4,7 @@ use Rattle.script_lines.specs.Written.{WritesPart}
 use Rattle.report_io.specs.declared.fault.ReportFault.{ReportFault}
 use Rattle.report_io.specs.Faults.{IsTold, fault_status}
 use Rattle.outcome_runs.specs.declared.job.Ending.{Ending}
-use Rattle.outcome_runs.specs.declared.job.Job.{Job}
+use Rattle.outcome_runs.specs.declared.job.SearchJob.{SearchJob}
 use Rattle.outcome_runs.specs.Explored.{Explores}
 
 -- the status that the program ends with: 0 where all orders were gone through, 7 where not, 6 where a claim does not hold, 2 where there is no such
@@ -27,13 +27,13 @@ abbrev pub unlike_line : List ℕ
 unlike_line = codes "explore: a play went on otherwise" ++ 10 ∷ []
 
 -- nothing was told of faults where something was written of the search
-abbrev pub IsTellingOf : Job → Option (List ℕ) → Option (List ℕ) → Ending → Type 0
+abbrev pub IsTellingOf : SearchJob → Option (List ℕ) → Option (List ℕ) → Ending → Type 0
 IsTellingOf job before after Ending.Missing = WritesPart before after (missing_line job.outcome)
 IsTellingOf job before after Ending.Unlike = WritesPart before after unlike_line
 IsTellingOf job before after _ = after ≡ before
 
 -- a script was explored, with this outcome: the status is its status, and its fault, if there is one, was told
-pub record EndsExplored (job : Job) (left_before left old new told_before told : Option (List ℕ)) (status : ℕ) : Type 0 where
+pub record EndsExplored (job : SearchJob) (left_before left old new told_before told : Option (List ℕ)) (status : ℕ) : Type 0 where
   pub outcome : Result Ending ReportFault
   pub explores : Explores job left_before left old new outcome
   pub status_is : status ≡ exploring_status outcome

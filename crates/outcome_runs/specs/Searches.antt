@@ -20,11 +20,11 @@ use Rattle.outcome_texts.specs.Plays.{IsPlayText}
 use Rattle.outcome_texts.specs.Reports.{IsReport}
 use Rattle.outcome_texts.specs.Verdicts.{claims_text, has_broken}
 use Rattle.outcome_runs.specs.declared.job.Ending.{Ending}
-use Rattle.outcome_runs.specs.declared.job.Job.{Job}
+use Rattle.outcome_runs.specs.declared.job.SearchJob.{SearchJob}
 use Rattle.outcome_runs.specs.Reasons.{reason_at}
 
 -- a core with the pages that are asked for, and the greatest limits; the seed of its tables changes no reply
-abbrev pub setting_of : Job → List ℕ → Setting
+abbrev pub setting_of : SearchJob → List ℕ → Setting
 setting_of job seed = record {
   pages = job.pages;
   limits = record { events = MAX_EVENTS; nodes = MAX_NODES; collections = MAX_COLLECTIONS; trackers = MAX_TRACKERS; handles = MAX_HANDLES };
@@ -32,7 +32,7 @@ setting_of job seed = record {
 }
 
 -- each outcome that was found has a play of the actors of these plans that comes to it, and no more states were met than are asked for
-pub record IsSearch (plans : List Plan) (job : Job) (seed : List ℕ) (found : Exploration) : Type 0 where
+pub record IsSearch (plans : List Plan) (job : SearchJob) (seed : List ℕ) (found : Exploration) : Type 0 where
   pub real : All (IsFound plans (setting_of job seed)) found.outcomes.items
   pub states : found.states ≤ job.states
 
@@ -75,7 +75,8 @@ pub record IsTelling (script : List ℕ) (list : ActorList) (plans : List Plan) 
   pub its_plans : telling.plans.now ≡ plans
 
 -- what was found is told, with what it says of these claims
-pub record HasFound (job : Job) (seed : List ℕ) (telling : Telling) (claims : List ClaimLine) (text : List ℕ) (ending : Ending) : Type 0 where
+pub record HasFound (job : SearchJob) (seed : List ℕ) (telling : Telling) (claims : List ClaimLine) (text : List ℕ)
+    (ending : Ending) : Type 0 where
   pub found : Exploration
   pub search : IsSearch telling.plans.now job seed found
   pub is_text : IsText telling found claims job.outcome text ending
@@ -86,30 +87,31 @@ pub record IsUnlike (text : List ℕ) (ending : Ending) : Type 0 where
   pub so : ending ≡ Ending.Unlike
 
 -- what was found is told, unless a play was unlike itself
-abbrev pub IsFoundWith : Job → List ℕ → Telling → List ClaimLine → List ℕ → Ending → Type 0
+abbrev pub IsFoundWith : SearchJob → List ℕ → Telling → List ClaimLine → List ℕ → Ending → Type 0
 IsFoundWith job seed telling claims text ending = HasFound job seed telling claims text ending ⊎ IsUnlike text ending
 
 -- the same with the claims of the script, which are all good
-pub record IsFoundBy (job : Job) (seed script : List ℕ) (telling : Telling) (text : List ℕ) (ending : Ending) : Type 0 where
+pub record IsFoundBy (job : SearchJob) (seed script : List ℕ) (telling : Telling) (text : List ℕ) (ending : Ending) : Type 0 where
   pub claims : List ClaimLine
   pub good : judged telling (claim_texts_of script) ≡ Ok (claims_in claims)
   pub told : IsFoundWith job seed telling claims text ending
 
 -- the same by what a report of this list and these plans is made of
-pub record IsToldBy (job : Job) (seed script : List ℕ) (list : ActorList) (plans : List Plan) (text : List ℕ) (ending : Ending) : Type 0 where
+pub record IsToldBy (job : SearchJob) (seed script : List ℕ) (list : ActorList) (plans : List Plan) (text : List ℕ)
+    (ending : Ending) : Type 0 where
   pub telling : Telling
   pub is_telling : IsTelling script list plans telling
   pub told : IsFoundBy job seed script telling text ending
 
 -- what was found of the script of this list is told: each outcome has a play of its actors that comes to it
-pub record HasSearched (job : Job) (script : List ℕ) (list : ActorList) (text : List ℕ) (ending : Ending) : Type 0 where
+pub record HasSearched (job : SearchJob) (script : List ℕ) (list : ActorList) (text : List ℕ) (ending : Ending) : Type 0 where
   pub plans : List Plan
   pub planned_steps : map steps_of plans ≡ map (λ (one : ActorScript). planned job.once one.steps.items) list.scripts.items
   pub seed : List ℕ
   pub told : IsToldBy job seed script list plans text ending
 
 -- the same of the script
-pub record IsTold (job : Job) (script : List ℕ) (text : List ℕ) (ending : Ending) : Type 0 where
+pub record IsTold (job : SearchJob) (script : List ℕ) (text : List ℕ) (ending : Ending) : Type 0 where
   pub list : ActorList
   pub is_list : script_actors script ≡ Ok (actors_of list)
   pub searched : HasSearched job script list text ending
@@ -125,13 +127,13 @@ pub record HasBadClaim (script : List ℕ) (list : ActorList) (plans : List Plan
   pub bad : judged telling (claim_texts_of script) ≡ Err number
 
 -- the same of the script of this list
-pub record HasBadOne (job : Job) (script : List ℕ) (list : ActorList) (number : ℕ) : Type 0 where
+pub record HasBadOne (job : SearchJob) (script : List ℕ) (list : ActorList) (number : ℕ) : Type 0 where
   pub plans : List Plan
   pub planned_steps : map steps_of plans ≡ map (λ (one : ActorScript). planned job.once one.steps.items) list.scripts.items
   pub claim : HasBadClaim script list plans number
 
 -- it is the first bad line of the script: of the steps, for this reason, or if these are good of the claims
-abbrev pub IsBadOf : Job → List ℕ → ℕ → List ℕ → Type 0
+abbrev pub IsBadOf : SearchJob → List ℕ → ℕ → List ℕ → Type 0
 IsBadOf job script number reason = IsFirstBad script number reason
     ⊎ ((list : ActorList) × (script_actors script ≡ Ok (actors_of list)) × HasBadOne job script list number)
 
@@ -175,14 +177,14 @@ IsUnheldBy script list plans ReportFault.NoMemory = ⊤
 IsUnheldBy script list plans _ = ⊥
 
 -- the same of the script of this list
-abbrev pub IsUnheld : Job → List ℕ → ActorList → ReportFault → Type 0
+abbrev pub IsUnheld : SearchJob → List ℕ → ActorList → ReportFault → Type 0
 IsUnheld job script list (ReportFault.BadLine number reason) = HasBadOne job script list number
 IsUnheld job script list ReportFault.HistoryFull = ⊤
 IsUnheld job script list ReportFault.NoMemory = ⊤
 IsUnheld job script list _ = ⊥
 
 -- why nothing is told of a script: only that of a bad line says which
-abbrev pub IsUntold : Job → List ℕ → ReportFault → Type 0
+abbrev pub IsUntold : SearchJob → List ℕ → ReportFault → Type 0
 IsUntold job script ReportFault.ReadFault = ⊤
 IsUntold job script (ReportFault.BadLine number reason) = IsBadOf job script number reason.items
 IsUntold job script ReportFault.HistoryFull = ⊤

@@ -4,7 +4,7 @@ ghost use Rattle.sm_names.specs.declared.rules.TheConstants.{MAX_PAGES};
 ghost use Rattle.script_lines.specs.declared.TheConstants.{MOST_BYTES};
 ghost use Rattle.outcome_runs.specs.Explored.{Explores, IsExplored, TellingStops};
 
-use crate::job::{Ending, Job};
+use crate::job::{Ending, SearchJob};
 use crate::telling::told_of_script;
 use report_io::{ReportFault, put_out, read_script};
 use std::alloc::Global;
@@ -25,7 +25,7 @@ pub fn explore_script<R: Read, W: Write>(
     seed: [u8; 16],
     reader: &mut R,
     writer: &mut W,
-    job: Job,
+    job: SearchJob,
 ) -> Result<Ending, ReportFault>
     requires { (1 ≤ job.pages) × (job.pages ≤ MAX_PAGES) }
     ensures { Explores job (R.remaining reader.old) (R.remaining reader.new)
@@ -43,7 +43,7 @@ fn tell<W: Write>(
     alloc: Global,
     seed: [u8; 16],
     writer: &mut W,
-    job: Job,
+    job: SearchJob,
     script: &[u8],
 ) -> Result<Ending, ReportFault>
     requires pages { (1 ≤ job.pages) × (job.pages ≤ MAX_PAGES) }

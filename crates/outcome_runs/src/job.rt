@@ -2,7 +2,7 @@
 
 /// What is searched, and what is written of it.
 #[derive(Clone, Copy)]
-pub struct Job {
+pub struct SearchJob {
     /// How many pages the pool has.
     pub pages: u32,
     /// No line waits: each step is made once.

@@ -6,7 +6,7 @@ ghost use Rattle.script_lines.specs.Written.{WritesPart};
 ghost use Rattle.outcome_runs.specs.Endings.{EndsExplored, missing_line, unlike_line};
 
 use crate::explore::explore_script;
-use crate::job::{Ending, Job};
+use crate::job::{Ending, SearchJob};
 use report_io::end_with;
 use script_lines::write_line;
 use std::alloc::Global;
@@ -84,7 +84,7 @@ pub fn explore_to_exit<R: Read, W: Write, F: Write>(
     reader: &mut R,
     writer: &mut W,
     faults: &mut F,
-    job: Job,
+    job: SearchJob,
 ) -> ExitCode
     requires { (1 ≤ job.pages) × (job.pages ≤ MAX_PAGES) }
     ensures { EndsExplored job (R.remaining reader.old) (R.remaining reader.new)

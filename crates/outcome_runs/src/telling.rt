@@ -9,7 +9,7 @@ ghost use Rattle.outcome_texts.specs.ClaimLines.{claim_texts_of, claims_in, judg
 ghost use Rattle.outcome_texts.specs.Lines.{step_lines_of, steps_in};
 ghost use Rattle.outcome_runs.specs.Searches.{HasSearched, IsFoundBy, IsFoundWith, IsJudged, IsPlayed, IsSearch, IsText, IsTold, IsToldBy, IsUnfound, IsUnheld, IsUnheldBy, IsUnjudged, IsUnlike, IsUnlisted, IsUnsearched, IsUntold, judged_ending, outcome_at, stop_told, whole_ending};
 
-use crate::job::{Ending, Job};
+use crate::job::{Ending, SearchJob};
 use crate::reasons::reason_of;
 use actor_plays::Plan;
 use actor_scripts::{ActorList, ActorScriptFault, read_actors};
@@ -61,7 +61,7 @@ fn stopped_by(fault: ExploreFault) -> Result<Option<Exploration>, ReportFault>
 fn searched(
     alloc: Global,
     seed: [u8; 16],
-    job: Job,
+    job: SearchJob,
     plans: &[Plan],
 ) -> Result<Option<Exploration>, ReportFault>
     requires { (1 ≤ job.pages) × (job.pages ≤ MAX_PAGES) }
@@ -218,7 +218,7 @@ fn script_claims<'a>(
 fn told_with(
     alloc: Global,
     seed: [u8; 16],
-    job: Job,
+    job: SearchJob,
     telling: &Telling<'_>,
     claims: &[ClaimLine<'_>],
 ) -> Result<Told, ReportFault>
@@ -241,7 +241,7 @@ fn told_with(
 fn told_from(
     alloc: Global,
     seed: [u8; 16],
-    job: Job,
+    job: SearchJob,
     script: &[u8],
     telling: &Telling<'_>,
 ) -> Result<Told, ReportFault>
@@ -295,7 +295,7 @@ fn steps_of_list<'a>(
 fn told_by(
     alloc: Global,
     seed: [u8; 16],
-    job: Job,
+    job: SearchJob,
     script: &[u8],
     list: &ActorList,
     steps: &[StepLine<'_>],
@@ -321,7 +321,7 @@ fn told_by(
 fn told_in(
     alloc: Global,
     seed: [u8; 16],
-    job: Job,
+    job: SearchJob,
     script: &[u8],
     list: &ActorList,
 ) -> Result<Told, ReportFault>
@@ -345,7 +345,7 @@ fn told_in(
 pub(crate) fn told_of_script(
     alloc: Global,
     seed: [u8; 16],
-    job: Job,
+    job: SearchJob,
     script: &[u8],
 ) -> Result<Told, ReportFault>
     requires pages { (1 ≤ job.pages) × (job.pages ≤ MAX_PAGES) }

@@ -15,7 +15,7 @@ use Rattle.core_state.specs.State.{Client, State}
 use Rattle.script_labels.specs.Names.{Names}
 use Rattle.event_texts.specs.FactTexts.{buffer_name, concat}
 use Rattle.picture_model.specs.declared.features.Class.{Class}
-use Rattle.picture_model.specs.declared.features.Link.{Link}
+use Rattle.picture_model.specs.declared.features.LinkStyle.{LinkStyle}
 use Rattle.picture_model.specs.declared.picture.Tree.{Tree}
 use Rattle.picture_model.specs.declared.failure_view.Travel.{Travel}
 use Rattle.picture_model.specs.declared.failure_view.Way.{Way}
@@ -224,10 +224,10 @@ dot_way_text (Some (Way.Down step)) = arrow_text (codes "dir=forward") (codes "2
 dot_way_text (Some Way.Stop) = stop_words
 
 -- what stands before that
-abbrev pub link_begin : Link → List ℕ
-link_begin Link.Normal = codes " ["
-link_begin Link.Attached = codes " [style=dashed, "
-link_begin Link.Dispensable = codes " [style=dotted, "
+abbrev pub link_begin : LinkStyle → List ℕ
+link_begin LinkStyle.Normal = codes " ["
+link_begin LinkStyle.Attached = codes " [style=dashed, "
+link_begin LinkStyle.Dispensable = codes " [style=dotted, "
 
 -- the link from a parent that was born at this event
 abbrev pub link_text : ℕ → Node → Option Way → List ℕ

@@ -11,7 +11,7 @@ use crate::tables::has_table;
 use event_facts::KeyMap;
 use forced_marks::key_sets::KeySet;
 use forest_store::Node;
-use picture_model::{Link, Travel, Tree, Way, link_of, nodes_by_key, parents_among, way_of};
+use picture_model::{LinkStyle, Travel, Tree, Way, link_of, nodes_by_key, parents_among, way_of};
 use script_lines::{Part, push, push_parts};
 use std::alloc::AllocError;
 
@@ -111,13 +111,13 @@ fn push_link(
 }
 
 // What stands before how a link looks.
-fn begin_of(link: Link) -> &'static str
+fn begin_of(link: LinkStyle) -> &'static str
     ensures { result.now ≡ link_begin link }
 {
     match link {
-        Link::Normal => " [",
-        Link::Attached => " [style=dashed, ",
-        Link::Dispensable => " [style=dotted, ",
+        LinkStyle::Normal => " [",
+        LinkStyle::Attached => " [style=dashed, ",
+        LinkStyle::Dispensable => " [style=dotted, ",
     }
 }
 

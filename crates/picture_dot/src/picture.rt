@@ -18,7 +18,7 @@ use lifetime_core::Core;
 use picture_model::{
     Picture, Travel, Tree, push_fired, push_free_pages, push_header, travels_by_node,
 };
-use script_labels::{Stop, Tables};
+use script_labels::{LineStop, Tables};
 use script_lines::{Part, push, push_number, push_parts};
 use sm_names::{ClientId, Fired};
 use std::alloc::AllocError;
@@ -34,7 +34,7 @@ pub fn push_dot(
     event_writer: &EventWriter,
     picture: &Picture,
     line: &[u8],
-) -> Result<(), Stop>
+) -> Result<(), LineStop>
     ensures { OnOk result ((names : Names) → Keeps event_writer.now.session.tables names →
         Calls event_writer.now.labels names → text.new.items ≡ text.old.items
         ++ dot_text event_writer.now.session.core names line.now

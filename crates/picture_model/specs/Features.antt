@@ -18,7 +18,7 @@ use Rattle.event_texts.specs.Called.{client_label}
 use Rattle.event_texts.specs.FactTexts.{concat, holders_text}
 use Rattle.script_lines.specs.Parts.{plural_end}
 use Rattle.picture_model.specs.declared.features.Class.{Class}
-use Rattle.picture_model.specs.declared.features.Link.{Link}
+use Rattle.picture_model.specs.declared.features.LinkStyle.{LinkStyle}
 
 -- what the node is drawn as
 abbrev pub class_of : Node → Class
@@ -36,8 +36,8 @@ sign_text Class.Taken = 226 ∷ 156 ∷ 151 ∷ []
 sign_text Class.Ended = 194 ∷ 183 ∷ []
 
 -- how the link of the node to its parent is drawn
-abbrev pub link_of : Node → Link
-link_of n = if n.attached then Link.Attached else if n.dispensable then Link.Dispensable else Link.Normal
+abbrev pub link_of : Node → LinkStyle
+link_of n = if n.attached then LinkStyle.Attached else if n.dispensable then LinkStyle.Dispensable else LinkStyle.Normal
 
 -- what the node's end is
 abbrev pub kind_text : Node → List ℕ

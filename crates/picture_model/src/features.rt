@@ -65,7 +65,7 @@ pub fn class_sign(class: Class) -> &'static str
 
 /// How the link of a node to its parent is drawn.
 #[derive(Clone, Copy)]
-pub enum Link {
+pub enum LinkStyle {
     /// A failure of the node climbs it.
     Normal,
     /// The node is attached: no failure climbs it.
@@ -76,15 +76,15 @@ pub enum Link {
 
 /// How the link of the node to its parent is drawn: that of an attached node as attached, also if the node
 /// is dispensable. Takes O(1) time.
-pub fn link_of(node: &Node) -> Link
+pub fn link_of(node: &Node) -> LinkStyle
     ensures { result ≡ link_in node.now }
 {
     if node.attached {
-        Link::Attached
+        LinkStyle::Attached
     } else if node.dispensable {
-        Link::Dispensable
+        LinkStyle::Dispensable
     } else {
-        Link::Normal
+        LinkStyle::Normal
     }
 }
 

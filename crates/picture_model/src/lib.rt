@@ -12,7 +12,7 @@ mod tree_order;
 
 pub use failure_view::{Travel, Way, travels_by_node, way_of};
 pub use features::{
-    Class, Link, class_of, class_sign, kind_name, link_of, push_free_pages, push_keepers,
+    Class, LinkStyle, class_of, class_sign, kind_name, link_of, push_free_pages, push_keepers,
     push_pages, push_place,
 };
 pub use lines::{

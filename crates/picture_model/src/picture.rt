@@ -27,7 +27,7 @@ use event_texts::EventWriter;
 use forced_marks::{Forced, Moment};
 use forest_store::{End, Node, Snapshot};
 use lifetime_core::Core;
-use script_labels::Stop;
+use script_labels::LineStop;
 use script_lines::line_end;
 use sm_names::{Buffers, CollectionId, HeldBuffer, NodeKey};
 use std::alloc::{AllocError, Global};
@@ -77,7 +77,7 @@ pub fn picture_of(
     event_writer: &EventWriter,
     picture_state: &PictureState,
     event: Option<&Event>,
-) -> Result<Picture, Stop>
+) -> Result<Picture, LineStop>
     ensures shows { IfOk result (λ picture. (names : Names) → Keeps event_writer.now.session.tables names →
         ShowsEvent event_writer.now.session.core names picture_state.now (option_map (λ e. e.now) event.entry)
         picture) }
@@ -114,7 +114,7 @@ fn trees_of(
     core: &Core,
     picture_state: &PictureState,
     event: Option<&Event>,
-) -> Result<Vec<Tree>, Stop>
+) -> Result<Vec<Tree>, LineStop>
     ensures seen { IfOk result (λ trees. All (IsTree core.now) trees.items) }
     ensures trees { IfOk result (λ trees. map lists_of trees.items ≡ trees_in core.now
         (option_map (λ e. e.now) event.entry) picture_state.now.families.entries) }
@@ -220,7 +220,7 @@ fn tree_of(
     id: CollectionId,
     known: &Vec<Node>,
     event: Option<&Event>,
-) -> Result<(bool, Tree), Stop>
+) -> Result<(bool, Tree), LineStop>
     ensures seen { IfOk result (λ told. IsTree core.now told.1) }
     ensures kept { IfOk result (λ told. told.0 ≡ is_some (collection_at core.now.forest id)) }
     ensures lists { IfOk result (λ told. lists_of told.1 ≡ tree_in core.now

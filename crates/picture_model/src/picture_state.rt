@@ -25,7 +25,7 @@ use forced_marks::node_sets::nodes_under;
 use forced_marks::{Forced, Moment};
 use forest_store::{End, Node};
 use lifetime_core::Core;
-use script_labels::Stop;
+use script_labels::LineStop;
 use sm_names::{Call, CollectionId, Fault, NodeKey, Object, Reply, parts_of};
 use std::alloc::{AllocError, Global};
 use std::collections::BTreeMap;
@@ -81,7 +81,7 @@ impl PictureState {
         core: &Core,
         named: Option<CollectionId>,
         event: &Event,
-    ) -> Result<(), Stop>
+    ) -> Result<(), LineStop>
         ensures known { OnOk result ((id : ℕ) →
             known_in self.new id ≡ known_after core.now named event.now id (known_in self.old id)) }
         // The event leads from a core, each of whose nodes is known, to this core.

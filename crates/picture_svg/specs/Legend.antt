@@ -2,7 +2,7 @@
 use Rattle.std.specs.Prelude.{ℕ, ◌+◌, false, List, [], ◌∷◌, ◌++◌, codes, decimal, Option, Some, None}
 use Rattle.event_texts.specs.FactTexts.{concat}
 use Rattle.picture_model.specs.declared.features.Class.{Class}
-use Rattle.picture_model.specs.declared.features.Link.{Link}
+use Rattle.picture_model.specs.declared.features.LinkStyle.{LinkStyle}
 use Rattle.picture_model.specs.declared.failure_view.Way.{Way}
 use Rattle.picture_model.specs.Colors.{edge_text, fill_text}
 use Rattle.picture_layout.specs.Lengths.{capped_sum}
@@ -67,7 +67,7 @@ sample_end (Some Way.Stop) = codes "/>\n"
 sample_end None = codes "/>\n"
 
 -- a short link of this kind, along which a failure went so, and the word for it
-unfoldable pub sample_line : ℕ → ℕ → Link → Option Way → List ℕ → List ℕ
+unfoldable pub sample_line : ℕ → ℕ → LinkStyle → Option Way → List ℕ → List ℕ
 sample_line x y link way word = concat (
     sample_path x (capped_sum y 8) (capped_sum x 26)
     ∷ svg_line link way
@@ -83,17 +83,17 @@ stop_sample y = svg_stop (MARGIN + 622) (capped_sum y 8) (MARGIN + 646) (MARGIN 
 -- a link of each kind
 unfoldable pub plain_signs : ℕ → List ℕ
 plain_signs y = concat (
-    sample_line MARGIN y Link.Normal None (codes "child")
-    ∷ sample_line (MARGIN + 94) y Link.Attached None (codes "attached")
-    ∷ sample_line (MARGIN + 210) y Link.Dispensable None (codes "dispensable")
+    sample_line MARGIN y LinkStyle.Normal None (codes "child")
+    ∷ sample_line (MARGIN + 94) y LinkStyle.Attached None (codes "attached")
+    ∷ sample_line (MARGIN + 210) y LinkStyle.Dispensable None (codes "dispensable")
     ∷ []
     )
 
 -- a link for each way of a failure, and the bar where it stops
 unfoldable pub way_signs : ℕ → List ℕ
 way_signs y = concat (
-    sample_line (MARGIN + 346) y Link.Normal (Some (Way.Up 1)) (codes "failure up")
-    ∷ sample_line (MARGIN + 476) y Link.Normal (Some (Way.Down 2)) (codes "failure down")
+    sample_line (MARGIN + 346) y LinkStyle.Normal (Some (Way.Up 1)) (codes "failure up")
+    ∷ sample_line (MARGIN + 476) y LinkStyle.Normal (Some (Way.Down 2)) (codes "failure down")
     ∷ stop_sample y
     ∷ []
     )

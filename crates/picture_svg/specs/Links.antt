@@ -3,7 +3,7 @@ use Rattle.std.specs.Prelude.{ℕ, ◌-◌, ◌/◌, if◌then◌else◌, List, 
 use Rattle.std.specs.Option.{option_map_or}
 use Rattle.forest_store.specs.declared.node.Node.{Node}
 use Rattle.event_texts.specs.FactTexts.{concat}
-use Rattle.picture_model.specs.declared.features.Link.{Link}
+use Rattle.picture_model.specs.declared.features.LinkStyle.{LinkStyle}
 use Rattle.picture_model.specs.declared.failure_view.Travel.{Travel}
 use Rattle.picture_model.specs.declared.failure_view.Way.{Way}
 use Rattle.picture_model.specs.Features.{link_of}
@@ -62,10 +62,10 @@ line_width (Some Way.Stop) = codes "1.5"
 line_width None = codes "1.5"
 
 -- the dashes of a link: none, or those that the legend names
-abbrev pub line_dashes : Link → List ℕ
-line_dashes Link.Normal = []
-line_dashes Link.Attached = codes "7 5"
-line_dashes Link.Dispensable = codes "2 4"
+abbrev pub line_dashes : LinkStyle → List ℕ
+line_dashes LinkStyle.Normal = []
+line_dashes LinkStyle.Attached = codes "7 5"
+line_dashes LinkStyle.Dispensable = codes "2 4"
 
 -- the start of a link: its color and its width
 unfoldable pub line_start : Option Way → List ℕ
@@ -73,7 +73,7 @@ line_start way = concat
     (codes "\" fill=\"none\" stroke=\"" ∷ line_color way ∷ codes "\" stroke-width=\"" ∷ line_width way ∷ codes "\"" ∷ [])
 
 -- the attributes of a link's line
-unfoldable pub svg_line : Link → Option Way → List ℕ
+unfoldable pub svg_line : LinkStyle → Option Way → List ℕ
 svg_line link way = concat (line_start way ∷ attribute (codes "stroke-dasharray") (line_dashes link) ∷ [])
 
 -- ---- its end

@@ -8,7 +8,7 @@ use crate::links::{push_line, push_stop};
 use crate::tree::dashes_of;
 use picture_layout::{Corner, plus};
 use picture_model::colors::{edge_color, fill_color};
-use picture_model::{Class, Link, Way};
+use picture_model::{Class, LinkStyle, Way};
 use script_lines::{Part, push, push_parts};
 use std::alloc::AllocError;
 
@@ -106,13 +106,13 @@ fn push_links(body: &mut Vec<u8>, y: u64) -> Result<(), AllocError>
 fn push_plain_links(body: &mut Vec<u8>, y: u64) -> Result<(), AllocError>
     ensures { OnOk result (body.new.items ≡ body.old.items ++ plain_signs y) }
 {
-    push_sample_line(body, MARGIN, y, Link::Normal, None, "child")?;
-    push_sample_line(body, MARGIN + 94, y, Link::Attached, None, "attached")?;
+    push_sample_line(body, MARGIN, y, LinkStyle::Normal, None, "child")?;
+    push_sample_line(body, MARGIN + 94, y, LinkStyle::Attached, None, "attached")?;
     push_sample_line(
         body,
         MARGIN + 210,
         y,
-        Link::Dispensable,
+        LinkStyle::Dispensable,
         None,
         "dispensable",
     )
@@ -127,7 +127,7 @@ fn push_ways(body: &mut Vec<u8>, y: u64) -> Result<(), AllocError>
         body,
         MARGIN + 346,
         y,
-        Link::Normal,
+        LinkStyle::Normal,
         Some(Way::Up(1)),
         "failure up",
     )?;
@@ -135,7 +135,7 @@ fn push_ways(body: &mut Vec<u8>, y: u64) -> Result<(), AllocError>
         body,
         MARGIN + 476,
         y,
-        Link::Normal,
+        LinkStyle::Normal,
         Some(Way::Down(2)),
         "failure down",
     )?;
@@ -167,7 +167,7 @@ fn push_sample_line(
     body: &mut Vec<u8>,
     x: u64,
     y: u64,
-    link: Link,
+    link: LinkStyle,
     way: Option<Way>,
     word: &'static str,
 ) -> Result<(), AllocError>

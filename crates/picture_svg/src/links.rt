@@ -10,7 +10,7 @@ use event_facts::KeyMap;
 use forest_store::Node;
 use picture_layout::{BOX_HEIGHT, Corner, NodeBox, ROW_GAP, minus, plus};
 use picture_model::colors::{GREY, INK, RED};
-use picture_model::{Link, Travel, Way, link_of, way_of};
+use picture_model::{LinkStyle, Travel, Way, link_of, way_of};
 use script_lines::{Part, push, push_parts};
 use std::alloc::AllocError;
 
@@ -91,7 +91,11 @@ fn push_link(
 
 // Appends how a link of this kind looks, along which a failure went so.
 #[tactic(auto, unfolding(crate::specs::Links::svg_line))]
-pub(crate) fn push_line(body: &mut Vec<u8>, link: Link, way: Option<Way>) -> Result<(), AllocError>
+pub(crate) fn push_line(
+    body: &mut Vec<u8>,
+    link: LinkStyle,
+    way: Option<Way>,
+) -> Result<(), AllocError>
     ensures { OnOk result (body.new.items ≡ body.old.items ++ svg_line link way) }
 {
     push_stroke(body, way)?;
@@ -140,13 +144,13 @@ fn width_of(way: Option<Way>) -> &'static str
 }
 
 // The dashes of a link: none, long ones, or dots.
-fn dashes_of(link: Link) -> &'static str
+fn dashes_of(link: LinkStyle) -> &'static str
     ensures { result.now ≡ line_dashes link }
 {
     match link {
-        Link::Normal => "",
-        Link::Attached => "7 5",
-        Link::Dispensable => "2 4",
+        LinkStyle::Normal => "",
+        LinkStyle::Attached => "7 5",
+        LinkStyle::Dispensable => "2 4",
     }
 }
 

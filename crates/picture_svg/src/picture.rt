@@ -26,7 +26,7 @@ use picture_model::colors::{DEEP, EARTH, GREY, INK, RED, SAND, WHITE};
 use picture_model::{
     Picture, ToldMark, Tree, push_fired, push_free_pages, push_header, travels_by_node,
 };
-use script_labels::{Stop, Tables};
+use script_labels::{LineStop, Tables};
 use script_lines::{Part, push_parts};
 use sm_names::{Fired, HeldBuffer, NodeKey};
 use std::alloc::{AllocError, Global};
@@ -43,7 +43,7 @@ pub fn push_svg(
     event_writer: &EventWriter,
     picture: &Picture,
     line: &[u8],
-) -> Result<(), Stop>
+) -> Result<(), LineStop>
     ensures { OnOk result ((names : Names) → Keeps event_writer.now.session.tables names →
         Calls event_writer.now.labels names → text.new.items ≡ text.old.items
         ++ svg_text event_writer.now.session.core names line.now picture.now) }
@@ -70,7 +70,7 @@ fn push_body(
     event_writer: &EventWriter,
     picture: &Picture,
     line: &[u8],
-) -> Result<Extent, Stop>
+) -> Result<Extent, LineStop>
     ensures text { OnOk result ((names : Names) → Keeps event_writer.now.session.tables names →
         Calls event_writer.now.labels names → body.new.items ≡ body.old.items
         ++ body_text event_writer.now.session.core names line.now picture.now) }
@@ -111,7 +111,7 @@ fn push_all_trees(
     event_writer: &EventWriter,
     picture: &Picture,
     row: u64,
-) -> Result<Extent, Stop>
+) -> Result<Extent, LineStop>
     ensures text { OnOk result ((names : Names) → Keeps event_writer.now.session.tables names →
         Calls event_writer.now.labels names → row ≡ trees_row event_writer.now.session.core picture.now →
         body.new.items ≡ body.old.items ++ all_trees event_writer.now.session.core names picture.now) }
@@ -341,7 +341,7 @@ fn page_width(pages: u32) -> u64
 
 // Draws the pages of the pool in this row, and which buffers hold them.
 #[tactic(auto, unfolding(crate::specs::SvgPictures::svg_pool))]
-fn push_pool(body: &mut Vec<u8>, event_writer: &EventWriter, y: u64) -> Result<(), Stop>
+fn push_pool(body: &mut Vec<u8>, event_writer: &EventWriter, y: u64) -> Result<(), LineStop>
     ensures { OnOk result ((names : Names) → Keeps event_writer.now.session.tables names →
         body.new.items ≡ body.old.items ++ svg_pool names y
         (held_by_page event_writer.now.session.core.forest)

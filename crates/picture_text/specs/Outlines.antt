@@ -2,7 +2,7 @@
 use Rattle.std.specs.Prelude.{ℕ, zero, suc, ◌+◌, ◌*◌, ◌-◌, ◌^◌, min, Bool, true, false, ◌==◌, ◌&&◌, if◌then◌else◌, List, [], ◌∷◌, ◌++◌, codes, length}
 use Rattle.std.specs.List.{filter}
 use Rattle.forest_store.specs.declared.node.Node.{Node}
-use Rattle.picture_model.specs.declared.features.Link.{Link}
+use Rattle.picture_model.specs.declared.features.LinkStyle.{LinkStyle}
 use Rattle.picture_model.specs.Features.{link_of}
 use Rattle.picture_model.specs.Travels.{is_child_of}
 use Rattle.picture_text.specs.declared.outline.Branch.{Branch}
@@ -35,16 +35,16 @@ stem_text depth last = if depth == 0 then [] else if last then codes "    " else
 
 -- what leads to a node that is the last of its parent's children or not, along this link, in UTF-8: a line, a double line to an
 -- attached node, a wave to a dispensable one
-abbrev pub branch_text : Bool → Link → List ℕ
-branch_text false Link.Normal = 226 ∷ 148 ∷ 156 ∷ 226 ∷ 148 ∷ 128 ∷ 226 ∷ 148 ∷ 128 ∷ 32 ∷ []
-branch_text false Link.Attached = 226 ∷ 148 ∷ 156 ∷ 226 ∷ 149 ∷ 144 ∷ 226 ∷ 149 ∷ 144 ∷ 32 ∷ []
-branch_text false Link.Dispensable = 226 ∷ 148 ∷ 156 ∷ 126 ∷ 126 ∷ 32 ∷ []
-branch_text true Link.Normal = 226 ∷ 148 ∷ 148 ∷ 226 ∷ 148 ∷ 128 ∷ 226 ∷ 148 ∷ 128 ∷ 32 ∷ []
-branch_text true Link.Attached = 226 ∷ 148 ∷ 148 ∷ 226 ∷ 149 ∷ 144 ∷ 226 ∷ 149 ∷ 144 ∷ 32 ∷ []
-branch_text true Link.Dispensable = 226 ∷ 148 ∷ 148 ∷ 126 ∷ 126 ∷ 32 ∷ []
+abbrev pub branch_text : Bool → LinkStyle → List ℕ
+branch_text false LinkStyle.Normal = 226 ∷ 148 ∷ 156 ∷ 226 ∷ 148 ∷ 128 ∷ 226 ∷ 148 ∷ 128 ∷ 32 ∷ []
+branch_text false LinkStyle.Attached = 226 ∷ 148 ∷ 156 ∷ 226 ∷ 149 ∷ 144 ∷ 226 ∷ 149 ∷ 144 ∷ 32 ∷ []
+branch_text false LinkStyle.Dispensable = 226 ∷ 148 ∷ 156 ∷ 126 ∷ 126 ∷ 32 ∷ []
+branch_text true LinkStyle.Normal = 226 ∷ 148 ∷ 148 ∷ 226 ∷ 148 ∷ 128 ∷ 226 ∷ 148 ∷ 128 ∷ 32 ∷ []
+branch_text true LinkStyle.Attached = 226 ∷ 148 ∷ 148 ∷ 226 ∷ 149 ∷ 144 ∷ 226 ∷ 149 ∷ 144 ∷ 32 ∷ []
+branch_text true LinkStyle.Dispensable = 226 ∷ 148 ∷ 148 ∷ 126 ∷ 126 ∷ 32 ∷ []
 
 -- the same at this depth: nothing leads to the root
-abbrev pub begin_text : ℕ → Bool → Link → List ℕ
+abbrev pub begin_text : ℕ → Bool → LinkStyle → List ℕ
 begin_text depth last link = if depth == 0 then [] else branch_text last link
 
 -- the line of a node

@@ -6,7 +6,7 @@ ghost use Rattle.picture_text.specs.Outlines.{begin_text, branch_of, first_branc
 
 use event_facts::KeyRows;
 use forest_store::Node;
-use picture_model::{Link, children_by_key, link_of};
+use picture_model::{LinkStyle, children_by_key, link_of};
 use script_lines::push;
 use std::alloc::{AllocError, Global};
 
@@ -215,18 +215,18 @@ fn row_of(next: Branch) -> Result<Row, AllocError>
 }
 
 // What leads to a node of this depth, along this link.
-fn begin_words(depth: u64, last: bool, link: Link) -> &'static str
+fn begin_words(depth: u64, last: bool, link: LinkStyle) -> &'static str
     ensures { result.now ≡ begin_text depth last link }
 {
     if depth == 0 {
         return "";
     }
     match (last, link) {
-        (false, Link::Normal) => "├── ",
-        (false, Link::Attached) => "├══ ",
-        (false, Link::Dispensable) => "├~~ ",
-        (true, Link::Normal) => "└── ",
-        (true, Link::Attached) => "└══ ",
-        (true, Link::Dispensable) => "└~~ ",
+        (false, LinkStyle::Normal) => "├── ",
+        (false, LinkStyle::Attached) => "├══ ",
+        (false, LinkStyle::Dispensable) => "├~~ ",
+        (true, LinkStyle::Normal) => "└── ",
+        (true, LinkStyle::Attached) => "└══ ",
+        (true, LinkStyle::Dispensable) => "└~~ ",
     }
 }

@@ -12,7 +12,7 @@ use crate::rows::{push_freed_rows, push_held_rows, push_rows, width_of};
 use event_texts::EventWriter;
 use lifetime_core::Core;
 use picture_model::{Picture, Tree, push_fired, push_free_pages, push_header};
-use script_labels::{Stop, Tables};
+use script_labels::{LineStop, Tables};
 use script_lines::push;
 use sm_names::{ClientId, Fired, HeldBuffer};
 use std::alloc::AllocError;
@@ -30,7 +30,7 @@ pub fn push_text(
     event_writer: &EventWriter,
     picture: &Picture,
     line: &[u8],
-) -> Result<(), Stop>
+) -> Result<(), LineStop>
     ensures { OnOk result ((names : Names) → Keeps event_writer.now.session.tables names →
         Calls event_writer.now.labels names → text.new.items ≡ text.old.items
         ++ picture_text event_writer.now.session.core names line.now picture.now.trees.items) }
@@ -106,7 +106,7 @@ fn push_grown(
 }
 
 // Appends the pool, behind an empty line: a sign for each page, and how many are free.
-fn push_pool(text: &mut Vec<u8>, core: &Core) -> Result<(), Stop>
+fn push_pool(text: &mut Vec<u8>, core: &Core) -> Result<(), LineStop>
     ensures { OnOk result (text.new.items ≡ text.old.items ++ pool_text core.now) }
 {
     let held = core.held()?;

@@ -1,6 +1,6 @@
 //! What became of the nodes that are gone, by the numbers of steps.
 use crate::births::Births;
-use actor_plays::{Fall, Play};
+use actor_plays::{GoneNode, Play};
 use sm_names::{Cause, Failure};
 use std::alloc::{AllocError, Global};
 
@@ -34,7 +34,7 @@ pub(crate) fn cause_number(cause: Cause) -> u32 {
     }
 }
 
-fn named_fall(births: &Births, fall: &Fall) -> NamedFall {
+fn named_fall(births: &Births, fall: &GoneNode) -> NamedFall {
     let name = births.node(fall.key);
     match fall.fault {
         Some(fault) => NamedFall {
@@ -58,7 +58,11 @@ fn placed(fall: &NamedFall, place: usize) -> Placed {
 }
 
 // Adds the falls behind the others.
-fn push_placed(all: &mut Vec<Placed>, births: &Births, falls: &[Fall]) -> Result<(), AllocError> {
+fn push_placed(
+    all: &mut Vec<Placed>,
+    births: &Births,
+    falls: &[GoneNode],
+) -> Result<(), AllocError> {
     for fall in falls {
         let place = all.len();
         all.push(placed(&named_fall(births, fall), place))?;

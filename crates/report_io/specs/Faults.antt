@@ -1,7 +1,7 @@
 -- The statuses and the texts of faults, and why a line has one.
 use Rattle.std.specs.Prelude.{ℕ, ◌≡◌, ◌≢◌, List, [], ◌∷◌, ◌++◌, codes, decimal, Option, Result, MatchResult, ◌⊎◌, ⊤}
 use Rattle.script_lines.specs.Written.{WritesPart}
-use Rattle.script_labels.specs.declared.stop.Stop.{Stop}
+use Rattle.script_labels.specs.declared.stop.LineStop.{LineStop}
 use Rattle.script_labels.specs.Names.{Names}
 use Rattle.report_io.specs.declared.fault.ReportFault.{ReportFault}
 use Rattle.report_io.specs.declared.fault.Sought.{Sought}
@@ -53,10 +53,10 @@ abbrev pub IsReported : {A : Type 0} → Option (List ℕ) → Option (List ℕ)
 IsReported before after result = MatchResult result (λ _. after ≡ before) (IsTold before after)
 
 -- the fault of the line of this number, which stopped so. Memory for the reason of a bad line may be refused
-abbrev pub IsFaultOf : ℕ → Stop → ReportFault → Type 0
-IsFaultOf number stop (ReportFault.BadLine n reason) = (stop ≡ Stop.BadLine) × (n ≡ number)
-IsFaultOf number stop ReportFault.HistoryFull = stop ≡ Stop.HistoryFull
-IsFaultOf number stop ReportFault.NoMemory = stop ≢ Stop.HistoryFull
+abbrev pub IsFaultOf : ℕ → LineStop → ReportFault → Type 0
+IsFaultOf number stop (ReportFault.BadLine n reason) = (stop ≡ LineStop.BadLine) × (n ≡ number)
+IsFaultOf number stop ReportFault.HistoryFull = stop ≡ LineStop.HistoryFull
+IsFaultOf number stop ReportFault.NoMemory = stop ≢ LineStop.HistoryFull
 IsFaultOf number stop _ = ⊥
 
 -- the line of this number is bad. Memory for the reason may be refused

@@ -6,7 +6,7 @@ ghost use Rattle.report_io.specs.Reasons.{bad_text, unended_reason};
 ghost use Rattle.report_io.specs.Faults.{GivesReason, HasReason, IsBadLine, IsFaultOf, fault_status, fault_text, sought_name};
 
 use crate::reasons::line_fault;
-use script_labels::{Stop, Tables};
+use script_labels::{LineStop, Tables};
 use script_lines::{Part, push, push_parts};
 use sm_names::NoMemory;
 use std::alloc::{AllocError, Global};
@@ -114,7 +114,13 @@ impl ReportFault {
 
 /// The fault of the line of this number, which was not answered, where the labels of those before it stand
 /// so. The fault of a bad line has its number and its reason, and each line that asks for nothing has one. Takes a time in proportion to the line, and a look into a table for each label.
-pub fn fault_of(alloc: Global, stop: Stop, tables: &Tables, number: u64, line: &[u8]) -> ReportFault
+pub fn fault_of(
+    alloc: Global,
+    stop: LineStop,
+    tables: &Tables,
+    number: u64,
+    line: &[u8],
+) -> ReportFault
     ensures line { IsFaultOf number stop result }
     ensures reason { (names : Names) → Keeps tables.now names →
         HasReason (bad_text names line.now) result }
@@ -122,15 +128,15 @@ pub fn fault_of(alloc: Global, stop: Stop, tables: &Tables, number: u64, line: &
         GivesReason names line.now result }
 {
     match stop {
-        Stop::BadLine => {
+        LineStop::BadLine => {
             let mut reason = Vec::new(alloc);
             match push_reason(&mut reason, tables, line) {
                 Ok(()) => ReportFault::BadLine { number, reason },
                 Err(_) => ReportFault::NoMemory,
             }
         }
-        Stop::HistoryFull => ReportFault::HistoryFull,
-        Stop::NoMemory => ReportFault::NoMemory,
+        LineStop::HistoryFull => ReportFault::HistoryFull,
+        LineStop::NoMemory => ReportFault::NoMemory,
     }
 }
 

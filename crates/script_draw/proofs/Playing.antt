@@ -14,7 +14,7 @@ use Rattle.sm_script.proofs.Settings.{legal-in}
 use Rattle.report_io.proofs.Unindented.{unindented-more, unindented-skip}
 use Rattle.script_labels.specs.declared.act.Act.{Act}
 use Rattle.script_labels.specs.declared.act.Binds.{Binds}
-use Rattle.script_labels.specs.declared.stop.Stop.{Stop}
+use Rattle.script_labels.specs.declared.stop.LineStop.{LineStop}
 use Rattle.script_labels.specs.Names.{act_in}
 use Rattle.sm_script.specs.Scenes.{Answers, Plays, Rests, Scene, Setting, as_line, first_scene, next_scene}
 use Rattle.script_labels.specs.Texts.{reply_text, view_text}
@@ -250,20 +250,20 @@ module _ (setting : Setting) (until : Until) (scroll : Scroll) (lines : List (Li
         }
 
 -- a bad line and a refusal of memory are different reasons to stop
-pub bad-memory : Stop.BadLine ≡ Stop.NoMemory → ⊥
+pub bad-memory : LineStop.BadLine ≡ LineStop.NoMemory → ⊥
 bad-memory e = cc
 
 -- a full history and a refusal of memory are different reasons to stop
-full-memory : Stop.HistoryFull ≡ Stop.NoMemory → ⊥
+full-memory : LineStop.HistoryFull ≡ LineStop.NoMemory → ⊥
 full-memory e = cc
 
 module _ (setting : Setting) (until : Until) (old new : Scroll) (lines : List (List ℕ)) (far : Reached setting until old lines)
-    (before : IsAhead until setting.pool lines far.scene) (line : List ℕ) (stop : Stop)
-    (same : stop ≢ Stop.NoMemory → new ≡ old) (why : IsHeldUp setting far.scene line stop) (number : ℕ)
+    (before : IsAhead until setting.pool lines far.scene) (line : List ℕ) (stop : LineStop)
+    (same : stop ≢ LineStop.NoMemory → new ≡ old) (why : IsHeldUp setting far.scene line stop) (number : ℕ)
     (numbered : number ≡ length lines + 1) where
   -- the line was not played
   pub far-stop : (fault : ReportFault) → IsFaultOf number stop fault →
-      (stop ≡ Stop.BadLine → act_in far.scene.names line ≡ None → GivesReason far.scene.names line fault) →
+      (stop ≡ LineStop.BadLine → act_in far.scene.names line ≡ None → GivesReason far.scene.names line fault) →
       PlayHalts setting until new (lines ++ line ∷ []) fault
   far-stop ReportFault.ReadFault is told = absurd is
   far-stop ReportFault.TooLong is told = absurd is
@@ -298,18 +298,18 @@ module _ (setting : Setting) (until : Until) (old new : Scroll) (lines : List (L
   far-stop ReportFault.NoMemory is told = tt
 
 -- why a line that asks for the act was not played
-abbrev pub HeldUp : Scroll → List ℕ → Act → Stop → Type 0
+abbrev pub HeldUp : Scroll → List ℕ → Act → LineStop → Type 0
 HeldUp scroll line act stop = (setting : Setting) (until : Until) (lines : List (List ℕ)) (far : Reached setting until scroll lines) →
     AsksFor far.scene line act → IsHeldUp setting far.scene line stop
 
 -- what fails for want of memory alone says nothing of the line
-pub held-made : (result : Result (Unit {0}) Stop) (scroll : Scroll) (line : List ℕ) (act : Act) →
-    IfErr result (λ stop. stop ≡ Stop.NoMemory) → IfErr result (HeldUp scroll line act)
+pub held-made : (result : Result (Unit {0}) LineStop) (scroll : Scroll) (line : List ℕ) (act : Act) →
+    IfErr result (λ stop. stop ≡ LineStop.NoMemory) → IfErr result (HeldUp scroll line act)
 held-made (Ok done) scroll line act is = tt
 held-made (Err stop) scroll line act is = λ setting until lines far asks. subst (IsHeldUp setting far.scene line) (sym is) tt
 
 -- the line asks for the act
-pub held-on : (result : Result (Unit {0}) Stop) (scroll : Scroll) (line : List ℕ) (act : Act) →
+pub held-on : (result : Result (Unit {0}) LineStop) (scroll : Scroll) (line : List ℕ) (act : Act) →
     ((setting : Setting) (until : Until) (lines : List (List ℕ)) (far : Reached setting until scroll lines) → AsksFor far.scene line act) →
     IfErr result (HeldUp scroll line act) →
     IfErr result (λ stop. (setting : Setting) (until : Until) (lines : List (List ℕ)) (far : Reached setting until scroll lines) →
@@ -321,7 +321,7 @@ held-on (Err stop) scroll line act asks held = λ setting until lines far. held 
 pub held-full : (setting : Setting) (until : Until) (scroll : Scroll) (lines : List (List ℕ)) (far : Reached setting until scroll lines)
     (line : List ℕ) (client : ℕ) (call : Call) (binds : Binds) → is_indented line ≡ false →
     act_in far.scene.names line ≡ Some (Act.Ask client call binds) →
-    nat_le scroll.limits.events scroll.event_writer.session.core.events ≡ true → IsHeldUp setting far.scene line Stop.HistoryFull
+    nat_le scroll.limits.events scroll.event_writer.session.core.events ≡ true → IsHeldUp setting far.scene line LineStop.HistoryFull
 held-full setting until scroll lines far line client call binds whole good full =
     let most : scroll.limits.events ≤ scroll.event_writer.session.core.events = grind (arith, nat_tests) in (
       whole,

@@ -7,7 +7,7 @@ use Rattle.report_io.specs.Reasons.{unended_reason}
 use Rattle.sm_names.specs.declared.messages.Call.{Call}
 use Rattle.script_labels.specs.declared.act.Act.{Act}
 use Rattle.script_labels.specs.declared.act.Binds.{Binds}
-use Rattle.script_labels.specs.declared.stop.Stop.{Stop}
+use Rattle.script_labels.specs.declared.stop.LineStop.{LineStop}
 use Rattle.script_labels.specs.Names.{act_in}
 use Rattle.sm_script.specs.Runs.{IsUnkept}
 use Rattle.sm_script.specs.Scenes.{Scene, Setting, next_scene}
@@ -63,10 +63,10 @@ pub record AsksFor (scene : Scene) (line : List ℕ) (act : Act) : Type 0 where
   pub good : act_in scene.names line ≡ Some act
 
 -- why a line was not played, where this happened so far
-abbrev pub IsHeldUp : Setting → Scene → List ℕ → Stop → Type 0
-IsHeldUp setting scene line Stop.BadLine = (is_indented line ≡ false) × (act_in scene.names line ≡ None)
-IsHeldUp setting scene line Stop.HistoryFull = (is_indented line ≡ false) × IsUnkept setting scene line
-IsHeldUp setting scene line Stop.NoMemory = Unit {0}
+abbrev pub IsHeldUp : Setting → Scene → List ℕ → LineStop → Type 0
+IsHeldUp setting scene line LineStop.BadLine = (is_indented line ≡ false) × (act_in scene.names line ≡ None)
+IsHeldUp setting scene line LineStop.HistoryFull = (is_indented line ≡ false) × IsUnkept setting scene line
+IsHeldUp setting scene line LineStop.NoMemory = Unit {0}
 
 -- a line was not played, and all before it were
 pub record PlayHalted (setting : Setting) (until : Until) (scroll : Scroll) (lines : List (List ℕ)) (fault : ReportFault) : Type 0 where

@@ -25,7 +25,7 @@ use picture_text::push_text;
 use report_io::{
     ReportFault, Sought, behind, fault_of, is_indented, put_out, read_script, unended,
 };
-use script_labels::{Act, Binds, Stop};
+use script_labels::{Act, Binds, LineStop};
 use script_lines::{MOST_BYTES, line_end};
 use sm_names::{Call, ClientId, CollectionId, Limits, MAX_PAGES, NoMemory};
 use std::alloc::Global;
@@ -265,7 +265,7 @@ fn push_picture(
     text: &mut Vec<u8>,
     scroll: &Scroll,
     format: Format,
-) -> Result<(), Stop>
+) -> Result<(), LineStop>
     ensures { OnOk result ((names : Names) → Keeps scroll.now.event_writer.session.tables names →
         Calls scroll.now.event_writer.labels names → text.old.items ≡ [] →
         (history : List Entry) → Shows scroll.now.event_writer.session.core history →
@@ -285,7 +285,7 @@ fn push_format(
     picture: &Picture,
     line: &[u8],
     format: Format,
-) -> Result<(), Stop>
+) -> Result<(), LineStop>
     ensures { OnOk result ((names : Names) → Keeps event_writer.now.session.tables names →
         Calls event_writer.now.labels names → text.new.items ≡ text.old.items
         ++ picture_in format event_writer.now.session.core names line.now picture.now) }
@@ -386,9 +386,9 @@ impl Scroll {
     }
 
     // Plays one more line. Where it can't, but for want of memory, nothing changes.
-    fn take_line(&mut self, alloc: Global, line: &[u8]) -> Result<(), Stop>
+    fn take_line(&mut self, alloc: Global, line: &[u8]) -> Result<(), LineStop>
         ensures ok { OnOk result (PlaysLine self.old self.new line.now) }
-        ensures same { IfErr result (λ stop. stop ≢ Stop.NoMemory → self.new ≡ self.old) }
+        ensures same { IfErr result (λ stop. stop ≢ LineStop.NoMemory → self.new ≡ self.old) }
         ensures err { IfErr result (λ stop. (setting : Setting) (until : Asked)
             (lines : List (List ℕ)) (far : Reached setting until self.old lines) →
             IsHeldUp setting far.scene line.now stop) }
@@ -398,18 +398,18 @@ impl Scroll {
         }
         match self.event_writer.session.read(line) {
             Some(act) => self.take_act(alloc, act, line),
-            None => Err(Stop::BadLine),
+            None => Err(LineStop::BadLine),
         }
     }
 
     // Makes one more call, if the line asks for one, which is not indented. Where it can't, but for want of
     // memory, nothing changes.
-    fn take_act(&mut self, alloc: Global, act: Act, line: &[u8]) -> Result<(), Stop>
+    fn take_act(&mut self, alloc: Global, act: Act, line: &[u8]) -> Result<(), LineStop>
         ensures ok { OnOk result ((setting : Setting) (until : Asked) (lines : List (List ℕ))
             (far : Reached setting until self.old lines) → AsksFor far.scene line.now act →
             IsAhead until setting.pool lines far.scene →
             Reached setting until self.new (lines ++ line.now ∷ [])) }
-        ensures same { IfErr result (λ stop. stop ≢ Stop.NoMemory → self.new ≡ self.old) }
+        ensures same { IfErr result (λ stop. stop ≢ LineStop.NoMemory → self.new ≡ self.old) }
         ensures err { IfErr result (λ stop. (setting : Setting) (until : Asked)
             (lines : List (List ℕ)) (far : Reached setting until self.old lines) →
             AsksFor far.scene line.now act → IsHeldUp setting far.scene line.now stop) }
@@ -421,7 +421,7 @@ impl Scroll {
                 binds,
             } => {
                 if self.is_full() {
-                    return Err(Stop::HistoryFull);
+                    return Err(LineStop::HistoryFull);
                 }
                 self.make(alloc, client, call, binds, line)
             }
@@ -446,18 +446,18 @@ impl Scroll {
         call: Call,
         binds: Binds,
         line: &[u8],
-    ) -> Result<(), Stop>
+    ) -> Result<(), LineStop>
         ensures ok { OnOk result (LineMakesCall self.old self.new client call binds line.now) }
-        ensures err { IfErr result (λ stop. stop ≡ Stop.NoMemory) }
+        ensures err { IfErr result (λ stop. stop ≡ LineStop.NoMemory) }
     {
         match self.take_call(alloc, client, call, binds) {
             Ok(()) => {}
-            Err(_) => return Err(Stop::NoMemory),
+            Err(_) => return Err(LineStop::NoMemory),
         }
         self.line.clear();
         match self.line.extend_from_slice(line) {
             Ok(()) => Ok(()),
-            Err(_) => Err(Stop::NoMemory),
+            Err(_) => Err(LineStop::NoMemory),
         }
     }
 
@@ -468,7 +468,7 @@ impl Scroll {
         client: ClientId,
         call: Call,
         binds: Binds,
-    ) -> Result<(), Stop>
+    ) -> Result<(), LineStop>
         ensures setting { OnOk result ((scene : Scene) → IsAt self.old.event_writer.session scene →
             IsSameSetting self.old.event_writer.session self.new.event_writer.session) }
         ensures limits { OnOk result (self.new.limits ≡ self.old.limits) }
@@ -504,7 +504,7 @@ fn keep(
     last: &mut Option<Event>,
     named: Option<CollectionId>,
     event: Event,
-) -> Result<(), Stop>
+) -> Result<(), LineStop>
     ensures last { OnOk result (last.new ≡ Some event) }
     ensures kept { OnOk result ((old : State) (client : ℕ) (call : CallMade) (history : List Entry) →
         Shows old history → IsEventOf old client call event →

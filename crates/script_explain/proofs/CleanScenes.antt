@@ -33,7 +33,7 @@ use Rattle.script_lines.specs.declared.buffer_label.BufferLabel.{BufferLabel}
 use Rattle.script_lines.specs.declared.label.Label.{Label}
 use Rattle.script_lines.specs.declared.line.Line.{Line}
 use Rattle.script_lines.specs.declared.line.Request.{Request}
-use Rattle.script_lines.specs.declared.line.View.{View}
+use Rattle.script_lines.specs.declared.line.Query.{Query}
 use Rattle.script_lines.specs.Labels.{label_text, text_of_label}
 use Rattle.script_lines.specs.Lines.{line_of}
 use Rattle.report_io.specs.IndentedLines.{is_indented}
@@ -298,14 +298,14 @@ reply-plain names clean binds inner (Reply.PeerClosed cause origin) = record {
 }
 
 -- the text of a view is plain: it begins with the view's name, and no part of it ends a line
-view-plain : (pool : ℕ) (marks : Timeline) (names : Names) → AreClean names → (view : View) → IsPlain (view_text pool marks names view)
-view-plain pool marks names clean View.Live =
+view-plain : (pool : ℕ) (marks : Timeline) (names : Names) → AreClean names → (view : Query) → IsPlain (view_text pool marks names view)
+view-plain pool marks names clean Query.Live =
     record { inner = flat-inner (node_text names) (live_nodes marks) (node-inner names clean); whole = refl }
-view-plain pool marks names clean View.Held =
+view-plain pool marks names clean Query.Held =
     record { inner = flat-inner (held_text names) (held_by_page pool marks) (held-inner names clean); whole = refl }
-view-plain pool marks names clean View.Fired =
+view-plain pool marks names clean Query.Fired =
     record { inner = flat-inner (fired_text names) (fired marks) (fired-inner names clean); whole = refl }
-view-plain pool marks names clean View.Free = record { inner = decimal-inner (free_pages pool marks); whole = refl }
+view-plain pool marks names clean Query.Free = record { inner = decimal-inner (free_pages pool marks); whole = refl }
 
 -- the text of a poll is plain: it is `quiet`, or `fired` and the number of an event
 poll-plain : (marks : Timeline) (tracker : ℕ) (text : List ℕ) → IsPolled marks tracker text → IsPlain text

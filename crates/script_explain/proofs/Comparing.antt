@@ -12,7 +12,7 @@ use Rattle.report_io.specs.IndentedLines.{behind_indent, indented, is_indented, 
 use Rattle.report_io.specs.Streams.{IsUnread}
 use Rattle.sm_script.proofs.Settings.{legal-in, over-in}
 use Rattle.report_io.proofs.Unindented.{unindented-more, unindented-skip}
-use Rattle.script_labels.specs.declared.stop.Stop.{Stop}
+use Rattle.script_labels.specs.declared.stop.LineStop.{LineStop}
 use Rattle.sm_script.specs.Scenes.{Plays as PlaysLines, Rests, Scene, Setting, as_line, first_scene}
 use Rattle.sm_script.specs.Sessions.{IsAt, IsStopped}
 use Rattle.event_texts.specs.declared.event_writer.EventWriter.{EventWriter}
@@ -23,7 +23,7 @@ use Rattle.script_explain.proofs.LineTold.{answers-in, tells-in}
 use Rattle.sm_script.proofs.Playing.{plays-more}
 use Rattle.script_explain.specs.declared.check.Comparison.{Comparison}
 use Rattle.script_explain.specs.declared.check.Outcome.{Outcome}
-use Rattle.script_explain.specs.declared.check.Verdict.{Verdict}
+use Rattle.script_explain.specs.declared.check.CheckResult.{CheckResult}
 use Rattle.script_explain.specs.Comparisons.{Agreement, Agrees, Begins, Checks, Difference, EndsChecked, Plays, Remarks, Replies, early_reason}
 use Rattle.script_explain.specs.Comparisons.{FullAgreement, IsJudged, IsRemark, IsSaid, IsUnchecked, IsVerdict, ComparisonLinesStop}
 use Rattle.script_explain.specs.Comparisons.{TranscriptPlace, Records, ComparisonStopped, checking_status, lines_with, told_difference}
@@ -218,10 +218,10 @@ module _ (setting : Setting) (c : Comparison) (lines : List (List ℕ)) (far : C
   }
 
   -- a line was not played
-  pub far-unplayed : (line : List ℕ) (stop : Stop) (number : ℕ) (fault : ReportFault) → is_indented line ≡ false →
+  pub far-unplayed : (line : List ℕ) (stop : LineStop) (number : ℕ) (fault : ReportFault) → is_indented line ≡ false →
       ((scene : Scene) → IsAt c.event_writer.session scene → IsStopped c.event_writer.session line scene stop) →
       IsFaultOf number stop fault →
-      (stop ≡ Stop.BadLine → act_in far.scene.names line ≡ None → GivesReason far.scene.names line fault) →
+      (stop ≡ LineStop.BadLine → act_in far.scene.names line ≡ None → GivesReason far.scene.names line fault) →
       number ≡ length lines + 1 → CheckHalted setting (lines ++ line ∷ []) fault
   far-unplayed line stop number ReportFault.ReadFault whole why is told numbered = absurd is
   far-unplayed line stop number ReportFault.TooLong whole why is told numbered = absurd is
@@ -389,14 +389,14 @@ module _ (setting : Setting) (left_before left old : Option (List ℕ)) where
     checks-stopped ReportFault.NoMemory stop = record { script = script; taken = taken; outcome = stop.1 }
 
     -- the transcript came in, and its lines were compared
-    pub checks-told : (result : Result Verdict ReportFault) → IfOk result (IsJudged setting old new script) →
+    pub checks-told : (result : Result CheckResult ReportFault) → IfOk result (IsJudged setting old new script) →
         IfErr result (ComparisonStopped setting old new script) → Checks setting left_before left old new result
     checks-told (Ok verdict) judged stop = record { script = script; taken = taken; outcome = (end, within, judged) }
     checks-told (Err fault) judged stop = checks-stopped fault stop
 
 -- a status that tells the outcome, and a line that tells its fault
 pub ends_checked : (setting : Setting) (left_before left old new told_before told : Option (List ℕ))
-    (outcome : Result Verdict ReportFault) (status : ℕ) → Checks setting left_before left old new outcome →
+    (outcome : Result CheckResult ReportFault) (status : ℕ) → Checks setting left_before left old new outcome →
     status ≡ checking_status outcome → IsReported told_before told outcome →
     EndsChecked setting left_before left old new told_before told status
 ends_checked setting left_before left old new told_before told outcome status checks is reported =
@@ -420,7 +420,8 @@ compared-none setting c pool limits knows recalls its_number its_line its_reply 
 }
 
 -- all agrees, and the text of that was put
-pub agreed-fully : (setting : Setting) (c : Comparison) (script text : List ℕ) (verdict : Verdict) → Ended setting c script Outcome.Agrees →
+pub agreed-fully : (setting : Setting) (c : Comparison) (script text : List ℕ) (verdict : CheckResult) →
+    Ended setting c script Outcome.Agrees →
     ((scene : Scene) (kept : KeptLines) → IsSaid verdict (comparison_place c scene kept) c.text.items text) →
     IsVerdict setting script text verdict
 agreed-fully setting c script text verdict ended said = by verdict (said ended.0.scene ended.0.kept)
@@ -430,7 +431,7 @@ agreed-fully setting c script text verdict ended said = by verdict (said ended.0
     at = comparison_place c ended.0.scene ended.0.kept
 
     -- each part, from where the comparison ended
-    fully : (v : Verdict) → IsSaid v at c.text.items text → FullAgreement setting script text v
+    fully : (v : CheckResult) → IsSaid v at c.text.items text → FullAgreement setting script text v
     fully v so = record {
       ended = ended.1;
       at = at;
@@ -439,10 +440,10 @@ agreed-fully setting c script text verdict ended said = by verdict (said ended.0
     }
 
     -- by cases on the verdict: one that differs is no full agreement
-    by : (v : Verdict) → IsSaid v at c.text.items text → IsVerdict setting script text v
-    by Verdict.Agrees so = fully Verdict.Agrees so
-    by Verdict.Empty so = fully Verdict.Empty so
-    by Verdict.Differs so = absurd so
+    by : (v : CheckResult) → IsSaid v at c.text.items text → IsVerdict setting script text v
+    by CheckResult.Agrees so = fully CheckResult.Agrees so
+    by CheckResult.Empty so = fully CheckResult.Empty so
+    by CheckResult.Differs so = absurd so
 
 -- a line that nothing is behind two spaces of
 pub behind-none : (line : List ℕ) → None ≡ behind_indent line → is_indented line ≡ false

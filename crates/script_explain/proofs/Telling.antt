@@ -11,7 +11,7 @@ use Rattle.report_io.specs.Faults.{GivesReason, IsFaultOf}
 use Rattle.report_io.specs.IndentedLines.{is_indented, unindented}
 use Rattle.sm_script.proofs.Settings.{legal-in, over-in}
 use Rattle.report_io.proofs.Unindented.{unindented-more, unindented-skip}
-use Rattle.script_labels.specs.declared.stop.Stop.{Stop}
+use Rattle.script_labels.specs.declared.stop.LineStop.{LineStop}
 use Rattle.sm_script.specs.Scenes.{ActGives, Plays, Rests, Scene, Setting, first_scene}
 use Rattle.sm_script.specs.Sessions.{IsAt, IsStopped}
 use Rattle.event_texts.specs.declared.event_writer.EventWriter.{EventWriter}
@@ -209,10 +209,10 @@ module _ (setting : Setting) (only : Bool) (seen : Seen) (old mid : Option (List
   )
 
   -- a line was not explained
-  pub far-stop : (line : List ℕ) (stop : Stop) (number : ℕ) (fault : ReportFault) → is_indented line ≡ false →
+  pub far-stop : (line : List ℕ) (stop : LineStop) (number : ℕ) (fault : ReportFault) → is_indented line ≡ false →
       ((scene : Scene) → IsAt seen.event_writer.session scene → IsStopped seen.event_writer.session line scene stop) →
       IsFaultOf number stop fault →
-      (stop ≡ Stop.BadLine → act_in far.scene.names line ≡ None → GivesReason far.scene.names line fault) →
+      (stop ≡ LineStop.BadLine → act_in far.scene.names line ≡ None → GivesReason far.scene.names line fault) →
       number ≡ length lines + 1 → Halted setting only old mid pending (lines ++ line ∷ []) fault
   far-stop line stop number ReportFault.ReadFault whole why is told numbered = absurd is
   far-stop line stop number ReportFault.TooLong whole why is told numbered = absurd is

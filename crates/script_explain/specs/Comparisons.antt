@@ -14,7 +14,7 @@ use Rattle.sm_script.specs.Runs.{IsUnkept}
 use Rattle.sm_script.specs.Scenes.{Answers, LeadsTo, Scene, Setting, as_line, first_scene}
 use Rattle.event_texts.specs.Deeds.{KeptLines, no_lines}
 use Rattle.event_texts.specs.Tellings.{Tells}
-use Rattle.script_explain.specs.declared.check.Verdict.{Verdict}
+use Rattle.script_explain.specs.declared.check.CheckResult.{CheckResult}
 
 -- the line says nothing: it begins with four spaces
 abbrev pub IsRemark : List ℕ → Type 0
@@ -122,33 +122,33 @@ pub record Difference (setting : Setting) (lines : List (List ℕ)) (text : List
   pub said : text ≡ told_difference at.number at.line at.reply reply ++ indented at.facts
 
 -- what is said of a place up to which all agrees: nothing is, if no line was played that has a reply
-abbrev pub IsSaid : Verdict → TranscriptPlace → List ℕ → List ℕ → Type 0
-IsSaid Verdict.Agrees at before after = (0 < at.lines) × (after ≡ before ++ agreement_text at)
-IsSaid Verdict.Empty at before after = (at.lines ≡ 0) × (after ≡ before ++ empty_text)
-IsSaid Verdict.Differs at before after = ⊥
+abbrev pub IsSaid : CheckResult → TranscriptPlace → List ℕ → List ℕ → Type 0
+IsSaid CheckResult.Agrees at before after = (0 < at.lines) × (after ≡ before ++ agreement_text at)
+IsSaid CheckResult.Empty at before after = (at.lines ≡ 0) × (after ≡ before ++ empty_text)
+IsSaid CheckResult.Differs at before after = ⊥
 
 -- all agrees, and the text tells so, or that no line was played that has a reply
-pub record FullAgreement (setting : Setting) (script : List ℕ) (text : List ℕ) (verdict : Verdict) : Type 0 where
+pub record FullAgreement (setting : Setting) (script : List ℕ) (text : List ℕ) (verdict : CheckResult) : Type 0 where
   pub ended : last_part script ≡ []
   pub at : TranscriptPlace
   pub agreed : Agreement setting (whole_lines script) at
   pub said : IsSaid verdict at [] text
 
 -- the verdict on the script, with its text
-abbrev pub IsVerdict : Setting → List ℕ → List ℕ → Verdict → Type 0
-IsVerdict setting script text Verdict.Agrees = FullAgreement setting script text Verdict.Agrees
-IsVerdict setting script text Verdict.Empty = FullAgreement setting script text Verdict.Empty
-IsVerdict setting script text Verdict.Differs = Difference setting (whole_lines script) text
+abbrev pub IsVerdict : Setting → List ℕ → List ℕ → CheckResult → Type 0
+IsVerdict setting script text CheckResult.Agrees = FullAgreement setting script text CheckResult.Agrees
+IsVerdict setting script text CheckResult.Empty = FullAgreement setting script text CheckResult.Empty
+IsVerdict setting script text CheckResult.Differs = Difference setting (whole_lines script) text
 
 -- the verdict was written
-pub record IsJudged (setting : Setting) (old new : Option (List ℕ)) (script : List ℕ) (verdict : Verdict) : Type 0 where
+pub record IsJudged (setting : Setting) (old new : Option (List ℕ)) (script : List ℕ) (verdict : CheckResult) : Type 0 where
   pub text : List ℕ
   pub judged : IsVerdict setting script text verdict
   pub written : Appends old new text
 
 -- a first part of a verdict was written
 pub record ComparisonCutOff (setting : Setting) (old new : Option (List ℕ)) (script : List ℕ) : Type 0 where
-  pub verdict : Verdict
+  pub verdict : CheckResult
   pub text : List ℕ
   pub judged : IsVerdict setting script text verdict
   pub written : WritesPart old new text
@@ -205,7 +205,7 @@ CheckStops setting left old new script ReportFault.NoMemory = Keeps old new
 CheckStops setting left old new script fault = IsAtEnd left × ComparisonStopped setting old new script fault
 
 -- these bytes were read, and their lines were compared. Where there is a verdict they are all that there is
-pub record Checks (setting : Setting) (left_before left old new : Option (List ℕ)) (result : Result Verdict ReportFault) : Type 0 where
+pub record Checks (setting : Setting) (left_before left old new : Option (List ℕ)) (result : Result CheckResult ReportFault) : Type 0 where
   pub script : List ℕ
   pub taken : Consumes left_before left script
   pub outcome : MatchResult result
@@ -213,15 +213,15 @@ pub record Checks (setting : Setting) (left_before left old new : Option (List �
       (CheckStops setting left old new script)
 
 -- the status that the program ends with: 0 where all agrees, 6 where a reply differs, 7 where no line was played that has a reply
-abbrev pub checking_status : Result Verdict ReportFault → ℕ
-checking_status (Ok Verdict.Agrees) = 0
-checking_status (Ok Verdict.Differs) = 6
-checking_status (Ok Verdict.Empty) = 7
+abbrev pub checking_status : Result CheckResult ReportFault → ℕ
+checking_status (Ok CheckResult.Agrees) = 0
+checking_status (Ok CheckResult.Differs) = 6
+checking_status (Ok CheckResult.Empty) = 7
 checking_status (Err fault) = fault_status fault
 
 -- a transcript was checked, with this outcome: the status is its status, and its fault, if there is one, was told
 pub record EndsChecked (setting : Setting) (left_before left old new told_before told : Option (List ℕ)) (status : ℕ) : Type 0 where
-  pub outcome : Result Verdict ReportFault
+  pub outcome : Result CheckResult ReportFault
   pub checks : Checks setting left_before left old new outcome
   pub status_is : status ≡ checking_status outcome
   pub reported : IsReported told_before told outcome

@@ -21,7 +21,7 @@ use std::io::{Read, Write};
 
 /// The result of comparing a transcript.
 #[derive(Clone, Copy)]
-pub enum Verdict {
+pub enum CheckResult {
     /// Each reply that is there is the machine's.
     Agrees,
     /// The first that differs was written.
@@ -69,7 +69,7 @@ pub fn check_script<R: Read, W: Write>(
     writer: &mut W,
     pages: u32,
     limits: Limits,
-) -> Result<Verdict, ReportFault>
+) -> Result<CheckResult, ReportFault>
     requires { (1 ≤ pages) × (pages ≤ MAX_PAGES) }
     ensures { Checks (record { pool = pages; limits = limits })
         (R.remaining reader.old) (R.remaining reader.new)
@@ -91,7 +91,7 @@ fn check_all<W: Write>(
     comparison: &mut Comparison,
     writer: &mut W,
     script: &[u8],
-) -> Result<Verdict, ReportFault>
+) -> Result<CheckResult, ReportFault>
     requires few { length script.now ≤ MOST_BYTES }
     requires no_text { comparison.old.text.items ≡ [] }
     ensures ok { IfOk result (λ verdict. (setting : Setting) → Compared setting comparison.old [] →
@@ -140,7 +140,7 @@ impl Comparison {
     }
 
     // Finds the verdict, and its text.
-    fn judge(&mut self, alloc: Global, script: &[u8]) -> Result<Verdict, ReportFault>
+    fn judge(&mut self, alloc: Global, script: &[u8]) -> Result<CheckResult, ReportFault>
         requires few { length script.now ≤ MOST_BYTES }
         requires no_text { self.old.text.items ≡ [] }
         ensures ok { IfOk result (λ verdict. (setting : Setting) → Compared setting self.old [] →
@@ -150,25 +150,25 @@ impl Comparison {
     {
         match self.take_lines(alloc, script) {
             Ok(Outcome::Agrees) => self.agree(),
-            Ok(Outcome::Differs) => Ok(Verdict::Differs),
+            Ok(Outcome::Differs) => Ok(CheckResult::Differs),
             Err(fault) => Err(fault),
         }
     }
 
     // The verdict where all replies agree: appends it.
-    fn agree(&mut self) -> Result<Verdict, ReportFault>
+    fn agree(&mut self) -> Result<CheckResult, ReportFault>
         ensures ok { IfOk result (λ verdict. (scene : Scene) (kept : KeptLines) →
             IsSaid verdict (comparison_place self.old scene kept) self.old.text.items self.new.text.items) }
         ensures err { IfErr result (λ fault. fault ≡ Fault.NoMemory) }
     {
         if self.lines == 0 {
             return match push(&mut self.text, "no line was played\n") {
-                Ok(()) => Ok(Verdict::Empty),
+                Ok(()) => Ok(CheckResult::Empty),
                 Err(_) => Err(ReportFault::NoMemory),
             };
         }
         match self.push_agreement() {
-            Ok(()) => Ok(Verdict::Agrees),
+            Ok(()) => Ok(CheckResult::Agrees),
             Err(_) => Err(ReportFault::NoMemory),
         }
     }

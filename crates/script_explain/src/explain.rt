@@ -19,7 +19,7 @@ use crate::summary::put_summary;
 use report_io::{
     ReportFault, behind, fault_of, is_indented, push_indented, put_out, read_script, unended,
 };
-use script_labels::Stop;
+use script_labels::LineStop;
 use script_lines::{MOST_BYTES, Part, line_end, push_parts, write_out};
 use sm_names::{Limits, MAX_PAGES, NoMemory};
 use std::alloc::{AllocError, Global};
@@ -244,7 +244,7 @@ impl Explainer {
         number: u64,
         line: &[u8],
         only_failures: bool,
-    ) -> Result<(), Stop>
+    ) -> Result<(), LineStop>
         ensures text { OnOk result (self.new.text.items ≡ self.old.text.items
             ++ told_between only_failures self.old.seen.event_writer self.new.seen.event_writer number
             line.now self.new.reply.items self.new.facts.items) }
@@ -259,7 +259,7 @@ impl Explainer {
             IsAt self.old.seen.event_writer.session scene →
             IsStopped self.old.seen.event_writer.session line.now scene stop) }
         ensures same { IfErr result (λ stop. (scene : Scene) →
-            IsAt self.old.seen.event_writer.session scene → stop ≡ Stop.BadLine →
+            IsAt self.old.seen.event_writer.session scene → stop ≡ LineStop.BadLine →
             self.new.seen.event_writer.session ≡ self.old.seen.event_writer.session) }
     {
         let failures = self.seen.event_writer.failures;
@@ -273,7 +273,7 @@ impl Explainer {
         if is_told(only_failures, failures, self.seen.event_writer.failures) {
             match self.tell(number, line) {
                 Ok(()) => Ok(()),
-                Err(_) => Err(Stop::NoMemory),
+                Err(_) => Err(LineStop::NoMemory),
             }
         } else {
             Ok(())

@@ -4,7 +4,7 @@ ghost use Rattle.std.specs.Process.{exit_status};
 ghost use Rattle.script_explain.specs.Comparisons.{EndsChecked};
 ghost use Rattle.script_explain.specs.Explanations.{EndsExplained};
 
-use crate::check::{Verdict, check_script};
+use crate::check::{CheckResult, check_script};
 use crate::explain::{Scope, explain_script};
 use report_io::end_with;
 use script_lines::Pages;
@@ -89,9 +89,9 @@ pub fn check_to_exit<R: Read, W: Write, F: Write>(
         (F.contents faults.old) (F.contents faults.new) (exit_status result) }
 {
     match check_script(alloc, seed, reader, writer, pages.count, Limits::full()) {
-        Ok(Verdict::Agrees) => ExitCode::SUCCESS,
-        Ok(Verdict::Differs) => ExitCode::from(DIFFERS),
-        Ok(Verdict::Empty) => ExitCode::from(EMPTY),
+        Ok(CheckResult::Agrees) => ExitCode::SUCCESS,
+        Ok(CheckResult::Differs) => ExitCode::from(DIFFERS),
+        Ok(CheckResult::Empty) => ExitCode::from(EMPTY),
         Err(fault) => end_with(alloc, faults, &fault),
     }
 }

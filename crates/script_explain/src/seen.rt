@@ -8,7 +8,7 @@ ghost use Rattle.event_texts.specs.Tellings.{TellsLine};
 ghost use Rattle.script_explain.specs.Progress.{failing_since};
 
 use event_texts::EventWriter;
-use script_labels::Stop;
+use script_labels::LineStop;
 use sm_names::{Limits, MAX_PAGES, NoMemory};
 use std::alloc::{AllocError, Global};
 
@@ -50,7 +50,7 @@ impl Seen {
         line: &[u8],
         reply: &mut Vec<u8>,
         facts: &mut Vec<u8>,
-    ) -> Result<(), Stop>
+    ) -> Result<(), LineStop>
         ensures tells { OnOk result ((scene : Scene) (kept : KeptLines) →
             Knows self.old.event_writer scene → Recalls self.old.event_writer kept → TellsLine
             self.old.event_writer self.new.event_writer number line.now reply.new.items
@@ -61,7 +61,7 @@ impl Seen {
             IsAt self.old.event_writer.session scene →
             IsStopped self.old.event_writer.session line.now scene stop) }
         ensures same { IfErr result (λ stop. (scene : Scene) →
-            IsAt self.old.event_writer.session scene → stop ≡ Stop.BadLine →
+            IsAt self.old.event_writer.session scene → stop ≡ LineStop.BadLine →
             self.new.event_writer.session ≡ self.old.event_writer.session) }
     {
         let failures = self.event_writer.failures;
@@ -71,7 +71,7 @@ impl Seen {
         }
         match self.note(failures) {
             Ok(()) => Ok(()),
-            Err(_) => Err(Stop::NoMemory),
+            Err(_) => Err(LineStop::NoMemory),
         }
     }
 

@@ -11,7 +11,7 @@ ghost use Rattle.script_explain.specs.Progress.{SummaryHalted, seen_summary};
 
 use crate::seen::Seen;
 use report_io::{ReportFault, push_indented, put_out};
-use script_labels::Stop;
+use script_labels::LineStop;
 use std::alloc::Global;
 use std::io::Write;
 
@@ -33,7 +33,7 @@ pub(crate) fn put_summary<W: Write>(
 }
 
 // The summary of the lines so far, each line of it behind four spaces.
-fn summary_of(alloc: Global, seen: &Seen) -> Result<Vec<u8>, Stop>
+fn summary_of(alloc: Global, seen: &Seen) -> Result<Vec<u8>, LineStop>
     ensures { IfOk result (λ text. (scene : Scene) → Knows seen.now.event_writer scene →
         text.items ≡ seen_summary seen.now scene) }
 {

@@ -18,7 +18,7 @@ use Rattle.sm_names.specs.Numbers.{refusal_number, refusal_name, misuse_number, 
 use Rattle.sm_names.specs.Trackers.{fired}
 use Rattle.sm_names.specs.Views.{live_nodes, held_by_page, free_pages}
 use Rattle.script_labels.specs.declared.act.Binds.{Binds}
-use Rattle.script_lines.specs.declared.line.View.{View}
+use Rattle.script_lines.specs.declared.line.Query.{Query}
 use Rattle.script_lines.specs.Labels.{label_text, text_of_label}
 use Rattle.script_lines.specs.LineTexts.{strength_name}
 use Rattle.script_labels.specs.Names.{Names, label_of_node, label_of_root, label_of_tracker}
@@ -100,8 +100,8 @@ abbrev pub fired_text : Names → Fired → List ℕ
 fired_text names firing = 32 ∷ label_text (label_of_tracker names firing.tracker) ++ 32 ∷ decimal firing.event
 
 -- what is shown after these marks, without the end of its line
-abbrev pub view_text : ℕ → Timeline → Names → View → List ℕ
-view_text pool marks names View.Live = codes "live" ++ flat_map (node_text names) (live_nodes marks)
-view_text pool marks names View.Held = codes "held" ++ flat_map (held_text names) (held_by_page pool marks)
-view_text pool marks names View.Fired = codes "fired" ++ flat_map (fired_text names) (fired marks)
-view_text pool marks names View.Free = codes "free " ++ decimal (free_pages pool marks)
+abbrev pub view_text : ℕ → Timeline → Names → Query → List ℕ
+view_text pool marks names Query.Live = codes "live" ++ flat_map (node_text names) (live_nodes marks)
+view_text pool marks names Query.Held = codes "held" ++ flat_map (held_text names) (held_by_page pool marks)
+view_text pool marks names Query.Fired = codes "fired" ++ flat_map (fired_text names) (fired marks)
+view_text pool marks names Query.Free = codes "free " ++ decimal (free_pages pool marks)

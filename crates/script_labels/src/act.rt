@@ -1,5 +1,5 @@
 //! What a line asks for, once its labels are looked up.
-use script_lines::{Label, View};
+use script_lines::{Label, Query};
 use sm_names::{Call, ClientId, TrackerId};
 
 /// What a label is to stand for, if the call makes it.
@@ -24,5 +24,5 @@ pub enum Act {
     /// A look at the reader of this tracker. It is no event.
     Poll(TrackerId),
     /// A look at the state. It is no event.
-    Show(View),
+    Show(Query),
 }

@@ -7,7 +7,7 @@ mod tables;
 mod texts;
 
 pub use act::{Act, Binds};
-pub use stop::Stop;
+pub use stop::LineStop;
 pub use tables::Tables;
 pub use texts::{
     push_buffer, push_cause, push_firing, push_held, push_node, push_poll, push_reply,

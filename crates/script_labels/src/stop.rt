@@ -4,7 +4,7 @@ use std::alloc::AllocError;
 
 /// Why a line was not answered.
 #[derive(Clone, Copy, PartialEq, Eq)]
-pub enum Stop {
+pub enum LineStop {
     /// It asks for nothing that is known.
     BadLine,
     /// It makes a call, and as many events were made as may be.
@@ -13,24 +13,24 @@ pub enum Stop {
     NoMemory,
 }
 
-impl From<AllocError> for Stop {
+impl From<AllocError> for LineStop {
     ghost use Rattle.std.specs.Prelude.{◌≡◌};
-    ghost use Rattle.script_labels.specs.declared.stop.Stop.{Stop};
+    ghost use Rattle.script_labels.specs.declared.stop.LineStop.{LineStop};
 
-    ghost from_gives = { λ refused stop. stop ≡ Stop.NoMemory };
+    ghost from_gives = { λ refused stop. stop ≡ LineStop.NoMemory };
 
-    fn from(refused: AllocError) -> Stop {
-        Stop::NoMemory
+    fn from(refused: AllocError) -> LineStop {
+        LineStop::NoMemory
     }
 }
 
-impl From<NoMemory> for Stop {
+impl From<NoMemory> for LineStop {
     ghost use Rattle.std.specs.Prelude.{◌≡◌};
-    ghost use Rattle.script_labels.specs.declared.stop.Stop.{Stop};
+    ghost use Rattle.script_labels.specs.declared.stop.LineStop.{LineStop};
 
-    ghost from_gives = { λ refused stop. stop ≡ Stop.NoMemory };
+    ghost from_gives = { λ refused stop. stop ≡ LineStop.NoMemory };
 
-    fn from(refused: NoMemory) -> Stop {
-        Stop::NoMemory
+    fn from(refused: NoMemory) -> LineStop {
+        LineStop::NoMemory
     }
 }

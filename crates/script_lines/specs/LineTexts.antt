@@ -10,7 +10,7 @@ use Rattle.script_lines.specs.declared.buffer_label.BufferLabel.{BufferLabel}
 use Rattle.script_lines.specs.declared.label.Label.{Label}
 use Rattle.script_lines.specs.declared.line.Line.{Line}
 use Rattle.script_lines.specs.declared.line.Request.{Request}
-use Rattle.script_lines.specs.declared.line.View.{View}
+use Rattle.script_lines.specs.declared.line.Query.{Query}
 use Rattle.script_lines.specs.Labels.{text_of_label}
 
 -- the name of a strength
@@ -52,11 +52,11 @@ abbrev pub request_text : Request Label BufferLabel → List ℕ
 request_text r = word_of r.kind ++ object_text r.object ++ argument_text r.argument ++ binds_text r.binds
 
 -- the name of a view
-abbrev pub view_name : View → List ℕ
-view_name View.Live = codes "live"
-view_name View.Held = codes "held"
-view_name View.Fired = codes "fired"
-view_name View.Free = codes "free"
+abbrev pub view_name : Query → List ℕ
+view_name Query.Live = codes "live"
+view_name Query.Held = codes "held"
+view_name Query.Fired = codes "fired"
+view_name Query.Free = codes "free"
 
 -- the line, without its end
 abbrev pub line_text : Line → List ℕ

@@ -17,7 +17,7 @@ use Rattle.script_lines.specs.declared.buffer_label.BufferLabel.{BufferLabel}
 use Rattle.script_lines.specs.declared.label.Label.{Label}
 use Rattle.script_lines.specs.declared.line.Line.{Line}
 use Rattle.script_lines.specs.declared.line.Request.{Request}
-use Rattle.script_lines.specs.declared.line.View.{View}
+use Rattle.script_lines.specs.declared.line.Query.{Query}
 use Rattle.script_lines.specs.BufferLabels.{buffer_label_of}
 use Rattle.script_lines.specs.Labels.{label_of}
 use Rattle.script_lines.specs.Numbers.{number_of}
@@ -29,12 +29,12 @@ at_end [] said = said
 at_end (next ∷ rest) said = None
 
 -- the view of this name
-abbrev pub view_of : List ℕ → Option View
+abbrev pub view_of : List ℕ → Option Query
 view_of word =
-    let free : Option View = if bytes_eq word (codes "free") then Some View.Free else None in
-    let fired : Option View = if bytes_eq word (codes "fired") then Some View.Fired else free in
-    let held : Option View = if bytes_eq word (codes "held") then Some View.Held else fired in
-    if bytes_eq word (codes "live") then Some View.Live else held
+    let free : Option Query = if bytes_eq word (codes "free") then Some Query.Free else None in
+    let fired : Option Query = if bytes_eq word (codes "fired") then Some Query.Fired else free in
+    let held : Option Query = if bytes_eq word (codes "held") then Some Query.Held else fired in
+    if bytes_eq word (codes "live") then Some Query.Live else held
 
 -- what is shown, by the words behind `show`: exactly one
 abbrev pub show_of : List (List ℕ) → Option Line

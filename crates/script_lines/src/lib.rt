@@ -18,7 +18,7 @@ mod writing;
 pub use buffer_label::BufferLabel;
 pub use hashing::LabelHash;
 pub use label::Label;
-pub use line::{Line, Request, View};
+pub use line::{Line, Query, Request};
 pub use line_text::{push_line, strength_name};
 pub use number::number as read_number;
 pub use pages::Pages;

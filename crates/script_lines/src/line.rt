@@ -29,7 +29,7 @@ impl<L: Copy, B: Copy> Clone for Request<L, B> {
 
 /// What a script may look at. It is no event.
 #[derive(Clone, Copy, PartialEq, Eq)]
-pub enum View {
+pub enum Query {
     /// The live nodes.
     Live,
     /// The held buffers.
@@ -61,6 +61,6 @@ pub enum Line {
     },
     /// `show live` and the like
     Show {
-        view: View,
+        view: Query,
     },
 }

@@ -5,7 +5,7 @@ ghost use Rattle.script_lines.specs.LineTexts.{argument_text, binds_text, buffer
 
 use crate::buffer_label::BufferLabel;
 use crate::label::Label;
-use crate::line::{Line, Request, View};
+use crate::line::{Line, Query, Request};
 use crate::spelling::{push, push_label, push_number};
 use sm_names::{Argument, Constraints, Object, Strength, word_of};
 use std::alloc::AllocError;
@@ -153,13 +153,13 @@ fn push_buffer_label(text: &mut Vec<u8>, buffer: BufferLabel) -> Result<(), Allo
 }
 
 // The name of a view.
-fn view_name(view: View) -> &'static str
+fn view_name(view: Query) -> &'static str
     ensures { result.now ≡ name_of_view view }
 {
     match view {
-        View::Live => "live",
-        View::Held => "held",
-        View::Fired => "fired",
-        View::Free => "free",
+        Query::Live => "live",
+        Query::Held => "held",
+        Query::Fired => "fired",
+        Query::Free => "free",
     }
 }

@@ -6,7 +6,7 @@ ghost use Rattle.script_lines.specs.Words.{Reads, words_left};
 use crate::MOST_LINE_BYTES;
 use crate::buffer_label::BufferLabel;
 use crate::label::Label;
-use crate::line::{Line, Request, View};
+use crate::line::{Line, Query, Request};
 use crate::number::number;
 use crate::words::{cut, is_word, next_word};
 use sm_names::{
@@ -59,17 +59,17 @@ fn show(rest: Option<&[u8]>) -> Option<Line>
 }
 
 // The view of this name.
-fn view(word: &[u8]) -> Option<View>
+fn view(word: &[u8]) -> Option<Query>
     ensures { result ≡ view_of word.now }
 {
     if is_word(word, "live") {
-        Some(View::Live)
+        Some(Query::Live)
     } else if is_word(word, "held") {
-        Some(View::Held)
+        Some(Query::Held)
     } else if is_word(word, "fired") {
-        Some(View::Fired)
+        Some(Query::Fired)
     } else if is_word(word, "free") {
-        Some(View::Free)
+        Some(Query::Free)
     } else {
         None
     }

@@ -4,7 +4,7 @@ use Rattle.sm_names.specs.declared.messages.Call.{Call}
 use Rattle.script_labels.specs.declared.act.Act.{Act}
 use Rattle.script_labels.specs.declared.act.Binds.{Binds}
 use Rattle.sm_script.specs.declared.session.Session.{Session}
-use Rattle.script_labels.specs.declared.stop.Stop.{Stop}
+use Rattle.script_labels.specs.declared.stop.LineStop.{LineStop}
 use Rattle.script_labels.specs.Names.{act_in}
 use Rattle.sm_script.specs.Scenes.{Scene, ActGives}
 use Rattle.sm_script.specs.Sessions.{IsAt, Advances, Gains, IsStopped}
@@ -27,10 +27,11 @@ gains-answer old new line before after act scene good empty gains =
     }
 
 -- a call that was not answered
-pub call-stopped : (session : Session) (line : List ℕ) (scene : Scene) (client : ℕ) (call : Call) (binds : Binds) (stop : Stop) →
+pub call-stopped : (session : Session) (line : List ℕ) (scene : Scene) (client : ℕ) (call : Call) (binds : Binds) (stop : LineStop) →
     act_in scene.names line ≡ Some (Act.Ask client call binds) → IsAt session scene →
-    (stop ≢ Stop.BadLine) × (stop ≡ Stop.HistoryFull → session.core.limits.events ≤ session.core.events) → IsStopped session line scene stop
-call-stopped session line scene client call binds Stop.BadLine good at why = absurd (why.0 refl)
-call-stopped session line scene client call binds Stop.HistoryFull good at why =
+    (stop ≢ LineStop.BadLine) × (stop ≡ LineStop.HistoryFull → session.core.limits.events ≤ session.core.events) →
+    IsStopped session line scene stop
+call-stopped session line scene client call binds LineStop.BadLine good at why = absurd (why.0 refl)
+call-stopped session line scene client call binds LineStop.HistoryFull good at why =
     (client, call, binds, good, subst (λ made. session.core.limits.events ≤ made) at.shows.shown.events (why.1 refl))
-call-stopped session line scene client call binds Stop.NoMemory good at why = tt
+call-stopped session line scene client call binds LineStop.NoMemory good at why = tt

@@ -9,7 +9,7 @@ use Rattle.sm_names.specs.Marks.{events}
 use Rattle.sm_names.specs.Timelines.{timeline}
 use Rattle.sm_script.specs.declared.fault.ScriptFault.{ScriptFault}
 use Rattle.sm_script.specs.declared.player.Player.{Player}
-use Rattle.script_labels.specs.declared.stop.Stop.{Stop}
+use Rattle.script_labels.specs.declared.stop.LineStop.{LineStop}
 use Rattle.sm_script.specs.Players.{SoFar, Breaks, GivesUp, fault_of}
 use Rattle.sm_script.specs.Runs.{IsTold, IsCutOff, IsUnanswered, Stopped}
 use Rattle.script_lines.specs.Written.{WritesPart}
@@ -134,9 +134,9 @@ module _ (setting : Setting) (player : Player) (old mid : Option (List ℕ)) (li
   }
 
   -- a line was not answered, and all of the text went out
-  told-stop : (new : Option (List ℕ)) (line : List ℕ) (stop : Stop) → IsStopped player.session line far.scene stop →
+  told-stop : (new : Option (List ℕ)) (line : List ℕ) (stop : LineStop) → IsStopped player.session line far.scene stop →
       Appends mid new player.out.items → Stopped setting old new (lines ++ line ∷ []) (fault_of (player.lines + 1) stop)
-  told-stop new line Stop.BadLine why out = record {
+  told-stop new line LineStop.BadLine why out = record {
     before = lines;
     line = line;
     after = [];
@@ -147,7 +147,7 @@ module _ (setting : Setting) (player : Player) (old mid : Option (List ℕ)) (li
     why = (why, ap (λ n. n + 1) far.counted);
     written = all-written new out;
   }
-  told-stop new line Stop.HistoryFull why out = record {
+  told-stop new line LineStop.HistoryFull why out = record {
     before = lines;
     line = line;
     after = [];
@@ -166,7 +166,7 @@ module _ (setting : Setting) (player : Player) (old mid : Option (List ℕ)) (li
     };
     written = all-written new out;
   }
-  told-stop new line Stop.NoMemory why out = record {
+  told-stop new line LineStop.NoMemory why out = record {
     before = lines;
     line = line;
     after = [];
@@ -179,7 +179,7 @@ module _ (setting : Setting) (player : Player) (old mid : Option (List ℕ)) (li
   }
 
   -- a line was not answered
-  pub so_far-stop : (new : Option (List ℕ)) (line : List ℕ) (stop : Stop) (fault : ScriptFault) →
+  pub so_far-stop : (new : Option (List ℕ)) (line : List ℕ) (stop : LineStop) (fault : ScriptFault) →
       ((scene : Scene) → IsAt player.session scene → IsStopped player.session line scene stop) →
       GivesUp mid new player.out.items (player.lines + 1) stop fault → Stopped setting old new (lines ++ line ∷ []) fault
   so_far-stop new line stop fault why (inl (is, out)) =
@@ -191,7 +191,7 @@ module _ (setting : Setting) (player : Player) (old mid : Option (List ℕ)) (li
 
   -- memory was refused behind the lines
   pub so_far-behind : (new : Option (List ℕ)) (number : ℕ) (rest : List ℕ) (fault : ScriptFault) → rest ≢ [] →
-      GivesUp mid new player.out.items number Stop.NoMemory fault → Breaks setting old new lines rest fault
+      GivesUp mid new player.out.items number LineStop.NoMemory fault → Breaks setting old new lines rest fault
   so_far-behind new number rest fault some (inl (is, out)) =
       subst (Breaks setting old new lines rest) (sym is) (inr (some, so_far-told new out))
   so_far-behind new number rest fault some (inr (is, part)) =

@@ -5,14 +5,14 @@ use Rattle.sm_names.specs.Legality.{IsLegal}
 use Rattle.sm_names.specs.Marks.{events}
 use Rattle.sm_names.specs.Timelines.{timeline}
 use Rattle.sm_script.specs.declared.session.Session.{Session}
-use Rattle.script_labels.specs.declared.stop.Stop.{Stop}
+use Rattle.script_labels.specs.declared.stop.LineStop.{LineStop}
 use Rattle.sm_script.specs.Runs.{IsUnkept}
 use Rattle.sm_script.specs.Scenes.{Scene, Setting}
 use Rattle.sm_script.specs.Sessions.{IsAt, IsStopped}
 
 -- a session that a full history stops is over in the setting
 pub over-in : (setting : Setting) (session : Session) (scene : Scene) (line : List ℕ) → session.core.pool ≡ setting.pool →
-    session.core.limits ≡ setting.limits → IsStopped session line scene Stop.HistoryFull → IsUnkept setting scene line
+    session.core.limits ≡ setting.limits → IsStopped session line scene LineStop.HistoryFull → IsUnkept setting scene line
 over-in setting session scene line pool limits why = record {
   client = why.0;
   call = why.1;

@@ -3,7 +3,7 @@ use Rattle.std.specs.Prelude.{◌≡◌, ◌≢◌, ◌⊎◌, ℕ, ◌+◌, Lis
 use Rattle.std.specs.Io.KnownBytes.{Appends}
 use Rattle.sm_script.specs.declared.fault.ScriptFault.{ScriptFault}
 use Rattle.sm_script.specs.declared.player.Player.{Player}
-use Rattle.script_labels.specs.declared.stop.Stop.{Stop}
+use Rattle.script_labels.specs.declared.stop.LineStop.{LineStop}
 use Rattle.sm_script.specs.Runs.{IsTold, Stopped}
 use Rattle.script_lines.specs.Written.{WritesPart}
 use Rattle.sm_script.specs.Scenes.{Scene, Setting, Plays, first_scene}
@@ -33,13 +33,13 @@ Failed player mid new more fault = (setting : Setting) (old : Option (List ℕ))
     SoFar setting player old mid lines → Stopped setting old new (lines ++ more) fault
 
 -- the fault that is told of a line that was not answered, the one of this number
-abbrev pub fault_of : ℕ → Stop → ScriptFault
-fault_of number Stop.BadLine = ScriptFault.BadLine number
-fault_of number Stop.HistoryFull = ScriptFault.HistoryFull
-fault_of number Stop.NoMemory = ScriptFault.NoMemory
+abbrev pub fault_of : ℕ → LineStop → ScriptFault
+fault_of number LineStop.BadLine = ScriptFault.BadLine number
+fault_of number LineStop.HistoryFull = ScriptFault.HistoryFull
+fault_of number LineStop.NoMemory = ScriptFault.NoMemory
 
 -- the text went out, and the stop is told; or only a part went out, and that is told
-abbrev pub GivesUp : Option (List ℕ) → Option (List ℕ) → List ℕ → ℕ → Stop → ScriptFault → Type 0
+abbrev pub GivesUp : Option (List ℕ) → Option (List ℕ) → List ℕ → ℕ → LineStop → ScriptFault → Type 0
 GivesUp old new text number stop fault =
     ((fault ≡ fault_of number stop) × Appends old new text) ⊎ ((fault ≡ ScriptFault.WriteFault) × WritesPart old new text)
 

@@ -7,7 +7,7 @@ use Rattle.core_state.specs.Shown.{Shows}
 use Rattle.script_labels.specs.declared.act.Act.{Act}
 use Rattle.script_labels.specs.declared.act.Binds.{Binds}
 use Rattle.sm_script.specs.declared.session.Session.{Session}
-use Rattle.script_labels.specs.declared.stop.Stop.{Stop}
+use Rattle.script_labels.specs.declared.stop.LineStop.{LineStop}
 use Rattle.script_labels.specs.Names.{act_in}
 use Rattle.sm_script.specs.Scenes.{Scene, Answers, ActGives}
 use Rattle.script_labels.specs.Tables.{Keeps}
@@ -39,10 +39,10 @@ pub record Advances (old new : Session) (line text : List ℕ) (scene : Scene) :
   pub is_at : IsAt new next
 
 -- why the line was not answered
-abbrev pub IsStopped : Session → List ℕ → Scene → Stop → Type 0
-IsStopped session line scene Stop.BadLine = act_in scene.names line ≡ None
-IsStopped session line scene Stop.HistoryFull =
+abbrev pub IsStopped : Session → List ℕ → Scene → LineStop → Type 0
+IsStopped session line scene LineStop.BadLine = act_in scene.names line ≡ None
+IsStopped session line scene LineStop.HistoryFull =
     (client : ℕ) × (call : Call) × (binds : Binds)
     × (act_in scene.names line ≡ Some (Act.Ask client call binds)) ×
     (session.core.limits.events ≤ events (timeline session.core.pool scene.history))
-IsStopped session line scene Stop.NoMemory = ⊤
+IsStopped session line scene LineStop.NoMemory = ⊤

@@ -7,7 +7,7 @@ ghost use Rattle.sm_script.specs.Scenes.{Setting};
 use crate::fault::ScriptFault;
 use crate::session::Session;
 use crate::writing::give_up;
-use script_labels::Stop;
+use script_labels::LineStop;
 use script_lines::write_out;
 use sm_names::{Limits, MAX_PAGES, NoMemory};
 use std::alloc::Global;
@@ -92,7 +92,7 @@ impl Player {
             Ok(()) => {}
             Err(_) => {
                 let number = self.lines + 1;
-                return Err(give_up(writer, self.out.as_slice(), number, Stop::NoMemory));
+                return Err(give_up(writer, self.out.as_slice(), number, LineStop::NoMemory));
             }
         }
         self.lines += 1;
@@ -109,6 +109,6 @@ impl Player {
         ensures behind { (rest : List ℕ) → rest ≢ [] →
             Broken self.now (W.contents writer.old) (W.contents writer.new) [] rest result }
     {
-        give_up(writer, self.out.as_slice(), self.lines, Stop::NoMemory)
+        give_up(writer, self.out.as_slice(), self.lines, LineStop::NoMemory)
     }
 }

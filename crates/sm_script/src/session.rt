@@ -14,8 +14,8 @@ ghost use Rattle.script_labels.specs.Texts.{reply_text};
 
 use crate::views::push_view;
 use lifetime_core::Core;
-use script_labels::{Act, Binds, Stop, Tables, push_poll, push_reply};
-use script_lines::{LabelHash, View, push, read_line};
+use script_labels::{Act, Binds, LineStop, Tables, push_poll, push_reply};
+use script_lines::{LabelHash, Query, push, read_line};
 use sm_names::{Call, ClientId, Fired, Limits, MAX_PAGES, NoMemory, Reply, StepFault, TrackerId};
 use std::alloc::{AllocError, Global};
 use std::collections::HashMap;
@@ -59,7 +59,7 @@ impl Session {
     /// On an error the line was not answered, and the content of `reply` means nothing; if memory was
     /// refused, the line's call may have been made. Costs O(line + text), a look-up for each label, and
     /// the call.
-    pub fn answer(&mut self, line: &[u8], reply: &mut Vec<u8>) -> Result<(), Stop>
+    pub fn answer(&mut self, line: &[u8], reply: &mut Vec<u8>) -> Result<(), LineStop>
         ensures ok { OnOk result ((scene : Scene) → IsAt self.old scene →
             Advances self.old self.new line.now reply.new.items scene) }
         ensures err { IfErr result (λ stop. (scene : Scene) → IsAt self.old scene →
@@ -77,7 +77,7 @@ impl Session {
             ) => self.ask(client, call, binds, reply),
             Some(Act::Poll(tracker)) => self.poll(tracker, reply),
             Some(Act::Show(view)) => self.show(view, reply),
-            None => Err(Stop::BadLine),
+            None => Err(LineStop::BadLine),
         }
     }
 
@@ -100,17 +100,17 @@ impl Session {
         call: Call,
         binds: Binds,
         text: &mut Vec<u8>,
-    ) -> Result<(), Stop>
+    ) -> Result<(), LineStop>
         ensures ok { OnOk result ((scene : Scene) → IsAt self.old scene →
             Gains self.old self.new (Act.Ask client call binds)
             text.old.items text.new.items scene) }
-        ensures err { IfErr result (λ stop. (stop ≢ Stop.BadLine)
-            × (stop ≡ Stop.HistoryFull → self.old.core.limits.events ≤ self.old.core.events)) }
+        ensures err { IfErr result (λ stop. (stop ≢ LineStop.BadLine)
+            × (stop ≡ LineStop.HistoryFull → self.old.core.limits.events ≤ self.old.core.events)) }
     {
         let reply = match self.core.step(client, call) {
             Ok(reply) => reply,
-            Err(StepFault::HistoryFull) => return Err(Stop::HistoryFull),
-            Err(StepFault::NoMemory) => return Err(Stop::NoMemory),
+            Err(StepFault::HistoryFull) => return Err(LineStop::HistoryFull),
+            Err(StepFault::NoMemory) => return Err(LineStop::NoMemory),
         };
         self.note(binds, reply, text)?;
         Ok(())
@@ -138,10 +138,10 @@ impl Session {
     }
 
     // Appends the state of the tracker, as its reader knows it, as a line.
-    fn poll(&mut self, tracker: TrackerId, text: &mut Vec<u8>) -> Result<(), Stop>
+    fn poll(&mut self, tracker: TrackerId, text: &mut Vec<u8>) -> Result<(), LineStop>
         ensures ok { OnOk result ((scene : Scene) → IsAt self.old scene →
             Gains self.old self.new (Act.Poll tracker) text.old.items text.new.items scene) }
-        ensures err { IfErr result (λ stop. stop ≡ Stop.NoMemory) }
+        ensures err { IfErr result (λ stop. stop ≡ LineStop.NoMemory) }
     {
         match firing(&mut self.readers, &self.core, tracker) {
             Some(event) => push_poll(text, event)?,
@@ -152,14 +152,14 @@ impl Session {
     }
 
     // Appends the view as a line.
-    fn show(&self, view: View, text: &mut Vec<u8>) -> Result<(), Stop>
+    fn show(&self, view: Query, text: &mut Vec<u8>) -> Result<(), LineStop>
         ensures ok { OnOk result ((scene : Scene) → IsAt self.now scene →
             Gains self.now self.now (Act.Show view) text.old.items text.new.items scene) }
-        ensures err { IfErr result (λ stop. stop ≡ Stop.NoMemory) }
+        ensures err { IfErr result (λ stop. stop ≡ LineStop.NoMemory) }
     {
         match push_view(text, &self.core, &self.tables, view) {
             Ok(()) => Ok(push(text, "\n")?),
-            Err(_) => Err(Stop::NoMemory),
+            Err(_) => Err(LineStop::NoMemory),
         }
     }
 }

@@ -10,7 +10,7 @@ ghost use Rattle.script_labels.specs.Texts.{fired_text, held_text, node_text, vi
 
 use lifetime_core::Core;
 use script_labels::{Tables, push_firing, push_held, push_node};
-use script_lines::{View, push, push_number};
+use script_lines::{Query, push, push_number};
 use sm_names::{Fired, HeldBuffer, NodeKey};
 use std::alloc::AllocError;
 
@@ -19,23 +19,23 @@ pub(crate) fn push_view(
     text: &mut Vec<u8>,
     core: &Core,
     tables: &Tables,
-    view: View,
+    view: Query,
 ) -> Result<(), AllocError>
     ensures { OnOk result ((names : Names) (history : List Entry) → Keeps tables.now names →
         Shows core.now history → text.new.items
         ≡ text.old.items ++ view_text core.now.pool (timeline core.now.pool history) names view) }
 {
     match view {
-        View::Live => match core.live() {
+        Query::Live => match core.live() {
             Ok(nodes) => push_nodes(text, tables, nodes.as_slice()),
             Err(_) => Err(AllocError),
         },
-        View::Held => match core.held() {
+        Query::Held => match core.held() {
             Ok(buffers) => push_buffers(text, tables, buffers.as_slice()),
             Err(_) => Err(AllocError),
         },
-        View::Fired => push_firings(text, tables, core.fired()),
-        View::Free => push_free(text, core.free_pages()),
+        Query::Fired => push_firings(text, tables, core.fired()),
+        Query::Free => push_free(text, core.free_pages()),
     }
 }
 

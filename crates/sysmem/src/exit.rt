@@ -5,7 +5,7 @@ ghost use Rattle.sysmem.specs.Codes.{is_among, vanish_codes};
 ghost use Rattle.sysmem.specs.Exits.{IsExitStopped, StoppedBy, fault_code};
 
 use crate::codes::{DONE, HISTORY_FULL, NO_CLIENT, NO_MEMORY, NOT_OPEN};
-use crate::handle::{Handle, put, take};
+use crate::handle::{CoreHandle, put, take};
 use core_vanish::{VanishFault, vanish};
 use lifetime_core::Core;
 use sm_names::ClientId;
@@ -56,7 +56,7 @@ fn part(core: &mut Core, client: ClientId, events: &mut u64) -> u32
 #[unsafe(no_mangle)]
 pub extern "C" fn sysmem_vanish(
     alloc: Global,
-    handle: &mut Handle,
+    handle: &mut CoreHandle,
     client: ClientId,
     events: &mut u64,
 ) -> u32

@@ -21,7 +21,7 @@ mod views;
 mod words;
 
 pub use exit::sysmem_vanish;
-pub use handle::Handle;
+pub use handle::CoreHandle;
 pub use names::{sysmem_name, sysmem_version};
 pub use nodes::{
     NodeWords, sysmem_given, sysmem_handles_in_parcels, sysmem_held_of, sysmem_node_of,

@@ -13,7 +13,7 @@ ghost use Rattle.sysmem.specs.Words.{said_strength};
 use crate::arrays::write_array;
 use crate::codes::{BAD_CALL, DONE, NO_MEMORY, NOT_OPEN};
 use crate::encode::Encode;
-use crate::handle::{Handle, put, take};
+use crate::handle::{CoreHandle, put, take};
 use crate::views::{HeldWords, KeyWords, node_key};
 use crate::words::{cause_word, strength_of};
 use alloc_event::{End, Node};
@@ -135,7 +135,7 @@ fn put_nodes(core: &Core, out: &mut [NodeWords], count: &mut u64) -> u32
 #[unsafe(no_mangle)]
 pub extern "C" fn sysmem_nodes(
     alloc: Global,
-    handle: &mut Handle,
+    handle: &mut CoreHandle,
     out: &mut [NodeWords],
     count: &mut u64,
 ) -> u32
@@ -161,7 +161,7 @@ pub extern "C" fn sysmem_nodes(
 #[unsafe(no_mangle)]
 pub extern "C" fn sysmem_node_of(
     alloc: Global,
-    handle: &mut Handle,
+    handle: &mut CoreHandle,
     key: &KeyWords,
     kept: &mut u32,
     out: &mut NodeWords,
@@ -198,7 +198,7 @@ pub extern "C" fn sysmem_node_of(
 #[unsafe(no_mangle)]
 pub extern "C" fn sysmem_held_of(
     alloc: Global,
-    handle: &mut Handle,
+    handle: &mut CoreHandle,
     collection: u64,
     out: &mut [HeldWords],
     count: &mut u64,
@@ -228,7 +228,7 @@ pub extern "C" fn sysmem_held_of(
 #[unsafe(no_mangle)]
 pub extern "C" fn sysmem_given(
     alloc: Global,
-    handle: &mut Handle,
+    handle: &mut CoreHandle,
     collection: u64,
     count: &mut u32,
     size: &mut u32,
@@ -267,7 +267,7 @@ pub extern "C" fn sysmem_given(
 #[unsafe(no_mangle)]
 pub extern "C" fn sysmem_open_handles(
     alloc: Global,
-    handle: &mut Handle,
+    handle: &mut CoreHandle,
     client: u64,
     collection: u64,
     index: u8,
@@ -321,7 +321,7 @@ fn write_count(found: Option<u32>, count: &mut u32) -> u32
 #[unsafe(no_mangle)]
 pub extern "C" fn sysmem_handles_in_parcels(
     alloc: Global,
-    handle: &mut Handle,
+    handle: &mut CoreHandle,
     collection: u64,
     index: u8,
     strength: u32,

@@ -4,7 +4,7 @@ ghost use Rattle.sysmem.specs.Codes.{is_among, open_codes};
 ghost use Rattle.sysmem.specs.Opening.{IsInRange, IsNew};
 
 use crate::codes::{ALREADY_OPEN, BAD_LIMITS, DONE, NO_MEMORY, NOT_OPEN};
-use crate::handle::{Handle, is_open, put, take};
+use crate::handle::{CoreHandle, is_open, put, take};
 use lifetime_core::Core;
 use sm_names::{LASTING_EVENTS, Limits, MAX_PAGES};
 use std::alloc::Global;
@@ -17,7 +17,7 @@ use std::alloc::Global;
 #[unsafe(no_mangle)]
 pub extern "C" fn sysmem_open(
     alloc: Global,
-    handle: &mut Handle,
+    handle: &mut CoreHandle,
     pages: u32,
     events: u32,
     nodes: u32,
@@ -53,7 +53,7 @@ pub extern "C" fn sysmem_open(
 #[unsafe(no_mangle)]
 pub extern "C" fn sysmem_open_seeded(
     alloc: Global,
-    handle: &mut Handle,
+    handle: &mut CoreHandle,
     pages: u32,
     events: u32,
     nodes: u32,
@@ -81,7 +81,7 @@ pub extern "C" fn sysmem_open_seeded(
 #[unsafe(no_mangle)]
 pub extern "C" fn sysmem_open_lasting(
     alloc: Global,
-    handle: &mut Handle,
+    handle: &mut CoreHandle,
     pages: u32,
     nodes: u32,
     collections: u32,
@@ -109,7 +109,7 @@ pub extern "C" fn sysmem_open_lasting(
 // Opens a core with these limits, if there are any.
 fn open_with(
     alloc: Global,
-    handle: &mut Handle,
+    handle: &mut CoreHandle,
     pages: u32,
     limits: Option<Limits>,
     seed: &[u8; 16],
@@ -146,7 +146,7 @@ fn open_with(
 /// Closes the core, and frees its memory. `NOT_OPEN` if the handle has no core. Costs a walk over all that
 /// the core has.
 #[unsafe(no_mangle)]
-pub extern "C" fn sysmem_close(alloc: Global, handle: &mut Handle) -> u32
+pub extern "C" fn sysmem_close(alloc: Global, handle: &mut CoreHandle) -> u32
     ensures closed { handle.new.place.core ≡ None }
     ensures done { (result ≡ 0) ↔ (is_some handle.old.place.core ≡ true) }
     ensures not_open { (result ≡ 1) ↔ (handle.old.place.core ≡ None) }

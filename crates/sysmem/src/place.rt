@@ -18,46 +18,46 @@ pub struct Opaque {
 /// A core on the heap, or nothing.
 #[repr(C)]
 #[derive(Drop)]
-pub struct Place {
+pub struct CorePlace {
     at: *mut Opaque,
     alloc: Global,
     pub ghost core: { Option State } by { state_coded },
 }
 
-impl Model for Place {
+impl Model for CorePlace {
     ghost also_owns = { λ p. owns_core p.alloc p.at p.core };
 }
 
 // A core has no data of a thread, and any thread may free its block.
-unsafe impl Send for Place {}
+unsafe impl Send for CorePlace {}
 
 // No core.
-pub(crate) fn nowhere(alloc: Global) -> Place
+pub(crate) fn nowhere(alloc: Global) -> CorePlace
     ensures { result.core ≡ None }
 {
-    Place {
+    CorePlace {
         at: std::ptr::null_mut(),
         alloc,
     }
 }
 
 // Gives the parts of a box to a program in C.
-pub(crate) fn keep(core: Unboxed<Core, Global>) -> Place
+pub(crate) fn keep(core: Unboxed<Core, Global>) -> CorePlace
     ensures { result.core ≡ Some core.value }
 {
     let Unboxed { parts: (at, alloc) } = core;
-    Place {
+    CorePlace {
         at: at as *mut Opaque,
         alloc,
     }
 }
 
 // Takes back the parts of a box that a program in C kept.
-pub(crate) fn out_of(place: Place) -> Unboxed<Core, Global>
+pub(crate) fn out_of(place: CorePlace) -> Unboxed<Core, Global>
     requires { is_some place.core ≡ true }
     ensures { place.core ≡ Some result.value }
 {
-    let Place { at, alloc } = place;
+    let CorePlace { at, alloc } = place;
     Unboxed {
         parts: (at as *mut Core, alloc),
     }

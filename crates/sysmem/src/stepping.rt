@@ -5,7 +5,7 @@ ghost use Rattle.sysmem.specs.Stepping.{IsCoreUnchanged, IsCoreCall, StaysAs};
 ghost use Rattle.sysmem.specs.Words.{said};
 
 use crate::codes::{BAD_CALL, DONE, HISTORY_FULL, NO_MEMORY, NOT_OPEN};
-use crate::handle::{Handle, put, take};
+use crate::handle::{CoreHandle, put, take};
 use crate::words::{CallWords, ReplyWords, call_of, words_of};
 use lifetime_core::Core;
 use sm_names::{ClientId, StepFault};
@@ -45,7 +45,7 @@ fn step_by_words(core: &mut Core, client: ClientId, asked: &CallWords, told: &mu
 #[unsafe(no_mangle)]
 pub extern "C" fn sysmem_step(
     alloc: Global,
-    handle: &mut Handle,
+    handle: &mut CoreHandle,
     client: ClientId,
     asked: &CallWords,
     told: &mut ReplyWords,

@@ -10,7 +10,7 @@ ghost use Rattle.sysmem.specs.Words.{cause_number};
 use crate::arrays::write_array;
 use crate::codes::{DONE, NO_MEMORY, NOT_FAILED, NOT_OPEN};
 use crate::encode::Encode;
-use crate::handle::{Handle, put, take};
+use crate::handle::{CoreHandle, put, take};
 use crate::words::cause_word;
 use lifetime_core::Core;
 use sm_names::{Fired, HeldBuffer, NodeKey};
@@ -114,7 +114,7 @@ fn put_held(core: &Core, out: &mut [HeldWords], count: &mut u64) -> u32
 #[unsafe(no_mangle)]
 pub extern "C" fn sysmem_live(
     alloc: Global,
-    handle: &mut Handle,
+    handle: &mut CoreHandle,
     out: &mut [KeyWords],
     count: &mut u64,
 ) -> u32
@@ -141,7 +141,7 @@ pub extern "C" fn sysmem_live(
 #[unsafe(no_mangle)]
 pub extern "C" fn sysmem_held(
     alloc: Global,
-    handle: &mut Handle,
+    handle: &mut CoreHandle,
     out: &mut [HeldWords],
     count: &mut u64,
 ) -> u32
@@ -169,7 +169,7 @@ pub extern "C" fn sysmem_held(
 #[unsafe(no_mangle)]
 pub extern "C" fn sysmem_fired(
     alloc: Global,
-    handle: &mut Handle,
+    handle: &mut CoreHandle,
     out: &mut [FiredWords],
     count: &mut u64,
 ) -> u32
@@ -192,7 +192,7 @@ pub extern "C" fn sysmem_fired(
 #[unsafe(no_mangle)]
 pub extern "C" fn sysmem_fired_from(
     alloc: Global,
-    handle: &mut Handle,
+    handle: &mut CoreHandle,
     from: u64,
     out: &mut [FiredWords],
     count: &mut u64,
@@ -222,7 +222,7 @@ pub extern "C" fn sysmem_fired_from(
 /// `NOT_OPEN` if the handle has no core; `NO_MEMORY` if memory is refused: nothing changed then. Costs what
 /// `Core::forget_fired` costs.
 #[unsafe(no_mangle)]
-pub extern "C" fn sysmem_forget_fired(alloc: Global, handle: &mut Handle) -> u32
+pub extern "C" fn sysmem_forget_fired(alloc: Global, handle: &mut CoreHandle) -> u32
     ensures codes { (result ≡ 0) ⊎ ((result ≡ 1) ⊎ (result ≡ 6)) }
     ensures not_open { (result ≡ 1) ↔ (handle.old.place.core ≡ None) }
     ensures done { result ≡ 0 → handle.new.place.core
@@ -255,7 +255,7 @@ fn after(items: &[Fired], from: u64) -> &[Fired]
 #[unsafe(no_mangle)]
 pub extern "C" fn sysmem_is_live(
     alloc: Global,
-    handle: &mut Handle,
+    handle: &mut CoreHandle,
     key: &KeyWords,
     live: &mut u32,
 ) -> u32
@@ -281,7 +281,7 @@ pub extern "C" fn sysmem_is_live(
 #[unsafe(no_mangle)]
 pub extern "C" fn sysmem_cause(
     alloc: Global,
-    handle: &mut Handle,
+    handle: &mut CoreHandle,
     key: &KeyWords,
     cause: &mut u32,
     origin: &mut KeyWords,
@@ -314,7 +314,7 @@ pub extern "C" fn sysmem_cause(
 
 /// Writes the number of pages that no buffer holds. `NOT_OPEN` if the handle has no core. Costs O(1).
 #[unsafe(no_mangle)]
-pub extern "C" fn sysmem_free_pages(alloc: Global, handle: &mut Handle, pages: &mut u32) -> u32
+pub extern "C" fn sysmem_free_pages(alloc: Global, handle: &mut CoreHandle, pages: &mut u32) -> u32
     ensures same { handle.new.place.core ≡ handle.old.place.core }
     ensures codes { (result ≡ 0) ⊎ (result ≡ 1) }
     ensures not_open { (result ≡ 1) ↔ (handle.old.place.core ≡ None) }
@@ -332,7 +332,7 @@ pub extern "C" fn sysmem_free_pages(alloc: Global, handle: &mut Handle, pages: &
 
 /// Writes the number of events. `NOT_OPEN` if the handle has no core. Costs O(1).
 #[unsafe(no_mangle)]
-pub extern "C" fn sysmem_events(alloc: Global, handle: &mut Handle, events: &mut u64) -> u32
+pub extern "C" fn sysmem_events(alloc: Global, handle: &mut CoreHandle, events: &mut u64) -> u32
     ensures same { handle.new.place.core ≡ handle.old.place.core }
     ensures codes { (result ≡ 0) ⊎ (result ≡ 1) }
     ensures not_open { (result ≡ 1) ↔ (handle.old.place.core ≡ None) }
@@ -351,7 +351,7 @@ pub extern "C" fn sysmem_events(alloc: Global, handle: &mut Handle, events: &mut
 /// Writes how many more events the core takes: its limit, less those that were made. `NOT_OPEN` if the
 /// handle has no core. Costs O(1).
 #[unsafe(no_mangle)]
-pub extern "C" fn sysmem_remaining(alloc: Global, handle: &mut Handle, events: &mut u64) -> u32
+pub extern "C" fn sysmem_remaining(alloc: Global, handle: &mut CoreHandle, events: &mut u64) -> u32
     ensures same { handle.new.place.core ≡ handle.old.place.core }
     ensures codes { (result ≡ 0) ⊎ (result ≡ 1) }
     ensures not_open { (result ≡ 1) ↔ (handle.old.place.core ≡ None) }

@@ -3,12 +3,12 @@ use Rattle.std.specs.Prelude.{◌≡◌, ◌⊎◌, ℕ, Bool, true, false, List
 use Rattle.clap.specs.Matches.{subcommand_name_of}
 use Rattle.clap.specs.declared.parser.matches.ArgMatches.{ArgMatches}
 use Rattle.command_line.specs.Asked.{AreAsked, HasFailures, HasFormat, HasPatience, HasRecord, HasSearch, HasSummary, HasUntil, IsFile, IsTask, subcommand_text, value_text}
-use Rattle.command_line.specs.declared.request.Request.{Request}
+use Rattle.command_line.specs.declared.request.CommandLine.{CommandLine}
 use Rattle.command_line.specs.declared.task.Format.{Format as AskedFormat}
 use Rattle.command_line.specs.declared.task.Search.{Search}
-use Rattle.command_line.specs.declared.task.Task.{Task}
+use Rattle.command_line.specs.declared.task.ScriptTask.{ScriptTask}
 use Rattle.command_line.specs.declared.task.Until.{Until as AskedUntil}
-use Rattle.outcome_runs.specs.declared.job.Job.{Job}
+use Rattle.outcome_runs.specs.declared.job.SearchJob.{SearchJob}
 use Rattle.outcome_runs.specs.Endings.{EndsExplored}
 use Rattle.script_draw.specs.Draws.{EndsDrawn}
 use Rattle.script_draw.specs.declared.draw.Format.{Format}
@@ -45,7 +45,7 @@ until_for (AskedUntil.Line number) = Until.Line number
 until_for (AskedUntil.Failure number) = Until.Failure number
 
 -- the search that is asked for, as `outcome_runs` names it
-abbrev pub job_for : ℕ → Search → Job
+abbrev pub job_for : ℕ → Search → SearchJob
 job_for pages search = record { pages = pages; once = search.once; outcome = search.outcome; states = search.states }
 
 -- a pool of this many pages, and the greatest limits
@@ -63,36 +63,36 @@ abbrev pub streams : Option (List ℕ) → Option (List ℕ) → Option (List �
 streams left written told = record { left = left; written = written; told = told }
 
 -- the task was done with the script in the input and a pool of this many pages, and the program ends with this status
-abbrev pub IsPlayed : Task → ℕ → Streams → Streams → ℕ → Type 0
-IsPlayed Task.Run pages before after status =
+abbrev pub IsPlayed : ScriptTask → ℕ → Streams → Streams → ℕ → Type 0
+IsPlayed ScriptTask.Run pages before after status =
     Ends (setting_of pages) before.left after.left before.written after.written before.told after.told status
-IsPlayed (Task.Threads has_record is_patient) pages before after status =
+IsPlayed (ScriptTask.Threads has_record is_patient) pages before after status =
     EndsThreads (output_for has_record) (repeats_for is_patient) pages before.left after.left before.written after.written before.told after.told status
-IsPlayed (Task.Explain only_failures has_summary) pages before after status =
+IsPlayed (ScriptTask.Explain only_failures has_summary) pages before after status =
     EndsExplained (setting_of pages) (record { only_failures = only_failures; has_summary = has_summary }) before.left after.left before.written after.written before.told after.told status
-IsPlayed (Task.Draw view) pages before after status =
+IsPlayed (ScriptTask.Draw view) pages before after status =
     EndsDrawn (setting_of pages) (record { format = format_for view.format; until = until_for view.until })
     before.left after.left before.written after.written before.told after.told status
-IsPlayed Task.Check pages before after status =
+IsPlayed ScriptTask.Check pages before after status =
     EndsChecked (setting_of pages) before.left after.left before.written after.written before.told after.told status
-IsPlayed (Task.Explore search) pages before after status =
+IsPlayed (ScriptTask.Explore search) pages before after status =
     EndsExplored (job_for pages search) before.left after.left before.written after.written before.told after.told status
 
 -- the script was in a file, whose bytes are these: the input is as before
-pub record PlaysFile (task : Task) (pages : ℕ) (before after : Streams) (status : ℕ) : Type 0 where
+pub record PlaysFile (task : ScriptTask) (pages : ℕ) (before after : Streams) (status : ℕ) : Type 0 where
   pub left_before : Option (List ℕ)
   pub left : Option (List ℕ)
   pub input : after.left ≡ before.left
   pub played : IsPlayed task pages (streams left_before before.written before.told) (streams left after.written after.told) status
 
 -- the script is in the input if no file is named; else it is in that file, or the file can't be opened
-abbrev pub IsRead : Option (List ℕ) → Task → ℕ → Streams → Streams → ℕ → Type 0
+abbrev pub IsRead : Option (List ℕ) → ScriptTask → ℕ → Streams → Streams → ℕ → Type 0
 IsRead None task pages before after status = IsPlayed task pages before after status
 IsRead (Some name) task pages before after status =
     ((after ≡ before) × (status ≡ 1)) ⊎ PlaysFile task pages before after status
 
 -- what the matches of a parse ask for
-pub record IsAsked (matches : ArgMatches) (request : Request) : Type 0 where
+pub record IsAsked (matches : ArgMatches) (request : CommandLine) : Type 0 where
   pub pages : AreAsked (value_text (codes "pages") matches) (Some request.pages.count)
   pub task : IsTask (subcommand_name_of matches) request.task
   pub format : HasFormat (subcommand_text (codes "format") matches) request.task
@@ -108,7 +108,7 @@ pub record IsAsked (matches : ArgMatches) (request : Request) : Type 0 where
 
 -- what the matches ask for was done
 pub record IsDone (matches : ArgMatches) (before after : Streams) (status : ℕ) : Type 0 where
-  pub request : Request
+  pub request : CommandLine
   pub asked : IsAsked matches request
   pub read : IsRead (option_map (λ name. name.now) request.file) request.task request.pages.count before after status
 

@@ -14,7 +14,7 @@ ghost use Rattle.sysmem_main.specs.Statuses.{IsUnreadStatus, refusal_status, unr
 
 use clap::error::ErrorKind;
 use clap::{ArgMatches, Error};
-use command_line::{Format, Request, Search, Task, Until, View, command, request_of};
+use command_line::{CommandLine, Format, ScriptTask, Search, Until, View, command, request_of};
 use messages::{Misplaced, NAME, NO_COMMAND, Unopened, misplaced_file, reason_of};
 use outcome_runs::explore_to_exit;
 use script_draw::draw_to_exit;
@@ -198,7 +198,7 @@ fn read<H: Threads + Wait + Clock + Sync, R: Read, W: Write, F: Write>(
     reader: &mut R,
     writer: &mut W,
     faults: &mut F,
-    request: Request<'_>,
+    request: CommandLine<'_>,
 ) -> ExitCode
     ensures { IsRead (option_map (λ name. name.now) request.entry.file) request.entry.task
         request.entry.pages.count
@@ -250,7 +250,7 @@ fn play<H: Threads + Wait + Clock + Sync, R: Read, W: Write, F: Write>(
     reader: &mut R,
     writer: &mut W,
     faults: &mut F,
-    request: Request<'_>,
+    request: CommandLine<'_>,
 ) -> ExitCode
     ensures { IsPlayed request.entry.task request.entry.pages.count
         (streams (R.remaining reader.old) (W.contents writer.old) (F.contents faults.old))
@@ -259,8 +259,8 @@ fn play<H: Threads + Wait + Clock + Sync, R: Read, W: Write, F: Write>(
 {
     let pages = request.pages;
     match request.task {
-        Task::Run => run_to_exit(alloc, seed, reader, writer, faults, pages),
-        Task::Threads {
+        ScriptTask::Run => run_to_exit(alloc, seed, reader, writer, faults, pages),
+        ScriptTask::Threads {
             has_record,
             is_patient,
         } => {
@@ -273,7 +273,7 @@ fn play<H: Threads + Wait + Clock + Sync, R: Read, W: Write, F: Write>(
             };
             run_threads_to_exit(host, alloc, seed, reader, writer, faults, job)
         }
-        Task::Explain {
+        ScriptTask::Explain {
             only_failures,
             has_summary,
         } => {
@@ -283,11 +283,11 @@ fn play<H: Threads + Wait + Clock + Sync, R: Read, W: Write, F: Write>(
             };
             explain_to_exit(alloc, seed, reader, writer, faults, pages, scope)
         }
-        Task::Draw(view) => {
+        ScriptTask::Draw(view) => {
             draw_to_exit(alloc, seed, reader, writer, faults, pages, drawn(view))
         }
-        Task::Check => check_to_exit(alloc, seed, reader, writer, faults, pages),
-        Task::Explore(search) => {
+        ScriptTask::Check => check_to_exit(alloc, seed, reader, writer, faults, pages),
+        ScriptTask::Explore(search) => {
             explore_to_exit(alloc, seed, reader, writer, faults, job_of(pages, search))
         }
     }
@@ -312,10 +312,10 @@ fn repeats_of(is_patient: bool) -> u64
 }
 
 // The search that is asked for, as `outcome_runs` names it.
-fn job_of(pages: Pages, search: Search) -> outcome_runs::Job
+fn job_of(pages: Pages, search: Search) -> outcome_runs::SearchJob
     ensures { result ≡ job_for pages.count search }
 {
-    outcome_runs::Job {
+    outcome_runs::SearchJob {
         pages: pages.count,
         once: search.once,
         outcome: search.outcome,

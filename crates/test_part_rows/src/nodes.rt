@@ -5,7 +5,7 @@ ghost use Rattle.node_table.specs.Table.{row_at};
 use crate::line::Line;
 use crate::runs::Runs;
 use crate::verb::Verb;
-use failure_domains::{Bound, Fall, Link, fall, walk_within};
+use failure_domains::{Fall, Link, WalkBound, fall, walk_within};
 use node_table::{NodeTable, TableFault};
 use script_lines::Part;
 use sm_names::NodeKey;
@@ -31,7 +31,7 @@ impl Link for Item {
 // A walk that leaves out all below the nodes that block.
 struct Open;
 
-impl Bound<Item> for Open {
+impl WalkBound<Item> for Open {
     ghost stops = { λ _ item. item.blocks };
 
     fn stops(&self, item: &Item) -> bool {

@@ -18,7 +18,7 @@
 mod setting;
 mod task;
 
-use outcome_runs::{Ending, Job, explore_script};
+use outcome_runs::{Ending, SearchJob, explore_script};
 use report_io::behind;
 use script_draw::{View, draw_script};
 use script_explain::{ReportFault, Scope, check_script, explain_script};
@@ -80,7 +80,7 @@ fn explore(
     out: &mut Vec<u8>,
 ) -> Result<(), ReportFault> {
     let mut reader = script;
-    let job = Job {
+    let job = SearchJob {
         pages: setting.pages.count,
         once,
         outcome,

@@ -33,7 +33,7 @@ use Rattle.history_laws.proofs.SettledLaws.{In-was_born, find_birth}
 use Rattle.history_laws.proofs.WholeLaws.{IsWhole}
 use Rattle.forest_store.specs.declared.node.End.{End}
 use Rattle.forest_store.specs.Nodes.{is_unkept}
-use Rattle.core_state.specs.declared.task.Place.{Place}
+use Rattle.core_state.specs.declared.task.EndPlace.{EndPlace}
 use Rattle.core_state.specs.Shown.{node_after, nodes_after, held_after, collection_after}
 use Rattle.core_state.specs.Steps.{end_by}
 use Rattle.core_state.proofs.nodes.Answered.{nodes-answered, answered_other, said_other, no_birth}
@@ -173,7 +173,7 @@ module _ (pool : ℕ) (limits : Bound) (marks : Timeline) (grown : Grows pool li
         ap not (home_called h.buffer (eqb-true h.buffer.collection theirs (In-filter ours (placed pool marks) h on).1)))
         ∙ filter-swap before ours (placed pool marks))
 
-    module _ (ends_here : (p : Place) → end_by client call reply ≡ Some p → key_of call ≡ Some p.key) where
+    module _ (ends_here : (p : EndPlace) → end_by client call reply ≡ Some p → key_of call ≡ Some p.key) where
       -- their nodes stay
       pub nodes_called : nodes_after (Called client reply call ∷ marks) theirs ≡ nodes_after marks theirs
       nodes_called = elim (none_or_some new) [
@@ -202,12 +202,12 @@ collects_end Call.Collect (Reply.Collected key kind collection) = true
 collects_end _ _ = false
 
 -- each other call moves no end but that of the node that it names
-pub ends_named : (client : ℕ) (call : Call) (reply : Reply) → collects_end call reply ≡ false → (p : Place) →
+pub ends_named : (client : ℕ) (call : Call) (reply : Reply) → collects_end call reply ≡ false → (p : EndPlace) →
     end_by client call reply ≡ Some p → key_of call ≡ Some p.key
-ends_named client (Call.Close key) Reply.Done other p e = ap (option_map (λ (q : Place). q.key)) e
-ends_named client (Call.Release key) Reply.Done other p e = ap (option_map (λ (q : Place). q.key)) e
-ends_named client (Call.Release key) (Reply.PeerClosed cause origin) other p e = ap (option_map (λ (q : Place). q.key)) e
-ends_named client (Call.Give key to) Reply.Done other p e = ap (option_map (λ (q : Place). q.key)) e
+ends_named client (Call.Close key) Reply.Done other p e = ap (option_map (λ (q : EndPlace). q.key)) e
+ends_named client (Call.Release key) Reply.Done other p e = ap (option_map (λ (q : EndPlace). q.key)) e
+ends_named client (Call.Release key) (Reply.PeerClosed cause origin) other p e = ap (option_map (λ (q : EndPlace). q.key)) e
+ends_named client (Call.Give key to) Reply.Done other p e = ap (option_map (λ (q : EndPlace). q.key)) e
 ends_named client Call.Collect (Reply.Collected key kind collection) other p e = cc
 ends_named client call reply other p e = cc
 
@@ -252,7 +252,7 @@ module _ (pool : ℕ) (limits : Bound) (marks : Timeline) (grown : Grows pool li
       }
 
   module _ (theirs : ℕ) (away : collection_of (Called client reply call ∷ marks) call reply ≡ Some theirs → ⊥)
-      (ends_here : (p : Place) → end_by client call reply ≡ Some p → key_of call ≡ Some p.key) where
+      (ends_here : (p : EndPlace) → end_by client call reply ≡ Some p → key_of call ≡ Some p.key) where
     -- the loss leaves them
     lost_elsewhere : (o : Option Mark) → own_loss marks call reply ≡ o →
         collection_after pool (cons_option o (Called client reply call ∷ marks)) theirs ≡ collection_after pool marks theirs

@@ -19,7 +19,7 @@ use Rattle.sm_names.proofs.SamenessLaws.{and_left, and_right, either_way, or_rig
 use Rattle.forest_store.specs.declared.node.Node.{Node}
 use Rattle.forest_store.specs.Forest.{Collection, Forest, with_nodes, is_left}
 use Rattle.forest_store.specs.Nodes.{is_unkept}
-use Rattle.core_state.specs.declared.task.Place.{Place}
+use Rattle.core_state.specs.declared.task.EndPlace.{EndPlace}
 use Rattle.core_state.specs.Shown.{node_after, nodes_after, held_after, collection_after, kept_ids}
 use Rattle.core_state.specs.Steps.{place_of, with_place, without_unkept}
 use Rattle.core_state.proofs.ends.NotRead.{placed_node, placed_in}
@@ -33,7 +33,7 @@ use Rattle.core_state.proofs.collections.Replacing.{filter-map_asked, map-asked,
 -- ---- an end elsewhere
 
 -- the collections with that end there
-pub placed_collections : (o : Option Place) (f : Forest) → (with_place o f).collections ≡ map (placed_in (place_of o)) f.collections
+pub placed_collections : (o : Option EndPlace) (f : Forest) → (with_place o f).collections ≡ map (placed_in (place_of o)) f.collections
 placed_collections None f =
     sym (map-stays (placed_in (place_of None)) f.collections (λ c on i.
     record c { nodes = map-stays (placed_node (place_of None)) c.nodes (λ n there. refl) i }))
@@ -42,11 +42,12 @@ placed_collections (Some place) f = refl
 -- ---- what is left
 
 -- the collection with that end there and without the nodes that are over
-abbrev pub finished : Option Place → Collection → Collection
+abbrev pub finished : Option EndPlace → Collection → Collection
 finished o c = with_nodes (filter (λ n. not (is_unkept n))) (placed_in (place_of o) c)
 
 -- among collections by their ids, those that are left
-pub finished_ids : (o : Option Place) (f : Forest) (w : ℕ → Collection) (k : ℕ → Bool) (ds : List ℕ) → f.collections ≡ map w (filter k ds) →
+pub finished_ids : (o : Option EndPlace) (f : Forest) (w : ℕ → Collection) (k : ℕ → Bool) (ds : List ℕ) →
+    f.collections ≡ map w (filter k ds) →
     without_unkept (with_place o f).collections ≡ map (λ d. finished o (w d)) (filter (λ d. k d && not (is_left (finished o (w d)))) ds)
 finished_ids o f w k ds is =
     let over : Collection → Collection = with_nodes (filter (λ n. not (is_unkept n))) in
@@ -56,12 +57,13 @@ finished_ids o f w k ds is =
     ap (filter (λ c. not (is_left c))) made ∙ filter-map_asked (λ c. not (is_left c)) (λ d. finished o (w d)) k ds
 
 -- a collection that is there comes to what the marks make of it, and one that is not there is not kept
-abbrev pub ComesTo : ℕ → Option Place → (ℕ → Collection) → (ℕ → Bool) → Timeline → ℕ → Type 0
+abbrev pub ComesTo : ℕ → Option EndPlace → (ℕ → Collection) → (ℕ → Bool) → Timeline → ℕ → Type 0
 ComesTo pool o w k marks d =
     ((k d ≡ true) × (finished o (w d) ≡ collection_after pool marks d)) ⊎ ((k d ≡ false) × (is_kept_collection marks d ≡ false))
 
 -- then what is left is what the marks keep
-pub finished_kept : (pool : ℕ) (limits : Bound) (marks : Timeline) → Grows pool limits [] marks → (o : Option Place) (f : Forest) (w : ℕ →
+pub finished_kept : (pool : ℕ) (limits : Bound) (marks : Timeline) → Grows pool limits [] marks →
+    (o : Option EndPlace) (f : Forest) (w : ℕ →
     Collection) (k : ℕ → Bool) →
     f.collections ≡ map w (filter k (ids (births marks))) → ((d : ℕ) → In d (ids (births marks)) → ComesTo pool o w k marks d) →
     without_unkept (with_place o f).collections ≡ map (collection_after pool marks) (kept_ids marks)
@@ -90,7 +92,7 @@ no_length [] h = refl
 no_length (x ∷ xs) h = absurd (let is : length (x ∷ xs) ≡ 0 = eqb-true (length (x ∷ xs)) 0 h in omega (arith, is))
 
 -- nothing comes back
-pub left_finished : (o : Option Place) (c : Collection) → is_left c ≡ true → is_left (finished o c) ≡ true
+pub left_finished : (o : Option EndPlace) (c : Collection) → is_left c ≡ true → is_left (finished o c) ≡ true
 left_finished o c h =
     let none : c.nodes ≡ [] = no_length c.nodes (and_left (length c.nodes == 0) _ h) in
     let pages : (length c.held == 0) ≡ true = and_right (length c.nodes == 0) _ h in
@@ -127,7 +129,7 @@ unkept_stays pool limits marks _ (Ends before collection top g e) node over =
 
 -- where the collection with that end there follows later marks, and holds what they hold, it comes to what they make of it
 pub finished_is : (pool : ℕ) (limits : Bound) (marks later : Timeline) → Grows pool limits marks later →
-    (others : List Interval) (o : Option Place) (c : Collection) →
+    (others : List Interval) (o : Option EndPlace) (c : Collection) →
     Matches pool (is_kept marks) later others (placed_in (place_of o) c) → c.held ≡ held_after pool later c.id →
     finished o c ≡ collection_after pool later c.id
 finished_is pool limits marks later g others o c m held = λ i. record {

@@ -12,7 +12,7 @@ use Rattle.forest_store.specs.declared.node.End.{End}
 use Rattle.forest_store.specs.declared.node.Node.{Node}
 use Rattle.forest_store.specs.Forest.{Collection, Forest, SameKeys, all_held, node_at, with_nodes}
 use Rattle.forest_store.specs.Nodes.{is_unkept, is_spent, with_end}
-use Rattle.core_state.specs.declared.task.Place.{Place}
+use Rattle.core_state.specs.declared.task.EndPlace.{EndPlace}
 use Rattle.core_state.specs.Steps.{with_place, without_unkept}
 use Rattle.core_state.specs.Whole.{CanCarry, IsSound, IsTidy}
 use Rattle.core_state.proofs.collections.ById.{all_tidy}
@@ -75,7 +75,7 @@ pub record Carries (f g : Forest) : Type 0 where
   pub same : SameKeys f g
 
 -- the move of an end keeps the forest sound and tidy, and its held buffers, its keys and its ids
-pub carries : (f : Forest) (carried : Option Place) → IsSound f → CanCarry f carried → Carries f (with_place carried f)
+pub carries : (f : Forest) (carried : Option EndPlace) → IsSound f → CanCarry f carried → Carries f (with_place carried f)
 carries f None sound can = record {
   tidy = sym (all_tidy f.collections sound.tidy);
   held = refl;

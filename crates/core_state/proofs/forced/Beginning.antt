@@ -27,7 +27,7 @@ use Rattle.forest_store.specs.declared.node.Node.{Node}
 use Rattle.forest_store.specs.Forest.{Collection, beside, node_at, with_nodes}
 use Rattle.forest_store.specs.Nodes.{affected, after_effect, after_loss, node_of, new_root, new_child}
 use Rattle.forest_store.specs.Settling.{changed, collection_or_new, no_key}
-use Rattle.core_state.specs.declared.task.Place.{Place}
+use Rattle.core_state.specs.declared.task.EndPlace.{EndPlace}
 use Rattle.core_state.specs.Shown.{IsAfter, node_after, collection_after}
 use Rattle.core_state.specs.State.{State}
 use Rattle.core_state.specs.Steps.{Work, at_node, end_by, place_of}
@@ -46,7 +46,7 @@ use Rattle.core_state.proofs.forced.ForcedStep.{loss_matches}
 use Rattle.core_state.proofs.forced.Work.{Starts}
 
 -- where no end is put elsewhere, all nodes stay
-none_moved : (o : Option Place) → o ≡ None → (ns : List Node) → map (placed_node (place_of o)) ns ≡ ns
+none_moved : (o : Option EndPlace) → o ≡ None → (ns : List Node) → map (placed_node (place_of o)) ns ≡ ns
 none_moved None e ns = map-stays (placed_node (place_of None)) ns (λ n on. refl)
 none_moved (Some place) e ns = cc
 

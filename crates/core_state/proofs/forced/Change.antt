@@ -7,13 +7,13 @@ use Rattle.forest_store.specs.declared.change.Change.{Change}
 use Rattle.forest_store.specs.declared.node.Node.{Node}
 use Rattle.forest_store.specs.Forest.{Forest, node_at}
 use Rattle.forest_store.specs.Settling.{Handles, Settled}
-use Rattle.core_state.specs.declared.task.Task.{Task}
+use Rattle.core_state.specs.declared.task.EventTask.{EventTask}
 use Rattle.core_state.specs.Tasks.{MayDo, Reworked, work_in}
 use Rattle.core_state.specs.Whole.{CanFinish, IsAmid, IsSound}
 use Rattle.core_state.proofs.forced.Forest.{IsThere, amid_same, amid_settled, key_is_there, node_with_key}
 
 -- the end that the task spends is of a node of its collection
-pub may_spend : (f : Forest) (t : Task) → IsSound f → MayDo f t → IsThere f t.collection t.spends
+pub may_spend : (f : Forest) (t : EventTask) → IsSound f → MayDo f t → IsThere f t.collection t.spends
 may_spend f t sound may key is =
     let at : option_map (λ (n : Node). n.collection) (node_at f key) ≡ Some t.collection =
     subst (λ (o : Option NodeKey). IfSome o (λ k. option_map (λ (n : Node). n.collection) (node_at f k) ≡ Some t.collection)) is
@@ -23,7 +23,7 @@ may_spend f t sound may key is =
     (c.0, n.0, c.1, c.2, c.3, sym (sound.fit c.0 c.1 n.0 c.2).collection ∙ n.2)
 
 -- the forest once the change is made, and all that it forces
-pub amid_worked : (pool : ℕ) (handles : Handles) (f worked : Forest) (t : Task) (key : Option NodeKey) → IsSound f → MayDo f t →
+pub amid_worked : (pool : ℕ) (handles : Handles) (f worked : Forest) (t : EventTask) (key : Option NodeKey) → IsSound f → MayDo f t →
     Reworked pool handles f (work_in (Some t)) key worked →
     IsAmid worked t.collection t.spends
 amid_worked pool handles f worked t key sound may work = by t.change refl
@@ -56,7 +56,7 @@ ends_are_there f id None amid = tt
 ends_are_there f id (Some key) amid = end_is_there f id (Some key) key amid refl
 
 -- the event can be finished
-pub can_finish : (pool : ℕ) (handles : Handles) (f worked : Forest) (task : Option Task) (key : Option NodeKey) → IsSound f →
+pub can_finish : (pool : ℕ) (handles : Handles) (f worked : Forest) (task : Option EventTask) (key : Option NodeKey) → IsSound f →
     IfSome task (MayDo f) →
     Reworked pool handles f (work_in task) key worked → CanFinish worked task
 can_finish pool handles f worked None key sound may work = subst IsSound (sym work.0) sound

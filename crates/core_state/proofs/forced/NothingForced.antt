@@ -24,7 +24,7 @@ use Rattle.history_laws.proofs.LifeLaws.{whole}
 use Rattle.sm_names.proofs.SamenessLaws.{either_way}
 use Rattle.forest_store.specs.Forest.{Collection, beside, is_left}
 use Rattle.forest_store.specs.Settling.{Handles, buffer_names, standing}
-use Rattle.core_state.specs.declared.task.Place.{Place}
+use Rattle.core_state.specs.declared.task.EndPlace.{EndPlace}
 use Rattle.core_state.specs.Shown.{IsAfter, held_after, collection_after, kept_ids}
 use Rattle.core_state.specs.State.{State}
 use Rattle.core_state.specs.Steps.{end_by, place_of, with_place, without_unkept}
@@ -61,7 +61,7 @@ module _ (s : State) (marks : Timeline) (shown : IsAfter s marks) (limits : Boun
   called = Called client reply call ∷ marks
 
   -- the end that is put elsewhere
-  abbrev moved : Option Place
+  abbrev moved : Option EndPlace
   moved = end_by client call reply
 
   -- they grow

@@ -22,7 +22,7 @@ use Rattle.forest_store.specs.Dropped.{are_others_out}
 use Rattle.forest_store.specs.Forest.{Collection, Forest, collection_at}
 use Rattle.forest_store.specs.Nodes.{members_of}
 use Rattle.forest_store.specs.Settling.{MayChange, fits, is_home_in}
-use Rattle.core_state.specs.declared.task.Task.{Task}
+use Rattle.core_state.specs.declared.task.EventTask.{EventTask}
 use Rattle.core_state.specs.Hands.{MovesHandles}
 use Rattle.core_state.specs.State.{State}
 use Rattle.core_state.specs.Steps.{Work, work_of}
@@ -57,22 +57,24 @@ asked_by s client buffer strength (Reply.Tracker id) = tt
 asked_by s client buffer strength _ = tt
 
 -- the task of a dropped handle has no change or the empty one, in the collection of the buffer
-pub asks_only : (s : State) (client : ℕ) (call : Call) (asked : Reply) (task : Option Task) → work_in task ≡ work_of s client call asked →
+pub asks_only : (s : State) (client : ℕ) (call : Call) (asked : Reply) (task : Option EventTask) →
+    work_in task ≡ work_of s client call asked →
     AsksOnly call task
 asks_only s client (Call.DropHandle buffer strength) asked task work =
     by task (subst (λ (o : Option Work). IfSome o (λ (w : Work). (w.change ≡ Change.Nothing) × (w.collection ≡ buffer.collection)))
     (sym work) (asked_by s client buffer strength asked))
   where
     -- by cases: without a change there is nothing to say
-    at : (t : Task) (o : Option Change) →
+    at : (t : EventTask) (o : Option Change) →
         IfSome (option_map (λ x. record { collection = t.collection; change = x }) o) (λ (w : Work). (w.change ≡ Change.Nothing)
         × (w.collection ≡ buffer.collection)) → IfSome o (λ change. (change ≡ Change.Nothing) × (t.collection ≡ buffer.collection))
     at t None is = tt
     at t (Some change) is = is
 
     -- by cases: without a task there is nothing to say
-    by : (task : Option Task) → IfSome (work_in task) (λ (w : Work). (w.change ≡ Change.Nothing) × (w.collection ≡ buffer.collection)) →
-        IfSome task (λ (t : Task). IfSome t.change (λ change. (change ≡ Change.Nothing) × (t.collection ≡ buffer.collection)))
+    by : (task : Option EventTask) → IfSome (work_in task) (λ (w : Work). (w.change ≡ Change.Nothing)
+        × (w.collection ≡ buffer.collection)) →
+        IfSome task (λ (t : EventTask). IfSome t.change (λ change. (change ≡ Change.Nothing) × (t.collection ≡ buffer.collection)))
     by None is = tt
     by (Some t) is = at t t.change is
 asks_only s client _ asked task work = tt
@@ -84,7 +86,7 @@ all_of test (h ∷ hs) each =
     and_both (test h) (list_all test hs) (each h (inl refl)) (all_of test hs (λ x on. each x (inr on)))
 
 -- and no other buffer of its collection is home
-pub others_stay : (old new : Counts) (f : Forest) (client : ℕ) (call : Call) (asked : Reply) (task : Option Task) →
+pub others_stay : (old new : Counts) (f : Forest) (client : ℕ) (call : Call) (asked : Reply) (task : Option EventTask) →
     NoBufferHome (total old) f → MovesHandles old new (Called client asked call) → IfSome task (MayDo f) → AsksOnly call task →
     OthersStay (total new) f call task
 others_stay old new f client (Call.DropHandle buffer strength) asked task out moves may asks = by task may asks
@@ -138,7 +140,7 @@ others_stay old new f client (Call.DropHandle buffer strength) asked task out mo
     found (Some c) is there = others c (In-find (λ (x : Collection). x.id == buffer.collection) f.collections c is).0
 
     -- by cases: a change is in the collection of the buffer, which is there
-    at : (t : Task) (o : Option Change) → IfSome o (MayChange f t.collection) →
+    at : (t : EventTask) (o : Option Change) → IfSome o (MayChange f t.collection) →
         IfSome o (λ change. (change ≡ Change.Nothing) × (t.collection ≡ buffer.collection)) → is_some o ≡ true →
         option_map_or (are_others_out (total new) buffer) (collection_at f buffer.collection) false ≡ true
     at t None may asks there = cc
@@ -148,7 +150,7 @@ others_stay old new f client (Call.DropHandle buffer strength) asked task out mo
         found (collection_at f buffer.collection) refl (ap (λ (id : ℕ). is_some (collection_at f id)) (sym asks.1) ∙ here)
 
     -- by cases: without a task there is nothing to say
-    by : (task : Option Task) → IfSome task (MayDo f) → AsksOnly (Call.DropHandle buffer strength) task →
+    by : (task : Option EventTask) → IfSome task (MayDo f) → AsksOnly (Call.DropHandle buffer strength) task →
         OthersStay (total new) f (Call.DropHandle buffer strength) task
     by None may asks = tt
     by (Some t) may asks = at t t.change may.change asks

@@ -27,7 +27,7 @@ use Rattle.forest_store.specs.declared.node.Node.{Node}
 use Rattle.forest_store.specs.Forest.{Collection, Forest, beside, is_left}
 use Rattle.forest_store.specs.Nodes.{is_unkept}
 use Rattle.forest_store.specs.Settling.{Handles, Settled, Settles, changed, collection_or_new, given_back, no_key, put}
-use Rattle.core_state.specs.declared.task.Place.{Place}
+use Rattle.core_state.specs.declared.task.EndPlace.{EndPlace}
 use Rattle.core_state.specs.Shown.{IsAfter, node_after, nodes_after, held_after, collection_after, kept_ids}
 use Rattle.core_state.specs.State.{State}
 use Rattle.core_state.specs.Steps.{Work, end_by, place_of, with_place, without_unkept}
@@ -99,11 +99,11 @@ module _ (s : State) (marks : Timeline) (shown : IsAfter s marks) (limits : Boun
     out = given_back handles settled_so.after
 
     -- the end that is put elsewhere
-    abbrev moved : Option Place
+    abbrev moved : Option EndPlace
     moved = end_by client call reply
 
     -- an end that is put elsewhere is that of the node that the call names
-    ends_here : (place : Place) → end_by client call reply ≡ Some place → key_of call ≡ Some place.key
+    ends_here : (place : EndPlace) → end_by client call reply ≡ Some place → key_of call ≡ Some place.key
     ends_here = ends_named client call reply (collects_none called call reply work.collection starts.of)
 
     -- the handles are open still after the loss
@@ -191,7 +191,7 @@ module _ (s : State) (marks : Timeline) (shown : IsAfter s marks) (limits : Boun
             let t = birth_of_collection marks d m.0 m.1 in
             (m.0, t.0, eqb-true m.0.collection d t.1, ap (λ (x : Node). x.key) m.2)
 
-        stays_at : (o : Option Place) → (n : Node) → ((place : Place) → o ≡ Some place → same_key place.key n.key ≡ false) →
+        stays_at : (o : Option EndPlace) → (n : Node) → ((place : EndPlace) → o ≡ Some place → same_key place.key n.key ≡ false) →
             placed_node (place_of o) n ≡ n
         stays_at None n other = refl
         stays_at (Some place) n other = let e : same_key place.key n.key ≡ false = other place refl in rw e refl

@@ -4,14 +4,14 @@ use Rattle.std.proofs.Common.{◌≡◌, ◌||◌, refl, ap, ◌∙◌, ℕ, Boo
 use Rattle.sm_names.specs.declared.messages.Call.{Call}
 use Rattle.sm_names.specs.declared.messages.Reply.{Reply}
 use Rattle.trackers.specs.declared.waiting.Waiting.{Waiting}
-use Rattle.core_state.specs.declared.task.Task.{Task}
+use Rattle.core_state.specs.declared.task.EventTask.{EventTask}
 use Rattle.core_state.specs.Hands.{collects_handle, takes_handle_room}
 use Rattle.core_state.specs.Kinds.{takes_no_memory}
 use Rattle.core_state.specs.State.{State}
 use Rattle.core_state.specs.Steps.{tracker_by, work_of}
 use Rattle.core_state.specs.Tasks.{may_take_memory, takes_room, work_in}
 
-module _ (call : Call) (asked : Reply) {task : Option Task} {tracking : Option Waiting}
+module _ (call : Call) (asked : Reply) {task : Option EventTask} {tracking : Option Waiting}
     (lands : collects_handle call asked ≡ true → (task ≡ None) × (tracking ≡ None)) where
   -- an event that makes a tracker collects no handle
   pub stands_tracked : is_some tracking ≡ true → collects_handle call asked ≡ false
@@ -46,7 +46,7 @@ or_right false is = is
 or_left : {a : Bool} (b : Bool) → a ≡ true → (a || b) ≡ true
 or_left b is = ap (λ a. a || b) is
 
-module _ (call : Call) (asked : Reply) (task : Option Task) (tracking : Option Waiting) where
+module _ (call : Call) (asked : Reply) (task : Option EventTask) (tracking : Option Waiting) where
   -- each of the four may take memory
   pub may_by_handles : takes_handle_room call asked ≡ true → may_take_memory call asked task tracking ≡ true
   may_by_handles is = or_left _ is
@@ -89,14 +89,14 @@ collect_is_quiet s client (Reply.Tracker id) = record { hands = refl; tracks = r
 collect_is_quiet s client _ = record { hands = refl; tracks = refl; work = refl; room = refl }
 
 -- a quiet event takes no memory, since none of the four reasons to take some applies
-quiet_takes_none : (s : State) (client : ℕ) (call : Call) (asked : Reply) (task : Option Task) (tracking : Option Waiting) →
+quiet_takes_none : (s : State) (client : ℕ) (call : Call) (asked : Reply) (task : Option EventTask) (tracking : Option Waiting) →
     IsQuiet s client call asked → work_in task ≡ work_of s client call asked → tracking ≡ tracker_by s.forest call asked →
     may_take_memory call asked task tracking ≡ false
 quiet_takes_none s client call asked task tracking quiet work tracks =
     rw (quiet.hands, tracks ∙ quiet.tracks, work ∙ quiet.work, quiet.room) refl
 
 -- they take no memory
-pub takes_none : (s : State) (client : ℕ) (call : Call) (asked : Reply) (task : Option Task) (tracking : Option Waiting) →
+pub takes_none : (s : State) (client : ℕ) (call : Call) (asked : Reply) (task : Option EventTask) (tracking : Option Waiting) →
     takes_no_memory call ≡ true → work_in task ≡ work_of s client call asked → tracking ≡ tracker_by s.forest call asked →
     may_take_memory call asked task tracking ≡ false
 takes_none s client Call.Shut asked task tracking none work tracks =

@@ -15,7 +15,7 @@ use Rattle.history_laws.proofs.GrowthLaws.{Grows}
 use Rattle.forest_store.specs.declared.change.Effect.{Effect}
 use Rattle.forest_store.specs.declared.node.Node.{Node}
 use Rattle.forest_store.proofs.changes.Effecting.{alone_affected}
-use Rattle.core_state.specs.declared.task.Place.{Place}
+use Rattle.core_state.specs.declared.task.EndPlace.{EndPlace}
 use Rattle.core_state.specs.Shown.{node_after, nodes_after}
 use Rattle.core_state.specs.Steps.{end_by, place_of}
 use Rattle.core_state.proofs.nodes.Called.{answered, said, node_called}
@@ -49,7 +49,7 @@ said_other (Reply.Tracker id) call n other = refl
 said_other reply call n other = refl
 
 -- nor is its end moved, where none is or that of another
-pub placed_other : (o : Option Place) (n : Node) → ((p : Place) → o ≡ Some p → same_key p.key n.key ≡ false) →
+pub placed_other : (o : Option EndPlace) (n : Node) → ((p : EndPlace) → o ≡ Some p → same_key p.key n.key ≡ false) →
     placed_node (place_of o) n ≡ n
 placed_other None n other = refl
 placed_other (Some p) n other = let e : same_key p.key n.key ≡ false = other p refl in rw e refl
@@ -57,7 +57,7 @@ placed_other (Some p) n other = let e : same_key p.key n.key ≡ false = other p
 -- so the node stays as it was
 pub answered_other : (client : ℕ) (call : Call) (reply : Reply) (n : Node) → ((key : NodeKey) → key_of call ≡ Some key →
     same_key key n.key ≡ false) →
-    ((p : Place) → end_by client call reply ≡ Some p → same_key p.key n.key ≡ false) → answered client call reply n ≡ n
+    ((p : EndPlace) → end_by client call reply ≡ Some p → same_key p.key n.key ≡ false) → answered client call reply n ≡ n
 answered_other client call reply n other apart =
     ap (placed_node (place_of (end_by client call reply))) (said_other reply call n other) ∙ placed_other (end_by client call reply) n apart
 

@@ -26,7 +26,7 @@ use Rattle.forest_store.specs.declared.node.End.{End}
 use Rattle.forest_store.specs.declared.node.Node.{Node}
 use Rattle.forest_store.specs.Effects.{effect_of}
 use Rattle.forest_store.specs.Nodes.{affected}
-use Rattle.core_state.specs.declared.task.Place.{Place}
+use Rattle.core_state.specs.declared.task.EndPlace.{EndPlace}
 use Rattle.core_state.specs.Shown.{node_after, end_after}
 use Rattle.core_state.specs.Steps.{end_by, place_of}
 use Rattle.core_state.proofs.ends.NotRead.{placed_node}
@@ -192,7 +192,7 @@ module _ (pool : ℕ) (limits : Bound) (marks : Timeline) (grown : Grows pool li
   end_called (Reply.Token key collection) (Call.AttachToken above) answer none = cc
   end_called reply call answer none =
       ap (λ (t : Bool). end_so (spent marks node) t (holder marks node)) (goes reply call answer ∙ and-true (in_transit marks node))
-      ∙ ap (λ (o : Option Place). place_of o node (end_after marks node)) (sym (unplaced client call reply refl))
+      ∙ ap (λ (o : Option EndPlace). place_of o node (end_after marks node)) (sym (unplaced client call reply refl))
 
 module _ (pool : ℕ) (limits : Bound) (marks : Timeline) (grown : Grows pool limits [] marks) (client : ℕ) (reply : Reply) (call : Call)
     (answer : IsAnswer limits (readings marks) client call reply) where

@@ -13,7 +13,7 @@ use Rattle.sm_names.proofs.SamenessLaws.{both_ways}
 use Rattle.forest_store.specs.declared.change.Change.{Change}
 use Rattle.forest_store.specs.Forest.{Forest, given}
 use Rattle.forest_store.specs.Settling.{Handles, MayChange, no_key}
-use Rattle.core_state.specs.declared.task.Task.{Task}
+use Rattle.core_state.specs.declared.task.EventTask.{EventTask}
 use Rattle.core_state.specs.Reads.{readings_of}
 use Rattle.core_state.specs.State.{Client, HandleCounts, State}
 use Rattle.core_state.specs.Steps.{Work, Worked, clients_by, end_by, handles_by, tracker_by, work_of}
@@ -24,7 +24,7 @@ use Rattle.core_state.proofs.answers.Kinds.{reply-fits, token-made}
 -- ---- the task
 
 -- the task may be done
-pub may_do : (limits : Bound) (s : State) (client : ℕ) (call : Call) (asked : Reply) (task : Option Task) →
+pub may_do : (limits : Bound) (s : State) (client : ℕ) (call : Call) (asked : Reply) (task : Option EventTask) →
     Known limits s client call asked →
     work_in task ≡ work_of s client call asked → IfSome task (SpendsThere s.forest) → IfSome task (MayDo s.forest)
 may_do limits s client call asked None known work there = tt
@@ -124,7 +124,7 @@ untold limits s client call (Reply.Token key c) known none = absurd (no_token li
 untold limits s client call _ known none = refl
 
 -- the key is as the answer wants it
-pub is_keyed : (limits : Bound) (handles : Handles) (s : State) (client : ℕ) (call : Call) (asked : Reply) (task : Option Task)
+pub is_keyed : (limits : Bound) (handles : Handles) (s : State) (client : ℕ) (call : Call) (asked : Reply) (task : Option EventTask)
     (key : Option NodeKey) (worked : Forest) → Known limits s client call asked →
     work_in task ≡ work_of s client call asked → Reworked s.pool handles s.forest (work_in task) key worked → IsKeyed s asked key
 is_keyed limits handles s client call asked task key worked known work done = by (work_in task) refl done
@@ -169,7 +169,7 @@ same_work s client _ (Reply.Token first c) (Some key) = refl
 same_work s client call _ key = refl
 
 -- the work is done
-pub worked_is : (handles : Handles) (s : State) (client : ℕ) (call : Call) (asked : Reply) (task : Option Task) (key : Option NodeKey)
+pub worked_is : (handles : Handles) (s : State) (client : ℕ) (call : Call) (asked : Reply) (task : Option EventTask) (key : Option NodeKey)
     (worked : Forest) →
     work_in task ≡ work_of s client call asked → IsKeyed s asked key → Reworked s.pool handles s.forest (work_in task) key worked →
     Worked s handles (work_of s client call (with_key asked key)) (new_key (with_key asked key)) worked

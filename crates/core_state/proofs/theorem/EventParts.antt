@@ -20,8 +20,8 @@ use Rattle.forest_store.specs.declared.node.Node.{Node}
 use Rattle.forest_store.specs.Forest.{Forest, SameKeys, node_at}
 use Rattle.forest_store.specs.Nodes.{is_spent}
 use Rattle.forest_store.specs.Settling.{no_key}
-use Rattle.core_state.specs.declared.task.Place.{Place}
-use Rattle.core_state.specs.declared.task.Task.{Task}
+use Rattle.core_state.specs.declared.task.EndPlace.{EndPlace}
+use Rattle.core_state.specs.declared.task.EventTask.{EventTask}
 use Rattle.core_state.specs.Hands.{collects_handle}
 use Rattle.core_state.specs.Reads.{open_end_of, readings_of, world_in}
 use Rattle.core_state.specs.State.{State, counts_of}
@@ -39,7 +39,7 @@ use Rattle.core_state.proofs.forced.Whole.{Known, Named, end_at, named}
 -- ---- no task
 
 -- a task that does nothing is none
-pub no_task : (task : Option Task) → IfSome task DoesSome → work_in task ≡ None → spent_in task ≡ None → task ≡ None
+pub no_task : (task : Option EventTask) → IfSome task DoesSome → work_in task ≡ None → spent_in task ≡ None → task ≡ None
 no_task None some work spends = refl
 no_task (Some t) some work spends = by t.change t.spends some work spends
   where
@@ -70,7 +70,7 @@ landing_idle s client Call.Collect (Reply.CollectedHandle buffer strength) lands
 landing_idle s client _ _ lands = absurd (false≢true lands)
 
 -- nor is there a task where an end is carried
-carried_idle : (s : State) (client : ℕ) (call : Call) (asked : Reply) (place : Place) → carried_by client call asked ≡ Some place →
+carried_idle : (s : State) (client : ℕ) (call : Call) (asked : Reply) (place : EndPlace) → carried_by client call asked ≡ Some place →
     HasNoTask s client call asked
 carried_idle s client (Call.Give key to) Reply.Done place is = record { work = refl; spends = refl }
 carried_idle s client Call.Collect (Reply.Collected key kind collection) place is = record { work = refl; spends = refl }
@@ -96,18 +96,18 @@ collected_end s key e is =
     (found.0, found.1, (end_at s found.0 e found.2).0)
 
 -- the end that an answered call carries is there
-carried_there : (s : State) (client : ℕ) (call : Call) (asked : Reply) (place : Place) → Known s.limits s client call asked →
+carried_there : (s : State) (client : ℕ) (call : Call) (asked : Reply) (place : EndPlace) → Known s.limits s client call asked →
     carried_by client call asked ≡ Some place →
     ((n : Node) × (node_at s.forest place.key ≡ Some n) × (is_spent n.end ≡ false)) × (is_spent place.end ≡ false)
 carried_there s client (Call.Give key to) Reply.Done place known is =
     let named_so : Named s (Call.Give key to) Reply.Done key =
     named s.limits s client no_key (Call.Give key to) Reply.Done key known.told refl refl in
     let same : record { key = key; end = End.InTransit client } ≡ place = cc in
-    subst (λ (p : Place). ((n : Node) × (node_at s.forest p.key ≡ Some n) × (is_spent n.end ≡ false)) × (is_spent p.end ≡ false)) same
+    subst (λ (p : EndPlace). ((n : Node) × (node_at s.forest p.key ≡ Some n) × (is_spent n.end ≡ false)) × (is_spent p.end ≡ false)) same
     ((named_so.node, named_so.at, named_so.unspent), refl)
 carried_there s client Call.Collect (Reply.Collected key kind collection) place known is =
     let same : record { key = key; end = End.Held client } ≡ place = cc in
-    subst (λ (p : Place). ((n : Node) × (node_at s.forest p.key ≡ Some n) × (is_spent n.end ≡ false)) × (is_spent p.end ≡ false)) same (
+    subst (λ (p : EndPlace). ((n : Node) × (node_at s.forest p.key ≡ Some n) × (is_spent n.end ≡ false)) × (is_spent p.end ≡ false)) same (
       by ((readings_of s).waiting client)
           (took_effect_all s.limits (readings_of s) client no_key Call.Collect (Reply.Collected key kind collection) refl refl
           known.told).answered,
@@ -132,7 +132,8 @@ carried_there s client _ _ place known is = absurd (false≢true (ap is_some is)
 -- ---- the event
 
 -- what is known where the call was answered, and its task and its tracker were read
-pub record Begins (s : State) (client : ℕ) (call : Call) (asked : Reply) (task : Option Task) (tracking : Option Waiting) : Type 0 where
+pub record Begins (s : State) (client : ℕ) (call : Call) (asked : Reply) (task : Option EventTask)
+    (tracking : Option Waiting) : Type 0 where
   pub known : Known s.limits s client call asked
   pub work : work_in task ≡ work_of s client call asked
   pub spends : spent_in task ≡ spent_by call asked
@@ -141,7 +142,7 @@ pub record Begins (s : State) (client : ℕ) (call : Call) (asked : Reply) (task
   pub tracks : tracking ≡ tracker_by s.forest call asked
 
 -- a core tells it of itself
-pub begins : (s now : State) (client : ℕ) (call : Call) (asked : Reply) (task : Option Task)
+pub begins : (s now : State) (client : ℕ) (call : Call) (asked : Reply) (task : Option EventTask)
     (tracking : Option Waiting) → s ≡ now →
     IsKnown s.limits s →
     asked ≡ answer now.limits (readings_of now) client no_key call →
@@ -165,7 +166,7 @@ begins s now client call asked task tracking same whole told work spends there s
       tracks = subst (λ (x : State). tracking ≡ tracker_by x.forest call asked) (sym same) tracks;
     }
 
-module _ (s : State) (client : ℕ) (call : Call) (asked reply : Reply) (task : Option Task) (tracking : Option Waiting)
+module _ (s : State) (client : ℕ) (call : Call) (asked reply : Reply) (task : Option EventTask) (tracking : Option Waiting)
     (b : Begins s client call asked task tracking) where
   -- there is no task, if there is none for the call
   idle : HasNoTask s client call asked → task ≡ None
@@ -198,13 +199,13 @@ module _ (s : State) (client : ℕ) (call : Call) (asked reply : Reply) (task : 
     pub finishes : CanFinish parts.forest task
     finishes = can_finish s.pool (total parts.holds) s.forest parts.forest task takes.key b.known.whole.sound b.may takes.work
 
-    module _ (carried : Option Place) (carries : carried ≡ carried_by client call asked) where
+    module _ (carried : Option EndPlace) (carries : carried ≡ carried_by client call asked) where
       -- with a task, nothing is carried
       pub one : is_some task ≡ true → carried ≡ None
       one there = by carried refl
         where
           -- an event that carries an end has no task, so the task excludes a carried end
-          by : (o : Option Place) → carried ≡ o → carried ≡ None
+          by : (o : Option EndPlace) → carried ≡ o → carried ≡ None
           by None is = is
           by (Some c) is =
               let none : task ≡ None = idle (carried_idle s client call asked c (sym carries ∙ is)) in
@@ -215,14 +216,14 @@ module _ (s : State) (client : ℕ) (call : Call) (asked reply : Reply) (task : 
       pub can_carry : CanCarry parts.forest carried
       can_carry = by carried refl
         where
-          by : (o : Option Place) → carried ≡ o → CanCarry parts.forest o
+          by : (o : Option EndPlace) → carried ≡ o → CanCarry parts.forest o
           by None is = tt
           by (Some c) is =
               let carries_it : carried_by client call asked ≡ Some c = sym carries ∙ is in
               let there = carried_there s client call asked c b.known carries_it in
               let none : task ≡ None = idle (carried_idle s client call asked c carries_it) in
               let same : parts.forest ≡ s.forest =
-              (subst (λ (o : Option Task). Reworked s.pool (total parts.holds) s.forest (work_in o) takes.key parts.forest) none
+              (subst (λ (o : Option EventTask). Reworked s.pool (total parts.holds) s.forest (work_in o) takes.key parts.forest) none
               takes.work).0 in
               (there.0.0, rw same there.0.1, there.0.2, there.1)
 
@@ -259,7 +260,7 @@ module _ (s : State) (client : ℕ) (call : Call) (asked reply : Reply) (task : 
               ∙ sym (same_handles client call asked takes.key (counts_of s.holds));
           worked = parts.forest;
           work = worked_is (total parts.holds) s client call asked task takes.key parts.forest b.work made takes.work;
-          collections = collections ∙ ap (λ (o : Option Place). without_unkept (with_place o parts.forest).collections) placed_is;
+          collections = collections ∙ ap (λ (o : Option EndPlace). without_unkept (with_place o parts.forest).collections) placed_is;
           keys = keys;
           attached = parts.trackers;
           gains = subst (λ (o : Option Waiting). GainsTracker s.trackers o parts.trackers) (b.tracks

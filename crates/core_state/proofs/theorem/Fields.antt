@@ -9,7 +9,7 @@ use Rattle.buffer_holds.specs.Counts.{total}
 use Rattle.buffer_pool.specs.Holdings.{Holdings}
 use Rattle.trackers.specs.declared.waiting.Waiting.{Waiting}
 use Rattle.trackers.specs.Table.{Cell, is_due}
-use Rattle.core_state.specs.declared.task.Task.{Task}
+use Rattle.core_state.specs.declared.task.EventTask.{EventTask}
 use Rattle.core_state.specs.Hands.{MayMove}
 use Rattle.core_state.specs.Reads.{world_in}
 use Rattle.core_state.specs.Shown.{recalling}
@@ -34,10 +34,10 @@ use Rattle.sm_names.specs.Reading.{readings}
 use Rattle.sm_names.specs.Timelines.{timeline}
 
 -- the collection to which a task makes a change, if it makes one
-abbrev pub changed_by : Option Task → Option ℕ
+abbrev pub changed_by : Option EventTask → Option ℕ
 changed_by task = option_map (λ (w : Work). w.collection) (work_in task)
 
-module _ (s : State) (client : ℕ) (call : Call) (asked reply : Reply) (task : Option Task) (tracking : Option Waiting)
+module _ (s : State) (client : ℕ) (call : Call) (asked reply : Reply) (task : Option EventTask) (tracking : Option Waiting)
     (b : Begins s client call asked task tracking) where
   -- the handles may be moved
   pub moves : MayMove s.holds client call asked

@@ -25,7 +25,7 @@ use Rattle.forest_store.specs.declared.node.Node.{Node}
 use Rattle.forest_store.specs.Forest.{Collection, Forest, beside}
 use Rattle.forest_store.specs.Nodes.{is_unkept, members_of}
 use Rattle.forest_store.specs.Settling.{Handles, Settled, given_back}
-use Rattle.core_state.specs.declared.task.Place.{Place}
+use Rattle.core_state.specs.declared.task.EndPlace.{EndPlace}
 use Rattle.core_state.specs.Shown.{IsAfter, collection_after, held_after, node_after, nodes_after}
 use Rattle.core_state.specs.State.{State}
 use Rattle.core_state.specs.Steps.{Work, end_by, place_of}
@@ -55,7 +55,7 @@ module _ (s : State) (marks : Timeline) (shown : IsAfter s marks) (limits : Boun
   later = after s.pool marks (client, call, reply)
 
   -- the end that is put elsewhere
-  abbrev moved : Option Place
+  abbrev moved : Option EndPlace
   moved = end_by client call reply
 
   -- a node that was born stays so

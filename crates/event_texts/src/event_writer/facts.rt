@@ -24,14 +24,14 @@ use event_facts::pages::given_back;
 use event_facts::{Before, Event, fired_since, placed_by};
 use forced_marks::{Forced, Moment};
 use forest_store::Snapshot;
-use script_labels::{Stop, Tables};
+use script_labels::{LineStop, Tables};
 use script_lines::{Part, push_parts};
 use sm_names::{BufferName, Buffers, Call, HeldBuffer, NodeKey, Reply, object_key, parts_of};
 use std::alloc::AllocError;
 
 impl EventWriter {
     // Appends the facts of the event.
-    pub(crate) fn push_facts(&self, event: &Event, facts: &mut Vec<u8>) -> Result<(), Stop>
+    pub(crate) fn push_facts(&self, event: &Event, facts: &mut Vec<u8>) -> Result<(), LineStop>
         ensures { OnOk result ((names : Names) (lines : KeptLines) →
             Keeps self.now.session.tables names → Calls self.now.labels names →
             Recalls self.now lines → facts.old.items ≡ [] →
@@ -42,7 +42,12 @@ impl EventWriter {
     }
 
     // Appends the facts of the event, since which these buffers are doomed.
-    fn push_each_fact(&self, event: &Event, doomed: u64, facts: &mut Vec<u8>) -> Result<(), Stop>
+    fn push_each_fact(
+        &self,
+        event: &Event,
+        doomed: u64,
+        facts: &mut Vec<u8>,
+    ) -> Result<(), LineStop>
         ensures { OnOk result ((names : Names) (lines : KeptLines) →
             Keeps self.now.session.tables names → Calls self.now.labels names →
             Recalls self.now lines → facts.new.items ≡ facts.old.items
@@ -142,7 +147,7 @@ impl EventWriter {
     }
 
     // Appends why the call was answered so.
-    fn push_reasons(&self, event: &Event, facts: &mut Vec<u8>) -> Result<(), Stop>
+    fn push_reasons(&self, event: &Event, facts: &mut Vec<u8>) -> Result<(), LineStop>
         ensures { OnOk result ((names : Names) (lines : KeptLines) →
             Keeps self.now.session.tables names → Calls self.now.labels names →
             Recalls self.now lines → facts.new.items ≡ facts.old.items ++ reasons_text names lines
@@ -158,7 +163,7 @@ impl EventWriter {
     }
 
     // Appends for whom the node waits that the call is made on.
-    fn push_pending(&self, call: Call, facts: &mut Vec<u8>) -> Result<(), Stop>
+    fn push_pending(&self, call: Call, facts: &mut Vec<u8>) -> Result<(), LineStop>
         ensures { OnOk result ((names : Names) → Keeps self.now.session.tables names →
             Calls self.now.labels names → facts.new.items
             ≡ facts.old.items ++ pending_text names self.now.session.core call) }
@@ -170,7 +175,7 @@ impl EventWriter {
     }
 
     // Appends for whom the node with this key waits.
-    fn push_waiting(&self, key: NodeKey, facts: &mut Vec<u8>) -> Result<(), Stop>
+    fn push_waiting(&self, key: NodeKey, facts: &mut Vec<u8>) -> Result<(), LineStop>
         ensures { OnOk result ((names : Names) → Keeps self.now.session.tables names →
             Calls self.now.labels names → facts.new.items
             ≡ facts.old.items ++ node_waits names self.now.session.core key) }
@@ -219,7 +224,7 @@ impl EventWriter {
     }
 
     // Appends the holders of pages that were not given back, where a handle was dropped or a live node left.
-    fn push_keepers(&self, event: &Event, facts: &mut Vec<u8>) -> Result<(), Stop>
+    fn push_keepers(&self, event: &Event, facts: &mut Vec<u8>) -> Result<(), LineStop>
         ensures { OnOk result ((names : Names) → Keeps self.now.session.tables names →
             Calls self.now.labels names → facts.new.items
             ≡ facts.old.items ++ keepers_text names self.now.session.core event.now) }
@@ -239,7 +244,7 @@ impl EventWriter {
         event: &Event,
         after: &Snapshot,
         facts: &mut Vec<u8>,
-    ) -> Result<(), Stop>
+    ) -> Result<(), LineStop>
         ensures { OnOk result ((names : Names) → Keeps self.now.session.tables names →
             Calls self.now.labels names → facts.new.items ≡ facts.old.items
             ++ kept_left_text names self.now.session.core event.now.before after.now) }
@@ -261,7 +266,7 @@ impl EventWriter {
         after: &Snapshot,
         buffer: BufferName,
         facts: &mut Vec<u8>,
-    ) -> Result<(), Stop>
+    ) -> Result<(), LineStop>
         ensures { OnOk result ((names : Names) → Keeps self.now.session.tables names →
             Calls self.now.labels names → facts.new.items ≡ facts.old.items
             ++ kept_dropped_text names self.now.session.core after.now buffer) }
@@ -278,7 +283,7 @@ impl EventWriter {
         after: &Snapshot,
         held: HeldBuffer,
         facts: &mut Vec<u8>,
-    ) -> Result<(), Stop>
+    ) -> Result<(), LineStop>
         ensures { OnOk result ((names : Names) → Keeps self.now.session.tables names →
             Calls self.now.labels names → facts.new.items ≡ facts.old.items
             ++ kept_one_text names self.now.session.core after.now held) }
@@ -291,7 +296,7 @@ impl EventWriter {
     }
 
     // Appends the holders of handles on the buffers.
-    fn push_kept_all(&self, held: &[HeldBuffer], facts: &mut Vec<u8>) -> Result<(), Stop>
+    fn push_kept_all(&self, held: &[HeldBuffer], facts: &mut Vec<u8>) -> Result<(), LineStop>
         ensures { OnOk result ((names : Names) → Keeps self.now.session.tables names →
             Calls self.now.labels names → facts.new.items ≡ facts.old.items
             ++ kept_text names (who_keeps names self.now.session.core) held.now) }

@@ -14,7 +14,7 @@ use super::{EventWriter, KeptLine};
 use crate::deeds::{BOUND, CONSTRAINED, Deed, GIVEN, SPENT, TAKEN, deed_on};
 use crate::keepers::push_holders;
 use forest_store::{End, Node};
-use script_labels::{Stop, Tables};
+use script_labels::{LineStop, Tables};
 use script_lines::{Part, push, push_parts, strength_name};
 use sm_names::{
     BufferName, Call, ClientId, Misuse, NodeKey, Refusal, Strength, object_key, parts_of,
@@ -28,7 +28,7 @@ impl EventWriter {
         call: Call,
         refusal: Refusal,
         facts: &mut Vec<u8>,
-    ) -> Result<(), Stop>
+    ) -> Result<(), LineStop>
         ensures { OnOk result ((names : Names) (lines : KeptLines) →
             Keeps self.now.session.tables names → Calls self.now.labels names →
             Recalls self.now lines → facts.new.items ≡ facts.old.items
@@ -255,7 +255,7 @@ impl EventWriter {
     }
 
     // Appends that the caller has no handle on which the call is made, and who has some.
-    fn push_lacked(&self, call: Call, facts: &mut Vec<u8>) -> Result<(), Stop>
+    fn push_lacked(&self, call: Call, facts: &mut Vec<u8>) -> Result<(), LineStop>
         ensures { OnOk result ((names : Names) → Keeps self.now.session.tables names →
             Calls self.now.labels names → facts.new.items
             ≡ facts.old.items ++ lacked_text names self.now.session.core call) }
@@ -275,7 +275,7 @@ impl EventWriter {
         strength: Strength,
         buffer: BufferName,
         facts: &mut Vec<u8>,
-    ) -> Result<(), Stop>
+    ) -> Result<(), LineStop>
         ensures { OnOk result ((names : Names) → Keeps self.now.session.tables names →
             Calls self.now.labels names → facts.new.items ≡ facts.old.items
             ++ no_handle_text names self.now.session.core strength buffer) }
@@ -285,7 +285,7 @@ impl EventWriter {
     }
 
     // Appends who has handles on the buffer, if somebody has, and ends the line.
-    fn push_open(&self, buffer: BufferName, facts: &mut Vec<u8>) -> Result<(), Stop>
+    fn push_open(&self, buffer: BufferName, facts: &mut Vec<u8>) -> Result<(), LineStop>
         ensures { OnOk result ((names : Names) → Calls self.now.labels names → facts.new.items
             ≡ facts.old.items ++ open_text names self.now.session.core buffer) }
     {

@@ -2,7 +2,7 @@
 ghost use Rattle.std.specs.Prelude.{◌≡◌};
 
 use super::asking::{made, none_left, stands};
-use client_ends::{Client, Draft, Part, TokenEnd, Why, end, join};
+use client_ends::{Client, Draft, DraftPart, TokenEnd, Why, end, join};
 use service_lock::{Service, Setup};
 use sm_names::StepFault;
 use std::alloc::Global;
@@ -22,7 +22,7 @@ fn stopped<E: Setup, S: Ledger, W: Ledger, R: Wait + Abort>(
 {
     match draft.sync(rt, alloc, service, client) {
         Err((draft, part, StepFault::HistoryFull)) => {
-            let Part { made, replies } = part;
+            let DraftPart { made, replies } = part;
             assert!(rt; replies.is_empty());
             none_left(rt, made);
             draft.abandon()

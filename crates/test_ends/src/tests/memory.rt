@@ -6,7 +6,7 @@ use super::retrying::{
     bind_again, close_again, collect_again, double_again, drop_again, duplicate_again, fill_again,
     give_again, join_again, open_again, release_again, send_again,
 };
-use client_ends::{Client, CollectionEnd, Draft, End, Part, Synced, TokenEnd};
+use client_ends::{Client, CollectionEnd, Draft, DraftPart, ParcelContent, Synced, TokenEnd};
 use service_lock::{Service, Setup};
 use sm_names::StepFault;
 use std::alloc::Global;
@@ -28,7 +28,7 @@ fn sync_again<E: Setup, S: Ledger, W: Ledger, R: Wait + Abort>(
     let (synced, first) = match draft.sync(rt, alloc, service, client) {
         Ok(synced) => (synced, Vec::new(alloc)),
         Err((rest, part, StepFault::NoMemory)) => {
-            let Part {
+            let DraftPart {
                 made: first,
                 replies,
             } = part;
@@ -71,7 +71,7 @@ fn tokens<E: Setup, S: Ledger, W: Ledger, R: Wait + Abort>(
     let token = duplicate_again(rt, service, client, root);
     give_again(rt, service, client, token);
     let token = match collect_again(rt, service, client) {
-        End::Token(token) => token,
+        ParcelContent::Token(token) => token,
         _ => panic!(rt; "no token"),
     };
     assert!(rt; token.client() == client.id());
@@ -104,7 +104,7 @@ fn handles<E: Setup, S: Ledger, W: Ledger, R: Wait + Abort>(
     assert!(rt; first.client() == client.id() && second.client() == client.id());
     send_again(rt, service, client, first);
     let first = match collect_again(rt, service, client) {
-        End::Handle(handle) => handle,
+        ParcelContent::Handle(handle) => handle,
         _ => panic!(rt; "no handle"),
     };
     assert!(rt; first.client() == client.id());

@@ -2,7 +2,7 @@
 ghost use Rattle.std.specs.Prelude.{◌≡◌};
 
 use super::asking::{constraints, made};
-use client_ends::{Client, CollectionEnd, End, EndOf, Handle, Kept, TokenEnd, Why, join};
+use client_ends::{Client, CollectionEnd, EndOf, Handle, Kept, ParcelContent, TokenEnd, Why, join};
 use service_lock::{Service, Setup};
 use sm_names::{Constraints, Reply, StepFault};
 use std::alloc::Global;
@@ -153,7 +153,7 @@ pub fn collect_again<E: Setup, S: Ledger, W: Ledger, R: Wait + Abort>(
     rt: &R,
     service: &Service<E, S, W>,
     client: &mut Client<E, S, W>,
-) -> End<E, S, W>
+) -> ParcelContent<E, S, W>
     ensures { client.new.id ≡ client.old.id }
 {
     let found = match client.collect(rt, service) {

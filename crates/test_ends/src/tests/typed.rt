@@ -11,7 +11,7 @@ use super::retrying::{
     bind_again, close_again, collect_again, constrain_again, double_again, drop_again,
     duplicate_again, give_again, join_again, open_again, release_again, take_again,
 };
-use client_ends::{Client, CollectionEnd, End, Handle, TokenEnd};
+use client_ends::{Client, CollectionEnd, Handle, ParcelContent, TokenEnd};
 use service_lock::{Service, Setup};
 use sm_names::{Fired, Reply, Strength};
 use std::alloc::Global;
@@ -127,7 +127,7 @@ fn round<E: Setup, S: Ledger, W: Ledger, R: Wait + Abort>(
 {
     give_again(rt, service, client, root);
     let root = match collect_again(rt, service, client) {
-        End::Collection(root) => root,
+        ParcelContent::Collection(root) => root,
         _ => panic!(rt; "not collected"),
     };
     assert!(rt; root.client() == client.id());

@@ -3,7 +3,9 @@ ghost use Rattle.std.specs.Prelude.{◌≡◌};
 
 use super::asking::{constraints, made, put};
 use super::vanishing::{gathered, gone, last_client};
-use client_ends::{Client, CollectionEnd, End, EndOf, Handle, Held, Kept, TokenEnd, join};
+use client_ends::{
+    Client, CollectionEnd, EndOf, Handle, Held, Kept, ParcelContent, TokenEnd, join,
+};
 use client_vanish::{Holding, Wreck, end_service};
 use service_lock::{Service, Setup, core};
 use sm_names::ClientId;
@@ -70,9 +72,9 @@ fn receive<E: Setup, S: Ledger, W: Ledger, R: Wait + Abort>(
     client: &mut Client<E, S, W>,
 ) {
     match made(rt, client.collect(rt, service)) {
-        Some(End::Token(token)) => close(rt, service, client, token),
-        Some(End::Collection(collection)) => close(rt, service, client, collection),
-        Some(End::Handle(handle)) => let_go(rt, service, client, handle),
+        Some(ParcelContent::Token(token)) => close(rt, service, client, token),
+        Some(ParcelContent::Collection(collection)) => close(rt, service, client, collection),
+        Some(ParcelContent::Handle(handle)) => let_go(rt, service, client, handle),
         None => {}
     }
 }

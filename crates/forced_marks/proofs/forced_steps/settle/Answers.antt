@@ -5,7 +5,7 @@ use Rattle.forest_store.specs.Decisions.{IsStep, mark_of}
 use Rattle.forest_store.specs.Forest.{Collection, pages_in}
 use Rattle.forest_store.specs.Scenes.{IsSound}
 use Rattle.forest_store.specs.Snapshots.{collection_of}
-use Rattle.forced_marks.specs.declared.decision.Decision.{Decision}
+use Rattle.forced_marks.specs.declared.decision.PendingStep.{PendingStep}
 use Rattle.forced_marks.specs.declared.decision.Forced.{Forced}
 use Rattle.forced_marks.specs.Marks.{SettlesBy, Rests, Forces, stages}
 use Rattle.forced_marks.specs.Moments.{stage_of}
@@ -16,22 +16,23 @@ use Rattle.forced_marks.proofs.StepsLeft.{step_falls, steps_left}
 use Rattle.forced_marks.proofs.forced_steps.settle.Goals as goal
 
 -- a step that is decided on may be made
-is_step : (old : Collection) (o : Option Decision) (d : Decision) → o ≡ Some d → IfSome o (λ d. IsStep old (told d)) → IsStep old (told d)
-is_step old o d is may = subst (λ (o : Option Decision). IfSome o (λ d. IsStep old (told d))) is may
+is_step : (old : Collection) (o : Option PendingStep) (d : PendingStep) → o ≡ Some d → IfSome o (λ d. IsStep old (told d)) →
+    IsStep old (told d)
+is_step old o d is may = subst (λ (o : Option PendingStep). IfSome o (λ d. IsStep old (told d))) is may
 
 pub apply_step-requires-clause-step : goal.apply_step-requires-clause-step
 apply_step-requires-clause-step c =
     is_step (collection_of c.steps.scene) c.in_ok-decided.decided c.in-Some.step c.in-Some.is c.in_ok-decided.ensures.step
 
 pub apply_step-requires-clause-sized : goal.apply_step-requires-clause-sized
-apply_step-requires-clause-sized c = subst (λ (o : Option Decision). IfSome o IsSized) c.in-Some.is c.in_ok-decided.ensures.sized
+apply_step-requires-clause-sized c = subst (λ (o : Option PendingStep). IfSome o IsSized) c.in-Some.is c.in_ok-decided.ensures.sized
 
 -- no step is left
 pub returns-in_default : goal.returns-in_default
 returns-in_default c =
     let now : Collection = collection_of c.steps.scene in
     let none = c.in_ok-decided.ensures.forced c.args.pool c.args.others.now
-    ∙ ap (option_map (λ (d : Decision). mark_of c.args.pool (pages_in now ++ c.args.others.now) (told d))) c.in_default.is in
+    ∙ ap (option_map (λ (d : PendingStep). mark_of c.args.pool (pages_in now ++ c.args.others.now) (told d))) c.in_default.is in
     let r = c.steps.invariant.settles [] now (Rests now none) in
     record { marks = r.0; settles = r.1; gained = sym (no_stage_more (map stage_of c.steps.all.items)) ∙ r.2 }
 
@@ -43,7 +44,7 @@ steps-preserved c =
     let step : IsStep old (told c.in-Some.step) =
     is_step old c.in_ok-decided.decided c.in-Some.step c.in-Some.is c.in_ok-decided.ensures.step in
     let forces = c.in_ok-decided.ensures.forced c.args.pool c.args.others.now
-    ∙ (ap (option_map (λ (d : Decision). mark_of c.args.pool (pages_in old ++ c.args.others.now) (told d))) c.in-Some.is
+    ∙ (ap (option_map (λ (d : PendingStep). mark_of c.args.pool (pages_in old ++ c.args.others.now) (told d))) c.in-Some.is
     ∙ ap Some (sym c.in_ok-mark.ensures.mark)) in
     record {
       sound = subst (λ (x : Collection). IsSound x) (sym c.in_ok-mark.ensures.made)

@@ -1,7 +1,7 @@
 use Rattle.std.proofs.Common.{◌≡◌, ◌∙◌, ◌++◌, refl, sym, ap, subst, Bool, Option, Some, None}
 use Rattle.std.specs.Option.{option_map, IfSome}
 use Rattle.buffer_holds.specs.Counts.{total}
-use Rattle.forced_marks.specs.declared.decision.Decision.{Decision}
+use Rattle.forced_marks.specs.declared.decision.PendingStep.{PendingStep}
 use Rattle.forest_store.specs.Decisions.{Decision as Step, decided, mark_of, IsStep}
 use Rattle.forest_store.specs.Forest.{Collection, pages_in}
 use Rattle.forest_store.specs.Snapshots.{collection_of}
@@ -17,7 +17,7 @@ twice g f None = refl
 twice g f (Some x) = refl
 
 -- what holds of what is told
-of_told : (P : Step → Type 0) (o : Option Decision) → IfSome (option_map told o) P → IfSome o (λ d. P (told d))
+of_told : (P : Step → Type 0) (o : Option PendingStep) → IfSome (option_map told o) P → IfSome o (λ d. P (told d))
 of_told P None h = tt
 of_told P (Some d) h = h
 

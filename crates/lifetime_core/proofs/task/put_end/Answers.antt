@@ -1,8 +1,8 @@
 use Rattle.std.proofs.Common.{◌≡◌, refl, ap, subst, Option, Some, None, is_some}
 use Rattle.std.specs.Option.{option_or}
 use Rattle.forest_store.specs.Forest.{Forest, SameKeys, without_unkept_in}
-use Rattle.core_state.specs.declared.task.Place.{Place}
-use Rattle.core_state.specs.declared.task.Task.{Task}
+use Rattle.core_state.specs.declared.task.EndPlace.{EndPlace}
+use Rattle.core_state.specs.declared.task.EventTask.{EventTask}
 use Rattle.core_state.specs.Steps.{with_place}
 use Rattle.core_state.specs.Tasks.{end_placed, spent_place}
 use Rattle.core_state.specs.Whole.{CanFinish, IsAmid, IsSound}
@@ -28,7 +28,7 @@ spend-requires c =
 pub returns : goal.returns
 returns c =
     let f : Forest = c.args.forest.now in
-    let t : Task = c.in-Some.task in
+    let t : EventTask = c.in-Some.task in
     let amid : IsAmid f t.collection t.spends = subst (CanFinish f) c.in-Some.is c.requires.task in
     let same : SameKeys (with_place (spent_place t.spends) f) c.forget_unkept.new.self =
     subst (λ (x : Forest). SameKeys x c.forget_unkept.new.self) c.spend.ensures c.forget_unkept.ensures.keys in
@@ -44,6 +44,6 @@ returns c =
       held = same_held f c.forget_unkept.new.self t.collection t.spends amid same less;
     }
   where
-    first : (o : Option Place) → option_or o None ≡ o
+    first : (o : Option EndPlace) → option_or o None ≡ o
     first None = refl
     first (Some place) = refl

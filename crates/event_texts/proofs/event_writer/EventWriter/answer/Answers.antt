@@ -2,7 +2,7 @@ use Rattle.std.proofs.Common.{◌≡◌, [], refl, ap, sym, ◌∙◌, subst, Op
 use Rattle.std.proofs.lemmas.Result.{on_ok_weaker, IfErr-weaker}
 use Rattle.script_labels.specs.declared.act.Act.{Act}
 use Rattle.sm_script.specs.declared.session.Session.{Session}
-use Rattle.script_labels.specs.declared.stop.Stop.{Stop}
+use Rattle.script_labels.specs.declared.stop.LineStop.{LineStop}
 use Rattle.script_labels.specs.Names.{act_in}
 use Rattle.sm_script.specs.Scenes.{Scene}
 use Rattle.sm_script.specs.Sessions.{Gains, IsAt, IsStopped}
@@ -87,8 +87,8 @@ returns-in-Some-Show-clause-tells c = on_ok_weaker c.answer-in-Some-Show.result
     c.answer-in-Some-Show.ensures.ok
 
 -- a line that asks for something is not stopped as a bad one, which asks for nothing
-not_bad : (session : Session) (line : List ℕ) (scene : Scene) (stop : Stop) (act : Act) (read : Option Act) →
-    read ≡ act_in scene.names line → read ≡ Some act → IsStopped session line scene stop → stop ≡ Stop.BadLine → ⊥
+not_bad : (session : Session) (line : List ℕ) (scene : Scene) (stop : LineStop) (act : Act) (read : Option Act) →
+    read ≡ act_in scene.names line → read ≡ Some act → IsStopped session line scene stop → stop ≡ LineStop.BadLine → ⊥
 not_bad session line scene stop act read is found why bad =
     let none : act_in scene.names line ≡ None = subst (IsStopped session line scene) bad why in
     let some : act_in scene.names line ≡ Some act = sym is ∙ found in
@@ -99,7 +99,7 @@ returns-in-Some-Ask-clause-same c = λ scene at is. absurd (c.in-Err.ensures.err
 
 pub returns-in-Some-Nothing-clause-same : goal.returns-in-Some-Nothing-clause-same
 returns-in-Some-Nothing-clause-same c = IfErr-weaker c.answer.result _
-    (λ stop. (scene : Scene) → IsAt c.args.self.now.session scene → stop ≡ Stop.BadLine →
+    (λ stop. (scene : Scene) → IsAt c.args.self.now.session scene → stop ≡ LineStop.BadLine →
     c.answer.new.self ≡ c.args.self.now.session)
     (λ stop why scene at is. absurd (not_bad c.args.self.now.session c.args.line.now scene stop _ c.read.result
     (c.read.ensures scene at) c.in-Some-Nothing.is (why scene at) is))
@@ -107,7 +107,7 @@ returns-in-Some-Nothing-clause-same c = IfErr-weaker c.answer.result _
 
 pub returns-in-Some-Poll-clause-same : goal.returns-in-Some-Poll-clause-same
 returns-in-Some-Poll-clause-same c = IfErr-weaker c.answer-in-Some-Poll.result _
-    (λ stop. (scene : Scene) → IsAt c.args.self.now.session scene → stop ≡ Stop.BadLine →
+    (λ stop. (scene : Scene) → IsAt c.args.self.now.session scene → stop ≡ LineStop.BadLine →
     c.answer-in-Some-Poll.new.self ≡ c.args.self.now.session)
     (λ stop why scene at is. absurd (not_bad c.args.self.now.session c.args.line.now scene stop _ c.read.result
     (c.read.ensures scene at) c.in-Some-Poll.is (why scene at) is))
@@ -115,7 +115,7 @@ returns-in-Some-Poll-clause-same c = IfErr-weaker c.answer-in-Some-Poll.result _
 
 pub returns-in-Some-Show-clause-same : goal.returns-in-Some-Show-clause-same
 returns-in-Some-Show-clause-same c = IfErr-weaker c.answer-in-Some-Show.result _
-    (λ stop. (scene : Scene) → IsAt c.args.self.now.session scene → stop ≡ Stop.BadLine →
+    (λ stop. (scene : Scene) → IsAt c.args.self.now.session scene → stop ≡ LineStop.BadLine →
     c.answer-in-Some-Show.new.self ≡ c.args.self.now.session)
     (λ stop why scene at is. absurd (not_bad c.args.self.now.session c.args.line.now scene stop _ c.read.result
     (c.read.ensures scene at) c.in-Some-Show.is (why scene at) is))

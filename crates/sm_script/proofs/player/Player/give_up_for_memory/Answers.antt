@@ -1,12 +1,12 @@
 use Rattle.std.proofs.Common.{List, ℕ, append-nil, sym, subst}
-use Rattle.script_labels.specs.declared.stop.Stop.{Stop}
+use Rattle.script_labels.specs.declared.stop.LineStop.{LineStop}
 use Rattle.sm_script.specs.Players.{Breaks}
 use Rattle.sm_script.proofs.Playing.{so_far-behind, so_far-stop}
 use Rattle.sm_script.proofs.player.Player.give_up_for_memory.Goals as goal
 
 pub returns-clause-at : goal.returns-clause-at
 returns-clause-at g c line = λ setting old lines far.
-    so_far-stop setting c.args.self.now old _ lines far _ line Stop.NoMemory _ (λ scene at.
+    so_far-stop setting c.args.self.now old _ lines far _ line LineStop.NoMemory _ (λ scene at.
     tt) (rw c.as_slice.ensures.value at c.give_up.ensures)
 
 pub returns-clause-behind : goal.returns-clause-behind

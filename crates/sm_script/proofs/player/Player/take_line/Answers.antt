@@ -1,6 +1,6 @@
 use Rattle.std.proofs.Common.{◌++◌, [], ◌∷◌, List, ℕ, Option, refl, ap, ◌∙◌}
 use Rattle.std.proofs.lemmas.Result.{on_ok_weaker, IfErr-weaker}
-use Rattle.script_labels.specs.declared.stop.Stop.{Stop}
+use Rattle.script_labels.specs.declared.stop.LineStop.{LineStop}
 use Rattle.sm_script.specs.Players.{SoFar}
 use Rattle.sm_script.specs.Runs.{Stopped}
 use Rattle.sm_script.specs.Scenes.{Setting}
@@ -14,7 +14,7 @@ returns-in-Err-clause-err g c = λ setting old lines far.
 
 pub returns-in-Err-extend_from_slice-clause-err : goal.returns-in-Err-extend_from_slice-clause-err
 returns-in-Err-extend_from_slice-clause-err g c = λ setting old lines far.
-    so_far-stop setting c.args.self.now old _ lines far _ c.args.line.now Stop.NoMemory _ (λ scene at. tt)
+    so_far-stop setting c.args.self.now old _ lines far _ c.args.line.now LineStop.NoMemory _ (λ scene at. tt)
     (rw (c.as_slice-in-Err-extend_from_slice.ensures.value, c.in-Err-extend_from_slice.ensures.items)
     at c.give_up-in-Err-extend_from_slice.ensures)
 
