@@ -84,7 +84,8 @@ impl EventWriter {
     /// are all marks of the event, for whom a pending allocation waits or which line made the loss that an
     /// answer tells of, what became of buffers, who keeps pages, and which trackers fired.
     ///
-    /// On an error neither is to be read. Where memory was refused its call may have been made. Costs what
+    /// On an error neither is to be read. A bad line changes nothing of the session. Where memory was refused its
+    /// call may have been made. Costs what
     /// the session's answer costs, and where a collection changes what `take_event` costs.
     pub fn answer(
         &mut self,
@@ -101,6 +102,8 @@ impl EventWriter {
             TellsLine self.old self.new number line.now reply.new.items facts.new.items scene lines) }
         ensures err { IfErr result (λ stop. (scene : Scene) → IsAt self.old.session scene →
             IsStopped self.old.session line.now scene stop) }
+        ensures same { IfErr result (λ stop. (scene : Scene) → IsAt self.old.session scene →
+            stop ≡ LineStop.BadLine → self.new.session ≡ self.old.session) }
     {
         facts.clear();
         match self.session.read(line) {

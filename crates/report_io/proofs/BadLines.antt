@@ -19,7 +19,7 @@ use Rattle.report_io.specs.declared.wanted.Wanted.{Wanted}
 use Rattle.report_io.specs.Reasons.{IsReason, Reason, bad_text, bound_reason, client_reason, ends_in, is_empty, label_reason, line_reason, reason_text, reason_unless, rest_reason, said_reason, verb_reason, view_reason, wanted_behind, wanted_of_kind, wanted_on, word_reason, words_reason}
 use Rattle.report_io.proofs.GoodWords.{and_then_is, holds_so, none_both, not_there, passed_so, request_so, rest_so, there}
 
--- a test that fails has a reason
+-- where a chain of tests gives no reason, its first test passes, since a failed one gives it
 past : (fails : Bool) (r : Reason) (others : Option Reason) → (if fails then Some r else others) ≡ None → (fails ≡ false) × (others ≡ None)
 past true r others e = absurd (cc)
 past false r others e = (refl, e)
@@ -29,13 +29,13 @@ module _ (names : Names) where
   abbrev Acts : Option Line → Type 0
   Acts said = is_some (option_and_then (act_of names) said) ≡ true
 
-  -- of two forms the one that the test picks
+  -- by the test: the form that it picks says something
   acts_if : (test : Bool) (first second : Option Reason) (one other : Option Line) → (test ≡ true → first ≡ None → Acts one) →
       (test ≡ false → second ≡ None → Acts other) → (if test then first else second) ≡ None → Acts (if test then one else other)
   acts_if true first second one other so else_so e = so refl e
   acts_if false first second one other so else_so e = else_so refl e
 
-  -- a view, and no more words
+  -- a view is shown, since its own test reads it, and no word is left
   acts_view : (rest : List (List ℕ)) → view_reason rest ≡ None → Acts (show_of rest)
   acts_view [] e = absurd (cc)
   acts_view (what ∷ []) e =
@@ -44,13 +44,13 @@ module _ (names : Names) where
   acts_view (what ∷ word ∷ more) e = absurd (let gone : word ∷ more ≡ [] =
       rest_so (word ∷ more) (none_both (reason_unless (is_some (view_of what)) _) (rest_reason (word ∷ more)) e).1 in cc)
 
-  -- no word is left behind a verb that wants none
+  -- no word is left behind a verb that wants none: one would be too many
   none_left : (verb : List ℕ) (rest : List (List ℕ)) →
       words_reason names verb (Wanted.End ∷ Wanted.End ∷ Wanted.End ∷ Wanted.End ∷ []) rest ≡ None → rest ≡ []
   none_left verb [] e = refl
   none_left verb (word ∷ more) e = absurd (cc)
 
-  -- a client that is not there joins
+  -- a client joins, since its label is free and no word is left
   acts_join : (client : Label) (first : List ℕ) (rest : List (List ℕ)) →
       verb_reason names first client (codes "join" ∷ rest) ≡ None → Acts (call_read client (codes "join") rest)
   acts_join client first rest e =
@@ -60,7 +60,7 @@ module _ (names : Names) where
       let left : rest ≡ [] = none_left (codes "join") rest both.1 in
       rw (left, new) refl
 
-  -- a client that is there polls a tracker that is there
+  -- a client polls a tracker, since both labels are bound and no word is left
   acts_poll : (client : Label) (first verb : List ℕ) (rest : List (List ℕ)) →
       client_reason first false (is_some (labelled_client names client)) ≡ None →
       words_reason names verb (wanted_on Target.Nothing Wanted.Tracker Wanted.End Wanted.End) rest ≡ None →
@@ -82,7 +82,7 @@ module _ (names : Names) where
       three_gone [] e = refl
       three_gone (w ∷ more) e = absurd (cc)
 
-  -- a client that is there makes a call
+  -- a client makes a call, since its label is bound and the words behind the verb are good
   acts_ask : (client : Label) (first verb : List ℕ) (rest : List (List ℕ)) (kind : CallKind) → kind_named verb ≡ Some kind →
       client_reason first false (is_some (labelled_client names client)) ≡ None →
       words_reason names verb (wanted_of_kind kind) rest ≡ None → Acts (ask_of client verb rest)
@@ -96,7 +96,7 @@ module _ (names : Names) where
       ∙ ap is_some (and_then_is (λ c. ask_by names c asks.request) (labelled_client names client) its.0 its.1)
       ∙ asks.acts its.0
 
-  -- any call but a join
+  -- by the verb: any other than `join` is a poll, or the word of a kind of call
   acts_call : (client : Label) (first verb : List ℕ) (rest : List (List ℕ)) (joins : Bool) → joins ≡ false → (wanted : List Wanted) →
       wanted_behind verb ≡ Some wanted → client_reason first joins (is_some (labelled_client names client)) ≡ None →
       words_reason names verb wanted rest ≡ None →
@@ -122,7 +122,7 @@ module _ (names : Names) where
           (subst (λ (w : List Wanted). words_reason names verb w rest ≡ None) (sym same) e)
       by_test false found = kinds (kind_named verb) refl found
 
-  -- what a client does
+  -- by the verb: a client joins, or does something else
   acts_verb : (first : List ℕ) (client : Label) (rest : List (List ℕ)) → verb_reason names first client rest ≡ None →
       Acts (asked_of client rest)
   acts_verb first client [] e = absurd (cc)
@@ -140,7 +140,7 @@ module _ (names : Names) where
           (words_reason names verb found.0 rest) found.1.1 in
           acts_call client first verb rest (bytes_eq verb (codes "join")) other found.0 found.1.0 both.0 both.1
 
-  -- what the words of a line say
+  -- by the first word: a view is shown, or a client does something
   acts_said : (first : List ℕ) (rest : List (List ℕ)) → said_reason names (first ∷ rest) ≡ None → Acts (said_of (first ∷ rest))
   acts_said first rest e =
       acts_if (bytes_eq first (codes "show")) (view_reason rest) _ (show_of rest) _ (λ shows so. acts_view rest so) asks e
@@ -152,19 +152,19 @@ module _ (names : Names) where
           ap (λ o. is_some (option_and_then (act_of names) (option_and_then (λ client. asked_of client rest) o))) client.1.0
           ∙ acts_verb first client.0 rest client.1.1
 
-  -- a line has one word at least
+  -- a line has one word at least, since it has one more than it has spaces
   acts_words : (all : List (List ℕ)) (spaces : ℕ) → length all ≡ spaces + 1 → said_reason names all ≡ None → Acts (said_of all)
   acts_words [] spaces some e = absurd (omega (arith, some))
   acts_words (first ∷ rest) spaces some e = acts_said first rest e
 
-  -- a line that is not too long
+  -- a line that is not too long says nothing, or what its words say
   acts_short : (long silent : Bool) (said : Option Line) → long ≡ false → Acts said →
       Acts (if long then None else if silent then Some Line.Nothing else said)
   acts_short true silent said short acts = absurd (cc)
   acts_short false true said short acts = refl
   acts_short false false said short acts = acts
 
-  -- a line without a reason
+  -- a line without a reason asks for something, since it passes the tests of its length and of its words
   acts_line : (line : List ℕ) → line_reason names line ≡ None → is_some (act_in names line) ≡ true
   acts_line line e =
       let long = past (nat_lt MOST_LINE_BYTES (length line)) _ _ e in
@@ -173,7 +173,7 @@ module _ (names : Names) where
       acts_short (nat_lt MOST_LINE_BYTES (length line)) (is_silent line) (said_of (words line)) long.0
       (acts_words (words line) _ (length-slice_split (λ byte. byte == 32) line) spaces.1)
 
-  -- so a line that asks for nothing has one
+  -- a line that asks for nothing has a reason, since one without asks for something
   pub bad_has_reason : (line : List ℕ) → act_in names line ≡ None → is_some (line_reason names line) ≡ true
   bad_has_reason line bad = by_reason (line_reason names line) refl
     where
@@ -184,7 +184,7 @@ module _ (names : Names) where
           let gone : is_some (act_in names line) ≡ false = ap is_some bad in
           absurd (cc)
 
-  -- what is told of it is that reason
+  -- what is told of such a line is its reason, since there is one
   pub reason_told : (line words : List ℕ) → words ≡ bad_text names line → act_in names line ≡ None → IsReason names line words
   reason_told line words told bad =
       let one = there (line_reason names line) (bad_has_reason line bad) in

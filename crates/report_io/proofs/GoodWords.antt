@@ -29,65 +29,65 @@ use Rattle.report_io.specs.Reasons.{Reason, bound_reason, new_wanted, reason_or,
 
 -- ---- tests
 
--- neither of two tests gives a reason
+-- where two tests together give no reason, neither does: the first reason would be the answer
 pub none_both : (a b : Option Reason) → reason_or a b ≡ None → (a ≡ None) × (b ≡ None)
 none_both None b e = (refl, e)
 none_both (Some r) b e = absurd (cc)
 
--- a test that gives no reason holds
+-- a test that gives no reason holds, since one that fails gives it
 pub holds_so : (b : Bool) (r : Reason) → reason_unless b r ≡ None → b ≡ true
 holds_so true r e = refl
 holds_so false r e = absurd (cc)
 
--- what there is
+-- what is there is some value
 pub there : {A : Type 0} (o : Option A) → is_some o ≡ true → (a : A) × (o ≡ Some a)
 there (Some a) e = (a, refl)
 there None e = absurd (cc)
 
--- what there is not
+-- what is not there is none
 pub not_there : {A : Type 0} (o : Option A) → not (is_some o) ≡ true → o ≡ None
 not_there (Some a) e = absurd (cc)
 not_there None e = refl
 
--- the test of what is read gives no reason: it is read
+-- where reading and a test give no reason, it is read, since an unread word gives one
 pub passed_so : {A : Type 0} (test : A → Option Reason) (o : Option A) (r : Reason) → option_map_or test o (Some r) ≡ None →
     (a : A) × ((o ≡ Some a) × (test a ≡ None))
 passed_so test None r e = absurd (cc)
 passed_so test (Some a) r e = (a, (refl, e))
 
--- no word is left
+-- where a word too many is no reason, no word is left
 pub rest_so : (rest : List (List ℕ)) → rest_reason rest ≡ None → rest ≡ []
 rest_so [] e = refl
 rest_so (word ∷ more) e = absurd (cc)
 
--- what follows a value that is there
+-- what follows a value is what it leads to, where the value is there
 pub and_then_is : {A B : Type 0} (f : A → Option B) (o : Option A) (a : A) → o ≡ Some a → option_and_then f o ≡ f a
 and_then_is f o a e = ap (option_and_then f) e
 
--- no word is missing
+-- a missing word is a reason, whatever the test before it gives
 pub never_missing : (a : Option Reason) (r : Reason) → reason_or a (Some r) ≡ None → ⊥
 never_missing None r e = cc
 never_missing (Some s) r e = cc
 
--- a number in range is read
+-- a word within bounds spells a number, since a word that spells none is within no bounds
 numbered : (o : Option ℕ) (least most : ℕ) → option_map_or (λ n. nat_le least n && nat_le n most) o false ≡ true →
     (n : ℕ) × ((o ≡ Some n) × ((nat_le least n ≡ true) × (nat_le n most ≡ true)))
 numbered None least most e = absurd (cc)
 numbered (Some n) least most e = (n, (refl, and_parts (nat_le least n) (nat_le n most) e))
 
--- three numbers in range are constraints
+-- three numbers are constraints, since each passes its own bounds
 demand_is : (camping at_least size : List ℕ) (c l s : ℕ) → number_of camping ≡ Some c → number_of at_least ≡ Some l →
     number_of size ≡ Some s → nat_le c MAX_CAMPING ≡ true → nat_le l MAX_AT_LEAST ≡ true → nat_le 1 s ≡ true → nat_le s MAX_SIZE ≡ true →
     demand_of camping at_least size ≡ Some (record { camping = c; at_least = l; size = s })
 demand_is camping at_least size c l s first second third few enough some within =
     rw (first, second, third, few, enough, some, within) refl
 
--- a strength and a label are a gift
+-- a strength and a label are a gift, each read by itself
 gift_is : (word to : List ℕ) (rest : List (List ℕ)) (strength : Strength) (client : Label) → strength_named word ≡ Some strength →
     label_of to ≡ Some client → gift_read (word ∷ to ∷ rest) ≡ Some (Argument.Gift strength client, rest)
 gift_is word to rest strength client first second = rw (first, second) refl
 
--- a last label is read
+-- a last label is read, and leaves no word
 label_is : (word : List ℕ) (rest : List (List ℕ)) (label : Label) → label_of word ≡ Some label → rest ≡ [] →
     first_read (λ word. option_map Some (label_of word)) (word ∷ rest) ≡ Some (Some label, [])
 label_is word rest label first last = rw (first, last) refl
@@ -116,7 +116,7 @@ module _ (names : Names) where
     left : words_reason names last wanted rest ≡ None
 
   module _ (a b c : Wanted) where
-    -- a fourth word that is to be none adds nothing
+    -- a fourth word that is to be none adds nothing: a word there is too many in both lists
     three_left : (last : List ℕ) (words : List (List ℕ)) → words_reason names last (a ∷ b ∷ c ∷ Wanted.End ∷ []) words ≡ None →
         words_reason names last (a ∷ b ∷ c ∷ []) words ≡ None
     three_left last [] e = e
@@ -125,7 +125,7 @@ module _ (names : Names) where
     three_left last (w ∷ x ∷ y ∷ []) e = e
     three_left last (w ∷ x ∷ y ∷ z ∷ more) e = e
 
-    -- a node
+    -- a first word for a node is read by its label, which its own test finds bound
     object_node : (on : Target) (last : List ℕ) (words : List (List ℕ)) →
         ((ws : List (List ℕ)) → object_read on ws ≡ first_read (λ word. option_map Object.Node (label_of word)) ws) →
         ((key : NodeKey) → is_on on (Object.Node key) ≡ true) →
@@ -147,7 +147,7 @@ module _ (names : Names) where
           left = both.1;
         }
 
-    -- a handle, by its buffer
+    -- a first word for a handle is read by its buffer, of which its own test finds the node bound
     object_buffer : (last : List ℕ) (words : List (List ℕ)) →
         words_reason names last (Wanted.Buffer ∷ a ∷ b ∷ c ∷ []) words ≡ None → ObjectRead Target.Handle words (a ∷ b ∷ c ∷ [])
     object_buffer last [] e = absurd (cc)
@@ -172,7 +172,7 @@ module _ (names : Names) where
         mapped None key e = absurd (cc)
         mapped (Some p) key e = (p, refl)
 
-  -- the first word of a call that is made on such a target, and then the three others
+  -- by the target: the first word is what the call is made on, and the three others follow
   object_so : (on : Target) (a b c : Wanted) (last : List ℕ) (words : List (List ℕ)) →
       words_reason names last (wanted_on on a b c) words ≡ None → ObjectRead on words (a ∷ b ∷ c ∷ [])
   object_so Target.Nothing a b c last words e = record {
@@ -230,26 +230,26 @@ module _ (names : Names) where
     last : List ℕ
     left : words_reason names last (new ∷ []) rest ≡ None
 
-  -- no word is left where none is to be
+  -- where no word is left, an end is no reason either
   ended_so : (last : List ℕ) (rest : List (List ℕ)) → rest_reason rest ≡ None → words_reason names last (Wanted.End ∷ []) rest ≡ None
   ended_so last [] e = refl
   ended_so last (word ∷ more) e = absurd (cc)
 
-  -- words that are to be none add nothing
+  -- words that are to be none add nothing: a word there is too many in both lists
   one_left : (new : Wanted) (last : List ℕ) (words : List (List ℕ)) →
       words_reason names last (new ∷ Wanted.End ∷ []) words ≡ None → words_reason names last (new ∷ []) words ≡ None
   one_left new last [] e = e
   one_left new last (w ∷ []) e = e
   one_left new last (w ∷ x ∷ more) e = e
 
-  -- a label of a client
+  -- a word for a client is read by its label, which its own test finds bound
   client_so : (word : List ℕ) → word_reason names Wanted.Client word ≡ None →
       (label : Label) × ((label_of word ≡ Some label) × ((client : ℕ) × (labelled_client names label ≡ Some client)))
   client_so word e =
       let label = passed_so (λ label. bound_reason names Wanted.Client label word) (label_of word) _ e in
       (label.0, (label.1.0, there (labelled_client names label.0) (holds_so _ _ label.1.1)))
 
-  -- nothing else is said
+  -- nothing else is said, so that no word is read
   says_nothing : (new : Wanted) (last : List ℕ) (words : List (List ℕ)) →
       words_reason names last (new ∷ Wanted.End ∷ Wanted.End ∷ []) words ≡ None → ArgumentRead ArgumentForm.Nothing words new
   says_nothing new last words e = record {
@@ -269,7 +269,7 @@ module _ (names : Names) where
       none_left last (w ∷ []) e = e
       none_left last (w ∷ x ∷ more) e = e
 
-  -- a client
+  -- a word for a client is read as that
   says_client : (new : Wanted) (last : List ℕ) (words : List (List ℕ)) →
       words_reason names last (Wanted.Client ∷ new ∷ Wanted.End ∷ []) words ≡ None → ArgumentRead ArgumentForm.Client words new
   says_client new last [] e = absurd (cc)
@@ -287,7 +287,7 @@ module _ (names : Names) where
         left = one_left new word rest both.1;
       }
 
-  -- `children`, or nothing
+  -- `children` is read as that, and no word as none
   says_children : (last : List ℕ) (words : List (List ℕ)) →
       words_reason names last (Wanted.Children ∷ Wanted.End ∷ Wanted.End ∷ []) words ≡ None →
       ArgumentRead ArgumentForm.Children words Wanted.End
@@ -315,7 +315,7 @@ module _ (names : Names) where
         left = one_left Wanted.End word rest both.1;
       }
 
-  -- three numbers in range
+  -- three words for numbers are read, since each is within its bounds
   says_constraints : (last : List ℕ) (words : List (List ℕ)) →
       words_reason names last (Wanted.Camping ∷ Wanted.AtLeast ∷ Wanted.Size ∷ []) words ≡ None →
       ArgumentRead ArgumentForm.Constraints words Wanted.End
@@ -343,7 +343,7 @@ module _ (names : Names) where
         left = ended_so size rest all.1;
       }
 
-  -- a number
+  -- a word for a number is read, since it is within bounds that 32 bits have
   says_most : (new : Wanted) (last : List ℕ) (words : List (List ℕ)) →
       words_reason names last (Wanted.Number ∷ new ∷ Wanted.End ∷ []) words ≡ None → ArgumentRead ArgumentForm.Most words new
   says_most new last [] e = absurd (cc)
@@ -361,7 +361,7 @@ module _ (names : Names) where
         left = one_left new word rest both.1;
       }
 
-  -- a strength
+  -- a word for a strength is read as that
   says_strength : (new : Wanted) (last : List ℕ) (words : List (List ℕ)) →
       words_reason names last (Wanted.Strength ∷ new ∷ Wanted.End ∷ []) words ≡ None → ArgumentRead ArgumentForm.Strength words new
   says_strength new last [] e = absurd (cc)
@@ -379,7 +379,7 @@ module _ (names : Names) where
         left = one_left new word rest both.1;
       }
 
-  -- a strength and a client
+  -- two words for a strength and a client are read, each by its own test
   says_gift : (new : Wanted) (last : List ℕ) (words : List (List ℕ)) →
       words_reason names last (Wanted.Strength ∷ Wanted.Client ∷ new ∷ []) words ≡ None → ArgumentRead ArgumentForm.Gift words new
   says_gift new last [] e = absurd (cc)
@@ -400,7 +400,7 @@ module _ (names : Names) where
         left = both.1;
       }
 
-  -- what a call of such a form says
+  -- by the form: what else the call says is read of the words that it wants
   argument_so : (says : ArgumentForm) (new : Wanted) (last : List ℕ) (words : List (List ℕ)) → Ends says new →
       words_reason names last (three says new) words ≡ None → ArgumentRead says words new
   argument_so ArgumentForm.Nothing new last words ends e = says_nothing new last words e
@@ -422,14 +422,14 @@ module _ (names : Names) where
     read : binds_read brings words ≡ Some (binds, [])
     acts : (client : ℕ) (call : Call) → is_some (act_binding names brings client call binds) ≡ true
 
-  -- no label
+  -- what brings nothing with a label reads no word, and none is left
   brings_nothing : (brings : Product) (last : List ℕ) (words : List (List ℕ)) →
       ((ws : List (List ℕ)) → binds_read brings ws ≡ Some (None, ws)) →
       words_reason names last (Wanted.End ∷ []) words ≡ None → BindsRead brings words
   brings_nothing brings last [] reads e = record { binds = None; read = reads []; acts = λ client call. refl }
   brings_nothing brings last (word ∷ more) reads e = absurd (cc)
 
-  -- a label of a node
+  -- a word for a new node is read by its label, which its own test finds free
   brings_node : (brings : Product) (last : List ℕ) (words : List (List ℕ)) →
       ((ws : List (List ℕ)) → binds_read brings ws ≡ first_read (λ word. option_map Some (label_of word)) ws) → is_tracker brings ≡ false →
       words_reason names last (Wanted.NewNode ∷ []) words ≡ None → BindsRead brings words
@@ -444,7 +444,7 @@ module _ (names : Names) where
         acts = λ client call. rw (none, free) refl;
       }
 
-  -- a label of a tracker
+  -- a word for a new tracker is read by its label, which its own test finds free
   brings_tracker : (last : List ℕ) (words : List (List ℕ)) →
       words_reason names last (Wanted.NewTracker ∷ []) words ≡ None → BindsRead Product.Tracker words
   brings_tracker last [] e = absurd (cc)
@@ -458,7 +458,7 @@ module _ (names : Names) where
         acts = λ client call. rw free refl;
       }
 
-  -- what a call brings
+  -- by what the call brings: its label is read, and none is left
   binds_so : (brings : Product) (last : List ℕ) (words : List (List ℕ)) →
       words_reason names last (new_wanted brings ∷ []) words ≡ None → BindsRead brings words
   binds_so Product.Nothing last words e = brings_nothing Product.Nothing last words (λ ws. refl) e
@@ -471,7 +471,7 @@ module _ (names : Names) where
 
   -- ---- a call
 
-  -- what a call is made on and what it says make it
+  -- by the kind: an object and an argument of the forms in its row make its call
   made_so : (kind : CallKind) (object : Object NodeKey BufferName) (argument : Argument ℕ) → is_on (row_of kind).on object ≡ true →
       is_said (row_of kind).says argument ≡ true → is_some (call_made kind object argument) ≡ true
   made_so CallKind.Join Object.Nothing Argument.Nothing on said = refl
@@ -499,7 +499,7 @@ module _ (names : Names) where
   made_so CallKind.TrackWeak (Object.Buffer buffer) Argument.Nothing on said = refl
   made_so _ _ _ on said = absurd (cc)
 
-  -- the three words behind what a call is made on
+  -- by the form: behind what the call is made on follow its three words
   first_so : (says : ArgumentForm) (on : Target) (new : Wanted) (last : List ℕ) (words : List (List ℕ)) →
       words_reason names last (wanted_by says on new) words ≡ None → ObjectRead on words (three says new)
   first_so ArgumentForm.Nothing on new last words e = object_so on new Wanted.End Wanted.End last words e
@@ -511,7 +511,7 @@ module _ (names : Names) where
   first_so ArgumentForm.Strength on new last words e = object_so on Wanted.Strength new Wanted.End last words e
   first_so ArgumentForm.Gift on new last words e = object_so on Wanted.Strength Wanted.Client new last words e
 
-  -- the kinds that say what may be left out, or three numbers, bring nothing
+  -- the kinds whose argument may be left out, or has three words, bring nothing: their rows say so
   ends_so : (kind : CallKind) → Ends (row_of kind).says (new_wanted (row_of kind).brings)
   ends_so CallKind.SetWeakOk = refl
   ends_so CallKind.SetConstraints = refl
@@ -523,7 +523,7 @@ module _ (names : Names) where
     pub read : request_of kind words ≡ Some request
     pub acts : (client : ℕ) → is_some (ask_by names client request) ≡ true
 
-  -- good words behind a verb ask for something
+  -- good words behind a verb ask for something: object, argument and label are read one after another
   pub request_so : (kind : CallKind) (last : List ℕ) (words : List (List ℕ)) →
       words_reason names last (wanted_of_kind kind) words ≡ None → RequestRead kind words
   request_so kind last words e =

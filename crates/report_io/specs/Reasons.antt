@@ -225,6 +225,10 @@ line_reason names line =
 abbrev pub IsReason : Names → List ℕ → List ℕ → Type 0
 IsReason names line words = (reason : Reason) × ((line_reason names line ≡ Some reason) × (words ≡ reason_text reason))
 
+-- what is told of a last line that has no end
+abbrev pub unended_reason : List ℕ
+unended_reason = codes "the last line has no end"
+
 -- what is told of a line that was called bad: the reason, or these words where no test fails
 abbrev pub bad_text : Names → List ℕ → List ℕ
 bad_text names line = option_map_or reason_text (line_reason names line) (codes "no such line")

@@ -1,8 +1,8 @@
 //! Why a script was not reported on to its end.
-ghost use Rattle.std.specs.Prelude.{◌≡◌, ◌++◌, None, OnOk, codes};
+ghost use Rattle.std.specs.Prelude.{◌≡◌, ◌++◌, None, OnOk};
 ghost use Rattle.script_labels.specs.Names.{Names, act_in};
 ghost use Rattle.script_labels.specs.Tables.{Keeps};
-ghost use Rattle.report_io.specs.Reasons.{bad_text};
+ghost use Rattle.report_io.specs.Reasons.{bad_text, unended_reason};
 ghost use Rattle.report_io.specs.Faults.{GivesReason, HasReason, IsBadLine, IsFaultOf, fault_status, fault_text, sought_name};
 
 use crate::reasons::line_fault;
@@ -166,7 +166,7 @@ pub fn bad_line(alloc: Global, number: u64, words: &str) -> ReportFault
 /// The fault that the last line, the one of this number, has no end. Takes O(1) time.
 pub fn unended(alloc: Global, number: u64) -> ReportFault
     ensures line { IsBadLine number result }
-    ensures reason { HasReason (codes "the last line has no end") result }
+    ensures reason { HasReason unended_reason result }
 {
     bad_line(alloc, number, "the last line has no end")
 }

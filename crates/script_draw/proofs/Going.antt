@@ -6,7 +6,7 @@ use Rattle.script_lines.specs.declared.TheConstants.{MOST_BYTES}
 use Rattle.script_lines.specs.Pieces.{whole_lines, last_part}
 use Rattle.script_lines.proofs.Piecing.{is_end}
 use Rattle.report_io.specs.declared.fault.ReportFault.{ReportFault}
-use Rattle.report_io.specs.Faults.{IsBadLine}
+use Rattle.report_io.specs.Faults.{HasReason, IsBadLine}
 use Rattle.report_io.proofs.LinesTaken.{AreTaken, last-number, next-number, none-left, rest-all}
 use Rattle.report_io.proofs.LinesTaken.{taken-all, taken-at, taken-more, taken-none, taken-room}
 use Rattle.sm_script.specs.Scenes.{Setting}
@@ -16,6 +16,7 @@ use Rattle.script_draw.specs.declared.draw.Until.{Until}
 use Rattle.script_draw.specs.Played.{IsAhead, asked_number, found, is_reached}
 use Rattle.script_draw.specs.Reached.{PlaysLine, PlayHalts, PlayHalted, IsPlayedOn, PlayLinesHalt, Reached}
 use Rattle.script_draw.proofs.Playing.{ahead-of}
+use Rattle.report_io.specs.Reasons.{unended_reason}
 
 -- some lines were played, and their number is this
 pub record Along (script rest : List ℕ) (number : ℕ) (until : Until) (first now : Scroll) : Type 0 where
@@ -72,15 +73,15 @@ halted-lines setting until scroll script ReportFault.NoMemory stop = stop
 halted-at-end : (setting : Setting) (until : Until) (scroll : Scroll) (script : List ℕ) (number : ℕ) (fault : ReportFault)
     (far : Reached setting until scroll (whole_lines script)) →
     IsAhead until setting.pool (whole_lines script) far.scene → last_part script ≢ [] →
-    number ≡ length (whole_lines script) + 1 → IsBadLine number fault → PlayLinesHalt setting until scroll script fault
-halted-at-end setting until scroll script number ReportFault.ReadFault far ahead some numbered is = absurd is
-halted-at-end setting until scroll script number ReportFault.TooLong far ahead some numbered is = absurd is
-halted-at-end setting until scroll script number ReportFault.WriteFault far ahead some numbered is = absurd is
-halted-at-end setting until scroll script number ReportFault.HistoryFull far ahead some numbered is = absurd is
-halted-at-end setting until scroll script number (ReportFault.Missing sought n) far ahead some numbered is = absurd is
-halted-at-end setting until scroll script number (ReportFault.BadLine n reason) far ahead some numbered is =
-    inr (record { unended = some; numbered = is ∙ numbered; reached = far; ahead = ahead })
-halted-at-end setting until scroll script number ReportFault.NoMemory far ahead some numbered is = tt
+    number ≡ length (whole_lines script) + 1 → IsBadLine number fault → HasReason unended_reason fault → PlayLinesHalt setting until scroll script fault
+halted-at-end setting until scroll script number ReportFault.ReadFault far ahead some numbered is told = absurd is
+halted-at-end setting until scroll script number ReportFault.TooLong far ahead some numbered is told = absurd is
+halted-at-end setting until scroll script number ReportFault.WriteFault far ahead some numbered is told = absurd is
+halted-at-end setting until scroll script number ReportFault.HistoryFull far ahead some numbered is told = absurd is
+halted-at-end setting until scroll script number (ReportFault.Missing sought n) far ahead some numbered is told = absurd is
+halted-at-end setting until scroll script number (ReportFault.BadLine n reason) far ahead some numbered is told =
+    inr (record { unended = some; numbered = is ∙ numbered; reasoned = told; reached = far; ahead = ahead })
+halted-at-end setting until scroll script number ReportFault.NoMemory far ahead some numbered is told = tt
 
 module _ (script rest : List ℕ) (number : ℕ) (until : Until) (first now : Scroll) (along : Along script rest number until first now)
     (small : length script ≤ MOST_BYTES) where
@@ -163,13 +164,13 @@ module _ (script rest : List ℕ) (number : ℕ) (until : Until) (first now : Sc
 
       -- the last line has no end
       pub along-unended : (length rest == 0) ≡ false → (count : ℕ) → count ≡ min (number + 1) (2 ^ 64 - 1) →
-          (fault : ReportFault) → IsBadLine count fault → (setting : Setting) → Reached setting until first [] →
+          (fault : ReportFault) → IsBadLine count fault → HasReason unended_reason fault → (setting : Setting) → Reached setting until first [] →
           PlayLinesHalt setting until now script fault
-      along-unended some count counted fault is setting far =
+      along-unended some count counted fault is told setting far =
           let so_far = along.reached setting far in
           subst (λ (ls : List (List ℕ)). (lines_is : whole_lines script ≡ ls) → (there : Reached setting until now ls) →
           IsAhead until setting.pool ls there.scene → PlayLinesHalt setting until now script fault) all-taken
           (λ lines_is there ahead. halted-at-end setting until now script count fault there ahead
           (λ e. some_behind [] rest some (sym (rest-all script rest along.taken along.takes none) ∙ e))
-          (last-number script rest along.taken along.takes small none number count along.numbered counted) is)
+          (last-number script rest along.taken along.takes small none number count along.numbered counted) is told)
           all-taken so_far (along-ahead setting far)

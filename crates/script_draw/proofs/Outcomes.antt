@@ -128,6 +128,7 @@ module _ (setting : Setting) (view : View) (scroll : Scroll) (old new : Option (
   stop-left (ReportFault.BadLine n reason) test (inr stop) left = inr (record {
     unended = stop.unended;
     numbered = stop.numbered;
+    reasoned = stop.reasoned;
     scene = stop.reached.scene;
     last = scroll.line.items;
     reaches = far-reaches setting view.until scroll (whole_lines script) stop.reached;

@@ -8,7 +8,7 @@ use Rattle.sm_names.specs.Bounds.{Bound}
 use Rattle.sm_names.specs.Marks.{events}
 use Rattle.sm_names.specs.Timelines.{timeline}
 use Rattle.report_io.specs.declared.fault.ReportFault.{ReportFault}
-use Rattle.report_io.specs.Faults.{IsFaultOf}
+use Rattle.report_io.specs.Faults.{GivesReason, IsFaultOf}
 use Rattle.report_io.specs.IndentedLines.{is_indented, unindented}
 use Rattle.sm_script.proofs.Settings.{legal-in}
 use Rattle.report_io.proofs.Unindented.{unindented-more, unindented-skip}
@@ -250,7 +250,7 @@ module _ (setting : Setting) (until : Until) (scroll : Scroll) (lines : List (Li
         }
 
 -- a bad line and a refusal of memory are different reasons to stop
-bad-memory : LineStop.BadLine ≡ LineStop.NoMemory → ⊥
+pub bad-memory : LineStop.BadLine ≡ LineStop.NoMemory → ⊥
 bad-memory e = cc
 
 -- a full history and a refusal of memory are different reasons to stop
@@ -262,12 +262,14 @@ module _ (setting : Setting) (until : Until) (old new : Scroll) (lines : List (L
     (same : stop ≢ LineStop.NoMemory → new ≡ old) (why : IsHeldUp setting far.scene line stop) (number : ℕ)
     (numbered : number ≡ length lines + 1) where
   -- the line was not played
-  pub far-stop : (fault : ReportFault) → IsFaultOf number stop fault → PlayHalts setting until new (lines ++ line ∷ []) fault
-  far-stop ReportFault.ReadFault is = absurd is
-  far-stop ReportFault.TooLong is = absurd is
-  far-stop ReportFault.WriteFault is = absurd is
-  far-stop (ReportFault.Missing sought n) is = absurd is
-  far-stop (ReportFault.BadLine n reason) is =
+  pub far-stop : (fault : ReportFault) → IsFaultOf number stop fault →
+      (stop ≡ LineStop.BadLine → act_in far.scene.names line ≡ None → GivesReason far.scene.names line fault) →
+      PlayHalts setting until new (lines ++ line ∷ []) fault
+  far-stop ReportFault.ReadFault is told = absurd is
+  far-stop ReportFault.TooLong is told = absurd is
+  far-stop ReportFault.WriteFault is told = absurd is
+  far-stop (ReportFault.Missing sought n) is told = absurd is
+  far-stop (ReportFault.BadLine n reason) is told =
       let held = subst (IsHeldUp setting far.scene line) is.0 why in
       subst (λ (s : Scroll). PlayHalted setting until s (lines ++ line ∷ []) (ReportFault.BadLine n reason))
       (sym (same (λ e. bad-memory (sym is.0 ∙ e)))) (record {
@@ -278,9 +280,9 @@ module _ (setting : Setting) (until : Until) (old new : Scroll) (lines : List (L
         whole = held.0;
         reached = far;
         ahead = before;
-        why = (held.1, is.1 ∙ numbered);
+        why = (held.1, is.1 ∙ numbered, told is.0 held.1);
       })
-  far-stop ReportFault.HistoryFull is =
+  far-stop ReportFault.HistoryFull is told =
       let held = subst (IsHeldUp setting far.scene line) is why in
       subst (λ (s : Scroll). PlayHalted setting until s (lines ++ line ∷ []) ReportFault.HistoryFull)
       (sym (same (λ e. full-memory (sym is ∙ e)))) (record {
@@ -293,7 +295,7 @@ module _ (setting : Setting) (until : Until) (old new : Scroll) (lines : List (L
         ahead = before;
         why = held.1;
       })
-  far-stop ReportFault.NoMemory is = tt
+  far-stop ReportFault.NoMemory is told = tt
 
 -- why a line that asks for the act was not played
 abbrev pub HeldUp : Scroll → List ℕ → Act → LineStop → Type 0

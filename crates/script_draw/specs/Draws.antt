@@ -13,6 +13,7 @@ use Rattle.report_io.specs.declared.fault.ReportFault.{ReportFault}
 use Rattle.report_io.specs.declared.fault.Sought.{Sought}
 use Rattle.report_io.specs.Faults.{IsReported, fault_status}
 use Rattle.report_io.specs.IndentedLines.{is_indented}
+use Rattle.report_io.specs.Reasons.{IsReason, unended_reason}
 use Rattle.script_labels.specs.Names.{Names, act_in}
 use Rattle.sm_script.specs.Runs.{IsUnkept}
 use Rattle.sm_script.specs.Scenes.{Scene, Setting}
@@ -121,9 +122,10 @@ abbrev pub PictureBefore : Option ℕ → ℕ → Format → Setting → Scene �
 PictureBefore None count format setting scene last old new = IsPictured format setting scene last old new
 PictureBefore (Some number) count format setting scene last old new = (count < number) × Keeps old new
 
--- why the line of this number was not played
+-- why the line of this number was not played: it is bad, which is told with its number and its reason, or the history is full
 abbrev pub PictureFault : Setting → Scene → List ℕ → ℕ → ReportFault → Type 0
-PictureFault setting scene line number (ReportFault.BadLine n reason) = (act_in scene.names line ≡ None) × (n ≡ number)
+PictureFault setting scene line number (ReportFault.BadLine n reason) =
+    (act_in scene.names line ≡ None) × (n ≡ number) × IsReason scene.names line reason.items
 PictureFault setting scene line number ReportFault.HistoryFull = IsUnkept setting scene line
 PictureFault setting scene line number _ = ⊥
 
@@ -141,9 +143,11 @@ pub record IsUnplayed (setting : Setting) (view : View) (old new : Option (List 
   pub left : PictureBefore (asked_number view.until) (found view.until setting.pool before scene) view.format setting scene last old new
 
 -- the last line has no end, and all others were played
-pub record PictureUnended (setting : Setting) (view : View) (old new : Option (List ℕ)) (script : List ℕ) (number : ℕ) : Type 0 where
+pub record PictureUnended (setting : Setting) (view : View) (old new : Option (List ℕ)) (script : List ℕ) (number : ℕ)
+    (reason : List ℕ) : Type 0 where
   pub unended : last_part script ≢ []
   pub numbered : number ≡ length (whole_lines script) + 1
+  pub reasoned : reason ≡ unended_reason
   pub scene : Scene
   pub last : List ℕ
   pub reaches : LeadsToScene setting (whole_lines script) scene last
@@ -169,7 +173,8 @@ pub record IsMissing (setting : Setting) (view : View) (old new : Option (List �
 abbrev pub PictureLinesStop : Setting → View → Option (List ℕ) → Option (List ℕ) → List ℕ → ReportFault → Type 0
 PictureLinesStop setting view old new script ReportFault.WriteFault = PictureCutOff setting view old new script
 PictureLinesStop setting view old new script (ReportFault.BadLine n reason) =
-    IsUnplayed setting view old new script (ReportFault.BadLine n reason) ⊎ PictureUnended setting view old new script n
+    IsUnplayed setting view old new script (ReportFault.BadLine n reason)
+    ⊎ PictureUnended setting view old new script n reason.items
 PictureLinesStop setting view old new script ReportFault.HistoryFull = IsUnplayed setting view old new script ReportFault.HistoryFull
 PictureLinesStop setting view old new script ReportFault.NoMemory = Keeps old new
 PictureLinesStop setting view old new script (ReportFault.Missing sought number) =

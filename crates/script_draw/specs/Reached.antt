@@ -3,6 +3,7 @@ use Rattle.std.specs.Prelude.{ℕ, ◌≡◌, ◌≢◌, ◌⊎◌, ◌+◌, ◌
 use Rattle.script_lines.specs.Pieces.{whole_lines, last_part}
 use Rattle.report_io.specs.declared.fault.ReportFault.{ReportFault}
 use Rattle.report_io.specs.IndentedLines.{is_indented}
+use Rattle.report_io.specs.Reasons.{unended_reason}
 use Rattle.sm_names.specs.declared.messages.Call.{Call}
 use Rattle.script_labels.specs.declared.act.Act.{Act}
 use Rattle.script_labels.specs.declared.act.Binds.{Binds}
@@ -86,16 +87,18 @@ PlayHalts setting until scroll lines ReportFault.NoMemory = Unit {0}
 PlayHalts setting until scroll lines _ = ⊥
 
 -- the last line has no end, and all others were played
-pub record PlayUnended (setting : Setting) (until : Until) (scroll : Scroll) (script : List ℕ) (number : ℕ) : Type 0 where
+pub record PlayUnended (setting : Setting) (until : Until) (scroll : Scroll) (script : List ℕ) (number : ℕ) (reason : List ℕ)
+    : Type 0 where
   pub unended : last_part script ≢ []
   pub numbered : number ≡ length (whole_lines script) + 1
+  pub reasoned : reason ≡ unended_reason
   pub reached : Reached setting until scroll (whole_lines script)
   pub ahead : IsAhead until setting.pool (whole_lines script) reached.scene
 
 -- why a script was not played to its end, or to what is asked for
 abbrev pub PlayLinesHalt : Setting → Until → Scroll → List ℕ → ReportFault → Type 0
 PlayLinesHalt setting until scroll script (ReportFault.BadLine n reason) =
-    PlayHalts setting until scroll (whole_lines script) (ReportFault.BadLine n reason) ⊎ PlayUnended setting until scroll script n
+    PlayHalts setting until scroll (whole_lines script) (ReportFault.BadLine n reason) ⊎ PlayUnended setting until scroll script n reason.items
 PlayLinesHalt setting until scroll script fault = PlayHalts setting until scroll (whole_lines script) fault
 
 -- what is asked for was reached; or it was not, and these are all lines

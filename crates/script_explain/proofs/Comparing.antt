@@ -7,7 +7,7 @@ use Rattle.std.specs.Io.KnownBytes.{Consumes, IsAtEnd}
 use Rattle.script_lines.specs.declared.TheConstants.{MOST_BYTES}
 use Rattle.script_lines.specs.Pieces.{whole_lines, last_part}
 use Rattle.report_io.specs.declared.fault.ReportFault.{ReportFault}
-use Rattle.report_io.specs.Faults.{IsBadLine, IsFaultOf, IsReported}
+use Rattle.report_io.specs.Faults.{GivesReason, HasReason, IsBadLine, IsFaultOf, IsReported}
 use Rattle.report_io.specs.IndentedLines.{behind_indent, indented, is_indented, unindented}
 use Rattle.report_io.specs.Streams.{IsUnread}
 use Rattle.sm_script.proofs.Settings.{legal-in, over-in}
@@ -24,10 +24,12 @@ use Rattle.sm_script.proofs.Playing.{plays-more}
 use Rattle.script_explain.specs.declared.check.Comparison.{Comparison}
 use Rattle.script_explain.specs.declared.check.Outcome.{Outcome}
 use Rattle.script_explain.specs.declared.check.CheckResult.{CheckResult}
-use Rattle.script_explain.specs.Comparisons.{Agreement, Agrees, Begins, Remarks, Replies, Plays, Checks, Difference, EndsChecked}
+use Rattle.script_explain.specs.Comparisons.{Agreement, Agrees, Begins, Checks, Difference, EndsChecked, Plays, Remarks, Replies, early_reason}
 use Rattle.script_explain.specs.Comparisons.{FullAgreement, IsJudged, IsRemark, IsSaid, IsUnchecked, IsVerdict, ComparisonLinesStop}
 use Rattle.script_explain.specs.Comparisons.{TranscriptPlace, Records, ComparisonStopped, checking_status, lines_with, told_difference}
 use Rattle.script_explain.specs.Progress.{CheckHalted, Compared, Ended, comparison_place, lines_counted}
+use Rattle.report_io.specs.Reasons.{unended_reason}
+use Rattle.script_labels.specs.Names.{act_in}
 
 -- the lines that are not indented are played, one after another
 pub agrees-plays : (pool : ℕ) (lines : List (List ℕ)) (at : TranscriptPlace) → Agrees pool lines at →
@@ -219,21 +221,29 @@ module _ (setting : Setting) (c : Comparison) (lines : List (List ℕ)) (far : C
   pub far-unplayed : (line : List ℕ) (stop : LineStop) (number : ℕ) (fault : ReportFault) → is_indented line ≡ false →
       ((scene : Scene) → IsAt c.event_writer.session scene → IsStopped c.event_writer.session line scene stop) →
       IsFaultOf number stop fault →
+      (stop ≡ LineStop.BadLine → act_in far.scene.names line ≡ None → GivesReason far.scene.names line fault) →
       number ≡ length lines + 1 → CheckHalted setting (lines ++ line ∷ []) fault
-  far-unplayed line stop number ReportFault.ReadFault whole why is numbered = absurd is
-  far-unplayed line stop number ReportFault.TooLong whole why is numbered = absurd is
-  far-unplayed line stop number ReportFault.WriteFault whole why is numbered = absurd is
-  far-unplayed line stop number (ReportFault.Missing sought n) whole why is numbered = absurd is
-  far-unplayed line stop number (ReportFault.BadLine n reason) whole why is numbered = record {
+  far-unplayed line stop number ReportFault.ReadFault whole why is told numbered = absurd is
+  far-unplayed line stop number ReportFault.TooLong whole why is told numbered = absurd is
+  far-unplayed line stop number ReportFault.WriteFault whole why is told numbered = absurd is
+  far-unplayed line stop number (ReportFault.Missing sought n) whole why is told numbered = absurd is
+  far-unplayed line stop number (ReportFault.BadLine n reason) whole why is told numbered = record {
     before = lines;
     line = line;
     after = [];
     split = refl;
     at = comparison_place c far.scene far.kept;
     agreed = far-agreed;
-    why = (is.1 ∙ numbered, inl (whole, subst (IsStopped c.event_writer.session line far.scene) is.0 (why far.scene far.knows.is_at)));
+    why = (
+      is.1 ∙ numbered,
+      inl (
+        whole,
+        subst (IsStopped c.event_writer.session line far.scene) is.0 (why far.scene far.knows.is_at),
+        told is.0 (subst (IsStopped c.event_writer.session line far.scene) is.0 (why far.scene far.knows.is_at)),
+      ),
+    );
   }
-  far-unplayed line stop number ReportFault.HistoryFull whole why is numbered = record {
+  far-unplayed line stop number ReportFault.HistoryFull whole why is told numbered = record {
     before = lines;
     line = line;
     after = [];
@@ -246,26 +256,26 @@ module _ (setting : Setting) (c : Comparison) (lines : List (List ℕ)) (far : C
           (subst (IsStopped c.event_writer.session line far.scene) is (why far.scene far.knows.is_at)),
     );
   }
-  far-unplayed line stop number ReportFault.NoMemory whole why is numbered = tt
+  far-unplayed line stop number ReportFault.NoMemory whole why is told numbered = tt
 
   -- a reply stands before the first line that is played
   pub far-unasked : (line reply : List ℕ) (number : ℕ) (fault : ReportFault) → Records line reply → c.lines ≡ 0 →
-      IsBadLine number fault → number ≡ length lines + 1 → CheckHalted setting (lines ++ line ∷ []) fault
-  far-unasked line reply number ReportFault.ReadFault records none is numbered = absurd is
-  far-unasked line reply number ReportFault.TooLong records none is numbered = absurd is
-  far-unasked line reply number ReportFault.WriteFault records none is numbered = absurd is
-  far-unasked line reply number ReportFault.HistoryFull records none is numbered = absurd is
-  far-unasked line reply number (ReportFault.Missing sought n) records none is numbered = absurd is
-  far-unasked line reply number (ReportFault.BadLine n reason) records none is numbered = record {
+      IsBadLine number fault → HasReason early_reason fault → number ≡ length lines + 1 → CheckHalted setting (lines ++ line ∷ []) fault
+  far-unasked line reply number ReportFault.ReadFault records none is told numbered = absurd is
+  far-unasked line reply number ReportFault.TooLong records none is told numbered = absurd is
+  far-unasked line reply number ReportFault.WriteFault records none is told numbered = absurd is
+  far-unasked line reply number ReportFault.HistoryFull records none is told numbered = absurd is
+  far-unasked line reply number (ReportFault.Missing sought n) records none is told numbered = absurd is
+  far-unasked line reply number (ReportFault.BadLine n reason) records none is told numbered = record {
     before = lines;
     line = line;
     after = [];
     split = refl;
     at = comparison_place c far.scene far.kept;
     agreed = far-agreed;
-    why = (is ∙ numbered, inr (reply, records, none));
+    why = (is ∙ numbered, inr (reply, records, none, told));
   }
-  far-unasked line reply number ReportFault.NoMemory records none is numbered = tt
+  far-unasked line reply number ReportFault.NoMemory records none is told numbered = tt
 
 module _ (setting : Setting) (lines all more : List (List ℕ)) (is : all ≡ lines ++ more) where
   -- a line of the first lines that stops the check also stops the check of all lines
@@ -320,19 +330,20 @@ unchecked-lines setting script ReportFault.NoMemory stop = stop
 -- the last line has no end
 pub unchecked-at-end : (setting : Setting) (c : Comparison) (script : List ℕ) (number : ℕ) (fault : ReportFault) →
     Compared setting c (whole_lines script) → last_part script ≢ [] → number ≡ length (whole_lines script) + 1 →
-    IsBadLine number fault → ComparisonLinesStop setting script fault
-unchecked-at-end setting c script number ReportFault.ReadFault far some numbered is = absurd is
-unchecked-at-end setting c script number ReportFault.TooLong far some numbered is = absurd is
-unchecked-at-end setting c script number ReportFault.WriteFault far some numbered is = absurd is
-unchecked-at-end setting c script number ReportFault.HistoryFull far some numbered is = absurd is
-unchecked-at-end setting c script number (ReportFault.Missing sought n) far some numbered is = absurd is
-unchecked-at-end setting c script number (ReportFault.BadLine n reason) far some numbered is = inr (record {
+    IsBadLine number fault → HasReason unended_reason fault → ComparisonLinesStop setting script fault
+unchecked-at-end setting c script number ReportFault.ReadFault far some numbered is told = absurd is
+unchecked-at-end setting c script number ReportFault.TooLong far some numbered is told = absurd is
+unchecked-at-end setting c script number ReportFault.WriteFault far some numbered is told = absurd is
+unchecked-at-end setting c script number ReportFault.HistoryFull far some numbered is told = absurd is
+unchecked-at-end setting c script number (ReportFault.Missing sought n) far some numbered is told = absurd is
+unchecked-at-end setting c script number (ReportFault.BadLine n reason) far some numbered is told = inr (record {
   unended = some;
   numbered = is ∙ numbered;
+  reasoned = told;
   at = comparison_place c far.scene far.kept;
   agreed = far-agreed setting c (whole_lines script) far;
 })
-unchecked-at-end setting c script number ReportFault.NoMemory far some numbered is = tt
+unchecked-at-end setting c script number ReportFault.NoMemory far some numbered is told = tt
 
 -- nothing was written where no verdict was found
 pub stopped-same : (setting : Setting) (old : Option (List ℕ)) (script : List ℕ) (fault : ReportFault) →

@@ -6,7 +6,7 @@ use Rattle.script_lines.specs.declared.TheConstants.{MOST_BYTES}
 use Rattle.script_lines.specs.Pieces.{whole_lines, last_part}
 use Rattle.script_lines.proofs.Piecing.{is_end}
 use Rattle.report_io.specs.declared.fault.ReportFault.{ReportFault}
-use Rattle.report_io.specs.Faults.{IsBadLine}
+use Rattle.report_io.specs.Faults.{HasReason, IsBadLine}
 use Rattle.report_io.proofs.LinesTaken.{AreTaken, last-number, next-number, none-left, rest-all}
 use Rattle.report_io.proofs.LinesTaken.{taken-all, taken-at, taken-more, taken-none, taken-room}
 use Rattle.sm_script.specs.Scenes.{Setting}
@@ -18,6 +18,7 @@ use Rattle.script_explain.specs.Comparisons.{Difference, ComparisonLinesStop}
 use Rattle.script_explain.specs.Progress.{CheckHalted, Compared, Ended, Explained, Halted, Judges, LinesHalted, ExplainedSoFar}
 use Rattle.script_explain.proofs.Comparing.{difference-more, unchecked-at-end, unchecked-lines, unchecked-more}
 use Rattle.script_explain.proofs.Outcomes.{halted-at-end, halted-lines, halted-more}
+use Rattle.report_io.specs.Reasons.{unended_reason}
 
 -- some lines were explained, and their number is this
 pub record Along (only : Bool) (script rest : List ℕ) (number : ℕ) (first : Seen) (mid : Option (List ℕ)) (before : List ℕ) (now : Seen)
@@ -83,12 +84,12 @@ module _ (only : Bool) (script rest : List ℕ) (number : ℕ) (first : Seen) (m
 
     -- the last line has no end
     pub along-unended : (length rest == 0) ≡ false → (count : ℕ) → count ≡ min (number + 1) (2 ^ 64 - 1) →
-        (fault : ReportFault) → IsBadLine count fault → (setting : Setting) (old : Option (List ℕ)) →
+        (fault : ReportFault) → IsBadLine count fault → HasReason unended_reason fault → (setting : Setting) (old : Option (List ℕ)) →
         ExplainedSoFar setting only first old mid before [] → LinesHalted setting only old new after script fault
-    along-unended some count counted fault is setting old far =
+    along-unended some count counted fault is told setting old far =
         halted-at-end setting only now old new after script count fault (along-all setting old far)
         (λ e. some_behind [] rest some (sym (rest-all script rest along.taken along.takes none) ∙ e))
-        (last-number script rest along.taken along.takes small none number count along.numbered counted) is
+        (last-number script rest along.taken along.takes small none number count along.numbered counted) is told
 
 -- some lines were compared, and agree
 pub record Agreeing (script rest : List ℕ) (number : ℕ) (first now : Comparison) : Type 0 where
@@ -174,9 +175,9 @@ module _ (script rest : List ℕ) (number : ℕ) (first now : Comparison) (along
 
     -- the last line has no end
     pub agreeing-unended : (length rest == 0) ≡ false → (count : ℕ) → count ≡ min (number + 1) (2 ^ 64 - 1) →
-        (fault : ReportFault) → IsBadLine count fault → (setting : Setting) → Compared setting first [] →
+        (fault : ReportFault) → IsBadLine count fault → HasReason unended_reason fault → (setting : Setting) → Compared setting first [] →
         ComparisonLinesStop setting script fault
-    agreeing-unended some count counted fault is setting far =
+    agreeing-unended some count counted fault is told setting far =
         unchecked-at-end setting now script count fault (all-agree setting far)
         (λ e. some_behind [] rest some (sym (rest-all script rest along.taken along.takes none) ∙ e))
-        (last-number script rest along.taken along.takes small none number count along.numbered counted) is
+        (last-number script rest along.taken along.takes small none number count along.numbered counted) is told

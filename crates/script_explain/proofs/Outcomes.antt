@@ -8,7 +8,7 @@ use Rattle.script_lines.specs.declared.TheConstants.{MOST_BYTES}
 use Rattle.script_lines.specs.Pieces.{whole_lines, last_part}
 use Rattle.script_lines.specs.Written.{WritesPart}
 use Rattle.report_io.specs.declared.fault.ReportFault.{ReportFault}
-use Rattle.report_io.specs.Faults.{IsBadLine, IsReported}
+use Rattle.report_io.specs.Faults.{HasReason, IsBadLine, IsReported}
 use Rattle.report_io.specs.Streams.{IsUnread}
 use Rattle.sm_script.specs.Scenes.{Rests, Setting, first_scene}
 use Rattle.event_texts.specs.Deeds.{no_lines}
@@ -19,6 +19,7 @@ use Rattle.script_explain.specs.Explanations.{ExplanationLinesStop, LinesTold, W
 use Rattle.script_explain.specs.Progress.{Halted, IsHalted, LinesHalted, ExplainedSoFar}
 use Rattle.script_explain.specs.Tales.{Begins}
 use Rattle.script_explain.proofs.Telling.{far-pending, pending-cut, pending-told}
+use Rattle.report_io.specs.Reasons.{unended_reason}
 
 -- nothing in front of nothing
 nil-front : (a b : List ℕ) → [] ≡ a ++ b → a ≡ []
@@ -104,18 +105,19 @@ halted-lines setting only old new pending script ReportFault.NoMemory stop = sto
 -- the last line has no end
 pub halted-at-end : (setting : Setting) (only : Bool) (seen : Seen) (old new : Option (List ℕ)) (pending script : List ℕ) (number : ℕ)
     (fault : ReportFault) → ExplainedSoFar setting only seen old new pending (whole_lines script) → last_part script ≢ [] →
-    number ≡ length (whole_lines script) + 1 → IsBadLine number fault → LinesHalted setting only old new pending script fault
-halted-at-end setting only seen old new pending script number ReportFault.ReadFault far some numbered is = absurd is
-halted-at-end setting only seen old new pending script number ReportFault.TooLong far some numbered is = absurd is
-halted-at-end setting only seen old new pending script number ReportFault.WriteFault far some numbered is = absurd is
-halted-at-end setting only seen old new pending script number ReportFault.HistoryFull far some numbered is = absurd is
-halted-at-end setting only seen old new pending script number (ReportFault.Missing sought n) far some numbered is = absurd is
-halted-at-end setting only seen old new pending script number (ReportFault.BadLine n reason) far some numbered is = inr (record {
+    number ≡ length (whole_lines script) + 1 → IsBadLine number fault → HasReason unended_reason fault → LinesHalted setting only old new pending script fault
+halted-at-end setting only seen old new pending script number ReportFault.ReadFault far some numbered is told = absurd is
+halted-at-end setting only seen old new pending script number ReportFault.TooLong far some numbered is told = absurd is
+halted-at-end setting only seen old new pending script number ReportFault.WriteFault far some numbered is told = absurd is
+halted-at-end setting only seen old new pending script number ReportFault.HistoryFull far some numbered is told = absurd is
+halted-at-end setting only seen old new pending script number (ReportFault.Missing sought n) far some numbered is told = absurd is
+halted-at-end setting only seen old new pending script number (ReportFault.BadLine n reason) far some numbered is told = inr (record {
   unended = some;
   numbered = is ∙ numbered;
+  reasoned = told;
   so_far = far-pending setting only seen old new pending (whole_lines script) far;
 })
-halted-at-end setting only seen old new pending script number ReportFault.NoMemory far some numbered is = record {
+halted-at-end setting only seen old new pending script number ReportFault.NoMemory far some numbered is told = record {
   before = whole_lines script;
   after = [];
   split = sym (append-nil (whole_lines script));
@@ -148,6 +150,7 @@ module _ (setting : Setting) (only : Bool) (old mid new : Option (List ℕ)) (pe
   lines-stop (ReportFault.BadLine n reason) (inr stop) out = inr (record {
     unended = stop.unended;
     numbered = stop.numbered;
+    reasoned = stop.reasoned;
     told = pending-told setting only old mid pending (whole_lines script) stop.so_far new out;
   })
   lines-stop ReportFault.HistoryFull stop out = stop-told ReportFault.HistoryFull stop out

@@ -1,13 +1,13 @@
 -- An explanation that is extended by one line, or stops at it.
 use Rattle.std.proofs.Common.{◌≡◌, ℕ, ◌+◌, ◌==◌, ◌||◌, not, Bool, true, false, List, [], ◌∷◌, ◌++◌}
-use Rattle.std.proofs.Common.{length, append_assoc, append-nil, refl, sym, ap, ◌∙◌, subst, Option}
+use Rattle.std.proofs.Common.{length, append_assoc, append-nil, refl, sym, ap, ◌∙◌, subst, None, Option}
 use Rattle.std.proofs.KnownBytes.{Appends-nil, Appends-trans}
 use Rattle.std.specs.Io.KnownBytes.{Appends}
 use Rattle.script_lines.specs.Written.{WritesPart}
 use Rattle.sm_names.specs.Timelines.{timeline}
 use Rattle.core_state.proofs.theorem.EventCount.{events-timeline}
 use Rattle.report_io.specs.declared.fault.ReportFault.{ReportFault}
-use Rattle.report_io.specs.Faults.{IsFaultOf}
+use Rattle.report_io.specs.Faults.{GivesReason, IsFaultOf}
 use Rattle.report_io.specs.IndentedLines.{is_indented, unindented}
 use Rattle.sm_script.proofs.Settings.{legal-in, over-in}
 use Rattle.report_io.proofs.Unindented.{unindented-more, unindented-skip}
@@ -26,6 +26,7 @@ use Rattle.script_explain.specs.Explanations.{ExplanationCutOff, IsExplained}
 use Rattle.script_explain.specs.declared.seen.Seen.{Seen}
 use Rattle.script_explain.specs.Progress.{Halted, IsPending, ExplainedSoFar, failing_since, told_between}
 use Rattle.script_explain.specs.Tales.{ExplainsLines, Begins, Passes, Goes, if_told, is_told, numbered_facts, told_line}
+use Rattle.script_labels.specs.Names.{act_in}
 
 -- the lines that are not indented are played, one after another
 pub tells-plays : (pool : ℕ) (only : Bool) (first : Scene) (lines : List (List ℕ))
@@ -211,21 +212,26 @@ module _ (setting : Setting) (only : Bool) (seen : Seen) (old mid : Option (List
   pub far-stop : (line : List ℕ) (stop : LineStop) (number : ℕ) (fault : ReportFault) → is_indented line ≡ false →
       ((scene : Scene) → IsAt seen.event_writer.session scene → IsStopped seen.event_writer.session line scene stop) →
       IsFaultOf number stop fault →
+      (stop ≡ LineStop.BadLine → act_in far.scene.names line ≡ None → GivesReason far.scene.names line fault) →
       number ≡ length lines + 1 → Halted setting only old mid pending (lines ++ line ∷ []) fault
-  far-stop line stop number ReportFault.ReadFault whole why is numbered = absurd is
-  far-stop line stop number ReportFault.TooLong whole why is numbered = absurd is
-  far-stop line stop number ReportFault.WriteFault whole why is numbered = absurd is
-  far-stop line stop number (ReportFault.Missing sought n) whole why is numbered = absurd is
-  far-stop line stop number (ReportFault.BadLine n reason) whole why is numbered = record {
+  far-stop line stop number ReportFault.ReadFault whole why is told numbered = absurd is
+  far-stop line stop number ReportFault.TooLong whole why is told numbered = absurd is
+  far-stop line stop number ReportFault.WriteFault whole why is told numbered = absurd is
+  far-stop line stop number (ReportFault.Missing sought n) whole why is told numbered = absurd is
+  far-stop line stop number (ReportFault.BadLine n reason) whole why is told numbered = record {
     before = lines;
     line = line;
     after = [];
     split = refl;
     whole = whole;
     so_far = far-pending;
-    why = (subst (IsStopped seen.event_writer.session line far.scene) is.0 (why far.scene far.knows.is_at), is.1 ∙ numbered);
+    why = (
+      subst (IsStopped seen.event_writer.session line far.scene) is.0 (why far.scene far.knows.is_at),
+      is.1 ∙ numbered,
+      told is.0 (subst (IsStopped seen.event_writer.session line far.scene) is.0 (why far.scene far.knows.is_at)),
+    );
   }
-  far-stop line stop number ReportFault.HistoryFull whole why is numbered = record {
+  far-stop line stop number ReportFault.HistoryFull whole why is told numbered = record {
     before = lines;
     line = line;
     after = [];
@@ -235,7 +241,7 @@ module _ (setting : Setting) (only : Bool) (seen : Seen) (old mid : Option (List
     why = over-in setting seen.event_writer.session far.scene line far.pool far.limits
         (subst (IsStopped seen.event_writer.session line far.scene) is (why far.scene far.knows.is_at));
   }
-  far-stop line stop number ReportFault.NoMemory whole why is numbered = record {
+  far-stop line stop number ReportFault.NoMemory whole why is told numbered = record {
     before = lines;
     after = line ∷ [];
     split = refl;

@@ -7,6 +7,7 @@ use Rattle.script_lines.specs.Written.{WritesPart}
 use Rattle.report_io.specs.declared.fault.ReportFault.{ReportFault}
 use Rattle.report_io.specs.Faults.{IsReported, fault_status}
 use Rattle.report_io.specs.IndentedLines.{indented, is_indented, unindented}
+use Rattle.report_io.specs.Reasons.{IsReason, unended_reason}
 use Rattle.script_lines.specs.Parts.{plural_end}
 use Rattle.script_labels.specs.Names.{act_in}
 use Rattle.sm_script.specs.Runs.{IsUnkept}
@@ -152,10 +153,16 @@ pub record ComparisonCutOff (setting : Setting) (old new : Option (List ℕ)) (s
   pub judged : IsVerdict setting script text verdict
   pub written : WritesPart old new text
 
--- why the line of this number could be neither played nor compared
+-- what is told of a reply that is recorded before any line was played that has one
+abbrev pub early_reason : List ℕ
+early_reason = codes "a reply stands before the first line that has one"
+
+-- why the line of this number could be neither played nor compared: it is bad, or its reply comes too early, which is told with its
+-- number and its reason, or the history is full
 abbrev pub ComparisonFault : Setting → TranscriptPlace → List ℕ → ℕ → ReportFault → Type 0
 ComparisonFault setting at line number (ReportFault.BadLine n reason) = (n ≡ number)
-    × ((is_indented line ≡ false) × (act_in at.scene.names line ≡ None) ⊎ (reply : List ℕ) × Records line reply × (at.lines ≡ 0))
+    × ((is_indented line ≡ false) × (act_in at.scene.names line ≡ None) × IsReason at.scene.names line reason.items
+    ⊎ (reply : List ℕ) × Records line reply × (at.lines ≡ 0) × (reason.items ≡ early_reason))
 ComparisonFault setting at line number ReportFault.HistoryFull = (is_indented line ≡ false) × IsUnkept setting at.scene line
 ComparisonFault setting at line number _ = ⊥
 
@@ -170,16 +177,17 @@ pub record IsUnchecked (setting : Setting) (lines : List (List ℕ)) (fault : Re
   pub why : ComparisonFault setting at line (length before + 1) fault
 
 -- the last line has no end, and all others agree
-pub record ComparisonUnended (setting : Setting) (script : List ℕ) (number : ℕ) : Type 0 where
+pub record ComparisonUnended (setting : Setting) (script : List ℕ) (number : ℕ) (reason : List ℕ) : Type 0 where
   pub unended : last_part script ≢ []
   pub numbered : number ≡ length (whole_lines script) + 1
+  pub reasoned : reason ≡ unended_reason
   pub at : TranscriptPlace
   pub agreed : Agreement setting (whole_lines script) at
 
 -- why no verdict was found on a script that was read
 abbrev pub ComparisonLinesStop : Setting → List ℕ → ReportFault → Type 0
 ComparisonLinesStop setting script (ReportFault.BadLine n reason) =
-    IsUnchecked setting (whole_lines script) (ReportFault.BadLine n reason) ⊎ ComparisonUnended setting script n
+    IsUnchecked setting (whole_lines script) (ReportFault.BadLine n reason) ⊎ ComparisonUnended setting script n reason.items
 ComparisonLinesStop setting script ReportFault.HistoryFull = IsUnchecked setting (whole_lines script) ReportFault.HistoryFull
 ComparisonLinesStop setting script ReportFault.NoMemory = Unit {0}
 ComparisonLinesStop setting script _ = ⊥

@@ -7,6 +7,7 @@ use Rattle.script_lines.specs.Written.{WritesPart}
 use Rattle.report_io.specs.declared.fault.ReportFault.{ReportFault}
 use Rattle.report_io.specs.Faults.{IsReported, fault_status}
 use Rattle.report_io.specs.IndentedLines.{indented, is_indented, unindented}
+use Rattle.report_io.specs.Reasons.{IsReason, unended_reason}
 use Rattle.script_labels.specs.Names.{act_in}
 use Rattle.sm_script.specs.Runs.{IsUnkept}
 use Rattle.sm_script.specs.Scenes.{LeadsTo, Scene, Setting, first_scene}
@@ -42,9 +43,10 @@ pub record ExplanationCutOff (setting : Setting) (only : Bool) (old new : Option
   pub explains : Explanation setting only before text
   pub written : WritesPart old new text
 
--- why the line of this number was not explained
+-- why the line of this number was not explained: it is bad, which is told with its number and its reason, or the history is full
 abbrev pub ExplanationFault : Setting → Scene → List ℕ → ℕ → ReportFault → Type 0
-ExplanationFault setting scene line number (ReportFault.BadLine n reason) = (act_in scene.names line ≡ None) × (n ≡ number)
+ExplanationFault setting scene line number (ReportFault.BadLine n reason) =
+    (act_in scene.names line ≡ None) × (n ≡ number) × IsReason scene.names line reason.items
 ExplanationFault setting scene line number ReportFault.HistoryFull = IsUnkept setting scene line
 ExplanationFault setting scene line number _ = ⊥
 
@@ -60,9 +62,11 @@ pub record IsUnexplained (setting : Setting) (only : Bool) (old new : Option (Li
   pub why : ExplanationFault setting told.explains.scene line (length before + 1) fault
 
 -- the last line has no end, and all others were explained
-pub record ExplanationUnended (setting : Setting) (only : Bool) (old new : Option (List ℕ)) (script : List ℕ) (number : ℕ) : Type 0 where
+pub record ExplanationUnended (setting : Setting) (only : Bool) (old new : Option (List ℕ)) (script : List ℕ) (number : ℕ)
+    (reason : List ℕ) : Type 0 where
   pub unended : last_part script ≢ []
   pub numbered : number ≡ length (whole_lines script) + 1
+  pub reasoned : reason ≡ unended_reason
   pub told : IsExplained setting only old new (whole_lines script)
 
 -- memory was refused, and what was written explains exactly some first lines
@@ -76,7 +80,8 @@ pub record ExplanationRefused (setting : Setting) (only : Bool) (old new : Optio
 abbrev pub ExplanationLinesStop : Setting → Bool → Option (List ℕ) → Option (List ℕ) → List ℕ → ReportFault → Type 0
 ExplanationLinesStop setting only old new script ReportFault.WriteFault = ExplanationCutOff setting only old new (whole_lines script)
 ExplanationLinesStop setting only old new script (ReportFault.BadLine n reason) =
-    IsUnexplained setting only old new (whole_lines script) (ReportFault.BadLine n reason) ⊎ ExplanationUnended setting only old new script n
+    IsUnexplained setting only old new (whole_lines script) (ReportFault.BadLine n reason)
+    ⊎ ExplanationUnended setting only old new script n reason.items
 ExplanationLinesStop setting only old new script ReportFault.HistoryFull =
     IsUnexplained setting only old new (whole_lines script) ReportFault.HistoryFull
 ExplanationLinesStop setting only old new script ReportFault.NoMemory = ExplanationRefused setting only old new (whole_lines script)

@@ -5,6 +5,7 @@ use Rattle.script_lines.specs.Pieces.{whole_lines, last_part}
 use Rattle.script_lines.specs.Written.{WritesPart}
 use Rattle.report_io.specs.declared.fault.ReportFault.{ReportFault}
 use Rattle.report_io.specs.IndentedLines.{indented, is_indented}
+use Rattle.report_io.specs.Reasons.{unended_reason}
 use Rattle.sm_script.specs.Scenes.{Scene, Setting, first_scene}
 use Rattle.event_texts.specs.declared.event_writer.EventWriter.{EventWriter}
 use Rattle.event_texts.specs.Failing.{failing_events}
@@ -89,16 +90,18 @@ Halted setting only old new pending lines ReportFault.NoMemory = IsHeld setting 
 Halted setting only old new pending lines _ = ⊥
 
 -- the last line has no end, and all others were explained
-pub record HasNoEnd (setting : Setting) (only : Bool) (old new : Option (List ℕ)) (pending script : List ℕ) (number : ℕ) : Type 0 where
+pub record HasNoEnd (setting : Setting) (only : Bool) (old new : Option (List ℕ)) (pending script : List ℕ) (number : ℕ)
+    (reason : List ℕ) : Type 0 where
   pub unended : last_part script ≢ []
   pub numbered : number ≡ length (whole_lines script) + 1
+  pub reasoned : reason ≡ unended_reason
   pub so_far : IsPending setting only old new pending (whole_lines script)
 
 -- why a script was not explained to its end
 abbrev pub LinesHalted : Setting → Bool → Option (List ℕ) → Option (List ℕ) → List ℕ → List ℕ → ReportFault → Type 0
 LinesHalted setting only old new pending script (ReportFault.BadLine n reason) =
     Halted setting only old new pending (whole_lines script) (ReportFault.BadLine n reason)
-    ⊎ HasNoEnd setting only old new pending script n
+    ⊎ HasNoEnd setting only old new pending script n reason.items
 LinesHalted setting only old new pending script fault = Halted setting only old new pending (whole_lines script) fault
 
 -- the summary of what is known in this scene, each line of it behind four spaces

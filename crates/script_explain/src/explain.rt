@@ -63,7 +63,7 @@ pub struct Scope {
 ///   was written.
 /// - `WriteFault`: the writer failed, or took nothing, or could not be flushed. A first part of the text
 ///   was written, or all of it and a first part of the summary.
-/// - `BadLine`: this line is bad, or is the last one and has no end.
+/// - `BadLine`: this line is bad, with the reason that `report_io::fault_of` gives, or is the last one and has no end.
 /// - `HistoryFull`: the line makes a call, and as many events were made as may be.
 /// - `NoMemory`: memory was refused.
 ///
@@ -258,6 +258,9 @@ impl Explainer {
         ensures err { IfErr result (λ stop. (scene : Scene) →
             IsAt self.old.seen.event_writer.session scene →
             IsStopped self.old.seen.event_writer.session line.now scene stop) }
+        ensures same { IfErr result (λ stop. (scene : Scene) →
+            IsAt self.old.seen.event_writer.session scene → stop ≡ LineStop.BadLine →
+            self.new.seen.event_writer.session ≡ self.old.seen.event_writer.session) }
     {
         let failures = self.seen.event_writer.failures;
         match self

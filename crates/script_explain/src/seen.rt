@@ -60,6 +60,9 @@ impl Seen {
         ensures err { IfErr result (λ stop. (scene : Scene) →
             IsAt self.old.event_writer.session scene →
             IsStopped self.old.event_writer.session line.now scene stop) }
+        ensures same { IfErr result (λ stop. (scene : Scene) →
+            IsAt self.old.event_writer.session scene → stop ≡ LineStop.BadLine →
+            self.new.event_writer.session ≡ self.old.event_writer.session) }
     {
         let failures = self.event_writer.failures;
         match self.event_writer.answer(alloc, number, line, reply, facts) {

@@ -40,4 +40,4 @@ returns-else-is_empty-clause-err c =
     along-unended _ _ _ _ _ _ c.lines.invariant c.requires
     (λ setting lines far numbered. sym (c.is_at-2.ensures setting lines far numbered) ∙ c.if-is_at-2.false)
     (sym c.in_default.ensures.value) (sym c.is_empty.ensures ∙ c.if-is_empty.false) _ c.saturating_add.ensures
-    c.unended.result c.unended.ensures.line
+    c.unended.result c.unended.ensures.line c.unended.ensures.reason

@@ -1,9 +1,11 @@
-use Rattle.std.proofs.Common.{◌≡◌, [], refl, ap, sym, ◌∙◌, subst, Some}
-use Rattle.std.proofs.lemmas.Result.{on_ok_weaker}
+use Rattle.std.proofs.Common.{◌≡◌, [], refl, ap, sym, ◌∙◌, subst, Option, Some, None}
+use Rattle.std.proofs.lemmas.Result.{on_ok_weaker, IfErr-weaker}
 use Rattle.script_labels.specs.declared.act.Act.{Act}
 use Rattle.sm_script.specs.declared.session.Session.{Session}
+use Rattle.script_labels.specs.declared.stop.LineStop.{LineStop}
 use Rattle.script_labels.specs.Names.{act_in}
-use Rattle.sm_script.specs.Sessions.{Gains}
+use Rattle.sm_script.specs.Scenes.{Scene}
+use Rattle.sm_script.specs.Sessions.{Gains, IsAt, IsStopped}
 use Rattle.sm_script.proofs.Advancing.{gains-answer}
 use Rattle.event_texts.specs.declared.event_writer.EventWriter.{EventWriter}
 use Rattle.event_texts.proofs.Told.{told-call, told-look}
@@ -83,3 +85,38 @@ returns-in-Some-Show-clause-tells c = on_ok_weaker c.answer-in-Some-Show.result
     (sym (c.read.ensures scene knows.is_at) ∙ c.in-Some-Show.is ∙ ap Some c.in-Some-Show.field-0-is)
     (λ pool text next gives. gives.1) (advances scene knows.is_at) refl refl refl refl refl (λ next. (c.clear.ensures.items, refl)))
     c.answer-in-Some-Show.ensures.ok
+
+-- a line that asks for something is not stopped as a bad one, which asks for nothing
+not_bad : (session : Session) (line : List ℕ) (scene : Scene) (stop : LineStop) (act : Act) (read : Option Act) →
+    read ≡ act_in scene.names line → read ≡ Some act → IsStopped session line scene stop → stop ≡ LineStop.BadLine → ⊥
+not_bad session line scene stop act read is found why bad =
+    let none : act_in scene.names line ≡ None = subst (IsStopped session line scene) bad why in
+    let some : act_in scene.names line ≡ Some act = sym is ∙ found in
+    cc
+
+pub returns-in-Some-Ask-clause-same : goal.returns-in-Some-Ask-clause-same
+returns-in-Some-Ask-clause-same c = λ scene at is. absurd (c.in-Err.ensures.err.0 is)
+
+pub returns-in-Some-Nothing-clause-same : goal.returns-in-Some-Nothing-clause-same
+returns-in-Some-Nothing-clause-same c = IfErr-weaker c.answer.result _
+    (λ stop. (scene : Scene) → IsAt c.args.self.now.session scene → stop ≡ LineStop.BadLine →
+    c.answer.new.self ≡ c.args.self.now.session)
+    (λ stop why scene at is. absurd (not_bad c.args.self.now.session c.args.line.now scene stop _ c.read.result
+    (c.read.ensures scene at) c.in-Some-Nothing.is (why scene at) is))
+    c.answer.ensures.err
+
+pub returns-in-Some-Poll-clause-same : goal.returns-in-Some-Poll-clause-same
+returns-in-Some-Poll-clause-same c = IfErr-weaker c.answer-in-Some-Poll.result _
+    (λ stop. (scene : Scene) → IsAt c.args.self.now.session scene → stop ≡ LineStop.BadLine →
+    c.answer-in-Some-Poll.new.self ≡ c.args.self.now.session)
+    (λ stop why scene at is. absurd (not_bad c.args.self.now.session c.args.line.now scene stop _ c.read.result
+    (c.read.ensures scene at) c.in-Some-Poll.is (why scene at) is))
+    c.answer-in-Some-Poll.ensures.err
+
+pub returns-in-Some-Show-clause-same : goal.returns-in-Some-Show-clause-same
+returns-in-Some-Show-clause-same c = IfErr-weaker c.answer-in-Some-Show.result _
+    (λ stop. (scene : Scene) → IsAt c.args.self.now.session scene → stop ≡ LineStop.BadLine →
+    c.answer-in-Some-Show.new.self ≡ c.args.self.now.session)
+    (λ stop why scene at is. absurd (not_bad c.args.self.now.session c.args.line.now scene stop _ c.read.result
+    (c.read.ensures scene at) c.in-Some-Show.is (why scene at) is))
+    c.answer-in-Some-Show.ensures.err

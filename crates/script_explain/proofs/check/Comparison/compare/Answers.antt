@@ -14,7 +14,7 @@ returns-then-is_line_of-clause-ok c = λ setting lines line records far numbered
 pub returns-then-self-eq0-clause-err : goal.returns-then-self-eq0-clause-err
 returns-then-self-eq0-clause-err c = λ setting lines line records far numbered.
     far-unasked setting c.args.self.now lines far line c.args.recorded.now c.args.number c.bad_line.result records
-    (omega (arith, c.if-self-eq0.true)) c.bad_line.ensures.line numbered
+    (omega (arith, c.if-self-eq0.true)) c.bad_line.ensures.line c.bad_line.ensures.reason numbered
 
 pub returns-in-Ok-clause-ok : goal.returns-in-Ok-clause-ok
 returns-in-Ok-clause-ok c = λ setting lines line records far numbered empty.

@@ -1,4 +1,6 @@
-use Rattle.std.proofs.Common.{◌++◌, refl, ap, ◌∙◌}
+use Rattle.std.proofs.Common.{◌++◌, refl, ap, sym, subst, ◌∙◌}
+use Rattle.script_labels.specs.Tables.{Keeps}
+use Rattle.sm_script.specs.declared.session.Session.{Session}
 use Rattle.script_explain.specs.Progress.{lines_counted}
 use Rattle.script_explain.proofs.Comparing.{far-play, far-unplayed}
 use Rattle.script_explain.proofs.check.Comparison.play.Goals as goal
@@ -12,4 +14,6 @@ returns-in-Ok-answer-clause-ok c = λ setting lines whole far numbered.
 pub returns-in-Err-answer-clause-err : goal.returns-in-Err-answer-clause-err
 returns-in-Err-answer-clause-err c = λ setting lines whole far numbered.
     far-unplayed setting c.args.self.now lines far c.args.line.now c.in-Err-answer.stop c.args.number c.fault_of.result whole
-    c.in-Err-answer.ensures.err c.fault_of.ensures.line numbered
+    c.in-Err-answer.ensures.err c.fault_of.ensures.line (λ is bad. c.fault_of.ensures.known far.scene.names
+    (subst (λ (s : Session). Keeps s.tables far.scene.names) (sym (c.in-Err-answer.ensures.same far.scene far.knows.is_at is))
+    far.knows.is_at.keeps) bad) numbered

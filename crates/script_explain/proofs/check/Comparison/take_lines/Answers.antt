@@ -36,3 +36,4 @@ pub returns-else-is_empty-clause-err : goal.returns-else-is_empty-clause-err
 returns-else-is_empty-clause-err c =
     agreeing-unended _ _ _ _ _ c.lines.invariant c.requires.few (sym c.in_default.ensures.value)
     (sym c.is_empty.ensures ∙ c.if-is_empty.false) _ c.saturating_add.ensures c.unended.result c.unended.ensures.line
+    c.unended.ensures.reason

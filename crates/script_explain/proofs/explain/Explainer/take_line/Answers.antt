@@ -1,5 +1,7 @@
 use Rattle.std.proofs.Common.{◌≡◌, List, ℕ, ◌+◌, length, [], ◌∷◌, ◌++◌, Option, sym, ◌∙◌, subst}
 use Rattle.std.proofs.lemmas.Result.{on_ok_weaker, IfErr-weaker}
+use Rattle.script_labels.specs.Tables.{Keeps}
+use Rattle.sm_script.specs.declared.session.Session.{Session}
 use Rattle.sm_script.specs.Scenes.{Setting}
 use Rattle.script_explain.specs.declared.seen.Seen.{Seen}
 use Rattle.script_explain.specs.Progress.{Halted, ExplainedSoFar}
@@ -16,7 +18,9 @@ returns-in-Err-clause-err g c = λ setting old lines far numbered.
     (g.W.Write.contents c.args.writer.now) pending (lines ++ c.args.line.now ∷ [])
     c.fault_of.result) (sym c.in-Err.ensures.kept)
     (far-stop setting c.args.only_failures _ old _ _ lines far _ c.in-Err.stop _ _ (sym c.is_indented.ensures ∙ c.if-is_indented.false)
-    c.in-Err.ensures.err c.fault_of.ensures.line numbered)
+    c.in-Err.ensures.err c.fault_of.ensures.line (λ is bad. c.fault_of.ensures.known far.scene.names
+    (subst (λ (s : Session). Keeps s.tables far.scene.names) (sym (c.in-Err.ensures.same far.scene far.knows.is_at is))
+    far.knows.is_at.keeps) bad) numbered)
 
 pub returns-then-len-le-ENOUGH-clause-ok : goal.returns-then-len-le-ENOUGH-clause-ok
 returns-then-len-le-ENOUGH-clause-ok g c = λ lines numbered setting old far.
