@@ -392,7 +392,7 @@ fn put_node_end(
     }
 }
 
-// Puts what became of what the actor's calls made.
+// Puts what became of what the actor's calls made. A tracker that did not fire is as one that was not made.
 fn put_made_ends(
     text: &mut Vec<u8>,
     ground: &Ground<'_>,
@@ -404,8 +404,9 @@ fn put_made_ends(
     for (at, reply) in made {
         match *reply {
             Reply::Tracker(tracker) => {
-                put_place(text, *at)?;
-                put(text, has_fired(core.fired(), tracker) as u32)?;
+                if has_fired(core.fired(), tracker) {
+                    put_place(text, *at)?;
+                }
             }
             Reply::Token { key, .. } => {
                 put_place(text, *at)?;
