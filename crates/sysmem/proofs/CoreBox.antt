@@ -12,7 +12,7 @@ use Rattle.std_heap.specs.contracts.GlobalAllocator.TheImpl.{ghosts, dict}
 use Rattle.std_heap.proofs.Global.TheLaws as heap_laws
 use Rattle.lifetime_core.specs.contracts.machine.Core as core
 use Rattle.lifetime_core.proofs.machine.Core.TheLaws as core_laws
-use Rattle.sysmem.specs.contracts.place.Place as place
+use Rattle.sysmem.specs.contracts.place.CorePlace as place
 use Rattle.sysmem.specs.contracts.raw.Unboxed as unboxed
 
 -- a box of a core: the row of the core, its laws, and the allocator that frees the box

@@ -15,7 +15,7 @@ use Rattle.core_state.specs.State.{State}
 use Rattle.lifetime_core.specs.contracts.machine.Core as core
 use Rattle.lifetime_core.proofs.machine.Core.TheSendSync.{the_send as core_send}
 use Rattle.sysmem.specs.Ownership.{owns_core}
-use Rattle.sysmem.specs.contracts.place.Place.{the_row, the_type}
+use Rattle.sysmem.specs.contracts.place.CorePlace.{the_row, the_type}
 
 -- what a place owns names no key of one thread: it is empty, or a core that can be sent
 keeps_keyless : (alloc : Global) (at : Ptr) (kept : Option State) → Keyless (owns_core alloc at kept)
