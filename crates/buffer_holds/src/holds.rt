@@ -304,7 +304,7 @@ impl Holds {
     // Does what `add` does. The row and the tally are looked for at the spot, where the last look-ups
     // ended and by their hashes. The spot moves behind what was found.
     #[inline(never)]
-    fn add_by_search(
+    pub(crate) fn add_by_search(
         &mut self,
         client: ClientId,
         buffer: BufferName,

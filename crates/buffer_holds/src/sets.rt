@@ -38,6 +38,9 @@ impl Holds {
             (record { collection = collection; index = index }) strength ≡ true)
             → IsOk result }
     {
+        if set == 1 {
+            return self.add_first(client, collection, strength);
+        }
         let mut near = self.last.spot(strength);
         let mut rest = set;
         let mut index = 0;
@@ -50,6 +53,36 @@ impl Holds {
             index += 1;
         }
         Ok(())
+    }
+
+    // Does what `add_set` does for a set that has the first buffer alone. No loop is set up.
+    #[inline(always)]
+    fn add_first(
+        &mut self,
+        client: ClientId,
+        collection: CollectionId,
+        strength: Strength,
+    ) -> Result<(), u8>
+        requires { total self.old (record { collection = collection; index = 0 }) strength
+            < self.old.limit }
+        ensures opened { OnOk result (AddsSet self.old self.new client collection strength 1 64) }
+        ensures below { IfErr result (λ end.
+            AddsSet self.old self.new client collection strength 1 end) }
+        ensures within { IfErr result (λ end. end < 64) }
+        ensures room { has_handle_room self.old client
+            (record { collection = collection; index = 0 }) strength ≡ true
+            → IsOk result }
+    {
+        let buffer = BufferName {
+            collection,
+            index: 0,
+        };
+        let mut near = self.last.spot(strength);
+        match self.add_by_search(client, buffer, strength, &mut near) {
+            Ok(()) => Ok(()),
+            Err(HoldFault::NoMemory) => Err(0),
+            Err(HoldFault::TooMany) => unreachable!(),
+        }
     }
 
     // Opens a handle on the buffer with this index, if a set has it of which the rest is that from the
