@@ -20,79 +20,81 @@ use std::sync::Wait;
 use std::sync::ledger::Ledger;
 use std::time::Clock;
 
-// Makes the step, and again while nothing is there for it, at most so many times more.
+/// What actors play with.
+#[derive(Drop)]
+pub struct Playing<'a, E: Setup, S: Ledger, W: Ledger, G: Gate> {
+    pub alloc: Global,
+    pub service: &'a Service<E, S, W>,
+    /// It hears of each try of a step.
+    pub gate: &'a G,
+    /// The ids of all actors, in the order of their scripts.
+    pub clients: &'a [ClientId],
+    /// How many times more a step that finds nothing is made at most.
+    pub most: u64,
+}
+
+// Makes the step, and again while nothing is there for it, as often as may be.
 fn take_step<E: Setup, S: Ledger, W: Ledger, G: Gate, R: Wait + Clock>(
     rt: &R,
-    alloc: Global,
-    service: &Service<E, S, W>,
-    gate: &G,
-    clients: &[ClientId],
+    playing: &Playing<'_, E, S, W, G>,
     actor: &mut Actor<E, S, W>,
     number: u64,
     step: &Step,
-    most: u64,
 ) -> Result<(), StepFault>
     requires sound { ActorInvariant actor.old }
     requires aware { IsAware actor.old }
-    ensures taken { OnOk result (HasTaken clients.now most step.now actor.old actor.new) }
-    ensures given { OnErr result (HasGivenUp clients.now most step.now actor.old actor.new) }
+    ensures taken { OnOk result (HasTaken playing.now.clients.now playing.now.most step.now actor.old actor.new) }
+    ensures given { OnErr result (HasGivenUp playing.now.clients.now playing.now.most step.now actor.old actor.new) }
     ensures sound { ActorInvariant actor.new }
     ensures id { actor.new.client.id ≡ actor.old.client.id }
 {
-    for tries in 0..most {
-        let reply = try_step(rt, alloc, service, gate, clients, actor, number, *step)?;
+    for tries in 0..playing.most {
+        let reply = try_step(rt, playing, actor, number, *step)?;
         if !is_nothing(&reply) {
             return Ok(());
         }
         pause(rt, tries);
     }
-    let _last = try_step(rt, alloc, service, gate, clients, actor, number, *step)?;
+    let _last = try_step(rt, playing, actor, number, *step)?;
     Ok(())
 }
 
 // Makes the step once, and the gate hears of it.
 fn try_step<E: Setup, S: Ledger, W: Ledger, G: Gate, R: Wait>(
     rt: &R,
-    alloc: Global,
-    service: &Service<E, S, W>,
-    gate: &G,
-    clients: &[ClientId],
+    playing: &Playing<'_, E, S, W, G>,
     actor: &mut Actor<E, S, W>,
     number: u64,
     step: Step,
 ) -> Result<Option<Reply>, StepFault>
     requires sound { ActorInvariant actor.old }
     requires aware { IsAware actor.old }
-    ensures stepped { IfOk result (λ reply. HasStepped clients.now step reply actor.old actor.new) }
-    ensures faltered { OnErr result (HasFaltered clients.now step actor.old actor.new) }
+    ensures stepped { IfOk result (λ reply. HasStepped playing.now.clients.now step reply actor.old actor.new) }
+    ensures faltered { OnErr result (HasFaltered playing.now.clients.now step actor.old actor.new) }
     ensures sound { ActorInvariant actor.new }
     ensures id { actor.new.client.id ≡ actor.old.client.id }
 {
-    gate.before(actor.client.id(), number);
-    let reply = actor.step(rt, alloc, service, clients, step)?;
-    gate.after(actor.client.id(), number, &reply);
+    playing.gate.before(actor.client.id(), number);
+    let reply = actor.step(rt, playing.alloc, playing.service, playing.clients, step)?;
+    playing.gate.after(actor.client.id(), number, &reply);
     Ok(reply)
 }
 
-// Makes the steps in order, until a fault, each at most so many times more.
+// Makes the steps in order, until a fault.
 fn run_steps<E: Setup, S: Ledger, W: Ledger, G: Gate, R: Wait + Clock>(
     rt: &R,
-    alloc: Global,
-    service: &Service<E, S, W>,
-    gate: &G,
-    clients: &[ClientId],
+    playing: &Playing<'_, E, S, W, G>,
     actor: &mut Actor<E, S, W>,
     steps: &[Step],
-    most: u64,
 ) -> Result<(), StepFault>
     requires sound { ActorInvariant actor.old }
     requires aware { IsAware actor.old }
-    requires none { RunsPatiently clients.now most [] (pairs_of actor.old.client.own)
+    requires none { RunsPatiently playing.now.clients.now playing.now.most [] (pairs_of actor.old.client.own)
         (known actor.old.state) }
-    ensures runs { OnOk result (RunsPatiently clients.now most steps.now
+    ensures runs { OnOk result (RunsPatiently playing.now.clients.now playing.now.most steps.now
         (pairs_of actor.new.client.own) (known actor.new.state)) }
     ensures aware { OnOk result (IsAware actor.new) }
-    ensures some { OnErr result (HasRunSome clients.now most steps.now actor.new.client
+    ensures some { OnErr result (HasRunSome playing.now.clients.now playing.now.most steps.now actor.new.client
         (lies actor.new.slots.items)) }
     ensures sound { ActorInvariant actor.new }
     ensures id { actor.new.client.id ≡ actor.old.client.id }
@@ -101,8 +103,8 @@ fn run_steps<E: Setup, S: Ledger, W: Ledger, G: Gate, R: Wait + Clock>(
     let mut rest = steps;
     'each_step: while let Some((step, more)) = rest.split_first() {
         number = number.wrapping_add(1);
-        take_step(rt, alloc, service, gate, clients, actor, number, step, most)?;
-        await_firing(rt, service, &actor.state, *step, most);
+        take_step(rt, playing, actor, number, step)?;
+        await_firing(rt, playing.service, &actor.state, *step, playing.most);
         rest = more;
     }
     Ok(())
@@ -129,12 +131,11 @@ fn leave<E: Setup, S: Ledger, W: Ledger>(actor: Actor<E, S, W>) -> (Client<E, S,
 /// Plays the script: makes its steps in order, each as the call that its labels name at that moment, and
 /// then vanishes, as by `vanish`, with all that it holds, in the list of each kind in the order in which it
 /// came: tokens as replies gave them, collections as they were bound or collected, handles as they were
-/// opened. The client is one that joined and has made no event since; `clients` are the ids of all actors,
-/// in the order of their scripts. The gate hears of each try of a step.
+/// opened. The client is one that joined and has made no event since.
 ///
 /// A `collect`, `check` or `take` that finds nothing is tried again, and so is a look at a tracker that has
-/// not fired: each at most `most` times more, with a pause of a millisecond behind each try but the first
-/// hundred. So each step is made once where `most` is 0.
+/// not fired: each at most `playing.most` times more, with a pause of a millisecond behind each try but the first
+/// hundred. So each step is made once where that is 0.
 ///
 /// Ended `Wrecked`, the client's own list is a run of the script, each step's tries one after another, and then
 /// the events of its vanishing. On a fault it is `Stopped` at once: its own list is a run of the first
@@ -146,23 +147,19 @@ fn leave<E: Setup, S: Ledger, W: Ledger>(actor: Actor<E, S, W>) -> (Client<E, S,
 /// and a look at one makes no call.
 pub fn run_actor<E: Setup, S: Ledger, W: Ledger, G: Gate, R: Wait + Clock>(
     rt: &R,
-    alloc: Global,
-    service: &Service<E, S, W>,
-    gate: &G,
-    clients: &[ClientId],
+    playing: &Playing<'_, E, S, W, G>,
     client: Client<E, S, W>,
     script: &ActorScript,
-    most: u64,
 ) -> ActorEnd<E, S, W>
     requires { client.own ≡ [] }
-    ensures { EndsSo clients.now most script.now.steps.items client.id result }
+    ensures { EndsSo playing.now.clients.now playing.now.most script.now.steps.items client.id result }
 {
-    let mut actor = Actor::new(alloc, client);
+    let mut actor = Actor::new(playing.alloc, client);
     let steps = script.steps.as_slice();
-    let ran = run_steps(rt, alloc, service, gate, clients, &mut actor, steps, most);
+    let ran = run_steps(rt, playing, &mut actor, steps);
     let (client, held) = leave(actor);
     match ran {
-        Ok(()) => match vanish(rt, alloc, service, client, held) {
+        Ok(()) => match vanish(rt, playing.alloc, playing.service, client, held) {
             Ok(wreck) => ActorEnd::Wrecked(wreck),
             Err((client, held, fault)) => ActorEnd::Stopped(client, held, fault),
         },

@@ -8,7 +8,7 @@ ghost use Rattle.std.specs.List.{All, AllZip};
 ghost use Rattle.sm_names.specs.declared.outcomes.StepFault.{StepFault as Fault};
 ghost use Rattle.client_actors.specs.ActorEnds.{HaveRun, IsEndAt, IsEndThere, IsIdle, CanStart, id_there};
 
-use crate::actor_run::run_actor;
+use crate::actor_run::{Playing, run_actor};
 use crate::gate::{ActorEnd, Gate};
 use crate::start::Start;
 use actor_scripts::ActorScript;
@@ -27,19 +27,15 @@ use std::{mem, thread};
 // in time.
 fn run_there<E: Setup, S: Ledger, W: Ledger, G: Gate, R: Wait + Clock>(
     rt: &R,
-    alloc: Global,
-    service: &Service<E, S, W>,
-    gate: &G,
-    clients: &[ClientId],
+    playing: &Playing<'_, E, S, W, G>,
     start: &Start,
     scripts: &[ActorScript],
     number: usize,
-    most: u64,
     on: &mut Option<ActorEnd<E, S, W>>,
 )
     requires ready { CanStart on.old }
     requires number { number < length scripts.now }
-    ensures end { IsEndAt clients.now most scripts.now number on.new }
+    ensures end { IsEndAt playing.now.clients.now playing.now.most scripts.now number on.new }
     ensures id { id_there on.new ≡ id_there on.old }
 {
     if !start.come(rt) {
@@ -48,7 +44,7 @@ fn run_there<E: Setup, S: Ledger, W: Ledger, G: Gate, R: Wait + Clock>(
     match mem::replace(on, None) {
         Some(ActorEnd::NotStarted(client)) => {
             let script = &scripts[number];
-            let end = run_actor(rt, alloc, service, gate, clients, client, script, most);
+            let end = run_actor(rt, playing, client, script);
             match mem::replace(on, Some(end)) {
                 None => {}
                 Some(_) => unreachable!(),
@@ -67,17 +63,13 @@ fn run_all<
     R: Threads + Wait + Clock + Sync,
 >(
     rt: &R,
-    alloc: Global,
-    service: &Service<E, S, W>,
-    gate: &G,
-    clients: &[ClientId],
+    playing: &Playing<'_, E, S, W, G>,
     scripts: &[ActorScript],
-    most: u64,
     actors: &mut [Option<ActorEnd<E, S, W>>],
 )
     requires ready { All CanStart actors.old }
     requires len { length scripts.now ≡ length actors.old }
-    ensures ends { AllZip (IsEndThere clients.now most) scripts.now actors.new }
+    ensures ends { AllZip (IsEndThere playing.now.clients.now playing.now.most) scripts.now actors.new }
     ensures ids { map id_there actors.new ≡ map id_there actors.old }
 {
     let count = actors.len();
@@ -89,9 +81,7 @@ fn run_all<
         rt,
         actors,
         count,
-        &|i, on| run_there(
-            rt, alloc, service, gate, clients, &start, scripts, i, most, on,
-        ),
+        &|i, on| run_there(rt, playing, &start, scripts, i, on),
     );
 }
 
@@ -289,16 +279,14 @@ pub fn run_actors<
         Ok(()) => {
             parts.destroy_empty();
             let ids = clients.as_slice();
-            run_all(
-                rt,
+            let playing = Playing {
                 alloc,
                 service,
                 gate,
-                ids,
-                scripts,
+                clients: ids,
                 most,
-                actors.as_mut_slice(),
-            );
+            };
+            run_all(rt, &playing, scripts, actors.as_mut_slice());
             Ok(ends_of(actors, ends))
         }
         Err(fault) => {

@@ -15,7 +15,7 @@ mod spent_objects;
 mod start;
 mod stored_objects;
 
-pub use actor_run::run_actor;
+pub use actor_run::{Playing, run_actor};
 pub use actor_scripts::{ActorScript, Step};
 pub use actor_threads::run_actors;
 pub use gate::{ActorEnd, Gate};

@@ -8,7 +8,7 @@ each_step-preserved g c =
     let one = c.in_ok-take_step.ensures.taken in
     let next : c.each_step.rest.now ≡ c.in-Some.step.now ∷ c.in-Some.more.now = search rules in
     record {
-      ran = ran_more c.args.clients.now c.args.most c.args.steps.now c.each_step.rest.now
+      ran = ran_more c.args.playing.now.clients.now c.args.playing.now.most c.args.steps.now c.each_step.rest.now
           c.in-Some.more.now c.in-Some.step.now c.each_step.actor
           c.take_step.new.actor so.ran next one;
       aware = one.aware;

@@ -5,7 +5,7 @@ use Rattle.client_actors.proofs.actor_run.run_steps.Given as goal
 -- some steps are made, and the others are left
 abbrev pub invariant-each_step : goal.invariant-each_step
 invariant-each_step g l = record {
-  ran : HasRunTo l.clients l.most l.steps l.rest l.actor;
+  ran : HasRunTo l.playing.clients.now l.playing.most l.steps l.rest l.actor;
   aware : IsAware l.actor;
   sound : ActorInvariant l.actor;
   id : l.actor.client.id ≡ l.initial.actor.client.id;

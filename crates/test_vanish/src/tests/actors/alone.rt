@@ -2,7 +2,7 @@
 use super::asking::{ask, collect, open};
 use crate::tests::asking::{made, put};
 use actor_scripts::ActorScript;
-use client_actors::{ActorEnd, Gate, run_actor};
+use client_actors::{ActorEnd, Gate, Playing, run_actor};
 use client_ends::join;
 use client_vanish::{Holding, Wreck, end_service};
 use service_lock::{Service, Setup};
@@ -79,7 +79,14 @@ pub fn alone<E: Setup, S: Ledger, W: Ledger, R: Wait + Clock + Abort>(
     let gate = Heard {
         digits: AtomicU64::new(0),
     };
-    let wreck = match run_actor(rt, alloc, &service, &gate, &ids, client, &script, 0) {
+    let playing = Playing {
+        alloc,
+        service: &service,
+        gate: &gate,
+        clients: &ids,
+        most: 0,
+    };
+    let wreck = match run_actor(rt, &playing, client, &script) {
         ActorEnd::Wrecked(wreck) => wreck,
         _ => panic!(rt; "not played"),
     };
@@ -123,7 +130,14 @@ pub fn patient<E: Setup, S: Ledger, W: Ledger, R: Wait + Clock + Abort>(
     let gate = Heard {
         digits: AtomicU64::new(0),
     };
-    let ended = run_actor(rt, alloc, &service, &gate, &ids, client, &script, REPEATS);
+    let playing = Playing {
+        alloc,
+        service: &service,
+        gate: &gate,
+        clients: &ids,
+        most: REPEATS,
+    };
+    let ended = run_actor(rt, &playing, client, &script);
     let wreck = match ended {
         ActorEnd::Wrecked(wreck) => wreck,
         _ => panic!(rt; "not played"),
