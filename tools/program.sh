@@ -163,6 +163,26 @@ try 3 '' 'bad line 2: the last line has no end' 'a join\na open r' explore
 try 3 '' 'bad line 2: the line ends in CR' 'a join\na open r\r\n' explore
 try 3 '' 'bad line 1: no client joins' '' explore
 try 2 '' '*' "$pair" explore --states no
+try 2 '' '*' "$pair" explore --once --patient
+# Clients that vanish: by an option or a line, all of them, at their end, and clients that are not there.
+try 2 '' 'sysmem: --vanish names a client that does not join' "$pair" explore --vanish a,c
+try 2 '' 'sysmem: --vanish names a client that does not join' "$pair" explore --vanish 'a b'
+try 2 '' 'sysmem: --vanish names a client that does not join' "$pair" explore --vanish ''
+try 2 '' '*' "$pair" explore --vanish
+try 2 '' '*' "$pair" explore --most two
+try 3 '' 'bad line 1: vanish is followed by all, or by clients that join' "#! vanish a c\n$pair" explore
+try 3 '' 'bad line 1: vanish is followed by all, or by clients that join' "#! vanish all b\n$pair" explore
+try 3 '' 'bad line 1: a claim is never, always or sometimes, and a fact; or vanish, and clients' "#! vanish\n$pair" explore
+says_who() {
+  local wanted=$1 script=$2
+  shift 2
+  printf "$script" | "$program" explore "$@" >"$room/out" 2>"$room/told" && hears '' &&
+    [ "$(head -n 1 "$room/out")" = "2 clients, 4 steps; $wanted" ]
+}
+waits_patiently() {
+  printf "$pair" | "$program" explore --patient >"$room/out" 2>"$room/told" && hears '' &&
+    sed -n 2p "$room/out" | grep -q ', 1 outcome$'
+}
 too_few_states() {
   for most in 0 1 2 3; do
     printf "$pair" | "$program" explore --states "$most" >"$room/out" 2>"$room/told"
@@ -251,11 +271,11 @@ is_explored() {
 }
 has_plays() {
   local outcome outcomes
-  outcomes=$(sed -n 's/.* \([0-9]*\) outcomes\?$/\1/p' "${1%.actors}.outcomes")
+  outcomes=$(sed -n '2s/.* \([0-9]*\) outcomes\?$/\1/p' "${1%.actors}.outcomes")
   [ "$outcomes" -gt 0 ] || return 1
   for ((outcome = 1; outcome <= outcomes; outcome++)); do
     "$program" explore --outcome "$outcome" "$1" >"$room/play" 2>"$room/told" && hears '' &&
-      [ "$(head -c 12 "$room/play")" = "# outcome $outcome " ] &&
+      [[ $(head -n 1 "$room/play") == "# outcome $outcome of $outcomes: "* ]] &&
       "$program" explain "$room/play" 2>"$room/told" >"$room/explained" && hears '' &&
       "$program" check "$room/explained" 2>"$room/told" | grep -q '^agrees: ' && hears '' || return 1
   done
@@ -265,6 +285,18 @@ for script in examples/*.outcomes; do
   count has_plays "${script%.outcomes}.actors"
 done
 count too_few_states
+count waits_patiently
+count says_who 'none vanishes' "$pair"
+count says_who 'none vanishes' "$pair" --most 2
+count says_who 'none vanishes' "$pair" --vanish a --most 0
+count says_who 'at most one vanishes, at any point' "$pair" --vanish all
+count says_who 'at most one vanishes, at any point' "$pair" --vanish b,a
+count says_who 'at most one of a vanishes, at any point' "$pair" --vanish a
+count says_who 'at most one of b vanishes, at any point' "#! vanish b\n$pair"
+count says_who 'at most one of a vanishes, at any point' "#! vanish b\n$pair" --vanish a
+count says_who 'at most 2 vanish, at any points' "#! vanish all\n$pair" --most 2
+count says_who 'each vanishes at its end' "$pair" --end
+count says_who 'at most one of a vanishes, at any point, and each at its end' "$pair" --end --vanish a
 
 # Each example.
 is_answered() {

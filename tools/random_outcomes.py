@@ -3,8 +3,8 @@
 
   tools/random_outcomes.py PROGRAM [COUNT] [SEED]
 
-PROGRAM is a built `sysmem`. Of each of COUNT scripts (500 if not given) it takes the report of `explore`, with --once for every
-second script, and the play of each outcome. `sysmem run` must answer each line of the play, `sysmem check` must accept the
+PROGRAM is a built `sysmem`. Of each of COUNT scripts (500 if not given) it takes the report of `explore`, with the words of WAYS
+in turn, and the play of each outcome. `sysmem run` must answer each line of the play, `sysmem check` must accept the
 play with these replies, and the free pages behind it must be those that the report says of that outcome. Equal seeds give equal
 scripts. The last line counts; the status is 1 if something differs."""
 import random
@@ -13,6 +13,9 @@ import subprocess
 import sys
 
 CLIENTS = ["ann", "bob", "cy"]
+
+# How the scripts are explored, one after another.
+WAYS = [[], ["--once"], ["--vanish", "all"], ["--end"], ["--vanish", "bob", "--once"], ["--vanish", "all", "--end"]]
 
 
 class Writer:
@@ -87,21 +90,24 @@ def ran(words, text):
 
 def free_of(report, count):
     """The free pages of each outcome, as far as the report names them."""
-    free, inside = {}, False
+    free, ranks, behind, inside = {}, range(1, count + 1), 1, False
     for line in report.split("\n"):
+        group = re.match(r"if .* vanish(?:es)?: (\d+) outcomes?$", line)
+        if group:
+            ranks, behind = range(behind, behind + int(group[1])), behind + int(group[1])
         inside = inside and line.startswith("   ") or line.startswith("  free ")
         if not inside:
             continue
-        said = re.match(r"  (?:free)? +(\d+) +(?:always|.* of 100: outcome ([\d ]+)(?: and (\d+) more)?)$", line)
+        said = re.match(r"  (?:free)? +(\d+) +(?:always|(?:.* of 100: )?outcome ([\d ]+)(?: and (\d+) more)?)$", line)
         pages, named = int(said[1]), said[2]
-        for rank in range(1, count + 1) if named is None else map(int, named.split()):
+        for rank in ranks if named is None else map(int, named.split()):
             free[rank] = pages
     return free
 
 
-def fault_of(program, script, once):
+def fault_of(program, script, way):
     """How many outcomes were tried, and what is wrong with one of them, if something is."""
-    words = [program, "explore"] + (["--once"] if once else [])
+    words = [program, "explore", *way]
     report, status = ran(words, script)
     if status != 0:
         return 0, f"status {status}"
@@ -131,7 +137,7 @@ def main():
     tried, faults = 0, 0
     for number in range(count):
         script = Writer(random.Random(f"{seed} {number}")).script()
-        outcomes, fault = fault_of(program, script, number % 2 == 1)
+        outcomes, fault = fault_of(program, script, WAYS[number % len(WAYS)])
         tried += outcomes
         if fault:
             faults += 1

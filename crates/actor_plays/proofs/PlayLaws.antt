@@ -21,11 +21,12 @@ use Rattle.actor_plays.specs.declared.actor.Actor.{Actor}
 use Rattle.actor_plays.specs.declared.plan.Plan.{Plan}
 use Rattle.actor_plays.specs.declared.plan.Planned.{Planned}
 use Rattle.actor_plays.specs.declared.play.Play.{Play}
+use Rattle.actor_plays.specs.declared.play.Turn.{Turn}
 use Rattle.actor_plays.specs.declared.play.Turned.{Turned}
 use Rattle.actor_plays.specs.declared.falls.GoneNode.{GoneNode}
 use Rattle.actor_plays.specs.Fates.{AreFalls, AreTold, falls_at}
-use Rattle.actor_plays.specs.Plays.{AreJoining, IsLeftWaiting, IsPlay, IsTurn, Plays, Stage, first_stage}
-use Rattle.actor_plays.specs.Plays.{is_wait, joins, next_step, passed, polls, stage_after, stage_of, stages_of}
+use Rattle.actor_plays.specs.Plays.{AreJoining, IsLeave, IsLeftWaiting, IsPlay, IsTurn, Plays, Stage, first_stage}
+use Rattle.actor_plays.specs.Plays.{is_wait, leaves_by, left, joins, next_step, passed, polls, stage_after, stage_of, stages_of}
 
 -- two changes of the actors are one
 pub only_actors : (a b c : Play) → b ≡ record a { actors = b.actors } → c ≡ record b { actors = c.actors } →
@@ -110,11 +111,11 @@ module _ (plans : List Plan) (old mid new : Play) (actor client : ℕ) (next : P
       mid.entries.items ≡ old.entries.items ++ (client, asked.call, reply) ∷ [] →
       mid ≡ record old { core = mid.core; entries = mid.entries; falls = mid.falls } →
       stages_of new ≡ slice_set (stages_of old) actor (stage_after stage next asked reply) →
-      new.turns.items ≡ mid.turns.items ++ actor ∷ [] →
+      new.turns.items ≡ mid.turns.items ++ Turn.Step actor ∷ [] →
       new ≡ record mid { actors = new.actors; turns = new.turns } → IsPlay plans new
   called_at stage at step call caller waits shows entries same stages turns rest =
-      let turned : new.turns.items ≡ old.turns.items ++ actor ∷ [] =
-      turns ∙ ap (λ (p : Play). p.turns.items ++ actor ∷ []) same in
+      let turned : new.turns.items ≡ old.turns.items ++ Turn.Step actor ∷ [] =
+      turns ∙ ap (λ (p : Play). p.turns.items ++ Turn.Step actor ∷ []) same in
       let clients : new.clients.items ≡ old.clients.items =
       ap (λ (p : Play). p.clients.items) rest ∙ ap (λ (p : Play). p.clients.items) same in
       let noted : new.entries.items ≡ old.entries.items ++ (client, asked.call, reply) ∷ [] =
@@ -123,8 +124,8 @@ module _ (plans : List Plan) (old mid new : Play) (actor client : ℕ) (next : P
         shows = subst (λ (p : Play). Shows p.core p.entries.items) (sym rest) shows;
         plays = subst (λ cs. Plays plans cs new.turns.items new.entries.items (stages_of new)) (sym clients)
             (subst (λ ts. Plays plans old.clients.items ts new.entries.items (stages_of new)) (sym turned)
-            (subst (λ es. Plays plans old.clients.items (old.turns.items ++ actor ∷ []) es (stages_of new)) (sym noted)
-            (subst (λ ss. Plays plans old.clients.items (old.turns.items ++ actor ∷ [])
+            (subst (λ es. Plays plans old.clients.items (old.turns.items ++ Turn.Step actor ∷ []) es (stages_of new)) (sym noted)
+            (subst (λ ss. Plays plans old.clients.items (old.turns.items ++ Turn.Step actor ∷ [])
             (old.entries.items ++ (client, asked.call, reply) ∷ []) ss) (sym stages)
             (Plays.Calls old.turns.items old.entries.items (stages_of old) actor client stage next asked reply is.plays at step call caller
             waits))));
@@ -138,7 +139,7 @@ module _ (plans : List Plan) (old mid new : Play) (actor client : ℕ) (next : P
       mid.entries.items ≡ old.entries.items ++ (client, asked.call, reply) ∷ [] →
       mid ≡ record old { core = mid.core; entries = mid.entries; falls = mid.falls } →
       IfSome o (λ stage. stages_of new ≡ slice_set (stages_of old) actor (stage_after stage next asked reply)) →
-      new.turns.items ≡ mid.turns.items ++ actor ∷ [] →
+      new.turns.items ≡ mid.turns.items ++ Turn.Step actor ∷ [] →
       new ≡ record mid { actors = new.actors; turns = new.turns } → IsPlay plans new
   called_by None at step call caller waits shows entries same stages turns rest = cc
   called_by (Some stage) at step call caller waits shows entries same stages turns rest =
@@ -153,13 +154,68 @@ module _ (plans : List Plan) (old mid new : Play) (actor client : ℕ) (next : P
       mid ≡ record old { core = mid.core; entries = mid.entries; falls = mid.falls } →
       IfSome (slice_get (stages_of mid) actor)
       (λ stage. stages_of new ≡ slice_set (stages_of mid) actor (stage_after stage next asked reply)) →
-      new.turns.items ≡ mid.turns.items ++ actor ∷ [] →
+      new.turns.items ≡ mid.turns.items ++ Turn.Step actor ∷ [] →
       new ≡ record mid { actors = new.actors; turns = new.turns } → IsPlay plans new
   called step call caller waits shows entries same stages turns rest =
       let kept : stages_of mid ≡ stages_of old = ap stages_of same in
       called_by (slice_get (stages_of old) actor) refl step call caller waits shows entries same
       (subst (λ (ss : List Stage). IfSome (slice_get ss actor)
       (λ stage. stages_of new ≡ slice_set ss actor (stage_after stage next asked reply))) kept stages) turns rest
+
+-- the actor makes the call by which it leaves, or goes on to leave
+module _ (plans : List Plan) (old mid new : Play) (actor client : ℕ) (call : Call) (reply : Reply) (is : IsPlay plans old) where
+  -- the play has one turn more, whose call and reply are those
+  left_at : (stage : Stage) → slice_get (stages_of old) actor ≡ Some stage → leaves_by stage ≡ Some call →
+      slice_get old.clients.items actor ≡ Some client → Shows mid.core mid.entries.items →
+      mid.entries.items ≡ old.entries.items ++ (client, call, reply) ∷ [] →
+      mid ≡ record old { core = mid.core; entries = mid.entries; falls = mid.falls } →
+      stages_of new ≡ slice_set (stages_of old) actor (left stage reply) →
+      new.turns.items ≡ mid.turns.items ++ Turn.Leave actor ∷ [] →
+      new ≡ record mid { actors = new.actors; turns = new.turns } → IsPlay plans new
+  left_at stage at leaves caller shows entries same stages turns rest =
+      let turned : new.turns.items ≡ old.turns.items ++ Turn.Leave actor ∷ [] =
+      turns ∙ ap (λ (p : Play). p.turns.items ++ Turn.Leave actor ∷ []) same in
+      let clients : new.clients.items ≡ old.clients.items =
+      ap (λ (p : Play). p.clients.items) rest ∙ ap (λ (p : Play). p.clients.items) same in
+      let noted : new.entries.items ≡ old.entries.items ++ (client, call, reply) ∷ [] =
+      ap (λ (p : Play). p.entries.items) rest ∙ entries in
+      record {
+        shows = subst (λ (p : Play). Shows p.core p.entries.items) (sym rest) shows;
+        plays = subst (λ cs. Plays plans cs new.turns.items new.entries.items (stages_of new)) (sym clients)
+            (subst (λ ts. Plays plans old.clients.items ts new.entries.items (stages_of new)) (sym turned)
+            (subst (λ es. Plays plans old.clients.items (old.turns.items ++ Turn.Leave actor ∷ []) es (stages_of new)) (sym noted)
+            (subst (λ ss. Plays plans old.clients.items (old.turns.items ++ Turn.Leave actor ∷ [])
+            (old.entries.items ++ (client, call, reply) ∷ []) ss) (sym stages)
+            (Plays.Leaves old.turns.items old.entries.items (stages_of old) actor client stage call reply is.plays at leaves caller))));
+      }
+
+  -- by cases on the stage: an actor without one does not leave
+  left_by : (o : Option Stage) → slice_get (stages_of old) actor ≡ o → option_and_then leaves_by o ≡ Some call →
+      slice_get old.clients.items actor ≡ Some client → Shows mid.core mid.entries.items →
+      mid.entries.items ≡ old.entries.items ++ (client, call, reply) ∷ [] →
+      mid ≡ record old { core = mid.core; entries = mid.entries; falls = mid.falls } →
+      IfSome o (λ stage. stages_of new ≡ slice_set (stages_of old) actor (left stage reply)) →
+      new.turns.items ≡ mid.turns.items ++ Turn.Leave actor ∷ [] →
+      new ≡ record mid { actors = new.actors; turns = new.turns } → IsPlay plans new
+  left_by None at leaves caller shows entries same stages turns rest = cc
+  left_by (Some stage) at leaves caller shows entries same stages turns rest =
+      left_at stage at leaves caller shows entries same stages turns rest
+
+  -- and it is answered
+  pub has_left : option_and_then leaves_by (slice_get (stages_of old) actor) ≡ Some call →
+      slice_get old.clients.items actor ≡ Some client → Shows mid.core mid.entries.items →
+      mid.entries.items ≡ old.entries.items ++ (client, call, reply) ∷ [] →
+      mid ≡ record old { core = mid.core; entries = mid.entries; falls = mid.falls } →
+      IfSome (slice_get (stages_of mid) actor) (λ stage. stages_of new ≡ slice_set (stages_of mid) actor (left stage reply)) →
+      new.turns.items ≡ mid.turns.items ++ Turn.Leave actor ∷ [] →
+      new ≡ record mid { actors = new.actors; turns = new.turns } → IsLeave plans old new actor true
+  has_left leaves caller shows entries same stages turns rest =
+      let kept : stages_of mid ≡ stages_of old = ap stages_of same in (
+        left_by (slice_get (stages_of old) actor) refl leaves caller shows entries same
+            (subst (λ (ss : List Stage). IfSome (slice_get ss actor)
+            (λ stage. stages_of new ≡ slice_set ss actor (left stage reply))) kept stages) turns rest,
+        turns ∙ ap (λ (p : Play). p.turns.items ++ Turn.Leave actor ∷ []) same,
+      )
 
 -- the actor waits, after it passed what it could
 module _ (plans : List Plan) (first old new : Play) (actor client : ℕ) (next : Planned) (asked : StepCall) (reply : Reply)
@@ -231,7 +287,7 @@ one_more xs ys a e first = ap (map stage_of) e ∙ (map-append stage_of xs (a �
 -- what came of a turn after the actor passed what it could
 pub turned : (plans : List Plan) (old mid new : Play) (actor : ℕ) (t : Turned) → mid ≡ record old { actors = mid.actors } →
     IsTurn plans mid new actor t → IsTurn plans old new actor t
-turned plans old mid new actor Turned.Made same so = (so.0, so.1 ∙ ap (λ (p : Play). p.turns.items ++ actor ∷ []) same)
+turned plans old mid new actor Turned.Made same so = (so.0, so.1 ∙ ap (λ (p : Play). p.turns.items ++ Turn.Step actor ∷ []) same)
 turned plans old mid new actor Turned.Waits same so = record {
   stage = so.stage;
   next = so.next;

@@ -1,3 +1,4 @@
 pub mod Fates
+pub mod Leaves
 pub mod Plans
 pub mod Plays

@@ -1,5 +1,5 @@
 -- What an actor is to do: its steps, some of which wait.
-use Rattle.std.specs.Prelude.{ℕ, zero, suc, ◌+◌, ◌-◌, Bool, false, ◌&&◌, ◌==◌, not, if◌then◌else◌, List, [], ◌∷◌, ◌++◌, length, slice_get, Option, Some, None}
+use Rattle.std.specs.Prelude.{ℕ, zero, suc, ◌+◌, ◌-◌, Bool, false, ◌==◌, if◌then◌else◌, List, [], ◌∷◌, ◌++◌, length, slice_get, Option, Some, None, is_some}
 use Rattle.std.specs.Option.{option_and_then, option_map, option_map_or}
 use Rattle.sm_names.specs.declared.call_parts.Object.{Object}
 use Rattle.sm_names.specs.declared.call_rows.CallKind.{CallKind}
@@ -9,6 +9,7 @@ use Rattle.actor_scripts.specs.declared.step.StepBuffer.{StepBuffer}
 use Rattle.actor_plays.specs.declared.plan.Plan.{Plan}
 use Rattle.actor_plays.specs.declared.plan.Planned.{Planned}
 use Rattle.actor_plays.specs.declared.plan.Wait.{Wait}
+use Rattle.actor_plays.specs.declared.plan.Waiting.{Waiting}
 
 -- the label of a node
 abbrev pub node_label : {B : Type 0} → Object ℕ B → Option ℕ
@@ -45,27 +46,35 @@ are_alike one other = option_map_or
 abbrev pub follows_alike : List Step → ℕ → Bool
 follows_alike steps at = if at == 0 then false else are_alike (slice_get steps (at - 1)) (slice_get steps at)
 
--- the same; if each step is made once, none repeats another
-abbrev pub is_repeat : Bool → List Step → ℕ → Bool
-is_repeat once steps at = not once && follows_alike steps at
+-- the step at this place is one with the step before it
+abbrev pub is_repeat : Waiting → List Step → ℕ → Bool
+is_repeat Waiting.Never steps at = false
+is_repeat Waiting.Repeated steps at = follows_alike steps at
+is_repeat Waiting.Always steps at = false
 
--- the step at this place as it is planned, unless it repeats the one before it. It waits if the next one repeats it
-abbrev pub planned_step : Bool → List Step → ℕ → Step → List Planned
-planned_step once steps at step =
-    if is_repeat once steps at then [] else record { step = step; at = at; waits = is_repeat once steps (at + 1) } ∷ []
+-- this step at this place waits
+abbrev pub waits_at : Waiting → List Step → ℕ → Step → Bool
+waits_at Waiting.Never steps at step = false
+waits_at Waiting.Repeated steps at step = follows_alike steps (at + 1)
+waits_at Waiting.Always steps at step = is_some (wait_of step)
+
+-- the step at this place as it is planned, unless it is one with the step before it
+abbrev pub planned_step : Waiting → List Step → ℕ → Step → List Planned
+planned_step waiting steps at step =
+    if is_repeat waiting steps at then [] else record { step = step; at = at; waits = waits_at waiting steps at step } ∷ []
 
 -- the step that the plan has at this place of the script, if it has one there
-abbrev pub planned_at : Bool → List Step → ℕ → List Planned
-planned_at once steps at = option_map_or (planned_step once steps at) (slice_get steps at) []
+abbrev pub planned_at : Waiting → List Step → ℕ → List Planned
+planned_at waiting steps at = option_map_or (planned_step waiting steps at) (slice_get steps at) []
 
 -- so many of the steps as they are planned
-abbrev pub planned_first : Bool → List Step → ℕ → List Planned
-planned_first once steps zero = []
-planned_first once steps (suc count) = planned_first once steps count ++ planned_at once steps count
+abbrev pub planned_first : Waiting → List Step → ℕ → List Planned
+planned_first waiting steps zero = []
+planned_first waiting steps (suc count) = planned_first waiting steps count ++ planned_at waiting steps count
 
--- the steps as they are planned: of those in a row that wait for the same the first, which waits
-abbrev pub planned : Bool → List Step → List Planned
-planned once steps = planned_first once steps (length steps)
+-- the steps as they are planned
+abbrev pub planned : Waiting → List Step → List Planned
+planned waiting steps = planned_first waiting steps (length steps)
 
 -- the steps of a plan
 abbrev pub steps_of : Plan → List Planned

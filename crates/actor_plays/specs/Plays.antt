@@ -1,7 +1,7 @@
 -- The plays of actors: which calls they can make, one turn after another, and what they know then.
-use Rattle.std.specs.Prelude.{ℕ, ◌+◌, ◌≡◌, Bool, true, false, ◌&&◌, ◌==◌, not, List, [], ◌∷◌, ◌++◌, length, map, slice_get, slice_set, Option, Some, None}
+use Rattle.std.specs.Prelude.{ℕ, ◌+◌, ◌≡◌, Bool, true, false, ◌&&◌, ◌==◌, not, if◌then◌else◌, List, [], ◌∷◌, ◌++◌, length, map, slice_get, slice_set, Option, Some, None, is_some}
 use Rattle.std.specs.List.{list_any}
-use Rattle.std.specs.Option.{option_and_then, option_map_or}
+use Rattle.std.specs.Option.{option_and_then, option_map, option_map_or}
 use Rattle.sm_names.specs.declared.messages.Call.{Call}
 use Rattle.sm_names.specs.declared.messages.Reply.{Reply}
 use Rattle.sm_names.specs.declared.tracking.Fired.{Fired}
@@ -17,19 +17,22 @@ use Rattle.actor_plays.specs.declared.plan.Plan.{Plan}
 use Rattle.actor_plays.specs.declared.plan.Planned.{Planned}
 use Rattle.actor_plays.specs.declared.play.Asked.{Asked}
 use Rattle.actor_plays.specs.declared.play.Play.{Play}
+use Rattle.actor_plays.specs.declared.play.Turn.{Turn}
 use Rattle.actor_plays.specs.declared.play.Turned.{Turned}
+use Rattle.actor_plays.specs.Leaves.{Leave, leave_after, leave_call, leaving_of}
 use Rattle.actor_plays.specs.Plans.{steps_of}
 
--- how far an actor is: how many steps of its plan are behind it, what it knows, and the replies to its calls, each with the
--- place of its step
+-- how far an actor is: how many steps of its plan are behind it, what it knows, the replies to the calls of its steps, each with
+-- the place of its step, and how far it is in leaving, if it leaves
 pub record Stage : Type 0 where
   pub at : ℕ
   pub known : Known
   pub made : List (ℕ × Reply)
+  pub leaving : Option Leave
 
 -- nothing is behind it
 abbrev pub first_stage : Stage
-first_stage = record { at = 0; known = nothing_known; made = [] }
+first_stage = record { at = 0; known = nothing_known; made = []; leaving = None }
 
 -- the next step is behind it, without a call
 abbrev pub passed : Stage → Stage
@@ -41,11 +44,22 @@ stage_after stage next asked reply = record {
   at = stage.at + 1;
   known = state_after stage.known next.step asked reply;
   made = stage.made ++ (stage.at, reply) ∷ [];
+  leaving = stage.leaving;
 }
 
--- the next step of the actor of this place
+-- the call by which it leaves, or goes on to leave, is answered so
+abbrev pub left : Stage → Reply → Stage
+left stage reply = record stage { leaving = Some (leave_after stage.leaving reply) }
+
+-- that call, if there is one
+abbrev pub leaves_by : Stage → Option Call
+leaves_by stage = leave_call stage.known.objects stage.leaving
+
+-- the next step of the actor of this place: one that leaves has none
 abbrev pub next_step : List Plan → ℕ → Stage → Option Planned
-next_step plans actor stage = option_and_then (λ (plan : Plan). slice_get (steps_of plan) stage.at) (slice_get plans actor)
+next_step plans actor stage =
+    let next : Option Planned = option_and_then (λ (plan : Plan). slice_get (steps_of plan) stage.at) (slice_get plans actor) in
+    if is_some stage.leaving then None else next
 
 -- the tracker is among those that fired
 abbrev pub has_fired : List Fired → ℕ → Bool
@@ -72,24 +86,36 @@ joins clients = map (λ client. (0, Call.Join, Reply.Joined client)) clients
 
 -- by these turns, each of the actor of a place, the actors of these plans, whose clients are these, made this history, and are
 -- so far. All clients join first. An actor passes a step that makes no call, unless it waits for a tracker to fire. A turn
--- makes the call of its next step; one that waits is not made where nothing is there for it
-pub data Plays (plans : List Plan) (clients : List ℕ) : List ℕ → List Entry → List Stage → Type 0 where
+-- makes the call of its next step; one that waits is not made where nothing is there for it. Or it makes the call by which the
+-- actor leaves, or goes on to leave: one that leaves makes no step any more
+pub data Plays (plans : List Plan) (clients : List ℕ) : List Turn → List Entry → List Stage → Type 0 where
   Starts : length clients ≡ length plans → Plays plans clients [] (joins clients) (map (λ client. first_stage) clients)
-  Passes : (turns : List ℕ) (history : List Entry) (stages : List Stage) (actor : ℕ) (stage : Stage) (next : Planned) (s : State) →
+  Passes : (turns : List Turn) (history : List Entry) (stages : List Stage) (actor : ℕ) (stage : Stage) (next : Planned) (s : State) →
       Plays plans clients turns history stages → slice_get stages actor ≡ Some stage → next_step plans actor stage ≡ Some next →
       step_call clients stage.known next.step ≡ None → Shows s history → polls s.trackers.fired stage.known next ≡ false →
       Plays plans clients turns history (slice_set stages actor (passed stage))
-  Calls : (turns : List ℕ) (history : List Entry) (stages : List Stage) (actor client : ℕ) (stage : Stage) (next : Planned)
+  Calls : (turns : List Turn) (history : List Entry) (stages : List Stage) (actor client : ℕ) (stage : Stage) (next : Planned)
       (asked : StepCall) (reply : Reply) →
       Plays plans clients turns history stages → slice_get stages actor ≡ Some stage → next_step plans actor stage ≡ Some next →
       step_call clients stage.known next.step ≡ Some asked → slice_get clients actor ≡ Some client →
       next.waits && is_wait reply ≡ false →
-      Plays plans clients (turns ++ actor ∷ []) (history ++ (client, asked.call, reply) ∷ [])
+      Plays plans clients (turns ++ Turn.Step actor ∷ []) (history ++ (client, asked.call, reply) ∷ [])
       (slice_set stages actor (stage_after stage next asked reply))
+  Leaves : (turns : List Turn) (history : List Entry) (stages : List Stage) (actor client : ℕ) (stage : Stage) (call : Call)
+      (reply : Reply) →
+      Plays plans clients turns history stages → slice_get stages actor ≡ Some stage → leaves_by stage ≡ Some call →
+      slice_get clients actor ≡ Some client →
+      Plays plans clients (turns ++ Turn.Leave actor ∷ []) (history ++ (client, call, reply) ∷ [])
+      (slice_set stages actor (left stage reply))
 
 -- how far the actor is
 abbrev pub stage_of : Actor → Stage
-stage_of actor = record { at = actor.at; known = known actor.state; made = actor.made.items }
+stage_of actor = record {
+  at = actor.at;
+  known = known actor.state;
+  made = actor.made.items;
+  leaving = option_map leaving_of actor.leaving;
+}
 
 -- where each actor of the play is, by the order of the joins
 abbrev pub stages_of : Play → List Stage
@@ -137,7 +163,12 @@ AsksNothing plans play actor = (asks : Asked) → Asks plans play actor asks →
 
 -- what came of a turn of the actor
 abbrev pub IsTurn : List Plan → Play → Play → ℕ → Turned → Type 0
-IsTurn plans old new actor Turned.Made = IsPlay plans new × (new.turns.items ≡ old.turns.items ++ actor ∷ [])
+IsTurn plans old new actor Turned.Made = IsPlay plans new × (new.turns.items ≡ old.turns.items ++ Turn.Step actor ∷ [])
 IsTurn plans old new actor Turned.Waits = IsLeftWaiting plans old new actor
 IsTurn plans old new actor Turned.Rests =
     IsPlay plans new × (new ≡ record old { actors = new.actors }) × AsksNothing plans new actor
+
+-- what came of the actor's call by which it leaves, or goes on to leave: it was made, or there is none
+abbrev pub IsLeave : List Plan → Play → Play → ℕ → Bool → Type 0
+IsLeave plans old new actor true = IsPlay plans new × (new.turns.items ≡ old.turns.items ++ Turn.Leave actor ∷ [])
+IsLeave plans old new actor false = (new ≡ old) × (option_and_then leaves_by (slice_get (stages_of old) actor) ≡ None)

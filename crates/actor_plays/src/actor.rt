@@ -1,23 +1,25 @@
 //! An actor in a play.
-ghost use Rattle.std.specs.Prelude.{◌≡◌, ◌≤◌, false, true, IfErr, OnOk};
+ghost use Rattle.std.specs.Prelude.{◌≡◌, ◌≤◌, false, true, IfErr, IfOk, OnOk};
 ghost use Rattle.sm_names.specs.declared.outcomes.StepFault.{StepFault as Fault};
 ghost use Rattle.actor_scripts.specs.ActorStates.{step_call};
 ghost use Rattle.actor_scripts.specs.Tables.{known};
-ghost use Rattle.actor_plays.specs.Plays.{first_stage, passed, stage_after, stage_of};
+ghost use Rattle.actor_plays.specs.Plays.{first_stage, leaves_by, left, passed, stage_after, stage_of};
 
+use crate::leaving::{Leaving, leave_call, note_leave};
 use crate::plan::Planned;
 use actor_scripts::{ActorState, Step, StepCall};
-use sm_names::{ClientId, Reply, StepFault};
-use std::alloc::Global;
+use sm_names::{Call, ClientId, Reply, StepFault};
+use std::alloc::{AllocError, Global};
 
-/// An actor in a play: its client, how many steps of its plan are behind it, what it knows, and the replies
-/// to its calls, each with the place of its step in the plan.
+/// An actor in a play: its client, how many steps of its plan are behind it, what it knows, the replies to the
+/// calls of its steps, each with the place of its step in the plan, and how far it is in leaving, if it leaves.
 #[derive(Drop)]
 pub struct Actor {
     pub client: ClientId,
     pub at: usize,
     pub state: ActorState,
     pub made: Vec<(usize, Reply)>,
+    pub leaving: Option<Leaving>,
 }
 
 impl Actor {
@@ -32,6 +34,7 @@ impl Actor {
             at: 0,
             state,
             made,
+            leaving: None,
         }
     }
 
@@ -78,5 +81,23 @@ impl Actor {
         }
         self.at += 1;
         Ok(())
+    }
+
+    /// The call by which the actor leaves, or goes on to leave: Shut, a Collect of each parcel that waited for it then, and
+    /// a Close or a DropHandle of each of its objects, in the order of `Client::vanish`. `None` once it has made all of them.
+    ///
+    /// `AllocError` where memory is refused. Costs O(n) for the n objects that it was ever given.
+    pub fn leave_call(&self, alloc: Global) -> Result<Option<Call>, AllocError>
+        ensures { IfOk result (λ call. call ≡ leaves_by (stage_of self.now)) }
+    {
+        leave_call(alloc, &self.leaving, self.state.objects())
+    }
+
+    // Notes the reply to that call.
+    pub(crate) fn note_leave(&mut self, alloc: Global, reply: Reply) -> Result<(), StepFault>
+        ensures stage { OnOk result (stage_of self.new ≡ left (stage_of self.old) reply) }
+        ensures memory { IfErr result (λ fault. fault ≡ Fault.NoMemory) }
+    {
+        note_leave(alloc, &mut self.leaving, &reply)
     }
 }

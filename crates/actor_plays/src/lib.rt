@@ -2,13 +2,16 @@
 #![tactic(auto)]
 
 mod actor;
+mod departure;
 mod ending;
 mod falls;
+mod leaving;
 mod plan;
 mod play;
 
 pub use actor::Actor;
 pub use ending::Fate;
 pub use falls::GoneNode;
-pub use plan::{Plan, Planned, plan_of};
-pub use play::{Play, Turned};
+pub use leaving::Leaving;
+pub use plan::{Plan, Planned, Waiting, plan_of};
+pub use play::{Play, Turn, Turned};

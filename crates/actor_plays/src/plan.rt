@@ -1,6 +1,6 @@
 //! What an actor is to do: its steps, some of which wait.
 ghost use Rattle.std.specs.Prelude.{◌≡◌, ◌<◌, ◌++◌, length, slice_get, IfOk, OnOk};
-ghost use Rattle.actor_plays.specs.Plans.{are_alike, follows_alike as follows, is_repeat as is_repeated, node_label as label_of, planned, planned_at, same_wait, steps_of, wait_of as waits_for};
+ghost use Rattle.actor_plays.specs.Plans.{are_alike, follows_alike as follows, is_repeat as is_repeated, node_label as label_of, planned, planned_at, same_wait, steps_of, wait_of as waits_for, waits_at as waits_there};
 
 use actor_scripts::{Step, StepBuffer};
 use sm_names::{CallKind, Object};
@@ -21,6 +21,17 @@ pub struct Planned {
 #[derive(Drop)]
 pub struct Plan {
     pub steps: Vec<Planned>,
+}
+
+/// Which steps of a script wait, among its Collects, Checks, Takes and looks at trackers.
+#[derive(Clone, Copy)]
+pub enum Waiting {
+    /// None: each step is made once.
+    Never,
+    /// Those that stand twice or more in a row, which are one step.
+    Repeated,
+    /// Each. Those in a row are steps of their own.
+    Always,
 }
 
 // What a step can wait for, by the label that it says.
@@ -102,44 +113,59 @@ fn follows_alike(steps: &[Step], at: usize) -> bool
     is_alike(before, this)
 }
 
-// The same, unless each step is to be made once.
-fn is_repeat(once: bool, steps: &[Step], at: usize) -> bool
-    ensures { result ≡ is_repeated once steps.now at }
+// Whether the step at this place is one with the step before it.
+fn is_repeat(waiting: Waiting, steps: &[Step], at: usize) -> bool
+    ensures { result ≡ is_repeated waiting steps.now at }
 {
-    !once && follows_alike(steps, at)
+    match waiting {
+        Waiting::Repeated => follows_alike(steps, at),
+        Waiting::Never => false,
+        Waiting::Always => false,
+    }
 }
 
-// Adds the step at this place, unless it repeats the one before it.
+// Whether this step at this place waits.
+fn waits_at(waiting: Waiting, steps: &[Step], at: usize, step: Step) -> bool
+    requires { at < length steps.now }
+    ensures { result ≡ waits_there waiting steps.now at step }
+{
+    match waiting {
+        Waiting::Never => false,
+        Waiting::Repeated => follows_alike(steps, at + 1),
+        Waiting::Always => wait_of(step).is_some(),
+    }
+}
+
+// Adds the step at this place, unless it is one with the step before it.
 fn add_step(
     planned: &mut Vec<Planned>,
-    once: bool,
+    waiting: Waiting,
     steps: &[Step],
     at: usize,
 ) -> Result<(), AllocError>
     requires { at < length steps.now }
-    ensures { OnOk result (planned.new.items ≡ planned.old.items ++ planned_at once steps.now at) }
+    ensures { OnOk result (planned.new.items ≡ planned.old.items ++ planned_at waiting steps.now at) }
 {
-    if is_repeat(once, steps, at) {
+    if is_repeat(waiting, steps, at) {
         return Ok(());
     }
     planned.push(Planned {
         step: steps[at],
         at,
-        waits: is_repeat(once, steps, at + 1),
+        waits: waits_at(waiting, steps, at, steps[at]),
     })?;
     Ok(())
 }
 
-/// The plan of an actor with these steps. A Collect, Check, Take or Poll that stands twice or more in a
-/// row is one step, which waits. If each step is to be made once, none waits.
+/// The plan of an actor with these steps, of which those wait that `waiting` says.
 ///
 /// `AllocError` where memory is refused. Costs O(n) for n steps.
-pub fn plan_of(alloc: Global, steps: &[Step], once: bool) -> Result<Plan, AllocError>
-    ensures { IfOk result (λ plan. steps_of plan ≡ planned once steps.now) }
+pub fn plan_of(alloc: Global, steps: &[Step], waiting: Waiting) -> Result<Plan, AllocError>
+    ensures { IfOk result (λ plan. steps_of plan ≡ planned waiting steps.now) }
 {
     let mut planned = Vec::new(alloc);
     for at in 0..steps.len() {
-        add_step(&mut planned, once, steps, at)?;
+        add_step(&mut planned, waiting, steps, at)?;
     }
     Ok(Plan { steps: planned })
 }

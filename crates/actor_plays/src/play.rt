@@ -4,6 +4,8 @@ ghost use Rattle.std.specs.Option.{option_and_then, option_map, option_map_or};
 ghost use Rattle.sm_names.specs.declared.rules.TheConstants.{MAX_PAGES};
 ghost use Rattle.sm_names.specs.declared.outcomes.StepFault.{StepFault as Fault};
 ghost use Rattle.core_state.specs.Shown.{Shows};
+ghost use Rattle.actor_plays.specs.declared.play.Asked.{Asked as AskedFor};
+ghost use Rattle.actor_plays.specs.declared.play.Turn.{Turn as Made};
 ghost use Rattle.actor_plays.specs.Fates.{AreFalls, fate_in};
 ghost use Rattle.actor_plays.specs.Plays.{AreJoining, Asks, AsksNothing, IsPlay, IsTurn, Stage, first_stage, has_fired as has_fired_among, is_wait as is_waiting, next_step, passed, polls as polls_for, stage_after, stage_of, stages_of};
 ghost use Rattle.actor_scripts.specs.ActorStates.{step_call};
@@ -30,6 +32,15 @@ pub enum Turned {
     Rests,
 }
 
+/// A turn, which makes one call: of the actor of this place.
+#[derive(Clone, Copy, PartialEq, Eq)]
+pub enum Turn {
+    /// The call of its next step.
+    Step(usize),
+    /// The call by which it leaves, or goes on to leave.
+    Leave(usize),
+}
+
 /// A play of actors on a core: the clients, what each actor knows, the turns, the calls with their replies,
 /// and the nodes that fell.
 #[derive(Drop)]
@@ -37,7 +48,7 @@ pub struct Play {
     pub(crate) core: Core,
     pub(crate) clients: Vec<ClientId>,
     pub(crate) actors: Vec<Actor>,
-    pub(crate) turns: Vec<usize>,
+    pub(crate) turns: Vec<Turn>,
     pub(crate) entries: Vec<(ClientId, Call, Reply)>,
     pub(crate) falls: Vec<GoneNode>,
 }
@@ -221,12 +232,15 @@ impl Play {
         ensures { result
             ≡ option_and_then (next_step plans.now actor) (slice_get (stages_of self.now) actor) }
     {
-        let at = self.actors.get(actor)?.at;
-        plans.get(actor)?.steps.get(at).copied()
+        let one = self.actors.get(actor)?;
+        if one.leaving.is_some() {
+            return None;
+        }
+        plans.get(actor)?.steps.get(one.at).copied()
     }
 
-    // The actor of this place.
-    fn actor(&self, actor: usize) -> Option<&Actor>
+    /// The actor of this place. Costs O(1).
+    pub fn actor(&self, actor: usize) -> Option<&Actor>
         ensures { option_map stage_of (option_copied result) ≡ slice_get (stages_of self.now) actor }
     {
         self.actors.get(actor)
@@ -331,7 +345,7 @@ impl Play {
     }
 
     // Makes the call, and notes the nodes that it took if the play tells.
-    fn call(
+    pub(crate) fn call(
         &mut self,
         alloc: Global,
         client: ClientId,
@@ -373,7 +387,8 @@ impl Play {
         ensures stages { OnOk result (IfSome (slice_get (stages_of self.old) actor) (λ stage.
             stages_of self.new
             ≡ slice_set (stages_of self.old) actor (stage_after stage next asked.now reply))) }
-        ensures turns { OnOk result (self.new.turns.items ≡ self.old.turns.items ++ actor ∷ []) }
+        ensures turns { OnOk result (self.new.turns.items
+            ≡ self.old.turns.items ++ Made.Step actor ∷ []) }
         ensures rest { OnOk result (self.new
             ≡ record self.old { actors = self.new.actors; turns = self.new.turns }) }
         ensures memory { IfErr result (λ fault. fault ≡ Fault.NoMemory) }
@@ -382,7 +397,7 @@ impl Play {
             return Err(StepFault::NoMemory);
         }
         self.actors[actor].note(next, asked, reply)?;
-        match self.turns.push(actor) {
+        match self.turns.push(Turn::Step(actor)) {
             Ok(()) => Ok(()),
             Err(_) => Err(StepFault::NoMemory),
         }
@@ -407,6 +422,18 @@ impl Play {
             asked,
             client,
         })
+    }
+
+    /// The call of the actor's next step, if that makes one, and whether the step waits. Costs a constant number of look-ups.
+    pub fn next_call(&self, plans: &[Plan], actor: usize) -> Option<(Call, bool)>
+        ensures some { IfSome result (λ call. (asks : AskedFor) × Asks plans.now self.now actor asks
+            × (call ≡ (asks.asked.call, asks.next.waits))) }
+        ensures none { result ≡ None → AsksNothing plans.now self.now actor }
+    {
+        match self.asks(plans, actor) {
+            Some(asks) => Some((asks.asked.call, asks.next.waits)),
+            None => None,
+        }
     }
 
     // The actor makes the call that it asks for.
@@ -436,6 +463,30 @@ impl Play {
         Ok(Turned::Made)
     }
 
+    // The actor passes the steps that it can pass, and makes the call of the next one.
+    fn pass_and_turn(
+        &mut self,
+        alloc: Global,
+        plans: &[Plan],
+        actor: usize,
+        tells: bool,
+    ) -> Result<Turned, StepFault>
+        requires { IsPlay plans.now self.old }
+        ensures turn { IfOk result (IsTurn plans.now self.old self.new actor) }
+        ensures told { tells ≡ true → AreFalls self.old.entries.items self.old.falls.items →
+            OnOk result (AreFalls self.new.entries.items self.new.falls.items) }
+        ensures full { result ≡ Err Fault.HistoryFull →
+            self.old.core.limits.events ≤ self.old.core.events }
+        ensures pool { OnOk result (self.new.core.pool ≡ self.old.core.pool) }
+        ensures limits { OnOk result (self.new.core.limits ≡ self.old.core.limits) }
+    {
+        self.pass(plans, actor);
+        match self.asks(plans, actor) {
+            Some(asks) => self.make_turn(alloc, plans, actor, &asks, tells),
+            None => Ok(Turned::Rests),
+        }
+    }
+
     /// A turn of the actor: it passes the steps that it can pass, and makes the call of the next one. If the
     /// play tells, the nodes that the call took are noted.
     ///
@@ -458,10 +509,9 @@ impl Play {
         ensures pool { OnOk result (self.new.core.pool ≡ self.old.core.pool) }
         ensures limits { OnOk result (self.new.core.limits ≡ self.old.core.limits) }
     {
-        self.pass(plans, actor);
         match self.asks(plans, actor) {
             Some(asks) => self.make_turn(alloc, plans, actor, &asks, tells),
-            None => Ok(Turned::Rests),
+            None => self.pass_and_turn(alloc, plans, actor, tells),
         }
     }
 

@@ -49,6 +49,13 @@ impl ActorState {
         }
     }
 
+    /// What lies in each slot, in the order in which the objects came. Costs O(1).
+    pub fn objects(&self) -> &[Option<Held>]
+        ensures { result.now ≡ (known self.now).objects }
+    {
+        &self.objects
+    }
+
     // What lies in the slot.
     fn object_at(&self, slot: usize) -> Option<Held>
         ensures { result ≡ lies_at (known self.now).objects slot }

@@ -9,7 +9,7 @@ use Rattle.clap.specs.declared.parser.matches.ArgMatches.{ArgMatches}
 use Rattle.clap.proofs.WalkLemmas.{first_value-rows, one_text-rows}
 use Rattle.command_line.specs.declared.task.Search.{Search}
 use Rattle.command_line.specs.declared.task.Until.{Until}
-use Rattle.command_line.specs.Asked.{AreAsked, IsCount, IsNumberRead, IsSearch, IsUntil, subcommand_text, value_text, written_number}
+use Rattle.command_line.specs.Asked.{AreAsked, IsCount, IsNumberRead, IsSearch, IsUntil, IsVanishing, subcommand_text, value_text, written_number}
 
 -- the text is that of the subcommand's own matches
 pub its_text : (id : List ℕ) (matches inner : ArgMatches) (o : Option (Text × List Row)) →
@@ -98,4 +98,14 @@ search-same outcome states its_outcome its_states search o s read = record {
   states_number = read.states_number;
   states_read = subst (λ (t : Option (List ℕ)). IsNumberRead t read.states_number) (sym s) read.states_read;
   states_is = read.states_is;
+}
+
+-- so are who vanishes, and how many
+pub vanishing-same : (vanish most its_vanish its_most : Option (List ℕ)) (search : Search) → its_vanish ≡ vanish → its_most ≡ most →
+    IsVanishing vanish most search → IsVanishing its_vanish its_most search
+vanishing-same vanish most its_vanish its_most search v m read = record {
+  clients = read.clients ∙ sym v;
+  most_number = read.most_number;
+  most_read = subst (λ (t : Option (List ℕ)). IsNumberRead t read.most_number) (sym m) read.most_read;
+  most_is = read.most_is;
 }

@@ -1,5 +1,5 @@
 -- What the words of the command line ask for.
-use Rattle.std.specs.Prelude.{◌≡◌, ◌≢◌, ◌⊎◌, ◌≤◌, ◌<◌, ◌^◌, ℕ, Bool, true, false, List, Option, Some, None, SomeIff, ⊤, codes, option_and_then}
+use Rattle.std.specs.Prelude.{◌≡◌, ◌≢◌, ◌⊎◌, ◌≤◌, ◌<◌, ◌^◌, ℕ, Bool, true, false, List, Option, Some, None, SomeIff, ⊤, codes, option_and_then, option_map}
 use Rattle.std.specs.Str.Parse.{IsNumeral, digits_value, without_leading_plus}
 use Rattle.sm_names.specs.declared.rules.TheConstants.{MAX_PAGES}
 use Rattle.clap.specs.Words.{first_of, one_of, subcommand_rows_of}
@@ -104,6 +104,7 @@ HasRecord text task = ⊤
 -- whether actors make steps again while nothing is there for them
 abbrev pub HasPatience : Option (List ℕ) → ScriptTask → Type 0
 HasPatience text (ScriptTask.Threads output patience) = IsFlag text patience
+HasPatience text (ScriptTask.Explore search) = IsFlag text search.is_patient
 HasPatience text task = ⊤
 
 -- whether an explanation tells only the failures
@@ -132,3 +133,20 @@ pub record IsSearch (outcome states : Option (List ℕ)) (search : Search) : Typ
 abbrev pub HasSearch : Option (List ℕ) → Option (List ℕ) → Option (List ℕ) → ScriptTask → Type 0
 HasSearch once outcome states (ScriptTask.Explore search) = IsFlag once search.once × IsSearch outcome states search
 HasSearch once outcome states task = ⊤
+
+-- how many clients vanish at most, if this number is asked for
+abbrev pub most_asked : Option ℕ → ℕ
+most_asked (Some most) = most
+most_asked None = 1
+
+-- which clients these texts let vanish, and how many at most
+pub record IsVanishing (vanish most : Option (List ℕ)) (search : Search) : Type 0 where
+  pub clients : option_map (λ text. text.now) search.vanish ≡ vanish
+  pub most_number : Option ℕ
+  pub most_read : IsNumberRead most most_number
+  pub most_is : search.most ≡ most_asked most_number
+
+-- who vanishes in a search through the orders, if one is asked for
+abbrev pub HasVanishing : Option (List ℕ) → Option (List ℕ) → Option (List ℕ) → ScriptTask → Type 0
+HasVanishing vanish most end (ScriptTask.Explore search) = IsFlag end search.at_end × IsVanishing vanish most search
+HasVanishing vanish most end task = ⊤

@@ -47,6 +47,12 @@ pub(crate) const OUTCOME: &str = "outcome";
 
 pub(crate) const STATES: &str = "states";
 
+pub(crate) const VANISH: &str = "vanish";
+
+pub(crate) const MOST: &str = "most";
+
+pub(crate) const END: &str = "end";
+
 pub(crate) const FILE: &str = "file";
 
 // The name of a file that stands for standard input.
@@ -156,6 +162,14 @@ fn once_word<'a>(alloc: Global) -> Arg<'a> {
         .help("No line waits: each step is made once, as in sysmem threads")
 }
 
+// The option `--patient` of a search.
+fn patience_word<'a>(alloc: Global) -> Arg<'a> {
+    Arg::new(alloc, PATIENT)
+        .long(PATIENT)
+        .action(ArgAction::SetTrue)
+        .help("Each collect, check, take and poll waits, as in sysmem threads --patient")
+}
+
 // The option `--outcome K`.
 fn outcome_word<'a>(alloc: Global) -> Arg<'a> {
     option(
@@ -172,6 +186,36 @@ fn states_word<'a>(alloc: Global) -> Arg<'a> {
     option(alloc, STATES, "N", "How many states are met at most")
         .value_parser(value_parser!(u64))
         .default_value("1000000")
+}
+
+// The option `--vanish CLIENTS`.
+fn vanish_word<'a>(alloc: Global) -> Arg<'a> {
+    option(
+        alloc,
+        VANISH,
+        "CLIENTS",
+        "Which clients may vanish at any point: labels with commas between them, or all",
+    )
+}
+
+// The option `--most N`.
+fn most_word<'a>(alloc: Global) -> Arg<'a> {
+    option(
+        alloc,
+        MOST,
+        "N",
+        "How many clients vanish in a run at most, before they are done",
+    )
+    .value_parser(value_parser!(u64))
+    .default_value("1")
+}
+
+// The option `--end`.
+fn end_word<'a>(alloc: Global) -> Arg<'a> {
+    Arg::new(alloc, END)
+        .long(END)
+        .action(ArgAction::SetTrue)
+        .help("Each client vanishes once its steps are done, as in sysmem threads")
 }
 
 // The option `--record`.
@@ -212,6 +256,10 @@ enum Word {
     Failures,
     Summary,
     Once,
+    Patience,
+    End,
+    Vanish,
+    Most,
     Outcome,
     States,
 }
@@ -283,6 +331,10 @@ const COMMANDS: &[Row] = &[
             Word::Pages,
             Word::File,
             Word::Once,
+            Word::Patience,
+            Word::End,
+            Word::Vanish,
+            Word::Most,
             Word::Outcome,
             Word::States,
         ],
@@ -303,6 +355,10 @@ fn argument<'a>(alloc: Global, word: Word) -> Result<Arg<'a>, AllocError> {
         Word::Failures => Ok(failures_word(alloc)),
         Word::Summary => Ok(summary_word(alloc)),
         Word::Once => Ok(once_word(alloc)),
+        Word::Patience => patience_word(alloc).conflicts_with(ONCE),
+        Word::End => Ok(end_word(alloc)),
+        Word::Vanish => Ok(vanish_word(alloc)),
+        Word::Most => Ok(most_word(alloc)),
         Word::Outcome => Ok(outcome_word(alloc)),
         Word::States => Ok(states_word(alloc)),
     }

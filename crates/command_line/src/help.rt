@@ -269,7 +269,8 @@ has an outcome in which b looks for the token before it is given:
 
 A line that stands twice or more in a row waits: a collect, check, take or poll
 is then made once its answer is no longer empty or pending. With --once it is
-made as often as it stands. A client stays when its steps are done.
+made as often as it stands, and no line waits; with --patient each such line
+waits. A client stays when its steps are done.
 
 An outcome says of each node whether it ends, fails (and why), or is left, of
 each client whether it comes to its end or waits for ever, of each tracker
@@ -280,6 +281,17 @@ in which each turn is drawn evenly among the clients that have one.
 
 explains a play that comes to outcome 2, of the fewest calls. Labels that two
 clients use have the client's in front there.
+
+    sysmem explore --vanish a,b pair.actors
+
+lets a or b vanish at any point, at most one of them, or as many as --most says:
+the client is shut, collects its parcels, closes its tokens and collections, and
+drops its handles. `all` stands for all clients. The outcomes are told apart by
+who vanishes. A line of the script says the same, unless --vanish is given:
+
+    #! vanish a b
+
+With --end each client vanishes once its steps are done.
 
 A script may have claims, which other commands skip, such as
 
@@ -293,8 +305,9 @@ report tells which claims hold, and which outcome breaks one that does not.";
 
 pub(crate) const EXPLORE_STATUS: &str = "\
 Status: 0 all orders were gone through, and all claims hold; 1 FILE can't be
-opened, or read or write fault; 2 the command line was refused, or there is no
-such outcome; 3 a bad line, as for `sysmem threads`, or a bad claim; 4 no
-memory, or history full; 5 a mistake of the program; 6 a claim does not hold;
-7 not all orders were gone through, since there are more states than --states.
+opened, or read or write fault; 2 the command line was refused, there is no
+such outcome, or a client that is to vanish does not join; 3 a bad line, as for
+`sysmem threads`, or a bad claim; 4 no memory, or history full; 5 a mistake of
+the program; 6 a claim does not hold; 7 not all orders were gone through, since
+there are more states than --states.
 A fault is one line on standard error; a bad line has its reason.";

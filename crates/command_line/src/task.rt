@@ -1,11 +1,11 @@
 //! What a command does with a script.
 ghost use Rattle.std.specs.Prelude.{◌≡◌, codes, option_map};
 ghost use Rattle.clap.specs.Matches.{first_value, found_of, one_text, subcommand_name_of};
-ghost use Rattle.command_line.specs.Asked.{HasFailures, HasFormat, HasPatience, HasRecord, HasSearch, HasSummary, HasUntil, IsFlag, IsFormat, IsSearch, IsTask, IsUntil, states_asked, subcommand_text, until_asked, value_text};
+ghost use Rattle.command_line.specs.Asked.{HasFailures, HasFormat, HasPatience, HasRecord, HasSearch, HasSummary, HasUntil, HasVanishing, IsFlag, IsFormat, IsSearch, IsTask, IsUntil, IsVanishing, most_asked, states_asked, subcommand_text, until_asked, value_text};
 
 use crate::commands::{
-    AT, CHECK, DOT, DRAW, EXPLAIN, EXPLORE, FAILURE, FAILURES, FORMAT, LINE, ONCE, OUTCOME,
-    PATIENT, RECORD, STATES, SUMMARY, SVG, THREADS,
+    AT, CHECK, DOT, DRAW, END, EXPLAIN, EXPLORE, FAILURE, FAILURES, FORMAT, LINE, MOST, ONCE,
+    OUTCOME, PATIENT, RECORD, STATES, SUMMARY, SVG, THREADS, VANISH,
 };
 use clap::ArgMatches;
 
@@ -42,9 +42,17 @@ pub struct View {
 
 /// Which search through the orders of the clients' steps is asked for.
 #[derive(Clone, Copy)]
-pub struct Search {
+pub struct Search<'a> {
     /// No line waits: each step is made once.
     pub once: bool,
+    /// Each line waits that can: not only those that stand twice or more in a row.
+    pub is_patient: bool,
+    /// Each client vanishes once its steps are done.
+    pub at_end: bool,
+    /// Which clients may vanish at any point: labels with commas between them, or `all`; `None` where the script says it.
+    pub vanish: Option<&'a str>,
+    /// How many clients vanish at most before their steps are done.
+    pub most: u64,
     /// The number of the outcome whose play is written, from 1; `None` where the report is.
     pub outcome: Option<u64>,
     /// How many states are met at most.
@@ -53,7 +61,7 @@ pub struct Search {
 
 /// What a command does with a script.
 #[derive(Clone, Copy)]
-pub enum ScriptTask {
+pub enum ScriptTask<'a> {
     /// Answers each line.
     Run,
     /// Runs the clients as actors, and writes the record too if it is asked for. A patient actor makes a step
@@ -73,12 +81,12 @@ pub enum ScriptTask {
     /// Compares the replies of a transcript.
     Check,
     /// Goes through all orders of the clients' steps.
-    Explore(Search),
+    Explore(Search<'a>),
 }
 
 /// What the matches of a parse ask for: the task of the subcommand of that name, and `Run` for any other
 /// name. Takes a time in proportion to the words.
-pub fn task_of(matches: &ArgMatches<'_>) -> ScriptTask
+pub fn task_of<'a>(matches: &ArgMatches<'a>) -> ScriptTask<'a>
     ensures task { IsTask (subcommand_name_of matches.now) result }
     ensures format { HasFormat (subcommand_text (codes "format") matches.now) result }
     ensures until { HasUntil (value_text (codes "at") matches.now)
@@ -89,6 +97,8 @@ pub fn task_of(matches: &ArgMatches<'_>) -> ScriptTask
     ensures patience { HasPatience (value_text (codes "patient") matches.now) result }
     ensures search { HasSearch (value_text (codes "once") matches.now)
         (value_text (codes "outcome") matches.now) (value_text (codes "states") matches.now) result }
+    ensures vanishing { HasVanishing (subcommand_text (codes "vanish") matches.now)
+        (value_text (codes "most") matches.now) (value_text (codes "end") matches.now) result }
 {
     let Some((name, inner)) = matches.subcommand() else {
         return ScriptTask::Run;
@@ -135,15 +145,24 @@ fn view_of(matches: &ArgMatches<'_>) -> View
 }
 
 // The search that the matches of `explore` ask for.
-fn search_of(matches: &ArgMatches<'_>) -> Search
+fn search_of<'a>(matches: &ArgMatches<'a>) -> Search<'a>
     ensures once { IsFlag (one_text (found_of matches.now) (codes "once")) result.once }
+    ensures patience { IsFlag (one_text (found_of matches.now) (codes "patient")) result.is_patient }
     ensures search { IsSearch (one_text (found_of matches.now) (codes "outcome"))
         (one_text (found_of matches.now) (codes "states")) result }
+    ensures end { IsFlag (one_text (found_of matches.now) (codes "end")) result.at_end }
+    ensures vanishing { IsVanishing (first_value (found_of matches.now) (codes "vanish"))
+        (one_text (found_of matches.now) (codes "most")) result }
 {
     let outcome = matches.get_one::<u64>(OUTCOME);
     let states = matches.get_one::<u64>(STATES);
+    let most = matches.get_one::<u64>(MOST);
     Search {
         once: matches.get_flag(ONCE),
+        is_patient: matches.get_flag(PATIENT),
+        at_end: matches.get_flag(END),
+        vanish: matches.get_str(VANISH),
+        most: most_of(most),
         outcome,
         states: states_of(states),
     }
@@ -156,6 +175,16 @@ fn states_of(states: Option<u64>) -> u64
     match states {
         Some(states) => states,
         None => 1_000_000,
+    }
+}
+
+// How many clients vanish at most, if this number is asked for.
+fn most_of(most: Option<u64>) -> u64
+    ensures { result ≡ most_asked most }
+{
+    match most {
+        Some(most) => most,
+        None => 1,
     }
 }
 

@@ -9,10 +9,10 @@ use Rattle.actor_scripts.specs.declared.step.ActorScript.{ActorScript}
 use Rattle.actor_plays.specs.declared.plan.Plan.{Plan}
 use Rattle.actor_plays.specs.Plans.{planned, steps_of}
 use Rattle.outcome_texts.specs.declared.telling.Telling.{Telling}
-use Rattle.outcome_texts.specs.ClaimLines.{Text, claim_texts_of, judged}
+use Rattle.outcome_texts.specs.ClaimLines.{Text, claim_texts_of}
 use Rattle.outcome_runs.specs.declared.job.SearchJob.{SearchJob}
 use Rattle.outcome_runs.specs.Reasons.{reason_at}
-use Rattle.outcome_runs.specs.Searches.{IsTelling, IsUnfound, IsUnheld, IsUnheldBy, IsUnjudged, IsUnlisted, IsUnsearched, IsUntold}
+use Rattle.outcome_runs.specs.Searches.{IsBadAmong, IsTelling, IsUnfound, IsUnheld, IsUnheldBy, IsUnjudged, IsUnlisted, IsUnsearched, IsUntold}
 
 -- what came is all that there was
 all_came : (script came : List ℕ) (after : Option (List ℕ)) → ReadsWhole (Some script) after came → came ≡ script
@@ -68,7 +68,7 @@ unheld_told job script list (ReportFault.Missing sought n) is why = absurd why
 
 -- by the plans of the list
 pub unheld_in : (job : SearchJob) (script : List ℕ) (list : ActorList) (plans : List Plan) (fault : ReportFault) →
-    map steps_of plans ≡ map (λ (one : ActorScript). planned job.once one.steps.items) list.scripts.items →
+    map steps_of plans ≡ map (λ (one : ActorScript). planned job.waiting one.steps.items) list.scripts.items →
     IsUnheldBy script list plans fault → IsUnheld job script list fault
 unheld_in job script list plans ReportFault.ReadFault is why = absurd why
 unheld_in job script list plans ReportFault.TooLong is why = absurd why
@@ -80,7 +80,7 @@ unheld_in job script list plans (ReportFault.Missing sought n) is why = absurd w
 
 -- by what a report is made of
 pub unfound_held : (script : List ℕ) (list : ActorList) (plans : List Plan) (telling : Telling) (fault : ReportFault) →
-    IsTelling script list plans telling → IsUnfound script telling fault → IsUnheldBy script list plans fault
+    IsTelling script list plans telling → IsUnfound (claim_texts_of script) telling fault → IsUnheldBy script list plans fault
 unfound_held script list plans telling ReportFault.ReadFault is why = absurd why
 unfound_held script list plans telling ReportFault.TooLong is why = absurd why
 unfound_held script list plans telling ReportFault.WriteFault is why = absurd why
@@ -90,33 +90,33 @@ unfound_held script list plans telling ReportFault.NoMemory is why = tt
 unfound_held script list plans telling (ReportFault.Missing sought n) is why = absurd why
 
 -- by the lines that are claims
-pub unjudged_found : (script : List ℕ) (telling : Telling) (texts : List Text) (fault : ReportFault) → texts ≡ claim_texts_of script →
-    IsUnjudged telling texts fault → IsUnfound script telling fault
-unjudged_found script telling texts ReportFault.ReadFault is why = absurd why
-unjudged_found script telling texts ReportFault.TooLong is why = absurd why
-unjudged_found script telling texts ReportFault.WriteFault is why = absurd why
-unjudged_found script telling texts (ReportFault.BadLine n reason) is why = ap (judged telling) (sym is) ∙ why
-unjudged_found script telling texts ReportFault.HistoryFull is why = absurd why
-unjudged_found script telling texts ReportFault.NoMemory is why = tt
-unjudged_found script telling texts (ReportFault.Missing sought n) is why = absurd why
+pub unjudged_found : (texts : List Text) (telling : Telling) (fault : ReportFault) → IsUnjudged telling texts fault →
+    IsUnfound texts telling fault
+unjudged_found texts telling ReportFault.ReadFault why = absurd why
+unjudged_found texts telling ReportFault.TooLong why = absurd why
+unjudged_found texts telling ReportFault.WriteFault why = absurd why
+unjudged_found texts telling (ReportFault.BadLine n reason) why = why
+unjudged_found texts telling ReportFault.HistoryFull why = absurd why
+unjudged_found texts telling ReportFault.NoMemory why = tt
+unjudged_found texts telling (ReportFault.Missing sought n) why = absurd why
 
 -- a search that was not made to its end
-pub unsearched_found : (script : List ℕ) (telling : Telling) (fault : ReportFault) → IsUnsearched fault → IsUnfound script telling fault
-unsearched_found script telling ReportFault.ReadFault why = absurd why
-unsearched_found script telling ReportFault.TooLong why = absurd why
-unsearched_found script telling ReportFault.WriteFault why = absurd why
-unsearched_found script telling (ReportFault.BadLine n reason) why = absurd why
-unsearched_found script telling ReportFault.HistoryFull why = tt
-unsearched_found script telling ReportFault.NoMemory why = tt
-unsearched_found script telling (ReportFault.Missing sought n) why = absurd why
+pub unsearched_found : (texts : List Text) (telling : Telling) (fault : ReportFault) → IsUnsearched fault → IsUnfound texts telling fault
+unsearched_found texts telling ReportFault.ReadFault why = absurd why
+unsearched_found texts telling ReportFault.TooLong why = absurd why
+unsearched_found texts telling ReportFault.WriteFault why = absurd why
+unsearched_found texts telling (ReportFault.BadLine n reason) why = absurd why
+unsearched_found texts telling ReportFault.HistoryFull why = tt
+unsearched_found texts telling ReportFault.NoMemory why = tt
+unsearched_found texts telling (ReportFault.Missing sought n) why = absurd why
 
--- a bad claim is told by its number
-pub claim_bad : (telling : Telling) (texts : List Text) (number : ℕ) (fault : ReportFault) → judged telling texts ≡ Err number →
-    IsBadLine number fault → IsUnjudged telling texts fault
-claim_bad telling texts number ReportFault.ReadFault bad line = absurd line
-claim_bad telling texts number ReportFault.TooLong bad line = absurd line
-claim_bad telling texts number ReportFault.WriteFault bad line = absurd line
-claim_bad telling texts number (ReportFault.BadLine n reason) bad line = bad ∙ ap Err (sym line)
-claim_bad telling texts number ReportFault.HistoryFull bad line = absurd line
-claim_bad telling texts number ReportFault.NoMemory bad line = tt
-claim_bad telling texts number (ReportFault.Missing sought n) bad line = absurd line
+-- a bad claim is told by its number, with its reason
+pub claim_bad : (telling : Telling) (texts : List Text) (number : ℕ) (words : List ℕ) (fault : ReportFault) →
+    IsBadAmong telling texts number words → IsBadLine number fault → HasReason words fault → IsUnjudged telling texts fault
+claim_bad telling texts number words ReportFault.ReadFault bad line is = absurd line
+claim_bad telling texts number words ReportFault.TooLong bad line is = absurd line
+claim_bad telling texts number words ReportFault.WriteFault bad line is = absurd line
+claim_bad telling texts number words (ReportFault.BadLine n reason) bad line is = rw line (rw is bad)
+claim_bad telling texts number words ReportFault.HistoryFull bad line is = absurd line
+claim_bad telling texts number words ReportFault.NoMemory bad line is = tt
+claim_bad telling texts number words (ReportFault.Missing sought n) bad line is = absurd line

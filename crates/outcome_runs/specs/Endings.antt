@@ -7,13 +7,14 @@ use Rattle.outcome_runs.specs.declared.job.Ending.{Ending}
 use Rattle.outcome_runs.specs.declared.job.SearchJob.{SearchJob}
 use Rattle.outcome_runs.specs.Explored.{Explores}
 
--- the status that the program ends with: 0 where all orders were gone through, 7 where not, 6 where a claim does not hold, 2 where there is no such
--- outcome, 5 where a play was unlike itself
+-- the status that the program ends with: 0 where all orders were gone through, 7 where not, 6 where a claim does not hold, 2 where
+-- there is no such outcome or client, 5 where a play was unlike itself
 abbrev pub exploring_status : Result Ending ReportFault → ℕ
 exploring_status (Ok Ending.Whole) = 0
 exploring_status (Ok Ending.Part) = 7
 exploring_status (Ok Ending.Broken) = 6
 exploring_status (Ok Ending.Missing) = 2
+exploring_status (Ok Ending.Unknown) = 2
 exploring_status (Ok Ending.Unlike) = 5
 exploring_status (Err fault) = fault_status fault
 
@@ -22,6 +23,10 @@ abbrev pub missing_line : Option ℕ → List ℕ
 missing_line None = []
 missing_line (Some number) = codes "sysmem: there is no outcome " ++ decimal number ++ 10 ∷ []
 
+-- what is told where a client that may vanish does not join
+abbrev pub unknown_line : List ℕ
+unknown_line = codes "sysmem: --vanish names a client that does not join" ++ 10 ∷ []
+
 -- what is told where a play that was made again went on otherwise
 abbrev pub unlike_line : List ℕ
 unlike_line = codes "explore: a play went on otherwise" ++ 10 ∷ []
@@ -29,6 +34,7 @@ unlike_line = codes "explore: a play went on otherwise" ++ 10 ∷ []
 -- nothing was told of faults where something was written of the search
 abbrev pub IsTellingOf : SearchJob → Option (List ℕ) → Option (List ℕ) → Ending → Type 0
 IsTellingOf job before after Ending.Missing = WritesPart before after (missing_line job.outcome)
+IsTellingOf job before after Ending.Unknown = WritesPart before after unknown_line
 IsTellingOf job before after Ending.Unlike = WritesPart before after unlike_line
 IsTellingOf job before after _ = after ≡ before
 

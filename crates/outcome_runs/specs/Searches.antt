@@ -1,5 +1,5 @@
 -- What is told of a search through the orders of a script.
-use Rattle.std.specs.Prelude.{ℕ, ◌≡◌, ◌-◌, ◌==◌, if◌then◌else◌, Bool, true, false, List, [], ◌++◌, vec_len, map, slice_get, Option, Some, None, Ok, Err, Result, MatchOption, All, ◌⊎◌, ◌≤◌, ⊤}
+use Rattle.std.specs.Prelude.{ℕ, ◌≡◌, ◌-◌, ◌==◌, if◌then◌else◌, Bool, true, false, List, [], ◌++◌, vec_len, map, slice_get, Option, Some, None, option_map, Ok, Err, Result, MatchOption, All, ◌⊎◌, ◌≤◌, ⊤}
 use Rattle.actor_scripts.specs.declared.actor_list.ActorList.{ActorList}
 use Rattle.actor_scripts.specs.declared.step.ActorScript.{ActorScript}
 use Rattle.actor_scripts.specs.ActorLists.{actors_of, script_actors}
@@ -9,15 +9,17 @@ use Rattle.play_search.specs.declared.exploring.Exploration.{Exploration}
 use Rattle.play_search.specs.declared.exploring.Found.{Found}
 use Rattle.play_search.specs.declared.fault.ExploreFault.{ExploreFault}
 use Rattle.play_search.specs.declared.replay.Setting.{Setting}
+use Rattle.play_search.specs.declared.vanishing.Vanishing.{Vanishing}
 use Rattle.play_search.specs.Searches.{IsFound}
+use Rattle.script_lines.specs.declared.label.Label.{Label}
 use Rattle.sm_names.specs.declared.rules.TheConstants.{MAX_COLLECTIONS, MAX_EVENTS, MAX_HANDLES, MAX_NODES, MAX_TRACKERS}
 use Rattle.report_io.specs.declared.fault.ReportFault.{ReportFault}
 use Rattle.outcome_texts.specs.declared.telling.Telling.{Telling}
 use Rattle.outcome_texts.specs.declared.verdicts.ClaimLine.{ClaimLine}
-use Rattle.outcome_texts.specs.ClaimLines.{Text, claim_texts_of, claims_in, judged}
+use Rattle.outcome_texts.specs.ClaimLines.{Text, claim_texts_of, claims_in, is_good_list, judged, who_told}
 use Rattle.outcome_texts.specs.Lines.{step_lines_of, steps_in}
-use Rattle.outcome_texts.specs.Plays.{IsPlayText}
 use Rattle.outcome_texts.specs.Reports.{IsReport}
+use Rattle.outcome_texts.specs.Scripts.{IsPlayText}
 use Rattle.outcome_texts.specs.Verdicts.{claims_text, has_broken}
 use Rattle.outcome_runs.specs.declared.job.Ending.{Ending}
 use Rattle.outcome_runs.specs.declared.job.SearchJob.{SearchJob}
@@ -32,9 +34,19 @@ setting_of job seed = record {
 }
 
 -- each outcome that was found has a play of the actors of these plans that comes to it, and no more states were met than are asked for
-pub record IsSearch (plans : List Plan) (job : SearchJob) (seed : List ℕ) (found : Exploration) : Type 0 where
-  pub real : All (IsFound plans (setting_of job seed)) found.outcomes.items
+pub record IsSearch (plans : List Plan) (vanishing : Vanishing) (job : SearchJob) (seed : List ℕ) (found : Exploration) : Type 0 where
+  pub real : All (IsFound plans vanishing (setting_of job seed)) found.outcomes.items
   pub states : found.states ≤ job.states
+
+-- the clients that are asked to vanish, as they are written
+abbrev pub list_asked : SearchJob → Option (List ℕ)
+list_asked job = option_map (λ names. names.now) job.vanish
+
+-- those clients may vanish that are asked for, or else those that the lines of the script let vanish, and as many as are asked for
+pub record IsVanishing (job : SearchJob) (script : List ℕ) (labels : List Label) (vanishing : Vanishing) : Type 0 where
+  pub who : vanishing.who.now ≡ who_told (list_asked job) (claim_texts_of script) labels
+  pub most : vanishing.most ≡ job.most
+  pub at_end : vanishing.at_end ≡ job.at_end
 
 -- how a search ended of which something is told
 abbrev pub whole_ending : Bool → Ending
@@ -78,7 +90,7 @@ pub record IsTelling (script : List ℕ) (list : ActorList) (plans : List Plan) 
 pub record HasFound (job : SearchJob) (seed : List ℕ) (telling : Telling) (claims : List ClaimLine) (text : List ℕ)
     (ending : Ending) : Type 0 where
   pub found : Exploration
-  pub search : IsSearch telling.plans.now job seed found
+  pub search : IsSearch telling.plans.now telling.vanishing job seed found
   pub is_text : IsText telling found claims job.outcome text ending
 
 -- nothing is told, since a play that was made again went on otherwise than before
@@ -86,27 +98,41 @@ pub record IsUnlike (text : List ℕ) (ending : Ending) : Type 0 where
   pub nothing : text ≡ []
   pub so : ending ≡ Ending.Unlike
 
--- what was found is told, unless a play was unlike itself
+-- nothing is told, since a client that is asked to vanish does not join
+pub record IsUnknown (job : SearchJob) (telling : Telling) (text : List ℕ) (ending : Ending) : Type 0 where
+  pub nothing : text ≡ []
+  pub so : ending ≡ Ending.Unknown
+  pub bad_list : is_good_list (list_asked job) telling.labels.now ≡ false
+
+-- the clients that are asked to vanish all join, and what was found is told, unless a play was unlike itself
 abbrev pub IsFoundWith : SearchJob → List ℕ → Telling → List ClaimLine → List ℕ → Ending → Type 0
-IsFoundWith job seed telling claims text ending = HasFound job seed telling claims text ending ⊎ IsUnlike text ending
+IsFoundWith job seed telling claims text ending = (is_good_list (list_asked job) telling.labels.now ≡ true)
+    × (HasFound job seed telling claims text ending ⊎ IsUnlike text ending)
 
--- the same with the claims of the script, which are all good
-pub record IsFoundBy (job : SearchJob) (seed script : List ℕ) (telling : Telling) (text : List ℕ) (ending : Ending) : Type 0 where
+-- the same, unless a client is not there
+abbrev pub IsToldWith : SearchJob → List ℕ → Telling → List ClaimLine → List ℕ → Ending → Type 0
+IsToldWith job seed telling claims text ending =
+    IsFoundWith job seed telling claims text ending ⊎ IsUnknown job telling text ending
+
+-- the same with the claims of these lines, which are all good
+pub record IsFoundBy (job : SearchJob) (seed : List ℕ) (texts : List Text) (telling : Telling) (text : List ℕ)
+    (ending : Ending) : Type 0 where
   pub claims : List ClaimLine
-  pub good : judged telling (claim_texts_of script) ≡ Ok (claims_in claims)
-  pub told : IsFoundWith job seed telling claims text ending
+  pub good : judged telling texts ≡ Ok (claims_in claims)
+  pub told : IsToldWith job seed telling claims text ending
 
--- the same by what a report of this list and these plans is made of
+-- the same by what a report of this list and these plans is made of, with the claims of the script
 pub record IsToldBy (job : SearchJob) (seed script : List ℕ) (list : ActorList) (plans : List Plan) (text : List ℕ)
     (ending : Ending) : Type 0 where
   pub telling : Telling
   pub is_telling : IsTelling script list plans telling
-  pub told : IsFoundBy job seed script telling text ending
+  pub vanishing : IsVanishing job script list.labels.items telling.vanishing
+  pub told : IsFoundBy job seed (claim_texts_of script) telling text ending
 
 -- what was found of the script of this list is told: each outcome has a play of its actors that comes to it
 pub record HasSearched (job : SearchJob) (script : List ℕ) (list : ActorList) (text : List ℕ) (ending : Ending) : Type 0 where
   pub plans : List Plan
-  pub planned_steps : map steps_of plans ≡ map (λ (one : ActorScript). planned job.once one.steps.items) list.scripts.items
+  pub planned_steps : map steps_of plans ≡ map (λ (one : ActorScript). planned job.waiting one.steps.items) list.scripts.items
   pub seed : List ℕ
   pub told : IsToldBy job seed script list plans text ending
 
@@ -120,22 +146,26 @@ pub record IsTold (job : SearchJob) (script : List ℕ) (text : List ℕ) (endin
 abbrev pub IsFirstBad : List ℕ → ℕ → List ℕ → Type 0
 IsFirstBad script number reason = (script_actors script ≡ Err number) × (reason ≡ reason_at script number)
 
--- the line of this number is the first bad claim of the script, by what a report of this list and these plans is made of
-pub record HasBadClaim (script : List ℕ) (list : ActorList) (plans : List Plan) (number : ℕ) : Type 0 where
+-- the line of this number is the first bad claim of these, for this reason
+abbrev pub IsBadAmong : Telling → List Text → ℕ → List ℕ → Type 0
+IsBadAmong telling texts number reason = judged telling texts ≡ Err (record { number = number; reason = reason })
+
+-- it is that of the script, by what a report of this list and these plans is made of
+pub record HasBadClaim (script : List ℕ) (list : ActorList) (plans : List Plan) (number : ℕ) (reason : List ℕ) : Type 0 where
   pub telling : Telling
   pub is_telling : IsTelling script list plans telling
-  pub bad : judged telling (claim_texts_of script) ≡ Err number
+  pub bad : IsBadAmong telling (claim_texts_of script) number reason
 
 -- the same of the script of this list
-pub record HasBadOne (job : SearchJob) (script : List ℕ) (list : ActorList) (number : ℕ) : Type 0 where
+pub record HasBadOne (job : SearchJob) (script : List ℕ) (list : ActorList) (number : ℕ) (reason : List ℕ) : Type 0 where
   pub plans : List Plan
-  pub planned_steps : map steps_of plans ≡ map (λ (one : ActorScript). planned job.once one.steps.items) list.scripts.items
-  pub claim : HasBadClaim script list plans number
+  pub planned_steps : map steps_of plans ≡ map (λ (one : ActorScript). planned job.waiting one.steps.items) list.scripts.items
+  pub claim : HasBadClaim script list plans number reason
 
--- it is the first bad line of the script: of the steps, for this reason, or if these are good of the claims
+-- it is the first bad line of the script, for this reason: of the steps, or if these are good of the claims
 abbrev pub IsBadOf : SearchJob → List ℕ → ℕ → List ℕ → Type 0
 IsBadOf job script number reason = IsFirstBad script number reason
-    ⊎ ((list : ActorList) × (script_actors script ≡ Ok (actors_of list)) × HasBadOne job script list number)
+    ⊎ ((list : ActorList) × (script_actors script ≡ Ok (actors_of list)) × HasBadOne job script list number reason)
 
 -- why a script has no actors
 abbrev pub IsUnlisted : List ℕ → ReportFault → Type 0
@@ -156,34 +186,34 @@ IsUnsearched ReportFault.HistoryFull = ⊤
 IsUnsearched ReportFault.NoMemory = ⊤
 IsUnsearched _ = ⊥
 
--- why nothing is told where the lines of the steps are good: only that of a bad claim says which
-abbrev pub IsUnfound : List ℕ → Telling → ReportFault → Type 0
-IsUnfound script telling (ReportFault.BadLine number reason) = judged telling (claim_texts_of script) ≡ Err number
-IsUnfound script telling ReportFault.HistoryFull = ⊤
-IsUnfound script telling ReportFault.NoMemory = ⊤
-IsUnfound script telling _ = ⊥
+-- why nothing is told where the lines of the steps are good: only that of a bad claim says which, and why
+abbrev pub IsUnfound : List Text → Telling → ReportFault → Type 0
+IsUnfound texts telling (ReportFault.BadLine number reason) = IsBadAmong telling texts number reason.items
+IsUnfound texts telling ReportFault.HistoryFull = ⊤
+IsUnfound texts telling ReportFault.NoMemory = ⊤
+IsUnfound texts telling _ = ⊥
 
 -- the same, by the lines that are claims
 abbrev pub IsUnjudged : Telling → List Text → ReportFault → Type 0
-IsUnjudged telling texts (ReportFault.BadLine number reason) = judged telling texts ≡ Err number
+IsUnjudged telling texts (ReportFault.BadLine number reason) = IsBadAmong telling texts number reason.items
 IsUnjudged telling texts ReportFault.NoMemory = ⊤
 IsUnjudged telling texts _ = ⊥
 
 -- the same, by what a report of this list and these plans is made of
 abbrev pub IsUnheldBy : List ℕ → ActorList → List Plan → ReportFault → Type 0
-IsUnheldBy script list plans (ReportFault.BadLine number reason) = HasBadClaim script list plans number
+IsUnheldBy script list plans (ReportFault.BadLine number reason) = HasBadClaim script list plans number reason.items
 IsUnheldBy script list plans ReportFault.HistoryFull = ⊤
 IsUnheldBy script list plans ReportFault.NoMemory = ⊤
 IsUnheldBy script list plans _ = ⊥
 
 -- the same of the script of this list
 abbrev pub IsUnheld : SearchJob → List ℕ → ActorList → ReportFault → Type 0
-IsUnheld job script list (ReportFault.BadLine number reason) = HasBadOne job script list number
+IsUnheld job script list (ReportFault.BadLine number reason) = HasBadOne job script list number reason.items
 IsUnheld job script list ReportFault.HistoryFull = ⊤
 IsUnheld job script list ReportFault.NoMemory = ⊤
 IsUnheld job script list _ = ⊥
 
--- why nothing is told of a script: only that of a bad line says which
+-- why nothing is told of a script: only that of a bad line says which, and why
 abbrev pub IsUntold : SearchJob → List ℕ → ReportFault → Type 0
 IsUntold job script ReportFault.ReadFault = ⊤
 IsUntold job script (ReportFault.BadLine number reason) = IsBadOf job script number reason.items

@@ -17,7 +17,9 @@ use std::io::{Read, Write};
 /// Answered `Ok`, each outcome that was told of has a play of the actors whose history is legal, which the core
 /// played, and whose outcome it is. The text is the report of these outcomes, or the lines of the play of the one of
 /// this number, in the order of its turns; if there is none of this number, nothing was written, and nothing either
-/// where a play that was made again went on otherwise.
+/// where a client that is asked to vanish does not join, or where a play that was made again went on otherwise.
+///
+/// Those clients may vanish that are asked for, or else those that the script's lines let vanish.
 ///
 /// On a fault nothing was written, but for `WriteFault`, where a first part of the text was. Costs what `explore` does.
 pub fn explore_script<R: Read, W: Write>(
@@ -25,10 +27,10 @@ pub fn explore_script<R: Read, W: Write>(
     seed: [u8; 16],
     reader: &mut R,
     writer: &mut W,
-    job: SearchJob,
+    job: SearchJob<'_>,
 ) -> Result<Ending, ReportFault>
     requires { (1 ≤ job.pages) × (job.pages ≤ MAX_PAGES) }
-    ensures { Explores job (R.remaining reader.old) (R.remaining reader.new)
+    ensures { Explores job.entry (R.remaining reader.old) (R.remaining reader.new)
         (W.contents writer.old) (W.contents writer.new) result }
 {
     let script = match read_script(alloc, reader) {
@@ -43,14 +45,14 @@ fn tell<W: Write>(
     alloc: Global,
     seed: [u8; 16],
     writer: &mut W,
-    job: SearchJob,
+    job: SearchJob<'_>,
     script: &[u8],
 ) -> Result<Ending, ReportFault>
     requires pages { (1 ≤ job.pages) × (job.pages ≤ MAX_PAGES) }
     requires few { length script.now ≤ MOST_BYTES }
-    ensures ok { IfOk result (IsExplored job (W.contents writer.old) (W.contents writer.new) script.now) }
+    ensures ok { IfOk result (IsExplored job.entry (W.contents writer.old) (W.contents writer.new) script.now) }
     ensures err { IfErr result
-        (TellingStops job (W.contents writer.old) (W.contents writer.new) script.now) }
+        (TellingStops job.entry (W.contents writer.old) (W.contents writer.new) script.now) }
 {
     let told = match told_of_script(alloc, seed, job, script) {
         Ok(told) => told,

@@ -1,12 +1,20 @@
 //! What a search through the orders of a script is asked for.
 
+use actor_plays::Waiting;
+
 /// What is searched, and what is written of it.
 #[derive(Clone, Copy)]
-pub struct SearchJob {
+pub struct SearchJob<'a> {
     /// How many pages the pool has.
     pub pages: u32,
-    /// No line waits: each step is made once.
-    pub once: bool,
+    /// Which lines wait.
+    pub waiting: Waiting,
+    /// Each client vanishes once its steps are done.
+    pub at_end: bool,
+    /// Which clients may vanish at any point: labels with commas between them, or `all`; `None` where the script says it.
+    pub vanish: Option<&'a str>,
+    /// How many clients vanish at most before their steps are done.
+    pub most: u64,
     /// The number of the outcome whose play is written, from 1; `None` where the report is.
     pub outcome: Option<u64>,
     /// How many states are met at most.
@@ -24,6 +32,8 @@ pub enum Ending {
     Broken,
     /// There is no outcome of the number that is asked for, and nothing was written.
     Missing,
+    /// The clients that may vanish are asked for, and one of them does not join. Nothing was written.
+    Unknown,
     /// A play that was made again went on otherwise than before, which is a mistake of the program. Nothing was
     /// written.
     Unlike,

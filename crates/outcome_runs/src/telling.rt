@@ -1,13 +1,14 @@
 //! What is told of a search.
-ghost use Rattle.std.specs.Prelude.{◌≡◌, ◌≤◌, ◌^◌, ◌<◌, [], IfErr, IfOk, IfSome, Ok, length, map, option_map};
+ghost use Rattle.std.specs.Prelude.{◌≡◌, ◌≤◌, ◌^◌, ◌<◌, [], IfErr, IfOk, IfSome, Ok, length, map, option_map, true};
 ghost use Rattle.sm_names.specs.declared.rules.TheConstants.{MAX_PAGES};
 ghost use Rattle.script_lines.specs.declared.TheConstants.{MOST_BYTES};
 ghost use Rattle.actor_scripts.specs.declared.step.ActorScript.{ActorScript as Script};
 ghost use Rattle.actor_scripts.specs.ActorLists.{actors_of, script_actors};
 ghost use Rattle.actor_plays.specs.Plans.{planned, steps_of};
-ghost use Rattle.outcome_texts.specs.ClaimLines.{claim_texts_of, claims_in, judged, texts_in};
+ghost use Rattle.outcome_texts.specs.ClaimLines.{claims_in, is_good_list, judged, texts_in};
 ghost use Rattle.outcome_texts.specs.Lines.{step_lines_of, steps_in};
-ghost use Rattle.outcome_runs.specs.Searches.{HasSearched, IsFoundBy, IsFoundWith, IsJudged, IsPlayed, IsSearch, IsText, IsTold, IsToldBy, IsUnfound, IsUnheld, IsUnheldBy, IsUnjudged, IsUnlike, IsUnlisted, IsUnsearched, IsUntold, judged_ending, outcome_at, stop_told, whole_ending};
+ghost use Rattle.outcome_runs.specs.declared.job.Ending.{Ending as EndingTold};
+ghost use Rattle.outcome_runs.specs.Searches.{HasSearched, IsFoundBy, IsFoundWith, IsJudged, IsPlayed, IsSearch, IsText, IsTold, IsToldBy, IsToldWith, IsUnfound, IsUnheld, IsUnheldBy, IsUnjudged, IsUnlike, IsUnlisted, IsUnsearched, IsUntold, judged_ending, list_asked, outcome_at, stop_told, whole_ending};
 
 use crate::job::{Ending, SearchJob};
 use crate::reasons::reason_of;
@@ -15,9 +16,9 @@ use actor_plays::Plan;
 use actor_scripts::{ActorList, ActorScriptFault, read_actors};
 use outcome_texts::{
     BadClaim, ClaimLine, ClaimText, LabelNames, StepLine, Telling, claim_texts, has_broken,
-    judged_claims, names_of, push_claims, push_play, push_report, step_lines,
+    is_list_of, judged_claims, names_of, push_claims, push_play, push_report, step_lines, who_of,
 };
-use play_search::{Exploration, ExploreFault, Found, Setting, explore, plans_of};
+use play_search::{Exploration, ExploreFault, Found, Setting, Vanishing, explore, plans_of};
 use report_io::{ReportFault, bad_line};
 use script_lines::{Label, LabelHash};
 use sm_names::Limits;
@@ -57,15 +58,16 @@ fn stopped_by(fault: ExploreFault) -> Result<Option<Exploration>, ReportFault>
     }
 }
 
-// What the search through these plans finds; `None` where a play that was made again went on otherwise.
+// What the search through these plans finds, where these clients may vanish; `None` where a play that was made again went on otherwise.
 fn searched(
     alloc: Global,
     seed: [u8; 16],
-    job: SearchJob,
+    job: SearchJob<'_>,
     plans: &[Plan],
+    vanishing: Vanishing<'_>,
 ) -> Result<Option<Exploration>, ReportFault>
     requires { (1 ≤ job.pages) × (job.pages ≤ MAX_PAGES) }
-    ensures ok { IfOk result (λ found. IfSome found (IsSearch plans.now job seed)) }
+    ensures ok { IfOk result (λ found. IfSome found (IsSearch plans.now vanishing.entry job.entry seed)) }
     ensures err { IfErr result IsUnsearched }
 {
     let setting = Setting {
@@ -73,7 +75,7 @@ fn searched(
         limits: Limits::full(),
         seed,
     };
-    match explore(alloc, setting, plans, job.states as usize) {
+    match explore(alloc, setting, plans, vanishing, job.states as usize) {
         Ok(found) => Ok(Some(found)),
         Err(fault) => stopped_by(fault),
     }
@@ -197,37 +199,21 @@ fn claims_of<'a>(
     }
 }
 
-// The claims of the script.
-fn script_claims<'a>(
-    alloc: Global,
-    telling: &Telling<'_>,
-    script: &'a [u8],
-) -> Result<Vec<ClaimLine<'a>>, ReportFault>
-    requires { length script.now ≤ MOST_BYTES }
-    ensures ok { IfOk result (λ claims.
-        judged telling.now (claim_texts_of script.now) ≡ Ok (claims_in claims.items)) }
-    ensures err { IfErr result (IsUnfound script.now telling.now) }
-{
-    match claim_texts(alloc, script) {
-        Ok(texts) => claims_of(alloc, telling, &texts),
-        Err(_) => Err(ReportFault::NoMemory),
-    }
-}
-
-// What is written of the script's actors, whose claims are these, and how the search ended.
-fn told_with(
+// What is written of what a search finds, with these claims, and how the search ended.
+fn told_found(
     alloc: Global,
     seed: [u8; 16],
-    job: SearchJob,
+    job: SearchJob<'_>,
     telling: &Telling<'_>,
     claims: &[ClaimLine<'_>],
 ) -> Result<Told, ReportFault>
     requires pages { (1 ≤ job.pages) × (job.pages ≤ MAX_PAGES) }
-    ensures ok { IfOk result (λ told. IsFoundWith job seed telling.now claims.now
+    requires good { is_good_list (list_asked job) telling.now.labels.now ≡ true }
+    ensures ok { IfOk result (λ told. IsFoundWith job.entry seed telling.now claims.now
         told.text.items told.ending) }
     ensures err { IfErr result IsUnsearched }
 {
-    match searched(alloc, seed, job, telling.plans) {
+    match searched(alloc, seed, job, telling.plans, telling.vanishing) {
         Ok(Some(found)) => match told_of(alloc, telling, &found, claims, job.outcome) {
             Ok(told) => Ok(told),
             Err(_) => Err(ReportFault::NoMemory),
@@ -237,23 +223,66 @@ fn told_with(
     }
 }
 
-// The same, with the claims of the script.
+// Nothing is written, since a client that is asked to vanish does not join.
+fn unknown(alloc: Global) -> Told
+    ensures text { result.text.items ≡ [] }
+    ensures ending { result.ending ≡ EndingTold.Unknown }
+{
+    Told {
+        text: Vec::new(alloc),
+        ending: Ending::Unknown,
+    }
+}
+
+// What is written of the script's actors, whose claims are these, and how the search ended.
+fn told_with(
+    alloc: Global,
+    seed: [u8; 16],
+    job: SearchJob<'_>,
+    telling: &Telling<'_>,
+    claims: &[ClaimLine<'_>],
+) -> Result<Told, ReportFault>
+    requires { (1 ≤ job.pages) × (job.pages ≤ MAX_PAGES) }
+    ensures ok { IfOk result (λ told. IsToldWith job.entry seed telling.now claims.now
+        told.text.items told.ending) }
+    ensures err { IfErr result IsUnsearched }
+{
+    match is_list_of(alloc, job.vanish, telling.labels) {
+        Ok(true) => told_found(alloc, seed, job, telling, claims),
+        Ok(false) => Ok(unknown(alloc)),
+        Err(_) => Err(ReportFault::NoMemory),
+    }
+}
+
+// The same, with the claims of these lines.
 fn told_from(
     alloc: Global,
     seed: [u8; 16],
-    job: SearchJob,
-    script: &[u8],
+    job: SearchJob<'_>,
+    texts: &[ClaimText<'_>],
     telling: &Telling<'_>,
 ) -> Result<Told, ReportFault>
-    requires pages { (1 ≤ job.pages) × (job.pages ≤ MAX_PAGES) }
-    requires few { length script.now ≤ MOST_BYTES }
-    ensures ok { IfOk result (λ told. IsFoundBy job seed script.now telling.now
+    requires { (1 ≤ job.pages) × (job.pages ≤ MAX_PAGES) }
+    ensures ok { IfOk result (λ told. IsFoundBy job.entry seed (texts_in texts.now) telling.now
         told.text.items told.ending) }
-    ensures err { IfErr result (IsUnfound script.now telling.now) }
+    ensures err { IfErr result (IsUnfound (texts_in texts.now) telling.now) }
 {
-    match script_claims(alloc, telling, script) {
+    match claims_of(alloc, telling, texts) {
         Ok(claims) => told_with(alloc, seed, job, telling, &claims),
         Err(fault) => Err(fault),
+    }
+}
+
+// Who may vanish.
+fn vanishing_of<'a>(job: SearchJob<'_>, who: &'a [bool]) -> Vanishing<'a>
+    ensures who { result.who.now ≡ who.now }
+    ensures most { result.most ≡ job.entry.most }
+    ensures end { result.at_end ≡ job.entry.at_end }
+{
+    Vanishing {
+        who,
+        most: job.most as usize,
+        at_end: job.at_end,
     }
 }
 
@@ -264,16 +293,19 @@ fn telling_of<'a>(
     names: &'a LabelNames,
     steps: &'a [StepLine<'a>],
     plans: &'a [Plan],
+    vanishing: Vanishing<'a>,
 ) -> Telling<'a>
     ensures labels { result.labels.now ≡ labels.now }
     ensures steps { result.steps.now ≡ steps.now }
     ensures plans { result.plans.now ≡ plans.now }
+    ensures vanishing { result.vanishing ≡ vanishing.entry }
 {
     Telling {
         labels,
         names,
         steps,
         plans,
+        vanishing,
         hash,
     }
 }
@@ -295,7 +327,7 @@ fn steps_of_list<'a>(
 fn told_by(
     alloc: Global,
     seed: [u8; 16],
-    job: SearchJob,
+    job: SearchJob<'_>,
     script: &[u8],
     list: &ActorList,
     steps: &[StepLine<'_>],
@@ -304,7 +336,7 @@ fn told_by(
     requires pages { (1 ≤ job.pages) × (job.pages ≤ MAX_PAGES) }
     requires few { length script.now ≤ MOST_BYTES }
     requires steps { steps_in steps.now ≡ step_lines_of list.now.labels.items script.now }
-    ensures ok { IfOk result (λ told. IsToldBy job seed script.now list.now plans.now
+    ensures ok { IfOk result (λ told. IsToldBy job.entry seed script.now list.now plans.now
         told.text.items told.ending) }
     ensures err { IfErr result (IsUnheldBy script.now list.now plans.now) }
 {
@@ -313,24 +345,33 @@ fn told_by(
         Ok(names) => names,
         Err(_) => return Err(ReportFault::NoMemory),
     };
-    let telling = telling_of(hash, &list.labels, &names, steps, plans);
-    told_from(alloc, seed, job, script, &telling)
+    let texts = match claim_texts(alloc, script) {
+        Ok(texts) => texts,
+        Err(_) => return Err(ReportFault::NoMemory),
+    };
+    let who = match who_of(alloc, job.vanish, &texts, &list.labels) {
+        Ok(who) => who,
+        Err(_) => return Err(ReportFault::NoMemory),
+    };
+    let vanishing = vanishing_of(job, &who);
+    let telling = telling_of(hash, &list.labels, &names, steps, plans, vanishing);
+    told_from(alloc, seed, job, &texts, &telling)
 }
 
 // The same, where the actors of the script are these.
 fn told_in(
     alloc: Global,
     seed: [u8; 16],
-    job: SearchJob,
+    job: SearchJob<'_>,
     script: &[u8],
     list: &ActorList,
 ) -> Result<Told, ReportFault>
     requires pages { (1 ≤ job.pages) × (job.pages ≤ MAX_PAGES) }
     requires few { length script.now ≤ MOST_BYTES }
-    ensures ok { IfOk result (λ told. HasSearched job script.now list.now told.text.items told.ending) }
-    ensures err { IfErr result (IsUnheld job script.now list.now) }
+    ensures ok { IfOk result (λ told. HasSearched job.entry script.now list.now told.text.items told.ending) }
+    ensures err { IfErr result (IsUnheld job.entry script.now list.now) }
 {
-    let plans = match plans_of(alloc, &list.scripts, job.once) {
+    let plans = match plans_of(alloc, &list.scripts, job.waiting) {
         Ok(plans) => plans,
         Err(_) => return Err(ReportFault::NoMemory),
     };
@@ -345,13 +386,13 @@ fn told_in(
 pub(crate) fn told_of_script(
     alloc: Global,
     seed: [u8; 16],
-    job: SearchJob,
+    job: SearchJob<'_>,
     script: &[u8],
 ) -> Result<Told, ReportFault>
     requires pages { (1 ≤ job.pages) × (job.pages ≤ MAX_PAGES) }
     requires few { length script.now ≤ MOST_BYTES }
-    ensures ok { IfOk result (λ told. IsTold job script.now told.text.items told.ending) }
-    ensures err { IfErr result (IsUntold job script.now) }
+    ensures ok { IfOk result (λ told. IsTold job.entry script.now told.text.items told.ending) }
+    ensures err { IfErr result (IsUntold job.entry script.now) }
 {
     let list = match list_of(alloc, LabelHash::new(seed), script) {
         Ok(list) => list,

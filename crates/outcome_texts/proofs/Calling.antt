@@ -1,14 +1,15 @@
 -- The calls of the turns that are left.
 use Rattle.std.proofs.Common.{◌≡◌, ◌∙◌, ◌++◌, ◌<◌, ℕ, suc, List, take, drop, get_or, length, ap, sym, take-suc, drop-cons}
-use Rattle.play_search.specs.declared.outcome.Outcome.{Outcome}
+use Rattle.actor_plays.specs.declared.play.Turn.{Turn}
+use Rattle.play_search.specs.declared.exploring.Found.{Found}
 use Rattle.outcome_texts.specs.Calls.{at_most_one, call_told, calls_from}
 
 -- that of the next turn comes first
-pub calls_next : (outcome : Outcome) (turns : List ℕ) (at default : ℕ) → at < length turns →
-    calls_from outcome (take at turns) (drop at turns)
-    ≡ at_most_one (call_told outcome (take at turns) (get_or turns at default)) ++ calls_from outcome
+pub calls_next : (found : Found) (turns : List Turn) (at : ℕ) (default : Turn) → at < length turns →
+    calls_from found (take at turns) (drop at turns)
+    ≡ at_most_one (call_told found (take at turns) (get_or turns at default)) ++ calls_from found
     (take (suc at) turns) (drop (suc at) turns)
-calls_next outcome turns at default within =
-    ap (calls_from outcome (take at turns)) (drop-cons turns at default within)
-    ∙ ap (λ (before : List ℕ). at_most_one (call_told outcome (take at turns) (get_or turns at default))
-    ++ calls_from outcome before (drop (suc at) turns)) (sym (take-suc turns at default within))
+calls_next found turns at default within =
+    ap (calls_from found (take at turns)) (drop-cons turns at default within)
+    ∙ ap (λ (before : List Turn). at_most_one (call_told found (take at turns) (get_or turns at default))
+    ++ calls_from found before (drop (suc at) turns)) (sym (take-suc turns at default within))

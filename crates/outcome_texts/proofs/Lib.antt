@@ -2,4 +2,6 @@ pub mod Calling
 pub mod Claiming
 pub mod Counting
 pub mod Joining
+pub mod Judging
+pub mod Letting
 pub mod Stepping

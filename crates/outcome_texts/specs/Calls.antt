@@ -1,10 +1,17 @@
 -- The calls of an outcome's play.
-use Rattle.std.specs.Prelude.{ℕ, ◌==◌, List, [], ◌∷◌, ◌++◌, count_by, slice_get, Option}
+use Rattle.std.specs.Prelude.{ℕ, ◌+◌, ◌-◌, ◌==◌, Bool, false, List, [], ◌∷◌, ◌++◌, count_by, length, slice_get, take, Option, Some}
 use Rattle.std.specs.Option.{option_and_then, option_map, option_map_or}
+use Rattle.actor_plays.specs.declared.play.Turn.{Turn}
 use Rattle.play_search.specs.declared.exploring.Found.{Found}
 use Rattle.play_search.specs.declared.outcome.ActorOutcome.{ActorOutcome}
 use Rattle.play_search.specs.declared.outcome.Became.{Became}
 use Rattle.play_search.specs.declared.outcome.Outcome.{Outcome}
+use Rattle.outcome_texts.specs.declared.calls.PlayCall.{PlayCall}
+
+-- the turn is a step of the actor
+abbrev pub is_step_of : ℕ → Turn → Bool
+is_step_of actor (Turn.Step of) = of == actor
+is_step_of actor (Turn.Leave of) = false
 
 -- the place of the step of the actor's call of this number, in its plan
 abbrev pub place_told : Outcome → ℕ → ℕ → Option ℕ
@@ -12,21 +19,37 @@ place_told outcome actor call = option_and_then
     (λ (one : ActorOutcome). option_map (λ (made : ℕ × Became). made.0) (slice_get one.made.items call))
     (slice_get outcome.actors.items actor)
 
--- the call of the turn behind these: of its actor, who makes its calls in order
-abbrev pub call_told : Outcome → List ℕ → ℕ → Option (ℕ × ℕ)
-call_told outcome before actor =
-    option_map (λ (place : ℕ). (actor, place)) (place_told outcome actor (count_by (λ turn. turn == actor) before))
+-- the call of this number of those that the actor's steps make: it makes them in order
+abbrev pub step_told : Outcome → ℕ → ℕ → Option PlayCall
+step_told outcome actor call = option_map (λ (place : ℕ). PlayCall.Step actor place) (place_told outcome actor call)
+
+-- the number of the call behind these turns: all clients join before
+abbrev pub number_told : Outcome → List Turn → ℕ
+number_told outcome before = length outcome.actors.items + length before
+
+-- the call of the turn behind these
+abbrev pub call_told : Found → List Turn → Turn → Option PlayCall
+call_told found before (Turn.Step actor) = step_told found.outcome actor (count_by (is_step_of actor) before)
+call_told found before (Turn.Leave actor) = Some (PlayCall.Leave actor (number_told found.outcome before))
 
 -- the call, if there is one, as a list
-abbrev pub at_most_one : Option (ℕ × ℕ) → List (ℕ × ℕ)
-at_most_one call = option_map_or (λ (one : ℕ × ℕ). one ∷ []) call []
+abbrev pub at_most_one : Option PlayCall → List PlayCall
+at_most_one call = option_map_or (λ (one : PlayCall). one ∷ []) call []
 
 -- the calls of the turns that are left, behind these
-abbrev pub calls_from : Outcome → List ℕ → List ℕ → List (ℕ × ℕ)
-calls_from outcome before [] = []
-calls_from outcome before (turn ∷ turns) =
-    at_most_one (call_told outcome before turn) ++ calls_from outcome (before ++ turn ∷ []) turns
+abbrev pub calls_from : Found → List Turn → List Turn → List PlayCall
+calls_from found before [] = []
+calls_from found before (turn ∷ turns) =
+    at_most_one (call_told found before turn) ++ calls_from found (before ++ turn ∷ []) turns
 
--- the calls of the play of an outcome, each by its actor and the place of its step in the actor's plan
-abbrev pub calls_told : Found → List (ℕ × ℕ)
-calls_told found = calls_from found.outcome [] found.turns.items
+-- the calls of the play of an outcome in order, without the joins
+abbrev pub calls_told : Found → List PlayCall
+calls_told found = calls_from found [] found.turns.items
+
+-- the call of the turn of this place
+abbrev pub call_in : Found → ℕ → Option PlayCall
+call_in found at = option_and_then (λ (turn : Turn). call_told found (take at found.turns.items) turn) (slice_get found.turns.items at)
+
+-- the call of this number, joins among them
+abbrev pub entry_call : Found → ℕ → Option PlayCall
+entry_call found number = call_in found (number - length found.outcome.actors.items)

@@ -1,10 +1,14 @@
 -- The lines of a script that are claims.
-use Rattle.std.specs.Prelude.{ℕ, ◌≡◌, ◌+◌, ◌≤◌, nat_le, if◌then◌else◌, List, [], ◌∷◌, ◌++◌, drop, length, map, Option, Some, None, Result, Ok, Err, ⊤}
-use Rattle.std.specs.Option.{option_and_then}
+use Rattle.std.specs.Prelude.{ℕ, ◌≡◌, ◌+◌, ◌≤◌, nat_le, Bool, true, false, if◌then◌else◌, List, [], ◌∷◌, ◌++◌, drop, length, map, Option, Some, None, Result, Ok, Err, ⊤}
+use Rattle.std.specs.List.{list_any}
+use Rattle.std.specs.Option.{option_and_then, option_map_or}
 use Rattle.script_lines.specs.Pieces.{whole_lines}
 use Rattle.claim_lines.specs.declared.claim.Claim.{Claim}
 use Rattle.claim_lines.specs.Claims.{claim_of, is_claim_line}
+use Rattle.claim_lines.specs.Clients.{are_clients, is_among, listed, vanish_text}
+use Rattle.script_lines.specs.declared.label.Label.{Label}
 use Rattle.outcome_texts.specs.Facts.{is_known}
+use Rattle.outcome_texts.specs.Reasons.{bad_reason, list_reason}
 use Rattle.outcome_texts.specs.declared.claims.BadClaim.{BadClaim}
 use Rattle.outcome_texts.specs.declared.claims.ClaimText.{ClaimText}
 use Rattle.outcome_texts.specs.declared.telling.Telling.{Telling}
@@ -54,20 +58,40 @@ known_claim telling claim = if is_known telling claim.fact then Some claim else 
 abbrev pub good_claim : Telling → List ℕ → Option Claim
 good_claim telling line = option_and_then (known_claim telling) (claim_of line)
 
+-- a bad line: its number, and why it is bad
+pub record Bad : Type 0 where
+  pub number : ℕ
+  pub reason : List ℕ
+
+-- the line, which lets these clients vanish or is a claim, is bad
+abbrev pub bad_line : Telling → Text → Option (List ℕ) → Bad
+bad_line telling text names = record { number = text.number; reason = bad_reason telling text.line names }
+
 -- the claim comes first
-abbrev pub put_first : Told → Result (List Told) ℕ → Result (List Told) ℕ
+abbrev pub put_first : Told → Result (List Told) Bad → Result (List Told) Bad
 put_first one (Ok claims) = Ok (one ∷ claims)
-put_first one (Err number) = Err number
+put_first one (Err bad) = Err bad
 
 -- the line is a claim, before these; or it is bad
-abbrev pub with_claim : Text → Option Claim → Result (List Told) ℕ → Result (List Told) ℕ
-with_claim text None claims = Err text.number
-with_claim text (Some claim) claims = put_first (record { number = text.number; words = words_behind text.line; claim = claim }) claims
+abbrev pub with_claim : Telling → Text → Option Claim → Result (List Told) Bad → Result (List Told) Bad
+with_claim telling text None claims = Err (bad_line telling text None)
+with_claim telling text (Some claim) claims =
+    put_first (record { number = text.number; words = words_behind text.line; claim = claim }) claims
 
--- the claims of these lines, or the number of the first bad one
-abbrev pub judged : Telling → List Text → Result (List Told) ℕ
+-- the clients that the line lets vanish all join, so it is good, and no claim; or it is bad
+abbrev pub with_list : Telling → Text → List ℕ → Result (List Told) Bad → Result (List Told) Bad
+with_list telling text names claims =
+    if are_clients (listed 32 names) telling.labels.now then claims else Err (bad_line telling text (Some names))
+
+-- the line lets clients vanish, or is a claim, before these; or it is bad
+abbrev pub with_line : Telling → Text → Option (List ℕ) → Result (List Told) Bad → Result (List Told) Bad
+with_line telling text None claims = with_claim telling text (good_claim telling text.line) claims
+with_line telling text (Some names) claims = with_list telling text names claims
+
+-- the claims of these lines, or the first bad one
+abbrev pub judged : Telling → List Text → Result (List Told) Bad
 judged telling [] = Ok []
-judged telling (text ∷ texts) = with_claim text (good_claim telling text.line) (judged telling texts)
+judged telling (text ∷ texts) = with_line telling text (vanish_text text.line) (judged telling texts)
 
 -- the claim as it is told
 abbrev pub claim_in : ClaimLine → Told
@@ -77,10 +101,11 @@ claim_in one = record { number = one.number; words = one.words.now; claim = one.
 abbrev pub claims_in : List ClaimLine → List Told
 claims_in claims = map claim_in claims
 
--- the first of these lines that is bad is that of this number; or memory was refused
+-- the first of these lines that is bad is that of this number, for this reason; or memory was refused
 abbrev pub IsBadClaim : Telling → List Text → BadClaim → Type 0
 IsBadClaim telling texts BadClaim.NoMemory = ⊤
-IsBadClaim telling texts (BadClaim.Line number reason) = judged telling texts ≡ Err number
+IsBadClaim telling texts (BadClaim.Line number reason) =
+    judged telling texts ≡ Err (record { number = number; reason = reason.now })
 
 -- one more claim, that of the line, is there
 pub record Adds (telling : Telling) (text : ClaimText) (old new : List ClaimLine) : Type 0 where
@@ -88,12 +113,48 @@ pub record Adds (telling : Telling) (text : ClaimText) (old new : List ClaimLine
   pub good : good_claim telling text.line.now ≡ Some claim
   pub last : claims_in new ≡ claims_in old ++ record { number = text.number; words = words_behind text.line.now; claim = claim } ∷ []
 
--- the line is a bad claim; or memory was refused
-abbrev pub IsBadText : Telling → ClaimText → BadClaim → Type 0
-IsBadText telling text BadClaim.NoMemory = ⊤
-IsBadText telling text (BadClaim.Line number reason) = (good_claim telling text.line.now ≡ None) × (number ≡ text.number)
+-- the line is good: one that lets clients vanish, which all join, or a claim, which now is there too
+abbrev pub Takes : Telling → ClaimText → Option (List ℕ) → List ClaimLine → List ClaimLine → Type 0
+Takes telling text None old new = Adds telling text old new
+Takes telling text (Some names) old new = (are_clients (listed 32 names) telling.labels.now ≡ true) × (claims_in new ≡ claims_in old)
+
+-- the line lets clients vanish of whom one does not join, or is a bad claim
+abbrev pub IsBadLine : Telling → ClaimText → Option (List ℕ) → Type 0
+IsBadLine telling text None = good_claim telling text.line.now ≡ None
+IsBadLine telling text (Some names) = are_clients (listed 32 names) telling.labels.now ≡ false
+
+-- the line of this number lets clients vanish of whom one does not join, for this reason; or memory was refused
+abbrev pub IsBadList : Telling → ℕ → List ℕ → BadClaim → Type 0
+IsBadList telling number names BadClaim.NoMemory = ⊤
+IsBadList telling number names (BadClaim.Line bad reason) =
+    (are_clients (listed 32 names) telling.labels.now ≡ false) × (bad ≡ number) × (reason.now ≡ list_reason)
+
+-- the line is such a one, for this reason; or memory was refused
+abbrev pub IsBadText : Telling → ClaimText → Option (List ℕ) → BadClaim → Type 0
+IsBadText telling text names BadClaim.NoMemory = ⊤
+IsBadText telling text names (BadClaim.Line number reason) =
+    IsBadLine telling text names × (number ≡ text.number) × (reason.now ≡ bad_reason telling text.line.now names)
 
 -- these come before the others
-abbrev pub put_before : List Told → Result (List Told) ℕ → Result (List Told) ℕ
+abbrev pub put_before : List Told → Result (List Told) Bad → Result (List Told) Bad
 put_before claims (Ok more) = Ok (claims ++ more)
-put_before claims (Err number) = Err number
+put_before claims (Err bad) = Err bad
+
+-- ---- who may vanish
+
+-- the line lets the client of this label vanish
+abbrev pub lets_vanish : Label → List ℕ → Bool
+lets_vanish client line = option_map_or (λ names. is_among (listed 32 names) client) (vanish_text line) false
+
+-- one of these lines does
+abbrev pub may_vanish : List Text → Label → Bool
+may_vanish texts client = list_any (λ (text : Text). lets_vanish client text.line) texts
+
+-- which of these clients may vanish: those of the list, whose words commas separate, or else those that the lines let vanish
+abbrev pub who_told : Option (List ℕ) → List Text → List Label → List Bool
+who_told None texts labels = map (may_vanish texts) labels
+who_told (Some names) texts labels = map (is_among (listed 44 names)) labels
+
+-- the list, if there is one, is of some of these clients
+abbrev pub is_good_list : Option (List ℕ) → List Label → Bool
+is_good_list names labels = option_map_or (λ list. are_clients (listed 44 list) labels) names true

@@ -190,10 +190,10 @@ has_fired telling outcome name actor = is_meant telling.labels.now name.client a
     (λ (one : ActorOutcome). list_any (λ (made : ℕ × Became). is_fired made.1 && binds telling actor name.label made.0) one.made.items)
     (slice_get outcome.actors.items actor) false
 
--- the actor of this place is not behind its last step
+-- the actor of this place did not leave, and is not behind its last step
 abbrev pub is_left : Telling → Outcome → ℕ → Bool
 is_left telling outcome actor = option_map_or
-    (λ (one : ActorOutcome). option_map_or (λ (plan : Plan). nat_lt one.at (length (steps_of plan))) (slice_get telling.plans.now actor) false)
+    (λ (one : ActorOutcome). not one.left && option_map_or (λ (plan : Plan). nat_lt one.at (length (steps_of plan))) (slice_get telling.plans.now actor) false)
     (slice_get outcome.actors.items actor) false
 
 -- it is meant, and waits for ever

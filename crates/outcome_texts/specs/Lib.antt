@@ -1,7 +1,11 @@
 pub mod Calls
 pub mod ClaimLines
 pub mod Facts
+pub mod Leaves
 pub mod Lines
 pub mod Plays
+pub mod Reasons
 pub mod Reports
+pub mod Scripts
+pub mod Vanishing
 pub mod Verdicts

@@ -1,5 +1,5 @@
--- The text of a play as a script for all clients.
-use Rattle.std.specs.Prelude.{◌≡◌, ℕ, ◌&&◌, nat_le, nat_lt, if◌then◌else◌, List, [], ◌∷◌, ◌++◌, length, take, drop, slice_get, Option, None, vec_len, codes}
+-- The lines of steps as a script for all clients has them.
+use Rattle.std.specs.Prelude.{ℕ, List, [], ◌∷◌, ◌++◌, slice_get, Option, None, codes}
 use Rattle.std.specs.Fmt.{decimal}
 use Rattle.std.specs.List.{flat_map}
 use Rattle.std.specs.Map.{lookup}
@@ -15,9 +15,7 @@ use Rattle.script_lines.specs.Lines.{line_of}
 use Rattle.actor_plays.specs.declared.plan.Plan.{Plan}
 use Rattle.actor_plays.specs.declared.plan.Planned.{Planned}
 use Rattle.actor_plays.specs.Plans.{steps_of}
-use Rattle.play_search.specs.declared.exploring.Found.{Found}
 use Rattle.script_lines.specs.Parts.{plural_end}
-use Rattle.outcome_texts.specs.Calls.{calls_told}
 use Rattle.outcome_texts.specs.Lines.{actor_line}
 use Rattle.outcome_texts.specs.declared.labels.LabelNames.{LabelNames}
 use Rattle.outcome_texts.specs.declared.lines.StepLine.{StepLine}
@@ -74,6 +72,12 @@ bound_by name _ = None
 abbrev pub line_bound : (Label → Label) → List ℕ → Option Label
 line_bound name bytes = option_and_then (bound_by name) (line_of bytes)
 
+-- what the step at this place of the actor's plan makes is called so
+abbrev pub bound_at : Telling → ℕ → ℕ → Option Label
+bound_at telling actor at = option_and_then
+    (λ (step : StepLine). line_bound (named telling.names.now actor) step.line.now)
+    (line_told telling actor at)
+
 -- the lines of the joins
 abbrev pub joins_text : List Label → List ℕ
 joins_text labels = flat_map (λ (client : Label). line_text (Line.Join client) ++ 10 ∷ []) labels
@@ -83,27 +87,6 @@ abbrev pub step_text : LabelNames → ℕ → List ℕ → List ℕ
 step_text names actor bytes =
     option_map_or (λ (line : Line). line_text (line_named (named names actor) line)) (line_of bytes) [] ++ 10 ∷ []
 
--- the line of a call, by its actor and the place of its step
-abbrev pub call_text : Telling → ℕ × ℕ → List ℕ
-call_text telling call = option_map_or
-    (λ (step : StepLine). step_text telling.names.now call.0 step.line.now)
-    (line_told telling call.0 call.1) []
-
--- the lines of these calls
-abbrev pub calls_text : Telling → List (ℕ × ℕ) → List ℕ
-calls_text telling calls = flat_map (call_text telling) calls
-
--- the remark behind the call after which no other outcome is possible
-abbrev pub mark_text : ℕ → List ℕ
-mark_text rank = codes "# from here on every order leads to outcome " ++ decimal rank ++ 10 ∷ []
-
--- the calls, with the remark behind the one of this number, unless that is 0 or the last
-abbrev pub marked_text : Telling → List (ℕ × ℕ) → ℕ → ℕ → List ℕ
-marked_text telling calls decided rank =
-    if nat_le 1 decided && nat_lt decided (length calls)
-    then calls_text telling (take decided calls) ++ mark_text rank ++ calls_text telling (drop decided calls)
-    else calls_text telling calls
-
 -- how many, with the word
 abbrev pub counted : ℕ → List ℕ → List ℕ
 counted number word = decimal number ++ codes " " ++ word ++ plural_end number
@@ -111,23 +94,3 @@ counted number word = decimal number ++ codes " " ++ word ++ plural_end number
 -- the pieces, one after another
 abbrev pub pieces : List (List ℕ) → List ℕ
 pieces texts = flat_map (λ (text : List ℕ). text) texts
-
--- what is said of the outcome of this number, of so many, to which this share of the runs comes
-abbrev pub head_text : Found → ℕ → ℕ → List ℕ → List ℕ
-head_text found rank outcomes share = pieces (codes "# outcome " ∷ decimal rank ∷ codes " of " ∷ decimal outcomes ∷ codes ": " ∷ share
-    ∷ codes " of 100 runs; " ∷ counted (vec_len found.turns) (codes "call") ∷ codes " in "
-    ∷ counted found.figures.changes (codes "turn") ∷ codes "\n" ∷ [])
-
--- the play of the outcome of this number, of so many, as a script for all clients
-abbrev pub play_text : Telling → Found → ℕ → ℕ → List ℕ → List ℕ
-play_text telling found rank outcomes share = head_text found rank outcomes share ++ joins_text telling.labels.now
-    ++ marked_text telling (calls_told found) found.figures.decided rank
-
--- the play came behind the text; no clause says which share of the runs its remark tells
-pub record AppendsPlay (telling : Telling) (found : Found) (rank outcomes : ℕ) (old new : List ℕ) : Type 0 where
-  pub share : List ℕ
-  pub appended : new ≡ old ++ play_text telling found rank outcomes share
-
--- the text is such a play
-abbrev pub IsPlayText : Telling → Found → ℕ → ℕ → List ℕ → Type 0
-IsPlayText telling found rank outcomes text = AppendsPlay telling found rank outcomes [] text

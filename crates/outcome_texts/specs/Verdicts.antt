@@ -10,7 +10,9 @@ use Rattle.play_search.specs.declared.exploring.Exploration.{Exploration}
 use Rattle.play_search.specs.declared.exploring.Found.{Found}
 use Rattle.outcome_texts.specs.Calls.{calls_told}
 use Rattle.outcome_texts.specs.Facts.{has_fact}
-use Rattle.outcome_texts.specs.Plays.{call_text, counted, pieces}
+use Rattle.outcome_texts.specs.Plays.{counted, pieces}
+use Rattle.outcome_texts.specs.Scripts.{call_text}
+use Rattle.outcome_texts.specs.declared.calls.PlayCall.{PlayCall}
 use Rattle.outcome_texts.specs.declared.telling.Telling.{Telling}
 use Rattle.outcome_texts.specs.declared.verdicts.ClaimLine.{ClaimLine}
 use Rattle.outcome_texts.specs.declared.verdicts.Verdict.{Verdict}
@@ -66,18 +68,18 @@ has_broken telling found claims = list_any (λ (one : ClaimLine). is_broken (ver
 -- ---- the text
 
 -- the call of this number, after which no other outcome is possible
-abbrev pub decision_text : Telling → ℕ → ℕ × ℕ → List ℕ
-decision_text telling number call =
-    pieces (codes "    decided by call " ∷ decimal number ∷ codes ": " ∷ []) ++ call_text telling call
+abbrev pub decision_text : Telling → Found → ℕ → PlayCall → List ℕ
+decision_text telling found number call =
+    pieces (codes "    decided by call " ∷ decimal number ∷ codes ": " ∷ []) ++ call_text telling found call
 
 -- the call of this number, from 1
-abbrev pub call_numbered : List (ℕ × ℕ) → ℕ → Option (ℕ × ℕ)
+abbrev pub call_numbered : List PlayCall → ℕ → Option PlayCall
 call_numbered calls number = if number == 0 then None else slice_get calls (number - 1)
 
 -- the call after which no other outcome is possible, if there is one
 abbrev pub decided_text : Telling → Found → List ℕ
 decided_text telling found =
-    option_map_or (decision_text telling found.figures.decided) (call_numbered (calls_told found) found.figures.decided) []
+    option_map_or (decision_text telling found found.figures.decided) (call_numbered (calls_told found) found.figures.decided) []
 
 -- how long the play is that breaks the claim
 abbrev pub broken_head : ℕ → Found → List ℕ

@@ -1,15 +1,35 @@
 //! The calls of an outcome's play.
-ghost use Rattle.std.specs.Prelude.{◌≡◌, ◌==◌, ◌++◌, [], IfOk, OnOk, count_by};
-ghost use Rattle.outcome_texts.specs.Calls.{at_most_one, call_told, calls_from, calls_told, place_told};
+ghost use Rattle.std.specs.Prelude.{◌≡◌, ◌++◌, ◌+◌, [], IfOk, OnOk, count_by};
+ghost use Rattle.outcome_texts.specs.Calls.{at_most_one, call_told, calls_from, calls_told, entry_call, is_step_of, number_told, place_told, step_told};
 
+use actor_plays::Turn;
 use play_search::{Found, Outcome};
 use std::alloc::{AllocError, Global};
 
-// How many of these turns are the actor's.
-fn turns_of(turns: &[usize], actor: usize) -> usize
-    ensures { result ≡ count_by (λ turn. turn == actor) turns.now }
+/// A call of a play, with its actor.
+#[derive(Clone, Copy)]
+pub enum PlayCall {
+    /// That of the step at this place of the actor's plan.
+    Step { actor: usize, at: usize },
+    /// The call of this number, joins among them, by which the actor leaves.
+    Leave { actor: usize, number: usize },
+}
+
+// Whether the turn is a step of the actor.
+fn is_step(turn: Turn, actor: usize) -> bool
+    ensures { result ≡ is_step_of actor turn }
 {
-    turns.iter().filter(|turn| **turn == actor).count()
+    match turn {
+        Turn::Step(of) => of == actor,
+        Turn::Leave(_) => false,
+    }
+}
+
+// How many of these turns are steps of the actor.
+fn steps_of(turns: &[Turn], actor: usize) -> usize
+    ensures { result ≡ count_by (is_step_of actor) turns.now }
+{
+    turns.iter().filter(|turn| is_step(**turn, actor)).count()
 }
 
 // The place of the step of the actor's call of this number, in its plan.
@@ -25,21 +45,38 @@ fn place_of(outcome: &Outcome, actor: usize, call: usize) -> Option<usize>
     }
 }
 
-// The call of the turn behind these.
-fn call_at(outcome: &Outcome, before: &[usize], actor: usize) -> Option<(usize, usize)>
-    ensures { result ≡ call_told outcome.now before.now actor }
+// The call of this number of those that the actor's steps make.
+fn step_of(outcome: &Outcome, actor: usize, call: usize) -> Option<PlayCall>
+    ensures { result ≡ step_told outcome.now actor call }
 {
-    match place_of(outcome, actor, turns_of(before, actor)) {
-        Some(place) => Some((actor, place)),
+    match place_of(outcome, actor, call) {
+        Some(at) => Some(PlayCall::Step { actor, at }),
         None => None,
     }
 }
 
+// The number of the call behind these turns: all clients join before.
+fn number_of(outcome: &Outcome, before: &[Turn]) -> usize
+    ensures { result ≡ number_told outcome.now before.now }
+{
+    outcome.actors.len() + before.len()
+}
+
+// The call of the turn behind these.
+fn call_at(found: &Found, before: &[Turn], turn: Turn) -> Option<PlayCall>
+    ensures { result ≡ call_told found.now before.now turn }
+{
+    match turn {
+        Turn::Step(actor) => step_of(&found.outcome, actor, steps_of(before, actor)),
+        Turn::Leave(actor) => Some(PlayCall::Leave {
+            actor,
+            number: number_of(&found.outcome, before),
+        }),
+    }
+}
+
 // Appends the call, if there is one.
-fn push_call(
-    calls: &mut Vec<(usize, usize)>,
-    call: Option<(usize, usize)>,
-) -> Result<(), AllocError>
+fn push_call(calls: &mut Vec<PlayCall>, call: Option<PlayCall>) -> Result<(), AllocError>
     ensures { OnOk result (calls.new.items ≡ calls.old.items ++ at_most_one call) }
 {
     match call {
@@ -51,26 +88,33 @@ fn push_call(
     }
 }
 
-// The calls of these turns.
-fn calls_in(
-    alloc: Global,
-    outcome: &Outcome,
-    turns: &[usize],
-) -> Result<Vec<(usize, usize)>, AllocError>
-    ensures { IfOk result (λ calls. calls.items ≡ calls_from outcome.now [] turns.now) }
+// The calls of these turns of the play.
+fn calls_in(alloc: Global, found: &Found, turns: &[Turn]) -> Result<Vec<PlayCall>, AllocError>
+    ensures { IfOk result (λ calls. calls.items ≡ calls_from found.now [] turns.now) }
 {
     let mut calls = Vec::new(alloc);
     'turns: for at in 0..turns.len() {
-        push_call(&mut calls, call_at(outcome, &turns[..at], turns[at]))?;
+        push_call(&mut calls, call_at(found, &turns[..at], turns[at]))?;
     }
     Ok(calls)
 }
 
-/// The calls of the outcome's play in order, each by its actor and the place of its step in the actor's plan.
+/// The calls of the outcome's play in order, without the joins.
 ///
 /// `AllocError` where memory is refused. Costs O(n^2) for n calls.
-pub fn calls_of(alloc: Global, found: &Found) -> Result<Vec<(usize, usize)>, AllocError>
+pub fn calls_of(alloc: Global, found: &Found) -> Result<Vec<PlayCall>, AllocError>
     ensures { IfOk result (λ calls. calls.items ≡ calls_told found.now) }
 {
-    calls_in(alloc, &found.outcome, &found.turns)
+    calls_in(alloc, found, &found.turns)
+}
+
+// The call of this number, joins among them.
+pub(crate) fn call_of_entry(found: &Found, number: usize) -> Option<PlayCall>
+    ensures { result ≡ entry_call found.now number }
+{
+    let at = number.saturating_sub(found.outcome.actors.len());
+    match found.turns.get(at) {
+        Some(turn) => call_at(found, &found.turns[..at], *turn),
+        None => None,
+    }
 }

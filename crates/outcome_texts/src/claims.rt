@@ -1,13 +1,15 @@
 //! The lines of a script that are claims.
-ghost use Rattle.std.specs.Prelude.{◌≡◌, ◌++◌, ◌≤◌, length, IfErr, IfOk, Ok, OnOk};
+ghost use Rattle.std.specs.Prelude.{◌≡◌, ◌++◌, ◌≤◌, length, IfErr, IfOk, None, Ok, OnOk, true};
 ghost use Rattle.script_lines.specs.declared.TheConstants.{MOST_BYTES};
-ghost use Rattle.outcome_texts.specs.ClaimLines.{Adds, IsBadClaim, IsBadText, claim_text_of, claim_texts_of, claims_in, good_claim as good_told, judged, texts_in, words_behind as words_told};
+ghost use Rattle.outcome_texts.specs.ClaimLines.{Adds, IsBadClaim, IsBadList, IsBadText, Takes, claim_text_of, claim_texts_of, claims_in, good_claim as good_told, judged, texts_in, words_behind as words_told};
+ghost use Rattle.claim_lines.specs.Clients.{are_clients as clients_told, listed as listed_told, vanish_text as vanish_told};
 
-use crate::makers::{has_client, is_known, makers};
+use crate::makers::is_known;
+use crate::reasons::{list_reason, reason_of};
 use crate::telling::Telling;
 use crate::verdicts::ClaimLine;
-use claim_lines::{Claim, Fact, NodeFact, NodeName, is_claim, read_claim};
-use script_lines::line_end;
+use claim_lines::{Claim, are_clients, is_claim, listed, read_claim, vanish_text};
+use script_lines::{Label, line_end};
 use std::alloc::{AllocError, Global};
 
 /// A line that is a claim, good or bad: its number, from 1, and its bytes.
@@ -86,57 +88,6 @@ fn good_claim(telling: &Telling<'_>, line: &[u8]) -> Option<Claim>
     }
 }
 
-// Why the name is not known, or nothing where it is.
-fn name_reason(telling: &Telling<'_>, trackers: bool, name: NodeName) -> Option<&'static str> {
-    if let Some(client) = name.client {
-        if !has_client(telling.labels, client) {
-            return Some("it names a client that did not join");
-        }
-    }
-    match makers(telling, trackers, name) {
-        0 => Some(if trackers {
-            "no line makes a tracker of this label"
-        } else {
-            "no line makes a node of this label"
-        }),
-        1 => None,
-        _ => Some("several clients make one of this label: put the client's and a point in front"),
-    }
-}
-
-// Why a node that is said of a failure is not known.
-fn origin_reason(telling: &Telling<'_>, fact: NodeFact) -> Option<&'static str> {
-    match fact {
-        NodeFact::Fails {
-            origin: Some(name),
-            ..
-        } => name_reason(telling, false, name),
-        _ => None,
-    }
-}
-
-// Why not all is there that the fact names.
-fn fact_reason(telling: &Telling<'_>, fact: Fact) -> Option<&'static str> {
-    match fact {
-        Fact::Node(name, said) => match name_reason(telling, false, name) {
-            Some(reason) => Some(reason),
-            None => origin_reason(telling, said),
-        },
-        Fact::Fires(name) => name_reason(telling, true, name),
-        Fact::Waits(_) => Some("it names a client that did not join"),
-        Fact::Free(_) => None,
-    }
-}
-
-// What is wrong with the line, a bad claim.
-fn reason_of(telling: &Telling<'_>, line: &[u8]) -> &'static str {
-    let form = "a claim is never, always or sometimes, and a fact";
-    match read_claim(line) {
-        Some(claim) => fact_reason(telling, claim.fact).unwrap_or(form),
-        None => form,
-    }
-}
-
 // Adds the claim of the line.
 fn push_claim_line<'a>(
     claims: &mut Vec<ClaimLine<'a>>,
@@ -144,7 +95,7 @@ fn push_claim_line<'a>(
     text: ClaimText<'a>,
 ) -> Result<(), BadClaim>
     ensures ok { OnOk result (Adds telling.now text.entry claims.old.items claims.new.items) }
-    ensures err { IfErr result (IsBadText telling.now text.entry) }
+    ensures err { IfErr result (IsBadText telling.now text.entry None) }
 {
     let Some(claim) = good_claim(telling, text.line) else {
         return Err(BadClaim::Line {
@@ -163,9 +114,55 @@ fn push_claim_line<'a>(
     }
 }
 
-/// The claims of these lines. Each names nodes and trackers that a line of just one client makes, and clients that join.
+// Whether the list, whose words spaces separate, is of some of these clients.
+fn is_list(alloc: Global, names: &[u8], labels: &[Label]) -> Result<bool, AllocError>
+    ensures { IfOk result (λ good. good ≡ clients_told (listed_told 32 names.now) labels.now) }
+{
+    let words = listed(alloc, b' ', names)?;
+    Ok(are_clients(&words, labels))
+}
+
+// Judges the line of this number, which lets the clients of this list vanish.
+fn judge_list(
+    alloc: Global,
+    telling: &Telling<'_>,
+    number: u64,
+    names: &[u8],
+) -> Result<(), BadClaim>
+    ensures ok { OnOk result (clients_told (listed_told 32 names.now) telling.now.labels.now ≡ true) }
+    ensures err { IfErr result (IsBadList telling.now number names.now) }
+{
+    match is_list(alloc, names, telling.labels) {
+        Ok(true) => Ok(()),
+        Ok(false) => Err(BadClaim::Line {
+            number,
+            reason: list_reason(),
+        }),
+        Err(_) => Err(BadClaim::NoMemory),
+    }
+}
+
+// Judges the line, and adds its claim, if it is one.
+fn take_line<'a>(
+    alloc: Global,
+    claims: &mut Vec<ClaimLine<'a>>,
+    telling: &Telling<'_>,
+    text: ClaimText<'a>,
+) -> Result<(), BadClaim>
+    ensures ok { OnOk result (Takes telling.now text.entry (vanish_told text.entry.line.now)
+        claims.old.items claims.new.items) }
+    ensures err { IfErr result (IsBadText telling.now text.entry (vanish_told text.entry.line.now)) }
+{
+    match vanish_text(text.line) {
+        Some(names) => judge_list(alloc, telling, text.number, names),
+        None => push_claim_line(claims, telling, text),
+    }
+}
+
+/// The claims of these lines. Each names nodes and trackers that a line of just one client makes, and clients that join. A
+/// line that lets clients vanish is none; it names clients that join, or all.
 ///
-/// `Line` with the number of the first line that is no such claim; `NoMemory` where memory is refused. Costs what
+/// `Line` with the number of the first line that is neither, and why it is not; `NoMemory` where memory is refused. Costs what
 /// `is_known` costs for each.
 pub fn judged_claims<'a>(
     alloc: Global,
@@ -177,7 +174,7 @@ pub fn judged_claims<'a>(
 {
     let mut claims = Vec::new(alloc);
     'texts: for at in 0..texts.len() {
-        push_claim_line(&mut claims, telling, texts[at])?;
+        take_line(alloc, &mut claims, telling, texts[at])?;
     }
     Ok(claims)
 }

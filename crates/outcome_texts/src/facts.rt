@@ -1,6 +1,9 @@
 //! What is so in an outcome, as claims say it.
-ghost use Rattle.std.specs.Prelude.{◌≡◌, ◌&&◌, length, ℕ};
+ghost use Rattle.std.specs.Prelude.{◌≡◌, ◌&&◌, false, length, nat_lt, slice_get, ℕ};
+ghost use Rattle.std.specs.Option.{option_map_or};
 ghost use Rattle.std.specs.List.{list_any};
+ghost use Rattle.actor_plays.specs.declared.plan.Plan.{Plan as PlanTold};
+ghost use Rattle.actor_plays.specs.Plans.{steps_of};
 ghost use Rattle.play_search.specs.declared.outcome.Became.{Became as BecameTold};
 ghost use Rattle.outcome_texts.specs.Facts.{any_below, became_so as so_told, binds as binds_told, has_fact as fact_told, has_fired as fired_told, has_node as node_told, is_caused as caused_told, is_ended as ended_told, is_failed as failed_told, is_failure as failure_told, is_fate as fate_told, is_fired as fires_told, is_left as left_told, is_live as live_told, is_misuse as misuse_told, is_node as is_node_told, is_origin as origin_told, is_pending as pending_told, is_so_caused as so_caused_told, made_key as key_told, same_failure as same_told, waits as waits_told};
 
@@ -291,15 +294,23 @@ fn has_fired(telling: &Telling<'_>, outcome: &Outcome, name: NodeName) -> bool
     found
 }
 
-// Whether the actor of this place is not behind its last step.
+// Whether the place in the actor's plan is not behind its last step.
+fn is_before(telling: &Telling<'_>, at: usize, actor: usize) -> bool
+    ensures { result ≡ option_map_or (λ (plan : PlanTold). nat_lt at (length (steps_of plan)))
+        (slice_get telling.now.plans.now actor) false }
+{
+    match telling.plans.get(actor) {
+        Some(plan) => at < plan.steps.len(),
+        None => false,
+    }
+}
+
+// Whether the actor of this place did not leave, and is not behind its last step.
 fn is_left(telling: &Telling<'_>, outcome: &Outcome, actor: usize) -> bool
     ensures { result ≡ left_told telling.now outcome.now actor }
 {
     match outcome.actors.get(actor) {
-        Some(one) => match telling.plans.get(actor) {
-            Some(plan) => one.at < plan.steps.len(),
-            None => false,
-        },
+        Some(one) => !one.left && is_before(telling, one.at, actor),
         None => false,
     }
 }

@@ -1,6 +1,6 @@
 //! What nodes and trackers are called in a script for all clients: as their clients call them, but for labels that
 //! several clients use.
-ghost use Rattle.std.specs.Prelude.{◌≡◌};
+ghost use Rattle.std.specs.Prelude.{◌≡◌, slice_get};
 ghost use Rattle.std.specs.Option.{option_map};
 ghost use Rattle.outcome_texts.specs.Plays.{line_bound, line_named, named, object_named, other_name, request_named};
 
@@ -9,23 +9,26 @@ use indexmap::IndexSet;
 use script_lines::{
     BufferLabel, Label, LabelHash, Line, Request, push_label, push_number, read_line,
 };
-use sm_names::Object;
+use sm_names::{CallKind, Object};
 use std::alloc::{AllocError, Global};
 use std::collections::HashMap;
 
-/// The other labels of nodes and trackers of each actor, where several clients use a label.
+/// The other labels of nodes and trackers of each actor, where several clients use a label, and labels that no client uses:
+/// one for each end or handle that can be collected.
 #[derive(Drop)]
 pub struct LabelNames {
     others: Vec<HashMap<Label, Label, LabelHash>>,
+    fresh: Vec<Label>,
 }
 
-// The labels that actors use, and those that several use.
+// The labels that actors use, those that several use, and how many lines give or collect.
 #[derive(Drop)]
 struct Uses {
     all: IndexSet<(usize, Label), LabelHash>,
     first: HashMap<Label, usize, LabelHash>,
     shared: IndexSet<Label, LabelHash>,
     taken: IndexSet<Label, LabelHash>,
+    parcels: usize,
 }
 
 fn add_to(set: &mut IndexSet<Label, LabelHash>, label: Label) -> Result<bool, AllocError> {
@@ -42,6 +45,7 @@ impl Uses {
             first: HashMap::with_hasher(alloc, hash),
             shared: IndexSet::with_hasher(alloc, hash),
             taken: IndexSet::with_hasher(alloc, hash),
+            parcels: 0,
         }
     }
 
@@ -70,6 +74,9 @@ impl Uses {
         actor: usize,
         request: &Request<Label, BufferLabel>,
     ) -> Result<(), AllocError> {
+        if is_of_parcel(request.kind) {
+            self.parcels = self.parcels.saturating_add(1);
+        }
         match request.object {
             Object::Nothing => {}
             Object::Node(label) => self.note(actor, label)?,
@@ -88,6 +95,14 @@ impl Uses {
             _ => Ok(()),
         }
     }
+}
+
+// Whether calls of this kind fill a parcel, or collect one.
+fn is_of_parcel(kind: CallKind) -> bool {
+    matches!(
+        kind,
+        CallKind::Give | CallKind::GiveHandle | CallKind::Collect
+    )
 }
 
 // The client's label with this one behind it, if it is a label.
@@ -135,7 +150,10 @@ fn no_names(alloc: Global, hash: LabelHash, actors: usize) -> Result<LabelNames,
     for _ in 0..actors {
         others.push(HashMap::with_hasher(alloc, hash))?;
     }
-    Ok(LabelNames { others })
+    Ok(LabelNames {
+        others,
+        fresh: Vec::new(alloc),
+    })
 }
 
 // Notes the labels that each actor uses.
@@ -165,15 +183,30 @@ impl Uses {
         &mut self,
         alloc: Global,
         labels: &[Label],
+        counter: &mut u64,
         names: &mut LabelNames,
     ) -> Result<(), AllocError> {
-        let mut counter: u64 = 0;
         for (actor, label) in self.all.as_slice() {
             if self.shared.contains(label) {
                 let wanted = wanted(alloc, labels, *actor, *label)?;
-                if let Some(other) = free_label(alloc, &mut self.taken, &mut counter, wanted)? {
+                if let Some(other) = free_label(alloc, &mut self.taken, counter, wanted)? {
                     names.add(*actor, *label, other)?;
                 }
+            }
+        }
+        Ok(())
+    }
+
+    // Adds a label that is not taken for each line that gives or collects.
+    fn add_fresh(
+        &mut self,
+        alloc: Global,
+        counter: &mut u64,
+        names: &mut LabelNames,
+    ) -> Result<(), AllocError> {
+        for _ in 0..self.parcels {
+            if let Some(label) = free_label(alloc, &mut self.taken, counter, None)? {
+                names.fresh.push(label)?;
             }
         }
         Ok(())
@@ -181,7 +214,8 @@ impl Uses {
 }
 
 /// What nodes and trackers are called where all clients have one table of labels: as their clients call them, but with
-/// the client's label in front where several clients use one.
+/// the client's label in front where several clients use one. An end or a handle that a client collects as it leaves gets
+/// a label that no client uses: `x` and a number.
 ///
 /// `AllocError` where memory is refused. Costs O(n) for n lines.
 pub fn names_of(
@@ -193,7 +227,9 @@ pub fn names_of(
     let mut uses = Uses::new(alloc, hash);
     note_uses(&mut uses, steps)?;
     let mut names = no_names(alloc, hash, labels.len())?;
-    uses.add_names(alloc, labels, &mut names)?;
+    let mut counter: u64 = 0;
+    uses.add_names(alloc, labels, &mut counter, &mut names)?;
+    uses.add_fresh(alloc, &mut counter, &mut names)?;
     Ok(names)
 }
 
@@ -224,6 +260,13 @@ impl LabelNames {
             Some(other) => other,
             None => label,
         }
+    }
+
+    // The label of this number among those that no client uses.
+    pub(crate) fn fresh(&self, number: usize) -> Option<Label>
+        ensures { result ≡ slice_get self.now.fresh.items number }
+    {
+        self.fresh.get(number).copied()
     }
 
     fn object(&self, actor: usize, object: Object<Label, BufferLabel>) -> Object<Label, BufferLabel>

@@ -1,15 +1,17 @@
 //! The report of all outcomes.
 ghost use Rattle.std.specs.Prelude.{◌≡◌, ◌++◌, OnOk};
-ghost use Rattle.outcome_texts.specs.Reports.{AppendsReport, counts_text, extent_text, orders_text};
+ghost use Rattle.outcome_texts.specs.Reports.{AppendsReport, counts_text, counts_with, extent_text, orders_text};
+ghost use Rattle.outcome_texts.specs.Vanishing.{how_text};
 
 use crate::numbers::push_great;
-use crate::rows::{Parts, Row, push_rows};
+use crate::rows::{Among, Parts, Row, push_rows};
 use crate::telling::{Makers, Subject, Telling, subject_at};
+use crate::vanishing::{can_vanish, has_vanished, how_words, is_alike, push_gone};
 use crate::words::Told;
 use actor_plays::Plan;
 use indexmap::IndexSet;
 use play_search::{Exploration, Found};
-use script_lines::{LabelHash, Part, push, push_parts};
+use script_lines::{Label, LabelHash, Part, push, push_parts};
 use std::alloc::{AllocError, Global};
 
 // The steps that make nodes, or those that make trackers, by line.
@@ -90,10 +92,13 @@ fn made_subjects(
     makes.subjects(alloc)
 }
 
-fn client_subjects(alloc: Global, clients: usize) -> Result<Vec<Subject>, AllocError> {
-    let mut subjects = Vec::new(alloc);
-    for client in 0..clients {
-        subjects.push(Subject::Client(client))?;
+// The clients, without those that vanished.
+fn client_subjects(all: &Outcomes<'_>) -> Result<Vec<Subject>, AllocError> {
+    let mut subjects = Vec::new(all.alloc);
+    for client in 0..all.telling.labels.len() {
+        if !all.has_vanished(client) {
+            subjects.push(Subject::Client(client))?;
+        }
     }
     Ok(subjects)
 }
@@ -107,13 +112,24 @@ fn makers_of(alloc: Global, outcomes: &[Found]) -> Result<Vec<Makers>, AllocErro
     Ok(makers)
 }
 
-// What a report tells of.
+// What rows tell of: outcomes in which the same clients vanished, the first of which has this place among all.
 #[derive(Clone, Copy)]
 struct Outcomes<'a> {
     alloc: Global,
     telling: &'a Telling<'a>,
+    first: usize,
     outcomes: &'a [Found],
     makers: &'a [Makers],
+}
+
+impl Outcomes<'_> {
+    // Whether the client vanished.
+    fn has_vanished(&self, client: usize) -> bool {
+        match self.outcomes.first() {
+            Some(found) => has_vanished(found, client),
+            None => false,
+        }
+    }
 }
 
 // Adds what became of the subject in the outcome of this place.
@@ -131,7 +147,7 @@ fn add_outcome(
         };
         let mut what = Vec::new(all.alloc);
         all.telling.push_what(&mut what, told, subject)?;
-        let rank = (at as u64).wrapping_add(1);
+        let rank = (all.first as u64).wrapping_add(at as u64).wrapping_add(1);
         parts.add(all.alloc, what, found.figures.share, rank)?;
     }
     Ok(())
@@ -202,7 +218,7 @@ fn rows_of(all: &Outcomes<'_>) -> Result<Vec<Row>, AllocError> {
     let mut rows = Vec::new(all.alloc);
     let nodes = made_subjects(all.alloc, all.telling, false)?;
     push_subjects(all, &mut rows, &nodes)?;
-    let clients = client_subjects(all.alloc, all.telling.labels.len())?;
+    let clients = client_subjects(all)?;
     push_subjects(all, &mut rows, &clients)?;
     let trackers = made_subjects(all.alloc, all.telling, true)?;
     push_subjects(all, &mut rows, &trackers)?;
@@ -241,16 +257,17 @@ fn extent(complete: bool) -> &'static str
     if complete { ", " } else { "not all explored: " }
 }
 
-// Appends how many clients, steps, orders, states and outcomes there are.
-fn push_counts(
+// Appends how many clients, steps, orders, states and outcomes there are, with these words on who vanishes.
+fn push_counts<'a>(
     text: &mut Vec<u8>,
     clients: usize,
     steps: usize,
+    how: &'a [u8],
     found: &Exploration,
-    orders: &[u8],
+    orders: &'a [u8],
 ) -> Result<(), AllocError>
     ensures { OnOk result
-        (text.new.items ≡ text.old.items ++ counts_text clients steps found.now orders.now) }
+        (text.new.items ≡ text.old.items ++ counts_with clients steps how.now found.now orders.now) }
 {
     push_parts(
         text,
@@ -258,7 +275,9 @@ fn push_counts(
             Part::Counted(clients as u64, "client"),
             Part::Word(", "),
             Part::Counted(steps as u64, "step"),
-            Part::Word("; none vanishes\n"),
+            Part::Word("; "),
+            Part::Bytes(how),
+            Part::Word("\n"),
             Part::Bytes(orders_told(found.complete, orders)),
             Part::Word(extent(found.complete)),
             Part::Counted(found.states as u64, "state"),
@@ -269,44 +288,126 @@ fn push_counts(
     )
 }
 
-// The rows of the report: what became of what, in which outcomes.
+// The number of outcomes from this place on in which the same clients vanished.
+fn count_alike(outcomes: &[Found], first: usize) -> usize {
+    if outcomes.len() <= first {
+        return 0;
+    }
+    for at in first..outcomes.len() {
+        if !is_alike(&outcomes[first], &outcomes[at]) {
+            return at - first;
+        }
+    }
+    outcomes.len() - first
+}
+
+// Appends who vanished in these outcomes, and how many there are.
+fn push_group_head(
+    text: &mut Vec<u8>,
+    labels: &[Label],
+    outcomes: &[Found],
+) -> Result<(), AllocError> {
+    if let Some(found) = outcomes.first() {
+        push(text, "if ")?;
+        push_gone(text, labels, found)?;
+        push_parts(
+            text,
+            &[
+                Part::Word(": "),
+                Part::Counted(outcomes.len() as u64, "outcome"),
+                Part::Word("\n"),
+            ],
+        )?;
+    }
+    Ok(())
+}
+
+// Appends the rows of these outcomes, of which the first has this place among all.
+fn push_group(
+    alloc: Global,
+    text: &mut Vec<u8>,
+    telling: &Telling<'_>,
+    first: usize,
+    outcomes: &[Found],
+    have_shares: bool,
+) -> Result<(), AllocError> {
+    let makers = makers_of(alloc, outcomes)?;
+    let all = Outcomes {
+        alloc,
+        telling,
+        first,
+        outcomes,
+        makers: &makers,
+    };
+    let rows = rows_of(&all)?;
+    let of = Among {
+        outcomes: outcomes.len(),
+        have_shares,
+    };
+    push_rows(alloc, text, &rows, of)
+}
+
+// Appends the rows of all groups of outcomes, each behind who vanished in it.
+fn push_groups(
+    alloc: Global,
+    text: &mut Vec<u8>,
+    telling: &Telling<'_>,
+    outcomes: &[Found],
+) -> Result<(), AllocError> {
+    let mut first: usize = 0;
+    for _ in 0..outcomes.len() {
+        let count = count_alike(outcomes, first);
+        let end = first.saturating_add(count);
+        if count == 0 || outcomes.len() < end {
+            break;
+        }
+        if 0 < first {
+            push(text, "\n")?;
+        }
+        push_group_head(text, telling.labels, &outcomes[first..end])?;
+        push_group(alloc, text, telling, first, &outcomes[first..end], false)?;
+        first = end;
+    }
+    Ok(())
+}
+
+// The rows of the report: what became of what, in which outcomes, and if somebody may vanish by who vanished.
 fn rows_text(
     alloc: Global,
     telling: &Telling<'_>,
     outcomes: &[Found],
 ) -> Result<Vec<u8>, AllocError> {
-    let makers = makers_of(alloc, outcomes)?;
-    let all = Outcomes {
-        alloc,
-        telling,
-        outcomes,
-        makers: &makers,
-    };
-    let rows = rows_of(&all)?;
     let mut text = Vec::new(alloc);
-    push_rows(alloc, &mut text, &rows, outcomes.len())?;
+    if can_vanish(telling.vanishing) {
+        push_groups(alloc, &mut text, telling, outcomes)?;
+    } else {
+        push_group(alloc, &mut text, telling, 0, outcomes, true)?;
+    }
     Ok(text)
 }
 
-// Appends the report with these rows.
-fn push_told(
+// Appends the report with these rows, and these words on who vanishes.
+fn push_told<'a>(
     text: &mut Vec<u8>,
-    clients: usize,
+    telling: &Telling<'_>,
     steps: usize,
+    how: &'a [u8],
     found: &Exploration,
-    orders: &[u8],
+    orders: &'a [u8],
     rows: &[u8],
 ) -> Result<(), AllocError>
+    requires { how.now ≡ how_text telling.now.labels.now telling.now.vanishing }
     ensures { OnOk result
-        (text.new.items ≡ text.old.items ++ counts_text clients steps found.now orders.now ++ rows.now) }
+        (text.new.items ≡ text.old.items ++ counts_text telling.now steps found.now orders.now ++ rows.now) }
 {
-    push_counts(text, clients, steps, found, orders)?;
+    push_counts(text, telling.labels.len(), steps, how, found, orders)?;
     text.extend_from_slice(rows)
 }
 
-/// Appends the report: how many clients, steps, orders, states and outcomes there are, and what became of each node,
-/// client and tracker, and of the pages, in which outcomes. No clause says how many steps and orders are told, and what
-/// the rows are.
+/// Appends the report: how many clients, steps, orders, states and outcomes there are, who may vanish, and what became of
+/// each node, client and tracker, and of the pages, in which outcomes; if somebody may vanish at any point, apart for
+/// those in which the same clients vanished, and without shares of the runs. No clause says how many steps and orders are
+/// told, and what the rows are.
 ///
 /// `AllocError` where memory is refused. Costs O(n^2) for n outcomes, for each node, client and tracker.
 pub fn push_report(
@@ -320,5 +421,6 @@ pub fn push_report(
     let orders = orders_words(alloc, found.orders)?;
     let rows = rows_text(alloc, telling, &found.outcomes)?;
     let steps = steps_in(telling.plans);
-    push_told(text, telling.labels.len(), steps, found, &orders, &rows)
+    let how = how_words(alloc, telling.labels, telling.vanishing)?;
+    push_told(text, telling, steps, &how, found, &orders, &rows)
 }

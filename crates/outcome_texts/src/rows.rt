@@ -18,6 +18,13 @@ pub(crate) struct Parts {
     parts: Vec<Part>,
 }
 
+// How many outcomes rows tell of, and whether these have shares of the runs.
+#[derive(Clone, Copy)]
+pub(crate) struct Among {
+    pub(crate) outcomes: usize,
+    pub(crate) have_shares: bool,
+}
+
 // The names of which these are the parts.
 #[derive(Drop)]
 pub(crate) struct Row {
@@ -69,17 +76,14 @@ fn push_of_hundred(alloc: Global, text: &mut Vec<u8>, share: f64) -> Result<(), 
 }
 
 impl Part {
-    // Appends in which of so many outcomes it was so.
-    fn push_which(
-        &self,
-        alloc: Global,
-        text: &mut Vec<u8>,
-        outcomes: usize,
-    ) -> Result<(), AllocError> {
-        if self.ranks.len() == outcomes {
+    // Appends in which of the outcomes it was so.
+    fn push_which(&self, alloc: Global, text: &mut Vec<u8>, of: Among) -> Result<(), AllocError> {
+        if self.ranks.len() == of.outcomes {
             return push(text, "always");
         }
-        push_of_hundred(alloc, text, self.share)?;
+        if of.have_shares {
+            push_of_hundred(alloc, text, self.share)?;
+        }
         push_ranks(text, &self.ranks)
     }
 }
@@ -167,7 +171,7 @@ impl Row {
         text: &mut Vec<u8>,
         at: usize,
         widths: (usize, usize),
-        outcomes: usize,
+        of: Among,
     ) -> Result<(), AllocError> {
         let (left, middle) = widths;
         let names: &[u8] = if at == 0 { &self.names } else { &[] };
@@ -180,7 +184,7 @@ impl Row {
         }
         push(text, "  ")?;
         if at < self.parts.parts.len() {
-            self.parts.parts[at].push_which(alloc, text, outcomes)?;
+            self.parts.parts[at].push_which(alloc, text, of)?;
         }
         push(text, "\n")
     }
@@ -190,25 +194,25 @@ impl Row {
         alloc: Global,
         text: &mut Vec<u8>,
         widths: (usize, usize),
-        outcomes: usize,
+        of: Among,
     ) -> Result<(), AllocError> {
         for at in 0..self.parts.parts.len() {
-            self.push_line(alloc, text, at, widths, outcomes)?;
+            self.push_line(alloc, text, at, widths, of)?;
         }
         Ok(())
     }
 }
 
-// Appends the rows, of so many outcomes.
+// Appends the rows, which tell of these outcomes.
 pub(crate) fn push_rows(
     alloc: Global,
     text: &mut Vec<u8>,
     rows: &[Row],
-    outcomes: usize,
+    of: Among,
 ) -> Result<(), AllocError> {
     let widths = widths(rows);
     for row in rows {
-        row.push_lines(alloc, text, widths, outcomes)?;
+        row.push_lines(alloc, text, widths, of)?;
     }
     Ok(())
 }

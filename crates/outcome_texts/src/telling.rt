@@ -1,25 +1,26 @@
 //! What a report is made of, and what became of a step.
 ghost use Rattle.std.specs.Prelude.{◌≡◌};
-ghost use Rattle.outcome_texts.specs.Plays.{line_told, step_told};
+ghost use Rattle.outcome_texts.specs.Plays.{bound_at, line_told, step_told};
 
 use crate::labels::LabelNames;
 use crate::lines::{StepLine, line_at};
 use actor_plays::Plan;
 use actor_scripts::Step;
-use play_search::{ActorOutcome, Became, Found};
+use play_search::{ActorOutcome, Became, Found, Vanishing};
 use script_lines::{Label, LabelHash};
 use sm_names::{NodeKey, Product, row_of};
 use std::alloc::{AllocError, Global};
 use std::collections::HashMap;
 
-/// What a report is made of: the clients' labels, what nodes and trackers are called, the lines that are steps, and the
-/// plans. Its tables of texts hash from the seed.
+/// What a report is made of: the clients' labels, what nodes and trackers are called, the lines that are steps, the
+/// plans, and who may vanish. Its tables of texts hash from the seed.
 #[derive(Clone, Copy)]
 pub struct Telling<'a> {
     pub labels: &'a [Label],
     pub names: &'a LabelNames,
     pub steps: &'a [StepLine<'a>],
     pub plans: &'a [Plan],
+    pub vanishing: Vanishing<'a>,
     pub hash: LabelHash,
 }
 
@@ -73,7 +74,9 @@ impl<'a> Telling<'a> {
     }
 
     // What the step makes is called so.
-    pub(crate) fn bound(&self, actor: usize, at: usize) -> Option<Label> {
+    pub(crate) fn bound(&self, actor: usize, at: usize) -> Option<Label>
+        ensures { result ≡ bound_at self.now actor at }
+    {
         match self.line(actor, at) {
             Some(step) => self.names.bound(actor, step.line),
             None => None,

@@ -4,7 +4,7 @@ ghost use Rattle.std.specs.List.{flat_map};
 ghost use Rattle.std.specs.Option.{option_map_or};
 ghost use Rattle.outcome_texts.specs.Verdicts.{breaking as breaking_told, breaking_text, broken_head, broken_text, call_numbered as call_told, claim_text, claims_text, decided_text, decision_text, first_with as first_told, has_broken as broken_among, having as having_told, is_as as as_told, is_broken as broken_told, is_sought as sought_told, unbroken as unbroken_told, verdict_by as verdict_told, verdict_of, verdict_text, words_text};
 
-use crate::calls::calls_of;
+use crate::calls::{PlayCall, calls_of};
 use crate::facts::has_fact;
 use crate::script::push_call;
 use crate::telling::Telling;
@@ -131,11 +131,12 @@ pub fn has_broken(telling: &Telling<'_>, found: &Exploration, claims: &[ClaimLin
 fn push_decision(
     text: &mut Vec<u8>,
     telling: &Telling<'_>,
+    found: &Found,
     number: usize,
-    call: (usize, usize),
+    call: PlayCall,
 ) -> Result<(), AllocError>
     ensures { OnOk result (text.new.items
-        ≡ text.old.items ++ decision_text telling.now number call) }
+        ≡ text.old.items ++ decision_text telling.now found.now number call) }
 {
     push_parts(
         text,
@@ -145,27 +146,28 @@ fn push_decision(
             Part::Word(": "),
         ],
     )?;
-    push_call(text, telling, call)
+    push_call(text, telling, found, call)
 }
 
 // Appends the call of this number, if there is one, and that it decided.
 fn push_decision_of(
     text: &mut Vec<u8>,
     telling: &Telling<'_>,
+    found: &Found,
     number: usize,
-    call: Option<(usize, usize)>,
+    call: Option<PlayCall>,
 ) -> Result<(), AllocError>
     ensures { OnOk result (text.new.items
-        ≡ text.old.items ++ option_map_or (decision_text telling.now number) call []) }
+        ≡ text.old.items ++ option_map_or (decision_text telling.now found.now number) call []) }
 {
     match call {
-        Some(call) => push_decision(text, telling, number, call),
+        Some(call) => push_decision(text, telling, found, number, call),
         None => Ok(()),
     }
 }
 
 // The call of this number, from 1.
-fn call_of(calls: &[(usize, usize)], number: usize) -> Option<(usize, usize)>
+fn call_of(calls: &[PlayCall], number: usize) -> Option<PlayCall>
     ensures { result ≡ call_told calls.now number }
 {
     if number == 0 {
@@ -185,7 +187,7 @@ fn push_decided(
 {
     let decided = found.figures.decided;
     let calls = calls_of(alloc, found)?;
-    push_decision_of(text, telling, decided, call_of(&calls, decided))
+    push_decision_of(text, telling, found, decided, call_of(&calls, decided))
 }
 
 // Appends how long the play is that breaks the claim.

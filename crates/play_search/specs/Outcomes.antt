@@ -1,5 +1,5 @@
 -- What a play comes to.
-use Rattle.std.specs.Prelude.{ℕ, ◌≡◌, Bool, true, false, List, map, Option}
+use Rattle.std.specs.Prelude.{ℕ, ◌≡◌, Bool, true, false, List, map, Option, is_some}
 use Rattle.sm_names.specs.declared.keys.NodeKey.{NodeKey}
 use Rattle.sm_names.specs.declared.messages.Reply.{Reply}
 use Rattle.core_state.specs.Reads.{views_of}
@@ -21,18 +21,19 @@ became_in play _ = Became.Nothing
 abbrev pub made_in : Play → ℕ × Reply → ℕ × Became
 made_in play made = (made.0, became_in play made.1)
 
--- how many steps of its plan are behind an actor, and what became of what its calls made
+-- how many steps of its plan are behind an actor, whether it left, and what became of what its calls made
 pub record Told : Type 0 where
   pub at : ℕ
+  pub left : Bool
   pub made : List (ℕ × Became)
 
 -- what is told of an outcome's actor
 abbrev pub told : ActorOutcome → Told
-told outcome = record { at = outcome.at; made = outcome.made.items }
+told outcome = record { at = outcome.at; left = outcome.left; made = outcome.made.items }
 
 -- what is told of an actor in a play
 abbrev pub told_in : Play → Actor → Told
-told_in play actor = record { at = actor.at; made = map (made_in play) actor.made.items }
+told_in play actor = record { at = actor.at; left = is_some actor.leaving; made = map (made_in play) actor.made.items }
 
 -- the outcome is that of the play: of each actor, and the free pages
 pub record IsOutcome (play : Play) (outcome : Outcome) : Type 0 where

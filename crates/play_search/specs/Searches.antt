@@ -1,15 +1,19 @@
 -- What a search answers.
-use Rattle.std.specs.Prelude.{ℕ, ◌≡◌, ◌≤◌, ◌<◌, Bool, true, false, List, length, vec_len}
+use Rattle.std.specs.Prelude.{ℕ, ◌≡◌, ◌≤◌, ◌<◌, Bool, true, false, List, length, slice_get, vec_len}
+use Rattle.std.specs.Option.{option_map_or}
 use Rattle.sm_names.specs.declared.rules.TheConstants.{MAX_PAGES}
 use Rattle.actor_plays.specs.declared.plan.Plan.{Plan}
 use Rattle.actor_plays.specs.declared.play.Play.{Play}
+use Rattle.actor_plays.specs.declared.play.Turn.{Turn}
 use Rattle.actor_plays.specs.declared.play.Turned.{Turned}
 use Rattle.actor_plays.specs.Fates.{AreFalls}
-use Rattle.actor_plays.specs.Plays.{IsPlay, IsTurn}
+use Rattle.actor_plays.specs.Plays.{IsPlay, IsTurn, Stage, stages_of}
 use Rattle.play_search.specs.declared.graph.Graph.{Graph}
 use Rattle.play_search.specs.declared.replay.Setting.{Setting}
 use Rattle.play_search.specs.declared.exploring.Found.{Found}
+use Rattle.play_search.specs.declared.vanishing.Vanishing.{Vanishing}
 use Rattle.play_search.specs.Outcomes.{IsOutcome}
+use Rattle.play_search.specs.Vanishings.{is_allowed, must_leave, vanished}
 
 -- a pool can have so many pages
 abbrev pub IsPool : ℕ → Type 0
@@ -20,7 +24,7 @@ abbrev pub IsWithin : Graph → Type 0
 IsWithin graph = vec_len graph.rows ≤ graph.most
 
 -- the play is one of the actors of these plans on this core, with these turns
-pub record IsReplay (plans : List Plan) (setting : Setting) (turns : List ℕ) (play : Play) : Type 0 where
+pub record IsReplay (plans : List Plan) (setting : Setting) (turns : List Turn) (play : Play) : Type 0 where
   pub plays : IsPlay plans play
   pub calls : play.turns.items ≡ turns
   pub pages : play.core.pool ≡ setting.pages
@@ -35,23 +39,34 @@ abbrev pub is_made : Turned → Bool
 is_made Turned.Made = true
 is_made _ = false
 
--- after a play with these turns the actor makes no turn: it has no call to make, or is left waiting
-pub record HasNoTurn (plans : List Plan) (setting : Setting) (turns : List ℕ) (actor : ℕ) : Type 0 where
+-- the actor of this place neither has to go on to leave, nor has to leave since it is at its end
+abbrev pub MayStay : Vanishing → List Plan → Play → ℕ → Type 0
+MayStay vanishing plans play actor =
+    option_map_or (must_leave vanishing.at_end plans actor) (slice_get (stages_of play) actor) false ≡ false
+
+-- after a play with these turns the actor makes no turn: it has no call to make, or is left waiting, and it may stay
+pub record HasNoTurn (plans : List Plan) (vanishing : Vanishing) (setting : Setting) (turns : List Turn) (actor : ℕ) : Type 0 where
   pub old : Play
   pub new : Play
   pub turned : Turned
   pub play : IsReplay plans setting turns old
   pub turn : IsTurn plans old new actor turned
   pub none : is_made turned ≡ false
+  pub stays : MayStay vanishing plans new actor
 
 -- the same of each of the first actors
-abbrev pub HaveNoTurn : List Plan → Setting → List ℕ → ℕ → Type 0
-HaveNoTurn plans setting turns actors = (actor : ℕ) → actor < actors → HasNoTurn plans setting turns actor
+abbrev pub HaveNoTurn : List Plan → Vanishing → Setting → List Turn → ℕ → Type 0
+HaveNoTurn plans vanishing setting turns actors =
+    (actor : ℕ) → actor < actors → HasNoTurn plans vanishing setting turns actor
 
--- a play with these turns has this outcome, and no actor has another turn
-pub record IsFound (plans : List Plan) (setting : Setting) (found : Found) : Type 0 where
+-- a play with these turns and entries has this outcome, and no actor has another turn. Those that left before their end are
+-- these, and they might
+pub record IsFound (plans : List Plan) (vanishing : Vanishing) (setting : Setting) (found : Found) : Type 0 where
   pub play : Play
   pub replay : IsReplay plans setting found.turns.items play
   pub told : IsTold play
   pub outcome : IsOutcome play found.outcome
-  pub ended : HaveNoTurn plans setting found.turns.items (length plans)
+  pub ended : HaveNoTurn plans vanishing setting found.turns.items (length plans)
+  pub entries : found.entries.items ≡ play.entries.items
+  pub vanished_are : found.vanished.items ≡ vanished vanishing.at_end plans (stages_of play)
+  pub allowed : is_allowed vanishing found.vanished.items ≡ true

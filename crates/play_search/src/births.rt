@@ -44,6 +44,7 @@ fn opens(plans: &[Plan], actor: usize, at: usize) -> bool {
 // their numbers.
 #[derive(Drop)]
 pub(crate) struct Births {
+    pub(crate) alloc: Global,
     nodes: HashMap<NodeKey, u32>,
     collections: HashMap<CollectionId, u32>,
     pub(crate) opened: Vec<CollectionId>,
@@ -94,6 +95,7 @@ impl Births {
     // All that were made in the play.
     pub(crate) fn of(ground: &Ground<'_>, play: &Play) -> Result<Births, AllocError> {
         let mut births = Births {
+            alloc: ground.alloc,
             nodes: HashMap::new(ground.alloc),
             collections: HashMap::new(ground.alloc),
             opened: Vec::new(ground.alloc),

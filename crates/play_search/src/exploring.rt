@@ -1,25 +1,36 @@
 //! The search, from the plans of a script to its outcomes.
-ghost use Rattle.std.specs.Prelude.{◌≡◌, ◌≤◌, All, IfOk, OnOk, vec_len};
+ghost use Rattle.std.specs.Prelude.{◌≡◌, ◌≤◌, All, IfOk, OnOk, length, true, vec_len};
 ghost use Rattle.sm_names.specs.declared.rules.TheConstants.{MAX_PAGES};
-ghost use Rattle.play_search.specs.Searches.{IsFound, IsPool};
+ghost use Rattle.actor_plays.specs.Plays.{stages_of};
+ghost use Rattle.play_search.specs.Outcomes.{IsOutcome};
+ghost use Rattle.play_search.specs.Searches.{HaveNoTurn, IsFound, IsPool, IsReplay, IsTold};
+ghost use Rattle.play_search.specs.Vanishings.{is_allowed, vanished};
 
 use crate::births::bases_of;
 use crate::fault::ExploreFault;
 use crate::graph::{Graph, graph_of};
+use crate::next::Group;
+use crate::order::{Ordered, endings_of, met_of, order_of};
 use crate::outcome::{Outcome, outcome_of};
 use crate::replay::{Ground, Setting, have_no_turn, replay};
-use crate::shares::{left_at, lefts_of, number_at, order_of, shares_of};
+use crate::shares::{left_at, lefts_of, number_at, shares_of};
+use crate::vanishing::{Vanishing, are_allowed, vanished_of};
 use crate::witness::{WayTurn, Ways, goals_of, ways_of};
-use actor_plays::Plan;
+use actor_plays::{Plan, Play, Turn};
 use script_lines::LabelHash;
+use sm_names::{Call, ClientId, Reply};
 use std::alloc::{AllocError, Global};
 use std::num::saturating_f64_to_u64;
 
 /// An outcome, with a play of it: of the fewest calls, and of these with the fewest changes of the actor.
 #[derive(Drop)]
 pub struct Found {
-    /// The actor of each call.
-    pub turns: Vec<usize>,
+    /// The turns of the play, each of one call.
+    pub turns: Vec<Turn>,
+    /// The calls of the play with their replies: the joins of all clients, then one call for each turn.
+    pub entries: Vec<(ClientId, Call, Reply)>,
+    /// The places of the actors that left before their end.
+    pub vanished: Vec<usize>,
     pub outcome: Outcome,
     pub figures: Figures,
 }
@@ -29,16 +40,18 @@ pub struct Found {
 pub struct Figures {
     /// How many times the actor changes, the first turn among them.
     pub changes: u32,
-    /// The number of the first call, from 1, behind which no other outcome is possible; 0 if there never is another.
+    /// The number of the first call, from 1, behind which no other outcome is possible; 0 if there never is another, or
+    /// another is possible to the end.
     pub decided: usize,
-    /// The share of runs that come to it, where each turn is drawn evenly among the actors that have one.
+    /// The share of runs that come to it, where each turn is drawn evenly among the actors that have one. It says nothing
+    /// where an actor may leave before its end.
     pub share: f64,
 }
 
 /// What a search found.
 #[derive(Drop)]
 pub struct Exploration {
-    /// The outcomes, those of the greatest share first.
+    /// The outcomes: by how many actors left before their end, by who they are, and then those of the greatest share first.
     pub outcomes: Vec<Found>,
     /// How many values of plays were met, that of the play without a turn among them: at most as many as
     /// were asked for.
@@ -52,7 +65,7 @@ pub struct Exploration {
 // An outcome to be shown: the turns of its play.
 #[derive(Drop)]
 struct Goal {
-    turns: Vec<usize>,
+    turns: Vec<Turn>,
     figures: Figures,
 }
 
@@ -65,7 +78,8 @@ struct Searched {
     orders: f64,
 }
 
-// The number of the first turn, from 1, behind which only one ending is left; 0 if there never is another.
+// The number of the first turn, from 1, behind which only one ending is left; 0 if there never is another, or there is one
+// to the end.
 fn decided_at(lefts: &[u32], turns: &[WayTurn]) -> usize {
     if left_at(lefts, 0) != 0 {
         return 0;
@@ -75,23 +89,40 @@ fn decided_at(lefts: &[u32], turns: &[WayTurn]) -> usize {
             return at.saturating_add(1);
         }
     }
-    turns.len()
+    0
 }
 
-fn actors_of(alloc: Global, turns: &[WayTurn]) -> Result<Vec<usize>, AllocError> {
-    let mut actors = Vec::new(alloc);
+fn made_turns(alloc: Global, turns: &[WayTurn]) -> Result<Vec<Turn>, AllocError> {
+    let mut made = Vec::new(alloc);
     for turn in turns {
-        actors.push(turn.actor)?;
+        made.push(turn.turn)?;
     }
-    Ok(actors)
+    Ok(made)
 }
 
-// The endings, those of the greatest share first.
-fn ranks_of(alloc: Global, shares: &[f64]) -> Result<Vec<(u64, usize)>, AllocError> {
+// An ending behind what it is ordered by: who vanished, its share, and its place among those met.
+type Rank = (Group, Ordered);
+
+fn group_at(groups: &[Group], ending: usize) -> Group {
+    match groups.get(ending) {
+        Some(group) => *group,
+        None => (0, 0),
+    }
+}
+
+// These endings by who vanished, those of the greatest share first.
+fn ranks_of(
+    alloc: Global,
+    groups: &[Group],
+    shares: &[f64],
+    endings: &[usize],
+) -> Result<Vec<Rank>, AllocError> {
     let mut ranks = Vec::new(alloc);
-    for ending in 0..shares.len() {
-        let share = saturating_f64_to_u64(shares[ending] * 1e15);
-        ranks.push((u64::MAX - share, ending))?;
+    for place in 0..endings.len() {
+        let ending = endings[place];
+        let share = saturating_f64_to_u64(number_at(shares, ending) * 1e15);
+        let order = ((u64::MAX - share, place), ending);
+        ranks.push((group_at(groups, ending), order))?;
     }
     ranks.as_mut_slice().sort_unstable();
     Ok(ranks)
@@ -110,9 +141,10 @@ fn search(ground: &Ground<'_>, hash: LabelHash, most: usize) -> Result<Searched,
 fn read_graph(ground: &Ground<'_>, graph: &Graph, complete: bool) -> Result<Searched, AllocError>
     ensures { IfOk result (λ found. found.states ≡ vec_len graph.now.rows) }
 {
-    let order = order_of(ground.alloc, graph)?;
+    let met = met_of(ground.alloc, graph)?;
+    let order = order_of(ground.alloc, graph, &met)?;
     let shares = shares_of(ground.alloc, graph, &order)?;
-    let goals = goals_in(ground, graph, &order, &shares.shares)?;
+    let goals = goals_in(ground, graph, &met, &order, &shares.shares)?;
     Ok(Searched {
         goals,
         states: graph.rows.len(),
@@ -125,24 +157,27 @@ fn read_graph(ground: &Ground<'_>, graph: &Graph, complete: bool) -> Result<Sear
 fn goals_in(
     ground: &Ground<'_>,
     graph: &Graph,
-    order: &[(u32, usize)],
+    met: &[usize],
+    order: &[Ordered],
     shares: &[f64],
 ) -> Result<Vec<Goal>, AllocError> {
     let lefts = lefts_of(ground.alloc, graph, order)?;
     let ways = ways_of(ground.alloc, graph, ground.plans.len(), order)?;
-    ranked_goals(ground.alloc, graph, &ways, &lefts, shares)
+    ranked_goals(ground.alloc, graph, met, &ways, &lefts, shares)
 }
 
-// The same by these ways, those of the greatest share first.
+// The same by these ways, by who vanished, and those of the greatest share first.
 fn ranked_goals(
     alloc: Global,
     graph: &Graph,
+    met: &[usize],
     ways: &Ways,
     lefts: &[u32],
     shares: &[f64],
 ) -> Result<Vec<Goal>, AllocError> {
-    let places = goals_of(alloc, graph, ways)?;
-    let ranks = ranks_of(alloc, shares)?;
+    let places = goals_of(alloc, graph, ways, met)?;
+    let endings = endings_of(alloc, graph, met)?;
+    let ranks = ranks_of(alloc, &graph.groups, shares, &endings)?;
     goals_by(alloc, ways, lefts, &places, shares, &ranks)
 }
 
@@ -161,7 +196,7 @@ fn goal_at(
         share,
     };
     Ok(Goal {
-        turns: actors_of(alloc, &turns)?,
+        turns: made_turns(alloc, &turns)?,
         figures,
     })
 }
@@ -173,10 +208,10 @@ fn goals_by(
     lefts: &[u32],
     places: &[Option<usize>],
     shares: &[f64],
-    ranks: &[(u64, usize)],
+    ranks: &[Rank],
 ) -> Result<Vec<Goal>, AllocError> {
     let mut goals = Vec::new(alloc);
-    for (_, ending) in ranks {
+    for (_, (_, ending)) in ranks {
         if let Some(Some(at)) = places.get(*ending) {
             goals.push(goal_at(alloc, ways, lefts, *at, number_at(shares, *ending))?)?;
         }
@@ -184,29 +219,85 @@ fn goals_by(
     Ok(goals)
 }
 
-// The outcome of the play with these turns.
-fn found_at(ground: &Ground<'_>, goal: &Goal) -> Result<Found, ExploreFault>
-    requires { IsPool ground.now.setting.pages }
-    ensures { IfOk result (IsFound ground.now.plans.now ground.now.setting) }
+// The calls of the play with their replies.
+fn entries_of(alloc: Global, play: &Play) -> Result<Vec<(ClientId, Call, Reply)>, AllocError>
+    ensures { IfOk result (λ entries. entries.items ≡ play.now.entries.items) }
+{
+    let mut entries = Vec::new(alloc);
+    entries.extend_from_slice(play.entries())?;
+    Ok(entries)
+}
+
+// The actors that left the play before their end, if they all might.
+fn vanished_in(ground: &Ground<'_>, play: &Play) -> Result<Vec<usize>, ExploreFault>
+    ensures are { IfOk result (λ places. places.items
+        ≡ vanished ground.now.vanishing.at_end ground.now.plans.now (stages_of play.now)) }
+    ensures allowed { IfOk result (λ places. is_allowed ground.now.vanishing places.items ≡ true) }
+{
+    let at_end = ground.vanishing.at_end;
+    let vanished = vanished_of(ground.alloc, at_end, ground.plans, play.actors())?;
+    if are_allowed(ground.vanishing, &vanished) {
+        Ok(vanished)
+    } else {
+        Err(ExploreFault::Unlike)
+    }
+}
+
+// What is shown of the play of this goal, in which these actors left before their end.
+fn found_of(
+    alloc: Global,
+    goal: &Goal,
+    play: &Play,
+    vanished: Vec<usize>,
+) -> Result<Found, AllocError>
+    ensures turns { IfOk result (λ found. found.turns.items ≡ goal.now.turns.items) }
+    ensures entries { IfOk result (λ found. found.entries.items ≡ play.now.entries.items) }
+    ensures vanished { IfOk result (λ found. found.vanished.items ≡ vanished.items) }
+    ensures outcome { IfOk result (λ found. IsOutcome play.now found.outcome) }
 {
     let turns = goal.turns.clone()?;
-    if !have_no_turn(ground, &turns)? {
-        return Err(ExploreFault::Unlike);
-    }
-    let play = replay(ground, &turns, true)?;
-    let outcome = outcome_of(ground.alloc, &play)?;
+    let entries = entries_of(alloc, play)?;
+    let outcome = outcome_of(alloc, play)?;
     Ok(Found {
         turns,
+        entries,
+        vanished,
         outcome,
         figures: goal.figures,
     })
+}
+
+// The outcome of this play with the turns of the goal, behind which no actor has another one.
+fn found_in(ground: &Ground<'_>, goal: &Goal, play: &Play) -> Result<Found, ExploreFault>
+    requires replay { IsReplay ground.now.plans.now ground.now.setting goal.now.turns.items play.now }
+    requires told { IsTold play.now }
+    requires ended { HaveNoTurn ground.now.plans.now ground.now.vanishing ground.now.setting
+        goal.now.turns.items (length ground.now.plans.now) }
+    ensures { IfOk result (IsFound ground.now.plans.now ground.now.vanishing ground.now.setting) }
+{
+    let vanished = vanished_in(ground, play)?;
+    Ok(found_of(ground.alloc, goal, play, vanished)?)
+}
+
+// The outcome of the play with these turns.
+fn found_at(ground: &Ground<'_>, goal: &Goal) -> Result<Found, ExploreFault>
+    requires { IsPool ground.now.setting.pages }
+    ensures { IfOk result (IsFound ground.now.plans.now ground.now.vanishing ground.now.setting) }
+{
+    let turns = goal.turns.as_slice();
+    if !have_no_turn(ground, turns)? {
+        return Err(ExploreFault::Unlike);
+    }
+    let play = replay(ground, turns, true)?;
+    found_in(ground, goal, &play)
 }
 
 // The outcomes of these plays.
 fn found_all(ground: &Ground<'_>, goals: &[Goal]) -> Result<Vec<Found>, ExploreFault>
     requires { IsPool ground.now.setting.pages }
     ensures { IfOk result
-        (λ all. All (IsFound ground.now.plans.now ground.now.setting) all.items) }
+        (λ all. All (IsFound ground.now.plans.now ground.now.vanishing ground.now.setting)
+        all.items) }
 {
     let mut all = Vec::new(ground.alloc);
     'goals: for goal in goals {
@@ -223,7 +314,8 @@ fn found_all(ground: &Ground<'_>, goals: &[Goal]) -> Result<Vec<Found>, ExploreF
 fn explored(ground: &Ground<'_>, hash: LabelHash, most: usize) -> Result<Exploration, ExploreFault>
     requires { IsPool ground.now.setting.pages }
     ensures real { IfOk result
-        (λ found. All (IsFound ground.now.plans.now ground.now.setting) found.outcomes.items) }
+        (λ found. All (IsFound ground.now.plans.now ground.now.vanishing ground.now.setting)
+        found.outcomes.items) }
     ensures states { IfOk result (λ found. found.states ≤ most) }
 {
     let Searched {
@@ -242,8 +334,9 @@ fn explored(ground: &Ground<'_>, hash: LabelHash, most: usize) -> Result<Explora
 }
 
 /// The outcomes of all plays of the actors of these plans, on a core with this setting, whose pool has 1 to
-/// 1,048,576 pages. Each has a play in which no actor has another turn, and which comes to it. That none is
-/// missing if all values were met is not said: it is tested.
+/// 1,048,576 pages. Actors leave as `vanishing` says. Each outcome has a play in which no actor has another turn, unless one
+/// more may leave before its end, and which comes to it. That none is missing if all values were met is not said: it is
+/// tested.
 ///
 /// It meets at most this many values of plays, and stops at the first one more, or where the bytes of the values and
 /// the calls of all plays are 1,024 times as many: the answer is then not complete. `NoMemory` where memory is refused, `HistoryFull` where a play has as many
@@ -252,10 +345,12 @@ pub fn explore(
     alloc: Global,
     setting: Setting,
     plans: &[Plan],
+    vanishing: Vanishing<'_>,
     most: usize,
 ) -> Result<Exploration, ExploreFault>
     requires { (1 ≤ setting.pages) × (setting.pages ≤ MAX_PAGES) }
-    ensures real { IfOk result (λ found. All (IsFound plans.now setting) found.outcomes.items) }
+    ensures real { IfOk result
+        (λ found. All (IsFound plans.now vanishing.entry setting) found.outcomes.items) }
     ensures states { IfOk result (λ found. found.states ≤ most) }
 {
     let hash = LabelHash::new(setting.seed);
@@ -264,6 +359,7 @@ pub fn explore(
         alloc,
         setting,
         plans,
+        vanishing,
         bases: &bases,
     };
     explored(&ground, hash, most)

@@ -18,11 +18,12 @@ pub enum Became {
     Tracker(bool),
 }
 
-/// What came of an actor: how many steps of its plan are behind it, and what became of what each of its calls
-/// made, with the place of the call's step in the plan.
+/// What came of an actor: how many steps of its plan are behind it, whether it left, and what became of what the call
+/// of each of its steps made, with the place of the step in the plan.
 #[derive(Drop)]
 pub struct ActorOutcome {
     pub at: usize,
+    pub left: bool,
     pub made: Vec<(usize, Became)>,
 }
 
@@ -71,7 +72,11 @@ fn actor_outcome(alloc: Global, play: &Play, actor: &Actor) -> Result<ActorOutco
     ensures { IfOk result (λ outcome. told outcome ≡ told_in play.now actor.now) }
 {
     let made = made_by(alloc, play, &actor.made)?;
-    Ok(ActorOutcome { at: actor.at, made })
+    Ok(ActorOutcome {
+        at: actor.at,
+        left: actor.leaving.is_some(),
+        made,
+    })
 }
 
 // What came of these actors.

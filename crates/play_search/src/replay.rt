@@ -1,12 +1,14 @@
 //! Plays that are made again from their turns.
 ghost use Rattle.std.specs.Prelude.{◌≡◌, ◌++◌, ◌∷◌, [], map, length, true, IfOk, OnOk};
 ghost use Rattle.actor_scripts.specs.declared.step.ActorScript.{ActorScript as Script};
+ghost use Rattle.actor_plays.specs.declared.play.Turn.{Turn as Made};
 ghost use Rattle.actor_plays.specs.Plans.{planned, steps_of};
 ghost use Rattle.actor_plays.specs.Plays.{AreJoining, IsPlay};
-ghost use Rattle.play_search.specs.Searches.{HasNoTurn, HaveNoTurn, IsPool, IsReplay, IsTold};
+ghost use Rattle.play_search.specs.Searches.{HasNoTurn, HaveNoTurn, IsPool, IsReplay, IsTold, MayStay, is_made as is_made_turn};
 
 use crate::fault::ExploreFault;
-use actor_plays::{Plan, Play, Turned, plan_of};
+use crate::vanishing::{Vanishing, must_leave};
+use actor_plays::{Plan, Play, Turn, Turned, Waiting, plan_of};
 use actor_scripts::ActorScript;
 use sm_names::Limits;
 use std::alloc::{AllocError, Global};
@@ -26,6 +28,7 @@ pub(crate) struct Ground<'a> {
     pub(crate) alloc: Global,
     pub(crate) setting: Setting,
     pub(crate) plans: &'a [Plan],
+    pub(crate) vanishing: Vanishing<'a>,
     // The number of each plan's first step, where the steps of all plans are numbered one after another.
     pub(crate) bases: &'a [u32],
 }
@@ -33,13 +36,17 @@ pub(crate) struct Ground<'a> {
 /// The plans of these scripts, as `plan_of` makes each.
 ///
 /// `AllocError` where memory is refused. Costs O(n) for n steps.
-pub fn plans_of(alloc: Global, scripts: &[ActorScript], once: bool) -> Result<Vec<Plan>, AllocError>
+pub fn plans_of(
+    alloc: Global,
+    scripts: &[ActorScript],
+    waiting: Waiting,
+) -> Result<Vec<Plan>, AllocError>
     ensures { IfOk result (λ plans. map steps_of plans.items
-        ≡ map (λ (script : Script). planned once script.steps.items) scripts.now) }
+        ≡ map (λ (script : Script). planned waiting script.steps.items) scripts.now) }
 {
     let mut plans = Vec::new(alloc);
     for script in scripts {
-        plans.push(plan_of(alloc, &script.steps, once)?)?;
+        plans.push(plan_of(alloc, &script.steps, waiting)?)?;
     }
     Ok(plans)
 }
@@ -72,8 +79,8 @@ fn start(ground: &Ground<'_>) -> Result<Play, ExploreFault>
     Ok(play)
 }
 
-// The actor makes its turn.
-fn make_turn(
+// The actor makes the call of its next step.
+fn make_step(
     play: &mut Play,
     ground: &Ground<'_>,
     actor: usize,
@@ -81,7 +88,8 @@ fn make_turn(
 ) -> Result<(), ExploreFault>
     requires { IsPlay ground.now.plans.now play.old }
     ensures play { OnOk result (IsPlay ground.now.plans.now play.new) }
-    ensures turns { OnOk result (play.new.turns.items ≡ play.old.turns.items ++ actor ∷ []) }
+    ensures turns { OnOk result
+        (play.new.turns.items ≡ play.old.turns.items ++ Made.Step actor ∷ []) }
     ensures told { tells ≡ true → IsTold play.old → OnOk result (IsTold play.new) }
     ensures pages { OnOk result (play.new.core.pool ≡ play.old.core.pool) }
     ensures limits { OnOk result (play.new.core.limits ≡ play.old.core.limits) }
@@ -93,11 +101,55 @@ fn make_turn(
     }
 }
 
+// The actor leaves, or goes on to leave, by its next call. Each actor passes what it can before: an actor at its
+// end leaves there.
+fn make_leave(
+    play: &mut Play,
+    ground: &Ground<'_>,
+    actor: usize,
+    tells: bool,
+) -> Result<(), ExploreFault>
+    requires { IsPlay ground.now.plans.now play.old }
+    ensures play { OnOk result (IsPlay ground.now.plans.now play.new) }
+    ensures turns { OnOk result
+        (play.new.turns.items ≡ play.old.turns.items ++ Made.Leave actor ∷ []) }
+    ensures told { tells ≡ true → IsTold play.old → OnOk result (IsTold play.new) }
+    ensures pages { OnOk result (play.new.core.pool ≡ play.old.core.pool) }
+    ensures limits { OnOk result (play.new.core.limits ≡ play.old.core.limits) }
+{
+    play.pass_all(ground.plans);
+    if play.take_leave(ground.alloc, ground.plans, actor, tells)? {
+        Ok(())
+    } else {
+        Err(ExploreFault::Unlike)
+    }
+}
+
+// The turn is made.
+fn make_turn(
+    play: &mut Play,
+    ground: &Ground<'_>,
+    turn: Turn,
+    tells: bool,
+) -> Result<(), ExploreFault>
+    requires { IsPlay ground.now.plans.now play.old }
+    ensures play { OnOk result (IsPlay ground.now.plans.now play.new) }
+    ensures turns { OnOk result (play.new.turns.items ≡ play.old.turns.items ++ turn ∷ []) }
+    ensures told { tells ≡ true → IsTold play.old → OnOk result (IsTold play.new) }
+    ensures pages { OnOk result (play.new.core.pool ≡ play.old.core.pool) }
+    ensures limits { OnOk result (play.new.core.limits ≡ play.old.core.limits) }
+{
+    match turn {
+        Turn::Step(actor) => make_step(play, ground, actor, tells),
+        Turn::Leave(actor) => make_leave(play, ground, actor, tells),
+    }
+}
+
 // These turns are made.
 fn make_turns(
     play: &mut Play,
     ground: &Ground<'_>,
-    turns: &[usize],
+    turns: &[Turn],
     tells: bool,
 ) -> Result<(), ExploreFault>
     requires { IsPlay ground.now.plans.now play.old }
@@ -115,11 +167,7 @@ fn make_turns(
 
 // The play with these turns, in which each actor has passed what it can. If it tells, all nodes that fell
 // are noted.
-pub(crate) fn replay(
-    ground: &Ground<'_>,
-    turns: &[usize],
-    tells: bool,
-) -> Result<Play, ExploreFault>
+pub(crate) fn replay(ground: &Ground<'_>, turns: &[Turn], tells: bool) -> Result<Play, ExploreFault>
     requires { IsPool ground.now.setting.pages }
     ensures play { IfOk result (IsReplay ground.now.plans.now ground.now.setting turns.now) }
     ensures told { tells ≡ true → IfOk result IsTold }
@@ -130,25 +178,49 @@ pub(crate) fn replay(
     Ok(play)
 }
 
+// Whether the actor of this place neither has to go on to leave, nor has to leave since it is at its end.
+fn may_stay(ground: &Ground<'_>, play: &Play, actor: usize) -> Result<bool, AllocError>
+    ensures { IfOk result (λ yes. yes ≡ true → MayStay
+        ground.now.vanishing ground.now.plans.now play.now actor) }
+{
+    let Some(one) = play.actor(actor) else {
+        return Ok(true);
+    };
+    let at_end = ground.vanishing.at_end;
+    if must_leave(ground.alloc, at_end, ground.plans, actor, one)? {
+        return Ok(false);
+    }
+    Ok(true)
+}
+
+// Whether a turn made a call.
+fn is_made(turned: Turned) -> bool
+    ensures { result ≡ is_made_turn turned }
+{
+    matches!(turned, Turned::Made)
+}
+
 // Whether the actor makes no turn after these.
-fn has_no_turn(ground: &Ground<'_>, turns: &[usize], actor: usize) -> Result<bool, ExploreFault>
+fn has_no_turn(ground: &Ground<'_>, turns: &[Turn], actor: usize) -> Result<bool, ExploreFault>
     requires { IsPool ground.now.setting.pages }
     ensures { IfOk result (λ yes. yes ≡ true →
-        HasNoTurn ground.now.plans.now ground.now.setting turns.now actor) }
+        HasNoTurn ground.now.plans.now ground.now.vanishing ground.now.setting turns.now actor) }
 {
     let mut play = replay(ground, turns, false)?;
-    match play.take_turn(ground.alloc, ground.plans, actor, false)? {
-        Turned::Made => Ok(false),
-        Turned::Waits => Ok(true),
-        Turned::Rests => Ok(true),
+    let turned = play.take_turn(ground.alloc, ground.plans, actor, false)?;
+    if is_made(turned) {
+        return Ok(false);
     }
+    let stays = may_stay(ground, &play, actor)?;
+    Ok(stays)
 }
 
 // Whether no actor makes a turn after these.
-pub(crate) fn have_no_turn(ground: &Ground<'_>, turns: &[usize]) -> Result<bool, ExploreFault>
+pub(crate) fn have_no_turn(ground: &Ground<'_>, turns: &[Turn]) -> Result<bool, ExploreFault>
     requires { IsPool ground.now.setting.pages }
     ensures { IfOk result (λ yes. yes ≡ true → HaveNoTurn
-        ground.now.plans.now ground.now.setting turns.now (length ground.now.plans.now)) }
+        ground.now.plans.now ground.now.vanishing ground.now.setting turns.now
+        (length ground.now.plans.now)) }
 {
     'actors: for actor in 0..ground.plans.len() {
         if !has_no_turn(ground, turns, actor)? {

@@ -1,19 +1,10 @@
 //! How many orders lead to each ending, which share of runs, and where only one is left.
 use crate::graph::{Edge, Graph};
+use crate::order::Ordered;
 use std::alloc::{AllocError, Global};
 
-// The values by the number of steps that are passed in them: each turn passes at least one.
-pub(crate) fn order_of(alloc: Global, graph: &Graph) -> Result<Vec<(u32, usize)>, AllocError> {
-    let mut order = Vec::new(alloc);
-    for at in 0..graph.rows.len() {
-        order.push((graph.rows[at].level, at))?;
-    }
-    order.as_mut_slice().sort_unstable();
-    Ok(order)
-}
-
 // How many orders there are, and for each ending the share of the runs that come to it, where each turn is drawn
-// evenly among the actors that have one.
+// evenly among those that there are, the end of the run among them where it may end.
 #[derive(Drop)]
 pub(crate) struct Shares {
     pub(crate) orders: f64,
@@ -36,9 +27,9 @@ pub(crate) fn number_at(numbers: &[f64], at: usize) -> f64 {
     }
 }
 
-// So many as a number.
-fn count_of(edges: &[Edge]) -> f64 {
-    let mut count = 0.0;
+// So many as a number, and one more if the run may end.
+fn count_of(edges: &[Edge], ends: bool) -> f64 {
+    let mut count = if ends { 1.0 } else { 0.0 };
     for _ in edges {
         count = count + 1.0;
     }
@@ -50,12 +41,13 @@ impl Shares {
     fn hand_on(&mut self, graph: &Graph, at: usize) {
         let path = number_at(&self.paths, at);
         let chance = number_at(&self.chances, at);
-        if let Some(ending) = graph.ending_at(at) {
-            add_at(&mut self.shares, ending as usize, chance);
+        let edges = graph.edges_of(at);
+        let ending = graph.ending_at(at);
+        let part = chance / count_of(edges, ending.is_some());
+        if let Some(ending) = ending {
+            add_at(&mut self.shares, ending as usize, part);
             self.orders = self.orders + path;
         }
-        let edges = graph.edges_of(at);
-        let part = chance / count_of(edges);
         for edge in edges {
             add_at(&mut self.paths, edge.to as usize, path);
             add_at(&mut self.chances, edge.to as usize, part);
@@ -66,7 +58,7 @@ impl Shares {
 pub(crate) fn shares_of(
     alloc: Global,
     graph: &Graph,
-    order: &[(u32, usize)],
+    order: &[Ordered],
 ) -> Result<Shares, AllocError> {
     let mut shares = Shares {
         orders: 0.0,
@@ -90,12 +82,17 @@ pub(crate) fn left_at(lefts: &[u32], at: usize) -> u32 {
     }
 }
 
-// The ending to which all of these edges lead.
-fn left_by(lefts: &[u32], edges: &[Edge]) -> u32 {
-    let mut left = match edges.first() {
+// The ending to which the first of these edges leads.
+fn first_left(lefts: &[u32], edges: &[Edge]) -> u32 {
+    match edges.first() {
         Some(edge) => left_at(lefts, edge.to as usize),
         None => 0,
-    };
+    }
+}
+
+// The ending, if all of these edges lead to it.
+fn left_by(lefts: &[u32], edges: &[Edge], first: u32) -> u32 {
+    let mut left = first;
     for edge in edges {
         if left_at(lefts, edge.to as usize) != left {
             left = 0;
@@ -105,17 +102,19 @@ fn left_by(lefts: &[u32], edges: &[Edge]) -> u32 {
 }
 
 fn left_from(lefts: &[u32], graph: &Graph, at: usize) -> u32 {
-    match graph.ending_at(at) {
+    let edges = graph.edges_of(at);
+    let first = match graph.ending_at(at) {
         Some(ending) => ending.wrapping_add(1),
-        None => left_by(lefts, graph.edges_of(at)),
-    }
+        None => first_left(lefts, edges),
+    };
+    left_by(lefts, edges, first)
 }
 
 // For each value the ending that every order leads to from there on, counted from 1; 0 where there are several.
 pub(crate) fn lefts_of(
     alloc: Global,
     graph: &Graph,
-    order: &[(u32, usize)],
+    order: &[Ordered],
 ) -> Result<Vec<u32>, AllocError> {
     let mut lefts = vec![in alloc; 0; graph.rows.len()]?;
     for (_, at) in order.iter().rev() {

@@ -4,7 +4,9 @@ use crate::births::{Births, number_at};
 use crate::falls::{NamedFall, cause_number, has_name};
 use crate::numbers::{small, small_of};
 use crate::replay::Ground;
-use actor_plays::{Actor, Play};
+use crate::vanishing::is_early;
+use actor_plays::{Actor, Leaving, Play};
+use actor_scripts::ActorObject;
 use forest_store::{End, Node, Snapshot};
 use lifetime_core::Core;
 use sm_names::{
@@ -12,6 +14,9 @@ use sm_names::{
     Parcel, Reply, Strength, TrackerId,
 };
 use std::alloc::{AllocError, Global};
+
+// How far an actor is that is gone: further than any by its steps.
+const LEFT: u64 = 1 << 40;
 
 // Puts a number behind the text: one byte, or five.
 fn put(text: &mut Vec<u8>, number: u32) -> Result<(), AllocError> {
@@ -132,7 +137,7 @@ fn put_made(
 }
 
 // Puts what the actor knows and holds by all replies, and 0.
-fn put_actor(
+fn put_running(
     text: &mut Vec<u8>,
     births: &Births,
     core: &Core,
@@ -145,6 +150,130 @@ fn put_actor(
     put(text, 0)
 }
 
+// Puts the trackers that calls with these replies made, and 0.
+fn put_trackers(
+    text: &mut Vec<u8>,
+    core: &Core,
+    made: &[(usize, Reply)],
+) -> Result<(), AllocError> {
+    for (at, reply) in made {
+        if let Reply::Tracker(tracker) = *reply {
+            put_place(text, *at)?;
+            put(text, has_fired(core.fired(), tracker) as u32)?;
+        }
+    }
+    put(text, 0)
+}
+
+fn put_object(text: &mut Vec<u8>, births: &Births, object: ActorObject) -> Result<(), AllocError> {
+    match object {
+        ActorObject::Token { key, .. } => put_two(text, 1, births.node(key)),
+        ActorObject::Collection { key, .. } => put_two(text, 2, births.node(key)),
+        ActorObject::Handle { buffer, strength } => put_handle(text, births, buffer, strength),
+    }
+}
+
+// Puts the objects, and 0.
+fn put_objects(
+    text: &mut Vec<u8>,
+    births: &Births,
+    objects: &[ActorObject],
+) -> Result<(), AllocError> {
+    for object in objects {
+        put_object(text, births, *object)?;
+    }
+    put(text, 0)
+}
+
+fn is_handle(object: &ActorObject) -> bool {
+    matches!(*object, ActorObject::Handle { .. })
+}
+
+// Puts how many ends and handles were collected: more ends are parted with behind the former, more handles behind the latter.
+fn put_collected(text: &mut Vec<u8>, collected: &[ActorObject]) -> Result<(), AllocError> {
+    let handles = collected.iter().filter(|object| is_handle(*object)).count();
+    put_two(text, small(collected.len()), small(handles))
+}
+
+// Puts what an actor has still to do that leaves: the parcels that wait, and the objects, in order.
+fn put_going(
+    text: &mut Vec<u8>,
+    births: &Births,
+    leaving: &Leaving,
+    left: &[ActorObject],
+) -> Result<(), AllocError> {
+    put(text, small_of(leaving.waiting))?;
+    if leaving.waiting > 0 {
+        put_collected(text, &leaving.collected)?;
+    }
+    put_objects(text, births, left)
+}
+
+// Of all objects with which an actor parts those with which it has still to part.
+fn left_of<'a>(leaving: &Leaving, all: &'a [ActorObject]) -> &'a [ActorObject] {
+    if leaving.parted <= all.len() {
+        &all[leaving.parted..]
+    } else {
+        &[]
+    }
+}
+
+// Puts 0, whether an actor that leaves began to before its end, its trackers, and what it has still to do.
+fn put_leaving(
+    text: &mut Vec<u8>,
+    births: &Births,
+    core: &Core,
+    actor: &Actor,
+    leaving: &Leaving,
+    early: bool,
+) -> Result<(), AllocError> {
+    put_two(text, 0, early as u32)?;
+    put_trackers(text, core, &actor.made)?;
+    let all = leaving.objects(births.alloc, actor.state.objects())?;
+    put_going(text, births, leaving, left_of(leaving, &all))
+}
+
+// Puts the actor of this place.
+fn put_actor(
+    text: &mut Vec<u8>,
+    ground: &Ground<'_>,
+    births: &Births,
+    core: &Core,
+    place: usize,
+    actor: &Actor,
+) -> Result<(), AllocError> {
+    match &actor.leaving {
+        Some(leaving) => {
+            let early = is_early(ground.vanishing.at_end, ground.plans, place, actor);
+            put_leaving(text, births, core, actor, leaving, early)
+        }
+        None => put_running(text, births, core, actor),
+    }
+}
+
+// How far the actor is: by its steps; if it leaves, further than by steps, and less by what it has still to do. A Collect
+// leaves one parcel less, and one object more.
+fn level_at(alloc: Global, actor: &Actor) -> Result<u64, AllocError> {
+    match &actor.leaving {
+        Some(leaving) => {
+            let all = leaving.objects(alloc, actor.state.objects())?;
+            let objects = left_of(leaving, &all).len() as u64;
+            let rest = leaving.waiting.saturating_mul(2).saturating_add(objects);
+            Ok(LEFT.saturating_sub(rest))
+        }
+        None => Ok(actor.at as u64),
+    }
+}
+
+// How far the actors are: each turn leads further.
+pub(crate) fn level_of(alloc: Global, actors: &[Actor]) -> Result<u64, AllocError> {
+    let mut level: u64 = 0;
+    for actor in actors {
+        level = level.saturating_add(level_at(alloc, actor)?);
+    }
+    Ok(level)
+}
+
 // Whether a parcel was collected.
 fn is_collected(reply: &Reply) -> bool {
     matches!(
@@ -153,10 +282,13 @@ fn is_collected(reply: &Reply) -> bool {
     )
 }
 
-// How many parcels were collected by calls with these replies.
-fn collected(made: &[(usize, Reply)]) -> usize {
-    let mut count: usize = 0;
-    for (_, reply) in made {
+// How many parcels the actor collected.
+pub(crate) fn collected(actor: &Actor) -> usize {
+    let mut count: usize = match &actor.leaving {
+        Some(leaving) => leaving.collected.len(),
+        None => 0,
+    };
+    for (_, reply) in &actor.made {
         if is_collected(reply) {
             count = count.saturating_add(1);
         }
@@ -165,7 +297,7 @@ fn collected(made: &[(usize, Reply)]) -> usize {
 }
 
 // The client that the call gave a parcel to, and the parcel.
-fn parcel_of(call: &Call, reply: &Reply) -> Option<(ClientId, Parcel)> {
+pub(crate) fn parcel_of(call: &Call, reply: &Reply) -> Option<(ClientId, Parcel)> {
     if !matches!(*reply, Reply::Done) {
         return None;
     }
@@ -346,15 +478,16 @@ fn put_falls(text: &mut Vec<u8>, falls: &[NamedFall]) -> Result<(), AllocError> 
 // Puts the actors, each with the parcels that wait for it.
 fn put_actors(
     text: &mut Vec<u8>,
+    ground: &Ground<'_>,
     births: &Births,
     play: &Play,
     queues: &[Vec<Parcel>],
 ) -> Result<(), AllocError> {
     let actors = play.actors();
     for place in 0..actors.len() {
-        put_actor(text, births, play.core(), &actors[place])?;
+        put_actor(text, ground, births, play.core(), place, &actors[place])?;
         if place < queues.len() {
-            put_parcels(text, births, &queues[place], collected(&actors[place].made))?;
+            put_parcels(text, births, &queues[place], collected(&actors[place]))?;
         }
     }
     Ok(())
@@ -362,15 +495,15 @@ fn put_actors(
 
 // The value of a play, where these nodes fell in it.
 pub(crate) fn value_of(
-    alloc: Global,
+    ground: &Ground<'_>,
     births: &Births,
     falls: &[NamedFall],
     play: &Play,
 ) -> Result<Vec<u8>, AllocError> {
-    let queues = parcels_of(alloc, play.actors(), play.entries())?;
-    let mut text = Vec::with_capacity(alloc, 256)?;
+    let queues = parcels_of(ground.alloc, play.actors(), play.entries())?;
+    let mut text = Vec::with_capacity(ground.alloc, 256)?;
     put_falls(&mut text, falls)?;
-    put_actors(&mut text, births, play, &queues)?;
+    put_actors(&mut text, ground, births, play, &queues)?;
     put_core(&mut text, births, play.core())?;
     Ok(text)
 }
@@ -419,6 +552,20 @@ fn put_made_ends(
     put(text, 0)
 }
 
+// Puts the place of the actor's next step; of one that left 0, and whether it did before its end.
+fn put_stage(
+    text: &mut Vec<u8>,
+    ground: &Ground<'_>,
+    place: usize,
+    actor: &Actor,
+) -> Result<(), AllocError> {
+    if actor.leaving.is_none() {
+        return put_place(text, actor.at);
+    }
+    let early = is_early(ground.vanishing.at_end, ground.plans, place, actor);
+    put_two(text, 0, early as u32)
+}
+
 // What the play ends in, where these nodes fell in it and no actor has a turn.
 pub(crate) fn ending_of(
     ground: &Ground<'_>,
@@ -429,7 +576,7 @@ pub(crate) fn ending_of(
     put_falls(&mut text, falls)?;
     let actors = play.actors();
     for actor in 0..actors.len() {
-        put_place(&mut text, actors[actor].at)?;
+        put_stage(&mut text, ground, actor, &actors[actor])?;
         put_made_ends(
             &mut text,
             ground,

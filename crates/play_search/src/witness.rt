@@ -1,15 +1,20 @@
 //! The shortest way to each ending: of the fewest calls, and of these with the fewest changes of the actor.
 use crate::graph::Graph;
+use crate::numbers::small;
+use crate::order::Ordered;
+use crate::turns::{actor_of, turn_of};
+use actor_plays::Turn;
 use std::alloc::{AllocError, Global};
 
-// A way to a value whose last turn was an actor's: how many calls, how many times another actor took over, and
-// the actor of the turn before the last; where it comes from.
+// A way to a value whose last turn was an actor's: how many calls, how many times another actor took over, where it
+// comes from, the actor of the turn before the last, and the number of the last turn.
 #[derive(Clone, Copy)]
 pub(crate) struct Way {
     pub(crate) calls: u32,
     pub(crate) changes: u32,
-    from: usize,
-    last: usize,
+    from: u32,
+    last: u32,
+    turn: u32,
 }
 
 fn no_way() -> Way {
@@ -18,6 +23,7 @@ fn no_way() -> Way {
         changes: u32::MAX,
         from: 0,
         last: 0,
+        turn: 0,
     }
 }
 
@@ -32,10 +38,10 @@ pub(crate) fn is_less(one: &Way, other: &Way) -> bool {
     one.calls < other.calls || one.calls == other.calls && one.changes < other.changes
 }
 
-// A turn of a way: the actor, and the value that it leads to.
+// A turn of a way, and the value that it leads to.
 #[derive(Clone, Copy)]
 pub(crate) struct WayTurn {
-    pub(crate) actor: usize,
+    pub(crate) turn: Turn,
     pub(crate) to: usize,
 }
 
@@ -59,12 +65,13 @@ impl Ways {
         }
     }
 
-    // Goes on from a way to the value by a turn of the actor, which leads to the next value.
-    fn go_on(&mut self, at: usize, last: usize, actor: usize, to: usize) {
+    // Goes on from a way to the value by the turn of this number, which leads to the next value.
+    fn go_on(&mut self, at: usize, last: usize, turn: u32, to: usize) {
         let way = self.way(at, last);
         if way.calls == u32::MAX {
             return;
         }
+        let actor = actor_of(turn);
         let more = if last == actor { 0 } else { 1 };
         self.improve(
             to,
@@ -72,24 +79,25 @@ impl Ways {
             Way {
                 calls: way.calls.saturating_add(1),
                 changes: way.changes.saturating_add(more),
-                from: at,
-                last,
+                from: small(at),
+                last: small(last),
+                turn,
             },
         );
     }
 
     // Goes on from all ways to the value.
-    fn go_on_all(&mut self, at: usize, actor: usize, to: usize) {
+    fn go_on_all(&mut self, at: usize, turn: u32, to: usize) {
         for last in 0..self.actors {
-            self.go_on(at, last, actor, to);
+            self.go_on(at, last, turn, to);
         }
-        self.go_on(at, self.actors, actor, to);
+        self.go_on(at, self.actors, turn, to);
     }
 
     // Goes on along all edges of the value.
     fn hand_on(&mut self, graph: &Graph, at: usize) {
         for edge in graph.edges_of(at) {
-            self.go_on_all(at, edge.actor as usize, edge.to as usize);
+            self.go_on_all(at, edge.turn, edge.to as usize);
         }
     }
 
@@ -118,13 +126,13 @@ impl Ways {
             if last == self.actors {
                 break;
             }
+            let way = self.way(at, last);
             turns.push(WayTurn {
-                actor: last,
+                turn: turn_of(way.turn),
                 to: at,
             })?;
-            let way = self.way(at, last);
-            at = way.from;
-            last = way.last;
+            at = way.from as usize;
+            last = way.last as usize;
         }
         Ok(turns)
     }
@@ -142,7 +150,7 @@ pub(crate) fn ways_of(
     alloc: Global,
     graph: &Graph,
     actors: usize,
-    order: &[(u32, usize)],
+    order: &[Ordered],
 ) -> Result<Ways, AllocError> {
     let count = graph.rows.len().saturating_mul(actors.saturating_add(1));
     let mut ways = Ways {
@@ -154,6 +162,7 @@ pub(crate) fn ways_of(
         changes: 0,
         from: 0,
         last: 0,
+        turn: 0,
     };
     ways.improve(0, actors, none);
     for (_, at) in order {
@@ -162,16 +171,17 @@ pub(crate) fn ways_of(
     Ok(ways)
 }
 
-// For each ending the value with the best way to it.
+// For each ending the value with the best way to it, among these.
 pub(crate) fn goals_of(
     alloc: Global,
     graph: &Graph,
     ways: &Ways,
+    met: &[usize],
 ) -> Result<Vec<Option<usize>>, AllocError> {
     let mut goals = vec![in alloc; None; graph.endings.len()]?;
-    for at in 0..graph.rows.len() {
-        if let Some(ending) = graph.ending_at(at) {
-            improve_goal(&mut goals, ways, ending as usize, at);
+    for at in met {
+        if let Some(ending) = graph.ending_at(*at) {
+            improve_goal(&mut goals, ways, ending as usize, *at);
         }
     }
     Ok(goals)

@@ -2,12 +2,13 @@
 use Rattle.std.specs.Prelude.{◌≡◌, ◌⊎◌, ℕ, Bool, true, false, List, Option, Some, None, codes, option_map}
 use Rattle.clap.specs.Matches.{subcommand_name_of}
 use Rattle.clap.specs.declared.parser.matches.ArgMatches.{ArgMatches}
-use Rattle.command_line.specs.Asked.{AreAsked, HasFailures, HasFormat, HasPatience, HasRecord, HasSearch, HasSummary, HasUntil, IsFile, IsTask, subcommand_text, value_text}
+use Rattle.command_line.specs.Asked.{AreAsked, HasFailures, HasFormat, HasPatience, HasRecord, HasSearch, HasSummary, HasUntil, HasVanishing, IsFile, IsTask, subcommand_text, value_text}
 use Rattle.command_line.specs.declared.request.CommandLine.{CommandLine}
 use Rattle.command_line.specs.declared.task.Format.{Format as AskedFormat}
 use Rattle.command_line.specs.declared.task.Search.{Search}
 use Rattle.command_line.specs.declared.task.ScriptTask.{ScriptTask}
 use Rattle.command_line.specs.declared.task.Until.{Until as AskedUntil}
+use Rattle.actor_plays.specs.declared.plan.Waiting.{Waiting}
 use Rattle.outcome_runs.specs.declared.job.SearchJob.{SearchJob}
 use Rattle.outcome_runs.specs.Endings.{EndsExplored}
 use Rattle.script_draw.specs.Draws.{EndsDrawn}
@@ -44,9 +45,23 @@ until_for (AskedUntil.Event number) = Until.Event number
 until_for (AskedUntil.Line number) = Until.Line number
 until_for (AskedUntil.Failure number) = Until.Failure number
 
+-- which lines wait in a search, as `outcome_runs` names it
+abbrev pub waiting_for : Bool → Bool → Waiting
+waiting_for true patient = Waiting.Never
+waiting_for false true = Waiting.Always
+waiting_for false false = Waiting.Repeated
+
 -- the search that is asked for, as `outcome_runs` names it
 abbrev pub job_for : ℕ → Search → SearchJob
-job_for pages search = record { pages = pages; once = search.once; outcome = search.outcome; states = search.states }
+job_for pages search = record {
+  pages = pages;
+  waiting = waiting_for search.once search.is_patient;
+  at_end = search.at_end;
+  vanish = search.vanish;
+  most = search.most;
+  outcome = search.outcome;
+  states = search.states;
+}
 
 -- a pool of this many pages, and the greatest limits
 abbrev pub setting_of : ℕ → Setting
@@ -104,6 +119,8 @@ pub record IsAsked (matches : ArgMatches) (request : CommandLine) : Type 0 where
   pub patience : HasPatience (value_text (codes "patient") matches) request.task
   pub search : HasSearch (value_text (codes "once") matches) (value_text (codes "outcome") matches) (value_text (codes "states") matches)
       request.task
+  pub vanishing : HasVanishing (subcommand_text (codes "vanish") matches) (value_text (codes "most") matches)
+      (value_text (codes "end") matches) request.task
   pub file : IsFile (subcommand_text (codes "file") matches) (option_map (λ name. name.now) request.file)
 
 -- what the matches ask for was done

@@ -9,9 +9,10 @@ ghost use Rattle.std.specs.Prelude.{◌≡◌, IfErr, MatchResult, option_map};
 ghost use Rattle.std.specs.Process.{exit_status};
 ghost use Rattle.std.specs.IoError.{error_kind};
 ghost use Rattle.clap.specs.Words.{kind_of};
-ghost use Rattle.sysmem_main.specs.Jobs.{IsAnswered, IsPlayed, IsRead, format_for, job_for, output_for, repeats_for, streams, until_for};
+ghost use Rattle.sysmem_main.specs.Jobs.{IsAnswered, IsPlayed, IsRead, format_for, job_for, output_for, repeats_for, streams, until_for, waiting_for};
 ghost use Rattle.sysmem_main.specs.Statuses.{IsUnreadStatus, refusal_status, unread_status};
 
+use actor_plays::Waiting;
 use clap::error::ErrorKind;
 use clap::{ArgMatches, Error};
 use command_line::{CommandLine, Format, ScriptTask, Search, Until, View, command, request_of};
@@ -311,13 +312,29 @@ fn repeats_of(is_patient: bool) -> u64
     if is_patient { MOST_REPEATS } else { 0 }
 }
 
+// Which lines wait in a search, as `outcome_runs` names it.
+fn waiting_of(once: bool, is_patient: bool) -> Waiting
+    ensures { result ≡ waiting_for once is_patient }
+{
+    if once {
+        Waiting::Never
+    } else if is_patient {
+        Waiting::Always
+    } else {
+        Waiting::Repeated
+    }
+}
+
 // The search that is asked for, as `outcome_runs` names it.
-fn job_of(pages: Pages, search: Search) -> outcome_runs::SearchJob
-    ensures { result ≡ job_for pages.count search }
+fn job_of<'a>(pages: Pages, search: Search<'a>) -> outcome_runs::SearchJob<'a>
+    ensures { result ≡ job_for pages.count search.entry }
 {
     outcome_runs::SearchJob {
         pages: pages.count,
-        once: search.once,
+        waiting: waiting_of(search.once, search.is_patient),
+        at_end: search.at_end,
+        vanish: search.vanish,
+        most: search.most,
         outcome: search.outcome,
         states: search.states,
     }

@@ -6,6 +6,8 @@
 //!     = summary WORDS                   begins a script that is explained, with a summary
 //!     = explore WORDS, = explore K      begins a script of actors that is explored; one of which outcome K is played
 //!     = once WORDS, = once K            the same, where no line waits
+//!     = plain WAYS                      begins one whose orders are all played one by one, as these words say: `once`, `patient`,
+//!                                       `end` where actors leave at their end, and a number of those that leave at any point
 //!     = text EVENT, = dot EVENT, = svg EVENT
 //!                                       begins a script whose trees are drawn after this event, or after its last line
 //!     = text line N, = text failure K   begins one whose trees are drawn after this line, or this failure
@@ -15,10 +17,13 @@
 //!                                       sets its limits, the greatest by default
 #![tactic(auto)]
 
+mod plain;
 mod setting;
 mod task;
 
+use actor_plays::Waiting;
 use outcome_runs::{Ending, SearchJob, explore_script};
+use plain::push_plain;
 use report_io::behind;
 use script_draw::{View, draw_script};
 use script_explain::{ReportFault, Scope, check_script, explain_script};
@@ -82,7 +87,14 @@ fn explore(
     let mut reader = script;
     let job = SearchJob {
         pages: setting.pages.count,
-        once,
+        waiting: if once {
+            Waiting::Never
+        } else {
+            Waiting::Repeated
+        },
+        at_end: setting.at_end,
+        vanish: None,
+        most: u64::from(setting.most),
         outcome,
         states: u64::from(setting.states),
     };
@@ -97,6 +109,7 @@ fn end_text(ending: Ending) -> &'static [u8] {
         Ending::Part => b"! not all orders were gone through\n",
         Ending::Broken => b"! a claim does not hold\n",
         Ending::Missing => b"! there is no such outcome\n",
+        Ending::Unknown => b"! a client that is to vanish does not join\n",
         Ending::Unlike => b"! a play went on otherwise\n",
     }
 }
@@ -165,6 +178,7 @@ fn push_played(
 ) -> Result<(), AllocError> {
     let ended = match task {
         Task::Run => return run(alloc, setting, script, out),
+        Task::Plain(manner) => return push_plain(out, alloc, *setting, manner, script),
         Task::Explain(scope) => explain(alloc, *setting, scope, script, out),
         Task::Check => check(alloc, *setting, script, out),
         Task::Draw(view) => draw(alloc, *setting, view, script, out),

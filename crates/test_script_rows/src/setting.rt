@@ -1,14 +1,17 @@
-//! With how many pages a script is played, and within which limits and how many states.
+//! With how many pages a script is played, within which limits and how many states, and which clients vanish.
 use script_lines::Pages;
 use sm_names::Limits;
 use test_streams::decimal;
 
-/// Pages of a pool, limits, and how many states a search meets at most.
+/// Pages of a pool, limits, how many states a search meets at most, how many clients vanish at most where a line lets them,
+/// and whether each vanishes at its end.
 #[derive(Clone, Copy)]
 pub struct Setting {
     pub pages: Pages,
     pub limits: Limits,
     pub states: u32,
+    pub most: u32,
+    pub at_end: bool,
 }
 
 // The five numbers of a text.
@@ -28,23 +31,29 @@ fn limits_of(text: &str) -> Option<Limits> {
 }
 
 impl Setting {
-    /// 16 pages, the greatest limits and 1,000 states.
+    /// 16 pages, the greatest limits and 1,000 states. At most one client vanishes, and none at its end.
     pub fn full() -> Option<Setting> {
         let pages = Pages::new(16)?;
         Some(Setting {
             pages,
             limits: Limits::full(),
             states: 1000,
+            most: 1,
+            at_end: false,
         })
     }
 
-    /// The setting with the pages, the states or the limits of the line, or `None` if the line sets none of them.
+    /// The setting with what the line sets, or `None` if it sets nothing.
     pub fn with(self, line: &str) -> Option<Setting> {
         let mut setting = self;
         if let Some(count) = line.strip_prefix("@ pages ") {
             setting.pages = Pages::new(decimal(count)?)?;
         } else if let Some(count) = line.strip_prefix("@ states ") {
             setting.states = decimal(count)?;
+        } else if let Some(count) = line.strip_prefix("@ most ") {
+            setting.most = decimal(count)?;
+        } else if line == "@ end" {
+            setting.at_end = true;
         } else {
             setting.limits = limits_of(line.strip_prefix("@ limits ")?)?;
         }

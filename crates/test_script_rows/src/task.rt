@@ -1,4 +1,6 @@
 //! What is done with a script.
+use crate::plain::Manner;
+use actor_plays::Waiting;
 use script_draw::{Format, Until, View};
 use script_explain::Scope;
 use test_streams::decimal;
@@ -11,9 +13,10 @@ pub enum Task {
     Check,
     Draw(View),
     Explore { once: bool, outcome: Option<u64> },
+    Plain(Manner),
 }
 
-/// What the title says: `run`, `explain`, `failures`, `summary` or `check`, and any words; `explore` or `once`, and an outcome; or
+/// What the title says: `run`, `explain`, `failures`, `summary` or `check`, and any words; `explore` or `once`, and an outcome; `plain`, and a manner; or
 /// `text`, `dot` or `svg`, and an event, or `line` or `failure` and its number.
 pub fn task_of(title: &str) -> Task {
     let (verb, rest) = title.split_once(' ').unwrap_or((title, ""));
@@ -25,6 +28,7 @@ pub fn task_of(title: &str) -> Task {
         "check" => return Task::Check,
         "explore" => return explored(false, rest),
         "once" => return explored(true, rest),
+        "plain" => return Task::Plain(manner_of(rest)),
         "dot" => Format::Dot,
         "svg" => Format::Svg,
         _ => Format::Text,
@@ -50,6 +54,24 @@ fn explored(once: bool, number: &str) -> Task {
         None => None,
     };
     Task::Explore { once, outcome }
+}
+
+// The manner of these words: `once`, `patient`, `end`, and how many leave at any point.
+fn manner_of(words: &str) -> Manner {
+    let mut manner = Manner {
+        waiting: Waiting::Repeated,
+        at_end: false,
+        most: 0,
+    };
+    for word in words.split_whitespace() {
+        match word {
+            "once" => manner.waiting = Waiting::Never,
+            "patient" => manner.waiting = Waiting::Always,
+            "end" => manner.at_end = true,
+            _ => manner.most = decimal(word).unwrap_or(0) as usize,
+        }
+    }
+    manner
 }
 
 // Behind what the trees are drawn: an event, a line or a failure; the last line where there is no number.

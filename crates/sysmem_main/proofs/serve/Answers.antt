@@ -16,6 +16,7 @@ returns-in-Some g c =
         record_asked = c.in-Some.ensures.«record»;
         patience = c.in-Some.ensures.patience;
         search = c.in-Some.ensures.search;
+        vanishing = c.in-Some.ensures.vanishing;
         file = c.in-Some.ensures.file;
       };
       read = c.read.ensures;

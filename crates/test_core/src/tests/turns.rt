@@ -2,7 +2,7 @@
 ghost use Rattle.std.specs.Prelude.{◌≡◌, true, IfSome};
 ghost use Rattle.actor_plays.specs.Plays.{IsPlay};
 
-use actor_plays::{Fate, Plan, Play, Turned, plan_of};
+use actor_plays::{Fate, Plan, Play, Turned, Waiting, plan_of};
 use actor_scripts::Step;
 use script_lines::Request;
 use sm_names::{Argument, CallKind, Limits, Object, Reply};
@@ -36,8 +36,8 @@ const TAKER: [Step; 2] = [
 // The plans of both, where the second waits.
 fn plans(alloc: Global) -> Result<Vec<Plan>, AllocError> {
     let mut plans = Vec::new(alloc);
-    plans.push(plan_of(alloc, &GIVER, false)?)?;
-    plans.push(plan_of(alloc, &TAKER, false)?)?;
+    plans.push(plan_of(alloc, &GIVER, Waiting::Repeated)?)?;
+    plans.push(plan_of(alloc, &TAKER, Waiting::Repeated)?)?;
     Ok(plans)
 }
 

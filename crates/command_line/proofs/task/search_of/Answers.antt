@@ -11,6 +11,13 @@ returns-clause-once c = record {
   unset = c.get_flag.ensures.other;
 }
 
+pub returns-clause-patience : goal.returns-clause-patience
+returns-clause-patience c = record {
+  none = c.get_flag-2.ensures.none;
+  set = c.get_flag-2.ensures.value;
+  unset = c.get_flag-2.ensures.other;
+}
+
 -- each number is what u64 reads
 pub returns-clause-search : goal.returns-clause-search
 returns-clause-search c =
@@ -22,4 +29,22 @@ returns-clause-search c =
       states_read = is_read (λ t r. ParsesUnsigned 64 10 t r × ExplainsUnsignedError 10 t r × HasUnsignedDigitsIfOk t r) (λ t r h. h.0)
           (text (codes "states")) c.get_one-states.result c.get_one-states.ensures.none c.get_one-states.ensures.value;
       states_is = c.states_of.ensures;
+    }
+
+pub returns-clause-end : goal.returns-clause-end
+returns-clause-end c = record {
+  none = c.get_flag-3.ensures.none;
+  set = c.get_flag-3.ensures.value;
+  unset = c.get_flag-3.ensures.other;
+}
+
+pub returns-clause-vanishing : goal.returns-clause-vanishing
+returns-clause-vanishing c =
+    let text : List ℕ → _ = λ id. one_text (found_of c.args.matches.now) id in
+    record {
+      clients = c.get_str.ensures;
+      most_number = c.get_one-most.result;
+      most_read = is_read (λ t r. ParsesUnsigned 64 10 t r × ExplainsUnsignedError 10 t r × HasUnsignedDigitsIfOk t r) (λ t r h. h.0)
+          (text (codes "most")) c.get_one-most.result c.get_one-most.ensures.none c.get_one-most.ensures.value;
+      most_is = c.most_of.ensures;
     }

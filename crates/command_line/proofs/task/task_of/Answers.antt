@@ -1,6 +1,6 @@
 use Rattle.std.proofs.Common.{Option, List, ℕ, refl, sym, subst, codes}
 use Rattle.command_line.specs.Asked.{IsFlag, IsFormat}
-use Rattle.command_line.proofs.Asking.{first_text, its_text, search-same, until-same}
+use Rattle.command_line.proofs.Asking.{first_text, its_text, search-same, until-same, vanishing-same}
 use Rattle.command_line.proofs.task.task_of.Goals as goal
 
 -- each text is read of the subcommand's own matches
@@ -67,4 +67,21 @@ returns-then-eq-4-clause-search c = (
       (its_text (codes "outcome") c.args.matches.now c.in-Some.inner.now _ c.in-Some.ensures.rows refl)
       (its_text (codes "states") c.args.matches.now c.in-Some.inner.now _ c.in-Some.ensures.rows refl)
       c.search_of.ensures.search,
+)
+
+pub returns-then-eq-4-clause-patience : goal.returns-then-eq-4-clause-patience
+returns-then-eq-4-clause-patience c =
+    subst (λ (text : Option (List ℕ)). IsFlag text c.search_of.result.is_patient)
+    (sym (its_text (codes "patient") c.args.matches.now c.in-Some.inner.now _ c.in-Some.ensures.rows refl))
+    c.search_of.ensures.patience
+
+pub returns-then-eq-4-clause-vanishing : goal.returns-then-eq-4-clause-vanishing
+returns-then-eq-4-clause-vanishing c = (
+  subst (λ (text : Option (List ℕ)). IsFlag text c.search_of.result.at_end)
+      (sym (its_text (codes "end") c.args.matches.now c.in-Some.inner.now _ c.in-Some.ensures.rows refl))
+      c.search_of.ensures.end,
+  vanishing-same _ _ _ _ c.search_of.result
+      (first_text (codes "vanish") c.args.matches.now c.in-Some.inner.now _ c.in-Some.ensures.rows refl)
+      (its_text (codes "most") c.args.matches.now c.in-Some.inner.now _ c.in-Some.ensures.rows refl)
+      c.search_of.ensures.vanishing,
 )

@@ -11,7 +11,7 @@ returns-clause-ok c = IfOk-weaker c.told_by.result _ _
     (λ told is. record {
       plans = c.in-Ok.plans.items;
       planned_steps = c.in-Ok.ensures
-          ∙ ap (λ (scripts : List ActorScript). map (λ (one : ActorScript). planned c.args.job.once one.steps.items) scripts)
+          ∙ ap (λ (scripts : List ActorScript). map (λ (one : ActorScript). planned c.args.job.waiting one.steps.items) scripts)
           c.deref.ensures.value;
       seed = c.args.seed;
       told = is;
@@ -20,6 +20,6 @@ returns-clause-ok c = IfOk-weaker c.told_by.result _ _
 pub returns-clause-err : goal.returns-clause-err
 returns-clause-err c = IfErr-weaker c.told_by.result _ _
     (λ fault why. unheld_in c.args.job c.args.script.now c.args.list.now c.in-Ok.plans.items fault (c.in-Ok.ensures
-    ∙ ap (λ (scripts : List ActorScript). map (λ (one : ActorScript). planned c.args.job.once one.steps.items) scripts)
+    ∙ ap (λ (scripts : List ActorScript). map (λ (one : ActorScript). planned c.args.job.waiting one.steps.items) scripts)
     c.deref.ensures.value) why)
     (rw c.deref-3.ensures.value at c.told_by.ensures.err)

@@ -1,7 +1,7 @@
 use Rattle.std.proofs.Common.{◌≡◌, ◌++◌, take}
-use Rattle.outcome_texts.specs.Plays.{calls_text}
+use Rattle.outcome_texts.specs.Scripts.{calls_text}
 use Rattle.outcome_texts.proofs.script.push_calls.Given as goal
 
 -- so far the lines of these calls
 abbrev pub invariant-loop-call : goal.invariant-loop-call
-invariant-loop-call l = l.text.items ≡ l.fn.text.items ++ calls_text l.telling (take l.call-index l.calls)
+invariant-loop-call l = l.text.items ≡ l.fn.text.items ++ calls_text l.telling l.found (take l.call-index l.calls)

@@ -1,7 +1,9 @@
 use Rattle.std.proofs.Common.{◌∙◌, ◌++◌, ℕ, List, ap}
 use Rattle.std.proofs.lemmas.Result.{on_ok_weaker}
 use Rattle.outcome_texts.specs.Calls.{calls_told}
-use Rattle.outcome_texts.specs.Plays.{head_text, joins_text, marked_text}
+use Rattle.outcome_texts.specs.Plays.{joins_text}
+use Rattle.outcome_texts.specs.Scripts.{head_text, marked_text}
+use Rattle.outcome_texts.specs.declared.calls.PlayCall.{PlayCall}
 use Rattle.outcome_texts.proofs.Joining.{three_behind}
 use Rattle.outcome_texts.proofs.script.push_told.Goals as goal
 
@@ -9,12 +11,12 @@ use Rattle.outcome_texts.proofs.script.push_told.Goals as goal
 pub returns : goal.returns
 returns c =
     let found = c.args.found.now in
-    let head : List ℕ = head_text found c.args.rank c.args.outcomes c.args.share.now in
+    let head : List ℕ = head_text c.args.telling.now found c.args.rank c.args.outcomes c.args.said.now in
     let joins : List ℕ = joins_text c.args.telling.now.labels.now in
-    let marked : List (ℕ × ℕ) → List ℕ = λ calls. marked_text c.args.telling.now calls found.figures.decided c.args.rank in
+    let marked : List PlayCall → List ℕ = λ calls. marked_text c.args.telling.now found calls c.args.rank in
     on_ok_weaker c.push_lines.result
     (λ is. is
     ∙ ap (λ (front : List ℕ). front ++ joins ++ marked c.deref.result.now) c.in_ok-push_head.ensures
-    ∙ ap (λ (calls : List (ℕ × ℕ)). c.args.text.now.items ++ head ++ joins ++ marked calls) (c.deref.ensures.value ∙ c.in_ok-calls.ensures)
+    ∙ ap (λ (calls : List PlayCall). c.args.text.now.items ++ head ++ joins ++ marked calls) (c.deref.ensures.value ∙ c.in_ok-calls.ensures)
     ∙ three_behind c.args.text.now.items head joins (marked (calls_told found)))
     c.push_lines.ensures

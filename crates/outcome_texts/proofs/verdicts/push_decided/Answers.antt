@@ -1,6 +1,7 @@
 use Rattle.std.proofs.Common.{◌∙◌, ◌++◌, [], ℕ, List, Option, ap}
 use Rattle.std.proofs.lemmas.Result.{on_ok_weaker}
 use Rattle.std.specs.Option.{option_map_or}
+use Rattle.outcome_texts.specs.declared.calls.PlayCall.{PlayCall}
 use Rattle.outcome_texts.specs.Verdicts.{call_numbered, decision_text}
 use Rattle.outcome_texts.proofs.verdicts.push_decided.Goals as goal
 
@@ -9,6 +10,7 @@ pub returns : goal.returns
 returns c =
     let decided : ℕ = c.args.found.now.figures.decided in
     on_ok_weaker c.push_decision_of.result
-    (λ is. is ∙ ap (λ (call : Option (ℕ × ℕ)). c.args.text.now.items ++ option_map_or (decision_text c.args.telling.now decided) call [])
-    (c.call_of.ensures ∙ ap (λ (calls : List (ℕ × ℕ)). call_numbered calls decided) (c.deref.ensures.value ∙ c.in_ok-calls.ensures)))
+    (λ is. is ∙ ap (λ (call : Option PlayCall). c.args.text.now.items
+    ++ option_map_or (decision_text c.args.telling.now c.args.found.now decided) call [])
+    (c.call_of.ensures ∙ ap (λ (calls : List PlayCall). call_numbered calls decided) (c.deref.ensures.value ∙ c.in_ok-calls.ensures)))
     c.push_decision_of.ensures

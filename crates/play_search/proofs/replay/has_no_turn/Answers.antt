@@ -1,23 +1,13 @@
-use Rattle.std.proofs.Common.{ap}
-use Rattle.play_search.specs.Searches.{is_made}
+use Rattle.std.proofs.Common.{◌∙◌, sym}
 use Rattle.play_search.proofs.replay.has_no_turn.Goals as goal
 
-pub returns-in-Waits : goal.returns-in-Waits
-returns-in-Waits c = λ _. record {
-  old = c.in_ok-play.play;
-  new = c.take_turn.new.self;
-  turned = c.in_ok-take_turn.field-0;
-  play = c.in_ok-play.ensures.play;
-  turn = c.in_ok-take_turn.ensures.turn;
-  none = ap is_made c.in-Waits.is;
-}
-
 pub returns : goal.returns
-returns c = λ _. record {
+returns c = λ yes. record {
   old = c.in_ok-play.play;
   new = c.take_turn.new.self;
-  turned = c.in_ok-take_turn.field-0;
+  turned = c.in_ok-turned.turned;
   play = c.in_ok-play.ensures.play;
-  turn = c.in_ok-take_turn.ensures.turn;
-  none = ap is_made c.in-Rests.is;
+  turn = c.in_ok-turned.ensures.turn;
+  none = sym c.is_made.ensures ∙ c.if-is_made.false;
+  stays = c.in_ok-stays.ensures yes;
 }

@@ -6,4 +6,4 @@ use Rattle.play_search.proofs.replay.plans_of.Given as goal
 -- so far the plans of these scripts
 abbrev pub invariant-loop-script : goal.invariant-loop-script
 invariant-loop-script l = map steps_of l.plans.items
-    ≡ map (λ (script : ActorScript). planned l.once script.steps.items) (take l.script-index l.scripts)
+    ≡ map (λ (script : ActorScript). planned l.waiting script.steps.items) (take l.script-index l.scripts)

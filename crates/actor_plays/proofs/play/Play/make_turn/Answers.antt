@@ -1,5 +1,6 @@
 use Rattle.std.proofs.Common.{◌∙◌, ◌∷◌, ◌++◌, [], ap, sym, refl}
 use Rattle.actor_plays.specs.declared.play.Play.{Play}
+use Rattle.actor_plays.specs.declared.play.Turn.{Turn}
 use Rattle.actor_plays.proofs.PlayLaws.{called, left_waiting}
 use Rattle.actor_plays.proofs.play.Play.make_turn.Goals as goal
 
@@ -16,5 +17,5 @@ returns-clause-turn c = (
       c.args.asks.now.next c.args.asks.now.asked c.in_ok-reply.reply c.requires.play c.requires.asks.step c.requires.asks.call
       c.requires.asks.caller (sym c.must_wait.ensures ∙ c.if-must_wait.false) c.in_ok-reply.ensures.shows c.in_ok-reply.ensures.entries
       c.in_ok-reply.ensures.rest c.in_ok-note.ensures.stages c.in_ok-note.ensures.turns c.in_ok-note.ensures.rest,
-  c.in_ok-note.ensures.turns ∙ ap (λ (p : Play). p.turns.items ++ c.args.actor ∷ []) c.in_ok-reply.ensures.rest,
+  c.in_ok-note.ensures.turns ∙ ap (λ (p : Play). p.turns.items ++ Turn.Step c.args.actor ∷ []) c.in_ok-reply.ensures.rest,
 )

@@ -1,0 +1,8 @@
+use Rattle.std.proofs.Common.{◌≡◌, ◌++◌, take}
+use Rattle.std.specs.List.{flat_map}
+use Rattle.actor_plays.specs.Leaves.{those}
+use Rattle.actor_plays.proofs.leaving.push_those.Given as goal
+
+-- so far those of these objects
+abbrev pub invariant-loop-object : goal.invariant-loop-object
+invariant-loop-object l = l.all.items ≡ l.fn.all.items ++ flat_map (those l.sort) (take l.object-index l.objects)

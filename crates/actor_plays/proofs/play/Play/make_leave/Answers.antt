@@ -1,0 +1,8 @@
+use Rattle.actor_plays.proofs.PlayLaws.{has_left}
+use Rattle.actor_plays.proofs.play.Play.make_leave.Goals as goal
+
+pub returns-clause-leave : goal.returns-clause-leave
+returns-clause-leave c =
+    has_left c.args.plans.now c.args.self.now c.call.new.self c.note_leave.new.self c.args.actor c.args.client c.args.call
+    c.in_ok-reply.reply c.requires.play c.requires.call c.requires.caller c.in_ok-reply.ensures.shows c.in_ok-reply.ensures.entries
+    c.in_ok-reply.ensures.rest c.in_ok-note_leave.ensures.stages c.in_ok-note_leave.ensures.turns c.in_ok-note_leave.ensures.rest

@@ -1,0 +1,18 @@
+use Rattle.std.specs.Prelude.{OnOk}
+use Rattle.actor_plays.specs.Fates.{AreFalls}
+use Rattle.actor_plays.proofs.PlayLaws.{fallen_before, turned_ok}
+use Rattle.actor_plays.proofs.play.Play.pass_and_turn.Goals as goal
+
+pub returns-in-Some-clause-turn : goal.returns-in-Some-clause-turn
+returns-in-Some-clause-turn c =
+    turned_ok c.args.plans.now c.args.self.now c.pass.new.self c.make_turn.new.self c.args.actor c.make_turn.result c.pass.ensures.rest
+    c.make_turn.ensures.turn
+
+pub returns-in-Some-clause-told : goal.returns-in-Some-clause-told
+returns-in-Some-clause-told c = λ tells.
+    fallen_before c.args.self.now c.pass.new.self
+    (OnOk c.make_turn.result (AreFalls c.make_turn.new.self.entries.items c.make_turn.new.self.falls.items)) c.pass.ensures.rest
+    (c.make_turn.ensures.told tells)
+
+pub returns-in-None-clause-turn : goal.returns-in-None-clause-turn
+returns-in-None-clause-turn c = (c.pass.ensures.play, c.pass.ensures.rest, c.asks.ensures.none c.in-None.is)

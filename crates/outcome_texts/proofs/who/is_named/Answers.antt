@@ -1,0 +1,10 @@
+use Rattle.std.proofs.Common.{◌∙◌, List, ℕ, ap, map}
+use Rattle.claim_lines.specs.Clients.{is_among}
+use Rattle.outcome_texts.proofs.who.is_named.Goals as goal
+use denote.Ref.{Bor}
+
+-- the words are those of the list
+pub returns : goal.returns
+returns c = c.is_among.ensures
+    ∙ ap (λ (words : List (List ℕ)). is_among words c.args.client)
+    (ap (λ (words : List (Bor (List ℕ))). map (λ word. word.now) words) c.deref.ensures.value ∙ c.in_ok-words.ensures)

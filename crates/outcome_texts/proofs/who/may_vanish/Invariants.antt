@@ -1,0 +1,7 @@
+use Rattle.std.proofs.Common.{◌≡◌, take}
+use Rattle.outcome_texts.specs.ClaimLines.{may_vanish, texts_in}
+use Rattle.outcome_texts.proofs.who.may_vanish.Given as goal
+
+-- so far one of the lines lets the client vanish, or none
+abbrev pub invariant-texts : goal.invariant-texts
+invariant-texts l = l.found ≡ may_vanish (texts_in (take l.text-index l.texts)) l.client

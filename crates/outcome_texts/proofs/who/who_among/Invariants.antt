@@ -1,0 +1,7 @@
+use Rattle.std.proofs.Common.{◌≡◌, map, take}
+use Rattle.claim_lines.specs.Clients.{is_among}
+use Rattle.outcome_texts.proofs.who.who_among.Given as goal
+
+-- so far who of these clients is in the list
+abbrev pub invariant-labels : goal.invariant-labels
+invariant-labels l = l.who.items ≡ map (is_among (map (λ word. word.now) l.words)) (take l.label-index l.labels)

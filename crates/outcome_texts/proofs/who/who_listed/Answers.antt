@@ -1,0 +1,14 @@
+use Rattle.std.proofs.Common.{◌∙◌, List, ℕ, ap, map}
+use Rattle.std.proofs.lemmas.Result.{IfOk-weaker}
+use Rattle.claim_lines.specs.Clients.{is_among, listed}
+use Rattle.outcome_texts.proofs.who.who_listed.Goals as goal
+use denote.Ref.{Bor}
+
+-- the words are those of the list
+pub returns : goal.returns
+returns c = IfOk-weaker c.who_among.result _ _
+    (λ who is. is
+    ∙ ap (λ (words : List (List ℕ)). map (is_among words) c.args.labels.now)
+    (ap (λ (words : List (Bor (List ℕ))). map (λ word. word.now) words) c.deref.ensures.value
+    ∙ c.in_ok-words.ensures ∙ ap (listed 44) c.as_bytes.ensures.value))
+    c.who_among.ensures

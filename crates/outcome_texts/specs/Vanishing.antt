@@ -1,0 +1,55 @@
+-- Who may vanish, in words.
+use Rattle.std.specs.Prelude.{ℕ, zero, suc, ◌==◌, ◌&&◌, Bool, false, not, if◌then◌else◌, List, [], ◌∷◌, ◌++◌, codes, length, slice_get}
+use Rattle.std.specs.Fmt.{decimal}
+use Rattle.std.specs.List.{list_any}
+use Rattle.std.specs.Option.{option_map_or}
+use Rattle.script_lines.specs.declared.label.Label.{Label}
+use Rattle.script_lines.specs.Labels.{label_text}
+use Rattle.play_search.specs.declared.vanishing.Vanishing.{Vanishing}
+use Rattle.outcome_texts.specs.Facts.{count_below}
+use Rattle.outcome_texts.specs.Plays.{pieces}
+
+-- somebody may vanish at any point
+abbrev pub can_vanish : Vanishing → Bool
+can_vanish vanishing = not (vanishing.most == 0) && list_any (λ (may : Bool). may) vanishing.who.now
+
+-- the client of this place may
+abbrev pub may_vanish : List Bool → ℕ → Bool
+may_vanish who actor = option_map_or (λ (may : Bool). may) (slice_get who actor) false
+
+-- the client of this place, if it may vanish, behind a space
+abbrev pub one_text : List Label → List Bool → ℕ → List ℕ
+one_text labels who actor = if may_vanish who actor then codes " " ++ label_text (slice_get labels actor) else []
+
+-- so many of the first clients, those that may vanish, each behind a space
+abbrev pub whom_below : List Label → List Bool → ℕ → List ℕ
+whom_below labels who zero = []
+whom_below labels who (suc count) = whom_below labels who count ++ one_text labels who count
+
+-- all clients may
+abbrev pub all_may : List Label → List Bool → Bool
+all_may labels who = count_below (may_vanish who) (length labels) == length labels
+
+-- who may, if not all may
+abbrev pub of_text : List Label → List Bool → List ℕ
+of_text labels who = if all_may labels who then [] else codes " of" ++ whom_below labels who (length labels)
+
+-- so many of them vanish at most
+abbrev pub most_text : ℕ → List ℕ → List ℕ
+most_text most of =
+    if most == 1 then pieces (codes "at most one" ∷ of ∷ codes " vanishes, at any point" ∷ [])
+    else pieces (codes "at most " ∷ decimal most ∷ of ∷ codes " vanish, at any points" ∷ [])
+
+-- what follows these words, if each client vanishes at its end too
+abbrev pub end_text : Bool → List ℕ
+end_text at_end = if at_end then codes ", and each at its end" else []
+
+-- who vanishes where nobody may at any point
+abbrev pub none_text : Bool → List ℕ
+none_text at_end = if at_end then codes "each vanishes at its end" else codes "none vanishes"
+
+-- who vanishes
+abbrev pub how_text : List Label → Vanishing → List ℕ
+how_text labels vanishing = if can_vanish vanishing
+    then most_text vanishing.most (of_text labels vanishing.who.now) ++ end_text vanishing.at_end
+    else none_text vanishing.at_end

@@ -1,0 +1,10 @@
+use Rattle.std.proofs.Common.{◌≡◌}
+use Rattle.play_search.specs.Searches.{IsWithin}
+use Rattle.play_search.proofs.graph.end_all.Given as goal
+
+-- so far there is room
+abbrev pub invariant-values : goal.invariant-values
+invariant-values l = record {
+  within : IsWithin l.graph;
+  most : l.graph.most ≡ l.fn.graph.most;
+}

@@ -1,0 +1,422 @@
+//! What the actors of a script come to, by a play of each order of their turns, which joins no orders; and whether a search
+//! finds the same.
+ghost use Rattle.std.specs.Prelude.{◌≡◌, ◌≤◌, true, IfSome};
+ghost use Rattle.sm_names.specs.declared.rules.TheConstants.{MAX_PAGES};
+ghost use Rattle.actor_plays.specs.Plays.{AreJoining, IsPlay};
+
+use crate::setting::Setting;
+use actor_plays::{Actor, Fate, Plan, Play, Turn, Turned, Waiting};
+use actor_scripts::{ActorList, read_actors};
+use play_search::{Exploration, Vanishing, explore, plans_of};
+use script_lines::LabelHash;
+use sm_names::{Cause, Failure, Fault, Fired, NodeKey, Reply, TrackerId};
+use std::alloc::{AllocError, Global};
+
+// So many turns are made of a script at most, those of all plays together.
+const MOST_TURNS: usize = 100_000;
+
+/// How a script is played: which lines wait, whether each actor leaves at its end, and how many leave at any
+/// point.
+#[derive(Clone, Copy)]
+pub struct Manner {
+    pub waiting: Waiting,
+    pub at_end: bool,
+    pub most: usize,
+}
+
+// What plays are made with.
+#[derive(Clone, Copy)]
+struct Table<'a> {
+    alloc: Global,
+    setting: Setting,
+    plans: &'a [Plan],
+    vanishing: Vanishing<'a>,
+}
+
+// So many clients join.
+fn join_all(play: &mut Play, alloc: Global, count: usize) -> bool
+    requires { AreJoining play.old }
+    ensures { result ≡ true → AreJoining play.new }
+{
+    'joining: for _ in 0..count {
+        if play.join(alloc).is_err() {
+            return false;
+        }
+    }
+    true
+}
+
+// A play in which all clients have joined.
+fn begun(table: &Table<'_>) -> Option<Play>
+    ensures { IfSome result (IsPlay table.now.plans.now) }
+{
+    let pages = table.setting.pages.count;
+    let Ok(mut play) = Play::new(table.alloc, pages, table.setting.limits, [0; 16]) else {
+        return None;
+    };
+    if !join_all(&mut play, table.alloc, table.plans.len()) {
+        return None;
+    }
+    if play.have_joined(table.plans) {
+        Some(play)
+    } else {
+        None
+    }
+}
+
+// Whether the turn is made.
+fn makes_turn(play: &mut Play, table: &Table<'_>, turn: Turn) -> bool
+    requires { IsPlay table.now.plans.now play.old }
+    ensures { result ≡ true → IsPlay table.now.plans.now play.new }
+{
+    match turn {
+        Turn::Step(actor) => matches!(
+            play.take_turn(table.alloc, table.plans, actor, true),
+            Ok(Turned::Made)
+        ),
+        Turn::Leave(actor) => {
+            play.pass_all(table.plans);
+            matches!(
+                play.take_leave(table.alloc, table.plans, actor, true),
+                Ok(true)
+            )
+        }
+    }
+}
+
+// Whether all these turns are made.
+fn make_turns(play: &mut Play, table: &Table<'_>, turns: &[Turn]) -> bool
+    requires { IsPlay table.now.plans.now play.old }
+    ensures { result ≡ true → IsPlay table.now.plans.now play.new }
+{
+    'turns: for turn in turns {
+        if !makes_turn(play, table, *turn) {
+            return false;
+        }
+    }
+    true
+}
+
+// The play with these turns, in which each actor has passed what it can.
+fn played(table: &Table<'_>, turns: &[Turn]) -> Option<Play>
+    ensures { IfSome result (IsPlay table.now.plans.now) }
+{
+    let mut play = begun(table)?;
+    if !make_turns(&mut play, table, turns) {
+        return None;
+    }
+    play.pass_all(table.plans);
+    Some(play)
+}
+
+// Whether one more turn is made after these.
+fn has_turn(table: &Table<'_>, turns: &[Turn], turn: Turn) -> bool {
+    match played(table, turns) {
+        Some(mut play) => makes_turn(&mut play, table, turn),
+        None => false,
+    }
+}
+
+// Whether the actor of this place has all its steps behind it.
+fn is_done(table: &Table<'_>, place: usize, actor: &Actor) -> bool {
+    match table.plans.get(place) {
+        Some(plan) => plan.steps.len() <= actor.at,
+        None => true,
+    }
+}
+
+// Whether the actor of this place left before its end.
+fn is_early(table: &Table<'_>, place: usize, actor: &Actor) -> bool {
+    actor.leaving.is_some() && !(table.vanishing.at_end && is_done(table, place, actor))
+}
+
+// How many left before their end.
+fn count_early(table: &Table<'_>, actors: &[Actor]) -> usize {
+    let mut count: usize = 0;
+    for place in 0..actors.len() {
+        if is_early(table, place, &actors[place]) {
+            count = count.saturating_add(1);
+        }
+    }
+    count
+}
+
+// Whether the actor of this place has to leave, or to go on to.
+fn must_leave(table: &Table<'_>, place: usize, actor: &Actor) -> bool {
+    actor.leaving.is_some() || table.vanishing.at_end && is_done(table, place, actor)
+}
+
+// Whether the actor of this place may leave at any point.
+fn may_leave(table: &Table<'_>, place: usize, early: usize) -> bool {
+    early < table.vanishing.most && table.vanishing.who.get(place).copied().unwrap_or(false)
+}
+
+// The turns with one more behind them.
+fn with_turn(alloc: Global, turns: &[Turn], turn: Turn) -> Result<Vec<Turn>, AllocError> {
+    let mut longer = Vec::new(alloc);
+    longer.extend_from_slice(turns)?;
+    longer.push(turn)?;
+    Ok(longer)
+}
+
+// Adds the turns with each turn of the actor behind them, where so many left early. Whether one of these has to be made.
+fn go_on_by(
+    table: &Table<'_>,
+    rest: &mut Vec<Vec<Turn>>,
+    turns: &[Turn],
+    (place, actor): (usize, &Actor),
+    early: usize,
+) -> Result<bool, AllocError> {
+    let mut goes_on = false;
+    if has_turn(table, turns, Turn::Step(place)) {
+        rest.push(with_turn(table.alloc, turns, Turn::Step(place))?)?;
+        goes_on = true;
+    }
+    let must = must_leave(table, place, actor);
+    if (must || may_leave(table, place, early)) && has_turn(table, turns, Turn::Leave(place)) {
+        rest.push(with_turn(table.alloc, turns, Turn::Leave(place))?)?;
+        goes_on = goes_on || must;
+    }
+    Ok(goes_on)
+}
+
+// The same of all actors.
+fn go_on(
+    table: &Table<'_>,
+    rest: &mut Vec<Vec<Turn>>,
+    turns: &[Turn],
+    actors: &[Actor],
+) -> Result<bool, AllocError> {
+    let early = count_early(table, actors);
+    let mut goes_on = false;
+    for place in 0..actors.len() {
+        let one = go_on_by(table, rest, turns, (place, &actors[place]), early)?;
+        goes_on = goes_on || one;
+    }
+    Ok(goes_on)
+}
+
+// Adds a number.
+fn put(text: &mut Vec<u8>, number: usize) -> Result<(), AllocError> {
+    text.extend_from_slice(&(number as u64).to_le_bytes())
+}
+
+// Adds the places of the actor and of the step by which the node was born.
+fn put_node(text: &mut Vec<u8>, actors: &[Actor], node: NodeKey) -> Result<(), AllocError> {
+    for place in 0..actors.len() {
+        for (at, reply) in &actors[place].made {
+            if matches!(*reply, Reply::Token { key, .. } if key == node) {
+                put(text, place)?;
+                put(text, *at)?;
+            }
+        }
+    }
+    Ok(())
+}
+
+// The number of a failure.
+fn failure_number(failure: Failure) -> usize {
+    match failure {
+        Failure::NoStrong => 201,
+        Failure::NoBuffers => 202,
+        Failure::TooManyBuffers => 203,
+        Failure::PoolFull => 204,
+        Failure::TooFew => 205,
+        Failure::TooSmall => 206,
+    }
+}
+
+// The number of a cause.
+fn cause_number(cause: Cause) -> usize {
+    match cause {
+        Cause::Lost => 1,
+        Cause::NoStrong => 2,
+        Cause::Misused(misuse) => (misuse.number() as usize).saturating_add(100),
+        Cause::Failed(failure) => failure_number(failure),
+    }
+}
+
+// Adds why and where a node failed.
+fn put_fault(text: &mut Vec<u8>, actors: &[Actor], fault: Fault) -> Result<(), AllocError> {
+    put(text, cause_number(fault.cause))?;
+    put_node(text, actors, fault.origin)
+}
+
+// Adds what became of the node.
+fn put_fate(text: &mut Vec<u8>, actors: &[Actor], fate: Option<Fate>) -> Result<(), AllocError> {
+    match fate {
+        None => put(text, 0),
+        Some(Fate::Ended) => put(text, 10),
+        Some(Fate::Live { allocated }) => put(text, if allocated { 12 } else { 11 }),
+        Some(Fate::Released { allocated }) => put(text, if allocated { 14 } else { 13 }),
+        Some(Fate::Failed(fault)) => put_fault(text, actors, fault),
+    }
+}
+
+// Adds the step, and what became of the node, or that the tracker fired, that its call made.
+fn put_made(
+    text: &mut Vec<u8>,
+    play: &Play,
+    (at, reply): (usize, Reply),
+) -> Result<(), AllocError> {
+    match reply {
+        Reply::Token { key, .. } => {
+            put(text, at)?;
+            put_fate(text, play.actors(), play.fate(key))
+        }
+        Reply::Tracker(tracker) if has_fired(play.core().fired(), tracker) => put(text, at),
+        _ => Ok(()),
+    }
+}
+
+// Whether the tracker fired.
+fn has_fired(fired: &[Fired], tracker: TrackerId) -> bool {
+    fired.iter().any(|one| one.tracker == tracker)
+}
+
+// Adds what came of the actor of this place: where it stands, or that it left, and what became of what its calls made.
+fn put_actor(
+    text: &mut Vec<u8>,
+    table: &Table<'_>,
+    play: &Play,
+    (place, actor): (usize, &Actor),
+) -> Result<(), AllocError> {
+    text.extend_from_slice(b"actor")?;
+    if actor.leaving.is_some() {
+        put(text, if is_early(table, place, actor) { 1 } else { 2 })?;
+    } else {
+        put(text, actor.at.saturating_add(10))?;
+    }
+    for made in &actor.made {
+        put_made(text, play, *made)?;
+    }
+    Ok(())
+}
+
+// What the play comes to, in bytes.
+fn outcome_of(table: &Table<'_>, play: &Play) -> Result<Vec<u8>, AllocError> {
+    let mut text = Vec::new(table.alloc);
+    let actors = play.actors();
+    for place in 0..actors.len() {
+        put_actor(&mut text, table, play, (place, &actors[place]))?;
+    }
+    put(&mut text, play.core().free_pages() as usize)?;
+    Ok(text)
+}
+
+// Adds the outcome, unless it is there already. Whether it is new.
+fn add_outcome(outcomes: &mut Vec<Vec<u8>>, outcome: Vec<u8>) -> Result<bool, AllocError> {
+    if outcomes.iter().any(|other| *other == outcome) {
+        return Ok(false);
+    }
+    outcomes.push(outcome)?;
+    Ok(true)
+}
+
+// What all plays come to, and how many there are; `None` where there are too many turns, or one can't be made again.
+fn outcomes_of_all(table: &Table<'_>) -> Result<Option<(usize, Vec<Vec<u8>>)>, AllocError> {
+    let mut outcomes = Vec::new(table.alloc);
+    let mut plays: usize = 0;
+    let mut rest = Vec::new(table.alloc);
+    rest.push(Vec::new(table.alloc))?;
+    for _ in 0..MOST_TURNS {
+        let Some(turns) = rest.pop() else {
+            return Ok(Some((plays, outcomes)));
+        };
+        let Some(play) = played(table, &turns) else {
+            return Ok(None);
+        };
+        if !go_on(table, &mut rest, &turns, play.actors())? {
+            plays = plays.saturating_add(1);
+            add_outcome(&mut outcomes, outcome_of(table, &play)?)?;
+        }
+    }
+    Ok(None)
+}
+
+// Whether each outcome of the search is one of these, and no two are the same.
+fn are_found(
+    table: &Table<'_>,
+    found: &Exploration,
+    outcomes: &[Vec<u8>],
+) -> Result<bool, AllocError> {
+    let mut seen = Vec::new(table.alloc);
+    for one in &found.outcomes {
+        let Some(play) = played(table, &one.turns) else {
+            return Ok(false);
+        };
+        let outcome = outcome_of(table, &play)?;
+        if !outcomes.iter().any(|other| *other == outcome) || !add_outcome(&mut seen, outcome)? {
+            return Ok(false);
+        }
+    }
+    Ok(seen.len() == outcomes.len())
+}
+
+// Adds what is told of these plays, where the search found this.
+fn push_told(out: &mut Vec<u8>, table: &Table<'_>, found: &Exploration) -> Result<(), AllocError> {
+    let Some((plays, outcomes)) = outcomes_of_all(table)? else {
+        return out.extend_from_slice(b"! too many turns\n");
+    };
+    let alloc = table.alloc;
+    let count = outcomes.len();
+    let told = format!(in alloc; "{plays} plays, {count} outcomes\n")?;
+    out.extend_from_slice(told.as_bytes())?;
+    if found.complete && are_found(table, found, &outcomes)? {
+        return Ok(());
+    }
+    out.extend_from_slice(b"! the search found others\n")
+}
+
+// Adds what is told of the plays of these actors.
+fn push_plays(
+    out: &mut Vec<u8>,
+    alloc: Global,
+    setting: Setting,
+    manner: Manner,
+    list: &ActorList,
+) -> Result<(), AllocError> {
+    let Setting { pages, limits, .. } = setting;
+    let core = play_search::Setting {
+        pages: pages.count,
+        limits,
+        seed: [0; 16],
+    };
+    let plans = plans_of(alloc, &list.scripts, manner.waiting)?;
+    let mut who = Vec::new(alloc);
+    for _ in &plans {
+        who.push(true)?;
+    }
+    let vanishing = Vanishing {
+        who: &who,
+        most: manner.most,
+        at_end: manner.at_end,
+    };
+    let table = Table {
+        alloc,
+        setting,
+        plans: &plans,
+        vanishing,
+    };
+    match explore(alloc, core, &plans, vanishing, 1_000_000) {
+        Ok(found) => push_told(out, &table, &found),
+        Err(_) => out.extend_from_slice(b"! no search\n"),
+    }
+}
+
+/// Adds how many plays the script has, and how many outcomes these come to, and whether a search finds others.
+///
+/// Costs O(n²) for each play of n turns, and O(m) comparisons of outcomes for each, where there are m.
+pub fn push_plain(
+    out: &mut Vec<u8>,
+    alloc: Global,
+    setting: Setting,
+    manner: Manner,
+    script: &[u8],
+) -> Result<(), AllocError> {
+    let mut reader = script;
+    match read_actors(alloc, LabelHash::new([0; 16]), &mut reader) {
+        Ok(list) => push_plays(out, alloc, setting, manner, &list),
+        Err(_) => out.extend_from_slice(b"! no script of actors\n"),
+    }
+}
