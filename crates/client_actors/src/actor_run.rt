@@ -23,7 +23,9 @@ use std::time::Clock;
 /// What actors play with.
 #[derive(Drop)]
 pub struct Playing<'a, E: Setup, S: Ledger, W: Ledger, G: Gate> {
+    /// For the lists of the actors.
     pub alloc: Global,
+    /// The service at which they make their calls.
     pub service: &'a Service<E, S, W>,
     /// It hears of each try of a step.
     pub gate: &'a G,

@@ -339,8 +339,9 @@ fn explored(ground: &Ground<'_>, hash: LabelHash, most: usize) -> Result<Explora
 /// tested.
 ///
 /// It meets at most this many values of plays, and stops at the first one more, or where the bytes of the values and
-/// the calls of all plays are 1,024 times as many: the answer is then not complete. `NoMemory` where memory is refused, `HistoryFull` where a play has as many
-/// events as may be. Costs O(`most`) look-ups, calls and bytes, and the plays of the outcomes.
+/// the calls of all plays are 1,024 times as many: the answer is then not complete. `NoMemory` where memory is refused,
+/// `HistoryFull` where a play has as many events as may be, `Unlike` where a play that is made again goes on otherwise.
+/// Costs O(`most`) look-ups, calls and bytes, and the plays of the outcomes.
 pub fn explore(
     alloc: Global,
     setting: Setting,

@@ -274,7 +274,8 @@ fn has_fired(fired: &[Fired], tracker: TrackerId) -> bool {
     fired.iter().any(|one| one.tracker == tracker)
 }
 
-// Adds what came of the actor of this place: where it stands, or that it left, and what became of what its calls made.
+// Adds the actor's place in its plan, or that it left; and the fate of each node and each firing of a tracker that its calls
+// made.
 fn put_actor(
     text: &mut Vec<u8>,
     table: &Table<'_>,
