@@ -1,15 +1,19 @@
 #!/bin/sh
 # Builds the library crates that are named in crates.txt, where they have changed, and over them the
 # static library core_calls, into out/libcore_calls.a, and the program lock_calls, into
-# out/lock_calls. More words go to `rattle build`.
+# out/lock_calls. With --built it takes the crates that `rt ci` left. More words go to `rattle build`.
 #
-#   build_core.sh [--only core_calls|lock_calls] [WORD..]
+#   build_core.sh [--built] [--only core_calls|lock_calls] [WORD..]
 set -eu
 cd "$(dirname "$0")"
 kit=$(dirname "$(rt doc)")
 out=$PWD/out
 toolchain=${CORE_TOOLCHAIN:-$kit/toolchain}
-only=
+only= built=
+if [ "${1:-}" = --built ]; then
+    built=1
+    shift
+fi
 if [ "${1:-}" = --only ]; then
     only=$2
     shift 2

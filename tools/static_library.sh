@@ -1,5 +1,7 @@
-# Functions that build a static library or a program over the repository's crates, outside the gate. To be read by
-# another script, from the folder that has the library's folder, with `kit` (the toolchain's folder) and `out` set.
+# Functions that build a static library or a program over the repository's crates, outside `rt ci`. To be read by
+# another script, from the folder that has the library's folder, with `kit` (the toolchain's folder) and `out` set, and `jobs`
+# if more than two are wanted. With `built` set, the crates below are those that `rt ci` left: their statements, which only
+# crates over the same run's libraries can use. Without it, `rt lib` proves those that have changed.
 #
 # The gate refuses Rattle files that stand in no crate, so such a library's files end in `.rattle` and are made into a
 # crate for the build.
@@ -48,7 +50,7 @@ lower() { # folder, name, libraries, toolchain, root file, what is written, more
             set -- --extern "$library=$kit/rlibs/$library.rlib" "$@"
         fi
     done
-    (cd "$folder" && "$kit/bin/rattle" build --crate-name "$name" "$root" --jobs 2 "$@" \
+    (cd "$folder" && "$kit/bin/rattle" build --crate-name "$name" "$root" --jobs "${jobs:-2}" "$@" \
         -L dependency="$kit/rlibs" \
         --antt-project "$kit/rattle/logic/antt-project.json" --logic-built "$kit/logic_built" \
         --incremental "$out/$name.kept" --toolchain "$toolchain" -o "$to") > "$out/$name.log" 2>&1 ||
@@ -56,14 +58,27 @@ lower() { # folder, name, libraries, toolchain, root file, what is written, more
     tail -1 "$out/$name.log"
 }
 
+# Sees that the libraries of these crates, and of those that they use, are there.
+have() { # crates, log
+    if [ -z "${built-}" ]; then
+        for upper in $1; do
+            (cd "$(git rev-parse --show-toplevel)/crates/$upper" && rt lib --jobs "${jobs:-2}") > "$2" 2>&1 ||
+                { tail -40 "$2"; exit 1; }
+        done
+        return
+    fi
+    folder=$(git rev-parse --show-toplevel)/crates
+    for upper in $(all_of "$1"); do
+        [ ! -d "$folder/$upper" ] || [ -d "$folder/$upper/out/rlib/$upper.rlib" ] ||
+            { echo "there is no library of $upper: \`rt ci\` leaves it" >&2; exit 1; }
+    done
+}
+
 # Makes a crate of the folder, proves it and lowers it, over the crates of `below` and those that they use.
 build() { # name, crates below, toolchain, root file, what is written, more words
     made=$1 below=$2 kept=$3 first=$4 written=$5
     shift 5
-    for upper in $below; do
-        (cd "$(git rev-parse --show-toplevel)/crates/$upper" && rt lib --jobs 2) > "$out/$made.log" 2>&1 ||
-            { tail -40 "$out/$made.log"; exit 1; }
-    done
+    have "$below" "$out/$made.log"
     crate_of "$made"
     lower "$room" "$made" "$(all_of "$below")" "$kept" "$first" "$written" "$@"
     rm -r "$room"

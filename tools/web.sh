@@ -2,9 +2,13 @@
 # Builds the page, compares its module with the program on 1,000 random scripts, tests it in Chromium and, where it is there, in
 # Firefox, prints sizes and times, and leaves the page as docs/try.html. The program is built first if `rt run` has not left it.
 # Ends with the status of what failed.
-#   tools/web.sh [SCREENSHOTS]     needs rt, python3, node and chromium
+#   tools/web.sh [--built] [SCREENSHOTS]     needs rt, python3, node and chromium; --built: over the crates that `rt ci` left
 set -eu
 cd "$(dirname "$0")/../web"
+if [ "${1:-}" = --built ]; then
+    export built=1 # for tools/static_library.sh, which build.sh reads
+    shift
+fi
 for needed in node "${CHROMIUM:-chromium}"; do
     command -v "$needed" > /dev/null || { echo "tools/web.sh: $needed is missing (Debian: apt-get install chromium nodejs)" >&2; exit 2; }
 done
