@@ -1,7 +1,7 @@
 #!/usr/bin/env python3
 """Says which wrong edits no longer apply, of crates/NAME/must-fail/*.edit and crates/NAME/more-edits/*.edit.
 
-  tools/edits_apply.py [NAME | NAME/EDIT.edit ..]      with no NAME: those of every crate
+  tools/edits_apply.py [NAME | NAME/EDIT.edit ..]      with no NAME: those of every crate, and of the page's calls
   tools/edits_apply.py --make FOLDER EDIT.edit         makes the edit in this copy of its crate
 
 An edit applies where each of its `old:` texts stands exactly once in its file, after the pairs before it, and the
@@ -12,7 +12,9 @@ import pathlib
 import re
 import sys
 
-CRATES = pathlib.Path(__file__).resolve().parent.parent / "crates"
+TOP = pathlib.Path(__file__).resolve().parent.parent
+CRATES = TOP / "crates"
+PAGE = TOP / "web/page_calls"
 FOLDERS = ("must-fail", "more-edits")
 MOST = 8
 
@@ -35,9 +37,12 @@ def edited(crate, edit):
             if not path or not old:
                 raise DoesNotApply("a 'new:' line stands before any 'file:' or 'old:' line")
             if path not in texts:
-                if not (crate / path).is_file():
+                file = crate / path
+                if crate == PAGE:
+                    file = file.with_suffix(".rattle")
+                if not file.is_file():
                     raise DoesNotApply(f"there is no file {path}")
-                texts[path] = before[path] = (crate / path).read_text(encoding="utf-8")
+                texts[path] = before[path] = file.read_text(encoding="utf-8")
             count = texts[path].count(old)
             if count != 1:
                 raise DoesNotApply(f"'{old.strip()}' stands in {path} {count} times")
@@ -88,6 +93,8 @@ def miscounted():
 def report(words):
     """Prints which edits do not apply, and a count; returns the status."""
     edits = [edit for what in words or sorted(it.name for it in CRATES.iterdir()) for edit in named(what)]
+    if not words:
+        edits += sorted(PAGE.glob("wrong/*.edit"))
     faults = [] if words else [(file, "it is no file NAME.edit right in the folder") for file in misplaced()]
     asked = len(edits) + len(faults)
     for edit in edits:
@@ -97,7 +104,7 @@ def report(words):
             faults.append((edit, fault))
     counts = [] if words else list(miscounted())
     for file, fault in faults + counts:
-        print(f"{file.relative_to(CRATES)}: {fault}")
+        print(f"{file.relative_to(TOP)}: {fault}")
     print(f"{asked - len(faults)} edits apply, {len(faults)} do not")
     return 1 if faults or counts else 0
 

@@ -12,12 +12,13 @@ assert.deepEqual(WebAssembly.Module.imports(module), []);
 
 function ask(name, pages, script, ...more) {
   const core = new WebAssembly.Instance(module, {}).exports, room = 1 << 24;
-  const [from, out, words] = [script.length + 1, room, 16].map((n) => core.page_alloc(BigInt(n)) >>> 0);
+  const [from, out, words] = [script.length + 1, room, 24].map((n) => core.page_alloc(BigInt(n)) >>> 0);
   new Uint8Array(core.memory.buffer, from, script.length).set(script);
   const status = core[name](pages, from, BigInt(script.length), ...more, out, BigInt(room), words);
-  const told = new DataView(core.memory.buffer, words, 16);
-  const bytes = Number(told.getBigUint64(0, true));
-  return { status, line: Number(told.getBigUint64(8, true)), text: Buffer.from(core.memory.buffer, out, bytes).toString() };
+  const told = new DataView(core.memory.buffer, words, 24);
+  const [bytes, line, behind] = [0, 8, 16].map((at) => Number(told.getBigUint64(at, true)));
+  const answer = (at, length) => Buffer.from(core.memory.buffer, at, length).toString();
+  return { status, line, text: answer(out, bytes), reason: answer(out + bytes, behind) };
 }
 
 let count = 0;
@@ -31,7 +32,7 @@ for (const name of readdirSync(examples).filter((f) => f.endsWith('.script'))) {
   count += 1;
 }
 assert.equal(ask('sysmem_explain', 0, Buffer.from('')).status, 2);
-assert.deepEqual(ask('sysmem_explain', 16, Buffer.from('a join\nhum\n')), { status: 3, line: 2, text: 'a join\n  joined\n' });
+assert.deepEqual(ask('sysmem_explain', 16, Buffer.from('a join\nhum\n')), { status: 3, line: 2, text: 'a join\n  joined\n', reason: 'a word is missing behind hum' });
 
 // What the program and the module make of the script: its explanation, and the trees behind its last line.
 function compare(name) {
@@ -39,8 +40,9 @@ function compare(name) {
   for (const [words, told] of [[['explain'], ask('sysmem_explain', 16, script)], [['draw'], ask('sysmem_draw', 16, script, 0, 0)],
     [['draw', '--format', 'svg'], ask('sysmem_draw', 16, script, 0, 2)]]) {
     const native = spawnSync(program, words, { input: script, maxBuffer: 1 << 28 });
-    const line = /^bad line (\d+)/.exec(native.stderr.toString())?.[1] ?? '0';
-    assert.deepEqual([told.status, told.line, told.text], [native.status, Number(line), native.stdout.toString()], `${name}: ${words}`);
+    const [line, reason] = /^bad line (\d+): (.*)\n$/s.exec(native.stderr.toString())?.slice(1) ?? ['0', ''];
+    const { status, text } = { status: native.status, text: native.stdout.toString() };
+    assert.deepEqual(told, { status, line: Number(line), text, reason }, `${name}: ${words}`);
   }
   count += 1;
 }

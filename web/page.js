@@ -24,15 +24,15 @@ function ask(name, text, ...more) {
   const bytes = new TextEncoder().encode(text);
   for (let room = Math.max(1 << 18, Math.min(1 << 24, 8 * bytes.length)); ;) {
     const core = new WebAssembly.Instance(compiled, {}).exports;
-    const [from, out, words] = [bytes.length + 1, room, 16].map((n) => core.page_alloc(BigInt(n)) >>> 0);
-    if (!from || !out || !words) return { status: 4, line: 0, text: '' };
+    const [from, out, words] = [bytes.length + 1, room, 24].map((n) => core.page_alloc(BigInt(n)) >>> 0);
+    if (!from || !out || !words) return { status: 4, line: 0, text: '', reason: '' };
     new Uint8Array(core.memory.buffer, from, bytes.length).set(bytes);
     const status = core[name](pages, from, BigInt(bytes.length), ...more, out, BigInt(room), words);
-    const told = new DataView(core.memory.buffer, words, 16);
-    const length = Number(told.getBigUint64(0, true));
-    const answer = new Uint8Array(core.memory.buffer, out, Math.min(length, room));
-    if (length <= room) return { status, line: Number(told.getBigUint64(8, true)), text: new TextDecoder().decode(answer) };
-    room = length;
+    const told = new DataView(core.memory.buffer, words, 24);
+    const [length, line, behind] = [0, 8, 16].map((place) => Number(told.getBigUint64(place, true)));
+    const answer = (at, size) => new TextDecoder().decode(new Uint8Array(core.memory.buffer, at, size));
+    if (length + behind <= room) return { status, line, text: answer(out, length), reason: answer(out + length, behind) };
+    room = length + behind;
   }
 }
 
@@ -45,16 +45,16 @@ const isRemark = (line) => line === '' || line.startsWith('#');
 const isView = (line) => line.startsWith('show ') || line.split(' ')[1] === 'poll';
 
 // The program's words for a run that stopped.
-function stopped(status, line) {
-  if (status === 3) return `bad line ${line}`;
+function stopped({ status, line, reason }) {
+  if (status === 3) return `bad line ${line}: ${reason}`;
   if (status === 4) return 'no memory'; // a script has fewer lines than a core counts events
   return 'the script is longer than 16777216 bytes';
 }
 
 // The lines of the script, each with its reply, its facts and its event, and the line at which the run stopped.
 function play(text) {
-  const { status, line, text: told } = ask('sysmem_explain', text);
-  const answers = told.split('\n');
+  const told = ask('sysmem_explain', text);
+  const answers = told.text.split('\n');
   answers.pop();
   const lines = (text.endsWith('\n') ? text.slice(0, -1) : text).split('\n'), done = [];
   let next = 0, event = 0;
@@ -64,7 +64,7 @@ function play(text) {
       continue;
     }
     if (next === answers.length) {
-      if (status !== 0) done.push({ text: own, bad: stopped(status, line), event });
+      if (told.status !== 0) done.push({ text: own, bad: stopped(told), event });
       return done;
     }
     next += 1;

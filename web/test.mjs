@@ -117,7 +117,7 @@ async function controls({ value, open }) {
 async function faults_told({ value, open }) {
   const ran = (script) => value(`(() => { $('script').value = ${JSON.stringify(script)}; $('run').click();
     return [steps.length, steps.at(-1).bad ?? '', $('said').textContent]; })()`);
-  assert.deepEqual((await ran('a join\na open r\nhum\na bind r\n')).slice(0, 2), [3, 'bad line 3']);
+  assert.deepEqual((await ran('a join\na open r\nhum\na bind r\n')).slice(0, 2), [3, 'bad line 3: a word is missing behind hum']);
   assert.equal(await value("document.querySelector('#lines li.bad').innerText.split('\\n')[1]"), 'hum');
   assert.match((await ran('# <script>alert(1)</script>\na <script>alert(1)</script>\n'))[2], /<script>alert\(1\)<\/script>/);
   assert.equal(await value("document.querySelectorAll('#lines script, #said script, #tree script').length"), 0);
