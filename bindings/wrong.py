@@ -89,6 +89,10 @@ WRONG = [
     ('hpp','a cancelled wait goes on','return a.parcels > 0 || ends.are_here(); });','return a.parcels > 0; });'),
     ('hpp','a wait for buffers makes a Check at the end','        if (!is_so) return std::optional<Allocation>();\n        detail::Guard','        detail::Guard'),
     ('hpp','the bytes of another page','return {start + (h.bytes >> 32) * page','return {start + (h.bytes >> 32) * page + page'),
+    ('hpp','pending has no room for what fired','        told.fired.reserve(fired);\n',''),
+    ('hpp','pending has no room for what fell idle','        told.idle.reserve(idle);\n',''),
+    ('memory','a guard never shuts','        ASAN_POISON_MEMORY_REGION(start + at.start * page, at.count * page);','        (void)at;'),
+    ('memory','a guard opens the rest of a page','REGION(start + at.start * page, size);','REGION(start + at.start * page, (size + page - 1) / page * page);'),
     ('cancel','a cancel wakes nobody','for (detail::Ending *e = shared->waits; e; e = e->next) e->wake();',''),
     ('record','labels of forgotten nodes stay','at = kept.has(at->first) ? std::next(at) : nodes.erase(at);','++at;'),
 ]

@@ -82,6 +82,51 @@ static void pages_and_bytes(bool guard) {
     EXPECT(others[0].pages()->start == 1 && memory.bytes(others[0])[0] == std::byte(1));
 }
 
+// Whether the byte can be read: as the sanitizer knows it, or as the system finds it.
+#ifdef SYSMEM_POISONS
+static bool is_open(const std::byte *at) { return !__asan_address_is_poisoned(at); }
+static constexpr bool rest_of_a_page_is_open = false;
+#else
+static bool is_open(const std::byte *at) {
+    int ends[2];
+    EXPECT(pipe(ends) == 0);
+    bool is = write(ends[1], at, 1) == 1;
+    close(ends[0]);
+    close(ends[1]);
+    return is;
+}
+static constexpr bool rest_of_a_page_is_open = true;
+#endif
+
+// With a guard the bytes of a buffer can be touched exactly while a handle on it is open.
+static void guarded() {
+    Options o;
+    o.memory = Memory::open(16, true).value();
+    Service service = Service::open(o).value();
+    Client a = service.join("a").value(), b = service.join("b").value();
+    Collection c = allocated(a, {2, 0, 5000});
+    const std::byte *first = o.memory->data(), *second = first + 2 * Memory::page;
+    EXPECT(!is_open(first) && !is_open(second)); // the pages are held, and nobody has a handle
+    std::vector<Handle> all = *c.take().value();
+    EXPECT(is_open(first) && is_open(first + 4999) && is_open(second));
+    EXPECT(is_open(first + 5000) == rest_of_a_page_is_open && !is_open(second + 2 * Memory::page));
+    o.memory->bytes(all[0])[4999] = std::byte(7);
+    std::move(all[0]).give(b.id()).value();
+    EXPECT(is_open(first)); // in its parcel
+    Handle there = b.collect().value()->handle().value();
+    Handle more = there.duplicate().value();
+    there.drop();
+    EXPECT(is_open(first));
+    more.drop();
+    EXPECT(!is_open(first) && is_open(second)); // though the pages are held
+    all.clear();
+    EXPECT(!is_open(second));
+    all = *c.take().value();
+    EXPECT(o.memory->bytes(all[0])[4999] == std::byte(7));
+    a.vanish();
+    EXPECT(!is_open(first) && !is_open(second));
+}
+
 static void idle() {
     Service service = Service::open().value();
     Client camera = service.join("camera").value(), b = service.join("b").value();
@@ -408,6 +453,7 @@ static void says() {
 int main() {
     pages_and_bytes(false);
     pages_and_bytes(true);
+    guarded();
     idle();
     descriptors();
     waits_across_units();

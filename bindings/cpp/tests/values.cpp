@@ -379,6 +379,31 @@ static void a_transcript_that_ends() {
 }
 #endif
 
+// Several threads may call const members of one value at once.
+static void const_members() {
+    Service service = Service::open().value();
+    const Client a = service.join().value();
+    const Collection c = bound(a, {2, 0, 4096});
+    const std::vector<Handle> handles = *c.take().value();
+    const Tracker life = c.track_lifetime(0).value();
+    std::vector<std::thread> all;
+    for (int i = 0; i < 4; i++)
+        all.emplace_back([&] {
+            for (int round = 0; round < 100; round++) {
+                EXPECT(c.sync() && *c.check() && c.take() && c.waits_for()->empty());
+                EXPECT(c.attach_token().value().release() && a.open_root() && !*a.collect());
+                EXPECT(handles[0].duplicate() && handles[0].pages() && handles[0].open_handles().value() > 0);
+                EXPECT(c.wait_allocated(0ms)->has_value() && !life.poll() && service.nodes());
+                EXPECT(handles[0].on_idle(0, [](Buffer) {}) && !*handles[1].wait_idle(0, 0ms));
+#ifdef __linux__
+                EXPECT(a.fd() >= 0 && a.pending());
+#endif
+            }
+        });
+    for (std::thread &one : all) one.join();
+    EXPECT(handles[0].open_handles().value() == 1 && service.live().value().size() == 1);
+}
+
 // A weak holder is told to let go.
 static void weak_handles() {
     Service service = Service::open().value();
@@ -432,6 +457,7 @@ int main() {
 #ifdef __cpp_exceptions
     a_transcript_that_ends();
 #endif
+    const_members();
     weak_handles();
     what_outlives_a_service();
     std::puts("each value does what it should");
