@@ -1,10 +1,11 @@
 #!/usr/bin/env python3
 """Tries wrong bindings in C++: each has to be caught by a test.
 
-    make && ./wrong.py [WORD..]
+    make && ./wrong.py [WORD..]      takes some ten minutes
+    ./wrong.py --apply               says only which of them no longer apply
 
 A wrong binding is a text of a header that is replaced by another. With words, those whose names have one of them are tried.
-The last line counts. It takes some ten minutes."""
+The last line counts."""
 import concurrent.futures
 import os
 import shutil
@@ -145,7 +146,22 @@ def try_one(room, number, header, name, old, new):
     return "SURVIVES"
 
 
+def apply():
+    """Says whose text stands in its header no longer, and answers the status."""
+    texts = {}
+    for header, file in HEADERS.items():
+        with open(f"{HERE}/cpp/{file}") as it:
+            texts[header] = it.read()
+    lost = [name for header, name, old, _ in WRONG if old not in texts[header]]
+    for name in lost:
+        print(f"{name}: does not apply")
+    print(f"{len(WRONG) - len(lost)} wrong bindings apply, {len(lost)} do not")
+    return 1 if lost else 0
+
+
 def main():
+    if sys.argv[1:] == ["--apply"]:
+        sys.exit(apply())
     wanted = [it for it in WRONG if len(sys.argv) < 2 or any(word in it[1] for word in sys.argv[1:])]
     caught = 0
     with tempfile.TemporaryDirectory() as room:

@@ -29,6 +29,8 @@ else
   (cd crates/sysmem && rt lib --jobs "$lanes") >"$log" 2>&1 || { tail -n 40 "$log"; exit 1; }
   tail -n 1 "$log"
 fi
+bindings/wrong.py --apply
+tools/c_interface.sh 100000 crates/sysmem/out/libsysmem.a
 tools/long_history.sh 1000000
 make -C bindings -k -j "$lanes" check >"$log" 2>&1 || { grep -v '^touch' "$log" | tail -n 60; exit 1; }
 echo "$(find bindings/build/ran -type f | wc -l) tests of the bindings passed"

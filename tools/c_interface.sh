@@ -1,15 +1,17 @@
 #!/usr/bin/env bash
 # Builds libsysmem.a and the program of examples/c, compares what it writes with the output beside it,
 # holds the header against the library's layouts, and makes random calls under the address and
-# undefined-behaviour sanitizers. The argument says how many. C++ and Rust: make -C bindings check.
+# undefined-behaviour sanitizers. C++ and Rust: make -C bindings check.
+#   tools/c_interface.sh [CALLS [LIBRARY]]      400,000 calls; `rt lib` makes the library first if none is named
 set -euo pipefail
 cd "$(dirname "$0")/.."
 calls=${1:-400000}
 kit=$(dirname "$(dirname "$(readlink -f "$(command -v rt)")")")
 room=$(mktemp -d)
 trap 'rm -r "$room"' EXIT
-(cd crates/sysmem && rt lib >"$room/log" 2>&1) || { cat "$room/log"; exit 1; }
-libraries=(crates/sysmem/out/libsysmem.a "$kit/c/liblibc_c.a")
+library=${2:-crates/sysmem/out/libsysmem.a}
+[ -n "${2-}" ] || (cd crates/sysmem && rt lib >"$room/log" 2>&1) || { cat "$room/log"; exit 1; }
+libraries=("$library" "$kit/c/liblibc_c.a")
 strict=(-Wall -Wextra -pedantic -Werror -I include)
 
 cc -std=c99 "${strict[@]}" -x c -fsyntax-only include/sysmem.h

@@ -119,6 +119,9 @@ async function faults_told({ value, open }) {
     return [steps.length, steps.at(-1).bad ?? '', $('said').textContent]; })()`);
   assert.deepEqual((await ran('a join\na open r\nhum\na bind r\n')).slice(0, 2), [3, 'bad line 3: a word is missing behind hum']);
   assert.equal(await value("document.querySelector('#lines li.bad').innerText.split('\\n')[1]"), 'hum');
+  const verbs = await value("$('words').textContent.match(/(?<=^CLIENT )[a-z]+/gm)");
+  assert.equal(verbs.length, 24);
+  for (const verb of verbs) assert.doesNotMatch((await ran(`a join\na ${verb}\n`))[1], /no such word/, verb);
   assert.match((await ran('# <script>alert(1)</script>\na <script>alert(1)</script>\n'))[2], /<script>alert\(1\)<\/script>/);
   assert.equal(await value("document.querySelectorAll('#lines script, #said script, #tree script').length"), 0);
   const long = await value(`(() => { $('script').value = '#' + 'x'.repeat(200) + '\\n'; $('script').value = $('script').value.repeat(83061) + '#' + 'y'.repeat(60000) + '\\n';

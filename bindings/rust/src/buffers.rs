@@ -3,6 +3,7 @@
 use crate::account::Row;
 use crate::state::State;
 use crate::words::*;
+use std::collections::VecDeque;
 use std::sync::atomic::{AtomicBool, Ordering};
 use std::sync::{Arc, Condvar};
 
@@ -34,7 +35,20 @@ pub(crate) struct Cell {
     /// The number of its handles, of either strength, of all clients and in parcels.
     pub open: u32,
     pub pages: Pages,
-    pub idle: Vec<Idle>,
+    pub idle: VecDeque<Idle>,
+}
+
+impl Cell {
+    /// Takes the first one who waits out of the list if few enough handles are open; else it is the last
+    /// one then.
+    fn next_idle(&mut self) -> Option<Idle> {
+        let first = self.idle.pop_front()?;
+        if self.open <= first.most {
+            return Some(first);
+        }
+        self.idle.push_back(first);
+        None
+    }
 }
 
 /// A collection.
@@ -113,13 +127,15 @@ impl State {
             None => return,
         };
         tree.open -= 1;
+        let is_last = tree.open == 0;
         let cell = &mut tree.cells[buffer.index as usize];
         cell.open -= 1;
-        let has_idle = !cell.idle.is_empty();
-        if has_idle {
+        if !cell.idle.is_empty() {
             self.tell_idle(buffer);
         }
-        self.forget_tree(buffer.collection);
+        if is_last {
+            self.trees.remove(&buffer.collection);
+        }
     }
 
     /// Drops the table if no handle is open.
@@ -132,23 +148,16 @@ impl State {
     /// Tells those who wait for so few handles on this buffer.
     #[cold]
     pub fn tell_idle(&mut self, buffer: Buffer) {
-        let cell = match self.cell(buffer) {
-            Some(cell) => cell,
-            None => return,
-        };
-        let open = cell.open;
-        let all = std::mem::take(&mut cell.idle);
-        let (told, rest) = all.into_iter().partition(|idle| open <= idle.most);
-        cell.idle = rest;
-        let told: Vec<Idle> = told;
-        for Idle { owner, then, .. } in told {
-            match then {
-                IdleThen::Call(then) => self.due.push(Box::new(move || then(buffer))),
-                IdleThen::Tell => self.tell_of_idle(owner, buffer),
-                IdleThen::Wake(awaited) => {
+        for _ in 0..self.cell(buffer).map_or(0, |cell| cell.idle.len()) {
+            let next = self.cell(buffer).and_then(Cell::next_idle);
+            match next.map(|idle| (idle.then, idle.owner)) {
+                Some((IdleThen::Call(then), _)) => self.due.push(Box::new(move || then(buffer))),
+                Some((IdleThen::Tell, owner)) => self.tell_of_idle(owner, buffer),
+                Some((IdleThen::Wake(awaited), _)) => {
                     awaited.is_so.store(true, Ordering::Release);
                     awaited.changed.notify_all();
                 }
+                None => {}
             }
         }
     }

@@ -104,7 +104,7 @@ impl Handle {
         let is_open = state.is_here(self.owner.place);
         let cell = state.cell(self.buffer).filter(|_| is_open);
         let cell = cell.ok_or(Error::Refused(Refusal::NoSuchHandle))?;
-        cell.idle.push(Idle { most, owner: self.owner.client, then });
+        cell.idle.push_back(Idle { most, owner: self.owner.client, then });
         state.tell_idle(self.buffer);
         Ok(())
     }

@@ -69,7 +69,7 @@ pub(crate) struct State {
     waits: BTreeMap<u64, Wait>,
     /// The sleeping threads, by numbers of their own.
     sleepers: BTreeMap<u64, Arc<Condvar>>,
-    pub trees: HashMap<CollectionId, Tree>,
+    pub trees: BTreeMap<CollectionId, Tree>,
     /// The ends of clients with a descriptor, by collection.
     pub seats: BTreeMap<CollectionId, Vec<(Place, u32)>>,
     /// Callbacks of buffers.
@@ -119,7 +119,7 @@ impl State {
             roots: HashMap::new(),
             waits: BTreeMap::new(),
             sleepers: BTreeMap::new(),
-            trees: HashMap::new(),
+            trees: BTreeMap::new(),
             seats: BTreeMap::new(),
             due: Vec::new(),
             memory: None,
