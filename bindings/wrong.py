@@ -125,8 +125,9 @@ def try_one(room, number, header, name, old, new):
         text = file.read()
     if old not in text:
         return "DOES NOT APPLY"
-    with open(path, "w") as file:
-        file.write(text.replace(old, new))
+    if old:
+        with open(path, "w") as file:
+            file.write(text.replace(old, new))
     for test in ("values", "realuse", "memory", "crowd", "told", "record"):
         wraps = ["-Wl,--wrap=malloc,--wrap=realloc,--wrap=sysmem_step"] if test == "memory" else []
         program = f"{folder}/{test}.test"
@@ -138,7 +139,7 @@ def try_one(room, number, header, name, old, new):
                 passed = is_replayed(program, f"{room}/player")
             else:
                 words = {"crowd": ["4", "60", "80"], "told": ["20000"]}.get(test, [])
-                passed = subprocess.run([program, *words], capture_output=True, timeout=60).returncode == 0
+                passed = subprocess.run([program, *words], capture_output=True, timeout=120).returncode == 0
         except subprocess.TimeoutExpired:
             return f"caught by {test}, which hangs"
         if not passed:
@@ -168,6 +169,9 @@ def main():
         why = build(f"{HERE}/cpp/tests/script.cpp", f"{HERE}/cpp", f"{room}/player")
         if why:
             sys.exit(why)
+        told = try_one(room, "right", "hpp", "nothing", "", "")
+        if told != "SURVIVES":
+            sys.exit(f"the binding as it is: {told}")
         with concurrent.futures.ThreadPoolExecutor(int(os.environ.get("LANES", "3"))) as pool:
             told = [pool.submit(try_one, room, number, *it) for number, it in enumerate(wanted)]
             for it, one in zip(wanted, told):
