@@ -269,7 +269,8 @@ run_back size start pages (suc n) is h run =
 
 -- what the fields give for intervals that go back, and keep
 pub record KeepsBack (size free : ℕ) (holes held : List Interval) (capacity start pages count : ℕ) : Type 0 where
-  pub up : in_order 0 MAX_PAGES held ≡ true
+  pub inside : start + count * pages ≤ size
+  pub some : 1 ≤ pages
   pub spaced : spaced 0 holes ≡ true
   pub few : length holes ≤ MAX_PAGES
   pub fits : All (λ (h : Interval). end_of h < 4294967296) holes
@@ -287,13 +288,15 @@ keeps_more size free holes held capacity start pages n k run =
     let left : List Interval = without_run start pages (suc n) held in
     let order : in_order 0 size left ≡ true = in_order-without_run 0 size start pages (suc n) held k.in_order in
     let g = run_back size start pages n held k.in_order run in
-    let end : start + suc n * pages ≤ size = (run-end start pages n size held k.in_order run).1 in
+    let e = run-end start pages n size held k.in_order run in
+    let end : start + suc n * pages ≤ size = e.1 in
     let released_is : with_released back holes ≡ holes_of size left = ap (with_released back) k.holes_are ∙ sym g.holes in
     let fewer = (length-holes 0 size left order).1 in
     let lists = lists_of size holes held (gaps_of size free holes held capacity k) in
     let small = k.sized.1 in
     record {
-      up = in_order-wider 0 size 0 MAX_PAGES held (omega arith) small k.in_order;
+      inside = end;
+      some = omega (arith, e.0);
       spaced = subst (λ hs. spaced 0 hs ≡ true) (sym k.holes_are) (spaced-holes 0 size held k.in_order);
       few = lists.few;
       fits = lists.fits;

@@ -31,18 +31,6 @@ blocks-set used spare at B cu cs some k =
       has_spare_room = omega (arith, k.has_spare_room);
     }
 
--- another block of none in the place of a spare one
-pub blocks-spare : (used spare : Lists) (at : ℕ) (B : List Interval) (cu cs : ℕ) → B ≡ [] → AreBlocks used spare cu cs →
-    AreBlocks used (set spare at B) cu cs
-blocks-spare used spare at B cu cs none k =
-    let long : length (set spare at B) ≡ length spare = length-set spare at B in
-    record {
-      some = k.some;
-      empty = All-set Empty spare at B none k.empty;
-      has_used_room = omega (arith, k.has_used_room);
-      has_spare_room = omega (arith, k.has_spare_room);
-    }
-
 -- a spare block is used
 pub blocks-begun : (used spare : Lists) (at : ℕ) (B : List Interval) (used' spare' : Lists) (n cu cs cu' cs' : ℕ) → 0 < length B →
     at ≤ length used → used' ≡ insert used at B → spare' ≡ take n spare → n + 1 ≡ length spare → cu ≤ cu' → cs ≤ cs' →

@@ -52,21 +52,6 @@ insert_in L b o x lt le =
     ∙ sym (insert-append_right P (B ++ S) (length P) (length P + o) x refl (omega arith))
     ∙ sym (ap (λ ys. insert ys (length P + o) x) (parts L b lt))
 
--- an insert into a block is an insert into the whole list, offset by the blocks before
-pub insert_slice_in : (L : Lists) (b o : ℕ) (R : List Interval) → b < length L → o ≤ length (get_or L b []) →
-    all_in (set L b (insert_slice (get_or L b []) o R)) ≡ insert_slice (all_in L) (length (all_in (take b L)) + o) R
-insert_slice_in L b o R lt le =
-    let P : List Interval = all_in (take b L) in
-    let B : List Interval = get_or L b [] in
-    let S : List Interval = all_in (drop (b + 1) L) in
-    parts-set L b (insert_slice B o R) lt
-    ∙ ap (λ r. P ++ r) (append_assoc (take o B ++ R) (drop o B) S ∙ append_assoc (take o B) R (drop o B ++ S))
-    ∙ sym (append_assoc P (take o B) (R ++ (drop o B ++ S)))
-    ∙ sym (append_assoc (P ++ take o B) R (drop o B ++ S))
-    ∙ sym (λ i. ((P ++ take-append-le o B S le i) ++ R) ++ drop-append-le o B S le i)
-    ∙ sym (λ i. (take-append-add P (B ++ S) o i ++ R) ++ drop-append-add P (B ++ S) o i)
-    ∙ sym (ap (λ ys. insert_slice ys (length P + o) R) (parts L b lt))
-
 -- the removal of a range in a block removes it from the whole list, offset by the blocks before
 pub remove_range_in : (L : Lists) (b o n : ℕ) → b < length L → o + n ≤ length (get_or L b []) →
     all_in (set L b (remove_range (get_or L b []) o (o + n)))

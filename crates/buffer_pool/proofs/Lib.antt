@@ -9,6 +9,7 @@ mod HeldRuns
 mod Joins
 mod Keeping
 pub mod Least
+mod Lengths
 mod Orders
 mod Passing
 mod Placing

@@ -1,11 +1,8 @@
 -- Intervals in order of page.
 use Rattle.std.proofs.Common.{ℕ, zero, suc, ◌≡◌, ◌+◌, ◌<◌, ◌≤◌, refl, ap, subst, true, false, List}
 use Rattle.std.proofs.Common.{[], ◌∷◌, length, get_or, inl, inr, arith, nat_lt, nat_le, ◌==◌, one-add}
-use Rattle.std.specs.List.{insert, prefix_len}
-use Rattle.std.specs.List.Sorted.{IsNonDecreasingBy}
 use Rattle.std.proofs.lemmas.Bool.{cases_Bool, and_parts, and_from, ltb-true, ltb-false, leb-true, lt-ltb, le-leb, ne_eqb, cases_lt}
-use Rattle.std.proofs.lemmas.List.Sums.{sum_by-cons, prefix_len_passes, prefix_len_stops, prefix_len-le-length}
-use Rattle.std.proofs.lemmas.List.Sorted.{IsNonDecreasingBy-insert}
+use Rattle.std.proofs.lemmas.List.Sums.{sum_by-cons}
 use Rattle.sm_names.specs.declared.keys.Interval.{Interval}
 use Rattle.buffer_pool.specs.Holes.{end_of}
 use Rattle.buffer_pool.specs.Holdings.{in_order, total_pages, with_interval, without}
@@ -76,14 +73,6 @@ in_order-apart low high (i ∷ is) h (suc j) (suc k) d less lt =
     let before : j < k = omega arith in
     in_order-apart (end_of i) high is f.rest j k d before within
 
--- the starts of an order rise
-pub in_order-rises : (low high : ℕ) (is : List Interval) → in_order low high is ≡ true → IsNonDecreasingBy (λ (i : Interval). i.start) is
-in_order-rises low high is h j k d le lt =
-    elim (cases_lt j k) [
-      | inl less ↦ let r = in_order-apart low high is h j k d less lt in omega (arith, r)
-      | inr more ↦ let same : j ≡ k = omega arith in rw same (omega arith)
-    ]
-
 -- the intervals of an order have no more pages than there are
 pub pages_in-le : (low high : ℕ) (is : List Interval) → in_order low high is ≡ true → low + total_pages is ≤ high
 pages_in-le low high [] h = let r : low ≤ high = leb-true _ _ h in let n : total_pages [] ≡ 0 = refl in omega arith
@@ -116,16 +105,6 @@ length-with_interval new (i ∷ is) =
       | inr n ↦ rw n refl
     ]
 
--- an insert behind those that begin earlier puts an interval in its place
-pub insert_in_place : (new : Interval) (is : List Interval) →
-    insert is (prefix_len (λ (i : Interval). nat_lt i.start new.start) is) new ≡ with_interval new is
-insert_in_place new [] = refl
-insert_in_place new (i ∷ is) =
-    elim (cases_Bool (nat_lt i.start new.start)) [
-      | inl y ↦ rw (y, one-add) (ap (λ r. i ∷ r) (insert_in_place new is))
-      | inr n ↦ rw n refl
-    ]
-
 -- what begins later stays
 pub without-later : (start low high : ℕ) (is : List Interval) → start < low → in_order low high is ≡ true → without start is ≡ is
 without-later start low high [] lt h = refl
@@ -134,22 +113,6 @@ without-later start low high (i ∷ is) lt h =
     let other : (i.start == start) ≡ false = ne_eqb _ _ (λ e. absurd (omega (arith, f.from))) in
     let later : start < end_of i = omega (arith, f.from) in
     rw other (ap (λ r. i ∷ r) (without-later start (end_of i) high is later f.rest))
-
--- an interval put in its place keeps the starts rising
-pub with_interval-rises : (new : Interval) (is : List Interval) → IsNonDecreasingBy (λ (i : Interval). i.start) is →
-    IsNonDecreasingBy (λ (i : Interval). i.start) (with_interval new is)
-with_interval-rises new is h =
-    let p = λ (i : Interval). nat_lt i.start new.start in
-    let at : ℕ = prefix_len p is in
-    let below : (k : ℕ) (d : Interval) → k < at → (get_or is k d).start ≤ new.start =
-    λ k d lt. let t : (get_or is k d).start < new.start = ltb-true _ _ (prefix_len_passes p is k d lt) in omega arith in
-    let above : (k : ℕ) (d : Interval) → at ≤ k → k < length is → new.start ≤ (get_or is k d).start =
-    λ k d le lt.
-    let stops : new.start ≤ (get_or is at d).start = ltb-false _ _ (prefix_len_stops p is d (omega arith)) in
-    let rises : (get_or is at d).start ≤ (get_or is k d).start = h at k d le lt in
-    omega arith in
-    subst (IsNonDecreasingBy (λ (i : Interval). i.start)) (insert_in_place new is)
-    (IsNonDecreasingBy-insert (λ (i : Interval). i.start) is at new h (prefix_len-le-length p is) below above)
 
 -- each interval of an order has a page
 pub length-le : (low high : ℕ) (is : List Interval) → in_order low high is ≡ true → low + length is ≤ high

@@ -45,11 +45,6 @@ without start held = filter (λ i. not (i.start == start)) held
 abbrev pub in_run : ℕ → ℕ → ℕ → Interval
 in_run start pages n = record { start = start + n * pages; pages = pages }
 
--- this many intervals of as many pages that lie side by side from this page on
-abbrev pub run_of : ℕ → ℕ → ℕ → List Interval
-run_of start pages zero = []
-run_of start pages (suc n) = record { start = start; pages = pages } ∷ run_of (start + pages) pages n
-
 -- none of the intervals begins at one page or behind it and before another
 abbrev pub IsClear : ℕ → ℕ → List Interval → Type 0
 IsClear from to [] = ⊤

@@ -4,7 +4,6 @@ ghost use Rattle.std.specs.List.{insert, insert_slice, remove_range, prefix_len}
 ghost use Rattle.std.specs.List.Sorted.{IsNonDecreasingBy};
 ghost use Rattle.sm_names.specs.declared.keys.Interval.{Interval};
 ghost use Rattle.buffer_pool.specs.Fitting.{too_small, AreSmall, rooms};
-ghost use Rattle.buffer_pool.specs.Holdings.{run_of};
 ghost use Rattle.buffer_pool.specs.Rows.{edge_of};
 
 use sm_names::Interval;
@@ -64,13 +63,6 @@ impl Block {
         self.cells[at]
     }
 
-    /// The intervals.
-    pub(crate) fn cells(&self) -> &[Interval]
-        ensures { result.now ≡ self.now }
-    {
-        &self.cells
-    }
-
     /// Puts another interval in the place of one.
     pub(crate) fn set(&mut self, at: usize, new: Interval)
         requires { at < length self.old }
@@ -88,47 +80,6 @@ impl Block {
     {
         self.greatest = self.greatest.max(new.pages);
         self.cells.insert(at, new).unwrap();
-    }
-
-    /// Puts this many intervals of as many pages in before the one at this place, side by side, of which
-    /// this is the first. Those behind the place move into another block, which has none, and back.
-    pub(crate) fn insert_run(&mut self, at: usize, first: Interval, count: usize, other: &mut Block)
-        requires within { at ≤ length self.old }
-        requires room { length self.old + count ≤ FULL }
-        requires fits { first.start + count * first.pages < 2 ^ 32 }
-        requires none { other.old ≡ [] }
-        ensures items { self.new ≡ insert_slice self.old at (run_of first.start first.pages count) }
-        ensures none { other.new ≡ [] }
-    {
-        if at < self.len() {
-            self.insert_between(at, first, count, other);
-        } else {
-            self.append_run(first, count);
-        }
-    }
-
-    // The same where others lie behind the place.
-    fn insert_between(&mut self, at: usize, first: Interval, count: usize, other: &mut Block)
-        requires within { at ≤ length self.old }
-        requires room { length self.old + count ≤ FULL }
-        requires fits { first.start + count * first.pages < 2 ^ 32 }
-        requires none { other.old ≡ [] }
-        ensures items { self.new ≡ insert_slice self.old at (run_of first.start first.pages count) }
-        ensures none { other.new ≡ [] }
-    {
-        self.cut_into(at, other);
-        self.append_run(first, count);
-        self.take_in(other);
-    }
-
-    // Puts this many intervals of as many pages behind all, side by side, of which this is the first.
-    fn append_run(&mut self, first: Interval, count: usize)
-        requires room { length self.old + count ≤ FULL }
-        requires fits { first.start + count * first.pages < 2 ^ 32 }
-        ensures { self.new ≡ self.old ++ run_of first.start first.pages count }
-    {
-        self.greatest = self.greatest.max(first.pages);
-        push_run(&mut self.cells, first, count);
     }
 
     /// Takes this many intervals from this place on out.
@@ -223,23 +174,6 @@ impl Block {
             left = left.saturating_sub(self.cells[at].pages / pages_each);
         }
         left
-    }
-}
-
-// Pushes this many intervals of as many pages, side by side, of which this is the first.
-fn push_run(cells: &mut Vec<Interval>, first: Interval, count: usize)
-    requires room { length cells.old.items + count ≤ vec_capacity cells.old }
-    requires fits { first.start + count * first.pages < 2 ^ 32 }
-    ensures items { cells.new.items
-        ≡ cells.old.items ++ run_of first.start first.pages count }
-    ensures capacity { vec_capacity cells.new ≡ vec_capacity cells.old }
-{
-    let mut next = first;
-    let mut left = count;
-    while left > 0 {
-        cells.push_reserved(next);
-        next.start += next.pages;
-        left -= 1;
     }
 }
 

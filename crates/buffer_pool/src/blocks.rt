@@ -4,9 +4,7 @@ ghost use Rattle.std.specs.List.{insert, insert_slice, remove, remove_range, pre
 ghost use Rattle.std.specs.List.Sorted.{IsNonDecreasingBy};
 ghost use Rattle.sm_names.specs.declared.keys.Interval.{Interval};
 ghost use Rattle.buffer_pool.specs.Fitting.{too_small, rooms};
-ghost use Rattle.buffer_pool.specs.Holdings.{run_of};
 ghost use Rattle.buffer_pool.specs.Rows.{capacity_of, all_in, spot_index, HasIntervalAt, IsInsertSpot, IsNextOrEnd, IsChanged, IsPassed, edge_of};
-ghost use Rattle.buffer_pool.specs.Runs.{room_in};
 
 use crate::block::{Block, FULL, HALF, edge, next_guess, place_to_look};
 use sm_names::{Interval, MAX_PAGES};
@@ -98,18 +96,6 @@ impl Blocks {
         }
     }
 
-    /// Makes a block spare, if none is and there is room for one more interval.
-    pub(crate) fn loosen(&mut self)
-        ensures items { all_in self.new.lists ≡ all_in self.old.lists }
-        ensures capacity { capacity_of self.new ≡ capacity_of self.old }
-        ensures spare { length (all_in self.old.lists) < capacity_of self.old →
-            0 < self.new.spares }
-    {
-        if !self.has_spare() {
-            self.gather();
-        }
-    }
-
     /// The interval at a spot.
     pub(crate) fn get(&self, spot: Spot) -> Interval
         requires { HasIntervalAt self.now.lists spot }
@@ -198,29 +184,6 @@ impl Blocks {
         }
     }
 
-    /// Puts intervals of as many pages in before a spot, side by side, of which this is the first: at
-    /// most this many, and no more than there is room for in one block. Answers how many.
-    pub(crate) fn insert_run(&mut self, spot: Spot, first: Interval, most: usize) -> usize
-        requires within { IsInsertSpot self.old.lists spot }
-        requires spare { 0 < self.old.spares }
-        requires some { 1 ≤ most }
-        requires fits { first.start + most * first.pages < 2 ^ 32 }
-        ensures count { (1 ≤ result) × (result ≤ most) }
-        ensures no_fewer { result ≡ max 1 (min most (room_in self.old.lists spot.block)) }
-        ensures items { all_in self.new.lists
-            ≡ insert_slice (all_in self.old.lists) (spot_index self.old.lists spot)
-            (run_of first.start first.pages result) }
-        ensures capacity { capacity_of self.new ≡ capacity_of self.old }
-    {
-        let count = self.at_once(spot.block, most);
-        if count > 1 {
-            self.put_run(spot, first, count);
-        } else {
-            self.insert(spot, first);
-        }
-        count
-    }
-
     /// Takes the interval at a spot out.
     pub(crate) fn remove(&mut self, spot: Spot)
         requires { HasIntervalAt self.old.lists spot }
@@ -265,47 +228,6 @@ impl Blocks {
         self.near = Spot {
             block: spot.block,
             offset: spot.offset + 1,
-        };
-    }
-
-    // How many of this many intervals come into the block at this place at once: one where it is full or
-    // there is none.
-    fn at_once(&self, at: usize, most: usize) -> usize
-        requires { 1 ≤ most }
-        ensures there { 1 < result → at < length self.now.lists }
-        ensures room { 1 < result →
-            length (get_or self.now.lists at []) + result ≤ FULL }
-        ensures count { result ≡ max 1 (min most (room_in self.now.lists at)) }
-    {
-        if most == 1 {
-            return 1;
-        }
-        if at < self.used.len() {
-            most.min(FULL - self.used[at].len()).max(1)
-        } else {
-            1
-        }
-    }
-
-    // Puts this many intervals side by side into a block that has room for them. Those behind them move into
-    // a spare block, and back.
-    fn put_run(&mut self, spot: Spot, first: Interval, count: usize)
-        requires there { spot.block < length self.old.lists }
-        requires within { spot.offset ≤ length (get_or self.old.lists spot.block []) }
-        requires room { length (get_or self.old.lists spot.block []) + count ≤ FULL }
-        requires fits { first.start + count * first.pages < 2 ^ 32 }
-        requires spare { 0 < self.old.spares }
-        ensures lists { self.new.lists ≡ set self.old.lists spot.block
-            (insert_slice (get_or self.old.lists spot.block []) spot.offset
-            (run_of first.start first.pages count)) }
-        ensures spares { self.new.spares ≡ self.old.spares }
-    {
-        let last = self.spare.len() - 1;
-        let other = &mut self.spare[last];
-        self.used[spot.block].insert_run(spot.offset, first, count, other);
-        self.near = Spot {
-            block: spot.block,
-            offset: spot.offset + count,
         };
     }
 
@@ -381,15 +303,6 @@ impl Blocks {
         Ok(())
     }
 
-    /// A copy of the intervals.
-    pub(crate) fn to_vec(&self) -> Result<Vec<Interval>, AllocError>
-        ensures { IfOk result (λ copy. copy.items ≡ all_in self.now.lists) }
-    {
-        let mut copy = Vec::with_capacity(self.allocator(), count_in(&self.used))?;
-        append_all(&mut copy, &self.used)?;
-        Ok(copy)
-    }
-
     /// The spot of the first that has this many pages, from one on before which none has, or behind all.
     pub(crate) fn fit(&mut self, from: Reach, pages_each: u32) -> Reach
         requires pages { 1 ≤ pages_each }
@@ -440,25 +353,6 @@ impl Blocks {
         }
         left == 0
     }
-}
-
-// How many intervals lie in these blocks, for the room of a copy.
-fn count_in(blocks: &[Block]) -> usize {
-    let mut count = 0_usize;
-    for block in blocks {
-        count = count.saturating_add(block.len());
-    }
-    count
-}
-
-// Appends the intervals of these blocks to the copy.
-fn append_all(copy: &mut Vec<Interval>, blocks: &[Block]) -> Result<(), AllocError>
-    ensures { OnOk result (copy.new.items ≡ copy.old.items ++ all_in blocks.now) }
-{
-    for block in blocks {
-        copy.extend_from_slice(block.cells())?;
-    }
-    Ok(())
 }
 
 // The first of two blocks side by side that have no more intervals than one can have, if there are such.

@@ -1,50 +1,69 @@
-//! The held intervals, in order of page.
-ghost use Rattle.std.specs.Prelude.{◌≡◌, ◌+◌, ◌*◌, ◌<◌, ◌≤◌, ◌^◌, length, IsTrue};
-ghost use Rattle.std.specs.List.Sorted.{IsNonDecreasingBy};
+//! The held intervals: at each page, how many pages the one has that begins there.
+ghost use Rattle.std.specs.Prelude.{ℕ, ◌≡◌, ◌+◌, ◌*◌, ◌≤◌, length, IfOk};
 ghost use Rattle.buffer_pool.specs.Fitting.{run_starts};
-ghost use Rattle.buffer_pool.specs.Holdings.{in_order, with_buffers, HasRun, IsClear, without_run};
-ghost use Rattle.buffer_pool.specs.Rows.{all_in, capacity_of};
+ghost use Rattle.buffer_pool.specs.Holdings.{with_buffers, IsClear, without_run};
+ghost use Rattle.buffer_pool.specs.Lengths.{held_from};
 
-use crate::blocks::Blocks;
 use sm_names::{Interval, MAX_PAGES};
+use std::alloc::{AllocError, Global};
 
-/// Inserts `count` intervals that lie side by side, each as long as `first`, which is the first of them. No
-/// held interval begins among them. At most two searches and two inserts for each block that they come
-/// into.
-pub(crate) fn hold_run(held: &mut Blocks, first: Interval, count: u32)
-    requires up { IsNonDecreasingBy (λ i. i.start) (all_in held.old.lists) }
+/// Holds `count` intervals that lie side by side, each as long as `first`, which is the first of them. No
+/// held interval begins among them. O(count).
+pub(crate) fn hold_run(lengths: &mut Vec<u32>, first: Interval, count: u32)
     requires some { 1 ≤ first.pages }
-    requires fits { first.start + count * first.pages < 2 ^ 32 }
+    requires inside { first.start + count * first.pages ≤ length lengths.old.items }
     requires clear { IsClear first.start (first.start + count * first.pages)
-        (all_in held.old.lists) }
-    requires room { length (all_in held.old.lists) + count ≤ capacity_of held.old }
-    ensures items { all_in held.new.lists ≡ with_buffers first.pages
-        (run_starts first.start first.pages count) (all_in held.old.lists) }
-    ensures capacity { capacity_of held.new ≡ capacity_of held.old }
+        (held_from 0 lengths.old.items) }
+    ensures held { held_from 0 lengths.new.items ≡ with_buffers first.pages
+        (run_starts first.start first.pages count) (held_from 0 lengths.old.items) }
+    ensures size { length lengths.new.items ≡ length lengths.old.items }
 {
-    let mut next = first;
-    let mut left = count as usize;
+    let mut page = first.start as usize;
+    let mut left = count;
     while left > 0 {
-        held.loosen();
-        let spot = held.find(u64::from(next.start), false);
-        let done = held.insert_run(spot, next, left);
-        next.start += done as u32 * first.pages;
-        left -= done;
+        lengths[page] = first.pages;
+        page += first.pages as usize;
+        left -= 1;
     }
 }
 
-/// Takes this many intervals of as many pages away that lie side by side, of which this is the first.
-pub(crate) fn let_go(held: &mut Blocks, first: Interval, count: u32)
-    requires up { IsTrue (in_order 0 MAX_PAGES (all_in held.old.lists)) }
-    requires some { 1 ≤ count }
-    requires there { HasRun first.start first.pages count (all_in held.old.lists) }
-    ensures { all_in held.new.lists
-        ≡ without_run first.start first.pages count (all_in held.old.lists) }
+/// Takes this many intervals of as many pages away that lie side by side from this page on. O(count).
+pub(crate) fn let_go(lengths: &mut Vec<u32>, start: u32, pages: u32, count: u32)
+    requires inside { start + count * pages ≤ length lengths.old.items }
+    requires some { 1 ≤ pages }
+    ensures held { held_from 0 lengths.new.items
+        ≡ without_run start pages count (held_from 0 lengths.old.items) }
+    ensures size { length lengths.new.items ≡ length lengths.old.items }
 {
-    let mut spot = held.find(u64::from(first.start), false);
-    let mut left = count as usize;
+    let mut page = start as usize;
+    let mut left = count;
     while left > 0 {
-        spot = held.settle(spot);
-        left -= held.remove_run(spot, left);
+        lengths[page] = 0;
+        page += pages as usize;
+        left -= 1;
     }
+}
+
+/// The held intervals, of which there are this many. O(pages).
+pub(crate) fn list_held(
+    lengths: &[u32],
+    alloc: Global,
+    count: u32,
+) -> Result<Vec<Interval>, AllocError>
+    requires small { length lengths.now ≤ MAX_PAGES }
+    requires all { length (held_from 0 lengths.now) ≤ count }
+    ensures { IfOk result (λ held. held.items ≡ held_from 0 lengths.now) }
+{
+    let mut held = Vec::with_capacity(alloc, count as usize)?;
+    let mut start = 0;
+    for pages in lengths {
+        if *pages > 0 {
+            held.push_reserved(Interval {
+                start,
+                pages: *pages,
+            });
+        }
+        start += 1;
+    }
+    Ok(held)
 }

@@ -4,10 +4,9 @@ ghost use Rattle.sm_names.specs.Pages.{places};
 ghost use Rattle.buffer_pool.specs.Fitting.{rooms, starts_in, holes_after, looks_in, run_starts};
 ghost use Rattle.buffer_pool.specs.Holdings.{AreGaps, HasRun, IsSound, total_pages, with_buffers, without, without_run};
 ghost use Rattle.buffer_pool.specs.Placing.{PlacesBuffers};
-ghost use Rattle.buffer_pool.specs.Rows.{all_in, capacity_of};
+ghost use Rattle.buffer_pool.specs.Lengths.{held_from};
 
-use crate::blocks::Blocks;
-use crate::holding::{hold_run, let_go};
+use crate::holding::{hold_run, let_go, list_held};
 use crate::holes::Holes;
 use crate::placement::{Placed, PoolFault};
 use sm_names::{Interval, MAX_PAGES, NoMemory};
@@ -24,39 +23,43 @@ pub struct Pool {
     // By page, with capacity for as many as there are held intervals, so that none is refused
     // its place when pages come back.
     holes: Holes,
-    // By page.
-    held: Blocks,
+    // How many pages the held interval has that begins at each page, or 0 where none does.
+    lengths: Vec<u32>,
 }
 
 impl Model for Pool {
     ghost use Rattle.buffer_pool.specs.Holdings.{Holdings, IsPoolSound};
-    ghost use Rattle.buffer_pool.specs.Rows.{all_in};
+    ghost use Rattle.buffer_pool.specs.Lengths.{held_from};
     ghost use Rattle.std.specs.Prelude.{◌≡◌, length};
 
     ghost Value = { Holdings };
 
-    ghost view = { λ p. record { size = p.size; held = all_in p.held.lists } };
+    ghost view = { λ p. record { size = p.size; held = held_from 0 p.lengths.items } };
 
     ghost invariant = { λ p.
-        (p.buffers ≡ length (all_in p.held.lists))
-        × IsPoolSound p.size p.free p.holes.items (all_in p.held.lists) p.holes.capacity };
+        ((length p.lengths.items ≡ p.size) × (p.buffers ≡ length (held_from 0 p.lengths.items)))
+        × IsPoolSound p.size p.free p.holes.items (held_from 0 p.lengths.items)
+        p.holes.capacity };
 }
 
 impl Pool {
     /// A pool of this many pages, from 1 to `MAX_PAGES`, of which none is held.
     ///
-    /// `NoMemory` where the list for its one hole is refused. Costs the same for any size.
+    /// `NoMemory` where its memory is refused: four bytes for each page, and a list of holes. O(pages).
     pub fn new(alloc: Global, pages: u32) -> Result<Pool, NoMemory>
         requires { (1 ≤ pages) × (pages ≤ MAX_PAGES) }
         ensures ok { IfOk result (λ pool. pool ≡ record { size = pages; held = [] }) }
     {
+        let Ok(lengths) = vec![in alloc; 0_u32; pages as usize] else {
+            return Err(NoMemory);
+        };
         match Holes::of_one(alloc, Interval { start: 0, pages }) {
             Ok(holes) => Ok(Pool {
                 size: pages,
                 free: pages,
                 buffers: 0,
                 holes,
-                held: Blocks::new(alloc),
+                lengths,
             }),
             Err(_) => Err(NoMemory),
         }
@@ -68,15 +71,12 @@ impl Pool {
     /// `PoolFull` where some buffer has no such start, and `NoMemory` where a growth is refused.
     /// Either leaves the pool as it was.
     ///
-    /// The holes and the held intervals lie in blocks of at most 128. Costs two walks over the
-    /// blocks of holes, from where the last search ended if that was for as many pages or fewer and
-    /// no pages came back before, up to the last start, or to the end where the pool is full: a block
-    /// whose greatest hole is too small is passed at once. The buffers that lie in one hole leave it
-    /// together, and become held together. For each hole and each further block that they come into, it
-    /// costs two looks at the held intervals where they lie next to those before, and else two binary
-    /// searches, one among the blocks and one in a block, and a move of at most a block, out and back; where
-    /// a block becomes full or empty, the same once more, and a move of the part of the list of blocks
-    /// behind it. Each buffer costs O(1) besides.
+    /// The holes lie in blocks of at most 128. Costs two walks over the blocks, from where the last
+    /// search ended if that was for as many pages or fewer and no pages came back before, up to the last
+    /// start, or to the end where the pool is full: a block whose greatest hole is too small is passed at
+    /// once. The buffers that lie in one hole leave it together. A hole that they fill costs a move of at
+    /// most a block, and where the block becomes empty, of the part of the list of blocks behind it. O(1)
+    /// for each buffer besides.
     pub fn place(&mut self, count: u32, pages_each: u32) -> Result<Placed, PoolFault>
         requires { (1 ≤ count) × (1 ≤ pages_each) }
 
@@ -92,9 +92,20 @@ impl Pool {
         if !self.holes.has_rooms(count, pages_each) {
             return Err(PoolFault::PoolFull);
         }
-        match reserve(&mut self.holes, &mut self.held, self.buffers, count) {
+        match reserve(
+            &mut self.holes,
+            *self.lengths.allocator(),
+            self.buffers,
+            count,
+        ) {
             Ok(starts) => {
-                let placed = fill(&mut self.holes, &mut self.held, starts, count, pages_each);
+                let placed = fill(
+                    &mut self.holes,
+                    &mut self.lengths,
+                    starts,
+                    count,
+                    pages_each,
+                );
                 self.free -= count * pages_each;
                 self.buffers += count;
                 Ok(placed)
@@ -106,10 +117,9 @@ impl Pool {
     /// Takes back the pages of a held interval, and leaves all others as they are. The pages form
     /// one hole with the holes that they touch.
     ///
-    /// Takes no memory, and costs two binary searches in each of two lists, the held intervals and
-    /// the holes, and a move of at most a block in either; where a block becomes full or empty, also
-    /// of the part of the list of blocks behind it. Where no block is spare, two that fit into one
-    /// are sought and made one.
+    /// Takes no memory, and costs two binary searches, one among the blocks of holes and one in a block,
+    /// and a move of at most a block; where a block becomes full or empty, also of the part of the list
+    /// of blocks behind it. Where no block is spare, two that fit into one are sought and made one.
     pub fn give_back(&mut self, start: u32, pages: u32)
         requires { Contains self.old.held (record { start = start; pages = pages }) }
         ensures held { self.new ≡ record self.old { held = without start self.old.held } }
@@ -122,9 +132,7 @@ impl Pool {
     /// side by side from `start` on, and leaves all others as they are. The pages form one hole with
     /// the holes that they touch.
     ///
-    /// Takes no memory, and costs what one interval costs, and a move of at most a block for each
-    /// further block that the intervals lie in, and of the part of the list of blocks behind it where
-    /// it becomes empty.
+    /// Takes no memory, and costs what one interval costs, and O(1) for each other one.
     pub fn give_back_run(&mut self, start: u32, pages: u32, count: u32)
         requires some { 1 ≤ count }
         requires held { HasRun start pages count self.old.held }
@@ -132,7 +140,7 @@ impl Pool {
             ≡ record self.old { held = without_run start pages count self.old.held } }
         ensures sound { IsSound self.new }
     {
-        let_go(&mut self.held, Interval { start, pages }, count);
+        let_go(&mut self.lengths, start, pages, count);
         let all = count * pages;
         self.holes.release(Interval { start, pages: all });
         self.free += all;
@@ -141,12 +149,12 @@ impl Pool {
 
     /// The held intervals in order of page, which lie in the pool and apart.
     ///
-    /// `NoMemory` where the copy is refused, which is all that it costs.
+    /// `NoMemory` where the copy is refused. O(pages).
     pub fn held(&self) -> Result<Vec<Interval>, NoMemory>
         ensures ok { IfOk result (λ held. held.items ≡ self.now.held) }
         ensures sound { IsSound self.now }
     {
-        match self.held.to_vec() {
+        match list_held(&self.lengths, *self.lengths.allocator(), self.buffers) {
             Ok(held) => Ok(held),
             Err(_) => Err(NoMemory),
         }
@@ -168,28 +176,21 @@ impl Pool {
     }
 }
 
-// Makes room for `count` more buffers: for their starts, among the held intervals, and for the
-// holes that they can leave.
+// Makes room for `count` more buffers: for their starts, and for the holes that they can leave.
 fn reserve(
     holes: &mut Holes,
-    held: &mut Blocks,
+    alloc: Global,
     buffers: u32,
     count: u32,
 ) -> Result<Vec<u32>, AllocError>
-    requires { buffers ≡ length (all_in held.old.lists) }
     ensures holes { holes.new.items ≡ holes.old.items }
-    ensures held { all_in held.new.lists ≡ all_in held.old.lists }
     ensures kept { holes.old.capacity ≤ holes.new.capacity }
     ensures starts { IfOk result (λ starts. starts.items ≡ []) }
     ensures starts_room { IfOk result (λ starts. count ≤ vec_capacity starts) }
-    ensures held_room { OnOk result
-        (length (all_in held.new.lists) + count ≤ capacity_of held.new) }
-    ensures holes_room { OnOk result (length (all_in held.new.lists) + count ≤ holes.new.capacity) }
+    ensures holes_room { OnOk result (buffers + count ≤ holes.new.capacity) }
 {
-    let most = buffers as usize + count as usize;
-    held.reserve(most)?;
-    holes.reserve(most)?;
-    Vec::with_capacity(held.allocator(), count as usize)
+    holes.reserve(buffers as usize + count as usize)?;
+    Vec::with_capacity(alloc, count as usize)
 }
 
 // Places buffers that all have room, and computes at how many holes a first fit over a plain list looks
@@ -198,23 +199,23 @@ fn reserve(
 // one hole lie side by side there.
 fn fill(
     holes: &mut Holes,
-    held: &mut Blocks,
+    lengths: &mut Vec<u32>,
     mut starts: Vec<u32>,
     count: u32,
     pages_each: u32,
 ) -> Placed
     requires pages { 1 ≤ pages_each }
     requires rooms { count ≤ rooms pages_each holes.old.items }
-    requires gaps { (size : ℕ) × AreGaps size holes.old.items (all_in held.old.lists) }
-    requires held_room { length (all_in held.old.lists) + count ≤ capacity_of held.old }
+    requires gaps { AreGaps (length lengths.old.items) holes.old.items (held_from 0 lengths.old.items) }
     requires empty { starts.items ≡ [] }
     requires starts_room { count ≤ vec_capacity starts }
     ensures starts { result.starts.items ≡ starts_in pages_each count holes.old.items }
     ensures looks { result.looks ≡ looks_in pages_each count holes.old.items }
     ensures holes { holes.new.items ≡ holes_after pages_each count holes.old.items }
-    ensures held { all_in held.new.lists
+    ensures held { held_from 0 lengths.new.items
         ≡ with_buffers pages_each (starts_in pages_each count holes.old.items)
-        (all_in held.old.lists) }
+        (held_from 0 lengths.old.items) }
+    ensures size { length lengths.new.items ≡ length lengths.old.items }
     ensures capacity { holes.new.capacity ≡ holes.old.capacity }
 {
     let mut looks = 0;
@@ -225,7 +226,7 @@ fn fill(
             start: taken.start,
             pages: pages_each,
         };
-        hold_run(held, first, taken.count);
+        hold_run(lengths, first, taken.count);
         push_starts(&mut starts, first, taken.count);
         looks += taken.count as u64 * (taken.before as u64 + 1);
         left -= taken.count;

@@ -1,6 +1,6 @@
 -- The intervals that go back leave one hole, which is joined with those that it touches.
-use Rattle.std.proofs.Common.{arith}
-use Rattle.buffer_pool.specs.Rows.{all_in}
+use Rattle.std.proofs.Common.{◌∙◌, ap, arith, length}
+use Rattle.buffer_pool.specs.Lengths.{held_from}
 use Rattle.buffer_pool.proofs.Backs.{KeepsBack, keeps_back}
 use Rattle.buffer_pool.proofs.Sounds.{sound_from}
 use Rattle.buffer_pool.proofs.pages.Pool.give_back_run.Goals as goal
@@ -9,14 +9,14 @@ use Rattle.buffer_pool.proofs.pages.Pool.give_back_run.Goals.{After-let_go}
 pub let_go-requires : goal.let_go-requires
 let_go-requires c =
     let run = rw (← c.self.view_is) at c.requires.held in
-    let k = keeps_back c.self.inside.size c.self.inside.free c.self.inside.holes.items (all_in c.self.inside.held.lists)
+    let k = keeps_back c.self.inside.size c.self.inside.free c.self.inside.holes.items (held_from 0 c.self.inside.lengths.items)
     c.self.inside.holes.capacity c.args.start c.args.pages c.args.count c.requires.some c.self.invariant.1 run in
-    record { up = k.up; some = c.requires.some; there = run }
+    record { inside = omega (arith, k.inside, c.self.invariant.0.0); some = k.some }
 
-keeps : (c : After-let_go) → KeepsBack c.self.inside.size c.self.inside.free c.self.inside.holes.items (all_in c.self.inside.held.lists)
+keeps : (c : After-let_go) → KeepsBack c.self.inside.size c.self.inside.free c.self.inside.holes.items (held_from 0 c.self.inside.lengths.items)
     c.self.inside.holes.capacity c.args.start c.args.pages c.args.count
 keeps c =
-    keeps_back c.self.inside.size c.self.inside.free c.self.inside.holes.items (all_in c.self.inside.held.lists)
+    keeps_back c.self.inside.size c.self.inside.free c.self.inside.holes.items (held_from 0 c.self.inside.lengths.items)
     c.self.inside.holes.capacity c.args.start c.args.pages c.args.count c.requires.some c.self.invariant.1
     (rw (← c.self.view_is) at c.requires.held)
 
@@ -36,14 +36,14 @@ overflow_add-self c =
 pub overflow_sub-self : goal.overflow_sub-self
 overflow_sub-self c =
     let k = keeps (goal.at.overflow_sub-self c).After-let_go in
-    omega (arith, k.fewer, c.self.invariant.0)
+    omega (arith, k.fewer, c.self.invariant.0.1)
 
 pub invariant_of-self : goal.invariant_of-self
 invariant_of-self c =
     let k = keeps (goal.at.invariant_of-self c).After-let_go in
-    rw (c.release.ensures.items, c.let_go.ensures, c.release.ensures.capacity) (omega (arith, k.fewer, c.self.invariant.0), k.kept)
+    rw (c.release.ensures.items, c.let_go.ensures.held, c.release.ensures.capacity) ((c.let_go.ensures.size ∙ c.self.invariant.0.0, omega (arith, k.fewer, c.self.invariant.0.1)), k.kept)
 
 pub returns-clause-sound : goal.returns-clause-sound
 returns-clause-sound c =
     let k = keeps (goal.at.returns-clause-sound c).After-let_go in
-    rw c.let_go.ensures (sound_from c.self.inside.size _ k.kept.sized k.kept.in_order)
+    rw (c.let_go.ensures.held) (sound_from c.self.inside.size _ k.kept.sized k.kept.in_order)

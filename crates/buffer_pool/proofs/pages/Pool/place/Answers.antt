@@ -4,8 +4,8 @@ use Rattle.std.proofs.lemmas.Bool.{leb-true, leb-false}
 use Rattle.sm_names.specs.declared.rules.TheConstants.{MAX_PAGES}
 use Rattle.buffer_pool.specs.Fitting.{rooms, starts_in}
 use Rattle.buffer_pool.specs.Holdings.{with_buffers}
+use Rattle.buffer_pool.specs.Lengths.{held_from}
 use Rattle.buffer_pool.specs.Rows.{BlockRows}
-use Rattle.buffer_pool.specs.Rows.{all_in}
 use Rattle.buffer_pool.proofs.Filling.{lists_of}
 use Rattle.buffer_pool.proofs.Keeping.{KeepsRun, gaps_of, keeps_run, places_buffers, not_full, is_full}
 use Rattle.buffer_pool.proofs.Orders.{length-le}
@@ -18,32 +18,28 @@ returns-then-not-has_rooms-clause-full c =
     let few : rooms c.args.pages_each c.self.inside.holes.items < c.args.count =
     leb-false _ _ (sym c.has_rooms.ensures.rooms ∙ c.if-not-has_rooms.true) in
     rw (← c.self.view_is) (
-      λ _. is_full c.self.inside.size c.self.inside.free c.args.count c.args.pages_each c.self.inside.holes.items (all_in
-          c.self.inside.held.lists)
+      λ _. is_full c.self.inside.size c.self.inside.free c.args.count c.args.pages_each c.self.inside.holes.items (held_from 0 c.self.inside.lengths.items)
           c.self.inside.holes.capacity c.requires.1 c.self.invariant.1 few,
       λ _. refl,
     )
 
 pub returns-then-not-has_rooms-clause-sound : goal.returns-then-not-has_rooms-clause-sound
 returns-then-not-has_rooms-clause-sound c =
-    sound_from c.self.inside.size (all_in c.self.inside.held.lists) c.self.invariant.1.sized c.self.invariant.1.in_order
+    sound_from c.self.inside.size (held_from 0 c.self.inside.lengths.items) c.self.invariant.1.sized c.self.invariant.1.in_order
 
 -- all buffers have room
 all_fit : (c : Else-not-has_rooms) → KeepsRun c.self.inside.size c.self.inside.free c.args.count c.args.pages_each c.self.inside.holes.items
-    (all_in c.self.inside.held.lists)
+    (held_from 0 c.self.inside.lengths.items)
 all_fit c =
-    keeps_run c.self.inside.size c.self.inside.free c.args.count c.args.pages_each c.self.inside.holes.items (all_in
-    c.self.inside.held.lists)
+    keeps_run c.self.inside.size c.self.inside.free c.args.count c.args.pages_each c.self.inside.holes.items (held_from 0 c.self.inside.lengths.items)
     c.self.inside.holes.capacity c.requires.1 c.self.invariant.1
     (leb-true _ _ (sym c.has_rooms.ensures.rooms ∙ c.if-not-has_rooms.false))
 
 pub fill-placed-requires-clause-gaps : goal.fill-placed-requires-clause-gaps
-fill-placed-requires-clause-gaps c = (
-  c.self.inside.size,
-  rw (c.reserve.ensures.holes, c.has_rooms.ensures.same, c.reserve.ensures.held)
-      (gaps_of c.self.inside.size c.self.inside.free c.self.inside.holes.items (all_in c.self.inside.held.lists)
-      c.self.inside.holes.capacity c.self.invariant.1),
-)
+fill-placed-requires-clause-gaps c =
+    rw (c.reserve.ensures.holes, c.has_rooms.ensures.same, c.self.invariant.0.0)
+    (gaps_of c.self.inside.size c.self.inside.free c.self.inside.holes.items (held_from 0 c.self.inside.lengths.items)
+    c.self.inside.holes.capacity c.self.invariant.1)
 
 pub overflow_mul-self : goal.overflow_mul-self
 overflow_mul-self c = let small = (all_fit (goal.at.overflow_mul-self c).Else-not-has_rooms).small in search rules
@@ -53,8 +49,8 @@ overflow_sub-self c = (all_fit (goal.at.overflow_sub-self c).Else-not-has_rooms)
 
 pub has_rooms-requires-clause-few : goal.has_rooms-requires-clause-few
 has_rooms-requires-clause-few c =
-    (lists_of c.self.inside.size c.self.inside.holes.items (all_in c.self.inside.held.lists)
-    (gaps_of c.self.inside.size c.self.inside.free c.self.inside.holes.items (all_in c.self.inside.held.lists)
+    (lists_of c.self.inside.size c.self.inside.holes.items (held_from 0 c.self.inside.lengths.items)
+    (gaps_of c.self.inside.size c.self.inside.free c.self.inside.holes.items (held_from 0 c.self.inside.lengths.items)
     c.self.inside.holes.capacity c.self.invariant.1)).few
 
 pub overflow_add-self : goal.overflow_add-self
@@ -62,12 +58,12 @@ overflow_add-self c =
     let run = (all_fit (goal.at.overflow_add-self c).Else-not-has_rooms).run in
     let long = length-le 0 c.self.inside.size (with_buffers c.args.pages_each (starts_in c.args.pages_each c.args.count
     c.self.inside.holes.items)
-    (all_in c.self.inside.held.lists)) run.in_order in
+    (held_from 0 c.self.inside.lengths.items)) run.in_order in
     let small : c.self.inside.buffers + c.args.count ≤ MAX_PAGES = omega (
       arith,
       long,
       run.length_is,
-      c.self.invariant.0,
+      c.self.invariant.0.1,
       c.self.invariant.1.sized.1,
     ) in
     search rules
@@ -83,21 +79,27 @@ invariant_of-self-in-Ok c =
     rw (
       c.fill-placed.ensures.holes,
       c.fill-placed.ensures.held,
+      c.fill-placed.ensures.size,
       c.fill-placed.ensures.capacity,
       c.reserve.ensures.holes,
-      c.reserve.ensures.held,
       c.has_rooms.ensures.same,
+    ) (
+      (c.self.invariant.0.0, omega (arith, long, c.self.invariant.0.1)),
+      k c.reserve.new.holes.capacity (omega (
+        arith,
+        c.self.invariant.0.1,
+        c.in-Ok.ensures.holes_room,
+      )),
     )
-    (omega (arith, long, c.self.invariant.0), k c.reserve.new.holes.capacity (rw c.reserve.ensures.held at c.in-Ok.ensures.holes_room))
 
 pub returns-in-Ok : goal.returns-in-Ok
 returns-in-Ok c =
     let k = all_fit (goal.at.returns-in-Ok c).Else-not-has_rooms in
-    let kept = k.kept c.reserve.new.holes.capacity (rw c.reserve.ensures.held at c.in-Ok.ensures.holes_room) in
+    let kept = k.kept c.reserve.new.holes.capacity (omega (arith, c.self.invariant.0.1, c.in-Ok.ensures.holes_room)) in
     let p = places_buffers c.self.inside.size c.self.inside.free c.args.count c.args.pages_each c.self.inside.holes.items
-    (all_in c.self.inside.held.lists) c.reserve.new.holes.items (all_in c.reserve.new.held.lists) (all_in c.fill-placed.new.held.lists)
+    (held_from 0 c.self.inside.lengths.items) c.reserve.new.holes.items (held_from 0 c.self.inside.lengths.items) (held_from 0 c.fill-placed.new.lengths.items)
     c.fill-placed.result.starts.items c.fill-placed.result.looks k
-    (c.reserve.ensures.holes ∙ ap (λ (l : BlockRows). l.items) c.has_rooms.ensures.same) c.reserve.ensures.held c.fill-placed.ensures.starts
+    (c.reserve.ensures.holes ∙ ap (λ (l : BlockRows). l.items) c.has_rooms.ensures.same) refl c.fill-placed.ensures.starts
     c.fill-placed.ensures.looks c.fill-placed.ensures.held in
     rw (← c.self.view_is)
     (record {
@@ -105,10 +107,10 @@ returns-in-Ok c =
       err = tt;
       full = (
         λ same. cc,
-        not_full c.self.inside.size c.args.pages_each c.args.count (all_in c.self.inside.held.lists)
+        not_full c.self.inside.size c.args.pages_each c.args.count (held_from 0 c.self.inside.lengths.items)
             c.fill-placed.result.starts.items _ p.starts_are,
       );
-      sound = rw (c.fill-placed.ensures.held, c.reserve.ensures.holes, c.reserve.ensures.held, c.has_rooms.ensures.same)
+      sound = rw (c.fill-placed.ensures.held, c.reserve.ensures.holes, c.has_rooms.ensures.same)
           (sound_from c.self.inside.size _ kept.sized kept.in_order);
     })
 
@@ -118,12 +120,12 @@ returns-in-Err c =
     rw (← c.self.view_is)
     (record {
       ok = tt;
-      err = λ i. record { size = c.self.inside.size; held = c.reserve.ensures.held i };
+      err = refl;
       full = (
         λ same. cc,
-        not_full c.self.inside.size c.args.pages_each c.args.count (all_in c.self.inside.held.lists) _ _
+        not_full c.self.inside.size c.args.pages_each c.args.count (held_from 0 c.self.inside.lengths.items) _ _
             k.run.places_are,
       );
-      sound = rw c.reserve.ensures.held (sound_from c.self.inside.size (all_in c.self.inside.held.lists) c.self.invariant.1.sized
-          c.self.invariant.1.in_order);
+      sound = sound_from c.self.inside.size (held_from 0 c.self.inside.lengths.items) c.self.invariant.1.sized
+          c.self.invariant.1.in_order;
     })

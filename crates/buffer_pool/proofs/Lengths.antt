@@ -1,0 +1,139 @@
+-- What a length that is written makes of the intervals that are held.
+use Rattle.std.proofs.Common.{ℕ, zero, suc, ◌≡◌, ◌+◌, ◌-◌, ◌*◌, ◌<◌, ◌≤◌, refl, ap, sym, subst, ◌∙◌, true, false, List, [], ◌∷◌, ◌++◌}
+use Rattle.std.proofs.Common.{length, get_or, set, replicate, take, drop, inl, inr, arith, nat_lt, ◌==◌}
+use Rattle.std.proofs.lemmas.Bool.{cases_lt, lt-ltb, le-ltb, eq-eqb, ne_eqb}
+use Rattle.sm_names.specs.declared.keys.Interval.{Interval}
+use Rattle.buffer_pool.specs.Fitting.{run_starts}
+use Rattle.buffer_pool.specs.Holdings.{IsClear, with_buffers, with_interval, without, without_run}
+use Rattle.buffer_pool.specs.Lengths.{held_from}
+
+-- a length at a page is the interval there, and 0 is none
+held-some : (page n : ℕ) (ns : List ℕ) → 0 < n → held_from page (n ∷ ns) ≡ record { start = page; pages = n } ∷ held_from (suc page) ns
+held-some page n ns some = let y : nat_lt 0 n ≡ true = lt-ltb _ _ some in rw y refl
+
+held-none : (page n : ℕ) (ns : List ℕ) → n ≤ 0 → held_from page (n ∷ ns) ≡ held_from (suc page) ns
+held-none page n ns none = let y : nat_lt 0 n ≡ false = le-ltb _ _ none in rw y refl
+
+-- an interval that begins before all others comes first
+with-first : (new : Interval) (page : ℕ) (ns : List ℕ) → new.start ≤ page →
+    with_interval new (held_from page ns) ≡ new ∷ held_from page ns
+with-first new page [] le = refl
+with-first new page (n ∷ ns) le =
+    elim (cases_lt 0 n) [
+      | inl some ↦ let later : nat_lt page new.start ≡ false = le-ltb _ _ le in rw (held-some page n ns some, later) refl
+      | inr none ↦ rw (held-none page n ns none) (with-first new (suc page) ns (omega arith))
+    ]
+
+-- no interval begins at an earlier page
+without-none : (start page : ℕ) (ns : List ℕ) → start < page → without start (held_from page ns) ≡ held_from page ns
+without-none start page [] lt = refl
+without-none start page (n ∷ ns) lt =
+    let rest : without start (held_from (suc page) ns) ≡ held_from (suc page) ns = without-none start (suc page) ns (omega arith) in
+    elim (cases_lt 0 n) [
+      | inl some ↦
+          let other : (page == start) ≡ false = ne_eqb _ _ (λ e. absurd (omega arith)) in
+          rw (held-some page n ns some, other) (ap (λ is. record { start = page; pages = n } ∷ is) rest)
+      | inr none ↦ rw (held-none page n ns none) rest
+    ]
+
+-- by induction on the page: a length that is written where none was puts the interval in its place
+pub held-set : (page k n : ℕ) (ns : List ℕ) → k < length ns → 0 < n → get_or ns k 0 ≡ 0 →
+    held_from page (set ns k n) ≡ with_interval (record { start = page + k; pages = n }) (held_from page ns)
+held-set page k n [] lt some free = absurd (omega arith)
+held-set page zero n (m ∷ ms) lt some free =
+    let here : page + 0 ≡ page = omega arith in
+    let new : Interval = record { start = page; pages = n } in
+    held-some page n ms some
+    ∙ sym (with-first new (suc page) ms (omega arith))
+    ∙ (λ i. with_interval (record { start = sym here i; pages = n }) (sym (held-none page m ms (omega (arith, free))) i))
+held-set page (suc k) n (m ∷ ms) lt some free =
+    let further : suc page + k ≡ page + suc k = omega arith in
+    let rest : held_from (suc page) (set ms k n) ≡ with_interval (record { start = page + suc k; pages = n }) (held_from (suc page) ms) =
+    held-set (suc page) k n ms (omega arith) some free
+    ∙ ap (λ s. with_interval (record { start = s; pages = n }) (held_from (suc page) ms)) further in
+    elim (cases_lt 0 m) [
+      | inl had ↦
+          let before : nat_lt page (page + suc k) ≡ true = lt-ltb _ _ (omega arith) in
+          rw (held-some page m (set ms k n) had, held-some page m ms had, before)
+          (ap (λ is. record { start = page; pages = m } ∷ is) rest)
+      | inr none ↦ rw (held-none page m (set ms k n) none, held-none page m ms none) rest
+    ]
+
+-- by induction on the page: 0 takes the interval away that begins there
+pub held-clear : (page k : ℕ) (ns : List ℕ) → k < length ns → held_from page (set ns k 0) ≡ without (page + k) (held_from page ns)
+held-clear page k [] lt = absurd (omega arith)
+held-clear page zero (m ∷ ms) lt =
+    let here : page + 0 ≡ page = omega arith in
+    let rest : without page (held_from (suc page) ms) ≡ held_from (suc page) ms = without-none page (suc page) ms (omega arith) in
+    held-none page 0 ms (omega arith) ∙ sym rest ∙ first ∙ ap (λ s. without s (held_from page (m ∷ ms))) (sym here)
+  where
+    -- by cases: the interval at the page, if there is one, is the one that goes
+    first : without page (held_from (suc page) ms) ≡ without page (held_from page (m ∷ ms))
+    first =
+        elim (cases_lt 0 m) [
+          | inl some ↦ let same : (page == page) ≡ true = eq-eqb _ _ refl in rw (held-some page m ms some, same) refl
+          | inr none ↦ rw (held-none page m ms none) refl
+        ]
+held-clear page (suc k) (m ∷ ms) lt =
+    let further : suc page + k ≡ page + suc k = omega arith in
+    let rest : held_from (suc page) (set ms k 0) ≡ without (page + suc k) (held_from (suc page) ms) =
+    held-clear (suc page) k ms (omega arith) ∙ ap (λ s. without s (held_from (suc page) ms)) further in
+    elim (cases_lt 0 m) [
+      | inl had ↦
+          let other : (page == page + suc k) ≡ false = ne_eqb _ _ (λ e. absurd (omega arith)) in
+          rw (held-some page m (set ms k 0) had, held-some page m ms had, other)
+          (ap (λ is. record { start = page; pages = m } ∷ is) rest)
+      | inr none ↦ rw (held-none page m (set ms k 0) none, held-none page m ms none) rest
+    ]
+
+-- where no interval begins, the length is 0
+pub held-free : (from to page k : ℕ) (ns : List ℕ) → IsClear from to (held_from page ns) → k < length ns → from ≤ page + k → page + k < to →
+    get_or ns k 0 ≡ 0
+held-free from to page k [] clear lt l u = absurd (omega arith)
+held-free from to page zero (m ∷ ms) clear lt l u =
+    elim (cases_lt 0 m) [
+      | inl some ↦
+          let c : IsClear from to (record { start = page; pages = m } ∷ held_from (suc page) ms) =
+          subst (IsClear from to) (held-some page m ms some) clear in
+          elim c.0 [
+            | inl before ↦ absurd (omega arith)
+            | inr after ↦ absurd (omega arith)
+          ]
+      | inr none ↦ omega arith
+    ]
+held-free from to page (suc k) (m ∷ ms) clear lt l u =
+    elim (cases_lt 0 m) [
+      | inl some ↦
+          let c : IsClear from to (record { start = page; pages = m } ∷ held_from (suc page) ms) =
+          subst (IsClear from to) (held-some page m ms some) clear in
+          held-free from to (suc page) k ms c.1 (omega arith) (omega arith) (omega arith)
+      | inr none ↦
+          held-free from to (suc page) k ms (subst (IsClear from to) (held-none page m ms none) clear) (omega arith) (omega arith) (omega arith)
+    ]
+
+-- the first of those that are left is held, and the others come after it
+pub held-next : (page pages left rest : ℕ) (ns : List ℕ) → left ≡ suc rest → page < length ns → 1 ≤ pages → get_or ns page 0 ≡ 0 →
+    with_buffers pages (run_starts (page + pages) pages rest) (held_from 0 (set ns page pages))
+    ≡ with_buffers pages (run_starts page pages left) (held_from 0 ns)
+held-next page pages left rest ns is lt some free =
+    let here : 0 + page ≡ page = omega arith in
+    let one : held_from 0 (set ns page pages) ≡ with_interval (record { start = page; pages = pages }) (held_from 0 ns) =
+    held-set 0 page pages ns lt some free ∙ ap (λ s. with_interval (record { start = s; pages = pages }) (held_from 0 ns)) here in
+    ap (with_buffers pages (run_starts (page + pages) pages rest)) one
+    ∙ ap (λ n. with_buffers pages (run_starts page pages n) (held_from 0 ns)) (sym is)
+
+-- the next of a run goes after those before it
+pub gone-next : (start pages n m page : ℕ) (ns ns0 : List ℕ) → m ≡ suc n → page ≡ start + n * pages → page < length ns →
+    held_from 0 ns ≡ without_run start pages n (held_from 0 ns0) →
+    held_from 0 (set ns page 0) ≡ without_run start pages m (held_from 0 ns0)
+gone-next start pages n m page ns ns0 is at lt same =
+    let here : 0 + page ≡ start + n * pages = omega arith in
+    held-clear 0 page ns lt
+    ∙ ap (λ s. without s (held_from 0 ns)) here
+    ∙ ap (without (start + n * pages)) same
+    ∙ ap (λ k. without_run start pages k (held_from 0 ns0)) (sym is)
+
+-- lengths of 0 are no intervals
+pub held-zeros : (page n : ℕ) → held_from page (replicate n 0) ≡ []
+held-zeros page zero = refl
+held-zeros page (suc n) = held-none page 0 (replicate n 0) (omega arith) ∙ held-zeros (suc page) n
