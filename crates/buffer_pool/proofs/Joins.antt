@@ -1,7 +1,7 @@
 -- Intervals in blocks, joined to one list.
 use Rattle.std.proofs.Common.{ℕ, zero, suc, ◌≡◌, ◌+◌, ◌-◌, ◌<◌, ◌≤◌, refl, ap, sym, subst, ◌∙◌, List, []}
 use Rattle.std.proofs.Common.{◌∷◌, ◌++◌, length, get_or, set, take, drop, arith, add-one, append_assoc}
-use Rattle.std.specs.List.{insert, insert_slice, remove, remove_range}
+use Rattle.std.specs.List.{insert, remove, remove_range}
 use Rattle.std.proofs.Math.Seq.{take-append-add, drop-append-add}
 use Rattle.std.proofs.lemmas.List.{append-nil, take-append-drop, drop_more, set_split, take_more, take_more_set, take-set}
 use Rattle.std.proofs.lemmas.List.{drop-set-lt, drop_at, take-append-le, drop-append-le, take-take, length-take-le}

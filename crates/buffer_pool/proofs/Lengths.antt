@@ -1,6 +1,6 @@
 -- What a length that is written makes of the intervals that are held.
-use Rattle.std.proofs.Common.{ℕ, zero, suc, ◌≡◌, ◌+◌, ◌-◌, ◌*◌, ◌<◌, ◌≤◌, refl, ap, sym, subst, ◌∙◌, true, false, List, [], ◌∷◌, ◌++◌}
-use Rattle.std.proofs.Common.{length, get_or, set, replicate, take, drop, inl, inr, arith, nat_lt, ◌==◌}
+use Rattle.std.proofs.Common.{ℕ, zero, suc, ◌≡◌, ◌+◌, ◌-◌, ◌*◌, ◌<◌, ◌≤◌, refl, ap, sym, subst, ◌∙◌, true, false, List, [], ◌∷◌}
+use Rattle.std.proofs.Common.{length, get_or, set, replicate, inl, inr, arith, nat_lt, ◌==◌}
 use Rattle.std.proofs.lemmas.Bool.{cases_lt, lt-ltb, le-ltb, eq-eqb, ne_eqb}
 use Rattle.sm_names.specs.declared.keys.Interval.{Interval}
 use Rattle.buffer_pool.specs.Fitting.{run_starts}
@@ -108,7 +108,8 @@ held-free from to page (suc k) (m ∷ ms) clear lt l u =
           subst (IsClear from to) (held-some page m ms some) clear in
           held-free from to (suc page) k ms c.1 (omega arith) (omega arith) (omega arith)
       | inr none ↦
-          held-free from to (suc page) k ms (subst (IsClear from to) (held-none page m ms none) clear) (omega arith) (omega arith) (omega arith)
+          held-free from to (suc page) k ms (subst (IsClear from to) (held-none page m ms none) clear) (omega arith) (omega arith)
+          (omega arith)
     ]
 
 -- the first of those that are left is held, and the others come after it

@@ -20,5 +20,6 @@ loop-left-preserved c =
       few = omega (arith, k.few);
       size = length-set c.loop-left.lengths.items c.loop-left.page 0 ∙ k.size;
       page = omega (arith, k.page);
-      held = gone-next c.args.start c.args.pages gone _ c.loop-left.page c.loop-left.lengths.items c.args.lengths.now.items more k.page within k.held;
+      held = gone-next c.args.start c.args.pages gone _ c.loop-left.page c.loop-left.lengths.items c.args.lengths.now.items more k.page
+          within k.held;
     }

@@ -24,11 +24,13 @@ loop-left-init c = (
 
 pub take_front-taken-requires-clause-few : goal.take_front-taken-requires-clause-few
 take_front-taken-requires-clause-few c =
-    (lists_of (length c.args.lengths.now.items) c.loop-left.holes.items (held_from 0 c.loop-left.lengths.items) c.loop-left.invariant.1.gaps).few
+    (lists_of (length c.args.lengths.now.items) c.loop-left.holes.items (held_from 0 c.loop-left.lengths.items)
+    c.loop-left.invariant.1.gaps).few
 
 pub take_front-taken-requires-clause-fits : goal.take_front-taken-requires-clause-fits
 take_front-taken-requires-clause-fits c =
-    (lists_of (length c.args.lengths.now.items) c.loop-left.holes.items (held_from 0 c.loop-left.lengths.items) c.loop-left.invariant.1.gaps).fits
+    (lists_of (length c.args.lengths.now.items) c.loop-left.holes.items (held_from 0 c.loop-left.lengths.items)
+    c.loop-left.invariant.1.gaps).fits
 
 pub take_front-taken-requires-clause-some : goal.take_front-taken-requires-clause-some
 take_front-taken-requires-clause-some c =
@@ -36,10 +38,12 @@ take_front-taken-requires-clause-some c =
     c.loop-left-test.true c.loop-left.invariant.1
 
 -- the buffers in the hole
-next : (c : After-take_front-taken) → IsNextRun (length c.args.lengths.now.items) c.args.pages_each c.take_front-taken.result.count c.take_front-taken.result.start
+next : (c : After-take_front-taken) → IsNextRun (length c.args.lengths.now.items) c.args.pages_each c.take_front-taken.result.count
+    c.take_front-taken.result.start
     c.take_front-taken.result.before c.loop-left.holes.items (held_from 0 c.loop-left.lengths.items)
 next c =
-    let some = filling_some (length c.args.lengths.now.items) c.args.pages_each c.args.count c.loop-left.left _ _ _ _ _ _ _ _ _ c.requires.pages
+    let some = filling_some (length c.args.lengths.now.items) c.args.pages_each c.args.count c.loop-left.left _ _ _ _ _ _ _ _ _
+    c.requires.pages
     c.loop-left-test.true c.loop-left.invariant.1 in
     next_run (length c.args.lengths.now.items) c.args.pages_each c.take_front-taken.result.count c.take_front-taken.result.start
     c.take_front-taken.result.before c.loop-left.holes.items (held_from 0 c.loop-left.lengths.items) c.requires.pages
@@ -58,9 +62,11 @@ looks_fit c =
 pub overflow_add-looks : goal.overflow_add-looks
 overflow_add-looks c =
     let m = (goal.at.overflow_add-looks c).After-take_front-taken in
-    let some = filling_some (length c.args.lengths.now.items) c.args.pages_each c.args.count c.loop-left.left _ _ _ _ _ _ _ _ _ c.requires.pages
+    let some = filling_some (length c.args.lengths.now.items) c.args.pages_each c.args.count c.loop-left.left _ _ _ _ _ _ _ _ _
+    c.requires.pages
     c.loop-left-test.true c.loop-left.invariant.1 in
-    let few = (lists_of (length c.args.lengths.now.items) c.loop-left.holes.items (held_from 0 c.loop-left.lengths.items) c.loop-left.invariant.1.gaps).few in
+    let few = (lists_of (length c.args.lengths.now.items) c.loop-left.holes.items (held_from 0 c.loop-left.lengths.items)
+    c.loop-left.invariant.1.gaps).few in
     let small : c.take_front-taken.result.before + 1 ≤ MAX_PAGES = omega (arith, c.take_front-taken.ensures.before, some) in
     search rules
 

@@ -7,7 +7,8 @@ use Rattle.buffer_pool.proofs.pages.fill.Given as goal
 abbrev pub invariant-loop-left : goal.invariant-loop-left
 invariant-loop-left l =
     (length l.lengths.items ≡ length l.initial.lengths.items)
-    × IsFilling (length l.initial.lengths.items) l.pages_each l.count l.left l.initial.holes.items (held_from 0 l.initial.lengths.items) l.looks
+    × IsFilling (length l.initial.lengths.items) l.pages_each l.count l.left l.initial.holes.items (held_from 0 l.initial.lengths.items)
+    l.looks
     l.starts.items l.holes.items (held_from 0 l.lengths.items) l.initial.holes.capacity (vec_capacity l.starts) l.holes.capacity
 
 abbrev pub decreases-loop-left : goal.decreases-loop-left

@@ -1,5 +1,5 @@
 -- The intervals that go back leave one hole, which is joined with those that it touches.
-use Rattle.std.proofs.Common.{◌∙◌, ap, arith, length}
+use Rattle.std.proofs.Common.{◌∙◌, arith}
 use Rattle.buffer_pool.specs.Lengths.{held_from}
 use Rattle.buffer_pool.proofs.Backs.{KeepsBack, keeps_back}
 use Rattle.buffer_pool.proofs.Sounds.{sound_from}
@@ -13,7 +13,8 @@ let_go-requires c =
     c.self.inside.holes.capacity c.args.start c.args.pages c.args.count c.requires.some c.self.invariant.1 run in
     record { inside = omega (arith, k.inside, c.self.invariant.0.0); some = k.some }
 
-keeps : (c : After-let_go) → KeepsBack c.self.inside.size c.self.inside.free c.self.inside.holes.items (held_from 0 c.self.inside.lengths.items)
+keeps : (c : After-let_go) → KeepsBack c.self.inside.size c.self.inside.free c.self.inside.holes.items
+    (held_from 0 c.self.inside.lengths.items)
     c.self.inside.holes.capacity c.args.start c.args.pages c.args.count
 keeps c =
     keeps_back c.self.inside.size c.self.inside.free c.self.inside.holes.items (held_from 0 c.self.inside.lengths.items)
@@ -41,7 +42,8 @@ overflow_sub-self c =
 pub invariant_of-self : goal.invariant_of-self
 invariant_of-self c =
     let k = keeps (goal.at.invariant_of-self c).After-let_go in
-    rw (c.release.ensures.items, c.let_go.ensures.held, c.release.ensures.capacity) ((c.let_go.ensures.size ∙ c.self.invariant.0.0, omega (arith, k.fewer, c.self.invariant.0.1)), k.kept)
+    rw (c.release.ensures.items, c.let_go.ensures.held, c.release.ensures.capacity)
+    ((c.let_go.ensures.size ∙ c.self.invariant.0.0, omega (arith, k.fewer, c.self.invariant.0.1)), k.kept)
 
 pub returns-clause-sound : goal.returns-clause-sound
 returns-clause-sound c =

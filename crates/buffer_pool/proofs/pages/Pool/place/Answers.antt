@@ -11,14 +11,15 @@ use Rattle.buffer_pool.proofs.Keeping.{KeepsRun, gaps_of, keeps_run, places_buff
 use Rattle.buffer_pool.proofs.Orders.{length-le}
 use Rattle.buffer_pool.proofs.Sounds.{sound_from}
 use Rattle.buffer_pool.proofs.pages.Pool.place.Goals as goal
-use Rattle.buffer_pool.proofs.pages.Pool.place.Goals.{In-Ok, Else-not-has_rooms}
+use Rattle.buffer_pool.proofs.pages.Pool.place.Goals.{Else-not-has_rooms}
 
 pub returns-then-not-has_rooms-clause-full : goal.returns-then-not-has_rooms-clause-full
 returns-then-not-has_rooms-clause-full c =
     let few : rooms c.args.pages_each c.self.inside.holes.items < c.args.count =
     leb-false _ _ (sym c.has_rooms.ensures.rooms ∙ c.if-not-has_rooms.true) in
     rw (← c.self.view_is) (
-      λ _. is_full c.self.inside.size c.self.inside.free c.args.count c.args.pages_each c.self.inside.holes.items (held_from 0 c.self.inside.lengths.items)
+      λ _. is_full c.self.inside.size c.self.inside.free c.args.count c.args.pages_each c.self.inside.holes.items
+          (held_from 0 c.self.inside.lengths.items)
           c.self.inside.holes.capacity c.requires.1 c.self.invariant.1 few,
       λ _. refl,
     )
@@ -31,7 +32,8 @@ returns-then-not-has_rooms-clause-sound c =
 all_fit : (c : Else-not-has_rooms) → KeepsRun c.self.inside.size c.self.inside.free c.args.count c.args.pages_each c.self.inside.holes.items
     (held_from 0 c.self.inside.lengths.items)
 all_fit c =
-    keeps_run c.self.inside.size c.self.inside.free c.args.count c.args.pages_each c.self.inside.holes.items (held_from 0 c.self.inside.lengths.items)
+    keeps_run c.self.inside.size c.self.inside.free c.args.count c.args.pages_each c.self.inside.holes.items
+    (held_from 0 c.self.inside.lengths.items)
     c.self.inside.holes.capacity c.requires.1 c.self.invariant.1
     (leb-true _ _ (sym c.has_rooms.ensures.rooms ∙ c.if-not-has_rooms.false))
 
@@ -97,7 +99,8 @@ returns-in-Ok c =
     let k = all_fit (goal.at.returns-in-Ok c).Else-not-has_rooms in
     let kept = k.kept c.reserve.new.holes.capacity (omega (arith, c.self.invariant.0.1, c.in-Ok.ensures.holes_room)) in
     let p = places_buffers c.self.inside.size c.self.inside.free c.args.count c.args.pages_each c.self.inside.holes.items
-    (held_from 0 c.self.inside.lengths.items) c.reserve.new.holes.items (held_from 0 c.self.inside.lengths.items) (held_from 0 c.fill-placed.new.lengths.items)
+    (held_from 0 c.self.inside.lengths.items) c.reserve.new.holes.items (held_from 0 c.self.inside.lengths.items)
+    (held_from 0 c.fill-placed.new.lengths.items)
     c.fill-placed.result.starts.items c.fill-placed.result.looks k
     (c.reserve.ensures.holes ∙ ap (λ (l : BlockRows). l.items) c.has_rooms.ensures.same) refl c.fill-placed.ensures.starts
     c.fill-placed.ensures.looks c.fill-placed.ensures.held in
