@@ -4,10 +4,10 @@ ghost use Rattle.sm_names.specs.declared.rules.TheConstants.{MAX_PAGES};
 ghost use Rattle.script_lines.specs.declared.TheConstants.{MOST_BYTES};
 ghost use Rattle.outcome_runs.specs.Explored.{Explores, IsExplored, TellingStops};
 
-use crate::job::{Ending, SearchJob};
+use crate::job::{Ending, SearchHost, SearchJob};
 use crate::telling::told_of_script;
+use play_search::Progress;
 use report_io::{ReportFault, put_out, read_script};
-use std::alloc::Global;
 use std::io::{Read, Write};
 
 /// Goes through all orders of the steps of the script of actors that the reader holds, on a new core with these
@@ -21,9 +21,11 @@ use std::io::{Read, Write};
 ///
 /// Those clients may vanish that are asked for, or else those that the script's lines let vanish.
 ///
+/// The host's `progress` is told as `explore` says.
+///
 /// On a fault nothing was written, but for `WriteFault`, where a first part of the text was. Costs what `explore` does.
-pub fn explore_script<R: Read, W: Write>(
-    alloc: Global,
+pub fn explore_script<P: Progress, R: Read, W: Write>(
+    host: SearchHost<'_, P>,
     seed: [u8; 16],
     reader: &mut R,
     writer: &mut W,
@@ -33,16 +35,16 @@ pub fn explore_script<R: Read, W: Write>(
     ensures { Explores job.entry (R.remaining reader.old) (R.remaining reader.new)
         (W.contents writer.old) (W.contents writer.new) result }
 {
-    let script = match read_script(alloc, reader) {
+    let script = match read_script(host.alloc, reader) {
         Ok(script) => script,
         Err(fault) => return Err(fault),
     };
-    tell(alloc, seed, writer, job, &script)
+    tell(host, seed, writer, job, &script)
 }
 
 // Writes what is told of the script.
-fn tell<W: Write>(
-    alloc: Global,
+fn tell<P: Progress, W: Write>(
+    host: SearchHost<'_, P>,
     seed: [u8; 16],
     writer: &mut W,
     job: SearchJob<'_>,
@@ -54,7 +56,7 @@ fn tell<W: Write>(
     ensures err { IfErr result
         (TellingStops job.entry (W.contents writer.old) (W.contents writer.new) script.now) }
 {
-    let told = match told_of_script(alloc, seed, job, script) {
+    let told = match told_of_script(host, seed, job, script) {
         Ok(told) => told,
         Err(fault) => return Err(fault),
     };

@@ -1,6 +1,7 @@
 //! What a search through the orders of a script is asked for.
 
 use actor_plays::Waiting;
+use std::alloc::Global;
 
 /// What is searched, and what is written of it.
 #[derive(Clone, Copy)]
@@ -19,6 +20,13 @@ pub struct SearchJob<'a> {
     pub outcome: Option<u64>,
     /// How many states are met at most.
     pub states: u64,
+}
+
+/// Where the memory of a search comes from, and who is told how far it is.
+#[derive(Clone, Copy)]
+pub struct SearchHost<'a, P> {
+    pub alloc: Global,
+    pub progress: &'a P,
 }
 
 /// How a search ended.

@@ -6,10 +6,10 @@ ghost use Rattle.script_lines.specs.Written.{WritesPart};
 ghost use Rattle.outcome_runs.specs.Endings.{EndsExplored, missing_line, unknown_line, unlike_line};
 
 use crate::explore::explore_script;
-use crate::job::{Ending, SearchJob};
+use crate::job::{Ending, SearchHost, SearchJob};
+use play_search::Progress;
 use report_io::end_with;
 use script_lines::write_line;
-use std::alloc::Global;
 use std::fmt;
 use std::io::{Read, Write};
 use std::process::ExitCode;
@@ -103,8 +103,8 @@ fn tell_unlike<F: Write>(faults: &mut F)
 /// asked for or a client that is asked to vanish does not join, 5 where a play that was made again went on otherwise, and
 /// else the status of the fault. Of a fault, a missing outcome or client, or such a play one line is written on `faults`,
 /// as far as that takes it. Costs what `explore_script` costs.
-pub fn explore_to_exit<R: Read, W: Write, F: Write>(
-    alloc: Global,
+pub fn explore_to_exit<P: Progress, R: Read, W: Write, F: Write>(
+    host: SearchHost<'_, P>,
     seed: [u8; 16],
     reader: &mut R,
     writer: &mut W,
@@ -116,7 +116,8 @@ pub fn explore_to_exit<R: Read, W: Write, F: Write>(
         (W.contents writer.old) (W.contents writer.new)
         (F.contents faults.old) (F.contents faults.new) (exit_status result) }
 {
-    match explore_script(alloc, seed, reader, writer, job) {
+    let alloc = host.alloc;
+    match explore_script(host, seed, reader, writer, job) {
         Ok(Ending::Whole) => ExitCode::SUCCESS,
         Ok(Ending::Part) => ExitCode::from(PART),
         Ok(Ending::Broken) => ExitCode::from(BROKEN),

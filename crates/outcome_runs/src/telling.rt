@@ -10,7 +10,7 @@ ghost use Rattle.outcome_texts.specs.Lines.{step_lines_of, steps_in};
 ghost use Rattle.outcome_runs.specs.declared.job.Ending.{Ending as EndingTold};
 ghost use Rattle.outcome_runs.specs.Searches.{HasSearched, IsFoundBy, IsFoundWith, IsJudged, IsPlayed, IsSearch, IsText, IsTold, IsToldBy, IsToldWith, IsUnfound, IsUnheld, IsUnheldBy, IsUnjudged, IsUnlike, IsUnlisted, IsUnsearched, IsUntold, judged_ending, list_asked, outcome_at, stop_told, whole_ending};
 
-use crate::job::{Ending, SearchJob};
+use crate::job::{Ending, SearchHost, SearchJob};
 use crate::reasons::reason_of;
 use actor_plays::Plan;
 use actor_scripts::{ActorList, ActorScriptFault, read_actors};
@@ -18,7 +18,9 @@ use outcome_texts::{
     BadClaim, ClaimLine, ClaimText, LabelNames, StepLine, Telling, claim_texts, has_broken,
     is_list_of, judged_claims, names_of, push_claims, push_play, push_report, step_lines, who_of,
 };
-use play_search::{Exploration, ExploreFault, Found, Setting, Vanishing, explore, plans_of};
+use play_search::{
+    Exploration, ExploreFault, Found, Progress, Setting, Vanishing, explore, plans_of,
+};
 use report_io::{ReportFault, bad_line};
 use script_lines::{Label, LabelHash};
 use sm_names::Limits;
@@ -59,8 +61,8 @@ fn stopped_by(fault: ExploreFault) -> Result<Option<Exploration>, ReportFault>
 }
 
 // What the search through these plans finds, where these clients may vanish; `None` where a play that was made again went on otherwise.
-fn searched(
-    alloc: Global,
+fn searched<P: Progress>(
+    host: SearchHost<'_, P>,
     seed: [u8; 16],
     job: SearchJob<'_>,
     plans: &[Plan],
@@ -75,7 +77,15 @@ fn searched(
         limits: Limits::full(),
         seed,
     };
-    match explore(alloc, setting, plans, vanishing, job.states as usize) {
+    let SearchHost { alloc, progress } = host;
+    match explore(
+        alloc,
+        setting,
+        plans,
+        vanishing,
+        job.states as usize,
+        progress,
+    ) {
         Ok(found) => Ok(Some(found)),
         Err(fault) => stopped_by(fault),
     }
@@ -200,8 +210,8 @@ fn claims_of<'a>(
 }
 
 // What is written of what a search finds, with these claims, and how the search ended.
-fn told_found(
-    alloc: Global,
+fn told_found<P: Progress>(
+    host: SearchHost<'_, P>,
     seed: [u8; 16],
     job: SearchJob<'_>,
     telling: &Telling<'_>,
@@ -213,7 +223,8 @@ fn told_found(
         told.text.items told.ending) }
     ensures err { IfErr result IsUnsearched }
 {
-    match searched(alloc, seed, job, telling.plans, telling.vanishing) {
+    let alloc = host.alloc;
+    match searched(host, seed, job, telling.plans, telling.vanishing) {
         Ok(Some(found)) => match told_of(alloc, telling, &found, claims, job.outcome) {
             Ok(told) => Ok(told),
             Err(_) => Err(ReportFault::NoMemory),
@@ -235,8 +246,8 @@ fn unknown(alloc: Global) -> Told
 }
 
 // What is written of the script's actors, whose claims are these, and how the search ended.
-fn told_with(
-    alloc: Global,
+fn told_with<P: Progress>(
+    host: SearchHost<'_, P>,
     seed: [u8; 16],
     job: SearchJob<'_>,
     telling: &Telling<'_>,
@@ -247,16 +258,16 @@ fn told_with(
         told.text.items told.ending) }
     ensures err { IfErr result IsUnsearched }
 {
-    match is_list_of(alloc, job.vanish, telling.labels) {
-        Ok(true) => told_found(alloc, seed, job, telling, claims),
-        Ok(false) => Ok(unknown(alloc)),
+    match is_list_of(host.alloc, job.vanish, telling.labels) {
+        Ok(true) => told_found(host, seed, job, telling, claims),
+        Ok(false) => Ok(unknown(host.alloc)),
         Err(_) => Err(ReportFault::NoMemory),
     }
 }
 
 // The same, with the claims of these lines.
-fn told_from(
-    alloc: Global,
+fn told_from<P: Progress>(
+    host: SearchHost<'_, P>,
     seed: [u8; 16],
     job: SearchJob<'_>,
     texts: &[ClaimText<'_>],
@@ -267,8 +278,8 @@ fn told_from(
         told.text.items told.ending) }
     ensures err { IfErr result (IsUnfound (texts_in texts.now) telling.now) }
 {
-    match claims_of(alloc, telling, texts) {
-        Ok(claims) => told_with(alloc, seed, job, telling, &claims),
+    match claims_of(host.alloc, telling, texts) {
+        Ok(claims) => told_with(host, seed, job, telling, &claims),
         Err(fault) => Err(fault),
     }
 }
@@ -324,8 +335,8 @@ fn steps_of_list<'a>(
 }
 
 // What is written of the script of this list, by these steps and plans, and how the search ended.
-fn told_by(
-    alloc: Global,
+fn told_by<P: Progress>(
+    host: SearchHost<'_, P>,
     seed: [u8; 16],
     job: SearchJob<'_>,
     script: &[u8],
@@ -340,6 +351,7 @@ fn told_by(
         told.text.items told.ending) }
     ensures err { IfErr result (IsUnheldBy script.now list.now plans.now) }
 {
+    let alloc = host.alloc;
     let hash = LabelHash::new(seed);
     let names = match names_of(alloc, hash, &list.labels, steps) {
         Ok(names) => names,
@@ -355,12 +367,12 @@ fn told_by(
     };
     let vanishing = vanishing_of(job, &who);
     let telling = telling_of(hash, &list.labels, &names, steps, plans, vanishing);
-    told_from(alloc, seed, job, &texts, &telling)
+    told_from(host, seed, job, &texts, &telling)
 }
 
 // The same, where the actors of the script are these.
-fn told_in(
-    alloc: Global,
+fn told_in<P: Progress>(
+    host: SearchHost<'_, P>,
     seed: [u8; 16],
     job: SearchJob<'_>,
     script: &[u8],
@@ -371,20 +383,20 @@ fn told_in(
     ensures ok { IfOk result (λ told. HasSearched job.entry script.now list.now told.text.items told.ending) }
     ensures err { IfErr result (IsUnheld job.entry script.now list.now) }
 {
-    let plans = match plans_of(alloc, &list.scripts, job.waiting) {
+    let plans = match plans_of(host.alloc, &list.scripts, job.waiting) {
         Ok(plans) => plans,
         Err(_) => return Err(ReportFault::NoMemory),
     };
-    let steps = match steps_of_list(alloc, script, list) {
+    let steps = match steps_of_list(host.alloc, script, list) {
         Ok(steps) => steps,
         Err(_) => return Err(ReportFault::NoMemory),
     };
-    told_by(alloc, seed, job, script, list, &steps, &plans)
+    told_by(host, seed, job, script, list, &steps, &plans)
 }
 
 // What is written of a search through the orders of a script, and how it ended.
-pub(crate) fn told_of_script(
-    alloc: Global,
+pub(crate) fn told_of_script<P: Progress>(
+    host: SearchHost<'_, P>,
     seed: [u8; 16],
     job: SearchJob<'_>,
     script: &[u8],
@@ -394,9 +406,9 @@ pub(crate) fn told_of_script(
     ensures ok { IfOk result (λ told. IsTold job.entry script.now told.text.items told.ending) }
     ensures err { IfErr result (IsUntold job.entry script.now) }
 {
-    let list = match list_of(alloc, LabelHash::new(seed), script) {
+    let list = match list_of(host.alloc, LabelHash::new(seed), script) {
         Ok(list) => list,
         Err(fault) => return Err(fault),
     };
-    told_in(alloc, seed, job, script, &list)
+    told_in(host, seed, job, script, &list)
 }

@@ -12,6 +12,7 @@ use crate::graph::{Graph, graph_of};
 use crate::next::Group;
 use crate::order::{Ordered, endings_of, met_of, order_of};
 use crate::outcome::{Outcome, outcome_of};
+use crate::progress::Progress;
 use crate::replay::{Ground, Setting, have_no_turn, replay};
 use crate::shares::{left_at, lefts_of, number_at, shares_of};
 use crate::vanishing::{Vanishing, are_allowed, vanished_of};
@@ -129,11 +130,16 @@ fn ranks_of(
 }
 
 // Searches through all plays.
-fn search(ground: &Ground<'_>, hash: LabelHash, most: usize) -> Result<Searched, ExploreFault>
+fn search<P: Progress>(
+    ground: &Ground<'_>,
+    hash: LabelHash,
+    most: usize,
+    progress: &P,
+) -> Result<Searched, ExploreFault>
     requires { IsPool ground.now.setting.pages }
     ensures { IfOk result (λ found. found.states ≤ most) }
 {
-    let (graph, complete) = graph_of(ground, hash, most)?;
+    let (graph, complete) = graph_of(ground, hash, most, progress)?;
     Ok(read_graph(ground, &graph, complete)?)
 }
 
@@ -311,7 +317,12 @@ fn found_all(ground: &Ground<'_>, goals: &[Goal]) -> Result<Vec<Found>, ExploreF
 }
 
 // What a search finds, where texts hash so.
-fn explored(ground: &Ground<'_>, hash: LabelHash, most: usize) -> Result<Exploration, ExploreFault>
+fn explored<P: Progress>(
+    ground: &Ground<'_>,
+    hash: LabelHash,
+    most: usize,
+    progress: &P,
+) -> Result<Exploration, ExploreFault>
     requires { IsPool ground.now.setting.pages }
     ensures real { IfOk result
         (λ found. All (IsFound ground.now.plans.now ground.now.vanishing ground.now.setting)
@@ -323,7 +334,7 @@ fn explored(ground: &Ground<'_>, hash: LabelHash, most: usize) -> Result<Explora
         states,
         complete,
         orders,
-    } = search(ground, hash, most)?;
+    } = search(ground, hash, most, progress)?;
     let outcomes = found_all(ground, &goals)?;
     Ok(Exploration {
         outcomes,
@@ -341,13 +352,15 @@ fn explored(ground: &Ground<'_>, hash: LabelHash, most: usize) -> Result<Explora
 /// It meets at most this many values of plays, and stops at the first one more, or where the bytes of the values and
 /// the calls of all plays are 1,024 times as many: the answer is then not complete. `NoMemory` where memory is refused,
 /// `HistoryFull` where a play has as many events as may be, `Unlike` where a play that is made again goes on otherwise.
+/// `progress` is told how many values were met, each time that `PROGRESS_STEP` more were, and once that the search is over.
 /// Costs O(`most`) look-ups, calls and bytes, and the plays of the outcomes.
-pub fn explore(
+pub fn explore<P: Progress>(
     alloc: Global,
     setting: Setting,
     plans: &[Plan],
     vanishing: Vanishing<'_>,
     most: usize,
+    progress: &P,
 ) -> Result<Exploration, ExploreFault>
     requires { (1 ≤ setting.pages) × (setting.pages ≤ MAX_PAGES) }
     ensures real { IfOk result
@@ -363,5 +376,7 @@ pub fn explore(
         vanishing,
         bases: &bases,
     };
-    explored(&ground, hash, most)
+    let found = explored(&ground, hash, most, progress);
+    progress.ended();
+    found
 }

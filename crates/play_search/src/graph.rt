@@ -7,6 +7,7 @@ use crate::falls::NamedFall;
 use crate::fault::ExploreFault;
 use crate::next::{Ended, Group, Met, ended_in, met_in, next_in, nexts_of};
 use crate::numbers::small;
+use crate::progress::{Progress, tell_met};
 use crate::replay::{Ground, replay};
 use crate::turns::{code_of, is_step, turn_of};
 use actor_plays::{Play, Turn};
@@ -476,28 +477,34 @@ fn push_edges(edges: &mut Vec<Edge>, nexts: &[Turn]) -> Result<(), AllocError> {
 }
 
 // The graph of all values, this many at most, and whether it is whole.
-pub(crate) fn graph_of(
+pub(crate) fn graph_of<P: Progress>(
     ground: &Ground<'_>,
     hash: LabelHash,
     most: usize,
+    progress: &P,
 ) -> Result<(Graph, bool), ExploreFault>
     requires { IsPool ground.now.setting.pages }
     ensures { IfOk result (λ found. vec_len found.0.rows ≤ most) }
 {
     let mut graph = Graph::new(ground.alloc, hash, most);
-    let whole = fill(&mut graph, ground, most)?;
+    let whole = fill(&mut graph, ground, most, progress)?;
     Ok((graph, whole))
 }
 
 // Adds all values, and answers whether there was room for all.
-fn fill(graph: &mut Graph, ground: &Ground<'_>, most: usize) -> Result<bool, ExploreFault>
+fn fill<P: Progress>(
+    graph: &mut Graph,
+    ground: &Ground<'_>,
+    most: usize,
+    progress: &P,
+) -> Result<bool, ExploreFault>
     requires pages { IsPool ground.now.setting.pages }
     requires within { IsWithin graph.old }
     ensures within { OnOk result (IsWithin graph.new) }
     ensures most { OnOk result (graph.new.most ≡ graph.old.most) }
 {
     begin(graph, ground)?;
-    explore_all(graph, ground, most)?;
+    explore_all(graph, ground, most, progress)?;
     if graph.stops() {
         return Ok(false);
     }
@@ -516,18 +523,25 @@ fn begin(graph: &mut Graph, ground: &Ground<'_>) -> Result<(), ExploreFault>
     Ok(graph.begin(ground, &play)?)
 }
 
-// Goes on from each value, unless the search stops.
-fn explore_all(graph: &mut Graph, ground: &Ground<'_>, most: usize) -> Result<(), ExploreFault>
+// Goes on from each value, unless the search stops, and tells how many were met.
+fn explore_all<P: Progress>(
+    graph: &mut Graph,
+    ground: &Ground<'_>,
+    most: usize,
+    progress: &P,
+) -> Result<(), ExploreFault>
     requires pages { IsPool ground.now.setting.pages }
     requires within { IsWithin graph.old }
     ensures within { OnOk result (IsWithin graph.new) }
     ensures most { OnOk result (graph.new.most ≡ graph.old.most) }
 {
+    let mut told = 0;
     'values: for at in 0..most {
         if graph.stops() || graph.rows.len() <= at {
             return Ok(());
         }
         graph.expand(ground, at)?;
+        told = tell_met(progress, graph.rows.len(), told);
     }
     Ok(())
 }

@@ -1,5 +1,5 @@
 -- What the program says where it does nothing with a script.
-use Rattle.std.specs.Prelude.{◌==◌, ◌||◌, ◌++◌, ℕ, Bool, List, Option, Some, None, if◌then◌else◌, codes}
+use Rattle.std.specs.Prelude.{◌==◌, ◌||◌, ◌++◌, ℕ, Bool, List, Option, Some, None, if◌then◌else◌, codes, decimal}
 use Rattle.std.specs.List.{list_any}
 use Rattle.std.specs.declared.io.ErrorKind.{ErrorKind}
 
@@ -30,3 +30,8 @@ has_point_or_slash name = list_any (λ c. c == 46) name || list_any (λ c. c == 
 abbrev pub file_in : Option (List ℕ) → Option (List ℕ)
 file_in None = None
 file_in (Some word) = if has_point_or_slash word then Some word else None
+
+-- how far a search is, from the start of its line: how many states it met, and how many seconds it took
+abbrev pub reached_text : ℕ → Option ℕ → List ℕ
+reached_text states None = codes "\r" ++ decimal states ++ codes " states"
+reached_text states (Some seconds) = codes "\r" ++ decimal states ++ codes " states, " ++ decimal seconds ++ codes " s"

@@ -4,6 +4,7 @@
 #![tactic(auto)]
 
 mod messages;
+mod progress;
 
 ghost use Rattle.std.specs.Prelude.{◌≡◌, IfErr, MatchResult, option_map};
 ghost use Rattle.std.specs.Process.{exit_status};
@@ -17,14 +18,15 @@ use clap::error::ErrorKind;
 use clap::{ArgMatches, Error};
 use command_line::{CommandLine, Format, ScriptTask, Search, Until, View, command, request_of};
 use messages::{Misplaced, NAME, NO_COMMAND, Unopened, misplaced_file, reason_of};
-use outcome_runs::explore_to_exit;
+use outcome_runs::{SearchHost, explore_to_exit};
+use progress::ProgressLine;
 use script_draw::draw_to_exit;
 use script_explain::{Scope, check_to_exit, explain_to_exit};
 use script_lines::Pages;
 use sm_script::run_to_exit;
 use std::alloc::Global;
 use std::fs::{Files, OpenFile};
-use std::io::{Read, Write};
+use std::io::{IsTerminal, Read, Write};
 use std::process::ExitCode;
 use std::random::RandomSource;
 use std::sync::Wait;
@@ -208,9 +210,9 @@ fn read<H: Threads + Wait + Clock + Sync, R: Read, W: Write, F: Write>(
         (exit_status result) }
 {
     match request.file {
-        None => play(rt.alloc(), host, seed, reader, writer, faults, request),
+        None => play(rt, host, seed, reader, writer, faults, request),
         Some(name) => match opened(rt, name) {
-            Ok(mut file) => play(rt.alloc(), host, seed, &mut file, writer, faults, request),
+            Ok(mut file) => play(rt, host, seed, &mut file, writer, faults, request),
             Err(kind) => unopened(rt, name, kind),
         },
     }
@@ -245,7 +247,7 @@ fn unopened(rt: &impl Eprint, name: &str, kind: io::ErrorKind) -> ExitCode
 // Does with the script that the reader holds what is asked for, with a pool of the pages that are
 // asked for. Actors get their threads from the host.
 fn play<H: Threads + Wait + Clock + Sync, R: Read, W: Write, F: Write>(
-    alloc: Global,
+    rt: &HostRuntime,
     host: &H,
     seed: [u8; 16],
     reader: &mut R,
@@ -258,6 +260,7 @@ fn play<H: Threads + Wait + Clock + Sync, R: Read, W: Write, F: Write>(
         (streams (R.remaining reader.new) (W.contents writer.new) (F.contents faults.new))
         (exit_status result) }
 {
+    let alloc = rt.alloc();
     let pages = request.pages;
     match request.task {
         ScriptTask::Run => run_to_exit(alloc, seed, reader, writer, faults, pages),
@@ -289,7 +292,9 @@ fn play<H: Threads + Wait + Clock + Sync, R: Read, W: Write, F: Write>(
         }
         ScriptTask::Check => check_to_exit(alloc, seed, reader, writer, faults, pages),
         ScriptTask::Explore(search) => {
-            explore_to_exit(alloc, seed, reader, writer, faults, job_of(pages, search))
+            let progress = &ProgressLine::new(rt, rt.stderr().is_terminal());
+            let host = SearchHost { alloc, progress };
+            explore_to_exit(host, seed, reader, writer, faults, job_of(pages, search))
         }
     }
 }

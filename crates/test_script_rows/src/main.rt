@@ -22,8 +22,9 @@ mod setting;
 mod task;
 
 use actor_plays::Waiting;
-use outcome_runs::{Ending, SearchJob, explore_script};
+use outcome_runs::{Ending, SearchHost, SearchJob, explore_script};
 use plain::push_plain;
+use play_search::Silent;
 use report_io::behind;
 use script_draw::{View, draw_script};
 use script_explain::{ReportFault, Scope, check_script, explain_script};
@@ -98,7 +99,11 @@ fn explore(
         outcome,
         states: u64::from(setting.states),
     };
-    let ending = explore_script(alloc, [0; 16], &mut reader, out, job)?;
+    let host = SearchHost {
+        alloc,
+        progress: &Silent,
+    };
+    let ending = explore_script(host, [0; 16], &mut reader, out, job)?;
     Ok(out.extend_from_slice(end_text(ending))?)
 }
 
