@@ -189,6 +189,17 @@ too_few_states() {
     [ $? = 7 ] && grep -q "^not all explored: $most states*, " "$room/out" && hears '' || return 1
   done
 }
+# On a terminal, and there alone, a line counts the states. It is gone at the end, and the report is the same.
+counts_states() {
+  set -- explore --most 2 examples/camera.actors
+  "$program" "$@" >"$room/out" 2>"$room/told" || [ $? = 6 ] || return 1
+  hears '' || return 1
+  python3 -c 'import pty, sys; pty.spawn(sys.argv[1:])' sh -c 'exec "$@" >"$0"' "$room/again" "$program" "$@" \
+    </dev/null >"$room/told"
+  cmp -s "$room/out" "$room/again" && tr '\r' '\n' <"$room/told" >"$room/lines" &&
+    [ "$(head -c 1 "$room/told")" = $'\r' ] && [ "$(tail -n 1 "$room/lines" | tr -d ' ')" = '' ] &&
+    [ "$(grep -cvEx '[0-9]+ states, [0-9]+ s|[ ]*' "$room/lines")" = 0 ] && grep -qE '^[0-9]{4,} states' "$room/lines"
+}
 
 # Words that ask for no run.
 try 2 '' '*' '' fly
@@ -286,6 +297,7 @@ for script in examples/*.outcomes; do
 done
 count too_few_states
 count waits_patiently
+count counts_states
 count says_who 'none vanishes' "$pair"
 count says_who 'none vanishes' "$pair" --most 2
 count says_who 'none vanishes' "$pair" --vanish a --most 0

@@ -291,7 +291,8 @@ who vanishes. A line of the script says the same, unless --vanish is given:
 
     #! vanish a b
 
-With --end each client vanishes once its steps are done.
+With --end each client vanishes once its steps are done. While it runs, a line on
+standard error counts the states, if that is a terminal.
 
 A script may have claims, which other commands skip, such as
 

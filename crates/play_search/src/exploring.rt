@@ -352,7 +352,8 @@ fn explored<P: Progress>(
 /// It meets at most this many values of plays, and stops at the first one more, or where the bytes of the values and
 /// the calls of all plays are 1,024 times as many: the answer is then not complete. `NoMemory` where memory is refused,
 /// `HistoryFull` where a play has as many events as may be, `Unlike` where a play that is made again goes on otherwise.
-/// `progress` is told how many values were met, each time that `PROGRESS_STEP` more were, and once that the search is over.
+/// `progress` is told how many values were met, each time that `PROGRESS_STEP` more were, and once that the search is over. The
+/// answer does not depend on it.
 /// Costs O(`most`) look-ups, calls and bytes, and the plays of the outcomes.
 pub fn explore<P: Progress>(
     alloc: Global,
