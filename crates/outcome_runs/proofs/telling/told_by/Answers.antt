@@ -10,7 +10,7 @@ use Rattle.outcome_runs.proofs.telling.told_by.Goals as goal
 
 -- the labels are those of the list, the steps and plans these, and those may vanish that are asked for or that the lines let vanish
 pub returns-clause-ok : goal.returns-clause-ok
-returns-clause-ok c = IfOk-weaker c.told_from.result _ _
+returns-clause-ok g c = IfOk-weaker c.told_from.result _ _
     (λ told is. record {
       telling = c.telling_of-telling.result;
       is_telling = record {
@@ -34,7 +34,7 @@ returns-clause-ok c = IfOk-weaker c.told_from.result _ _
     (ap texts_in c.deref-6.ensures.value ∙ c.in-Ok-claim_texts.ensures) c.told_from.ensures.ok)
 
 pub returns-clause-err : goal.returns-clause-err
-returns-clause-err c = IfErr-weaker c.told_from.result _ _
+returns-clause-err g c = IfErr-weaker c.told_from.result _ _
     (λ fault why. unfound_held c.args.script.now c.args.list.now c.args.plans.now c.telling_of-telling.result fault
     (record {
       labels = c.telling_of-telling.ensures.labels ∙ c.deref-5.ensures.value;

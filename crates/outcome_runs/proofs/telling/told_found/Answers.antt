@@ -3,7 +3,7 @@ use Rattle.outcome_runs.proofs.telling.told_found.Goals as goal
 
 -- what was found is told
 pub returns-in-Ok-clause-ok : goal.returns-in-Ok-clause-ok
-returns-in-Ok-clause-ok c = (
+returns-in-Ok-clause-ok g c = (
   c.requires.good,
   inl (record {
     found = c.in-Ok-Some.found;

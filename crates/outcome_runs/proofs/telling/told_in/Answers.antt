@@ -7,7 +7,7 @@ use Rattle.outcome_runs.proofs.telling.told_in.Goals as goal
 
 -- what is told by the plans of the list
 pub returns-clause-ok : goal.returns-clause-ok
-returns-clause-ok c = IfOk-weaker c.told_by.result _ _
+returns-clause-ok g c = IfOk-weaker c.told_by.result _ _
     (λ told is. record {
       plans = c.in-Ok.plans.items;
       planned_steps = c.in-Ok.ensures
@@ -18,7 +18,7 @@ returns-clause-ok c = IfOk-weaker c.told_by.result _ _
     }) (rw c.deref-3.ensures.value at c.told_by.ensures.ok)
 
 pub returns-clause-err : goal.returns-clause-err
-returns-clause-err c = IfErr-weaker c.told_by.result _ _
+returns-clause-err g c = IfErr-weaker c.told_by.result _ _
     (λ fault why. unheld_in c.args.job c.args.script.now c.args.list.now c.in-Ok.plans.items fault (c.in-Ok.ensures
     ∙ ap (λ (scripts : List ActorScript). map (λ (one : ActorScript). planned c.args.job.waiting one.steps.items) scripts)
     c.deref.ensures.value) why)

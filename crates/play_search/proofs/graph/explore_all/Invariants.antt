@@ -4,7 +4,7 @@ use Rattle.play_search.proofs.graph.explore_all.Given as goal
 
 -- so far there is room
 abbrev pub invariant-values : goal.invariant-values
-invariant-values l = record {
+invariant-values g l = record {
   within : IsWithin l.graph;
   most : l.graph.most ≡ l.fn.graph.most;
 }
