@@ -30,7 +30,7 @@ use Rattle.name_laws.proofs.Forcings.{any_alike, first_some-map}
 -- ---- calls
 
 -- By the call.
-key-renamed : (to : NodeKey → NodeKey) (id : ℕ → ℕ) (call : Call) →
+pub key-renamed : (to : NodeKey → NodeKey) (id : ℕ → ℕ) (call : Call) →
     key_of (call_renamed to id call) ≡ option_map to (key_of call)
 key-renamed to id Call.Join = refl
 key-renamed to id call = refl

@@ -29,7 +29,7 @@ use Rattle.name_laws.proofs.Answering.{length-renamed}
 -- ---- nodes and collections
 
 -- By the list of collections.
-nodes-renamed : (to : NodeKey → NodeKey) (id : ℕ → ℕ) (cs : List Collection) →
+pub nodes-renamed : (to : NodeKey → NodeKey) (id : ℕ → ℕ) (cs : List Collection) →
     flat_map (λ (c : Collection). c.nodes) (map (collection_renamed to id) cs)
     ≡ map (node_renamed to id) (flat_map (λ (c : Collection). c.nodes) cs)
 nodes-renamed to id [] = refl

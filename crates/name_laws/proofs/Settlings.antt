@@ -29,7 +29,7 @@ use Rattle.name_laws.proofs.Forcings.{any_alike, asked-renamed, filter_alike, fo
 -- ---- buffers and their pages
 
 -- A renamed buffer keeps its pages.
-pages-renamed : (id : ℕ → ℕ) (hs : List HeldBuffer) →
+pub pages-renamed : (id : ℕ → ℕ) (hs : List HeldBuffer) →
     map (λ (h : HeldBuffer). h.pages) (map (held_renamed id) hs) ≡ map (λ (h : HeldBuffer). h.pages) hs
 pages-renamed id [] = refl
 pages-renamed id (h ∷ hs) = ap (λ (l : List Interval). h.pages ∷ l) (pages-renamed id hs)

@@ -1,0 +1,11 @@
+pub mod Mixing
+pub mod Finding
+pub mod Readings
+pub mod FoundAlike
+pub mod Clients
+pub mod Settling
+pub mod Nodes
+pub mod Working
+pub mod Worked
+pub mod Sweeping
+pub mod Events

@@ -1,0 +1,161 @@
+-- Which trackers fire in cores that are alike.
+use Rattle.std.proofs.Common.{ℕ, ◌≡◌, ◌∷◌, ◌++◌, [], refl, ap, sym, subst, ◌∙◌, Bool, true, false, cond, ◌&&◌, nat_le, not, List, length, map, Option, Some, None, is_some}
+use Rattle.std.proofs.lemmas.List.{map-append}
+use Rattle.std.specs.List.{filter, find, flat_map}
+use Rattle.std.specs.Option.{option_map, option_map_or}
+use Rattle.sm_names.specs.declared.keys.BufferName.{BufferName}
+use Rattle.sm_names.specs.declared.keys.NodeKey.{NodeKey}
+use Rattle.sm_names.specs.declared.keys.Strength.{Strength}
+use Rattle.sm_names.specs.declared.tracking.Condition.{Condition}
+use Rattle.sm_names.specs.declared.tracking.Fired.{Fired}
+use Rattle.sm_names.specs.Handles.{is_doomed}
+use Rattle.sm_names.specs.Members.{some_strong_live}
+use Rattle.sm_names.specs.Trackers.{World, holds}
+use Rattle.sm_names.proofs.ListLaws.{map-map}
+use Rattle.forest_store.specs.declared.node.Node.{Node}
+use Rattle.forest_store.specs.Forest.{Collection, Forest, collection_at, node_at}
+use Rattle.forest_store.specs.Nodes.{members_of}
+use Rattle.forest_store.specs.Settling.{Handles}
+use Rattle.trackers.specs.declared.waiting.Waiting.{Waiting}
+use Rattle.trackers.specs.Table.{TrackerTable, firing, firings, is_due, still_waiting}
+use Rattle.core_state.specs.Reads.{world_in}
+use Rattle.core_state.specs.Steps.{GainsTracker}
+use Rattle.name_laws.specs.Alike.{KeepsIds}
+use Rattle.name_laws.specs.Renamed.{CountsAlike, KeepsKeys, buffer_renamed, collection_renamed, held_renamed, node_renamed}
+use Rattle.name_laws.proofs.Answering.{length-renamed}
+use Rattle.name_laws.proofs.Forcings.{filter_alike, strong-renamed}
+use Rattle.name_laws.proofs.Renamings.{members-renamed}
+use Rattle.alike_cores.specs.Cores.{condition_renamed, undated, waiting_renamed}
+use Rattle.alike_cores.specs.Mixed.{Mixed, Mixes}
+use Rattle.alike_cores.proofs.Finding.{found_collection, found_node, node_undated}
+use Rattle.alike_cores.proofs.FoundAlike.{read_or-alike}
+use Rattle.alike_cores.proofs.Mixing.{mixed-before, mixed-behind, mixed-filter, mixed-map}
+use Rattle.alike_cores.proofs.Worked.{AreWorked}
+
+-- ---- what trackers look at
+
+-- A member keeps its flags under its new key.
+strong-alike : (to : NodeKey → NodeKey) (id : ℕ → ℕ) → KeepsKeys to → (nodes : List Node) →
+    some_strong_live (members_of (map (node_renamed to id) nodes)) ≡ some_strong_live (members_of nodes)
+strong-alike to id keeps nodes = ap some_strong_live (members-renamed to id keeps nodes) ∙ strong-renamed to (members_of nodes)
+
+module _ (to : NodeKey → NodeKey) (id : ℕ → ℕ) (keeps : KeepsKeys to) (kept : KeepsIds id) (left right : Forest)
+    (worked : AreWorked to id left.collections right.collections) (before after : Handles) (counts : CountsAlike id before after) where
+  -- the node of the new key is the renamed one
+  node_there : (key : NodeKey) → option_map node_undated (node_at right (to key)) ≡ option_map (node_renamed to id) (node_at left key)
+  node_there key = found_node to id keeps kept left.collections right.collections worked.alike worked.apart key
+
+  -- the collection of the new id is the renamed one
+  collection_there : (i : ℕ) → option_map undated (collection_at right (id i))
+      ≡ option_map (collection_renamed to id) (collection_at left i)
+  collection_there i = found_collection to id keeps kept left.collections right.collections worked.alike worked.apart i
+
+  -- A node is gone or not under any key.
+  gone-alike : (key : NodeKey) → (world_in right after).gone (to key) ≡ (world_in left before).gone key
+  gone-alike key = read_or-alike node_undated (node_renamed to id) (λ (n : Node). n.gone) true (node_at right (to key)) (node_at left key)
+      (node_there key)
+
+  -- And so is its unit allocated.
+  allocated-alike : (key : NodeKey) → (world_in right after).allocated (to key) ≡ (world_in left before).allocated key
+  allocated-alike key = read_or-alike node_undated (node_renamed to id) (λ (n : Node). n.allocated) true (node_at right (to key))
+      (node_at left key) (node_there key)
+
+  -- As many buffers of a collection are not home.
+  left-alike : (i : ℕ) → (world_in right after).left (id i) ≡ (world_in left before).left i
+  left-alike i =
+      sym (λ j. option_map_or (λ (c : Collection). length-renamed (held_renamed (λ k. k)) c.held j) (collection_at right (id i)) 0)
+      ∙ (read_or-alike undated (collection_renamed to id) (λ (c : Collection). length c.held) 0 (collection_at right (id i))
+      (collection_at left i) (collection_there i)
+      ∙ (λ j. option_map_or (λ (c : Collection). length-renamed (held_renamed id) c.held j) (collection_at left i) 0))
+
+  -- A buffer is doomed or not under any name.
+  doomed-alike : (b : BufferName) → (world_in right after).doomed (buffer_renamed id b) ≡ (world_in left before).doomed b
+  doomed-alike b =
+      sym (λ j. option_map_or
+      (λ (c : Collection). is_some c.buffers
+      && is_doomed (after (buffer_renamed id b) Strength.Strong) (strong-alike (λ k. k) (λ k. k) (λ x y. refl) c.nodes j))
+      (collection_at right (id b.collection)) false)
+      ∙ (read_or-alike undated (collection_renamed to id)
+      (λ (c : Collection). is_some c.buffers
+      && is_doomed (after (buffer_renamed id b) Strength.Strong) (some_strong_live (members_of c.nodes)))
+      false (collection_at right (id b.collection)) (collection_at left b.collection) (collection_there b.collection)
+      ∙ (λ j. option_map_or
+      (λ (c : Collection). is_some c.buffers && is_doomed (counts b Strength.Strong j) (strong-alike to id keeps c.nodes j))
+      (collection_at left b.collection) false))
+
+  -- By the condition.
+  holds-alike : (c : Condition) → holds (world_in right after) (condition_renamed to id c) ≡ holds (world_in left before) c
+  holds-alike (Condition.Node key) = gone-alike key
+  holds-alike (Condition.Lifetime key collection most) =
+      λ i. cond (allocated-alike key i) (nat_le (left-alike collection i) most) (gone-alike key i)
+  holds-alike (Condition.Weak buffer) = doomed-alike buffer
+
+  module _ (number : ℕ → ℕ) (one other : List Waiting) (mixed : Mixed (map (waiting_renamed to id number) one) other) where
+    -- those that wait on are alike
+    pub still-alike : Mixed (map (waiting_renamed to id number) (still_waiting (world_in left before) one))
+        (still_waiting (world_in right after) other)
+    still-alike = subst (λ (l : List Waiting). Mixed l (still_waiting (world_in right after) other))
+        (filter_alike (λ (w : Waiting). not (is_due (world_in right after) w)) (λ (w : Waiting). not (is_due (world_in left before) w))
+        (waiting_renamed to id number) (λ w. ap not (holds-alike w.condition)) one)
+        (mixed-filter (λ (w : Waiting). not (is_due (world_in right after) w)) (map (waiting_renamed to id number) one) other mixed)
+
+    -- those that are due are alike
+    due-alike : Mixed (map (waiting_renamed to id number) (filter (is_due (world_in left before)) one))
+        (filter (is_due (world_in right after)) other)
+    due-alike = subst (λ (l : List Waiting). Mixed l (filter (is_due (world_in right after)) other))
+        (filter_alike (is_due (world_in right after)) (is_due (world_in left before)) (waiting_renamed to id number)
+        (λ w. holds-alike w.condition) one)
+        (mixed-filter (is_due (world_in right after)) (map (waiting_renamed to id number) one) other mixed)
+
+    -- and so the numbers of those that fire
+    pub firings-alike : (event later : ℕ) →
+        Mixed (map (λ (f : Fired). number f.tracker) (firings (world_in left before) event one))
+        (map (λ (f : Fired). f.tracker) (firings (world_in right after) later other))
+    firings-alike event later =
+        subst (λ (l : List ℕ). Mixed l (map (λ (f : Fired). f.tracker) (firings (world_in right after) later other)))
+        (map-map (λ (w : Waiting). w.id) (waiting_renamed to id number) (filter (is_due (world_in left before)) one)
+        ∙ sym (map-map (λ (f : Fired). number f.tracker) (firing event) (filter (is_due (world_in left before)) one)))
+        (subst (Mixed (map (λ (w : Waiting). w.id) (map (waiting_renamed to id number) (filter (is_due (world_in left before)) one))))
+        (sym (map-map (λ (f : Fired). f.tracker) (firing later) (filter (is_due (world_in right after)) other)))
+        (mixed-map (λ (w : Waiting). w.id) (map (waiting_renamed to id number) (filter (is_due (world_in left before)) one))
+        (filter (is_due (world_in right after)) other) due-alike))
+
+-- ---- a tracker that is made
+
+-- By whether one is made: it stands last.
+pub gains-alike : (to : NodeKey → NodeKey) (id number : ℕ → ℕ) (old again : TrackerTable) →
+    Mixed (map (waiting_renamed to id number) old.unfired) again.unfired → (o : Option Waiting) (new later : TrackerTable) →
+    GainsTracker old o new → GainsTracker again (option_map (waiting_renamed to id number) o) later →
+    Mixed (map (waiting_renamed to id number) new.unfired) later.unfired
+gains-alike to id number old again mixed None new later one other =
+    subst (λ (x : TrackerTable). Mixed (map (waiting_renamed to id number) x.unfired) later.unfired) (sym one)
+    (subst (λ (x : TrackerTable). Mixed (map (waiting_renamed to id number) old.unfired) x.unfired) (sym other) mixed)
+gains-alike to id number old again mixed (Some w) new later one other =
+    subst (λ (x : TrackerTable). Mixed (map (waiting_renamed to id number) x.unfired) later.unfired) (sym one.next)
+    (subst (λ (x : TrackerTable). Mixed (map (waiting_renamed to id number) (old.unfired ++ w ∷ [])) x.unfired) (sym other.next)
+    (subst (λ (l : List Waiting). Mixed l (again.unfired ++ waiting_renamed to id number w ∷ []))
+    (sym (map-append (waiting_renamed to id number) old.unfired (w ∷ [])))
+    (mixed-before (map (waiting_renamed to id number) old.unfired) again.unfired (waiting_renamed to id number w ∷ []) mixed)))
+
+-- By whether one is made: none fires by that.
+pub gains_fired : (old : TrackerTable) (o : Option Waiting) (new : TrackerTable) → GainsTracker old o new → new.fired ≡ old.fired
+gains_fired old None new gains = ap (λ (x : TrackerTable). x.fired) gains
+gains_fired old (Some w) new gains = ap (λ (x : TrackerTable). x.fired) gains.next
+
+-- Those that fired before, and those that fire now.
+pub more_fired : (number : ℕ → ℕ) (one more other again : List Fired) →
+    Mixed (map (λ (f : Fired). number f.tracker) one) (map (λ (f : Fired). f.tracker) other) →
+    Mixed (map (λ (f : Fired). number f.tracker) more) (map (λ (f : Fired). f.tracker) again) →
+    Mixed (map (λ (f : Fired). number f.tracker) (one ++ more)) (map (λ (f : Fired). f.tracker) (other ++ again))
+more_fired number one more other again before now =
+    subst (λ (l : List ℕ). Mixed l (map (λ (f : Fired). f.tracker) (other ++ again)))
+    (sym (map-append (λ (f : Fired). number f.tracker) one more))
+    (subst (Mixed (map (λ (f : Fired). number f.tracker) one ++ map (λ (f : Fired). number f.tracker) more))
+    (sym (map-append (λ (f : Fired). f.tracker) other again))
+    (Mixes (map (λ (f : Fired). number f.tracker) one ++ map (λ (f : Fired). number f.tracker) more)
+    (map (λ (f : Fired). f.tracker) other ++ map (λ (f : Fired). number f.tracker) more)
+    (map (λ (f : Fired). f.tracker) other ++ map (λ (f : Fired). f.tracker) again)
+    (mixed-before (map (λ (f : Fired). number f.tracker) one) (map (λ (f : Fired). f.tracker) other)
+    (map (λ (f : Fired). number f.tracker) more) before)
+    (mixed-behind (map (λ (f : Fired). f.tracker) other) (map (λ (f : Fired). number f.tracker) more)
+    (map (λ (f : Fired). f.tracker) again) now)))

@@ -1,0 +1,2 @@
+//! Two cores that are alike but for names.
+#![tactic(auto)]
