@@ -9,3 +9,4 @@ pub mod Working
 pub mod Worked
 pub mod Sweeping
 pub mod Events
+pub mod Keys
