@@ -10,3 +10,4 @@ pub mod Worked
 pub mod Sweeping
 pub mod Events
 pub mod Keys
+pub mod Shown

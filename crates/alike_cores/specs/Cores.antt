@@ -1,10 +1,12 @@
 -- Cores that are alike but for names, the numbers of events, and the order of collections and trackers.
-use Rattle.std.specs.Prelude.{◌≡◌, ℕ, map}
+use Rattle.std.specs.Prelude.{◌≡◌, ℕ, Some, map}
 use Rattle.sm_names.specs.declared.keys.BufferName.{BufferName}
 use Rattle.sm_names.specs.declared.keys.NodeKey.{NodeKey}
 use Rattle.sm_names.specs.declared.keys.Strength.{Strength}
+use Rattle.sm_names.specs.declared.messages.Reply.{Reply}
 use Rattle.sm_names.specs.declared.tracking.Condition.{Condition}
 use Rattle.sm_names.specs.declared.tracking.Fired.{Fired}
+use Rattle.sm_names.specs.Answers.{new_key}
 use Rattle.buffer_holds.specs.Counts.{of, total}
 use Rattle.forest_store.specs.Forest.{Collection}
 use Rattle.trackers.specs.declared.waiting.Waiting.{Waiting}
@@ -44,3 +46,7 @@ pub record AreAlikeCores (to : NodeKey → NodeKey) (id number : ℕ → ℕ) (s
   pub total : CountsAlike id (total s.holds) (total t.holds)
   pub unfired : Mixed (map (waiting_renamed to id number) s.trackers.unfired) t.trackers.unfired
   pub fired : Mixed (map (λ (f : Fired). number f.tracker) s.trackers.fired) (map (λ (f : Fired). f.tracker) t.trackers.fired)
+
+-- where both replies tell of a new node, its key becomes that of the other
+abbrev pub NamesNew : (NodeKey → NodeKey) → Reply → Reply → Type 0
+NamesNew to reply told = (key new : NodeKey) → new_key reply ≡ Some key → new_key told ≡ Some new → to key ≡ new

@@ -1,0 +1,47 @@
+//! What is proved of two cores that are alike but for names. `to` gives each key a new one, `id` each
+//! collection a new number, and `number` each tracker.
+ghost use Rattle.std.specs.Prelude.{◌≡◌, ◌+◌, List, None, ℕ};
+ghost use Rattle.sm_names.specs.declared.keys.NodeKey.{NodeKey};
+ghost use Rattle.sm_names.specs.declared.messages.Call.{Call};
+ghost use Rattle.sm_names.specs.declared.messages.Reply.{Reply};
+ghost use Rattle.sm_names.specs.Answers.{answer};
+ghost use Rattle.sm_names.specs.Bounds.{Bound};
+ghost use Rattle.sm_names.specs.Ends.{joined_at};
+ghost use Rattle.sm_names.specs.Marks.{Called, Entry};
+ghost use Rattle.core_state.specs.Reads.{readings_of};
+ghost use Rattle.core_state.specs.Shown.{Shows};
+ghost use Rattle.core_state.specs.State.{State};
+ghost use Rattle.core_state.specs.Theorem.{Makes};
+ghost use Rattle.name_laws.specs.Alike.{AreAlike, KeepsIds, call_renamed, reply_renamed};
+ghost use Rattle.name_laws.specs.Renamed.{KeepsKeys};
+ghost use Rattle.alike_cores.specs.Cores.{AreAlikeCores, NamesNew};
+
+/// All that answers read of cores that are alike is alike, so that a renamed call is answered by the
+/// renamed reply.
+pub fn alike_cores_answer_alike()
+    ensures reads { (to : NodeKey → NodeKey) (id number : ℕ → ℕ) → KeepsKeys to → KeepsIds id →
+        (s t : State) (history : List Entry) → Shows s history →
+        AreAlikeCores to id number s t → AreAlike to id (readings_of s) (readings_of t) }
+    ensures answers { (to : NodeKey → NodeKey) (id number : ℕ → ℕ) → KeepsKeys to → KeepsIds id →
+        (s t : State) (history : List Entry) → Shows s history →
+        AreAlikeCores to id number s t →
+        id (s.events + 1) ≡ t.events + 1 → number (s.events + 1) ≡ t.events + 1 →
+        (limits : Bound) (client : ℕ) (new : NodeKey) (call : Call) →
+        answer limits (readings_of t) client (to new) (call_renamed to id call)
+        ≡ reply_renamed to id number (answer limits (readings_of s) client new call) }
+{}
+
+/// A call makes of cores that are alike cores that are alike, and is answered alike, where the names
+/// that it makes are those that become each other. A Join is none of these calls: clients keep their
+/// numbers.
+pub fn alike_cores_stay_alike()
+    ensures { (to : NodeKey → NodeKey) (id number : ℕ → ℕ) → KeepsKeys to → KeepsIds id →
+        (s t later again : State) (one other : List Entry) → Shows s one → Shows t other →
+        AreAlikeCores to id number s t →
+        id (s.events + 1) ≡ t.events + 1 → number (s.events + 1) ≡ t.events + 1 →
+        (client : ℕ) (call : Call) (reply told : Reply) →
+        joined_at (Called client reply call) ≡ None → NamesNew to reply told →
+        Makes s later (client, call, reply) →
+        Makes t again (client, call_renamed to id call, told) →
+        (told ≡ reply_renamed to id number reply) × AreAlikeCores to id number later again }
+{}
