@@ -11,3 +11,4 @@ pub mod Sweeping
 pub mod Events
 pub mod Keys
 pub mod Shown
+pub mod Composing
