@@ -1,10 +1,8 @@
 -- One event in cores that are alike.
-use Rattle.std.proofs.Common.{ℕ, ◌≡◌, ◌++◌, ◌==◌, ◌&&◌, refl, ap, sym, subst, ◌∙◌, Bool, not, List, [], ◌∷◌, map, Option, Some, None}
+use Rattle.std.proofs.Common.{ℕ, ◌≡◌, ◌++◌, ◌==◌, ◌&&◌, refl, ap, sym, subst, ◌∙◌, not, List, [], ◌∷◌, map, Option, Some, None}
 use Rattle.std.specs.List.{filter}
 use Rattle.std.specs.Option.{option_map}
-use Rattle.sm_names.specs.declared.keys.BufferName.{BufferName}
 use Rattle.sm_names.specs.declared.keys.NodeKey.{NodeKey}
-use Rattle.sm_names.specs.declared.keys.Strength.{Strength}
 use Rattle.sm_names.specs.declared.messages.Call.{Call}
 use Rattle.sm_names.specs.declared.messages.Reply.{Reply}
 use Rattle.sm_names.specs.declared.tracking.Fired.{Fired}
@@ -13,15 +11,13 @@ use Rattle.sm_names.specs.Ends.{joined_at}
 use Rattle.sm_names.specs.Marks.{Called}
 use Rattle.event_laws.specs.ByEvent.{anyone, only}
 use Rattle.buffer_holds.specs.Counts.{of, total}
-use Rattle.forest_store.specs.declared.node.End.{End}
-use Rattle.forest_store.specs.declared.node.Node.{Node}
 use Rattle.forest_store.specs.Forest.{Collection, Forest, is_left, tidied, with_nodes}
 use Rattle.forest_store.specs.Nodes.{with_end}
 use Rattle.trackers.specs.declared.waiting.Waiting.{Waiting}
 use Rattle.trackers.specs.Table.{TrackerTable, firings, still_waiting}
 use Rattle.core_state.specs.declared.task.EndPlace.{EndPlace}
 use Rattle.core_state.specs.Reads.{world_in}
-use Rattle.core_state.specs.State.{Client, HandleCounts, State}
+use Rattle.core_state.specs.State.{HandleCounts, State}
 use Rattle.core_state.specs.Steps.{Follows, GainsTracker, Worked, clients_by, end_by, tracker_by, with_place, without_unkept, work_of}
 use Rattle.core_state.specs.Whole.{IsSound}
 use Rattle.name_laws.specs.Alike.{KeepsIds, call_renamed, client_renamed, reply_renamed}

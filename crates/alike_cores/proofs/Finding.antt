@@ -1,5 +1,5 @@
 -- What is found by its name in renamed collections, in whatever order they stand.
-use Rattle.std.proofs.Common.{ℕ, ◌≡◌, refl, ap, sym, subst, ◌∙◌, Bool, true, ◌==◌, List, map, Option, Some}
+use Rattle.std.proofs.Common.{ℕ, ◌≡◌, refl, ap, sym, subst, ◌∙◌, ◌==◌, List, map}
 use Rattle.std.proofs.lemmas.Bool.{eq-eqb, eqb-true}
 use Rattle.std.specs.List.{find, flat_map}
 use Rattle.std.specs.Option.{option_map}
@@ -20,7 +20,7 @@ use Rattle.name_laws.proofs.Reading.{nodes-renamed}
 use Rattle.name_laws.proofs.Renamings.{node_of-renamed}
 use Rattle.alike_cores.specs.Cores.{undated}
 use Rattle.alike_cores.specs.Mixed.{Mixed}
-use Rattle.alike_cores.proofs.Mixing.{In-mixed, find-mixed, mixed-back, mixed-flat_map}
+use Rattle.alike_cores.proofs.Mixing.{find-mixed, mixed-flat_map}
 
 -- ---- names
 

@@ -99,16 +99,16 @@ first-keyed key limits r client call = λ i.
     unknown-keyed key r client call i
     ∷ refused-keyed key ((acquires call && r.is_shut client) || option_map_or r.is_shut (receiver_of call) false) Refusal.ClientShut i
     ∷ then-keyed key (λ k. refused_if (option_map_or (is_anothers client) (r.end_of k) true) Refusal.NoSuchEnd)
-        (λ k. refused-keyed key (option_map_or (is_anothers client) (r.end_of k) true) Refusal.NoSuchEnd) (key_of call) i
+    (λ k. refused-keyed key (option_map_or (is_anothers client) (r.end_of k) true) Refusal.NoSuchEnd) (key_of call) i
     ∷ then-keyed key (λ (e : OpenEnd). refused_if e.in_transit Refusal.InTransit)
-        (λ e. refused-keyed key e.in_transit Refusal.InTransit) (end_named r call) i
+    (λ e. refused-keyed key e.in_transit Refusal.InTransit) (end_named r call) i
     ∷ closing-keyed key call i
     ∷ then-keyed key (λ (e : OpenEnd). option_map (λ (f : Fault). Reply.PeerClosed f.cause f.origin) e.fault)
-        (λ e. closed-keyed key e.fault) (end_named r call) i
+    (λ e. closed-keyed key e.fault) (end_named r call) i
     ∷ then-keyed key
-        (λ (e : OpenEnd). refused_if (option_map_or (λ k. not (same_kind e.kind k)) (kind_for call) false) Refusal.WrongKind)
-        (λ e. refused-keyed key (option_map_or (λ k. not (same_kind e.kind k)) (kind_for call) false) Refusal.WrongKind)
-        (end_named r call) i
+    (λ (e : OpenEnd). refused_if (option_map_or (λ k. not (same_kind e.kind k)) (kind_for call) false) Refusal.WrongKind)
+    (λ e. refused-keyed key (option_map_or (λ k. not (same_kind e.kind k)) (kind_for call) false) Refusal.WrongKind)
+    (end_named r call) i
     ∷ then-keyed key (λ (e : OpenEnd). misuse_of e call) (misuse-keyed key call) (end_named r call) i
     ∷ handle-keyed key r client call i
     ∷ limits-keyed key limits r call i

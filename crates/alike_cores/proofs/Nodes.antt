@@ -1,5 +1,5 @@
 -- Which nodes a collection has after a change and all that it forces.
-use Rattle.std.proofs.Common.{ℕ, ◌≡◌, ◌⊎◌, inl, inr, refl, ap, sym, subst, ◌∙◌, Bool, true, false, cond, List, [], ◌∷◌, ◌++◌, map, Option, Some, None}
+use Rattle.std.proofs.Common.{ℕ, ◌≡◌, ◌⊎◌, inl, inr, refl, ap, sym, ◌∙◌, Bool, true, false, List, [], ◌∷◌, ◌++◌, map, Option, Some, None}
 use Rattle.std.specs.Option.{option_map_or}
 use Rattle.sm_names.specs.declared.keys.Interval.{Interval}
 use Rattle.sm_names.specs.declared.keys.NodeKey.{NodeKey}
@@ -10,7 +10,7 @@ use Rattle.forest_store.specs.declared.change.Effect.{Effect}
 use Rattle.forest_store.specs.declared.node.Node.{Node}
 use Rattle.forest_store.specs.Forest.{Collection}
 use Rattle.forest_store.specs.Nodes.{affected, ended, given_buffers, is_taken, lost, new_child, new_root, node_of}
-use Rattle.forest_store.specs.Settling.{Handles, Settles, Rests, Forces, changed, is_birth, is_root_of, made, with_birth}
+use Rattle.forest_store.specs.Settling.{Handles, Settles, Rests, Forces, changed, is_birth, is_root_of, made}
 use Rattle.core_state.specs.Whole.{AreOnce}
 
 -- no key stands twice in the new nodes if none does in the old ones, and each new node has the key of an old one

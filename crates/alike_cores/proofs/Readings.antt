@@ -1,5 +1,5 @@
 -- What answers read of cores that are alike.
-use Rattle.std.proofs.Common.{ℕ, ◌≡◌, refl, ap, sym, ◌∙◌, Bool, true, false, cond, not, List, [], ◌∷◌, length, map, Option, Some, None}
+use Rattle.std.proofs.Common.{ℕ, ◌≡◌, refl, ap, sym, ◌∙◌, cond, not, List, [], ◌∷◌, length, map, Option, Some, None}
 use Rattle.std.specs.List.{filter, flat_map}
 use Rattle.std.specs.Option.{option_and_then, option_map, option_map_or}
 use Rattle.sm_names.specs.declared.keys.BufferName.{BufferName}
@@ -14,10 +14,9 @@ use Rattle.forest_store.specs.declared.node.Node.{Node}
 use Rattle.forest_store.specs.Forest.{Collection, collection_at, node_at}
 use Rattle.forest_store.specs.Nodes.{is_spent, members_of}
 use Rattle.forest_store.specs.Settling.{buffer_names}
-use Rattle.trackers.specs.declared.waiting.Waiting.{Waiting}
 use Rattle.core_state.specs.Reads.{end_in, open_end_in, open_end_of, readings_of}
 use Rattle.core_state.specs.State.{State}
-use Rattle.name_laws.specs.Alike.{AreAlike, IsRenamed, KeepsIds, client_renamed, end_renamed}
+use Rattle.name_laws.specs.Alike.{AreAlike, KeepsIds, client_renamed, end_renamed}
 use Rattle.name_laws.specs.Renamed.{KeepsKeys, buffer_renamed, collection_renamed, fault_renamed}
 use Rattle.name_laws.proofs.Answering.{length-renamed}
 use Rattle.name_laws.proofs.Reading.{readings-renamed}

@@ -1,5 +1,5 @@
 -- What a change forces in renamed collections, beside the same pages.
-use Rattle.std.proofs.Common.{ℕ, ◌≡◌, ◌<◌, refl, ap, sym, subst, ◌∙◌, Bool, true, false, cond, ◌||◌, ◌&&◌}
+use Rattle.std.proofs.Common.{ℕ, ◌≡◌, ◌<◌, refl, ap, sym, subst, ◌∙◌, Bool, false, cond, ◌||◌, ◌&&◌}
 use Rattle.std.proofs.Common.{◌==◌, nat_lt, not, inl, inr, List, [], ◌∷◌, ◌++◌, map, Option, Some, None, is_none, arith}
 use Rattle.std.proofs.lemmas.Bool.{eqb-true, ltb-true}
 use Rattle.std.specs.List.{AllByRecursion, filter, flat_map, list_any}
@@ -13,7 +13,7 @@ use Rattle.sm_names.specs.Forced.{Standing, abandoned, ending, forced, logical_a
 use Rattle.sm_names.specs.Handles.{names}
 use Rattle.sm_names.specs.Marks.{Mark, Called, Loss, Allocated, Ended}
 use Rattle.sm_names.specs.Members.{Member, asked, is_ready, root_left, some_strong_live}
-use Rattle.sm_names.specs.Pages.{pages_of, places}
+use Rattle.sm_names.specs.Pages.{pages_of}
 use Rattle.sm_names.specs.Timelines.{laid_out}
 use Rattle.sm_names.specs.Words.{first_some, when}
 use Rattle.sm_names.proofs.ListLaws.{In, filter-all}
@@ -171,14 +171,21 @@ put-mixed new (c ∷ cs) rise =
     elim (either_way (c.id == new.id)) [
       | inl same ↦
           let is : c.id ≡ new.id = eqb-true c.id new.id same in
-          rw (same, none-above c.id new.id cs rise.0 (λ m less. false_if (m == new.id) (λ e.
-          let equal : m ≡ new.id = eqb-true m new.id e in omega arith)))
+          rw (
+            same,
+            none-above c.id new.id cs rise.0 (λ m less. false_if (m == new.id) (λ e.
+                let equal : m ≡ new.id = eqb-true m new.id e in omega arith)),
+          )
           (mixed-same (new ∷ cs))
       | inr apart ↦ elim (either_way (nat_lt new.id c.id)) [
         | inl before ↦
             let less : new.id < c.id = ltb-true new.id c.id before in
-            rw (apart, before, none-above c.id new.id cs rise.0 (λ m more. false_if (m == new.id) (λ e.
-            let equal : m ≡ new.id = eqb-true m new.id e in omega arith)))
+            rw (
+              apart,
+              before,
+              none-above c.id new.id cs rise.0 (λ m more. false_if (m == new.id) (λ e.
+                  let equal : m ≡ new.id = eqb-true m new.id e in omega arith)),
+            )
             (mixed-same (new ∷ c ∷ cs))
         | inr behind ↦
             rw (apart, behind)

@@ -1,5 +1,5 @@
 -- Cores that are alike and show histories.
-use Rattle.std.proofs.Common.{ℕ, ◌≡◌, ◌+◌, refl, ap, sym, subst, ◌∙◌, List, Option, Some, None}
+use Rattle.std.proofs.Common.{ℕ, ◌≡◌, ◌+◌, refl, ap, sym, subst, ◌∙◌, List, Some, None}
 use Rattle.sm_names.specs.declared.keys.NodeKey.{NodeKey}
 use Rattle.sm_names.specs.declared.messages.Call.{Call}
 use Rattle.sm_names.specs.declared.messages.Reply.{Reply}
@@ -78,8 +78,8 @@ events_alike to id number keeps kept s t later again one other shows_s shows_t a
     makes_s makes_t = (
       same,
       stay_alike to id number keeps kept s t later again alike (shown_sound s one shows_s) (shown_sound t other shows_t) client call reply none
-      makes_s.after
-      (subst (λ (r : Reply). Follows t again client (call_renamed to id call) r) same makes_t.after),
+          makes_s.after
+          (subst (λ (r : Reply). Follows t again client (call_renamed to id call) r) same makes_t.after),
     )
   where
     -- the reply is the renamed one

@@ -1,7 +1,7 @@
 -- Which trackers fire in cores that are alike.
-use Rattle.std.proofs.Common.{ℕ, ◌≡◌, ◌∷◌, ◌++◌, [], refl, ap, sym, subst, ◌∙◌, Bool, true, false, cond, ◌&&◌, nat_le, not, List, length, map, Option, Some, None, is_some}
+use Rattle.std.proofs.Common.{ℕ, ◌≡◌, ◌∷◌, ◌++◌, [], refl, ap, sym, subst, ◌∙◌, true, false, cond, ◌&&◌, nat_le, not, List, length, map, Option, Some, None, is_some}
 use Rattle.std.proofs.lemmas.List.{map-append}
-use Rattle.std.specs.List.{filter, find, flat_map}
+use Rattle.std.specs.List.{filter}
 use Rattle.std.specs.Option.{option_map, option_map_or}
 use Rattle.sm_names.specs.declared.keys.BufferName.{BufferName}
 use Rattle.sm_names.specs.declared.keys.NodeKey.{NodeKey}
@@ -10,7 +10,7 @@ use Rattle.sm_names.specs.declared.tracking.Condition.{Condition}
 use Rattle.sm_names.specs.declared.tracking.Fired.{Fired}
 use Rattle.sm_names.specs.Handles.{is_doomed}
 use Rattle.sm_names.specs.Members.{some_strong_live}
-use Rattle.sm_names.specs.Trackers.{World, holds}
+use Rattle.sm_names.specs.Trackers.{holds}
 use Rattle.sm_names.proofs.ListLaws.{map-map}
 use Rattle.forest_store.specs.declared.node.Node.{Node}
 use Rattle.forest_store.specs.Forest.{Collection, Forest, collection_at, node_at}
