@@ -5,14 +5,16 @@ use Rattle.sm_names.specs.declared.keys.NodeKey.{NodeKey}
 use Rattle.sm_names.specs.declared.messages.Parcel.{Parcel}
 use Rattle.sm_names.specs.declared.tracking.Condition.{Condition}
 use Rattle.sm_names.specs.declared.tracking.Fired.{Fired}
+use Rattle.sm_names.specs.Trackers.{Tracked}
 use Rattle.sm_names.proofs.ListLaws.{map-map}
 use Rattle.forest_store.specs.declared.node.Node.{Node}
 use Rattle.forest_store.specs.Forest.{Collection}
 use Rattle.trackers.specs.declared.waiting.Waiting.{Waiting}
+use Rattle.core_state.specs.Shown.{tracked_as}
 use Rattle.core_state.specs.State.{Client, State}
 use Rattle.name_laws.specs.Alike.{client_renamed, parcel_renamed}
 use Rattle.name_laws.specs.Renamed.{buffer_renamed, collection_renamed, fault_renamed, held_renamed, node_renamed}
-use Rattle.alike_cores.specs.Cores.{AreAlikeCores, condition_renamed, undated, waiting_renamed}
+use Rattle.alike_cores.specs.Cores.{AreAlikeCores, condition_renamed, tracker_renamed, undated}
 use Rattle.alike_cores.specs.Mixed.{Mixed, Mixes}
 use Rattle.alike_cores.proofs.Mixing.{mixed-map, mixed-same}
 
@@ -65,10 +67,10 @@ module _ (to more : NodeKey → NodeKey) (id on number next : ℕ → ℕ) where
   twice-condition (Condition.Weak buffer) = refl
 
   -- By its condition.
-  twice-waiting : (w : Waiting) → waiting_renamed more on next (waiting_renamed to id number w)
-      ≡ waiting_renamed (λ k. more (to k)) (λ k. on (id k)) (λ k. next (number k)) w
-  twice-waiting w = λ i. record (waiting_renamed (λ k. more (to k)) (λ k. on (id k)) (λ k. next (number k)) w) {
-    condition = twice-condition w.condition i;
+  twice-tracker : (t : Tracked) → tracker_renamed more on next (tracker_renamed to id number t)
+      ≡ tracker_renamed (λ k. more (to k)) (λ k. on (id k)) (λ k. next (number k)) t
+  twice-tracker t = λ i. record (tracker_renamed (λ k. more (to k)) (λ k. on (id k)) (λ k. next (number k)) t) {
+    condition = twice-condition t.condition i;
   }
 
 -- ---- cores
@@ -85,9 +87,9 @@ own_clients (c ∷ cs) = λ i. record c { waiting = own_parcels c.waiting i } �
     own_parcels (Parcel.Handle b s ∷ ps) = ap (λ (l : List Parcel). Parcel.Handle b s ∷ l) (own_parcels ps)
 
 -- nor of a tracker
-own_waiting : (ws : List Waiting) → map (waiting_renamed (λ key. key) (λ id. id) (λ n. n)) ws ≡ ws
-own_waiting [] = refl
-own_waiting (w ∷ ws) = λ i. record w { condition = own w.condition i } ∷ own_waiting ws i
+own_trackers : (ws : List Waiting) → map (λ w. tracker_renamed (λ key. key) (λ id. id) (λ n. n) (tracked_as w)) ws ≡ map tracked_as ws
+own_trackers [] = refl
+own_trackers (w ∷ ws) = λ i. record (tracked_as w) { condition = own w.condition i } ∷ own_trackers ws i
   where
     -- by cases on the condition
     own : (c : Condition) → condition_renamed (λ key. key) (λ id. id) c ≡ c
@@ -104,7 +106,8 @@ alike-same s = record {
   collections = mixed-same (map undated s.forest.collections);
   open_of = λ client b strength. refl;
   total = λ b strength. refl;
-  unfired = subst (λ (l : List Waiting). Mixed l s.trackers.unfired) (sym (own_waiting s.trackers.unfired)) (mixed-same s.trackers.unfired);
+  unfired = subst (λ (l : List Tracked). Mixed l (map tracked_as s.trackers.unfired)) (sym (own_trackers s.trackers.unfired))
+      (mixed-same (map tracked_as s.trackers.unfired));
   fired = mixed-same (map (λ (f : Fired). f.tracker) s.trackers.fired);
 }
 
@@ -130,13 +133,17 @@ alike-alike to more id on number next s t u one other = record {
       other.collections;
   open_of = λ client b strength. other.open_of client (buffer_renamed id b) strength ∙ one.open_of client b strength;
   total = λ b strength. other.total (buffer_renamed id b) strength ∙ one.total b strength;
-  unfired = Mixes (map (waiting_renamed (λ k. more (to k)) (λ k. on (id k)) (λ k. next (number k))) s.trackers.unfired)
-      (map (waiting_renamed more on next) t.trackers.unfired) u.trackers.unfired
-      (subst (λ (l : List Waiting). Mixed l (map (waiting_renamed more on next) t.trackers.unfired))
-      (twice-map (waiting_renamed to id number) (waiting_renamed more on next)
-      (waiting_renamed (λ k. more (to k)) (λ k. on (id k)) (λ k. next (number k))) (twice-waiting to more id on number next)
-      s.trackers.unfired)
-      (mixed-map (waiting_renamed more on next) (map (waiting_renamed to id number) s.trackers.unfired) t.trackers.unfired one.unfired))
+  unfired = Mixes
+      (map (λ w. tracker_renamed (λ k. more (to k)) (λ k. on (id k)) (λ k. next (number k)) (tracked_as w)) s.trackers.unfired)
+      (map (λ w. tracker_renamed more on next (tracked_as w)) t.trackers.unfired) (map tracked_as u.trackers.unfired)
+      (subst (λ (l : List Tracked). Mixed l (map (λ w. tracker_renamed more on next (tracked_as w)) t.trackers.unfired))
+      (twice-map (λ w. tracker_renamed to id number (tracked_as w)) (tracker_renamed more on next)
+      (λ w. tracker_renamed (λ k. more (to k)) (λ k. on (id k)) (λ k. next (number k)) (tracked_as w))
+      (λ w. twice-tracker to more id on number next (tracked_as w)) s.trackers.unfired)
+      (subst (Mixed (map (tracker_renamed more on next) (map (λ w. tracker_renamed to id number (tracked_as w)) s.trackers.unfired)))
+      (map-map (tracker_renamed more on next) tracked_as t.trackers.unfired)
+      (mixed-map (tracker_renamed more on next) (map (λ w. tracker_renamed to id number (tracked_as w)) s.trackers.unfired)
+      (map tracked_as t.trackers.unfired) one.unfired)))
       other.unfired;
   fired = Mixes (map (λ (f : Fired). next (number f.tracker)) s.trackers.fired) (map (λ (f : Fired). next f.tracker) t.trackers.fired)
       (map (λ (f : Fired). f.tracker) u.trackers.fired)

@@ -17,6 +17,7 @@ use Rattle.trackers.specs.declared.waiting.Waiting.{Waiting}
 use Rattle.trackers.specs.Table.{TrackerTable, firings, still_waiting}
 use Rattle.core_state.specs.declared.task.EndPlace.{EndPlace}
 use Rattle.core_state.specs.Reads.{world_in}
+use Rattle.core_state.specs.Shown.{tracked_as}
 use Rattle.core_state.specs.State.{HandleCounts, State}
 use Rattle.core_state.specs.Steps.{Follows, GainsTracker, Worked, clients_by, end_by, tracker_by, with_place, without_unkept, work_of}
 use Rattle.core_state.specs.Whole.{IsSound}
@@ -25,7 +26,7 @@ use Rattle.name_laws.specs.Renamed.{CountsAlike, KeepsKeys, buffer_renamed, coll
 use Rattle.name_laws.proofs.Answering.{length-renamed}
 use Rattle.name_laws.proofs.Changing.{end_put-renamed, tidied-renamed}
 use Rattle.name_laws.proofs.Forcings.{filter_alike}
-use Rattle.alike_cores.specs.Cores.{AreAlikeCores, undated, waiting_renamed}
+use Rattle.alike_cores.specs.Cores.{AreAlikeCores, tracker_renamed, undated}
 use Rattle.alike_cores.specs.Mixed.{Mixed}
 use Rattle.alike_cores.proofs.Clients.{called, clients-renamed, of-renamed, place-renamed, place_renamed, total-renamed}
 use Rattle.alike_cores.proofs.Finding.{sound_apart}
@@ -151,11 +152,11 @@ module _ (to : NodeKey → NodeKey) (id number : ℕ → ℕ) (keeps : KeepsKeys
       (over-alike to id keeps (end_by client call reply) one.worked.collections other.worked.collections worked.alike))
 
   -- the trackers that wait, with the one that is made, are alike
-  waits : Mixed (map (waiting_renamed to id number) one.attached.unfired) other.attached.unfired
-  waits = gains-alike to id number s.trackers t.trackers alike.unfired (tracker_by s.forest call reply) one.attached other.attached
-      one.gains
-      (subst (λ (o : Option Waiting). GainsTracker t.trackers o other.attached)
-      (tracker-alike to id number keeps kept s t alike (sound_apart s.forest s_sound) call reply) other.gains)
+  waits : Mixed (map (λ w. tracker_renamed to id number (tracked_as w)) one.attached.unfired) (map tracked_as other.attached.unfired)
+  waits = gains-alike to id number s.trackers t.trackers alike.unfired (tracker_by s.forest call reply)
+      (tracker_by t.forest (call_renamed to id call) (reply_renamed to id number reply))
+      (tracker-alike to id number keeps kept s t alike (sound_apart s.forest s_sound) call reply) one.attached other.attached one.gains
+      other.gains
 
   -- those that fired are alike
   fired : Mixed (map (λ (f : Fired). number f.tracker) later_s.trackers.fired) (map (λ (f : Fired). f.tracker) later_t.trackers.fired)
@@ -197,9 +198,10 @@ module _ (to : NodeKey → NodeKey) (id number : ℕ → ℕ) (keeps : KeepsKeys
         ∙ sym (ap (λ (h : HandleCounts). h.of c b strength) one.handles));
     total = totals;
     unfired =
-        subst (λ (x : TrackerTable). Mixed (map (waiting_renamed to id number) x.unfired) later_t.trackers.unfired) (sym one.trackers)
-        (subst (λ (x : TrackerTable). Mixed
-        (map (waiting_renamed to id number) (still_waiting (world_in one.worked (total later_s.holds)) one.attached.unfired)) x.unfired)
+        subst (λ (x : TrackerTable). Mixed (map (λ w. tracker_renamed to id number (tracked_as w)) x.unfired)
+        (map tracked_as later_t.trackers.unfired)) (sym one.trackers)
+        (subst (λ (x : TrackerTable). Mixed (map (λ w. tracker_renamed to id number (tracked_as w))
+        (still_waiting (world_in one.worked (total later_s.holds)) one.attached.unfired)) (map tracked_as x.unfired))
         (sym other.trackers)
         (still-alike to id keeps kept one.worked other.worked worked (total later_s.holds) (total later_t.holds) totals number
         one.attached.unfired other.attached.unfired waits));

@@ -15,12 +15,13 @@ use Rattle.forest_store.specs.Forest.{Collection, collection_at, node_at}
 use Rattle.forest_store.specs.Nodes.{is_spent, members_of}
 use Rattle.forest_store.specs.Settling.{buffer_names}
 use Rattle.core_state.specs.Reads.{end_in, open_end_in, open_end_of, readings_of}
+use Rattle.core_state.specs.Shown.{tracked_as}
 use Rattle.core_state.specs.State.{State}
 use Rattle.name_laws.specs.Alike.{AreAlike, KeepsIds, client_renamed, end_renamed}
 use Rattle.name_laws.specs.Renamed.{KeepsKeys, buffer_renamed, collection_renamed, fault_renamed}
 use Rattle.name_laws.proofs.Answering.{length-renamed}
 use Rattle.name_laws.proofs.Reading.{readings-renamed}
-use Rattle.alike_cores.specs.Cores.{AreAlikeCores, undated, waiting_renamed}
+use Rattle.alike_cores.specs.Cores.{AreAlikeCores, tracker_renamed, undated}
 use Rattle.alike_cores.specs.Mixed.{Mixed}
 use Rattle.alike_cores.proofs.Finding.{AreApart, collections_mixed, nodes_mixed, renamed_apart}
 use Rattle.alike_cores.proofs.Mixing.{length-mixed, mixed-flat_map}
@@ -99,8 +100,10 @@ module _ (to : NodeKey → NodeKey) (id number : ℕ → ℕ) (keeps : KeepsKeys
   -- as many trackers wait
   same_unfired : length t.trackers.unfired ≡ length s.trackers.unfired
   same_unfired =
-      sym (length-mixed (map (waiting_renamed to id number) s.trackers.unfired) t.trackers.unfired alike.unfired)
-      ∙ length-renamed (waiting_renamed to id number) s.trackers.unfired
+      sym (length-renamed tracked_as t.trackers.unfired)
+      ∙ (sym (length-mixed (map (λ w. tracker_renamed to id number (tracked_as w)) s.trackers.unfired) (map tracked_as t.trackers.unfired)
+      alike.unfired)
+      ∙ length-renamed (λ w. tracker_renamed to id number (tracked_as w)) s.trackers.unfired)
 
   -- it is the first one under other names
   is_turned : AreAlike to id (readings_of s) (readings_of turned)

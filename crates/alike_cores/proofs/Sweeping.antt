@@ -1,5 +1,5 @@
 -- Which trackers fire in cores that are alike.
-use Rattle.std.proofs.Common.{ℕ, ◌≡◌, ◌∷◌, ◌++◌, [], refl, ap, sym, subst, ◌∙◌, true, false, cond, ◌&&◌, nat_le, not, List, length, map, Option, Some, None, is_some}
+use Rattle.std.proofs.Common.{Bool, ℕ, ◌≡◌, ◌∷◌, ◌++◌, [], refl, ap, sym, subst, ◌∙◌, true, false, cond, ◌&&◌, nat_le, not, List, length, map, Option, Some, None, is_some}
 use Rattle.std.proofs.lemmas.List.{map-append}
 use Rattle.std.specs.List.{filter}
 use Rattle.std.specs.Option.{option_map, option_map_or}
@@ -10,8 +10,9 @@ use Rattle.sm_names.specs.declared.tracking.Condition.{Condition}
 use Rattle.sm_names.specs.declared.tracking.Fired.{Fired}
 use Rattle.sm_names.specs.Handles.{is_doomed}
 use Rattle.sm_names.specs.Members.{some_strong_live}
-use Rattle.sm_names.specs.Trackers.{holds}
+use Rattle.sm_names.specs.Trackers.{Tracked, World, holds}
 use Rattle.sm_names.proofs.ListLaws.{map-map}
+use Rattle.sm_names.proofs.SamenessLaws.{some-injective}
 use Rattle.forest_store.specs.declared.node.Node.{Node}
 use Rattle.forest_store.specs.Forest.{Collection, Forest, collection_at, node_at}
 use Rattle.forest_store.specs.Nodes.{members_of}
@@ -19,13 +20,14 @@ use Rattle.forest_store.specs.Settling.{Handles}
 use Rattle.trackers.specs.declared.waiting.Waiting.{Waiting}
 use Rattle.trackers.specs.Table.{TrackerTable, firing, firings, is_due, still_waiting}
 use Rattle.core_state.specs.Reads.{world_in}
+use Rattle.core_state.specs.Shown.{tracked_as}
 use Rattle.core_state.specs.Steps.{GainsTracker}
 use Rattle.name_laws.specs.Alike.{KeepsIds}
 use Rattle.name_laws.specs.Renamed.{CountsAlike, KeepsKeys, buffer_renamed, collection_renamed, held_renamed, node_renamed}
 use Rattle.name_laws.proofs.Answering.{length-renamed}
 use Rattle.name_laws.proofs.Forcings.{filter_alike, strong-renamed}
 use Rattle.name_laws.proofs.Renamings.{members-renamed}
-use Rattle.alike_cores.specs.Cores.{condition_renamed, undated, waiting_renamed}
+use Rattle.alike_cores.specs.Cores.{condition_renamed, tracker_renamed, undated}
 use Rattle.alike_cores.specs.Mixed.{Mixed, Mixes}
 use Rattle.alike_cores.proofs.Finding.{found_collection, found_node, node_undated}
 use Rattle.alike_cores.proofs.FoundAlike.{read_or-alike}
@@ -90,22 +92,35 @@ module _ (to : NodeKey → NodeKey) (id : ℕ → ℕ) (keeps : KeepsKeys to) (k
       λ i. cond (allocated-alike key i) (nat_le (left-alike collection i) most) (gone-alike key i)
   holds-alike (Condition.Weak buffer) = doomed-alike buffer
 
-  module _ (number : ℕ → ℕ) (one other : List Waiting) (mixed : Mixed (map (waiting_renamed to id number) one) other) where
+  module _ (number : ℕ → ℕ) (one other : List Waiting)
+      (mixed : Mixed (map (λ w. tracker_renamed to id number (tracked_as w)) one) (map tracked_as other)) where
+    -- By the test of what they wait for, which is alike.
+    tested-alike : (first later : World → Condition → Bool) →
+        ((c : Condition) → later (world_in right after) (condition_renamed to id c) ≡ first (world_in left before) c) →
+        Mixed (map (λ w. tracker_renamed to id number (tracked_as w))
+        (filter (λ (w : Waiting). first (world_in left before) w.condition) one))
+        (map tracked_as (filter (λ (w : Waiting). later (world_in right after) w.condition) other))
+    tested-alike first later same =
+        subst (λ (l : List Tracked). Mixed l (map tracked_as (filter (λ (w : Waiting). later (world_in right after) w.condition) other)))
+        (filter_alike (λ (t : Tracked). later (world_in right after) t.condition)
+        (λ (w : Waiting). first (world_in left before) w.condition) (λ w. tracker_renamed to id number (tracked_as w))
+        (λ w. same w.condition) one)
+        (subst (Mixed (filter (λ (t : Tracked). later (world_in right after) t.condition)
+        (map (λ w. tracker_renamed to id number (tracked_as w)) one)))
+        (filter_alike (λ (t : Tracked). later (world_in right after) t.condition)
+        (λ (w : Waiting). later (world_in right after) w.condition) tracked_as (λ w. refl) other)
+        (mixed-filter (λ (t : Tracked). later (world_in right after) t.condition)
+        (map (λ w. tracker_renamed to id number (tracked_as w)) one) (map tracked_as other) mixed))
+
     -- those that wait on are alike
-    pub still-alike : Mixed (map (waiting_renamed to id number) (still_waiting (world_in left before) one))
-        (still_waiting (world_in right after) other)
-    still-alike = subst (λ (l : List Waiting). Mixed l (still_waiting (world_in right after) other))
-        (filter_alike (λ (w : Waiting). not (is_due (world_in right after) w)) (λ (w : Waiting). not (is_due (world_in left before) w))
-        (waiting_renamed to id number) (λ w. ap not (holds-alike w.condition)) one)
-        (mixed-filter (λ (w : Waiting). not (is_due (world_in right after) w)) (map (waiting_renamed to id number) one) other mixed)
+    pub still-alike : Mixed (map (λ w. tracker_renamed to id number (tracked_as w)) (still_waiting (world_in left before) one))
+        (map tracked_as (still_waiting (world_in right after) other))
+    still-alike = tested-alike (λ w c. not (holds w c)) (λ w c. not (holds w c)) (λ c. ap not (holds-alike c))
 
     -- those that are due are alike
-    due-alike : Mixed (map (waiting_renamed to id number) (filter (is_due (world_in left before)) one))
-        (filter (is_due (world_in right after)) other)
-    due-alike = subst (λ (l : List Waiting). Mixed l (filter (is_due (world_in right after)) other))
-        (filter_alike (is_due (world_in right after)) (is_due (world_in left before)) (waiting_renamed to id number)
-        (λ w. holds-alike w.condition) one)
-        (mixed-filter (is_due (world_in right after)) (map (waiting_renamed to id number) one) other mixed)
+    due-alike : Mixed (map (λ w. tracker_renamed to id number (tracked_as w)) (filter (is_due (world_in left before)) one))
+        (map tracked_as (filter (is_due (world_in right after)) other))
+    due-alike = tested-alike holds holds holds-alike
 
     -- and so the numbers of those that fire
     pub firings-alike : (event later : ℕ) →
@@ -113,29 +128,52 @@ module _ (to : NodeKey → NodeKey) (id : ℕ → ℕ) (keeps : KeepsKeys to) (k
         (map (λ (f : Fired). f.tracker) (firings (world_in right after) later other))
     firings-alike event later =
         subst (λ (l : List ℕ). Mixed l (map (λ (f : Fired). f.tracker) (firings (world_in right after) later other)))
-        (map-map (λ (w : Waiting). w.id) (waiting_renamed to id number) (filter (is_due (world_in left before)) one)
+        (map-map (λ (t : Tracked). t.id) (λ w. tracker_renamed to id number (tracked_as w)) (filter (is_due (world_in left before)) one)
         ∙ sym (map-map (λ (f : Fired). number f.tracker) (firing event) (filter (is_due (world_in left before)) one)))
-        (subst (Mixed (map (λ (w : Waiting). w.id) (map (waiting_renamed to id number) (filter (is_due (world_in left before)) one))))
-        (sym (map-map (λ (f : Fired). f.tracker) (firing later) (filter (is_due (world_in right after)) other)))
-        (mixed-map (λ (w : Waiting). w.id) (map (waiting_renamed to id number) (filter (is_due (world_in left before)) one))
-        (filter (is_due (world_in right after)) other) due-alike))
+        (subst (Mixed (map (λ (t : Tracked). t.id)
+        (map (λ w. tracker_renamed to id number (tracked_as w)) (filter (is_due (world_in left before)) one))))
+        (map-map (λ (t : Tracked). t.id) tracked_as (filter (is_due (world_in right after)) other)
+        ∙ sym (map-map (λ (f : Fired). f.tracker) (firing later) (filter (is_due (world_in right after)) other)))
+        (mixed-map (λ (t : Tracked). t.id)
+        (map (λ w. tracker_renamed to id number (tracked_as w)) (filter (is_due (world_in left before)) one))
+        (map tracked_as (filter (is_due (world_in right after)) other)) due-alike))
 
 -- ---- a tracker that is made
 
--- By whether one is made: it stands last.
-pub gains-alike : (to : NodeKey → NodeKey) (id number : ℕ → ℕ) (old again : TrackerTable) →
-    Mixed (map (waiting_renamed to id number) old.unfired) again.unfired → (o : Option Waiting) (new later : TrackerTable) →
-    GainsTracker old o new → GainsTracker again (option_map (waiting_renamed to id number) o) later →
-    Mixed (map (waiting_renamed to id number) new.unfired) later.unfired
-gains-alike to id number old again mixed None new later one other =
-    subst (λ (x : TrackerTable). Mixed (map (waiting_renamed to id number) x.unfired) later.unfired) (sym one)
-    (subst (λ (x : TrackerTable). Mixed (map (waiting_renamed to id number) old.unfired) x.unfired) (sym other) mixed)
-gains-alike to id number old again mixed (Some w) new later one other =
-    subst (λ (x : TrackerTable). Mixed (map (waiting_renamed to id number) x.unfired) later.unfired) (sym one.next)
-    (subst (λ (x : TrackerTable). Mixed (map (waiting_renamed to id number) (old.unfired ++ w ∷ [])) x.unfired) (sym other.next)
-    (subst (λ (l : List Waiting). Mixed l (again.unfired ++ waiting_renamed to id number w ∷ []))
-    (sym (map-append (waiting_renamed to id number) old.unfired (w ∷ [])))
-    (mixed-before (map (waiting_renamed to id number) old.unfired) again.unfired (waiting_renamed to id number w ∷ []) mixed)))
+module _ (to : NodeKey → NodeKey) (id number : ℕ → ℕ) (old again : TrackerTable)
+    (mixed : Mixed (map (λ w. tracker_renamed to id number (tracked_as w)) old.unfired) (map tracked_as again.unfired)) where
+  -- One more stands last.
+  one_more : (w v : Waiting) → tracked_as v ≡ tracker_renamed to id number (tracked_as w) →
+      Mixed (map (λ x. tracker_renamed to id number (tracked_as x)) (old.unfired ++ w ∷ [])) (map tracked_as (again.unfired ++ v ∷ []))
+  one_more w v same =
+      subst (λ (l : List Tracked). Mixed l (map tracked_as (again.unfired ++ v ∷ [])))
+      (sym (map-append (λ x. tracker_renamed to id number (tracked_as x)) old.unfired (w ∷ [])))
+      (subst (Mixed (map (λ x. tracker_renamed to id number (tracked_as x)) old.unfired
+      ++ tracker_renamed to id number (tracked_as w) ∷ []))
+      (sym (map-append tracked_as again.unfired (v ∷ [])))
+      (subst (λ (t : Tracked). Mixed (map (λ x. tracker_renamed to id number (tracked_as x)) old.unfired
+      ++ tracker_renamed to id number (tracked_as w) ∷ []) (map tracked_as again.unfired ++ t ∷ [])) (sym same)
+      (mixed-before (map (λ x. tracker_renamed to id number (tracked_as x)) old.unfired) (map tracked_as again.unfired)
+      (tracker_renamed to id number (tracked_as w) ∷ []) mixed)))
+
+  -- By whether one is made.
+  pub gains-alike : (o p : Option Waiting) →
+      option_map tracked_as p ≡ option_map (λ w. tracker_renamed to id number (tracked_as w)) o → (new later : TrackerTable) →
+      GainsTracker old o new → GainsTracker again p later →
+      Mixed (map (λ w. tracker_renamed to id number (tracked_as w)) new.unfired) (map tracked_as later.unfired)
+  gains-alike None None same new later one other =
+      subst (λ (x : TrackerTable). Mixed (map (λ w. tracker_renamed to id number (tracked_as w)) x.unfired) (map tracked_as later.unfired))
+      (sym one)
+      (subst (λ (x : TrackerTable). Mixed (map (λ w. tracker_renamed to id number (tracked_as w)) old.unfired) (map tracked_as x.unfired))
+      (sym other) mixed)
+  gains-alike None (Some v) same new later one other = cc
+  gains-alike (Some w) None same new later one other = cc
+  gains-alike (Some w) (Some v) same new later one other =
+      subst (λ (x : TrackerTable). Mixed (map (λ y. tracker_renamed to id number (tracked_as y)) x.unfired) (map tracked_as later.unfired))
+      (sym one.next)
+      (subst (λ (x : TrackerTable). Mixed (map (λ y. tracker_renamed to id number (tracked_as y)) (old.unfired ++ w ∷ []))
+      (map tracked_as x.unfired)) (sym other.next)
+      (one_more w v (some-injective (tracked_as v) (tracker_renamed to id number (tracked_as w)) same)))
 
 -- By whether one is made: none fires by that.
 pub gains_fired : (old : TrackerTable) (o : Option Waiting) (new : TrackerTable) → GainsTracker old o new → new.fired ≡ old.fired

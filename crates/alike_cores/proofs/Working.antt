@@ -9,6 +9,7 @@ use Rattle.sm_names.specs.declared.messages.Reply.{Reply}
 use Rattle.sm_names.specs.declared.outcomes.Cause.{Cause}
 use Rattle.sm_names.specs.declared.tracking.Condition.{Condition}
 use Rattle.sm_names.specs.Timelines.{key_of}
+use Rattle.sm_names.specs.Trackers.{Tracked}
 use Rattle.buffer_holds.specs.Counts.{total}
 use Rattle.forest_store.specs.declared.change.Change.{Change}
 use Rattle.forest_store.specs.declared.change.Effect.{Effect}
@@ -16,13 +17,13 @@ use Rattle.forest_store.specs.declared.node.Node.{Node}
 use Rattle.forest_store.specs.Effects.{effect_of}
 use Rattle.forest_store.specs.Forest.{Collection, collection_at, node_at}
 use Rattle.forest_store.specs.Settling.{collection_or_new}
-use Rattle.trackers.specs.declared.waiting.Waiting.{Waiting}
+use Rattle.core_state.specs.Shown.{tracked_as}
 use Rattle.core_state.specs.State.{State}
 use Rattle.core_state.specs.Steps.{Work, at_collection, at_node, birth_by, done_to, drop_at, effect_at, loss_at, tracker_by, work_of}
 use Rattle.name_laws.specs.Alike.{KeepsIds, call_renamed, reply_renamed}
 use Rattle.name_laws.specs.Renamed.{KeepsKeys, buffer_renamed, change_renamed, collection_renamed, node_renamed}
 use Rattle.name_laws.proofs.Answering.{key-renamed}
-use Rattle.alike_cores.specs.Cores.{AreAlikeCores, undated, waiting_renamed}
+use Rattle.alike_cores.specs.Cores.{AreAlikeCores, tracker_renamed, undated}
 use Rattle.alike_cores.proofs.Finding.{AreApart, found_collection, found_node, node_undated}
 use Rattle.alike_cores.proofs.FoundAlike.{read-alike, read_then-alike}
 
@@ -243,28 +244,28 @@ module _ (to : NodeKey → NodeKey) (id number : ℕ → ℕ) (keeps : KeepsKeys
       own None = refl
       own (Some c) = refl
 
-  -- By the call and the reply: the tracker concerns the collection of the node that is found.
+  -- By the call and the reply: what the tracker waits for is on the node that is found.
   pub tracker-alike : (call : Call) (reply : Reply) →
-      tracker_by t.forest (call_renamed to id call) (reply_renamed to id number reply)
-      ≡ option_map (waiting_renamed to id number) (tracker_by s.forest call reply)
+      option_map tracked_as (tracker_by t.forest (call_renamed to id call) (reply_renamed to id number reply))
+      ≡ option_map (λ w. tracker_renamed to id number (tracked_as w)) (tracker_by s.forest call reply)
   tracker-alike (Call.TrackNode key) (Reply.Tracker tracker) =
       left (node_at t.forest (to key))
       ∙ (read-alike node_undated (node_renamed to id) read (node_at t.forest (to key)) (node_at s.forest key) (node_there key)
       ∙ right (node_at s.forest key))
     where
-      read : Node → Waiting
-      read n = record { id = number tracker; collection = n.collection; condition = Condition.Node (to key) }
+      read : Node → Tracked
+      read n = record { id = number tracker; condition = Condition.Node (to key) }
 
       -- by cases on the node
-      left : (o : Option Node) →
-          option_map (λ (n : Node). record { id = number tracker; collection = n.collection; condition = Condition.Node (to key) }) o
+      left : (o : Option Node) → option_map tracked_as
+          (option_map (λ (n : Node). record { id = number tracker; collection = n.collection; condition = Condition.Node (to key) }) o)
           ≡ option_map (λ n. read (node_undated n)) o
       left None = refl
       left (Some n) = refl
 
       -- by cases on the node
       right : (o : Option Node) → option_map (λ n. read (node_renamed to id n)) o
-          ≡ option_map (waiting_renamed to id number)
+          ≡ option_map (λ w. tracker_renamed to id number (tracked_as w))
           (option_map (λ (n : Node). record { id = tracker; collection = n.collection; condition = Condition.Node key }) o)
       right None = refl
       right (Some n) = refl
@@ -273,19 +274,23 @@ module _ (to : NodeKey → NodeKey) (id number : ℕ → ℕ) (keeps : KeepsKeys
       ∙ (read-alike node_undated (node_renamed to id) read (node_at t.forest (to key)) (node_at s.forest key) (node_there key)
       ∙ right (node_at s.forest key))
     where
-      read : Node → Waiting
-      read n = record { id = number tracker; collection = n.collection; condition = Condition.Lifetime (to key) n.collection most }
+      read : Node → Tracked
+      read n = record { id = number tracker; condition = Condition.Lifetime (to key) n.collection most }
 
       -- by cases on the node
-      left : (o : Option Node) → option_map
-          (λ (n : Node). record { id = number tracker; collection = n.collection; condition = Condition.Lifetime (to key) n.collection most }) o
+      left : (o : Option Node) → option_map tracked_as (option_map
+          (λ (n : Node). record {
+            id = number tracker;
+            collection = n.collection;
+            condition = Condition.Lifetime (to key) n.collection most;
+          }) o)
           ≡ option_map (λ n. read (node_undated n)) o
       left None = refl
       left (Some n) = refl
 
       -- by cases on the node
       right : (o : Option Node) → option_map (λ n. read (node_renamed to id n)) o
-          ≡ option_map (waiting_renamed to id number) (option_map
+          ≡ option_map (λ w. tracker_renamed to id number (tracked_as w)) (option_map
           (λ (n : Node). record { id = tracker; collection = n.collection; condition = Condition.Lifetime key n.collection most }) o)
       right None = refl
       right (Some n) = refl

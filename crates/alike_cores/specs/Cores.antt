@@ -7,9 +7,10 @@ use Rattle.sm_names.specs.declared.messages.Reply.{Reply}
 use Rattle.sm_names.specs.declared.tracking.Condition.{Condition}
 use Rattle.sm_names.specs.declared.tracking.Fired.{Fired}
 use Rattle.sm_names.specs.Answers.{new_key}
+use Rattle.sm_names.specs.Trackers.{Tracked}
 use Rattle.buffer_holds.specs.Counts.{of, total}
 use Rattle.forest_store.specs.Forest.{Collection}
-use Rattle.trackers.specs.declared.waiting.Waiting.{Waiting}
+use Rattle.core_state.specs.Shown.{tracked_as}
 use Rattle.core_state.specs.State.{State}
 use Rattle.name_laws.specs.Alike.{client_renamed}
 use Rattle.name_laws.specs.Renamed.{CountsAlike, buffer_renamed, collection_renamed}
@@ -21,13 +22,9 @@ condition_renamed to id (Condition.Node key) = Condition.Node (to key)
 condition_renamed to id (Condition.Lifetime key collection most) = Condition.Lifetime (to key) (id collection) most
 condition_renamed to id (Condition.Weak buffer) = Condition.Weak (buffer_renamed id buffer)
 
--- a tracker that waits, under its new number
-abbrev pub waiting_renamed : (NodeKey → NodeKey) → (ℕ → ℕ) → (ℕ → ℕ) → Waiting → Waiting
-waiting_renamed to id number t = record {
-  id = number t.id;
-  collection = id t.collection;
-  condition = condition_renamed to id t.condition;
-}
+-- a tracker under its new number
+abbrev pub tracker_renamed : (NodeKey → NodeKey) → (ℕ → ℕ) → (ℕ → ℕ) → Tracked → Tracked
+tracker_renamed to id number t = record { id = number t.id; condition = condition_renamed to id t.condition }
 
 -- the collection under its own names, without the numbers of the events of births
 abbrev pub undated : Collection → Collection
@@ -44,7 +41,7 @@ pub record AreAlikeCores (to : NodeKey → NodeKey) (id number : ℕ → ℕ) (s
   pub open_of : (client : ℕ) (b : BufferName) (strength : Strength) →
       of t.holds client (buffer_renamed id b) strength ≡ of s.holds client b strength
   pub total : CountsAlike id (total s.holds) (total t.holds)
-  pub unfired : Mixed (map (waiting_renamed to id number) s.trackers.unfired) t.trackers.unfired
+  pub unfired : Mixed (map (λ w. tracker_renamed to id number (tracked_as w)) s.trackers.unfired) (map tracked_as t.trackers.unfired)
   pub fired : Mixed (map (λ (f : Fired). number f.tracker) s.trackers.fired) (map (λ (f : Fired). f.tracker) t.trackers.fired)
 
 -- where both replies tell of a new node, its key becomes that of the other
