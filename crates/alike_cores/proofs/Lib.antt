@@ -12,3 +12,4 @@ pub mod Events
 pub mod Keys
 pub mod Shown
 pub mod Composing
+pub mod Known
