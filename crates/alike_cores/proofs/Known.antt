@@ -10,27 +10,37 @@ use Rattle.sm_names.specs.declared.keys.HeldBuffer.{HeldBuffer}
 use Rattle.sm_names.specs.declared.keys.NodeKey.{NodeKey}
 use Rattle.sm_names.specs.declared.keys.Strength.{Strength}
 use Rattle.sm_names.specs.declared.messages.Parcel.{Parcel}
+use Rattle.sm_names.specs.declared.messages.Call.{Call}
+use Rattle.sm_names.specs.declared.messages.Reply.{Reply}
 use Rattle.sm_names.specs.declared.outcomes.Buffers.{Buffers}
 use Rattle.sm_names.specs.declared.outcomes.Fault.{Fault}
+use Rattle.sm_names.specs.declared.tracking.Condition.{Condition}
 use Rattle.sm_names.specs.declared.tracking.Fired.{Fired}
-use Rattle.sm_names.specs.Births.{AreSound, Birth, births, collection_in, head, was_born}
+use Rattle.sm_names.specs.Answers.{IsAnswer, key_told}
+use Rattle.sm_names.specs.Births.{AreSound, Birth, birth_of, births, collection_in, head, was_born}
 use Rattle.sm_names.specs.Bounds.{Bound}
 use Rattle.sm_names.specs.Ends.{clients, is_end_of, is_handle_of, parcels}
 use Rattle.sm_names.specs.Handles.{buffer_names, buffers_of, moving, names, open_of, open_total}
 use Rattle.sm_names.specs.Losses.{fault, gone, reaches}
-use Rattle.sm_names.specs.Marks.{Entry, Timeline, events}
+use Rattle.sm_names.specs.Marks.{Called, Entry, Timeline, events}
+use Rattle.sm_names.specs.Isolation.{IsOf}
+use Rattle.sm_names.specs.Reading.{readings}
 use Rattle.sm_names.specs.Members.{births_in}
 use Rattle.sm_names.specs.Sameness.{same_buffer, same_key, same_strength}
 use Rattle.sm_names.specs.Timelines.{timeline}
-use Rattle.sm_names.specs.Trackers.{Tracked, fired_at, fired_in, moments, tracked}
+use Rattle.sm_names.specs.Trackers.{Tracked, collection_of_node, fired_at, fired_in, moments, tracked, tracked_at}
 use Rattle.sm_names.specs.Words.{times, when}
 use Rattle.sm_names.proofs.ListLaws.{In, In-any, In-append, In-filter, In-map, In-map-back, In-reverse}
-use Rattle.sm_names.proofs.SamenessLaws.{and_both, either_way, or_right, same_key-refl, same_strength-refl, some-injective}
+use Rattle.sm_names.proofs.SamenessLaws.{and_both, either_way, map-Some, or_right, same_key-refl, same_strength-refl, some-injective}
+use Rattle.history_laws.proofs.AnswerLaws.{took_effect_all}
+use Rattle.history_laws.proofs.BirthLaws.{birth_is, birth_was_born}
 use Rattle.history_laws.proofs.CountLaws.{counted, moving_is}
 use Rattle.history_laws.proofs.DoomLaws.{buffers_early}
 use Rattle.history_laws.proofs.GrowthLaws.{Grows, Stays, Answers, Loses, Allocates, Ends, legal_grows}
-use Rattle.history_laws.proofs.LifeLaws.{born_old, ordered}
+use Rattle.history_laws.proofs.HandleLaws.{some_open}
+use Rattle.history_laws.proofs.LifeLaws.{In_new, born_old, ordered}
 use Rattle.history_laws.proofs.SettledLaws.{In-was_born}
+use Rattle.event_laws.proofs.ConcernLaws.{concerned}
 use Rattle.event_laws.proofs.EndEventLaws.{in_transit_born, waits_in_transit}
 use Rattle.event_laws.proofs.HandleCaseLaws.{same_buffer-refl}
 use Rattle.event_laws.proofs.HandleBufferLaws.{has_named, moving_named, open_named}
@@ -144,6 +154,61 @@ In-flat f (x ∷ xs) y there = elim (In-append (f x) (flat_map f xs) y there) [
   | inr on ↦ let more = In-flat f xs y on in (more.0, inr more.1, more.2)
 ]
 
+-- A buffer that has a name is of a collection that an event made.
+has_name_early : (pool : ℕ) (limits : Bound) (marks : Timeline) → Grows pool limits [] marks → (buffer : BufferName) →
+    list_any (λ name. same_buffer name buffer) (buffer_names marks buffer.collection) ≡ true → buffer.collection ≤ events marks
+has_name_early pool limits marks g buffer named =
+    buffers_early pool limits marks g buffer.collection (by (buffers_of marks buffer.collection) named)
+  where
+    -- by cases: without buffers none has a name
+    by : (o : Option Buffers) →
+        list_any (λ name. same_buffer name buffer) (option_map_or (λ (b : Buffers). names buffer.collection b.count) o []) ≡ true →
+        is_some o ≡ true
+    by None named = absurd (false≢true named)
+    by (Some b) named = refl
+
+-- A tracker on a buffer was made by a client that had a handle of it.
+weak_early : (pool : ℕ) (limits : Bound) (marks : Timeline) → Grows pool limits [] marks → (t : Tracked) → In t (tracked marks) →
+    (buffer : BufferName) → t.condition ≡ Condition.Weak buffer → buffer.collection ≤ events marks
+weak_early pool limits _ Stays t there buffer is = absurd there
+weak_early pool limits _ (Loses before origin cause g born) t there buffer is = weak_early pool limits before g t there buffer is
+weak_early pool limits _ (Allocates before collection top g e) t there buffer is = weak_early pool limits before g t there buffer is
+weak_early pool limits _ (Ends before collection top g e) t there buffer is = weak_early pool limits before g t there buffer is
+weak_early pool limits _ (Answers before client reply call g answer) t there buffer is =
+    by (In_new (tracked_at before (Called client reply call)) (tracked before) t there) (weak_early pool limits before g t)
+  where
+    -- a tracker is made by one of three calls
+    made : (r : Reply) (c : Call) → IsAnswer limits (readings before) client c r → tracked_at before (Called client r c) ≡ Some t →
+        buffer.collection ≤ events before
+    made (Reply.Tracker id) (Call.TrackNode key) a e =
+        let other : Condition.Node key ≡ Condition.Weak buffer = ap (λ (x : Tracked). x.condition) (some-injective _ t e) ∙ is in cc
+    made (Reply.Tracker id) (Call.TrackLifetime key most) a e =
+        let other : Condition.Lifetime key (collection_of_node before key) most ≡ Condition.Weak buffer =
+        ap (λ (x : Tracked). x.condition) (some-injective _ t e) ∙ is in
+        cc
+    made (Reply.Tracker id) (Call.TrackWeak name) a e =
+        let same : Condition.Weak name ≡ Condition.Weak buffer = ap (λ (x : Tracked). x.condition) (some-injective _ t e) ∙ is in
+        let one : name ≡ buffer = cc in
+        let all = took_effect_all limits (readings before) client (key_told (Reply.Tracker id)) (Call.TrackWeak name) (Reply.Tracker id)
+        refl refl a.told in
+        subst (λ (b : BufferName). b.collection ≤ events before) one
+        (has_name_early pool limits before g name (has_named pool limits before g client name Strength.Weak
+        (some_open (open_of before client name Strength.Weak) all.has_handle)))
+    made _ _ a e = cc
+
+    -- by cases: it is made now, or was made before
+    by : (tracked_at before (Called client reply call) ≡ Some t) ⊎ In t (tracked before) →
+        (In t (tracked before) → (b : BufferName) → t.condition ≡ Condition.Weak b → b.collection ≤ events before) →
+        buffer.collection ≤ events before + 1
+    by (inl now) earlier = let less : buffer.collection ≤ events before = made reply call answer now in omega arith
+    by (inr old) earlier = let less : buffer.collection ≤ events before = earlier old buffer is in omega arith
+
+-- the names in a condition
+abbrev pub KnownCondition : (NodeKey → Type 0) → (ℕ → Type 0) → Condition → Type 0
+KnownCondition Key Id (Condition.Node key) = Key key
+KnownCondition Key Id (Condition.Lifetime key collection most) = Key key × Id collection
+KnownCondition Key Id (Condition.Weak buffer) = Id buffer.collection
+
 module _ (s : State) (history : List Entry) (shows : Shows s history) where
   abbrev marks : Timeline
   marks = timeline s.pool history
@@ -209,15 +274,7 @@ module _ (s : State) (history : List Entry) (shows : Shows s history) where
   -- A buffer that has a name is of a collection that an event made.
   named_early : (buffer : BufferName) → list_any (λ name. same_buffer name buffer) (buffer_names marks buffer.collection) ≡ true →
       IsId buffer.collection
-  named_early buffer named = early buffer.collection (buffers_early s.pool s.limits marks grown buffer.collection
-      (by (buffers_of marks buffer.collection) named))
-    where
-      -- by cases: without buffers none has a name
-      by : (o : Option Buffers) →
-          list_any (λ name. same_buffer name buffer) (option_map_or (λ (b : Buffers). names buffer.collection b.count) o []) ≡ true →
-          is_some o ≡ true
-      by None named = absurd (false≢true named)
-      by (Some b) named = refl
+  named_early buffer named = early buffer.collection (has_name_early s.pool s.limits marks grown buffer named)
 
   -- A client has no handle of a later collection.
   pub none_of : (client : ℕ) (buffer : BufferName) (strength : Strength) → s.events < buffer.collection →
@@ -288,3 +345,34 @@ module _ (s : State) (history : List Entry) (shows : Shows s history) where
       let kept = In-filter (λ t. option_map_or (λ e. e == events part.0) (fired_at marks t) false) (reverse (tracked marks)) t.0 t.1 in
       subst (λ (n : ℕ). n ≤ s.events) (sym (ap (λ (g : Fired). g.tracker) t.2))
       (early t.0.id ((numbered s.pool s.limits marks grown).early t.0 (In-reverse (tracked marks) t.0 kept.0)))
+
+  -- A node that stands in a collection was born, and the collection was made.
+  in_known : (key : NodeKey) (collection : ℕ) → collection_in (births marks) key ≡ Some collection → IsKey key × IsId collection
+  in_known key collection is =
+      let b = map-Some (λ (b : Birth). b.collection) (birth_of marks key) collection is in
+      let found = birth_is marks key b.0 b.1 in (
+        shows.shown.given key (birth_was_born marks key b.0 b.1),
+        subst IsId b.2 (early b.0.collection ((ordered s.pool s.limits marks grown).early b.0 found.0)),
+      )
+
+  -- What a tracker waits for is on a node, a collection or a buffer that was made.
+  pub condition_known : (w : Waiting) → In w s.trackers.unfired → KnownCondition IsKey IsId w.condition
+  condition_known w there = by w.condition refl of_one.1
+    where
+      -- it was made
+      on : In (tracked_as w) (tracked marks)
+      on = (In-waiting marks (tracked_as w)
+          (subst (In (tracked_as w)) shows.shown.trackers.waiting (In-map-back tracked_as s.trackers.unfired w there))).0
+
+      -- and is on one collection
+      of_one : (collection : ℕ) × IsOf marks collection w.condition
+      of_one = concerned s.pool s.limits marks grown (tracked_as w) on
+
+      -- by the condition
+      by : (c : Condition) → w.condition ≡ c → IsOf marks of_one.0 c → KnownCondition IsKey IsId c
+      by (Condition.Node key) is h = (in_known key of_one.0 h).0
+      by (Condition.Lifetime key collection most) is h =
+          let k = in_known key of_one.0 h.1 in
+          (k.0, subst IsId (sym h.0) k.1)
+      by (Condition.Weak buffer) is h =
+          early buffer.collection (weak_early s.pool s.limits marks grown (tracked_as w) on buffer is)
