@@ -13,3 +13,5 @@ pub mod Keys
 pub mod Shown
 pub mod Composing
 pub mod Known
+pub mod Moving
+pub mod Agreeing
