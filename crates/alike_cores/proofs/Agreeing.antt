@@ -1,11 +1,11 @@
 -- Only the names that cores mention make a difference.
-use Rattle.std.proofs.Common.{ℕ, ◌≡◌, ◌≤◌, ◌<◌, ◌+◌, ◌⊎◌, inl, inr, refl, ap, sym, subst, ◌∙◌, Bool, true, false, ◌==◌, List, map, Option, Some, None, arith}
+use Rattle.std.proofs.Common.{ℕ, ◌≡◌, ◌≤◌, ◌<◌, ◌+◌, ◌⊎◌, inl, inr, refl, ap, sym}
+use Rattle.std.proofs.Common.{subst, ◌∙◌, true, false, ◌==◌, List, map, Option, Some, None, arith}
 use Rattle.std.proofs.lemmas.Bool.{eqb-true}
 use Rattle.std.specs.Option.{option_map}
 use Rattle.sm_names.specs.declared.keys.BufferName.{BufferName}
 use Rattle.sm_names.specs.declared.keys.HeldBuffer.{HeldBuffer}
 use Rattle.sm_names.specs.declared.keys.NodeKey.{NodeKey}
-use Rattle.sm_names.specs.declared.keys.Strength.{Strength}
 use Rattle.sm_names.specs.declared.messages.Parcel.{Parcel}
 use Rattle.sm_names.specs.declared.outcomes.Fault.{Fault}
 use Rattle.sm_names.specs.declared.tracking.Condition.{Condition}
@@ -19,12 +19,12 @@ use Rattle.forest_store.specs.declared.node.Node.{Node}
 use Rattle.forest_store.specs.Forest.{Collection, given}
 use Rattle.trackers.specs.declared.waiting.Waiting.{Waiting}
 use Rattle.core_state.specs.Shown.{Shows, tracked_as}
-use Rattle.core_state.specs.State.{Client, State}
+use Rattle.core_state.specs.State.{State}
 use Rattle.name_laws.specs.Alike.{KeepsIds, client_renamed, parcel_renamed}
-use Rattle.name_laws.specs.Renamed.{CountsAlike, buffer_renamed, collection_renamed, fault_renamed, held_renamed, node_renamed}
+use Rattle.name_laws.specs.Renamed.{buffer_renamed, collection_renamed, fault_renamed, held_renamed, node_renamed}
 use Rattle.alike_cores.specs.Cores.{AreAlikeCores, condition_renamed, tracker_renamed, undated}
 use Rattle.alike_cores.specs.Mixed.{Mixed}
-use Rattle.alike_cores.proofs.Finding.{node_undated, one_id}
+use Rattle.alike_cores.proofs.Finding.{node_undated}
 use Rattle.alike_cores.proofs.Known.{KnownCollection, KnownCondition, KnownNode, KnownParcel}
 use Rattle.alike_cores.proofs.Known.{collection_known, condition_known, fired_early, none_in_all, none_of, parcel_known, tracker_early}
 use Rattle.alike_cores.proofs.Mixing.{In-mixed}
@@ -92,10 +92,12 @@ module _ (to again : NodeKey → NodeKey) (id later : ℕ → ℕ) (Key Other : 
     nodes = map-In (node_renamed again later) (node_renamed to id) c.nodes (λ n there.
         node-agrees n (known.nodes n there) (new.nodes (node_renamed to id n) (In-map-back (node_renamed to id) c.nodes n there))) i;
     buffers = c.buffers;
-    held = map-In (held_renamed later) (held_renamed id) c.held (λ h there j. record h { buffer = record h.buffer {
-      collection = ids h.buffer.collection (known.held h there)
-          (new.held (held_renamed id h) (In-map-back (held_renamed id) c.held h there)) j;
-    } }) i;
+    held = map-In (held_renamed later) (held_renamed id) c.held (λ h there j. record h {
+      buffer = record h.buffer {
+        collection = ids h.buffer.collection (known.held h there)
+            (new.held (held_renamed id h) (In-map-back (held_renamed id) c.held h there)) j;
+      };
+    }) i;
   }
 
   -- By the parcel.

@@ -151,6 +151,7 @@ alike-alike to more id on number next s t u one other = record {
       (map-map next (λ (f : Fired). number f.tracker) s.trackers.fired)
       (subst (Mixed (map next (map (λ (f : Fired). number f.tracker) s.trackers.fired)))
       (map-map next (λ (f : Fired). f.tracker) t.trackers.fired)
-      (mixed-map next (map (λ (f : Fired). number f.tracker) s.trackers.fired) (map (λ (f : Fired). f.tracker) t.trackers.fired) one.fired)))
+      (mixed-map next (map (λ (f : Fired). number f.tracker) s.trackers.fired) (map (λ (f : Fired). f.tracker) t.trackers.fired)
+      one.fired)))
       other.fired;
 }

@@ -13,13 +13,12 @@ use Rattle.event_laws.specs.ByEvent.{anyone, only}
 use Rattle.buffer_holds.specs.Counts.{of, total}
 use Rattle.forest_store.specs.Forest.{Collection, Forest, is_left, tidied, with_nodes}
 use Rattle.forest_store.specs.Nodes.{with_end}
-use Rattle.trackers.specs.declared.waiting.Waiting.{Waiting}
 use Rattle.trackers.specs.Table.{TrackerTable, firings, still_waiting}
 use Rattle.core_state.specs.declared.task.EndPlace.{EndPlace}
 use Rattle.core_state.specs.Reads.{world_in}
 use Rattle.core_state.specs.Shown.{tracked_as}
 use Rattle.core_state.specs.State.{HandleCounts, State}
-use Rattle.core_state.specs.Steps.{Follows, GainsTracker, Worked, clients_by, end_by, tracker_by, with_place, without_unkept, work_of}
+use Rattle.core_state.specs.Steps.{Follows, Worked, clients_by, end_by, tracker_by, with_place, without_unkept, work_of}
 use Rattle.core_state.specs.Whole.{IsSound}
 use Rattle.name_laws.specs.Alike.{KeepsIds, call_renamed, client_renamed, reply_renamed}
 use Rattle.name_laws.specs.Renamed.{CountsAlike, KeepsKeys, buffer_renamed, collection_renamed, held_renamed, node_renamed}

@@ -25,7 +25,8 @@ read_then-alike {A = A} {B = B} one other read o p same = sym (twice one o) ∙ 
 -- And where something else is read if nothing is there.
 pub read_or-alike : {A B : Type 0} (one other : A → A) (read : A → B) (none : B) (o p : Option A) → option_map one o ≡ option_map other p →
     option_map_or (λ x. read (one x)) o none ≡ option_map_or (λ x. read (other x)) p none
-read_or-alike {A = A} {B = B} one other read none o p same = sym (twice one o) ∙ (ap (λ (q : Option A). option_map_or read q none) same ∙ twice other p)
+read_or-alike {A = A} {B = B} one other read none o p same =
+    sym (twice one o) ∙ (ap (λ (q : Option A). option_map_or read q none) same ∙ twice other p)
   where
     -- by cases on the option
     twice : (f : A → A) (q : Option A) → option_map_or read (option_map f q) none ≡ option_map_or (λ x. read (f x)) q none

@@ -1,5 +1,6 @@
 -- An answer depends on the key of a new node only where it tells it.
-use Rattle.std.proofs.Common.{ℕ, ◌≡◌, refl, ap, sym, ◌∙◌, Bool, true, false, ◌||◌, ◌&&◌, ◌==◌, not, nat_le, List, [], ◌∷◌, map, Option, Some, None}
+use Rattle.std.proofs.Common.{ℕ, ◌≡◌, refl, ap, sym, ◌∙◌, Bool, true, false, ◌||◌, ◌&&◌}
+use Rattle.std.proofs.Common.{◌==◌, not, nat_le, List, [], ◌∷◌, map, Option, Some, None}
 use Rattle.std.specs.Option.{option_and_then, option_map, option_map_or, unwrap_or}
 use Rattle.sm_names.specs.declared.keys.NodeKey.{NodeKey}
 use Rattle.sm_names.specs.declared.keys.Strength.{Strength}
@@ -10,7 +11,8 @@ use Rattle.sm_names.specs.declared.outcomes.Buffers.{Buffers}
 use Rattle.sm_names.specs.declared.outcomes.Fault.{Fault}
 use Rattle.sm_names.specs.declared.outcomes.Misuse.{Misuse}
 use Rattle.sm_names.specs.declared.outcomes.Refusal.{Refusal}
-use Rattle.sm_names.specs.Answers.{OpenEnd, Readings, answer, answers_first, effect, limits_met, misused_if, misuse_of, no_handle, refused_if}
+use Rattle.sm_names.specs.Answers.{OpenEnd, Readings, answer, answers_first, effect}
+use Rattle.sm_names.specs.Answers.{limits_met, misused_if, misuse_of, no_handle, refused_if}
 use Rattle.sm_names.specs.Answers.{acquires, closing, collected, end_named, is_anothers, kind_for, makes_collection, makes_node}
 use Rattle.sm_names.specs.Answers.{makes_tracker, receiver_of, set_of, strength_of, too_many_handles, unknown_client}
 use Rattle.sm_names.specs.declared.rules.TheConstants.{MAX_NODE_TRACKERS}
@@ -40,8 +42,8 @@ misused-keyed key true misuse = refl
 misused-keyed key false misuse = refl
 
 -- By what is there.
-then-keyed : {A : Type 0} (key : NodeKey) (read : A → Option Reply) → ((x : A) → option_map (keyed key) (read x) ≡ read x) → (o : Option A) →
-    option_map (keyed key) (option_and_then read o) ≡ option_and_then read o
+then-keyed : {A : Type 0} (key : NodeKey) (read : A → Option Reply) → ((x : A) → option_map (keyed key) (read x) ≡ read x) →
+    (o : Option A) → option_map (keyed key) (option_and_then read o) ≡ option_and_then read o
 then-keyed key read each None = refl
 then-keyed key read each (Some x) = each x
 
@@ -157,7 +159,8 @@ effect-keyed r client one other (Call.Check on) = by (r.end_of on)
     by : (o : Option OpenEnd) →
         option_map_or (λ (e : OpenEnd). option_map_or (λ (b : Buffers). Reply.Allocated b.count b.size) e.buffers Reply.Pending) o
         (Reply.Refused Refusal.NoSuchEnd)
-        ≡ keyed other (option_map_or (λ (e : OpenEnd). option_map_or (λ (b : Buffers). Reply.Allocated b.count b.size) e.buffers Reply.Pending) o
+        ≡ keyed other (option_map_or
+        (λ (e : OpenEnd). option_map_or (λ (b : Buffers). Reply.Allocated b.count b.size) e.buffers Reply.Pending) o
         (Reply.Refused Refusal.NoSuchEnd))
     by None = refl
     by (Some e) = own e.buffers

@@ -1,10 +1,11 @@
 -- Which names a core mentions that shows a history: those that its history made.
-use Rattle.std.proofs.Common.{ℕ, ◌≡◌, ◌≤◌, ◌<◌, ◌+◌, ◌⊎◌, inl, inr, refl, ap, sym, subst, ◌∙◌, Bool, true, false, cond, ◌||◌, ◌&&◌, ◌==◌, not, List, [], ◌∷◌}
-use Rattle.std.proofs.Common.{map, reverse, Option, Some, None, is_some, IfSome, arith}
+use Rattle.std.proofs.Common.{ℕ, ◌≡◌, ◌≤◌, ◌<◌, ◌+◌, ◌⊎◌, inl, inr, refl, ap, sym, subst}
+use Rattle.std.proofs.Common.{◌∙◌, Bool, true, false, cond, ◌||◌, ◌&&◌, ◌==◌, not, List, [], ◌∷◌}
+use Rattle.std.proofs.Common.{reverse, Option, Some, None, is_some, IfSome, arith}
 use Rattle.std.proofs.lemmas.Bool.{false≢true}
 use Rattle.std.proofs.lemmas.List.Sums.{sum_by-cons}
 use Rattle.std.specs.List.{filter, flat_map, list_any, sum_by}
-use Rattle.std.specs.Option.{option_map, option_map_or}
+use Rattle.std.specs.Option.{option_map_or}
 use Rattle.sm_names.specs.declared.keys.BufferName.{BufferName}
 use Rattle.sm_names.specs.declared.keys.HeldBuffer.{HeldBuffer}
 use Rattle.sm_names.specs.declared.keys.NodeKey.{NodeKey}
@@ -51,7 +52,7 @@ use Rattle.forest_store.specs.declared.node.Node.{Node}
 use Rattle.forest_store.specs.Forest.{Collection, given}
 use Rattle.forest_store.specs.Nodes.{is_unkept}
 use Rattle.trackers.specs.declared.waiting.Waiting.{Waiting}
-use Rattle.core_state.specs.Shown.{IsAfter, Shows, client_after, collection_after, kept_ids, node_after, nodes_after, tracked_as}
+use Rattle.core_state.specs.Shown.{Shows, client_after, collection_after, kept_ids, node_after, nodes_after, tracked_as}
 use Rattle.core_state.specs.State.{Client, HandleCounts, State}
 use Rattle.core_state.specs.Whole.{IsSound}
 use Rattle.core_state.proofs.nodes.Members.{of_collection}
@@ -339,7 +340,8 @@ module _ (s : State) (history : List Entry) (shows : Shows s history) where
   -- And so has one that fired.
   pub fired_early : (f : Fired) → In f s.trackers.fired → f.tracker ≤ s.events
   fired_early f there =
-      let part = In-flat (λ moment. fired_in marks (events moment)) (reverse (moments marks)) f (subst (In f) shows.shown.trackers.fired there) in
+      let part = In-flat (λ moment. fired_in marks (events moment)) (reverse (moments marks)) f
+      (subst (In f) shows.shown.trackers.fired there) in
       let t = In-map (λ (t : Tracked). record { tracker = t.id; event = events part.0 })
       (filter (λ t. option_map_or (λ e. e == events part.0) (fired_at marks t) false) (reverse (tracked marks))) f part.2 in
       let kept = In-filter (λ t. option_map_or (λ e. e == events part.0) (fired_at marks t) false) (reverse (tracked marks)) t.0 t.1 in

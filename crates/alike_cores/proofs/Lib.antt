@@ -15,3 +15,4 @@ pub mod Composing
 pub mod Known
 pub mod Moving
 pub mod Agreeing
+pub mod Going

@@ -74,11 +74,11 @@ pub events_alike : (to : NodeKey → NodeKey) (id number : ℕ → ℕ) → Keep
     joined_at (Called client reply call) ≡ None → NamesNew to reply told → Makes s later (client, call, reply) →
     Makes t again (client, call_renamed to id call, told) →
     (told ≡ reply_renamed to id number reply) × AreAlikeCores to id number later again
-events_alike to id number keeps kept s t later again one other shows_s shows_t alike collection tracker client call reply told none names
-    makes_s makes_t = (
+events_alike to id number keeps kept s t later again one other shows_s shows_t alike collection tracker client call reply told none
+    names makes_s makes_t = (
       same,
-      stay_alike to id number keeps kept s t later again alike (shown_sound s one shows_s) (shown_sound t other shows_t) client call reply none
-          makes_s.after
+      stay_alike to id number keeps kept s t later again alike (shown_sound s one shows_s) (shown_sound t other shows_t) client call reply
+          none makes_s.after
           (subst (λ (r : Reply). Follows t again client (call_renamed to id call) r) same makes_t.after),
     )
   where

@@ -1,5 +1,6 @@
 -- Which trackers fire in cores that are alike.
-use Rattle.std.proofs.Common.{Bool, ℕ, ◌≡◌, ◌∷◌, ◌++◌, [], refl, ap, sym, subst, ◌∙◌, true, false, cond, ◌&&◌, nat_le, not, List, length, map, Option, Some, None, is_some}
+use Rattle.std.proofs.Common.{Bool, ℕ, ◌≡◌, ◌∷◌, ◌++◌, [], refl, ap, sym, subst, ◌∙◌, true}
+use Rattle.std.proofs.Common.{false, cond, ◌&&◌, nat_le, not, List, length, map, Option, Some, None, is_some}
 use Rattle.std.proofs.lemmas.List.{map-append}
 use Rattle.std.specs.List.{filter}
 use Rattle.std.specs.Option.{option_map, option_map_or}

@@ -1,5 +1,6 @@
 -- The collections once an event's change and all that it forces are made, in cores that are alike.
-use Rattle.std.proofs.Common.{ℕ, ◌≡◌, ◌⊎◌, inl, inr, refl, ap, sym, subst, ◌∙◌, true, false, ◌==◌, List, [], map, Option, Some, None, is_some, IfSome}
+use Rattle.std.proofs.Common.{ℕ, ◌≡◌, ◌⊎◌, inl, inr, refl, ap, sym, subst, ◌∙◌, true}
+use Rattle.std.proofs.Common.{false, ◌==◌, List, [], map, Option, Some, None, is_some, IfSome}
 use Rattle.std.proofs.lemmas.Bool.{eqb-true}
 use Rattle.std.specs.Option.{option_map, unwrap_or}
 use Rattle.sm_names.specs.declared.keys.NodeKey.{NodeKey}
@@ -153,7 +154,8 @@ module _ (to : NodeKey → NodeKey) (id number : ℕ → ℕ) (keeps : KeepsKeys
       is_some (option_map to key) ≡ is_birth v.change →
       collection_renamed to id (changed w.change (unwrap_or key no_key) (collection_or_new s.forest w.collection))
       ≡ undated (changed v.change (unwrap_or (option_map to key) no_key) (collection_or_new t.forest v.collection))
-  start w v same key told again = sym (changed-renamed to id keeps w.change (unwrap_or key no_key) (collection_or_new s.forest w.collection))
+  start w v same key told again =
+      sym (changed-renamed to id keeps w.change (unwrap_or key no_key) (collection_or_new s.forest w.collection))
       ∙ (with_key key told again
       ∙ changed-renamed (λ k. k) (λ j. j) (λ a b. refl) v.change (unwrap_or (option_map to key) no_key)
       (collection_or_new t.forest v.collection))
@@ -174,8 +176,10 @@ module _ (to : NodeKey → NodeKey) (id number : ℕ → ℕ) (keeps : KeepsKeys
 
       -- by cases on the key
       with_key : (o : Option NodeKey) → is_some o ≡ is_birth w.change → is_some (option_map to o) ≡ is_birth v.change →
-          changed (change_renamed to w.change) (to (unwrap_or o no_key)) (collection_renamed to id (collection_or_new s.forest w.collection))
-          ≡ changed (change_renamed (λ k. k) v.change) (unwrap_or (option_map to o) no_key) (undated (collection_or_new t.forest v.collection))
+          changed (change_renamed to w.change) (to (unwrap_or o no_key))
+          (collection_renamed to id (collection_or_new s.forest w.collection))
+          ≡ changed (change_renamed (λ k. k) v.change) (unwrap_or (option_map to o) no_key)
+          (undated (collection_or_new t.forest v.collection))
       with_key (Some k) told again = λ i. changed (changes i) (to k) (collections i)
       with_key None told again =
           (λ i. changed (changes i) (to no_key) (collections i))
@@ -215,7 +219,8 @@ module _ (to : NodeKey → NodeKey) (id number : ℕ → ℕ) (keeps : KeepsKeys
   worked-alike None (Some v) same key one other = cc
   worked-alike (Some w) None same key one other = cc
   worked-alike (Some w) (Some v) same key one other = record {
-    alike = subst (λ (cs : List Collection). Mixed (map (collection_renamed to id) cs) (map undated right.collections)) (sym one.collections)
+    alike = subst (λ (cs : List Collection). Mixed (map (collection_renamed to id) cs) (map undated right.collections))
+        (sym one.collections)
         (subst (λ (ds : List Collection). Mixed (map (collection_renamed to id) (put (given_back before one.after) s.forest.collections))
         (map undated ds)) (sym other.collections)
         (put-alike to id kept (given_back before one.after) (given_back after other.after)

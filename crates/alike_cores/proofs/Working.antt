@@ -130,7 +130,8 @@ module _ (to : NodeKey → NodeKey) (id number : ℕ → ℕ) (keeps : KeepsKeys
 
       -- by cases on the collection
       right : (o : Option Collection) → option_map (λ c. read (collection_renamed to id c)) o
-          ≡ option_map (work_renamed to id) (option_map (λ (c : Collection). record { collection = b.collection; change = Change.Nothing }) o)
+          ≡ option_map (work_renamed to id)
+          (option_map (λ (c : Collection). record { collection = b.collection; change = Change.Nothing }) o)
       right None = refl
       right (Some c) = refl
 

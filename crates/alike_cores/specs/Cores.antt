@@ -1,19 +1,21 @@
 -- Cores that are alike but for names, the numbers of events, and the order of collections and trackers.
-use Rattle.std.specs.Prelude.{◌≡◌, ℕ, Some, map}
+use Rattle.std.specs.Prelude.{◌≡◌, ◌≤◌, ℕ, Some, map, true}
 use Rattle.sm_names.specs.declared.keys.BufferName.{BufferName}
 use Rattle.sm_names.specs.declared.keys.NodeKey.{NodeKey}
 use Rattle.sm_names.specs.declared.keys.Strength.{Strength}
+use Rattle.sm_names.specs.declared.messages.Call.{Call}
 use Rattle.sm_names.specs.declared.messages.Reply.{Reply}
 use Rattle.sm_names.specs.declared.tracking.Condition.{Condition}
 use Rattle.sm_names.specs.declared.tracking.Fired.{Fired}
 use Rattle.sm_names.specs.Answers.{new_key}
+use Rattle.sm_names.specs.Timelines.{buffer_of, key_of}
 use Rattle.sm_names.specs.Trackers.{Tracked}
 use Rattle.buffer_holds.specs.Counts.{of, total}
-use Rattle.forest_store.specs.Forest.{Collection}
+use Rattle.forest_store.specs.Forest.{Collection, given}
 use Rattle.core_state.specs.Shown.{tracked_as}
 use Rattle.core_state.specs.State.{State}
-use Rattle.name_laws.specs.Alike.{client_renamed}
-use Rattle.name_laws.specs.Renamed.{CountsAlike, buffer_renamed, collection_renamed}
+use Rattle.name_laws.specs.Alike.{KeepsIds, client_renamed, reply_renamed}
+use Rattle.name_laws.specs.Renamed.{CountsAlike, KeepsKeys, buffer_renamed, collection_renamed}
 use Rattle.alike_cores.specs.Mixed.{Mixed}
 
 -- what a tracker waits for, under new names
@@ -47,3 +49,23 @@ pub record AreAlikeCores (to : NodeKey → NodeKey) (id number : ℕ → ℕ) (s
 -- where both replies tell of a new node, its key becomes that of the other
 abbrev pub NamesNew : (NodeKey → NodeKey) → Reply → Reply → Type 0
 NamesNew to reply told = (key new : NodeKey) → new_key reply ≡ Some key → new_key told ≡ Some new → to key ≡ new
+
+-- the nodes and collections that the call names are old ones of both cores
+pub record NamesOld (to : NodeKey → NodeKey) (id : ℕ → ℕ) (s t : State) (call : Call) : Type 0 where
+  pub nodes : (key : NodeKey) → key_of call ≡ Some key → (given s.forest key ≡ true) × (given t.forest (to key) ≡ true)
+  pub buffers : (buffer : BufferName) → buffer_of call ≡ Some buffer → (buffer.collection ≤ s.events) × (id buffer.collection ≤ t.events)
+
+-- there are names under which the later cores are alike, and the replies too. They are those of the old ones for all that had a name
+-- in both
+pub record GoOn (to : NodeKey → NodeKey) (id number : ℕ → ℕ) (s t later again : State) (reply told : Reply) : Type 0 where
+  pub keys : NodeKey → NodeKey
+  pub ids : ℕ → ℕ
+  pub numbers : ℕ → ℕ
+  pub keys_apart : KeepsKeys keys
+  pub ids_apart : KeepsIds ids
+  pub numbers_apart : KeepsIds numbers
+  pub old_keys : (key : NodeKey) → given s.forest key ≡ true → given t.forest (to key) ≡ true → keys key ≡ to key
+  pub old_ids : (i : ℕ) → i ≤ s.events → id i ≤ t.events → ids i ≡ id i
+  pub old_numbers : (i : ℕ) → i ≤ s.events → number i ≤ t.events → numbers i ≡ number i
+  pub same_reply : told ≡ reply_renamed keys ids numbers reply
+  pub alike : AreAlikeCores keys ids numbers later again

@@ -14,7 +14,7 @@ ghost use Rattle.core_state.specs.State.{State};
 ghost use Rattle.core_state.specs.Theorem.{Makes};
 ghost use Rattle.name_laws.specs.Alike.{AreAlike, KeepsIds, call_renamed, reply_renamed};
 ghost use Rattle.name_laws.specs.Renamed.{KeepsKeys};
-ghost use Rattle.alike_cores.specs.Cores.{AreAlikeCores, NamesNew};
+ghost use Rattle.alike_cores.specs.Cores.{AreAlikeCores, GoOn, NamesNew, NamesOld};
 
 /// All that answers read of cores that are alike is alike, so that a renamed call is answered by the
 /// renamed reply.
@@ -31,11 +31,12 @@ pub fn alike_cores_answer_alike()
         ≡ reply_renamed to id number (answer limits (readings_of s) client new call) }
 {}
 
-/// A call makes of cores that are alike cores that are alike, and is answered alike, where the names
-/// that it makes are those that become each other. A Join is none of these calls: clients keep their
-/// numbers.
+/// A call makes of cores that are alike cores that are alike, and is answered alike: under the same
+/// names, if these take what the call makes in the one core to what it makes in the other, and under
+/// some names that agree with them on all that had a name before. A Join is none of these calls:
+/// clients keep their numbers.
 pub fn alike_cores_stay_alike()
-    ensures { (to : NodeKey → NodeKey) (id number : ℕ → ℕ) → KeepsKeys to → KeepsIds id →
+    ensures named { (to : NodeKey → NodeKey) (id number : ℕ → ℕ) → KeepsKeys to → KeepsIds id →
         (s t later again : State) (one other : List Entry) → Shows s one → Shows t other →
         AreAlikeCores to id number s t →
         id (s.events + 1) ≡ t.events + 1 → number (s.events + 1) ≡ t.events + 1 →
@@ -44,4 +45,20 @@ pub fn alike_cores_stay_alike()
         Makes s later (client, call, reply) →
         Makes t again (client, call_renamed to id call, told) →
         (told ≡ reply_renamed to id number reply) × AreAlikeCores to id number later again }
+    ensures goes_on { (to : NodeKey → NodeKey) (id number : ℕ → ℕ) →
+        KeepsKeys to → KeepsIds id → KeepsIds number →
+        (s t later again : State) (one other : List Entry) → Shows s one → Shows t other →
+        AreAlikeCores to id number s t → (client : ℕ) (call : Call) (reply told : Reply) →
+        joined_at (Called client reply call) ≡ None → NamesOld to id s t call →
+        Makes s later (client, call, reply) →
+        Makes t again (client, call_renamed to id call, told) →
+        GoOn to id number s t later again reply told }
+{}
+
+/// A core is alike to itself, and to a third one that is alike to a second to which it is alike.
+pub fn being_alike_composes()
+    ensures itself { (s : State) → AreAlikeCores (λ key. key) (λ id. id) (λ number. number) s s }
+    ensures composed { (to more : NodeKey → NodeKey) (id on number next : ℕ → ℕ) (s t u : State) →
+        AreAlikeCores to id number s t → AreAlikeCores more on next t u →
+        AreAlikeCores (λ key. more (to key)) (λ i. on (id i)) (λ n. next (number n)) s u }
 {}
