@@ -1,0 +1,2 @@
+//! Actors that are alike but for names.
+#![tactic(auto)]
