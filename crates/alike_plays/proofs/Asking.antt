@@ -19,8 +19,8 @@ use Rattle.actor_scripts.specs.declared.step.StepBuffer.{StepBuffer}
 use Rattle.actor_scripts.specs.ActorStates.{Known, NodePlace, argument_at, argument_held, asked_strength, bare_call, call_at, call_for, call_on}
 use Rattle.actor_scripts.specs.ActorStates.{end_slot, handle_slot, is_bound, is_join, node_label, object_at, slot_call, step_call, target_of}
 use Rattle.actor_scripts.specs.ActorStates.{tracker_label}
-use Rattle.name_laws.specs.Alike.{KeepsIds, call_renamed}
-use Rattle.name_laws.specs.Renamed.{KeepsKeys, buffer_renamed}
+use Rattle.name_laws.specs.Alike.{call_renamed}
+use Rattle.name_laws.specs.Renamed.{buffer_renamed}
 use Rattle.alike_plays.specs.Actors.{AreAlikeKnown, asked_renamed, object_renamed, place_renamed}
 
 -- what a call is made on, under its new name
@@ -107,7 +107,7 @@ bare-renamed to id clients r = from (is_join (row_of r.kind).brings) (argument_a
     from false None = refl
     from false (Some argument) = made-renamed to id Named.Nothing argument r.kind
 
-module _ (to : NodeKey → NodeKey) (id number : ℕ → ℕ) (keeps : KeepsKeys to) (kept : KeepsIds id) (one other : Known)
+module _ (to : NodeKey → NodeKey) (id number : ℕ → ℕ) (one other : Known)
     (alike : AreAlikeKnown to id number one other) where
   -- Slot by slot.
   pub object-alike : (slot : ℕ) → object_at other.objects slot ≡ option_map (object_renamed to id) (object_at one.objects slot)
