@@ -1,5 +1,5 @@
 -- What actors that are alike ask for.
-use Rattle.std.proofs.Common.{ℕ, ◌≡◌, refl, ap, sym, ◌∙◌, Bool, true, false, cond, List, map, Option, Some, None, is_some, slice_get}
+use Rattle.std.proofs.Common.{ℕ, ◌≡◌, refl, ap, ◌∙◌, Bool, true, false, cond, List, Option, Some, None, is_some, slice_get}
 use Rattle.std.proofs.lemmas.Option.{slice_get-map}
 use Rattle.std.specs.Option.{option_and_then, option_map}
 use Rattle.sm_names.specs.declared.call_parts.Argument.{Argument}
@@ -13,7 +13,6 @@ use Rattle.sm_names.specs.declared.messages.Call.{Call}
 use Rattle.sm_names.specs.CallRows.{call_made, call_of, parts, row_of}
 use Rattle.script_lines.specs.declared.line.Request.{Request}
 use Rattle.actor_scripts.specs.declared.object.ActorObject.{ActorObject}
-use Rattle.actor_scripts.specs.declared.object.StepCall.{StepCall}
 use Rattle.actor_scripts.specs.declared.step.Step.{Step}
 use Rattle.actor_scripts.specs.declared.step.StepBuffer.{StepBuffer}
 use Rattle.actor_scripts.specs.ActorStates.{Known, NodePlace, argument_at, argument_held, asked_strength, bare_call, call_at, call_for, call_on}

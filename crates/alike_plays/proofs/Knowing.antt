@@ -13,13 +13,13 @@ use Rattle.sm_names.specs.declared.messages.Call.{Call}
 use Rattle.sm_names.specs.declared.messages.Reply.{Reply}
 use Rattle.sm_names.specs.declared.rules.TheConstants.{MAX_BUFFERS}
 use Rattle.sm_names.specs.CallRows.{row_for}
-use Rattle.sm_names.specs.Sameness.{same_buffer, same_key}
+use Rattle.sm_names.specs.Sameness.{same_buffer}
 use Rattle.actor_scripts.specs.declared.object.ActorObject.{ActorObject}
 use Rattle.actor_scripts.specs.declared.object.StepCall.{StepCall}
 use Rattle.actor_scripts.specs.declared.step.Step.{Step}
-use Rattle.actor_scripts.specs.ActorStates.{Known, NodePlace, bound, emptied, end_object, handle_of, handles_from, handles_of_set, new_objects}
+use Rattle.actor_scripts.specs.ActorStates.{Known, bound, handle_of, handles_from, new_objects}
 use Rattle.actor_scripts.specs.ActorStates.{new_place, new_tracker, node_label, on_of, spends_by, spends_object, state_after, tracker_label}
-use Rattle.actor_scripts.specs.ActorStates.{with_first_gone, with_label, with_new, with_node_label, with_object, with_objects, with_queues}
+use Rattle.actor_scripts.specs.ActorStates.{with_first_gone, with_new, with_node_label, with_object, with_objects, with_queues}
 use Rattle.actor_scripts.specs.ActorStates.{with_slot_last, with_spot, with_tracker_label, without_handle, without_object, without_spent}
 use Rattle.name_laws.specs.Alike.{KeepsIds, call_renamed, reply_renamed}
 use Rattle.name_laws.specs.Renamed.{KeepsKeys, buffer_renamed}
@@ -91,7 +91,7 @@ handles-renamed to id collection strength set index (suc count) =
     from false more = refl
 
 -- By the call and the reply.
-gives-renamed : (to : NodeKey → NodeKey) (id number : ℕ → ℕ) (on : Option ActorObject) (call : Call) (reply : Reply) →
+pub gives-renamed : (to : NodeKey → NodeKey) (id number : ℕ → ℕ) (on : Option ActorObject) (call : Call) (reply : Reply) →
     new_objects (option_map (object_renamed to id) on) (call_renamed to id call) (reply_renamed to id number reply)
     ≡ map (object_renamed to id) (new_objects on call reply)
 gives-renamed to id number on Call.OpenRoot (Reply.Token key collection) = refl

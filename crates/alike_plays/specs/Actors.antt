@@ -1,5 +1,5 @@
 -- Actors that are alike but for names.
-use Rattle.std.specs.Prelude.{◌≡◌, ℕ, Option, map}
+use Rattle.std.specs.Prelude.{◌≡◌, ℕ, map}
 use Rattle.std.specs.Option.{option_map}
 use Rattle.sm_names.specs.declared.keys.BufferName.{BufferName}
 use Rattle.sm_names.specs.declared.keys.NodeKey.{NodeKey}
