@@ -22,9 +22,9 @@ use Rattle.core_state.specs.Shown.{Shows, tracked_as}
 use Rattle.core_state.specs.State.{State}
 use Rattle.name_laws.specs.Alike.{KeepsIds, client_renamed, parcel_renamed}
 use Rattle.name_laws.specs.Renamed.{buffer_renamed, collection_renamed, fault_renamed, held_renamed, node_renamed}
-use Rattle.alike_cores.specs.Cores.{AreAlikeCores, condition_renamed, tracker_renamed, undated}
+use Rattle.alike_cores.specs.Cores.{AreAlikeCores, condition_renamed, node_undated, tracker_renamed, undated}
 use Rattle.alike_cores.specs.Mixed.{Mixed}
-use Rattle.alike_cores.proofs.Finding.{node_undated}
+use Rattle.alike_cores.proofs.Finding.{}
 use Rattle.alike_cores.proofs.Known.{KnownCollection, KnownCondition, KnownNode, KnownParcel}
 use Rattle.alike_cores.proofs.Known.{collection_known, condition_known, fired_early, none_in_all, none_of, parcel_known, tracker_early}
 use Rattle.alike_cores.proofs.Mixing.{In-mixed}

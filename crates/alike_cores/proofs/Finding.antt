@@ -18,7 +18,7 @@ use Rattle.name_laws.specs.Renamed.{KeepsKeys, collection_renamed, node_renamed}
 use Rattle.name_laws.proofs.Forcings.{find_alike}
 use Rattle.name_laws.proofs.Reading.{nodes-renamed}
 use Rattle.name_laws.proofs.Renamings.{node_of-renamed}
-use Rattle.alike_cores.specs.Cores.{undated}
+use Rattle.alike_cores.specs.Cores.{node_undated, undated}
 use Rattle.alike_cores.specs.Mixed.{Mixed}
 use Rattle.alike_cores.proofs.Mixing.{find-mixed, mixed-flat_map}
 
@@ -31,10 +31,6 @@ one_id id kept a b same = eqb-true a b (sym (kept a b) ∙ eq-eqb (id a) (id b) 
 -- keys that become one are one
 pub one_key : (to : NodeKey → NodeKey) → KeepsKeys to → (a b : NodeKey) → to a ≡ to b → a ≡ b
 one_key to keeps a b same = same_key-true a b (sym (keeps a b) ∙ (ap (same_key (to a)) (sym same) ∙ same_key-refl (to a)))
-
--- a node without the number of the event of its birth
-abbrev pub node_undated : Node → Node
-node_undated n = node_renamed (λ key. key) (λ id. id) n
 
 -- ---- collections that are apart
 

@@ -16,3 +16,4 @@ pub mod Known
 pub mod Moving
 pub mod Agreeing
 pub mod Going
+pub mod Views

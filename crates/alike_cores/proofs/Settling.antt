@@ -126,7 +126,7 @@ settled-alike to id keeps pool before after counts others again same c d last en
 -- ---- the collections beside one
 
 -- Renamed collections hold the same pages.
-pages-flat : (to : NodeKey → NodeKey) (id : ℕ → ℕ) (cs : List Collection) →
+pub pages-flat : (to : NodeKey → NodeKey) (id : ℕ → ℕ) (cs : List Collection) →
     flat_map pages_in (map (collection_renamed to id) cs) ≡ flat_map pages_in cs
 pages-flat to id [] = refl
 pages-flat to id (c ∷ cs) = λ i. pages-renamed id c.held i ++ pages-flat to id cs i

@@ -28,9 +28,9 @@ use Rattle.name_laws.specs.Renamed.{CountsAlike, KeepsKeys, buffer_renamed, coll
 use Rattle.name_laws.proofs.Answering.{length-renamed}
 use Rattle.name_laws.proofs.Forcings.{filter_alike, strong-renamed}
 use Rattle.name_laws.proofs.Renamings.{members-renamed}
-use Rattle.alike_cores.specs.Cores.{condition_renamed, tracker_renamed, undated}
+use Rattle.alike_cores.specs.Cores.{condition_renamed, node_undated, tracker_renamed, undated}
 use Rattle.alike_cores.specs.Mixed.{Mixed, Mixes}
-use Rattle.alike_cores.proofs.Finding.{found_collection, found_node, node_undated}
+use Rattle.alike_cores.proofs.Finding.{found_collection, found_node}
 use Rattle.alike_cores.proofs.FoundAlike.{read_or-alike}
 use Rattle.alike_cores.proofs.Mixing.{mixed-before, mixed-behind, mixed-filter, mixed-map}
 use Rattle.alike_cores.proofs.Worked.{AreWorked}

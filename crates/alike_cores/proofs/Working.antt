@@ -23,8 +23,8 @@ use Rattle.core_state.specs.Steps.{Work, at_collection, at_node, birth_by, done_
 use Rattle.name_laws.specs.Alike.{KeepsIds, call_renamed, reply_renamed}
 use Rattle.name_laws.specs.Renamed.{KeepsKeys, buffer_renamed, change_renamed, collection_renamed, node_renamed}
 use Rattle.name_laws.proofs.Answering.{key-renamed}
-use Rattle.alike_cores.specs.Cores.{AreAlikeCores, tracker_renamed, undated}
-use Rattle.alike_cores.proofs.Finding.{AreApart, found_collection, found_node, node_undated}
+use Rattle.alike_cores.specs.Cores.{AreAlikeCores, node_undated, tracker_renamed, undated}
+use Rattle.alike_cores.proofs.Finding.{AreApart, found_collection, found_node}
 use Rattle.alike_cores.proofs.FoundAlike.{read-alike, read_then-alike}
 
 -- the change under new names, to the collection of the new id

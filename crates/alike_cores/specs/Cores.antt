@@ -11,11 +11,12 @@ use Rattle.sm_names.specs.Answers.{new_key}
 use Rattle.sm_names.specs.Timelines.{buffer_of, key_of}
 use Rattle.sm_names.specs.Trackers.{Tracked}
 use Rattle.buffer_holds.specs.Counts.{of, total}
+use Rattle.forest_store.specs.declared.node.Node.{Node}
 use Rattle.forest_store.specs.Forest.{Collection, given}
 use Rattle.core_state.specs.Shown.{tracked_as}
 use Rattle.core_state.specs.State.{State}
 use Rattle.name_laws.specs.Alike.{KeepsIds, client_renamed, reply_renamed}
-use Rattle.name_laws.specs.Renamed.{CountsAlike, KeepsKeys, buffer_renamed, collection_renamed}
+use Rattle.name_laws.specs.Renamed.{CountsAlike, KeepsKeys, buffer_renamed, collection_renamed, node_renamed}
 use Rattle.alike_cores.specs.Mixed.{Mixed}
 
 -- what a tracker waits for, under new names
@@ -27,6 +28,10 @@ condition_renamed to id (Condition.Weak buffer) = Condition.Weak (buffer_renamed
 -- a tracker under its new number
 abbrev pub tracker_renamed : (NodeKey → NodeKey) → (ℕ → ℕ) → (ℕ → ℕ) → Tracked → Tracked
 tracker_renamed to id number t = record { id = number t.id; condition = condition_renamed to id t.condition }
+
+-- the node under its own names, without the number of the event of its birth
+abbrev pub node_undated : Node → Node
+node_undated n = node_renamed (λ key. key) (λ id. id) n
 
 -- the collection under its own names, without the numbers of the events of births
 abbrev pub undated : Collection → Collection

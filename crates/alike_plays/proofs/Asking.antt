@@ -15,8 +15,10 @@ use Rattle.script_lines.specs.declared.line.Request.{Request}
 use Rattle.actor_scripts.specs.declared.object.ActorObject.{ActorObject}
 use Rattle.actor_scripts.specs.declared.step.Step.{Step}
 use Rattle.actor_scripts.specs.declared.step.StepBuffer.{StepBuffer}
-use Rattle.actor_scripts.specs.ActorStates.{Known, NodePlace, argument_at, argument_held, asked_strength, bare_call, call_at, call_for, call_on}
-use Rattle.actor_scripts.specs.ActorStates.{end_slot, handle_slot, is_bound, is_join, node_label, object_at, slot_call, step_call, target_of}
+use Rattle.actor_scripts.specs.ActorStates.{Known, NodePlace, argument_at, argument_held, asked_strength}
+use Rattle.actor_scripts.specs.ActorStates.{bare_call, call_at, call_for, call_on}
+use Rattle.actor_scripts.specs.ActorStates.{end_slot, handle_slot, is_bound, is_join, node_label}
+use Rattle.actor_scripts.specs.ActorStates.{object_at, slot_call, step_call, target_of}
 use Rattle.actor_scripts.specs.ActorStates.{tracker_label}
 use Rattle.name_laws.specs.Alike.{call_renamed}
 use Rattle.name_laws.specs.Renamed.{buffer_renamed}

@@ -193,7 +193,8 @@ module _ (to : NodeKey → NodeKey) (id number : ℕ → ℕ) (keeps : KeepsKeys
       handles = queues-alike strength one.handles other.handles
           (with_slot_last (one.handles strength) buffer (length one.objects))
           (with_slot_last (other.handles strength) (buffer_renamed id buffer) (length other.objects)) alike.handles
-          (λ b i. cond (same_buffer-renamed buffer b i) (alike.handles strength buffer i ++ same_length i ∷ []) (alike.handles strength b i));
+          (λ b i. cond (same_buffer-renamed buffer b i) (alike.handles strength buffer i ++ same_length i ∷ [])
+          (alike.handles strength b i));
     }
 
     -- By the handle that is let go: its first slot goes.
