@@ -2,3 +2,4 @@
 pub mod Emptying
 pub mod Ends
 pub mod Leaving
+pub mod Spending

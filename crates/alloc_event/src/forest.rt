@@ -1,10 +1,14 @@
 //! The forest: the collections with their nodes and buffers.
-ghost use Rattle.std.specs.Prelude.{◌≡◌, ◌≤◌, [], false, true, None, IfOk, IfSome, OnErr, OnOk, map, length, not, is_some, option_copied, ◌==◌};
+ghost use Rattle.std.specs.Prelude.{◌≡◌, ◌≤◌, ◌&&◌, [], false, true, None, IfOk, IfSome, OnErr, OnOk, map, length, not, is_some, option_copied, ◌==◌};
 ghost use Rattle.std.specs.List.{filter};
 ghost use Rattle.buffer_holds.specs.Counts.{total};
 ghost use Rattle.std.specs.Option.{option_map, option_map_or};
 ghost use Rattle.sm_names.specs.Members.{some_strong_live};
+ghost use Rattle.sm_names.specs.Sameness.{same_key};
+ghost use Rattle.forest_store.specs.CollectionRows.{are_apart};
 ghost use Rattle.forest_store.specs.declared.change.Change.{Change as Changed};
+ghost use Rattle.forest_store.specs.declared.node.End.{End};
+ghost use Rattle.forest_store.specs.declared.node.Node.{Node as NodeValue};
 ghost use Rattle.forest_store.specs.Dropped.{are_others_out};
 ghost use Rattle.forest_store.specs.Forest.{Collection, IsPoolOf, SameKeys, all_nodes, beside, collection_at, node_at, node_count, empty_forest, summary_of, live_keys, held_by_page, on_collections, with_nodes, is_left, without_unkept_in};
 ghost use Rattle.forest_store.specs.Nodes.{members_of, with_end, is_of, is_unkept};
@@ -25,11 +29,23 @@ use forest_store::node::{End, Node};
 use forest_store::snapshot::Snapshot;
 use forest_store::store::{NodeStore, Store, put_end};
 use forest_store::summary::Summary;
-use forest_store::unkept::{forget_unkept, list_unkept, take_out};
+use forest_store::unkept::{forget_unkept, list_unkept, place_near, take_out};
 use node_table::NodeTable;
 use sm_names::{BufferName, CollectionId, HeldBuffer, Interval, MAX_BUFFERS, NoMemory, NodeKey};
 use std::alloc::Global;
 use std::marker::Model;
+
+// Removes this key from those of a collection.
+#[inline(always)]
+fn drop_key(table: &NodeTable<Node>, keys: &mut KeyList, key: NodeKey)
+    requires { are_apart keys.old.items ≡ true }
+    ensures { keys.new.items ≡ filter (λ other. not (same_key key other)) keys.old.items }
+{
+    match place_near(table, keys.as_slice(), 0, key) {
+        Some(at) => keys.remove(at),
+        None => keys.forget(key),
+    }
+}
 
 /// The collections with their nodes and buffers, and the keys that were given to nodes so far.
 #[derive(Drop)]
@@ -324,8 +340,35 @@ impl Forest {
         }
     }
 
-    /// Forgets a node that is gone and whose end is spent. Its key is given to no other node. Takes
-    /// no memory. Costs O(log collections + nodes of the collection).
+    // Forgets a node of this collection that is gone. Its key is given to no other node. Takes no memory.
+    // Costs O(log collections + log n + s), where n is the number of the collection's nodes and s the number
+    // of keys on its shorter side.
+    #[inline(always)]
+    fn forget_gone(&mut self, key: NodeKey, id: CollectionId)
+        requires there { is_some (node_at self.old key) ≡ true }
+        requires gone { option_map_or (λ (n : NodeValue). n.gone && n.collection == id)
+            (node_at self.old key) false ≡ true }
+        ensures nodes { self.new.collections
+            ≡ map (with_nodes (filter (λ n. not (is_of key n)))) self.old.collections }
+        ensures keys { SameKeys self.old self.new }
+        // Of the collection is left what would be if the node's end were spent.
+        ensures spent { without_unkept_in id self.new.collections ≡ without_unkept_in id
+            (map (with_nodes (map (with_end key End.Spent))) self.old.collections) }
+    {
+        let Some(at) = place_of(&self.store.entries, id) else {
+            unreachable!();
+        };
+        drop_key(
+            &self.store.nodes.table,
+            &mut self.store.entries[at].keys,
+            key,
+        );
+        take_out(&mut self.store.nodes.table, key);
+    }
+
+    /// Forgets a node that is gone and whose end is spent. Its key is given to no other node. Takes no
+    /// memory. Costs O(log collections + log n + s), where n is the number of the collection's nodes and s
+    /// the number of keys on its shorter side.
     pub fn forget(&mut self, key: NodeKey)
         requires there { is_some (node_at self.old key) ≡ true }
         requires over { option_map_or is_unkept (node_at self.old key) false ≡ true }
@@ -333,10 +376,53 @@ impl Forest {
             ≡ map (with_nodes (filter (λ n. not (is_of key n)))) self.old.collections }
         ensures keys { SameKeys self.old self.new }
     {
-        let node = take_out(&mut self.store.nodes.table, key);
-        if let Some(at) = place_of(&self.store.entries, node.collection) {
-            self.store.entries[at].keys.forget(key);
+        let Some(node) = self.node(key) else {
+            unreachable!();
+        };
+        let id = node.collection;
+        self.forget_gone(key, id);
+    }
+
+    // Whether the node with this key is of this collection and gone.
+    #[inline(always)]
+    fn is_gone_in(&self, key: NodeKey, id: CollectionId) -> bool
+        ensures { result ≡ option_map_or (λ (n : NodeValue). n.gone && n.collection == id)
+            (node_at self.now key) false }
+    {
+        let Some(node) = self.node(key) else {
+            return false;
+        };
+        node.gone && node.collection == id
+    }
+
+    // Sets the end of a kept node to spent, or forgets the node, if it is of this collection and gone: then
+    // nothing has to be listed.
+    #[inline(always)]
+    fn forget_or_spend(&mut self, key: NodeKey, id: CollectionId)
+        requires { is_some (node_at self.old key) ≡ true }
+        ensures spent { without_unkept_in id self.new.collections ≡ without_unkept_in id
+            (map (with_nodes (map (with_end key End.Spent))) self.old.collections) }
+        ensures keys { SameKeys self.old self.new }
+    {
+        if self.is_gone_in(key, id) {
+            self.forget_gone(key, id);
+        } else {
+            self.set_end(key, End::Spent);
         }
+    }
+
+    /// Sets the end of a kept node to spent, and then does what `forget_unkept` does. Takes no memory. Costs
+    /// what `set_end` and `forget_unkept` cost; O(log collections + log n + s), if no other node of the
+    /// collection is unkept, where n is the number of its nodes and s the number of keys on the shorter side.
+    #[inline(always)]
+    pub fn spend(&mut self, key: NodeKey, id: CollectionId)
+        requires { is_some (node_at self.old key) ≡ true }
+        ensures collections { self.new.collections ≡ without_unkept_in id
+            (map (with_nodes (map (with_end key End.Spent))) self.old.collections) }
+        ensures keys { SameKeys self.old self.new }
+    {
+        self.forget_or_spend(key, id);
+        self.forget_unkept(id);
     }
 
     /// Forgets a collection that has no node and holds no page. Takes no memory. Costs

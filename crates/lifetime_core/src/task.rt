@@ -4,7 +4,7 @@ ghost use Rattle.sm_names.specs.declared.keys.NodeKey.{NodeKey as Key};
 ghost use Rattle.sm_names.specs.Answers.{answer as answer_of};
 ghost use Rattle.sm_names.specs.Timelines.{key_of as key_in};
 ghost use Rattle.buffer_holds.specs.Counts.{total};
-ghost use Rattle.forest_store.specs.Forest.{IsPoolOf, SameKeys, all_held, node_at};
+ghost use Rattle.forest_store.specs.Forest.{IsPoolOf, SameKeys, all_held, node_at, without_unkept_in};
 ghost use Rattle.forest_store.specs.Settling.{no_key};
 ghost use Rattle.core_state.specs.Reads.{node_named, readings_of};
 ghost use Rattle.core_state.specs.Steps.{at_node as change_at, birth_by, done_to, drop_at};
@@ -231,14 +231,18 @@ fn carry(forest: &mut Forest, carried: Option<EndPlace>)
     }
 }
 
-// Spends an end, if the event spends one.
+// Spends an end of the collection, if the event spends one, and removes the nodes that are then no longer
+// kept.
 #[inline(always)]
-fn spend(forest: &mut Forest, end: Option<NodeKey>)
+fn spend(forest: &mut Forest, end: Option<NodeKey>, collection: CollectionId)
     requires { IfSome end (λ key. is_some (node_at forest.old key) ≡ true) }
-    ensures { forest.new ≡ with_place (spent_place end) forest.old }
+    ensures collections { forest.new.collections ≡ without_unkept_in collection
+        (with_place (spent_place end) forest.old).collections }
+    ensures keys { SameKeys forest.old forest.new }
 {
-    if let Some(key) = end {
-        forest.set_end(key, End::Spent);
+    match end {
+        Some(key) => forest.spend(key, collection),
+        None => forest.forget_unkept(collection),
     }
 }
 
@@ -258,6 +262,5 @@ pub(crate) fn put_end(forest: &mut Forest, task: &Option<EventTask>, carried: Op
         carry(forest, carried);
         return;
     };
-    spend(forest, task.spends);
-    forest.forget_unkept(task.collection);
+    spend(forest, task.spends, task.collection);
 }

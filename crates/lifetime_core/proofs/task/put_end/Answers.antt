@@ -1,13 +1,13 @@
 use Rattle.std.proofs.Common.{◌≡◌, refl, ap, subst, Option, Some, None, is_some}
 use Rattle.std.specs.Option.{option_or}
-use Rattle.forest_store.specs.Forest.{Forest, SameKeys, without_unkept_in}
+use Rattle.forest_store.specs.Forest.{Forest, SameKeys}
 use Rattle.core_state.specs.declared.task.EndPlace.{EndPlace}
 use Rattle.core_state.specs.declared.task.EventTask.{EventTask}
 use Rattle.core_state.specs.Steps.{with_place}
 use Rattle.core_state.specs.Tasks.{end_placed, spent_place}
 use Rattle.core_state.specs.Whole.{CanFinish, IsAmid, IsSound}
 use Rattle.core_state.proofs.ends.Transfers.{carries}
-use Rattle.core_state.proofs.ends.Spending.{are_left, same_held, same_worked}
+use Rattle.core_state.proofs.ends.Spending.{are_left, same_held}
 use Rattle.core_state.proofs.forced.Change.{ends_are_there}
 use Rattle.lifetime_core.proofs.task.put_end.Goals as goal
 
@@ -30,20 +30,23 @@ returns c =
     let f : Forest = c.args.forest.now in
     let t : EventTask = c.in-Some.task in
     let amid : IsAmid f t.collection t.spends = subst (CanFinish f) c.in-Some.is c.requires.task in
-    let same : SameKeys (with_place (spent_place t.spends) f) c.forget_unkept.new.self =
-    subst (λ (x : Forest). SameKeys x c.forget_unkept.new.self) c.spend.ensures c.forget_unkept.ensures.keys in
-    let less : c.forget_unkept.new.self.collections ≡ without_unkept_in t.collection (with_place (spent_place t.spends) f).collections =
-    subst (λ (x : Forest). c.forget_unkept.new.self.collections ≡ without_unkept_in t.collection x.collections) c.spend.ensures
-    c.forget_unkept.ensures.collections in
+    let same : SameKeys (with_place (spent_place t.spends) f) c.spend.new.forest =
+    same_placed (spent_place t.spends) f c.spend.new.forest c.spend.ensures.keys in
+    let less = c.spend.ensures.collections in
     let none : c.args.carried ≡ None = c.requires.one (ap is_some c.in-Some.is) in
     let place : end_placed c.args.task.now c.args.carried ≡ spent_place t.spends =
     rw (c.in-Some.is, none) (first (spent_place t.spends)) in
     record {
-      collections = rw place (are_left f c.forget_unkept.new.self t.collection t.spends amid same less);
-      keys = same_worked t.spends f c.forget_unkept.new.self same;
-      held = same_held f c.forget_unkept.new.self t.collection t.spends amid same less;
+      collections = rw place (are_left f c.spend.new.forest t.collection t.spends amid same less);
+      keys = c.spend.ensures.keys;
+      held = same_held f c.spend.new.forest t.collection t.spends amid same less;
     }
   where
     first : (o : Option EndPlace) → option_or o None ≡ o
     first None = refl
     first (Some place) = refl
+
+    -- an end that is put changes no key
+    same_placed : (o : Option EndPlace) (f now : Forest) → SameKeys f now → SameKeys (with_place o f) now
+    same_placed None f now same = same
+    same_placed (Some place) f now same = record { limit = same.limit; keys = same.keys }
