@@ -1,6 +1,6 @@
 //! What is proved of actors that are alike but for names. `to` gives each key a new one, `id` each
 //! collection a new number, and `number` each tracker.
-ghost use Rattle.std.specs.Prelude.{◌≡◌, List, ℕ};
+ghost use Rattle.std.specs.Prelude.{◌≡◌, Bool, List, Some, true, ℕ};
 ghost use Rattle.std.specs.Option.{option_map};
 ghost use Rattle.sm_names.specs.declared.keys.NodeKey.{NodeKey};
 ghost use Rattle.sm_names.specs.declared.messages.Reply.{Reply};
@@ -14,6 +14,7 @@ ghost use Rattle.actor_plays.specs.Plays.{Stage, has_fired, leaves_by, left, nex
 ghost use Rattle.name_laws.specs.Alike.{KeepsIds, call_renamed, reply_renamed};
 ghost use Rattle.name_laws.specs.Renamed.{KeepsKeys};
 ghost use Rattle.alike_plays.specs.Actors.{AreAlikeKnown, AreAlikeStages, asked_renamed};
+ghost use Rattle.alike_plays.specs.Names.{KnownActor, KnownCall, KnownReply, KnownStage, NamesAgree};
 
 /// Actors that are alike are at the same step, which asks for the same under their names, and leave
 /// by the same calls. They wait alike for a tracker, where the same ones have fired.
@@ -51,4 +52,32 @@ pub fn alike_actors_stay_alike()
     ensures leaves { (to : NodeKey → NodeKey) (id number : ℕ → ℕ) (one other : Stage) →
         AreAlikeStages to id number one other → (reply : Reply) →
         AreAlikeStages to id number (left one reply) (left other (reply_renamed to id number reply)) }
+{}
+
+/// The call of a step names only nodes, and buffers of collections, that its actor was told. By a
+/// reply an actor learns no other names than those of the reply.
+pub fn actors_know_what_they_were_told()
+    ensures asks { (keys : NodeKey → Bool) (ids numbers : ℕ → Bool) (one : Known) →
+        KnownActor (λ k. keys k ≡ true) (λ i. ids i ≡ true) (λ n. numbers n ≡ true) one →
+        (clients : List ℕ) (step : Step) (asked : StepCall) → step_call clients one step ≡ Some asked →
+        KnownCall (λ k. keys k ≡ true) (λ i. ids i ≡ true) asked.call }
+    ensures knows { (keys : NodeKey → Bool) (ids numbers : ℕ → Bool) (one : Known) →
+        KnownActor (λ k. keys k ≡ true) (λ i. ids i ≡ true) (λ n. numbers n ≡ true) one →
+        (step : Step) (asked : StepCall) →
+        KnownCall (λ k. keys k ≡ true) (λ i. ids i ≡ true) asked.call → (reply : Reply) →
+        KnownReply (λ k. keys k ≡ true) (λ i. ids i ≡ true) (λ n. numbers n ≡ true) reply →
+        KnownActor (λ k. keys k ≡ true) (λ i. ids i ≡ true) (λ n. numbers n ≡ true)
+        (state_after one step asked reply) }
+{}
+
+/// Actors that are alike are so under any names that agree on what they know.
+pub fn only_known_names_matter()
+    ensures { (to again : NodeKey → NodeKey) (id later number next : ℕ → ℕ)
+        (keys others : NodeKey → Bool) (ids nexts numbers counts : ℕ → Bool) →
+        NamesAgree to again id later number next (λ k. keys k ≡ true) (λ k. others k ≡ true)
+        (λ i. ids i ≡ true) (λ i. nexts i ≡ true) (λ n. numbers n ≡ true) (λ n. counts n ≡ true) →
+        (one other : Stage) → AreAlikeStages to id number one other →
+        KnownStage (λ k. keys k ≡ true) (λ i. ids i ≡ true) (λ n. numbers n ≡ true) one →
+        KnownStage (λ k. others k ≡ true) (λ i. nexts i ≡ true) (λ n. counts n ≡ true) other →
+        AreAlikeStages again later next one other }
 {}
