@@ -12,7 +12,7 @@ use Rattle.sm_names.specs.declared.messages.Call.{Call}
 use Rattle.sm_names.specs.CallRows.{object_buffer, object_key, parts_of, row_for}
 use Rattle.sm_names.proofs.ListLaws.{In, In-get_or}
 use Rattle.sm_names.proofs.SamenessLaws.{and_then-Some, some-injective}
-use Rattle.core.proofs.iter.runs.Lists.{nth_read, slice_get_within}
+use Rattle.std.proofs.lemmas.Option.{slice_get-get_or, slice_get_within}
 use Rattle.sm_names.specs.Timelines.{buffer_of, key_of}
 use Rattle.actor_scripts.specs.declared.object.ActorObject.{ActorObject}
 use Rattle.actor_scripts.specs.declared.object.StepCall.{StepCall}
@@ -82,7 +82,7 @@ buffer_part _ = refl
 at_in : {A : Type 0} (xs : List A) (i : ℕ) (x : A) → slice_get xs i ≡ Some x → In x xs
 at_in xs i x is =
     let within = slice_get_within xs i x is in
-    subst (λ y. In y xs) (some-injective (get_or xs i x) x (sym (nth_read xs i x within) ∙ is)) (In-get_or xs i x within)
+    subst (λ y. In y xs) (some-injective (get_or xs i x) x (sym (slice_get-get_or xs i x within) ∙ is)) (In-get_or xs i x within)
 
 -- What lies in a slot is one of the objects.
 pub lying_in : (objects : List (Option ActorObject)) (slot : ℕ) (o : ActorObject) → object_at objects slot ≡ Some o → In (Some o) objects
