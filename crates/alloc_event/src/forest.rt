@@ -414,7 +414,7 @@ impl Forest {
     /// Sets the end of a kept node to spent, and then does what `forget_unkept` does. Takes no memory. Costs
     /// what `set_end` and `forget_unkept` cost; O(log collections + log n + s), if no other node of the
     /// collection is unkept, where n is the number of its nodes and s the number of keys on the shorter side.
-    #[inline(always)]
+    #[inline(never)]
     pub fn spend(&mut self, key: NodeKey, id: CollectionId)
         requires { is_some (node_at self.old key) ≡ true }
         ensures collections { self.new.collections ≡ without_unkept_in id
