@@ -102,7 +102,7 @@ impl Play {
     /// A play in which no client has joined, on a core with a pool of this many pages, 1 to 1,048,576. Its
     /// table of handles hashes from the seed, which changes no reply.
     ///
-    /// `NoMemory` if the pool's first list is refused. Costs O(1).
+    /// `NoMemory` if the pool's memory is refused. Costs O(pages).
     pub fn new(alloc: Global, pages: u32, limits: Limits, seed: [u8; 16]) -> Result<Play, NoMemory>
         requires { (1 ≤ pages) × (pages ≤ MAX_PAGES) }
         ensures joining { IfOk result AreJoining }

@@ -99,7 +99,7 @@ impl Core {
     /// Makes a core without an event, with these limits and a pool of `pages` pages of 4,096 bytes, 1 to
     /// 1,048,576. The seed of its hash table of handles is zeros.
     ///
-    /// `NoMemory` if the pool's first list is refused. Costs O(1).
+    /// `NoMemory` if the pool's memory is refused. Costs O(pages).
     pub fn new(alloc: Global, pages: u32, limits: Limits) -> Result<Core, NoMemory>
         requires { (1 ≤ pages) × (pages ≤ MAX_PAGES) }
         ensures state { IfOk result (λ core. core ≡ record {

@@ -55,7 +55,7 @@ impl<E: Setup, S: Ledger, W: Ledger> Service<E, S, W> {
     /// Makes a service without an event, with these limits, a pool of `pages` pages of 4,096 bytes, 1 to
     /// 1,048,576, and books of `MAX_SHARES` parts each. The seed of its hash table of handles is zeros.
     ///
-    /// `NoMemory` if the pool's first list is refused. Costs O(1).
+    /// `NoMemory` if the pool's memory is refused. Costs O(pages).
     pub fn new(
         alloc: Global,
         blanks: BlankBooks,
