@@ -146,14 +146,14 @@ module _ (collection : ℕ) (strength : Strength) (set : ℕ) where
 
   -- what one client opens
   module _ (client : ℕ) where
-    -- none is below itself, so a buffer at the end has as many handles as before
-    pub none_at_end : (before new : Counts) (index : ℕ) → AddsSet before new client collection strength set index →
-        total new (at index) strength ≡ total before (at index) strength
-    none_at_end before new index adds =
-        let never : nat_lt index index ≡ false = grind (arith, common_steps) in
-        let none : below index (at index) strength ≡ false =
-        rw never (and_false (collection == collection) (same_strength strength strength) (bit_at set index == 1)) in
-        omega (arith, adds.totals (at index) strength, ap one_if none)
+    -- none is below itself, so a buffer at the end or behind it has as many handles as before
+    pub none_behind : (before new : Counts) (index n : ℕ) → AddsSet before new client collection strength set index →
+        total new (at (index + n)) strength ≡ total before (at (index + n)) strength
+    none_behind before new index n adds =
+        let never : nat_lt (index + n) index ≡ false = grind (arith, common_steps) in
+        let none : below index (at (index + n)) strength ≡ false =
+        rw never (and_false (collection == collection) (same_strength strength strength) (bit_at set (index + n) == 1)) in
+        omega (arith, adds.totals (at (index + n)) strength, ap one_if none)
 
     -- a client that had room has it
     pub keeps_room : (before new : Counts) (index : ℕ) (b : BufferName) (s : Strength) →

@@ -1,6 +1,10 @@
 pub mod Changes
 pub mod Counts
 pub mod Kinds
+pub mod PagedRows
+pub mod PagedTallies
+pub mod Pages
 pub mod Rows
+pub mod Runs
 pub mod Sound
 pub mod Stored

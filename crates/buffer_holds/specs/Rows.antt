@@ -30,6 +30,12 @@ module _ {K X : Type 0} where
     pub weighs : (weight : K × X → ℕ) → sum_by weight new + weight_at weight key was ≡ sum_by weight old + weight_at weight key now
     pub distinct : IsDistinct same (keys_of new)
 
+  -- the entries are as they were, in whatever order
+  pub record Keeps (same : K → K → Bool) (old new : List (K × X)) : Type 0 where
+    pub finds : (other : K) → lookup (same other) new ≡ lookup (same other) old
+    pub weighs : (weight : K × X → ℕ) → sum_by weight new ≡ sum_by weight old
+    pub distinct : IsDistinct same (keys_of new)
+
 -- one handle more: only a new row makes the rows longer
 pub record Raises (old new : List (Hold × ℕ)) (hold : Hold) : Type 0 where
   pub resets : Resets same_hold old new hold (row_at old hold) (Some (count_at old hold + 1))

@@ -1,5 +1,5 @@
 -- What holds of the running counts beside the rows.
-use Rattle.std.specs.Prelude.{◌≡◌, ◌≤◌, ◌<◌, ◌+◌, ◌-◌, ◌==◌, ◌&&◌, ℕ, Bool, Option, Some, None, if◌then◌else◌, IsSome, List, map, sum_by, unwrap_or}
+use Rattle.std.specs.Prelude.{◌≡◌, ◌≤◌, ◌<◌, ◌+◌, ◌-◌, ◌==◌, ◌&&◌, ℕ, Bool, true, not, get_or, Option, Some, None, if◌then◌else◌, IsSome, List, map, sum_by, unwrap_or}
 use Rattle.std.specs.List.{IsDistinct}
 use Rattle.std.specs.Map.{lookup, keys_of}
 use Rattle.buffer_holds.specs.declared.kinds.HandleKind.{HandleKind}
@@ -29,6 +29,18 @@ abbrev pub without_client : Tally → Option Tally
 without_client tally =
     let left : Tally = record tally { clients = tally.clients - 1 } in
     if is_idle left then None else Some left
+
+-- the tally, unless it says nothing
+abbrev pub kept : Tally → Option Tally
+kept tally = if is_idle tally then None else Some tally
+
+-- the tally says something
+abbrev pub is_busy : Tally → Bool
+is_busy tally = not (is_idle tally)
+
+-- a tally that says nothing is that of a kind of which nothing is open
+abbrev pub IsPlain : List Tally → Type 0
+IsPlain tallies = (at : ℕ) → is_idle (get_or tallies at no_tally) ≡ true → get_or tallies at no_tally ≡ no_tally
 
 -- the handles in parcels, by kind
 abbrev pub parcels_in : List (HandleKind × Tally) → List (HandleKind × ℕ)

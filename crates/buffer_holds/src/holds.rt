@@ -1,21 +1,23 @@
 //! The counts of open handles.
-ghost use Rattle.std.specs.Prelude.{[], ◌≡◌, ◌+◌, ◌-◌, ◌<◌, ◌≤◌, ◌↔◌, true, IsOk, IsTrue, OnOk, OnErr, IsErrOf, IsOkUnless};
+ghost use Rattle.std.specs.Prelude.{[], ℕ, ◌≡◌, ◌+◌, ◌-◌, ◌/◌, ◌^◌, ◌<◌, ◌≤◌, ◌↔◌, true, IsOk, IsTrue, OnOk, OnErr, IsErrOf, IsOkUnless};
 ghost use Rattle.std.specs.Bool.{OnTrue, OnFalse};
+ghost use Rattle.std.specs.Int.{bit_at};
 ghost use Rattle.std.specs.List.{IsDistinct};
 ghost use Rattle.std.specs.Map.{keys_of};
 ghost use Rattle.sm_names.specs.Handles.{is_doomed, is_home};
-ghost use Rattle.buffer_holds.specs.Counts.{HasPlaces, of, moving_count, total, has_handle_room};
+ghost use Rattle.buffer_holds.specs.Counts.{Counts, HasPlaces, of, moving_count, total, has_handle_room};
 ghost use Rattle.buffer_holds.specs.Kinds.{same_hold};
-ghost use Rattle.buffer_holds.specs.Changes.{Sets, Tidies};
+ghost use Rattle.buffer_holds.specs.Changes.{AddsSet, Sets, Tidies};
 
-use crate::at_spot::{is_at_spot, open_at};
+use crate::client_rows::{Rows, count_of, few_rows, forget, lower, make_room, no_rows, raise};
 use crate::fault::HoldFault;
 use crate::hashing::CountHash;
 use crate::kinds::{HandleKind, Hold};
-use crate::rows::{Rows, count_of, forget, lower, raise};
+use crate::runs::open_run;
 use crate::spot::{Last, Spot};
-use crate::tally::{Tallies, leave, open, tally_by_hash, tally_near, tally_of, tally_place};
-use indexmap::IndexMap;
+use crate::tally_pages::{
+    Tallies, close, land, leave, lift, no_tallies, none_open, open, open_there, tally_of, total_of,
+};
 use sm_names::{BufferName, ClientId, CollectionId, NoMemory, Strength};
 use std::alloc::Global;
 use std::marker::Model;
@@ -30,15 +32,17 @@ use std::marker::Model;
 /// keeps the room. `reserve_landing` makes a place for a handle that lands with any client, and `land`
 /// takes one. Where there are as many places as handles in parcels (`HasPlaces`), `land` takes no
 /// memory. A room that was taken back is used again; the memory is as much as was needed at once, with
-/// a row more for each place.
+/// a page more for each place, and one more in each table.
 ///
-/// Each call looks for one client's row, for the tally of one kind of handle, or for both, and never
-/// looks at all clients: a look-up is one at the place where the last one ended and at the one behind
-/// it, and where the counts stand elsewhere one in a hash table. Where the last one ended changes what
-/// a call costs, and no count. A new row is amortised: where a table grows, its entries are moved.
-/// `total_near` and `add_near` look behind the last entry that was found first: handles that are opened
-/// one after the other lie so, until others that were opened before them are tidied away and leave
-/// their places to the last ones.
+/// The counts stand in pages of 32 buffers and both strengths: one for each client and half of a collection
+/// that has a row, and one for each half with the sums over all clients. Each call looks for one client's
+/// page, for the page of the sums, or for both, and never looks at all clients: a look-up is one at the place
+/// where the last one ended, and where the page stands elsewhere one in a hash table. So the buffers of one
+/// half, one after the other, cost one look-up. Where the last one ended changes what a call costs, and no
+/// count. The last page that lost its rows stays in its table, so that a client which comes and goes takes no
+/// memory; others are kept for the next page that is needed. A new page is amortised: where a table grows, its
+/// entries are moved, and no page is.
+/// `total_near` and `add_near` do what `total` and `add` do.
 #[derive(Drop)]
 pub struct Holds {
     limit: u32,
@@ -51,7 +55,7 @@ pub struct Holds {
     places: u32,
     rows: Rows,
     tallies: Tallies,
-    pub(crate) last: Last,
+    last: Last,
 }
 
 impl Model for Holds {
@@ -61,7 +65,6 @@ impl Model for Holds {
 
     ghost use Rattle.std.specs.Prelude.{◌≤◌};
     ghost use Rattle.buffer_holds.specs.Sound.{NoneIsNewer, TotalsAreUpTo, CountsInvariant, parcels_in};
-    ghost use Rattle.indexmap.specs.IndexMap.{spare};
 
     ghost view = { λ h. record {
       limit = h.limit;
@@ -72,7 +75,7 @@ impl Model for Holds {
 
     ghost invariant = { λ h. CountsInvariant h.limit h.rows.entries h.tallies.entries
         × TotalsAreUpTo h.most h.tallies.entries
-        × (h.places ≤ spare h.rows)
+        × (h.places ≤ h.rows.room)
         × NoneIsNewer h.newest h.tallies.entries
         × (h.most ≤ h.limit) };
 }
@@ -98,8 +101,8 @@ impl Holds {
             most: 0,
             newest: 0,
             places: 0,
-            rows: IndexMap::with_hasher(alloc, hash),
-            tallies: IndexMap::with_hasher(alloc, hash),
+            rows: no_rows(alloc, hash),
+            tallies: no_tallies(alloc, hash),
             last: Last::new(),
         }
     }
@@ -119,7 +122,7 @@ impl Holds {
         ensures { result ≡ moving_count self.now buffer strength }
     {
         let kind = HandleKind { buffer, strength };
-        tally_of(&self.tallies, kind, self.last.tally(strength)).moving
+        tally_of(&self.tallies, kind, &self.last.tally).moving
     }
 
     /// How many of these handles are open, in parcels and out of them: what was opened, less what
@@ -132,32 +135,16 @@ impl Holds {
         ensures one_row_each { IsDistinct same_hold (keys_of self.now.rows) }
     {
         let kind = HandleKind { buffer, strength };
-        tally_of(&self.tallies, kind, self.last.tally(strength)).total
+        total_of(&self.tallies, kind, &self.last.tally)
     }
 
-    /// Answers what `total` answers. It looks at the spot first, and then moves the spot behind the
-    /// tally that it finds. It takes a look-up only if the tally stands elsewhere.
-    pub fn total_near(&self, buffer: BufferName, strength: Strength, near: &mut Spot) -> u32
+    /// Answers what `total` answers, at the same cost. The spot stays as it is.
+    pub fn total_near(&self, buffer: BufferName, strength: Strength, _near: &mut Spot) -> u32
         ensures value { result ≡ total self.now buffer strength }
         ensures within { result ≤ self.now.limit }
         ensures one_row_each { IsDistinct same_hold (keys_of self.now.rows) }
     {
-        let kind = HandleKind { buffer, strength };
-        tally_near(
-            &self.tallies,
-            kind,
-            &mut near.tally,
-            self.last.tally(strength),
-        )
-        .total
-    }
-
-    // What `total` says, by the hash alone.
-    fn total_by_hash(&self, buffer: BufferName, strength: Strength) -> u32
-        ensures { result ≡ total self.now buffer strength }
-    {
-        let kind = HandleKind { buffer, strength };
-        tally_by_hash(&self.tallies, kind).total
+        self.total(buffer, strength)
     }
 
     /// Whether it is known of each kind of handle that fewer are open than may be. It is, until as many
@@ -198,29 +185,29 @@ impl Holds {
         ensures { result ≡ is_home (total self.now buffer Strength.Strong)
             (total self.now buffer Strength.Weak) strong_live }
     {
-        if self.is_unopened(buffer) {
-            return !strong_live;
+        if strong_live {
+            return false;
         }
-        self.doomed(buffer, strong_live) && self.total(buffer, Strength::Weak) == 0
+        if self.is_unopened(buffer) {
+            return true;
+        }
+        none_open(&self.tallies, buffer, &self.last.tally)
     }
 
-    /// What `home` says. It looks for the strong handles at the spot first, as `total_near` does.
-    pub fn home_near(&self, buffer: BufferName, strong_live: bool, near: &mut Spot) -> bool
+    /// What `home` says, at the same cost. The spot stays as it is.
+    #[inline(always)]
+    pub fn home_near(&self, buffer: BufferName, strong_live: bool, _near: &mut Spot) -> bool
         ensures { result ≡ is_home (total self.now buffer Strength.Strong)
             (total self.now buffer Strength.Weak) strong_live }
     {
-        if self.is_unopened(buffer) {
-            return !strong_live;
-        }
-        !strong_live
-            && self.total_near(buffer, Strength::Strong, near) == 0
-            && self.total_by_hash(buffer, Strength::Weak) == 0
+        self.home(buffer, strong_live)
     }
 
     /// Opens one more of these handles for the client.
     ///
     /// `TooMany` comes exactly where as many are open as may be, and `NoMemory` only where the
-    /// client has no room and memory was refused. Neither changes anything. Two look-ups.
+    /// client has no room and memory was refused. Neither changes anything. Two look-ups at most, and none
+    /// where the last ones ended in the client's page and in that of the sums.
     #[inline(never)]
     pub fn add(
         &mut self,
@@ -238,19 +225,21 @@ impl Holds {
         ensures places { self.new.places ≡ self.old.places }
         ensures err { OnErr result (self.new ≡ self.old) }
     {
-        let mut near = self.last.spot(strength);
-        self.add_near(client, buffer, strength, &mut near)
+        if self.add_there(client, buffer, strength) {
+            return Ok(());
+        }
+        self.add_by_search(client, buffer, strength)
     }
 
-    /// Does what `add` does. It looks at the spot first, and then moves the spot behind what it
-    /// finds. It takes look-ups only if the row or the tally stands elsewhere or is new.
+    /// Does what `add` does. It takes no look-up where the last ones ended in the client's page and in that of
+    /// the sums. The spot stays as it is.
     #[inline(always)]
     pub fn add_near(
         &mut self,
         client: ClientId,
         buffer: BufferName,
         strength: Strength,
-        near: &mut Spot,
+        _near: &mut Spot,
     ) -> Result<(), HoldFault>
         ensures opened { OnOk result (Sets self.old self.new client buffer strength
             (of self.old client buffer strength + 1) (moving_count self.old buffer strength)
@@ -262,26 +251,16 @@ impl Holds {
         ensures places { self.new.places ≡ self.old.places }
         ensures err { OnErr result (self.new ≡ self.old) }
     {
-        if self.add_at_spot(client, buffer, strength, near) {
+        if self.add_there(client, buffer, strength) {
             return Ok(());
         }
-        // A copy is lent, so that the spot of a loop can stay in registers.
-        let mut found = *near;
-        let added = self.add_by_search(client, buffer, strength, &mut found);
-        *near = found;
-        added
+        self.add_by_search(client, buffer, strength)
     }
 
-    // Does what `add` does, where the row and the tally stand at the spot, and more handles of one
-    // kind than of this one were ever open. Then the spot moves behind them. Elsewhere nothing changes.
+    // Does what `add` does, where the last look-ups ended in the client's page and in that of the sums, and
+    // more handles of one kind than of this one were ever open. Elsewhere nothing changes.
     #[inline(always)]
-    fn add_at_spot(
-        &mut self,
-        client: ClientId,
-        buffer: BufferName,
-        strength: Strength,
-        near: &mut Spot,
-    ) -> bool
+    fn add_there(&mut self, client: ClientId, buffer: BufferName, strength: Strength) -> bool
         ensures opened { OnTrue result (Sets self.old self.new client buffer strength
             (of self.old client buffer strength + 1) (moving_count self.old buffer strength)
             (total self.old buffer strength + 1)) }
@@ -289,27 +268,28 @@ impl Holds {
         ensures places { self.new.places ≡ self.old.places }
         ensures unchanged { OnFalse result (self.new ≡ self.old) }
     {
-        let kind = HandleKind { buffer, strength };
-        let hold = Hold { client, kind };
         if self.newest < buffer.collection {
             return false;
         }
-        if !is_at_spot(&self.rows, &self.tallies, hold, self.most, *near) {
-            return false;
-        }
-        open_at(&mut self.rows, &mut self.tallies, hold, near);
-        true
+        let kind = HandleKind { buffer, strength };
+        let hold = Hold { client, kind };
+        open_there(
+            &mut self.tallies,
+            &mut self.rows,
+            hold,
+            self.limit,
+            &mut self.most,
+            &self.last,
+        )
     }
 
-    // Does what `add` does. The row and the tally are looked for at the spot, where the last look-ups
-    // ended and by their hashes. The spot moves behind what was found.
+    // Does what `add` does. The pages are looked for where the last look-ups ended, and by their hashes.
     #[inline(never)]
-    pub(crate) fn add_by_search(
+    fn add_by_search(
         &mut self,
         client: ClientId,
         buffer: BufferName,
         strength: Strength,
-        near: &mut Spot,
     ) -> Result<(), HoldFault>
         ensures opened { OnOk result (Sets self.old self.new client buffer strength
             (of self.old client buffer strength + 1) (moving_count self.old buffer strength)
@@ -325,14 +305,53 @@ impl Holds {
         let kind = HandleKind { buffer, strength };
         let hold = Hold { client, kind };
         open(
-            &mut self.rows,
             &mut self.tallies,
+            &mut self.rows,
             hold,
             self.limit,
-            near,
-            &self.last,
             &mut self.most,
+            &self.last,
             self.places,
+        )
+    }
+
+    // Opens a handle on each buffer that the rest of a set has, from this index on to the end of the buffer's
+    // part, if the last look-ups ended in the client's page and in that of the sums. The answer is the index
+    // behind the last buffer that was looked at.
+    #[inline(always)]
+    pub(crate) fn add_run(
+        &mut self,
+        client: ClientId,
+        collection: CollectionId,
+        strength: Strength,
+        rest: u64,
+        index: u8,
+    ) -> u8
+        requires within { index < 64 }
+        requires fewer { (n : ℕ) → bit_at rest n ≡ 1 →
+            total self.old (record { collection = collection; index = index + n }) strength
+            < self.old.limit }
+        ensures opened { (before : Counts) (set : ℕ) → set / 2 ^ index ≡ rest →
+            AddsSet before self.old client collection strength set index →
+            AddsSet before self.new client collection strength set result }
+        ensures from { index ≤ result }
+        ensures near { result ≤ index + 32 }
+        ensures within { result ≤ 64 }
+    {
+        if self.newest < collection {
+            return index;
+        }
+        let buffer = BufferName { collection, index };
+        let kind = HandleKind { buffer, strength };
+        let first = Hold { client, kind };
+        open_run(
+            &mut self.tallies,
+            &mut self.rows,
+            first,
+            rest,
+            self.limit,
+            &mut self.most,
+            &self.last,
         )
     }
 
@@ -353,21 +372,19 @@ impl Holds {
         if !lower(&mut self.rows, Hold { client, kind }, &self.last.row) {
             return false;
         }
-        let place = tally_place(&self.tallies, kind, self.last.tally(strength)).unwrap();
-        let tally = self.tallies.get_index_mut(place).unwrap();
-        tally.total -= 1;
+        close(&mut self.tallies, kind, &self.last.tally);
         true
     }
 
     /// Takes back the room of a client that has none of these handles open. No count changes, and
-    /// no other client loses room. Two look-ups, and two removals at most.
+    /// no other client loses room. Two look-ups, and two removals of a page at most.
     #[inline(always)]
     pub fn tidy(&mut self, client: ClientId, buffer: BufferName, strength: Strength)
         ensures { Tidies self.old self.new client buffer strength }
     {
         let kind = HandleKind { buffer, strength };
         if forget(&mut self.rows, Hold { client, kind }, &self.last.row) {
-            leave(&mut self.tallies, kind, self.last.tally(strength));
+            leave(&mut self.tallies, kind, &self.last.tally);
         }
     }
 
@@ -383,7 +400,7 @@ impl Holds {
         let Some(places) = self.places.checked_add(1) else {
             return Err(NoMemory);
         };
-        let Ok(()) = self.rows.reserve(places as usize) else {
+        let Ok(()) = make_room(&mut self.rows, places as usize) else {
             return Err(NoMemory);
         };
         self.places = places;
@@ -407,9 +424,7 @@ impl Holds {
         if !lower(&mut self.rows, Hold { client, kind }, &self.last.row) {
             return false;
         }
-        let place = tally_place(&self.tallies, kind, self.last.tally(strength)).unwrap();
-        let tally = self.tallies.get_index_mut(place).unwrap();
-        tally.moving += 1;
+        lift(&mut self.tallies, kind, &self.last.tally);
         true
     }
 
@@ -435,20 +450,16 @@ impl Holds {
     {
         let kind = HandleKind { buffer, strength };
         let places = self.places.saturating_sub(1);
-        let before = self.rows.len();
-        let Ok(()) = raise(
+        few_rows(&self.rows);
+        let Ok(more) = raise(
             &mut self.rows,
             Hold { client, kind },
-            &mut 0,
             &self.last.row,
             places,
         ) else {
             return Err(NoMemory);
         };
-        let place = tally_place(&self.tallies, kind, self.last.tally(strength)).unwrap();
-        let tally = self.tallies.get_index_mut(place).unwrap();
-        tally.moving -= 1;
-        tally.clients += self.rows.len() - before;
+        land(&mut self.tallies, kind, more, &self.last.tally);
         self.places = places;
         Ok(())
     }

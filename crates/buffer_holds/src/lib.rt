@@ -2,18 +2,23 @@
 //! keeps alive.
 #![tactic(auto)]
 
-mod at_spot;
+mod client_rows;
 mod fault;
 mod hashing;
 mod holds;
 mod kinds;
-mod rows;
+mod names;
+mod page;
+mod runs;
 mod sets;
 mod spot;
 mod tally;
+mod tally_page;
+mod tally_pages;
 
 pub use fault::HoldFault;
 pub use hashing::CountHash;
 pub use holds::Holds;
 pub use kinds::{HandleKind, Hold};
+pub use names::{Owner, Part};
 pub use spot::Spot;

@@ -1,5 +1,5 @@
 //! Handles on several buffers of a collection at once.
-ghost use Rattle.std.specs.Prelude.{◌≡◌, ◌+◌, ◌/◌, ◌%◌, ◌^◌, ◌<◌, ◌≤◌, ℕ, true, IfErr, IsOk, OnErr, OnOk};
+ghost use Rattle.std.specs.Prelude.{◌≡◌, ◌+◌, ◌/◌, ◌%◌, ◌^◌, ◌<◌, ◌≤◌, ℕ, true, IfErr, IfOk, IsOk, OnErr, OnOk};
 ghost use Rattle.std.specs.Int.{bit_at};
 ghost use Rattle.buffer_holds.specs.Changes.{AddsSet, Sets};
 ghost use Rattle.buffer_holds.specs.Counts.{Counts, has_handle_room, moving_count, of, total};
@@ -18,8 +18,8 @@ impl Holds {
     ///
     /// It begins with the buffer of the lowest index. An error is the index of the buffer at which memory
     /// was refused: those of the set below it were opened, and no other count changes. There is no error
-    /// where the client has room on each buffer. Two look-ups for each buffer of the set at most, and none
-    /// where the counts of the buffers stand one after the other.
+    /// where the client has room on each buffer. Four look-ups for the set at most, since the counts of its
+    /// buffers stand in two pages. O(1) for each buffer up to the last one of the set.
     pub fn add_set(
         &mut self,
         client: ClientId,
@@ -41,16 +41,17 @@ impl Holds {
         if set == 1 {
             return self.add_first(client, collection, strength);
         }
-        let mut near = self.last.spot(strength);
+        let mut near = Spot::new();
         let mut rest = set;
         let mut index = 0;
         while rest != 0 {
             match self.add_at(client, collection, strength, rest, index, &mut near) {
-                Ok(()) => {}
+                Ok(next) => {
+                    rest >>= next - index;
+                    index = next;
+                }
                 Err(NoMemory) => return Err(index),
             }
-            rest /= 2;
-            index += 1;
         }
         Ok(())
     }
@@ -77,8 +78,7 @@ impl Holds {
             collection,
             index: 0,
         };
-        let mut near = self.last.spot(strength);
-        match self.add_by_search(client, buffer, strength, &mut near) {
+        match self.add(client, buffer, strength) {
             Ok(()) => Ok(()),
             Err(HoldFault::NoMemory) => Err(0),
             Err(HoldFault::TooMany) => unreachable!(),
@@ -86,7 +86,7 @@ impl Holds {
     }
 
     // Opens a handle on the buffer with this index, if a set has it of which the rest is that from the
-    // index on.
+    // index on, and then on those behind it in its part. The answer is the index of the next buffer.
     #[inline(always)]
     fn add_at(
         &mut self,
@@ -96,22 +96,29 @@ impl Holds {
         rest: u64,
         index: u8,
         near: &mut Spot,
-    ) -> Result<(), NoMemory>
-        requires fewer { rest % 2 ≡ 1 →
-            total self.old (record { collection = collection; index = index }) strength
+    ) -> Result<u8, NoMemory>
+        requires within { index < 64 }
+        requires fewer { (n : ℕ) → bit_at rest n ≡ 1 →
+            total self.old (record { collection = collection; index = index + n }) strength
             < self.old.limit }
-        ensures ok { OnOk result ((before : Counts) (set : ℕ) → set / 2 ^ index ≡ rest →
+        ensures ok { IfOk result (λ next. (before : Counts) (set : ℕ) → set / 2 ^ index ≡ rest →
             AddsSet before self.old client collection strength set index →
-            AddsSet before self.new client collection strength set (index + 1)) }
+            AddsSet before self.new client collection strength set next) }
+        ensures next { IfOk result (λ next. (index < next) × (next < index + 64) × (next ≤ 64)) }
         ensures room { (rest % 2 ≡ 1 → has_handle_room self.old client
             (record { collection = collection; index = index }) strength ≡ true)
             → IsOk result }
         ensures err { OnErr result (self.new ≡ self.old) }
     {
         if rest % 2 == 0 {
-            return Ok(());
+            return Ok(index + 1);
         }
-        self.add_one(client, BufferName { collection, index }, strength, near)
+        self.add_one(client, BufferName { collection, index }, strength, near)?;
+        let next = index + 1;
+        if next % 32 == 0 {
+            return Ok(next);
+        }
+        Ok(self.add_run(client, collection, strength, rest / 2, next))
     }
 
     // Does what `add_near` does, where fewer are open than may be.

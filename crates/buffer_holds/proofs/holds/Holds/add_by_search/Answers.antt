@@ -1,16 +1,15 @@
-use Rattle.std.proofs.Common.{◌≡◌, ◌≤◌, ◌+◌, ◌-◌, refl, sym, ap, subst, ◌∙◌, arith, unwrap_or, length, Some, IsTrue, IsOk}
+use Rattle.std.proofs.Common.{◌≡◌, ◌≤◌, ◌+◌, ◌-◌, refl, sym, ap, subst, ◌∙◌, arith, length, Some, IsTrue, IsOk}
 use Rattle.buffer_holds.specs.declared.fault.HoldFault.TheVariants.{TooMany}
 use Rattle.buffer_holds.specs.Counts.{total, has_handle_room}
 use Rattle.buffer_holds.specs.Kinds.{kind_of, hold_of}
 use Rattle.buffer_holds.specs.Rows.{Raises, count_at, row_at}
-use Rattle.indexmap.specs.IndexMap.{spare}
-use Rattle.buffer_holds.specs.Sound.{no_tally, tally_at, tally_row}
+use Rattle.buffer_holds.specs.Sound.{tally_at}
 use Rattle.buffer_holds.specs.Stored.{OpensOne, one_more}
 use Rattle.buffer_holds.proofs.Invariant.{agree_after, agree_unchanged}
 use Rattle.buffer_holds.proofs.Opening.{Step-opened}
 use Rattle.buffer_holds.proofs.Outcomes.{by_outcome, at_ok, at_err, on_ok, ok-not-err}
-use Rattle.buffer_holds.proofs.SoundLemmas.{total_is, count_at-le-total, clients-le-length}
-use Rattle.buffer_holds.proofs.SoundLemmas.{one_row-le-clients, one_row-IsSome, no_row, kept_from_something}
+use Rattle.buffer_holds.proofs.SoundLemmas.{total_is, count_at-le-total}
+use Rattle.buffer_holds.proofs.SoundLemmas.{one_row-le-clients, one_row-IsSome}
 use Rattle.buffer_holds.proofs.Steps.{Step, sets_by}
 use Rattle.buffer_holds.proofs.holds.Holds.add_by_search.Goals.{After-open}
 use Rattle.buffer_holds.proofs.holds.Holds.add_by_search.Goals as goal
@@ -26,22 +25,19 @@ open-requires-clause-counted c =
     let hold = hold_of c.args.client c.args.buffer c.args.strength in
     omega (arith, count_at-le-total inside.limit inside.rows.entries inside.tallies.entries c.self.invariant.0 hold)
 
--- without a tally no client has a row
-pub open-requires-clause-with : goal.open-requires-clause-with
-open-requires-clause-with c = λ none.
+-- a client with a row is counted
+pub open-requires-clause-some : goal.open-requires-clause-some
+open-requires-clause-some c = λ row.
     let inside = c.self.inside in
     let hold = hold_of c.args.client c.args.buffer c.args.strength in
-    no_row (row_at inside.rows.entries hold) (omega (
+    omega (
       arith,
+      one_row-IsSome (row_at inside.rows.entries hold) row,
       one_row-le-clients inside.limit inside.rows.entries inside.tallies.entries c.self.invariant.0 hold,
-      ap (λ o. (unwrap_or o no_tally).clients) none,
-    ))
+    )
 
 pub open-requires-clause-listed : goal.open-requires-clause-listed
-open-requires-clause-listed c =
-    let inside = c.self.inside in
-    let hold = hold_of c.args.client c.args.buffer c.args.strength in
-    omega (arith, clients-le-length inside.limit inside.rows.entries inside.tallies.entries c.self.invariant.0 hold)
+open-requires-clause-listed c = (c.self.invariant.0.tallied (kind_of c.args.buffer c.args.strength)).clients
 
 pub open-requires-clause-bounded : goal.open-requires-clause-bounded
 open-requires-clause-bounded c = c.self.invariant.4
@@ -71,12 +67,12 @@ invariant_of-self c =
     let o = c.open.ensures in
     by_outcome c.open.result
     (λ ok. agree_after _ _ c.open.new.most _ c.max-self-inside.result _ inside.places _
-    (spare rows') _ rows'.entries _ tallies' c.self.invariant
+    rows'.room _ rows'.entries _ tallies' c.self.invariant
     o.more o.bounded (omega arith) (o.places c.self.invariant.2) hold _ _ (step (goal.at.invariant_of-self c).After-open ok)
     (at_ok ((tally_at inside.tallies.entries hold.kind).total + 1 ≤ c.open.new.most) c.open.result ok o.most)
     (λ later. absurd (omega arith)))
     (λ err. agree_unchanged _ _ c.open.new.most _ c.max-self-inside.result _ inside.places _
-    (spare rows') _ rows'.entries _ tallies' c.self.invariant
+    rows'.room _ rows'.entries _ tallies' c.self.invariant
     o.more o.bounded (omega arith) (o.places c.self.invariant.2)
     (at_err (rows'.entries ≡ inside.rows.entries) c.open.result err o.err_rows)
     (at_err (tallies' ≡ inside.tallies.entries) c.open.result err o.err_tallies))
@@ -94,12 +90,8 @@ returns-clause-too_many c =
     let most = ap (λ counts. counts.limit) c.self.view_is in
     (λ refused. all ∙ c.open.ensures.too_many.0 refused ∙ most, λ full. c.open.ensures.too_many.1 (sym all ∙ full ∙ sym most))
 
--- a client with a row has a tally
+-- a client with a row has room
 pub returns-clause-room : goal.returns-clause-room
 returns-clause-room c = λ room.
-    let inside = c.self.inside in
-    let hold = hold_of c.args.client c.args.buffer c.args.strength in
     let row = subst (λ counts. IsTrue (has_handle_room counts c.args.client c.args.buffer c.args.strength)) (sym c.self.view_is) room in
-    let one = one_row-IsSome (row_at inside.rows.entries hold) row in
-    let counted = one_row-le-clients inside.limit inside.rows.entries inside.tallies.entries c.self.invariant.0 hold in
-    c.open.ensures.room row (kept_from_something (tally_row inside.tallies.entries hold.kind) (omega (arith, one, counted)))
+    c.open.ensures.room row

@@ -6,5 +6,5 @@ use Rattle.buffer_holds.proofs.holds.Holds.add_near.Goals as goal
 -- what is elsewhere is looked for in the same counts
 pub returns-clause-too_many : goal.returns-clause-too_many
 returns-clause-too_many c =
-    subst (λ counts. IsErrOf c.add_by_search-added.result TooMany ↔ (total counts c.args.buffer c.args.strength ≡ counts.limit))
-    c.if-add_at_spot.ensures.unchanged c.add_by_search-added.ensures.too_many
+    subst (λ counts. IsErrOf c.add_by_search.result TooMany ↔ (total counts c.args.buffer c.args.strength ≡ counts.limit))
+    c.if-add_there.ensures.unchanged c.add_by_search.ensures.too_many

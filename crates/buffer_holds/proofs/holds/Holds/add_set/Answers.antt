@@ -1,9 +1,10 @@
 use Rattle.std.proofs.Common.{◌≡◌, ◌+◌, ◌-◌, ◌/◌, ◌%◌, ◌^◌, ◌<◌, ◌∙◌, rules, ap, sym, subst, arith}
 use Rattle.std.proofs.lemmas.Nat.{shr-shr}
+use Rattle.std.specs.Int.{bit_at}
 use Rattle.buffer_holds.specs.Changes.{AddsSet}
 use Rattle.buffer_holds.specs.Counts.{Counts}
 use Rattle.buffer_holds.specs.declared.sets.TheConstants.{SET_BITS}
-use Rattle.buffer_holds.proofs.SetLemmas.{adds_none, adds_on, keeps_room, none_at_end, something_left}
+use Rattle.buffer_holds.proofs.SetLemmas.{adds_none, adds_on, keeps_room, none_behind, something_left}
 use Rattle.buffer_holds.proofs.holds.Holds.add_set.Goals as goal
 
 -- the whole set is left
@@ -13,28 +14,36 @@ loop-rest-init c =
     let whole : a.set / 2 ^ 0 ≡ a.set = omega arith in
     (omega arith, whole, adds_none a.collection a.strength a.set a.client a.self.now)
 
--- a buffer at the index has as many handles as before
-pub add_at-requires : goal.add_at-requires
-add_at-requires c = record {
-  fewer = λ odd.
-      let a = c.args in
-      let inv = c.loop-rest.invariant in
-      let same = none_at_end a.collection a.strength a.set a.client a.self.now c.loop-rest.self c.loop-rest.index inv.2 in
-      omega (arith, c.requires c.loop-rest.index (ap (λ n. n % 2) inv.1 ∙ odd), inv.2.limit, same);
-}
+-- something is left, so the end is not reached
+pub add_at-requires-clause-within : goal.add_at-requires-clause-within
+add_at-requires-clause-within c =
+    let inv = c.loop-rest.invariant in
+    let fits : c.args.set < 2 ^ 64 = search rules in
+    let left = something_left c.args.set c.loop-rest.index fits inv.0 (λ none. c.loop-rest-test.true (sym inv.1 ∙ none)) in
+    omega (arith, left)
 
--- the next rest is the half of this one
+-- a buffer from the index on has as many handles as before
+pub add_at-requires-clause-fewer : goal.add_at-requires-clause-fewer
+add_at-requires-clause-fewer c = λ n bit.
+    let a = c.args in
+    let inv = c.loop-rest.invariant in
+    let index = c.loop-rest.index in
+    let has : bit_at a.set (index + n) ≡ 1 = ap (λ m. m % 2) (sym (shr-shr a.set index n) ∙ ap (λ m. m / 2 ^ n) inv.1) ∙ bit in
+    let same = none_behind a.collection a.strength a.set a.client a.self.now c.loop-rest.self index n inv.2 in
+    omega (arith, c.requires (index + n) has, inv.2.limit, same)
+
+-- the next rest is that from the next index on
 pub loop-rest-preserved : goal.loop-rest-preserved
 loop-rest-preserved c =
     let a = c.args in
     let inv = c.loop-rest.invariant in
-    let fits : a.set < 2 ^ 64 = search rules in
-    let next : a.set / 2 ^ (c.loop-rest.index + 1) ≡ c.loop-rest.rest / 2 = sym (shr-shr a.set c.loop-rest.index 1)
-    ∙ ap (λ n. n / 2 ^ 1) inv.1 in (
-      something_left a.set c.loop-rest.index fits inv.0 (λ none. c.loop-rest-test.true (sym inv.1 ∙ none)),
-      next,
-      c.in-Ok.ensures.ok a.self.now a.set inv.1 inv.2,
-    )
+    let index = c.loop-rest.index in
+    let on = c.in-Ok.ensures.next in
+    let sum : index + (c.in-Ok.next - index) ≡ c.in-Ok.next = omega (arith, on.0) in
+    let next : a.set / 2 ^ c.in-Ok.next ≡ c.loop-rest.rest / 2 ^ (c.in-Ok.next - index) = ap (λ n. a.set / 2 ^ n) (sym sum)
+    ∙ sym (shr-shr a.set index (c.in-Ok.next - index))
+    ∙ ap (λ n. n / 2 ^ (c.in-Ok.next - index)) inv.1 in
+    (on.2, next, c.in-Ok.ensures.ok a.self.now a.set inv.1 inv.2)
 
 -- memory was refused, so the client had no room on this buffer
 pub returns-in-Err-clause-room : goal.returns-in-Err-clause-room

@@ -1,4 +1,4 @@
-use Rattle.std.proofs.Common.{◌≡◌, ◌≤◌, ◌/◌, ◌^◌}
+use Rattle.std.proofs.Common.{◌≡◌, ◌≤◌, ◌-◌, ◌/◌, ◌^◌}
 use Rattle.buffer_holds.specs.Changes.{AddsSet}
 use Rattle.buffer_holds.specs.declared.sets.TheConstants.{SET_BITS}
 use Rattle.buffer_holds.proofs.holds.Holds.add_set.Given as goal
@@ -9,4 +9,4 @@ invariant-loop-rest l = (l.index ≤ SET_BITS) × (l.set / 2 ^ l.index ≡ l.res
     × AddsSet l.fn.self l.self l.client l.collection l.strength l.set l.index
 
 abbrev pub decreases-loop-rest : goal.decreases-loop-rest
-decreases-loop-rest l = l.rest
+decreases-loop-rest l = SET_BITS - l.index

@@ -1,11 +1,42 @@
-use Rattle.std.proofs.Common.{refl, sym, ◌∙◌}
+use Rattle.std.proofs.Common.{◌≡◌, ◌∙◌, ◌==◌, ◌&&◌, Bool, true, false, not, ap, refl, sym}
 use Rattle.sm_names.specs.Handles.{is_home}
+use Rattle.sm_names.specs.declared.keys.Strength.{Strength}
 use Rattle.sm_names.specs.declared.keys.Strength.TheVariants.{Strong, Weak}
-use Rattle.buffer_holds.proofs.SoundLemmas.{home_unopened}
+use Rattle.buffer_holds.specs.Counts.{total}
+use Rattle.buffer_holds.specs.Kinds.{kind_of}
+use Rattle.buffer_holds.specs.Sound.{tally_at}
+use Rattle.buffer_holds.proofs.SoundLemmas.{total_is}
 use Rattle.buffer_holds.proofs.holds.Holds.home.Goals as goal
+
+-- it is not home with a strong node
+never : (x y : Bool) → false ≡ ((x && not true) && y)
+never true y = refl
+never false y = refl
+
+-- and without one, the counts tell
+alone : (x y : Bool) → (x && y) ≡ ((x && not false) && y)
+alone true y = refl
+alone false y = refl
+
+-- a strong node keeps it
+pub returns-then-strong_live : goal.returns-then-strong_live
+returns-then-strong_live c =
+    never (total c.args.self.now c.args.buffer Strong == 0) (total c.args.self.now c.args.buffer Weak == 0)
+    ∙ ap (is_home (total c.args.self.now c.args.buffer Strong) (total c.args.self.now c.args.buffer Weak)) (sym c.if-strong_live.true)
 
 -- no handle at all is open on it
 pub returns-then-is_unopened : goal.returns-then-is_unopened
 returns-then-is_unopened c =
     let none = c.if-is_unopened.ensures refl in
-    home_unopened c.args.strong_live ∙ (λ i. is_home (sym (none Strong) i) (sym (none Weak) i) c.args.strong_live)
+    λ i. is_home (sym (none Strong) i) (sym (none Weak) i) (sym c.if-strong_live.false i)
+
+-- the tallies have what is open
+pub returns : goal.returns
+returns c =
+    let inside = c.self.inside in
+    let open_here = λ (s : Strength). sym (total_is inside.limit inside.rows.entries inside.tallies.entries c.self.invariant.0 c.args.buffer s)
+    ∙ ap (λ counts. total counts c.args.buffer s) c.self.view_is in
+    c.none_open.ensures
+    ∙ alone ((tally_at inside.tallies.entries (kind_of c.args.buffer Strong)).total == 0)
+    ((tally_at inside.tallies.entries (kind_of c.args.buffer Weak)).total == 0)
+    ∙ (λ i. is_home (open_here Strong i) (open_here Weak i) (sym c.if-strong_live.false i))
