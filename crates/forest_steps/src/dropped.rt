@@ -49,6 +49,7 @@ pub(crate) fn has_given_root(table: &NodeTable<Node>, keys: &[NodeKey]) -> bool
 
 /// Whether the buffers of the collection are abandoned, where none of its strong nodes is live. It
 /// looks at the handles of its buffers only where the root is not gone.
+#[inline(always)]
 pub(crate) fn is_abandoned(table: &NodeTable<Node>, entry: &Entry, holds: &Holds) -> bool
     requires { given_few entry.now.buffers ≡ true }
     ensures { result ≡ (has_given_root table.now entry.now.keys.items
@@ -146,6 +147,7 @@ pub fn drop_in_place(
 }
 
 /// Whether a strong handle is open on one of the collection's buffers, in a parcel or out of it.
+#[inline(never)]
 pub(crate) fn is_strong_open(id: CollectionId, buffers: Option<Buffers>, holds: &Holds) -> bool
     requires { given_few buffers ≡ true }
     ensures { result ≡ is_held_strongly (total holds.now) id buffers }

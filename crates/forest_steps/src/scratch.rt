@@ -31,8 +31,25 @@ impl Scratch {
         }
     }
 
-    /// Makes room for this many nodes in each list. Costs O(1), growth spread over the calls.
+    /// Makes room for this many nodes in each list. O(1), growth spread over the calls.
+    #[inline(always)]
     pub fn reserve(&mut self, nodes: usize) -> Result<(), NoMemory>
+        ensures removed { OnOk result (nodes ≤ vec_capacity self.new.removed) }
+        ensures unit { OnOk result (nodes ≤ vec_capacity self.new.unit) }
+        ensures pending { OnOk result (nodes ≤ vec_capacity self.new.pending) }
+    {
+        if nodes <= self.removed.capacity()
+            && nodes <= self.unit.capacity()
+            && nodes <= self.pending.capacity()
+        {
+            return Ok(());
+        }
+        self.grow(nodes)
+    }
+
+    // Does what `reserve` does, where a list has too little room. Out of line, since a call seldom comes here.
+    #[inline(never)]
+    fn grow(&mut self, nodes: usize) -> Result<(), NoMemory>
         ensures removed { OnOk result (nodes ≤ vec_capacity self.new.removed) }
         ensures unit { OnOk result (nodes ≤ vec_capacity self.new.unit) }
         ensures pending { OnOk result (nodes ≤ vec_capacity self.new.pending) }

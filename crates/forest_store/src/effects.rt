@@ -63,6 +63,7 @@ pub fn effect_of(call: &Call, reply: &Reply) -> Option<Change>
 }
 
 /// The same on one node.
+#[inline(always)]
 pub fn affect_one(node: &mut Node, key: NodeKey, effect: &Effect)
     requires { has_tracker_room key effect.now node.old ≡ true }
     ensures { node.new ≡ affected key effect.now node.old }

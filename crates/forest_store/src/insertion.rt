@@ -228,6 +228,7 @@ fn insert_uncounted(
 /// of units reaches. `NoMemory` leaves the table and the units as they were, and of the entries all
 /// but their room. A new collection takes the room of the spare list for its keys. Costs O(1) and a
 /// binary search, growth spread over the births, and for a root the shift of the entries behind it.
+#[inline(always)]
 pub fn insert_counted(
     store: &mut Store,
     id: CollectionId,

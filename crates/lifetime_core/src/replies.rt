@@ -31,6 +31,7 @@ fn token_below(core: &Core, key: NodeKey, node: Option<&Node>, new: NodeKey) -> 
 }
 
 // The reply to a Check: Pending until the node's unit is allocated.
+#[inline(always)]
 fn check(core: &Core, client: ClientId, key: NodeKey, node: Option<&Node>, new: NodeKey) -> Reply
     requires { end_in core.now key ≡ option_map (open_end_of core.now) (option_copied node) }
     ensures { result ≡ effect_of (readings_of core.now) client new (Call.Check key) }
@@ -51,6 +52,7 @@ fn check(core: &Core, client: ClientId, key: NodeKey, node: Option<&Node>, new: 
 }
 
 // The reply to a Take: Pending until the node's unit is allocated.
+#[inline(always)]
 fn take(core: &Core, client: ClientId, key: NodeKey, node: Option<&Node>, new: NodeKey) -> Reply
     requires { end_in core.now key ≡ option_map (open_end_of core.now) (option_copied node) }
     ensures { result ≡ effect_of (readings_of core.now) client new (Call.Take key) }

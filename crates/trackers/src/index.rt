@@ -70,6 +70,7 @@ fn put(list: &mut WaitList, condition: Condition, place: usize) -> Result<(), Al
 }
 
 /// Puts the place into the list of the condition, or into a new one.
+#[inline(always)]
 fn insert_place(
     lists: &mut Vec<WaitList>,
     alloc: Global,
@@ -97,6 +98,7 @@ fn insert_place(
 }
 
 /// Puts this place under the collection, into the list of the condition.
+#[inline(always)]
 pub(crate) fn insert_row(
     index: &mut WaitIndex,
     alloc: Global,
