@@ -43,7 +43,7 @@ use Rattle.sm_names.proofs.SamenessLaws.{either_way, same_key-true, both_ways, f
 use Rattle.history_laws.proofs.SettledLaws.{In-was_born, find_birth, Why, No_live, Fails, Initial, Logical, forced_why}
 use Rattle.history_laws.proofs.WholeLaws.{IsWhole}
 use Rattle.history_laws.proofs.BirthLaws.{HasEnd, birth_is, Comes, comes, ancestors_old, head_old}
-use Rattle.history_laws.proofs.RejectLaws.{not_refused_end}
+use Rattle.history_laws.proofs.RejectLaws.{is_refusal, not_refused_end}
 
 -- what answers read of a node's end, except its collection and its holder
 pub record EndState : Type 0 where
@@ -130,85 +130,82 @@ key_in before client reply call key b ord e is =
 root_in : (before : Timeline) (client event : ℕ) (reply : Reply) (call : Call) (b : Birth) →
     birth_at event (Called client reply call) ≡ Some b → b.parent ≡ None →
     collection_of (Called client reply call ∷ before) call reply ≡ Some b.collection
-root_in before client event (Reply.Token key collection) Call.OpenRoot b h root =
-    let same : Some (record { node = key; parent = None; attached = false; collection = collection; event = event; client = client }) ≡ Some
-    b = h in
-    let is : record { node = key; parent = None; attached = false; collection = collection; event = event; client = client } ≡ b = cc in
-    ap (λ (c : Birth). Some c.collection) is
+root_in before client event (Reply.Token key collection) Call.OpenRoot b h root = ap (option_map (λ (c : Birth). c.collection)) h
 root_in before client event (Reply.Token key collection) (Call.Duplicate parent) b h root =
-    let same : Some (record { node = key; parent = Some parent; attached = false; collection = collection; event = event; client = client })
-    ≡ Some b = h in
-    let is : record { node = key; parent = Some parent; attached = false; collection = collection; event = event; client = client } ≡ b =
-    cc in
-    let x : Some parent ≡ None = ap (λ (c : Birth). c.parent) is ∙ root in
-    cc
+    let x : Some (Some parent) ≡ Some None = ap (option_map (λ (c : Birth). c.parent)) h ∙ ap Some root in cc
 root_in before client event (Reply.Token key collection) (Call.AttachToken parent) b h root =
-    let same : Some (record { node = key; parent = Some parent; attached = true; collection = collection; event = event; client = client })
-    ≡ Some b = h in
-    let is : record { node = key; parent = Some parent; attached = true; collection = collection; event = event; client = client } ≡ b =
-    cc in
-    let x : Some parent ≡ None = ap (λ (c : Birth). c.parent) is ∙ root in
-    cc
+    let x : Some (Some parent) ≡ Some None = ap (option_map (λ (c : Birth). c.parent)) h ∙ ap Some root in cc
 root_in before client event reply call b h root = cc
 
 -- ---- which node a call is about
 
+-- the call names the node and is not refused
+abbrev pub Names : Call → Reply → NodeKey → Type 0
+Names call reply node = (key_of call ≡ Some node) × (is_refusal reply ≡ false)
+
 -- a call that releases a node names it
-releases_it : (node : NodeKey) (client : ℕ) (reply : Reply) (call : Call) → is_release node (Called client reply call) ≡ true →
-    key_of call ≡ Some node
-releases_it node client Reply.Done (Call.Release key) h = ap Some (same_key-true key node h)
+pub releases_it : (node : NodeKey) (client : ℕ) (reply : Reply) (call : Call) → is_release node (Called client reply call) ≡ true →
+    Names call reply node
+releases_it node client Reply.Done (Call.Release key) h = (ap Some (same_key-true key node h), refl)
 releases_it node client _ _ h = absurd (false≢true h)
 
 -- so does one that makes it dispensable
-dispenses_it : (node : NodeKey) (client : ℕ) (reply : Reply) (call : Call) → is_dispensable node (Called client reply call) ≡ true →
-    key_of call ≡ Some node
-dispenses_it node client Reply.Done (Call.SetDispensable key) h = ap Some (same_key-true key node h)
+pub dispenses_it : (node : NodeKey) (client : ℕ) (reply : Reply) (call : Call) → is_dispensable node (Called client reply call) ≡ true →
+    Names call reply node
+dispenses_it node client Reply.Done (Call.SetDispensable key) h = (ap Some (same_key-true key node h), refl)
 dispenses_it node client _ _ h = absurd (false≢true h)
 
 -- or weak
-weakens_it : (node : NodeKey) (client : ℕ) (reply : Reply) (call : Call) → sets_weak node (Called client reply call) ≡ true →
-    key_of call ≡ Some node
-weakens_it node client Reply.Done (Call.SetWeak key) h = ap Some (same_key-true key node h)
+pub weakens_it : (node : NodeKey) (client : ℕ) (reply : Reply) (call : Call) → sets_weak node (Called client reply call) ≡ true →
+    Names call reply node
+weakens_it node client Reply.Done (Call.SetWeak key) h = (ap Some (same_key-true key node h), refl)
 weakens_it node client _ _ h = absurd (false≢true h)
 
 -- or weak_ok
-allows_it : (node : NodeKey) (client : ℕ) (reply : Reply) (call : Call) → sets_weak_ok node (Called client reply call) ≡ true →
-    key_of call ≡ Some node
-allows_it node client Reply.Done (Call.SetWeakOk key children) h = ap Some (same_key-true key node h)
+pub allows_it : (node : NodeKey) (client : ℕ) (reply : Reply) (call : Call) → sets_weak_ok node (Called client reply call) ≡ true →
+    Names call reply node
+allows_it node client Reply.Done (Call.SetWeakOk key children) h = (ap Some (same_key-true key node h), refl)
 allows_it node client _ _ h = absurd (false≢true h)
+
+-- or covers its children
+pub covers_it : (node : NodeKey) (client : ℕ) (reply : Reply) (call : Call) → covers_children node (Called client reply call) ≡ true →
+    Names call reply node
+covers_it node client Reply.Done (Call.SetWeakOk key true) h = (ap Some (same_key-true key node h), refl)
+covers_it node client Reply.Done (Call.SetWeakOk key false) h = cc
+covers_it node client _ _ h = absurd (false≢true h)
 
 -- one that binds its token
 binds_it : (node : NodeKey) (client : ℕ) (reply : Reply) (call : Call) → binds node (Called client reply call) ≡ true →
-    key_of call ≡ Some node
-binds_it node client Reply.Done (Call.Bind key) h = ap Some (same_key-true key node h)
+    Names call reply node
+binds_it node client Reply.Done (Call.Bind key) h = (ap Some (same_key-true key node h), refl)
 binds_it node client _ _ h = absurd (false≢true h)
 
 -- one that spends its end
 spends_it : (node : NodeKey) (client : ℕ) (reply : Reply) (call : Call) → spends node (Called client reply call) ≡ true →
-    key_of call ≡ Some node
-spends_it node client Reply.Done (Call.Close key) h = ap Some (same_key-true key node h)
-spends_it node client Reply.Done (Call.Release key) h = ap Some (same_key-true key node h)
-spends_it node client (Reply.PeerClosed cause origin) (Call.Release key) h = ap Some (same_key-true key node h)
+    Names call reply node
+spends_it node client Reply.Done (Call.Close key) h = (ap Some (same_key-true key node h), refl)
+spends_it node client Reply.Done (Call.Release key) h = (ap Some (same_key-true key node h), refl)
+spends_it node client (Reply.PeerClosed cause origin) (Call.Release key) h = (ap Some (same_key-true key node h), refl)
 spends_it node client _ _ h = absurd (false≢true h)
 
 -- one that takes handles through it
-takes_it : (node : NodeKey) (client : ℕ) (reply : Reply) (call : Call) → is_taking node (Called client reply call) ≡ true →
-    key_of call ≡ Some node
-takes_it node client (Reply.Taken collection strength set) (Call.Take key) h = ap Some (same_key-true key node h)
+pub takes_it : (node : NodeKey) (client : ℕ) (reply : Reply) (call : Call) → is_taking node (Called client reply call) ≡ true →
+    Names call reply node
+takes_it node client (Reply.Taken collection strength set) (Call.Take key) h = (ap Some (same_key-true key node h), refl)
 takes_it node client _ _ h = absurd (false≢true h)
 
 -- one that tracks it
-tracks_it : (node : NodeKey) (client : ℕ) (reply : Reply) (call : Call) → is_tracking node (Called client reply call) ≡ true →
-    key_of call ≡ Some node
-tracks_it node client (Reply.Tracker id) (Call.TrackNode key) h = ap Some (same_key-true key node h)
+pub tracks_it : (node : NodeKey) (client : ℕ) (reply : Reply) (call : Call) → is_tracking node (Called client reply call) ≡ true →
+    Names call reply node
+tracks_it node client (Reply.Tracker id) (Call.TrackNode key) h = (ap Some (same_key-true key node h), refl)
 tracks_it node client _ _ h = absurd (false≢true h)
 
 -- and one that sets its constraints
-constrains_it : (node : NodeKey) (client : ℕ) (reply : Reply) (call : Call) →
-    is_some (constraints_at node (Called client reply call)) ≡ true → key_of call ≡ Some node
+pub constrains_it : (node : NodeKey) (client : ℕ) (reply : Reply) (call : Call) →
+    is_some (constraints_at node (Called client reply call)) ≡ true → Names call reply node
 constrains_it node client Reply.Done (Call.SetConstraints key demand) h =
     elim (either_way (same_key key node)) [
-      | inl e ↦ ap Some (same_key-true key node e)
+      | inl e ↦ (ap Some (same_key-true key node e), refl)
       | inr e ↦ let x : false ≡ true = rw e at h in cc
     ]
 constrains_it node client _ _ h = absurd (false≢true h)
@@ -282,7 +279,7 @@ module _ (pool : ℕ) (limits : Bound) (before : Timeline) (client theirs : ℕ)
       head_old new (births before) n (In-was_born (births before) b on) (λ c e.
       (comes limits before client (events before + 1) reply call c answer e).fresh) in
       let allocates : allocated called n ≡ allocated before n = ap (λ (k : NodeKey). list_any (is_allocation k) before) heads in
-      let free : (test : Bool) → (test ≡ true → key_of call ≡ Some n) → test ≡ false = untouched b on h in
+      let free : (test : Bool) → (test ≡ true → Names call reply n) → test ≡ false = λ test names. untouched b on h test (λ t. (names t).0) in
       let releases : released called n ≡ released before n =
       ap (λ (r : Bool). r || released before n) (free (is_release n mark) (releases_it n client reply call)) in
       let dispenses : list_any (is_dispensable n) called ≡ list_any (is_dispensable n) before =
@@ -312,7 +309,7 @@ module _ (pool : ℕ) (limits : Bound) (before : Timeline) (client theirs : ℕ)
   end_same : (b : Birth) → In b (births before) → b.collection == theirs ≡ true → end_state called b.node ≡ end_state before b.node
   end_same b on h =
       let n : NodeKey = b.node in
-      let free : (test : Bool) → (test ≡ true → key_of call ≡ Some n) → test ≡ false = untouched b on h in
+      let free : (test : Bool) → (test ≡ true → Names call reply n) → test ≡ false = λ test names. untouched b on h test (λ t. (names t).0) in
       let born : born_to n mark ≡ None = not_born_now b on (birth_at 0 mark) refl in
       let found : birth_of called n ≡ birth_of before n =
       find_birth (births called) b ord.sound (In_old new (births before) b on) ∙ sym (find_birth (births before) b old.sound on) in

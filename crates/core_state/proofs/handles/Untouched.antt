@@ -22,7 +22,7 @@ rests n gained lost none neither = record {
 }
 
 -- each count stays at a mark that is about no handles
-moves_none : (holds : Counts) (mark : Mark) → is_about_handles mark ≡ false → MovesHandles holds holds mark
+pub moves_none : (holds : Counts) (mark : Mark) → is_about_handles mark ≡ false → MovesHandles holds holds mark
 moves_none holds mark idle = record {
   each = λ c b s. rests _ _ _ (idle_gains (only c) b s mark idle) (idle_loses (only c) b s mark idle);
   in_parcels = λ b s. rests _ _ _ (idle_lifts anyone b s mark idle) (idle_lands anyone b s mark idle);

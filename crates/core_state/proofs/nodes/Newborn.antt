@@ -4,7 +4,7 @@ use Rattle.std.proofs.Common.{◌||◌, ◌==◌, List, [], ◌∷◌, ◌++◌,
 use Rattle.std.proofs.lemmas.Bool.{eq-eqb}
 use Rattle.std.proofs.lemmas.List.{reverse-append, map-append}
 use Rattle.std.specs.List.{list_any, filter}
-use Rattle.std.specs.Option.{option_map_or}
+use Rattle.std.specs.Option.{option_map, option_map_or}
 use Rattle.sm_names.specs.declared.keys.NodeKey.{NodeKey}
 use Rattle.sm_names.specs.declared.messages.Call.{Call}
 use Rattle.sm_names.specs.declared.messages.Reply.{Reply}
@@ -30,31 +30,24 @@ use Rattle.core_state.proofs.nodes.Unborn.{IsUnsaid, unsaid}
 
 -- ---- the nodes that were there
 
+-- of which event a birth is makes no difference to the rest of it
+birth_at_any : (event : ℕ) (mark : Mark) → birth_at 0 mark ≡ option_map (λ (b : Birth). record b { event = 0 }) (birth_at event mark)
+birth_at_any event (Called client (Reply.Token key collection) Call.OpenRoot) = refl
+birth_at_any event (Called client (Reply.Token key collection) (Call.Duplicate parent)) = refl
+birth_at_any event (Called client (Reply.Token key collection) (Call.AttachToken parent)) = refl
+birth_at_any event _ = refl
+
 -- a birth changes no other node
 pub old_node : (marks : Timeline) (client : ℕ) (reply : Reply) (call : Call) (b x : Birth) →
     birth_at (events marks + 1) (Called client reply call) ≡ Some b → same_key b.node x.node ≡ false →
     node_after (Called client reply call ∷ marks) x ≡ node_after marks x
-old_node marks client (Reply.Token key collection) Call.OpenRoot b x h other =
-    let called : Timeline = Called client (Reply.Token key collection) Call.OpenRoot ∷ marks in
-    let other' : same_key key x.node ≡ false =
-    ap (λ (o : Option Birth). option_map_or (λ (c : Birth). same_key c.node x.node) o false) h ∙ other in
-    let heads : head (births called) x.node ≡ head (births marks) x.node = rw other' refl in
-    let allocates : allocated called x.node ≡ allocated marks x.node = ap (λ (k : NodeKey). list_any (is_allocation k) marks) heads in
-    rw other' (λ i. record (node_after marks x) { allocated = allocates i })
-old_node marks client (Reply.Token key collection) (Call.Duplicate parent) b x h other =
-    let called : Timeline = Called client (Reply.Token key collection) (Call.Duplicate parent) ∷ marks in
-    let other' : same_key key x.node ≡ false =
-    ap (λ (o : Option Birth). option_map_or (λ (c : Birth). same_key c.node x.node) o false) h ∙ other in
-    let heads : head (births called) x.node ≡ head (births marks) x.node = rw other' refl in
-    let allocates : allocated called x.node ≡ allocated marks x.node = ap (λ (k : NodeKey). list_any (is_allocation k) marks) heads in
-    rw other' (λ i. record (node_after marks x) { allocated = allocates i })
-old_node marks client (Reply.Token key collection) (Call.AttachToken parent) b x h other =
-    let called : Timeline = Called client (Reply.Token key collection) (Call.AttachToken parent) ∷ marks in
-    let other' : same_key key x.node ≡ false =
-    ap (λ (o : Option Birth). option_map_or (λ (c : Birth). same_key c.node x.node) o false) h ∙ other in
-    let heads : head (births called) x.node ≡ head (births marks) x.node = rw other' refl in
-    let allocates : allocated called x.node ≡ allocated marks x.node = ap (λ (k : NodeKey). list_any (is_allocation k) marks) heads in
-    rw other' (λ i. record (node_after marks x) { allocated = allocates i })
+old_node marks client (Reply.Token key collection) call b x h other =
+    let mark : Mark = Called client (Reply.Token key collection) call in
+    let first : birth_at 0 mark ≡ Some (record b { event = 0 }) =
+    birth_at_any (events marks + 1) mark ∙ ap (option_map (λ (c : Birth). record c { event = 0 })) h in
+    let heads : head (births (mark ∷ marks)) x.node ≡ head (births marks) x.node = rw (h, other) refl in
+    let allocates : allocated (mark ∷ marks) x.node ≡ allocated marks x.node = ap (λ (k : NodeKey). list_any (is_allocation k) marks) heads in
+    rw (h, first, other) (λ i. record (node_after marks x) { allocated = allocates i })
 old_node marks client reply call b x h other = cc
 
 -- ---- the new one
@@ -69,131 +62,105 @@ module _ (pool : ℕ) (limits : Bound) (marks : Timeline) (grown : Grows pool li
   idle : (spent marks key ≡ false) × (collector marks key ≡ None) × (in_transit marks key ≡ false) × (list_any (binds key) marks ≡ false)
   idle = (end_at pool limits marks grown key).unborn fresh
 
+  -- its birth
+  abbrev pub newborn : Option NodeKey → Bool → Birth
+  newborn parent attached =
+      record { node = key; parent = parent; attached = attached; collection = collection; event = events marks + 1; client = client }
+
+  -- it stands blank, but for what comes from its parent: its head and whether that is allocated, whether it is weak, and whether it is covered
+  stands : (call : Call) (parent : Option NodeKey) (attached : Bool) →
+      birth_at (events marks + 1) (Called client (Reply.Token key collection) call) ≡ Some (newborn parent attached) →
+      (id : ℕ) → collection ≡ id → (top : NodeKey) → head (births (Called client (Reply.Token key collection) call ∷ marks)) key ≡ top →
+      (given : Bool) → list_any (is_allocation top) marks ≡ given →
+      (light : Bool) → weak (Called client (Reply.Token key collection) call ∷ marks) key ≡ light →
+      (covering : Bool) → covered (Called client (Reply.Token key collection) call ∷ marks) key ≡ covering →
+      node_after (Called client (Reply.Token key collection) call ∷ marks) (newborn parent attached) ≡ record {
+        key = key;
+        parent = parent;
+        attached = attached;
+        collection = id;
+        event = events marks + 1;
+        head = top;
+        allocated = given;
+        gone = false;
+        fault = None;
+        released = false;
+        dispensable = false;
+        weak = light;
+        weak_ok = covering;
+        covers = covering;
+        constraints = None;
+        took = false;
+        trackers = 0;
+        bound = false;
+        end = End.Held client;
+      }
+  stands call parent attached born id ours top heads given allocated light weakens covering covers =
+      let called : Timeline = Called client (Reply.Token key collection) call ∷ marks in
+      let allows : (list_any (sets_weak key) marks || (list_any (sets_weak_ok key) marks || covered called key)) ≡ covering =
+      rw (blank.not_set_weak, blank.not_weak_ok) covers in
+      let for_children : (list_any (covers_children key) marks || covered called key) ≡ covering = rw blank.not_covering covers in
+      let held_by : holder called key ≡ client = rw (idle.1, born, same_key-refl key) refl in
+      let end_is : end_after called key ≡ End.Held client = rw (idle.0, idle.2, held_by) refl in
+      λ i. record {
+        key = key;
+        parent = parent;
+        attached = attached;
+        collection = ours i;
+        event = events marks + 1;
+        head = heads i;
+        allocated = (ap (λ (k : NodeKey). list_any (is_allocation k) marks) heads ∙ allocated) i;
+        gone = blank.not_gone i;
+        fault = blank.no_fault i;
+        released = blank.not_released i;
+        dispensable = blank.not_dispensable i;
+        weak = weakens i;
+        weak_ok = allows i;
+        covers = for_children i;
+        constraints = blank.not_constrained i;
+        took = blank.not_taken i;
+        trackers = blank.not_tracked i;
+        bound = idle.3 i;
+        end = end_is i;
+      }
+
   -- a root that is new
   abbrev pub root : Birth
-  root = record { node = key; parent = None; attached = false; collection = collection; event = events marks + 1; client = client }
+  root = newborn None false
 
   -- it stands as a new root does
   pub new_root_is : node_after (Called client (Reply.Token key collection) Call.OpenRoot ∷ marks) root ≡ new_root key collection
       (events marks + 1) client
-  new_root_is =
-      let called : Timeline = Called client (Reply.Token key collection) Call.OpenRoot ∷ marks in
-      let heads : head (births called) key ≡ key = rw (same_key-refl key) refl in
-      let allocates : allocated called key ≡ false = ap (λ (k : NodeKey). list_any (is_allocation k) marks) heads ∙ blank.heads_none in
-      let weakens : weak called key ≡ false = rw (same_key-refl key) blank.not_weak in
-      let allows : (list_any (sets_weak key) marks || (list_any (sets_weak_ok key) marks || covered called key)) ≡ false =
-      rw (blank.not_set_weak, blank.not_weak_ok, same_key-refl key) blank.not_covered in
-      let covers : (list_any (covers_children key) marks || covered called key) ≡ false =
-      rw (blank.not_covering, same_key-refl key) blank.not_covered in
-      let held_by : holder called key ≡ client = rw (idle.1, same_key-refl key) refl in
-      let end_is : end_after called key ≡ End.Held client = rw (idle.0, idle.2, held_by) refl in
-      λ i. record {
-        key = key;
-        parent = None;
-        attached = false;
-        collection = collection;
-        event = events marks + 1;
-        head = heads i;
-        allocated = allocates i;
-        gone = blank.not_gone i;
-        fault = blank.no_fault i;
-        released = blank.not_released i;
-        dispensable = blank.not_dispensable i;
-        weak = weakens i;
-        weak_ok = allows i;
-        covers = covers i;
-        constraints = blank.not_constrained i;
-        took = blank.not_taken i;
-        trackers = blank.not_tracked i;
-        bound = idle.3 i;
-        end = end_is i;
-      }
+  new_root_is = stands Call.OpenRoot None false refl collection refl key (rw (same_key-refl key) refl) false blank.heads_none false
+      (rw (same_key-refl key) blank.not_weak) false (rw (same_key-refl key) blank.not_covered)
 
   -- a child that is new
   abbrev pub child : NodeKey → Birth
-  child parent =
-      record { node = key; parent = Some parent; attached = false; collection = collection; event = events marks + 1; client = client }
+  child parent = newborn (Some parent) false
 
   -- it stands as a new child of its parent does
-  pub new_child_is : (p : Birth) → collection ≡ p.collection →
+  new_child_is : (p : Birth) → collection ≡ p.collection →
       node_after (Called client (Reply.Token key collection) (Call.Duplicate p.node) ∷ marks) (child p.node) ≡ new_child false key
       (events marks + 1) client (node_after marks p)
   new_child_is p ours =
-      let called : Timeline = Called client (Reply.Token key collection) (Call.Duplicate p.node) ∷ marks in
-      let heads : head (births called) key ≡ head (births marks) p.node = rw (same_key-refl key) refl in
-      let allocates : allocated called key ≡ allocated marks p.node = ap (λ (k : NodeKey). list_any (is_allocation k) marks) heads in
       let covering : Bool = list_any (covers_children p.node) marks || covered marks p.node in
-      let weakens : weak called key ≡ weak marks p.node = rw (same_key-refl key, blank.not_weak) (or_false (weak marks p.node)) in
-      let covers_it : covered called key ≡ covering = rw (same_key-refl key, blank.not_covered) (or_false covering) in
-      let allows : (list_any (sets_weak key) marks || (list_any (sets_weak_ok key) marks || covered called key)) ≡ covering =
-      rw (blank.not_set_weak, blank.not_weak_ok) covers_it in
-      let covers : (list_any (covers_children key) marks || covered called key) ≡ covering = rw blank.not_covering covers_it in
-      let held_by : holder called key ≡ client = rw (idle.1, same_key-refl key) refl in
-      let end_is : end_after called key ≡ End.Held client = rw (idle.0, idle.2, held_by) refl in
-      λ i. record {
-        key = key;
-        parent = Some p.node;
-        attached = false;
-        collection = ours i;
-        event = events marks + 1;
-        head = heads i;
-        allocated = allocates i;
-        gone = blank.not_gone i;
-        fault = blank.no_fault i;
-        released = blank.not_released i;
-        dispensable = blank.not_dispensable i;
-        weak = weakens i;
-        weak_ok = allows i;
-        covers = covers i;
-        constraints = blank.not_constrained i;
-        took = blank.not_taken i;
-        trackers = blank.not_tracked i;
-        bound = idle.3 i;
-        end = end_is i;
-      }
+      stands (Call.Duplicate p.node) (Some p.node) false refl p.collection ours (head (births marks) p.node) (rw (same_key-refl key) refl)
+      (allocated marks p.node) refl (weak marks p.node) (rw (same_key-refl key, blank.not_weak) (or_false (weak marks p.node))) covering
+      (rw (same_key-refl key, blank.not_covered) (or_false covering))
 
   -- an attached child that is new
   abbrev pub attached : NodeKey → Birth
-  attached parent =
-      record { node = key; parent = Some parent; attached = true; collection = collection; event = events marks + 1; client = client }
+  attached parent = newborn (Some parent) true
 
-  -- it stands as a new child of its parent does
-  pub new_attached_is : (p : Birth) → collection ≡ p.collection →
+  -- it stands as a new attached child of its parent does
+  new_attached_is : (p : Birth) → collection ≡ p.collection →
       node_after (Called client (Reply.Token key collection) (Call.AttachToken p.node) ∷ marks) (attached p.node) ≡ new_child true key
       (events marks + 1) client (node_after marks p)
   new_attached_is p ours =
-      let called : Timeline = Called client (Reply.Token key collection) (Call.AttachToken p.node) ∷ marks in
-      let heads : head (births called) key ≡ key = rw (same_key-refl key) refl in
-      let allocates : allocated called key ≡ false = ap (λ (k : NodeKey). list_any (is_allocation k) marks) heads ∙ blank.heads_none in
       let covering : Bool = list_any (covers_children p.node) marks || covered marks p.node in
-      let weakens : weak called key ≡ weak marks p.node = rw (same_key-refl key, blank.not_weak) (or_false (weak marks p.node)) in
-      let covers_it : covered called key ≡ covering = rw (same_key-refl key, blank.not_covered) (or_false covering) in
-      let allows : (list_any (sets_weak key) marks || (list_any (sets_weak_ok key) marks || covered called key)) ≡ covering =
-      rw (blank.not_set_weak, blank.not_weak_ok) covers_it in
-      let covers : (list_any (covers_children key) marks || covered called key) ≡ covering = rw blank.not_covering covers_it in
-      let held_by : holder called key ≡ client = rw (idle.1, same_key-refl key) refl in
-      let end_is : end_after called key ≡ End.Held client = rw (idle.0, idle.2, held_by) refl in
-      λ i. record {
-        key = key;
-        parent = Some p.node;
-        attached = true;
-        collection = ours i;
-        event = events marks + 1;
-        head = heads i;
-        allocated = allocates i;
-        gone = blank.not_gone i;
-        fault = blank.no_fault i;
-        released = blank.not_released i;
-        dispensable = blank.not_dispensable i;
-        weak = weakens i;
-        weak_ok = allows i;
-        covers = covers i;
-        constraints = blank.not_constrained i;
-        took = blank.not_taken i;
-        trackers = blank.not_tracked i;
-        bound = idle.3 i;
-        end = end_is i;
-      }
+      stands (Call.AttachToken p.node) (Some p.node) true refl p.collection ours key (rw (same_key-refl key) refl) false blank.heads_none
+      (weak marks p.node) (rw (same_key-refl key, blank.not_weak) (or_false (weak marks p.node))) covering
+      (rw (same_key-refl key, blank.not_covered) (or_false covering))
 
   -- so it does under a node by that name
   pub child_stands : (p : Birth) (parent : NodeKey) → p.node ≡ parent → collection ≡ p.collection →

@@ -23,66 +23,10 @@ use Rattle.history_laws.proofs.LifeLaws.{ordered}
 use Rattle.history_laws.proofs.RejectLaws.{is_refusal, not_refused_end}
 use Rattle.sm_names.proofs.SamenessLaws.{either_way, same_key-true, both_ways, false_if, none_or_some, or_none_left, or_none_right, or_both}
 use Rattle.history_laws.proofs.SettledLaws.{In-was_born, Why, Initial, Logical, forced_why}
-use Rattle.history_laws.proofs.EventLaws.{is_none_if}
+use Rattle.history_laws.proofs.EventLaws.{Names, is_none_if, releases_it, dispenses_it, weakens_it, allows_it, covers_it}
+use Rattle.history_laws.proofs.EventLaws.{takes_it, tracks_it, constrains_it}
 
--- ---- which node a mark speaks of
-
--- the call names the node and is not refused
-abbrev Names : Call → Reply → NodeKey → Type 0
-Names call reply node = (key_of call ≡ Some node) × (is_refusal reply ≡ false)
-
--- a call that releases a node
-releases_it : (node : NodeKey) (client : ℕ) (reply : Reply) (call : Call) → is_release node (Called client reply call) ≡ true →
-    Names call reply node
-releases_it node client Reply.Done (Call.Release key) h = (ap Some (same_key-true key node h), refl)
-releases_it node client _ _ h = absurd (false≢true h)
-
--- one that makes it dispensable
-dispenses_it : (node : NodeKey) (client : ℕ) (reply : Reply) (call : Call) → is_dispensable node (Called client reply call) ≡ true →
-    Names call reply node
-dispenses_it node client Reply.Done (Call.SetDispensable key) h = (ap Some (same_key-true key node h), refl)
-dispenses_it node client _ _ h = absurd (false≢true h)
-
--- weak
-weakens_it : (node : NodeKey) (client : ℕ) (reply : Reply) (call : Call) → sets_weak node (Called client reply call) ≡ true →
-    Names call reply node
-weakens_it node client Reply.Done (Call.SetWeak key) h = (ap Some (same_key-true key node h), refl)
-weakens_it node client _ _ h = absurd (false≢true h)
-
--- weak_ok
-allows_it : (node : NodeKey) (client : ℕ) (reply : Reply) (call : Call) → sets_weak_ok node (Called client reply call) ≡ true →
-    Names call reply node
-allows_it node client Reply.Done (Call.SetWeakOk key children) h = (ap Some (same_key-true key node h), refl)
-allows_it node client _ _ h = absurd (false≢true h)
-
--- with children
-covers_it : (node : NodeKey) (client : ℕ) (reply : Reply) (call : Call) → covers_children node (Called client reply call) ≡ true →
-    Names call reply node
-covers_it node client Reply.Done (Call.SetWeakOk key true) h = (ap Some (same_key-true key node h), refl)
-covers_it node client Reply.Done (Call.SetWeakOk key false) h = cc
-covers_it node client _ _ h = absurd (false≢true h)
-
--- takes handles through it
-takes_it : (node : NodeKey) (client : ℕ) (reply : Reply) (call : Call) → is_taking node (Called client reply call) ≡ true →
-    Names call reply node
-takes_it node client (Reply.Taken collection strength set) (Call.Take key) h = (ap Some (same_key-true key node h), refl)
-takes_it node client _ _ h = absurd (false≢true h)
-
--- tracks it
-tracks_it : (node : NodeKey) (client : ℕ) (reply : Reply) (call : Call) → is_tracking node (Called client reply call) ≡ true →
-    Names call reply node
-tracks_it node client (Reply.Tracker id) (Call.TrackNode key) h = (ap Some (same_key-true key node h), refl)
-tracks_it node client _ _ h = absurd (false≢true h)
-
--- or sets its constraints
-constrains_it : (node : NodeKey) (client : ℕ) (reply : Reply) (call : Call) →
-    is_some (constraints_at node (Called client reply call)) ≡ true → Names call reply node
-constrains_it node client Reply.Done (Call.SetConstraints key demand) h =
-    elim (either_way (same_key key node)) [
-      | inl e ↦ (ap Some (same_key-true key node e), refl)
-      | inr e ↦ let x : false ≡ true = rw e at h in cc
-    ]
-constrains_it node client _ _ h = absurd (false≢true h)
+-- ---- a mark that speaks of another node
 
 -- a mark that is not the node's birth tells no parent of it
 not_born_to : (older : List Birth) (event : ℕ) (mark : Mark) (node : NodeKey) →

@@ -1,19 +1,15 @@
 -- A call that changes nothing, but that it is one event more.
 use Rattle.std.proofs.lemmas.Bool.{false≢true}
 use Rattle.std.proofs.Common.{ℕ, ◌≡◌, ◌+◌, refl, sym, ◌∙◌, Bool, true, false, List, [], ◌∷◌, append-nil, map, None}
-use Rattle.sm_names.specs.declared.keys.BufferName.{BufferName}
-use Rattle.sm_names.specs.declared.keys.Strength.{Strength}
 use Rattle.sm_names.specs.declared.messages.Call.{Call}
 use Rattle.sm_names.specs.declared.messages.Reply.{Reply}
 use Rattle.sm_names.specs.Answers.{answer}
 use Rattle.sm_names.specs.Ends.{joined_at, shuts, given_at, collects}
-use Rattle.sm_names.specs.Handles.{opens, drops, lifts, lands}
 use Rattle.sm_names.specs.Marks.{Called, Mark}
-use Rattle.event_laws.specs.ByEvent.{GoesBy, anyone, gains, loses, only}
-use Rattle.buffer_holds.specs.Counts.{Counts, moving_count, of, total}
+use Rattle.event_laws.specs.ByEvent.{is_about_handles}
+use Rattle.buffer_holds.specs.Counts.{total}
 use Rattle.forest_store.specs.Forest.{Forest}
 use Rattle.forest_store.specs.Settling.{no_key}
-use Rattle.core_state.specs.Hands.{MovesHandles}
 use Rattle.core_state.specs.Reads.{readings_of, world_in}
 use Rattle.core_state.specs.State.{Client, State}
 use Rattle.core_state.specs.Steps.{Follows, client_by, clients_by, swept, tracker_by, without_unkept, work_of}
@@ -24,38 +20,20 @@ use Rattle.core_state.proofs.forced.Known.{IsKnown}
 use Rattle.core_state.proofs.collections.ById.{all_tidy}
 use Rattle.event_laws.proofs.NumberLaws.{In-all}
 use Rattle.core_state.proofs.firing.Sweeps.{none_swept}
+use Rattle.core_state.proofs.handles.Untouched.{moves_none}
 use Rattle.core_state.proofs.theorem.EventParts.{Begins, begins, step_follows}
 
 -- ---- a mark that nobody sees
 
 -- the mark moves no handle, makes and shuts no client, and sends and delivers no parcel
 record IsUnseen (mark : Mark) : Type 0 where
-  opened : (who : ℕ → Bool) (b : BufferName) (s : Strength) → opens who b s mark ≡ false
-  dropped : (who : ℕ → Bool) (b : BufferName) (s : Strength) → drops who b s mark ≡ false
-  lifted : (who : ℕ → Bool) (b : BufferName) (s : Strength) → lifts who b s mark ≡ false
-  landed : (who : ℕ → Bool) (b : BufferName) (s : Strength) → lands who b s mark ≡ false
+  handles : is_about_handles mark ≡ false
   joined : joined_at mark ≡ None
   shut : (client : ℕ) → shuts client mark ≡ false
   collected : (client : ℕ) → collects client mark ≡ false
   given : (client : ℕ) → given_at client mark ≡ None
 
--- a count that nothing changes
-stays : (n : ℕ) (gained lost : Bool) → gained ≡ false → lost ≡ false → GoesBy n n gained lost
-stays n gained lost none nothing = rw (none, nothing) (record { adds_up = refl; was_there = λ e. cc; not_both = λ e. refl })
-
 module _ (mark : Mark) (unseen : IsUnseen mark) where
-  -- no handle moves
-  no_moves : (holds : Counts) → MovesHandles holds holds mark
-  no_moves holds = record {
-    each = λ client b s. stays (of holds client b s) (gains (only client) b s mark) (loses (only client) b s mark)
-        (rw (unseen.opened (only client) b s, unseen.landed (only client) b s) refl)
-        (rw (unseen.dropped (only client) b s, unseen.lifted (only client) b s) refl);
-    in_parcels = λ b s. stays (moving_count holds b s) (lifts anyone b s mark) (lands anyone b s mark) (unseen.lifted anyone b s)
-        (unseen.landed anyone b s);
-    in_all = λ b s. stays (total holds b s) (opens anyone b s mark) (drops anyone b s mark) (unseen.opened anyone b s)
-        (unseen.dropped anyone b s);
-  }
-
   -- a client stays
   same_client : (c : Client) → client_by mark c ≡ c
   same_client c = rw (unseen.shut c.id, unseen.collected c.id, unseen.given c.id) (λ i. record c { waiting = append-nil c.waiting i })
@@ -108,72 +86,18 @@ no_key_told call _ idle = refl
 -- an idle call moves no handle, neither makes nor shuts a client, and changes no parcel
 none_sees : (client : ℕ) (call : Call) (asked : Reply) → changes_nothing call asked ≡ true → IsUnseen (Called client asked call)
 none_sees client (Call.Sync key) Reply.Done idle =
-    record {
-      opened = λ who b s. refl;
-      dropped = λ who b s. refl;
-      lifted = λ who b s. refl;
-      landed = λ who b s. refl;
-      joined = refl;
-      shut = λ c. refl;
-      collected = λ c. refl;
-      given = λ c. refl;
-    }
+    record { handles = refl; joined = refl; shut = λ c. refl; collected = λ c. refl; given = λ c. refl }
 none_sees client _ Reply.Done idle = absurd (false≢true idle)
 none_sees client call Reply.Empty idle =
-    record {
-      opened = λ who b s. refl;
-      dropped = λ who b s. refl;
-      lifted = λ who b s. refl;
-      landed = λ who b s. refl;
-      joined = refl;
-      shut = λ c. refl;
-      collected = λ c. refl;
-      given = λ c. refl;
-    }
+    record { handles = refl; joined = refl; shut = λ c. refl; collected = λ c. refl; given = λ c. refl }
 none_sees client call Reply.Pending idle =
-    record {
-      opened = λ who b s. refl;
-      dropped = λ who b s. refl;
-      lifted = λ who b s. refl;
-      landed = λ who b s. refl;
-      joined = refl;
-      shut = λ c. refl;
-      collected = λ c. refl;
-      given = λ c. refl;
-    }
+    record { handles = refl; joined = refl; shut = λ c. refl; collected = λ c. refl; given = λ c. refl }
 none_sees client call (Reply.Allocated count size) idle =
-    record {
-      opened = λ who b s. refl;
-      dropped = λ who b s. refl;
-      lifted = λ who b s. refl;
-      landed = λ who b s. refl;
-      joined = refl;
-      shut = λ c. refl;
-      collected = λ c. refl;
-      given = λ c. refl;
-    }
+    record { handles = refl; joined = refl; shut = λ c. refl; collected = λ c. refl; given = λ c. refl }
 none_sees client call (Reply.Refused refusal) idle =
-    record {
-      opened = λ who b s. refl;
-      dropped = λ who b s. refl;
-      lifted = λ who b s. refl;
-      landed = λ who b s. refl;
-      joined = refl;
-      shut = λ c. refl;
-      collected = λ c. refl;
-      given = λ c. refl;
-    }
+    record { handles = refl; joined = refl; shut = λ c. refl; collected = λ c. refl; given = λ c. refl }
 none_sees client call (Reply.PeerClosed cause origin) idle =
-    record {
-      opened = λ who b s. refl;
-      dropped = λ who b s. refl;
-      lifted = λ who b s. refl;
-      landed = λ who b s. refl;
-      joined = refl;
-      shut = λ c. refl;
-      collected = λ c. refl;
-      given = λ c. refl;
-    }
+    record { handles = refl; joined = refl; shut = λ c. refl; collected = λ c. refl; given = λ c. refl }
 none_sees client call _ idle = absurd (false≢true idle)
 
 -- ---- the event
@@ -201,7 +125,7 @@ idles s now client call asked same whole told idle = record {
     key = None;
     told = no_key_told call asked idle;
     clients = same_clients (Called client asked call) (none_sees client call asked idle) s.clients;
-    handles = no_moves (Called client asked call) (none_sees client call asked idle) s.holds;
+    handles = moves_none s.holds (Called client asked call) (none_sees client call asked idle).handles;
     work = (refl, refl);
     trackers = refl;
   };
