@@ -22,7 +22,7 @@ use Rattle.alike_cores.proofs.Moving.{keys_kept, keys_moved, keys_same, keys_the
 use Rattle.alike_cores.proofs.Shown.{events_alike}
 
 -- By the call: it names a node, a buffer, or nothing.
-call-agrees : (to again : NodeKey → NodeKey) (id later : ℕ → ℕ) (call : Call) →
+pub call-agrees : (to again : NodeKey → NodeKey) (id later : ℕ → ℕ) (call : Call) →
     ((key : NodeKey) → key_of call ≡ Some key → again key ≡ to key) →
     ((b : BufferName) → buffer_of call ≡ Some b → later b.collection ≡ id b.collection) →
     call_renamed again later call ≡ call_renamed to id call
@@ -52,7 +52,7 @@ call-agrees to again id later (Call.TrackLifetime key most) keys ids = λ i. Cal
 call-agrees to again id later (Call.TrackWeak b) keys ids = λ i. Call.TrackWeak (record b { collection = ids b refl i })
 
 -- The new key is that of no node before.
-fresh : (s later : State) (client : ℕ) (call : Call) (reply : Reply) (key : NodeKey) → Makes s later (client, call, reply) →
+pub fresh : (s later : State) (client : ℕ) (call : Call) (reply : Reply) (key : NodeKey) → Makes s later (client, call, reply) →
     new_key reply ≡ Some key → given s.forest key ≡ true → ⊥
 fresh s later client call reply key makes is old =
     both_ways (given s.forest key) old
@@ -64,19 +64,19 @@ module _ (to : NodeKey → NodeKey) (id number : ℕ → ℕ) (keeps : KeepsKeys
     (none : joined_at (Called client reply call) ≡ None) (old : NamesOld to id s t call) (makes : Makes s later (client, call, reply))
     (makes_too : Makes t again (client, call_renamed to id call, told)) where
   -- the new key, if there is one, becomes that of the other
-  abbrev keys : NodeKey → NodeKey
+  abbrev pub keys : NodeKey → NodeKey
   keys = keys_moved to (new_key reply) (new_key told)
 
   -- the next collection that of the other
-  abbrev ids : ℕ → ℕ
+  abbrev pub ids : ℕ → ℕ
   ids = number_moved id (s.events + 1) (t.events + 1)
 
   -- and the next tracker
-  abbrev numbers : ℕ → ℕ
+  abbrev pub numbers : ℕ → ℕ
   numbers = number_moved number (s.events + 1) (t.events + 1)
 
   -- An old key keeps its name.
-  old_key : (key : NodeKey) → given s.forest key ≡ true → given t.forest (to key) ≡ true → keys key ≡ to key
+  pub old_key : (key : NodeKey) → given s.forest key ≡ true → given t.forest (to key) ≡ true → keys key ≡ to key
   old_key key here there = keys_same to keeps (new_key reply) (new_key told) key
       (λ is. fresh s later client call reply key makes is here)
       (λ is. fresh t again client (call_renamed to id call) told (to key) makes_too is there)
@@ -92,7 +92,15 @@ module _ (to : NodeKey → NodeKey) (id number : ℕ → ℕ) (keeps : KeepsKeys
       (λ b is. let k = old.buffers b is in
       ids_agree to keys id number kept counted s t one other shows shows_too alike old_key b.collection k.0 k.1)
 
-  -- and leaves cores that are alike
+  -- The reply is the renamed one, and the call leaves cores that are alike: by what is proved where the names are known.
+  pub goes_on_named : (told ≡ reply_renamed keys ids numbers reply) × AreAlikeCores keys ids numbers later again
+  goes_on_named = events_alike keys ids numbers (keys_kept to keeps (new_key reply) (new_key told))
+      (number_kept id kept (s.events + 1) (t.events + 1)) s t later again one other shows shows_too alike_again
+      (number_there id kept (s.events + 1) (t.events + 1)) (number_there number counted (s.events + 1) (t.events + 1)) client call reply
+      told none (λ key new is is_too. keys_there to keeps (new_key reply) (new_key told) key new is is_too) makes
+      (subst (λ (c : Call). Makes t again (client, c, told)) (sym same_call) makes_too)
+
+  -- So there are such names.
   pub goes_on_alike : GoOn to id number s t later again reply told
   goes_on_alike = record {
     keys = keys;
@@ -104,14 +112,6 @@ module _ (to : NodeKey → NodeKey) (id number : ℕ → ℕ) (keeps : KeepsKeys
     old_keys = old_key;
     old_ids = ids_agree to keys id number kept counted s t one other shows shows_too alike old_key;
     old_numbers = numbers_agree to keys id number kept counted s t one other shows shows_too alike old_key;
-    same_reply = both.0;
-    alike = both.1;
+    same_reply = goes_on_named.0;
+    alike = goes_on_named.1;
   }
-    where
-      -- by what is proved where the names are known
-      both : (told ≡ reply_renamed keys ids numbers reply) × AreAlikeCores keys ids numbers later again
-      both = events_alike keys ids numbers (keys_kept to keeps (new_key reply) (new_key told))
-          (number_kept id kept (s.events + 1) (t.events + 1)) s t later again one other shows shows_too alike_again
-          (number_there id kept (s.events + 1) (t.events + 1)) (number_there number counted (s.events + 1) (t.events + 1)) client call reply
-          told none (λ key new is is_too. keys_there to keeps (new_key reply) (new_key told) key new is is_too) makes
-          (subst (λ (c : Call). Makes t again (client, c, told)) (sym same_call) makes_too)

@@ -148,7 +148,7 @@ times_at p (y ∷ ys) x (inr on) pass =
     elim (p y) as (λ (b : Bool). 0 < cond b (times p ys + 1) (times p ys)) [ true ↦ omega arith | false ↦ rest ]
 
 -- An element stands in one of the parts.
-In-flat : {A B : Type 0} (f : A → List B) (xs : List A) (y : B) → In y (flat_map f xs) → (x : A) × In x xs × In y (f x)
+pub In-flat : {A B : Type 0} (f : A → List B) (xs : List A) (y : B) → In y (flat_map f xs) → (x : A) × In x xs × In y (f x)
 In-flat f [] y there = absurd there
 In-flat f (x ∷ xs) y there = elim (In-append (f x) (flat_map f xs) y there) [
   | inl here ↦ (x, inl refl, here)

@@ -17,3 +17,5 @@ pub mod Moving
 pub mod Agreeing
 pub mod Going
 pub mod Views
+pub mod Told
+pub mod Learning

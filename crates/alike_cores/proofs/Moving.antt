@@ -121,3 +121,14 @@ module _ (to : NodeKey → NodeKey) (keeps : KeepsKeys to) where
       swap-other same_key same_key-true same_key-refl (to from) into (to key)
       (keeps key from ∙ false_if (same_key key from) (λ e. absurd (a (ap Some (sym (same_key-true key from e))))))
       (false_if (same_key (to key) into) (λ e. absurd (b (ap Some (sym (same_key-true (to key) into e))))))
+
+  -- The key that had it has that of the other.
+  pub keys_back : (o p : Option NodeKey) (from into key : NodeKey) → o ≡ Some from → p ≡ Some into → same_key key from ≡ false →
+      to key ≡ into → keys_moved to o p key ≡ to from
+  keys_back None p from into key a b other had = cc
+  keys_back (Some x) None from into key a b other had = cc
+  keys_back (Some x) (Some y) from into key a b other had =
+      let first : x ≡ from = some-injective x from a in
+      swap-second same_key same_key-true same_key-refl (to x) y (to key)
+      (keeps key x ∙ (ap (same_key key) first ∙ other)) (had ∙ sym (some-injective y into b))
+      ∙ ap to first

@@ -4,6 +4,7 @@ use Rattle.std.proofs.Common.{List, [], ◌∷◌, ◌++◌, map, Option, Some, 
 use Rattle.std.proofs.lemmas.List.{map-append}
 use Rattle.std.proofs.lemmas.Option.{slice_get-map}
 use Rattle.std.specs.List.{flat_map}
+use Rattle.std.proofs.lemmas.List.Elements.{filter-append}
 use Rattle.std.specs.Option.{option_and_then, option_map, option_map_or}
 use Rattle.sm_names.specs.declared.keys.NodeKey.{NodeKey}
 use Rattle.sm_names.specs.declared.messages.Call.{Call}
@@ -20,45 +21,46 @@ use Rattle.actor_plays.specs.Plans.{steps_of}
 use Rattle.actor_plays.specs.Plays.{Stage, has_fired, is_silent, leaves_by, left, next_step, passed, polls, stage_after}
 use Rattle.name_laws.specs.Alike.{KeepsIds, call_renamed, reply_renamed}
 use Rattle.name_laws.specs.Renamed.{KeepsKeys}
-use Rattle.alike_plays.specs.Actors.{AreAlikeKnown, AreAlikeStages, asked_renamed, leave_renamed, made_renamed, object_renamed}
+use Rattle.alike_plays.specs.Actors.{AreAlikeKnown, AreAlikeStages, asked_renamed, leave_renamed, made_of, made_renamed}
+use Rattle.alike_plays.specs.Actors.{object_renamed, tells_made}
 use Rattle.alike_plays.proofs.Knowing.{gives-renamed, knows-alike}
 
 -- ---- with what an actor parts
 
 -- it is an end
-abbrev is_end : ActorObject → Bool
+abbrev pub is_end : ActorObject → Bool
 is_end (ActorObject.Token key collection) = true
 is_end (ActorObject.Collection key collection) = true
 is_end (ActorObject.Handle buffer strength) = false
 
 -- it is a token
-abbrev is_token : ActorObject → Bool
+abbrev pub is_token : ActorObject → Bool
 is_token (ActorObject.Token key collection) = true
 is_token (ActorObject.Collection key collection) = false
 is_token (ActorObject.Handle buffer strength) = false
 
 -- it is a collection
-abbrev is_collection : ActorObject → Bool
+abbrev pub is_collection : ActorObject → Bool
 is_collection (ActorObject.Token key collection) = false
 is_collection (ActorObject.Collection key collection) = true
 is_collection (ActorObject.Handle buffer strength) = false
 
 -- it is a handle
-abbrev is_handle : ActorObject → Bool
+abbrev pub is_handle : ActorObject → Bool
 is_handle (ActorObject.Token key collection) = false
 is_handle (ActorObject.Collection key collection) = false
 is_handle (ActorObject.Handle buffer strength) = true
 
 -- the object, if it passes
-abbrev picked : (ActorObject → Bool) → ActorObject → List ActorObject
+abbrev pub picked : (ActorObject → Bool) → ActorObject → List ActorObject
 picked test object = cond (test object) (object ∷ []) []
 
 -- what lies in a slot, if it passes
-abbrev picked_there : (ActorObject → Bool) → Option ActorObject → List ActorObject
+abbrev pub picked_there : (ActorObject → Bool) → Option ActorObject → List ActorObject
 picked_there test slot = option_map_or (picked test) slot []
 
 -- By the definition: the ends that were collected, the tokens, the collections, the handles that were collected, the handles.
-parts_with : (collected : List ActorObject) (slots : List (Option ActorObject)) →
+pub parts_with : (collected : List ActorObject) (slots : List (Option ActorObject)) →
     all_objects collected slots
     ≡ flat_map (picked is_end) collected ++ (flat_map (picked_there is_token) slots
     ++ (flat_map (picked_there is_collection) slots
@@ -210,6 +212,24 @@ left-renamed to id number (Some l) reply =
 
 -- ---- stages
 
+-- By the reply: it tells of what was made, or not.
+made-more : (to : NodeKey → NodeKey) (id number : ℕ → ℕ) (made again : List (ℕ × Reply)) →
+    made_of again ≡ map (made_renamed to id number) (made_of made) → (at place : ℕ) → place ≡ at → (reply : Reply) →
+    made_of (again ++ (place, reply_renamed to id number reply) ∷ [])
+    ≡ map (made_renamed to id number) (made_of (made ++ (at, reply) ∷ []))
+made-more to id number made again same at place is reply =
+    filter-append (λ (m : ℕ × Reply). tells_made m.1) again ((place, reply_renamed to id number reply) ∷ [])
+    ∙ ((λ i. same i ++ (ap (λ (n : ℕ). made_of ((n, reply_renamed to id number reply) ∷ [])) is ∙ by reply) i)
+    ∙ (sym (map-append (made_renamed to id number) (made_of made) (made_of ((at, reply) ∷ [])))
+    ∙ ap (map (made_renamed to id number))
+    (sym (filter-append (λ (m : ℕ × Reply). tells_made m.1) made ((at, reply) ∷ [])))))
+  where
+    -- by the reply
+    by : (r : Reply) → made_of ((at, reply_renamed to id number r) ∷ []) ≡ map (made_renamed to id number) (made_of ((at, r) ∷ []))
+    by (Reply.Token key collection) = refl
+    by (Reply.Tracker tracker) = refl
+    by _ = refl
+
 module _ (to : NodeKey → NodeKey) (id number : ℕ → ℕ) (one other : Stage) (alike : AreAlikeStages to id number one other) where
   -- The next step is that at the same place, unless the actor leaves.
   pub next-alike : (plans : List Plan) (actor : ℕ) → next_step plans actor other ≡ next_step plans actor one
@@ -240,8 +260,7 @@ module _ (to : NodeKey → NodeKey) (id number : ℕ → ℕ) (one other : Stage
   after-alike keeps kept next asked reply = record {
     at = ap (λ n. n + 1) alike.at;
     known = knows-alike to id number keeps kept one.known other.known alike.known next.step asked reply;
-    made = (λ i. alike.made i ++ (alike.at i, reply_renamed to id number reply) ∷ [])
-        ∙ sym (map-append (made_renamed to id number) one.made ((one.at, reply) ∷ []));
+    made = made-more to id number one.made other.made alike.made one.at other.at alike.at reply;
     leaving = alike.leaving;
   }
 

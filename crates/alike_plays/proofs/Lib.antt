@@ -4,3 +4,13 @@ pub mod Leaving
 pub mod Names
 pub mod NamesAfter
 pub mod NamesAgree
+pub mod Stages
+pub mod Renaming
+pub mod Places
+pub mod Reaching
+pub mod Turning
+pub mod Composing
+pub mod Passing
+pub mod Waiting
+pub mod Closing
+pub mod Ending

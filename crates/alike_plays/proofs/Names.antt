@@ -79,7 +79,7 @@ buffer_part Call.Join = refl
 buffer_part _ = refl
 
 -- What stands at a place is an element.
-at_in : {A : Type 0} (xs : List A) (i : ℕ) (x : A) → slice_get xs i ≡ Some x → In x xs
+pub at_in : {A : Type 0} (xs : List A) (i : ℕ) (x : A) → slice_get xs i ≡ Some x → In x xs
 at_in xs i x is =
     let within = slice_get_within xs i x is in
     subst (λ y. In y xs) (some-injective (get_or xs i x) x (sym (slice_get-get_or xs i x within) ∙ is)) (In-get_or xs i x within)

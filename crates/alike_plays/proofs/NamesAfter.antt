@@ -23,7 +23,7 @@ use Rattle.alike_plays.specs.Names.{KnownActor, KnownCall, KnownObject, KnownRep
 use Rattle.alike_plays.proofs.Names.{lying_in}
 
 -- What is put at a place is the only new element.
-In-set : {A : Type 0} (xs : List A) (i : ℕ) (z y : A) → In y (set xs i z) → (y ≡ z) ⊎ In y xs
+pub In-set : {A : Type 0} (xs : List A) (i : ℕ) (z y : A) → In y (set xs i z) → (y ≡ z) ⊎ In y xs
 In-set [] i z y there = absurd there
 In-set (x ∷ xs) zero z y (inl is) = inl is
 In-set (x ∷ xs) zero z y (inr on) = inr (inr on)
@@ -222,7 +222,7 @@ module _ (Key : NodeKey → Type 0) (Id Num : ℕ → Type 0) where
   single object known o (inr none) = absurd none
 
   -- By the call and the reply.
-  gives_known : (on : Option ActorObject) → ((object : ActorObject) → on ≡ Some object → KnownObject Key Id object) →
+  pub gives_known : (on : Option ActorObject) → ((object : ActorObject) → on ≡ Some object → KnownObject Key Id object) →
       (call : Call) → KnownCall Key Id call → (reply : Reply) → KnownReply Key Id Num reply → (o : ActorObject) →
       In o (new_objects on call reply) → KnownObject Key Id o
   gives_known on old Call.OpenRoot named (Reply.Token key collection) told o there = single (ActorObject.Token key collection) told o there

@@ -3,13 +3,14 @@ use Rattle.std.proofs.Common.{ℕ, ◌≡◌, refl, ap, sym, subst, ◌∙◌, O
 use Rattle.std.specs.Option.{option_map}
 use Rattle.sm_names.specs.declared.keys.NodeKey.{NodeKey}
 use Rattle.sm_names.specs.declared.messages.Reply.{Reply}
-use Rattle.sm_names.proofs.ListLaws.{In, In-map-back, map-In}
+use Rattle.sm_names.proofs.ListLaws.{In, In-filter, In-map-back, map-In}
 use Rattle.actor_scripts.specs.declared.object.ActorObject.{ActorObject}
 use Rattle.actor_scripts.specs.ActorStates.{Known, NodePlace}
 use Rattle.actor_plays.specs.Leaves.{Leave}
 use Rattle.actor_plays.specs.Plays.{Stage}
 use Rattle.name_laws.specs.Alike.{reply_renamed}
-use Rattle.alike_plays.specs.Actors.{AreAlikeKnown, AreAlikeStages, leave_renamed, made_renamed, object_renamed, place_renamed}
+use Rattle.alike_plays.specs.Actors.{AreAlikeKnown, AreAlikeStages, leave_renamed, made_of, made_renamed}
+use Rattle.alike_plays.specs.Actors.{object_renamed, place_renamed, tells_made}
 use Rattle.alike_plays.specs.Names.{KnownActor, KnownObject, KnownReply, KnownStage, NamesAgree}
 
 module _ (to again : NodeKey → NodeKey) (id later number next : ℕ → ℕ) (Key Other : NodeKey → Type 0)
@@ -82,10 +83,14 @@ module _ (to again : NodeKey → NodeKey) (id later number next : ℕ → ℕ) (
   stages-agree one other alike old new = record {
     at = alike.at;
     known = known-agree one.known other.known alike.known old.known new.known;
-    made = alike.made ∙ sym (map-In (made_renamed again later next) (made_renamed to id number) one.made (λ m there i. (
+    made = alike.made ∙ sym (map-In (made_renamed again later next) (made_renamed to id number) (made_of one.made) (λ m there i. (
       m.0,
-      reply-agrees m.1 (old.made m there) (new.made (made_renamed to id number m) (subst (In (made_renamed to id number m)) (sym alike.made)
-          (In-map-back (made_renamed to id number) one.made m there))) i,
+      reply-agrees m.1 (old.made m (In-filter (λ (x : ℕ × Reply). tells_made x.1) one.made m there).0)
+          (new.made (made_renamed to id number m)
+          (In-filter (λ (x : ℕ × Reply). tells_made x.1) other.made (made_renamed to id number m)
+          (subst (In (made_renamed to id number m)) (sym alike.made)
+          (In-map-back (made_renamed to id number) (made_of one.made) m there))).0)
+          i,
     )));
     leaving = alike.leaving ∙ leaves one.leaving refl;
   }

@@ -1,5 +1,6 @@
 -- Actors that are alike but for names.
-use Rattle.std.specs.Prelude.{◌≡◌, ℕ, map}
+use Rattle.std.specs.Prelude.{◌≡◌, ℕ, Bool, true, false, List, map}
+use Rattle.std.specs.List.{filter}
 use Rattle.std.specs.Option.{option_map}
 use Rattle.sm_names.specs.declared.keys.BufferName.{BufferName}
 use Rattle.sm_names.specs.declared.keys.NodeKey.{NodeKey}
@@ -43,9 +44,19 @@ pub record AreAlikeKnown (to : NodeKey → NodeKey) (id number : ℕ → ℕ) (o
 abbrev pub made_renamed : (NodeKey → NodeKey) → (ℕ → ℕ) → (ℕ → ℕ) → ℕ × Reply → ℕ × Reply
 made_renamed to id number m = (m.0, reply_renamed to id number m.1)
 
--- the second actor is where the first is, under other names
+-- the reply tells of a node or a tracker that the step made
+abbrev pub tells_made : Reply → Bool
+tells_made (Reply.Token key collection) = true
+tells_made (Reply.Tracker tracker) = true
+tells_made _ = false
+
+-- of the replies those that tell what their steps made, each with the place of its step
+abbrev pub made_of : List (ℕ × Reply) → List (ℕ × Reply)
+made_of made = filter (λ (m : ℕ × Reply). tells_made m.1) made
+
+-- the second actor is where the first is, under other names. Which replies it got that tell of nothing made is no part of this
 pub record AreAlikeStages (to : NodeKey → NodeKey) (id number : ℕ → ℕ) (one other : Stage) : Type 0 where
   pub at : other.at ≡ one.at
   pub known : AreAlikeKnown to id number one.known other.known
-  pub made : other.made ≡ map (made_renamed to id number) one.made
+  pub made : made_of other.made ≡ map (made_renamed to id number) (made_of one.made)
   pub leaving : other.leaving ≡ option_map (leave_renamed to id) one.leaving

@@ -1,2 +1,5 @@
 pub mod Actors
 pub mod Names
+pub mod Positions
+pub mod Closed
+pub mod Outcomes

@@ -5,16 +5,24 @@ ghost use Rattle.std.specs.Option.{option_map};
 ghost use Rattle.sm_names.specs.declared.keys.NodeKey.{NodeKey};
 ghost use Rattle.sm_names.specs.declared.messages.Reply.{Reply};
 ghost use Rattle.sm_names.specs.declared.tracking.Fired.{Fired};
+ghost use Rattle.sm_names.specs.Elements.{In};
+ghost use Rattle.sm_names.specs.Marks.{Entry};
+ghost use Rattle.core_state.specs.Reads.{views_of};
+ghost use Rattle.core_state.specs.Shown.{Shows};
 ghost use Rattle.actor_scripts.specs.declared.object.StepCall.{StepCall};
 ghost use Rattle.actor_scripts.specs.declared.step.Step.{Step};
 ghost use Rattle.actor_scripts.specs.ActorStates.{Known, state_after, step_call};
 ghost use Rattle.actor_plays.specs.declared.plan.Plan.{Plan};
 ghost use Rattle.actor_plays.specs.declared.plan.Planned.{Planned};
-ghost use Rattle.actor_plays.specs.Plays.{Stage, has_fired, leaves_by, left, next_step, passed, polls, stage_after};
+ghost use Rattle.actor_plays.specs.declared.play.Turn.{Turn};
+ghost use Rattle.actor_plays.specs.Plays.{Plays, Stage, has_fired, leaves_by, left, next_step, passed, polls, stage_after};
 ghost use Rattle.name_laws.specs.Alike.{KeepsIds, call_renamed, reply_renamed};
 ghost use Rattle.name_laws.specs.Renamed.{KeepsKeys};
 ghost use Rattle.alike_plays.specs.Actors.{AreAlikeKnown, AreAlikeStages, asked_renamed};
+ghost use Rattle.alike_plays.specs.Closed.{IsClosed, IsMet, IsSimulation};
 ghost use Rattle.alike_plays.specs.Names.{KnownActor, KnownCall, KnownReply, KnownStage, NamesAgree};
+ghost use Rattle.alike_plays.specs.Outcomes.{fate_kept, fate_renamed};
+ghost use Rattle.alike_plays.specs.Positions.{AreAlikePlays, Calls, Leaves, Passes, Position, Reached, Rests, Setup};
 
 /// Actors that are alike are at the same step, which asks for the same under their names, and leave
 /// by the same calls. They wait alike for a tracker, where the same ones have fired.
@@ -80,4 +88,58 @@ pub fn only_known_names_matter()
         KnownStage (λ k. keys k ≡ true) (λ i. ids i ≡ true) (λ n. numbers n ≡ true) one →
         KnownStage (λ k. others k ≡ true) (λ i. nexts i ≡ true) (λ n. counts n ≡ true) other →
         AreAlikeStages again later next one other }
+{}
+
+/// What plays come to on cores, turn by turn, is a play by its history, which the core shows.
+pub fn plays_on_cores_are_plays()
+    ensures { (setup : Setup) (p : Position) → Reached setup p →
+        (turns : List Turn) × (history : List Entry)
+        × Plays setup.plans setup.clients turns history p.stages × Shows p.core history }
+{}
+
+/// Two plays that are alike stay alike over one and the same turn, with names for what is new: a step
+/// that an actor passes, its call, or the call by which it leaves. The one passes a step iff the other
+/// does.
+pub fn alike_plays_stay_alike()
+    ensures passes { (setup : Setup) (actor : ℕ) (one other : Position) →
+        AreAlikePlays one other → (new : Position) → Passes setup actor one new →
+        (again : Position) × Passes setup actor other again × AreAlikePlays new again }
+    ensures back { (setup : Setup) (actor : ℕ) (one other : Position) →
+        AreAlikePlays one other → (again : Position) → Passes setup actor other again →
+        (new : Position) × Passes setup actor one new × AreAlikePlays new again }
+    ensures calls { (setup : Setup) (actor : ℕ) (one other new again : Position) →
+        AreAlikePlays one other → Reached setup one → Reached setup other →
+        Calls setup actor one new → Calls setup actor other again → AreAlikePlays new again }
+    ensures leaves { (setup : Setup) (actor : ℕ) (one other new again : Position) →
+        AreAlikePlays one other → Reached setup one → Reached setup other →
+        Leaves setup actor one new → Leaves setup actor other again → AreAlikePlays new again }
+{}
+
+/// Two plays that are alike come to alike ends: of each kept node, of each tracker, and of the pool.
+/// How far each actor is, and what was made by which step, stands in `AreAlikePlays`.
+pub fn alike_plays_end_alike()
+    ensures fates { (setup : Setup) (one other : Position) → Reached setup one →
+        (alike : AreAlikePlays one other) (key : NodeKey) →
+        fate_kept other.core (alike.to key)
+        ≡ option_map (fate_renamed alike.to) (fate_kept one.core key) }
+    ensures fired { (one other : Position) (alike : AreAlikePlays one other) (tracker : ℕ) →
+        has_fired other.core.trackers.fired (alike.number tracker)
+        ≡ has_fired one.core.trackers.fired tracker }
+    ensures free { (one other : Position) → AreAlikePlays one other →
+        (views_of other.core).free ≡ (views_of one.core).free }
+{}
+
+/// Where no turn leads out of these positions, but for names, none is missing: each play passes on to
+/// one that is alike to one of these, and is alike to it itself if all actors have passed what they can.
+/// So it is with whatever likeness by which plays do the same.
+pub fn no_play_leads_out_of_a_closed_set()
+    ensures all { (setup : Setup) (rows : List Position) → IsClosed setup AreAlikePlays rows →
+        (p : Position) → Reached setup p → IsMet setup AreAlikePlays rows p }
+    ensures rested { (setup : Setup) (rows : List Position) → IsClosed setup AreAlikePlays rows →
+        (p : Position) → Reached setup p → ((actor : ℕ) → Rests setup p actor) →
+        (row : Position) × In row rows × AreAlikePlays p row }
+    ensures like { (setup : Setup) (like : Position → Position → Bool) →
+        IsSimulation setup (λ one other. like one other ≡ true) → (rows : List Position) →
+        IsClosed setup (λ one other. like one other ≡ true) rows →
+        (p : Position) → Reached setup p → IsMet setup (λ one other. like one other ≡ true) rows p }
 {}

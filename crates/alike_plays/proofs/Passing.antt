@@ -1,0 +1,310 @@
+-- Passes of several actors, one after another, and turns between them.
+use Rattle.std.proofs.Common.{ℕ, zero, suc, ◌≡◌, ◌+◌, ◌⊎◌, inl, inr, refl, ap, sym, subst, ◌∙◌, Bool, true, false, cond}
+use Rattle.std.proofs.Common.{◌==◌, ◌&&◌, ◌||◌, not, List, [], ◌∷◌, map, Option, Some, None, is_some, slice_get, slice_set}
+use Rattle.std.proofs.lemmas.Bool.{eq-eqb, eqb-true}
+use Rattle.std.proofs.lemmas.List.{set_comm}
+use Rattle.std.proofs.lemmas.List.Folds.{list_any-append}
+use Rattle.std.specs.Option.{option_and_then, option_map, option_map_or}
+use Rattle.sm_names.specs.declared.messages.Call.{Call}
+use Rattle.sm_names.specs.declared.messages.Reply.{Reply}
+use Rattle.sm_names.specs.declared.tracking.Fired.{Fired}
+use Rattle.sm_names.proofs.SamenessLaws.{both_ways, either_way, or_left, some-injective}
+use Rattle.buffer_holds.specs.Counts.{total}
+use Rattle.trackers.specs.declared.waiting.Waiting.{Waiting}
+use Rattle.trackers.specs.Table.{TrackerTable, firings}
+use Rattle.core_state.specs.Reads.{world_in}
+use Rattle.core_state.specs.State.{State}
+use Rattle.core_state.specs.Steps.{GainsTracker, tracker_by}
+use Rattle.core_state.specs.Theorem.{Makes}
+use Rattle.actor_scripts.specs.declared.step.Step.{Step}
+use Rattle.actor_scripts.specs.ActorStates.{Known, step_call}
+use Rattle.actor_plays.specs.declared.plan.Plan.{Plan}
+use Rattle.actor_plays.specs.declared.plan.Planned.{Planned}
+use Rattle.actor_plays.specs.Leaves.{Leave}
+use Rattle.actor_plays.specs.Plans.{steps_of}
+use Rattle.actor_plays.specs.Plays.{Stage, has_fired, is_silent, left, next_step, passed, polls, stage_after}
+use Rattle.alike_plays.specs.Closed.{PassOn}
+use Rattle.alike_plays.specs.Positions.{Asks, Calls, Leaves, Passes, Position, Reached, Rests, Setup, left_at}
+
+-- ---- lists
+
+-- At another place it stays.
+get-other : {A : Type 0} (xs : List A) (i j : ℕ) (y : A) → (i ≡ j → ⊥) → slice_get (slice_set xs i y) j ≡ slice_get xs j
+get-other [] i j y apart = refl
+get-other (x ∷ xs) zero zero y apart = absurd (apart refl)
+get-other (x ∷ xs) zero (suc j) y apart = refl
+get-other (x ∷ xs) (suc i) zero y apart = refl
+get-other (x ∷ xs) (suc i) (suc j) y apart = get-other xs i j y (λ is. apart (ap suc is))
+
+-- What is the same of both elements is that of the list.
+map-set_same : {A B : Type 0} (f : A → B) (xs : List A) (i : ℕ) (x y : A) → slice_get xs i ≡ Some x → f y ≡ f x →
+    map f (slice_set xs i y) ≡ map f xs
+map-set_same f [] i x y at same = refl
+map-set_same f (z ∷ zs) zero x y at same = λ i. (same ∙ ap f (sym (some-injective z x at))) i ∷ map f zs
+map-set_same f (z ∷ zs) (suc i) x y at same = ap (λ more. f z ∷ more) (map-set_same f zs i x y at same)
+
+-- ---- trackers
+
+-- Trackers that fired stay so.
+fired_stay : (s later : State) (client : ℕ) (call : Call) (reply : Reply) → Makes s later (client, call, reply) → (n : ℕ) →
+    has_fired s.trackers.fired n ≡ true → has_fired later.trackers.fired n ≡ true
+fired_stay s later client call reply makes n fired =
+    ap (λ (t : TrackerTable). has_fired t.fired n) makes.after.trackers
+    ∙ (list_any-append (λ (f : Fired). f.tracker == n) makes.after.attached.fired now
+    ∙ or_left (has_fired makes.after.attached.fired n) (has_fired now n)
+    (by (tracker_by s.forest call reply) makes.after.attached makes.after.gains))
+  where
+    -- those that fire now
+    now : List Fired
+    now = firings (world_in makes.after.worked (total later.holds)) later.events makes.after.attached.unfired
+
+    -- by cases: one is attached, or none
+    by : (o : Option Waiting) (t : TrackerTable) → GainsTracker s.trackers o t → has_fired t.fired n ≡ true
+    by None t same = ap (λ (x : TrackerTable). has_fired x.fired n) same ∙ fired
+    by (Some w) t gains = ap (λ (x : TrackerTable). has_fired x.fired n) gains.next ∙ fired
+
+-- So a step that was passed can be passed later too.
+looks_later : (s later : State) → ((n : ℕ) → has_fired s.trackers.fired n ≡ true → has_fired later.trackers.fired n ≡ true) →
+    (known : Known) (next : Planned) → polls s.trackers.fired known next ≡ false → polls later.trackers.fired known next ≡ false
+looks_later s later stay known next = by next.waits (is_silent s.trackers.fired known next.step)
+    (is_silent later.trackers.fired known next.step) (step next.step)
+  where
+    -- by cases on what the label stands for
+    from : (o : Option ℕ) → option_map_or (λ n. not (has_fired s.trackers.fired n)) o false ≡ false →
+        option_map_or (λ n. not (has_fired later.trackers.fired n)) o false ≡ false
+    from None is = refl
+    from (Some n) is = ap not (stay n (back (has_fired s.trackers.fired n) is))
+      where
+        -- by cases
+        back : (b : Bool) → not b ≡ false → b ≡ true
+        back true none = refl
+        back false none = sym none
+
+    -- by the step
+    step : (x : Step) → is_silent s.trackers.fired known x ≡ false → is_silent later.trackers.fired known x ≡ false
+    step (Step.Ask r) is = refl
+    step (Step.Poll label) is = from (known.trackers label) is
+
+    -- by whether it waits
+    by : (waits a b : Bool) → (a ≡ false → b ≡ false) → waits && a ≡ false → waits && b ≡ false
+    by true a b on is = on is
+    by false a b on is = refl
+
+-- ---- passes
+
+module _ (setup : Setup) where
+  -- An actor passes a step in one way.
+  one_pass : (actor : ℕ) (old a b : Position) → Passes setup actor old a → Passes setup actor old b → a ≡ b
+  one_pass actor old a b p q =
+      p.after ∙ (ap (λ (stage : Stage). record old { stages = slice_set old.stages actor (passed stage) })
+      (some-injective p.stage q.stage (sym p.at ∙ q.at)) ∙ sym q.after)
+
+  -- Two actors pass in any order.
+  two_pass : (i j : ℕ) (old a b : Position) → (i ≡ j → ⊥) → Passes setup i old a → Passes setup j old b →
+      (c : Position) × Passes setup j a c × Passes setup i b c
+  two_pass i j old a b apart p q = (
+    both,
+    subst (λ (x : Position). Passes setup j x both) (sym p.after) (record {
+      stage = q.stage;
+      next = q.next;
+      at = get-other old.stages i j (passed p.stage) apart ∙ q.at;
+      step = q.step;
+      silent = q.silent;
+      looks = q.looks;
+      after = refl;
+    }),
+    subst (λ (x : Position). Passes setup i x both) (sym q.after) (record {
+      stage = p.stage;
+      next = p.next;
+      at = get-other old.stages j i (passed q.stage) (λ is. apart (sym is)) ∙ p.at;
+      step = p.step;
+      silent = p.silent;
+      looks = p.looks;
+      after = ap (λ (ss : List Stage). record old { stages = ss }) (set_comm old.stages i j (passed p.stage) (passed q.stage) apart);
+    }),
+  )
+    where
+      -- both have passed
+      both : Position
+      both = record old { stages = slice_set (slice_set old.stages i (passed p.stage)) j (passed q.stage) }
+
+  -- By induction on the passes: the actor's own is among them, since it rests then.
+  pub past : (p r : Position) → PassOn setup p r → (actor : ℕ) → Rests setup r actor → (next : Position) → Passes setup actor p next →
+      PassOn setup next r
+  past _ _ (PassOn.Stays p) actor rests next pass = absurd (rests next pass)
+  past _ _ (PassOn.Further j p mid r first on) actor rests next pass = by (either_way (actor == j)) (past mid r on actor rests)
+    where
+      -- by whether it is this one
+      by : (actor == j ≡ true) ⊎ (actor == j ≡ false) → ((x : Position) → Passes setup actor mid x → PassOn setup x r) →
+          PassOn setup next r
+      by (inl same) more = subst (λ (x : Position). PassOn setup x r)
+          (one_pass actor p mid next (subst (λ (k : ℕ). Passes setup k p mid) (sym (eqb-true actor j same)) first) pass) on
+      by (inr other) more =
+          let both = two_pass actor j p next mid (λ is. both_ways (actor == j) (eq-eqb actor j is) other) pass first in
+          PassOn.Further j next both.0 r both.1 (more both.0 both.2)
+
+  -- One after another.
+  pub further : (p q r : Position) → PassOn setup p q → PassOn setup q r → PassOn setup p r
+  further _ _ r (PassOn.Stays p) on = on
+  further _ _ r (PassOn.Further actor p mid q first then) on = PassOn.Further actor p mid r first (further mid q r then on)
+
+  -- A play comes there.
+  pub reached_on : (p r : Position) → PassOn setup p r → Reached setup p → Reached setup r
+  reached_on _ _ (PassOn.Stays p) reached = reached
+  reached_on _ _ (PassOn.Further actor p mid r first on) reached = reached_on mid r on (Reached.ByPass actor p mid reached first)
+
+  -- Passes leave the core.
+  pub same_core : (p r : Position) → PassOn setup p r → r.core ≡ p.core
+  same_core _ _ (PassOn.Stays p) = refl
+  same_core _ _ (PassOn.Further actor p mid r first on) = same_core mid r on ∙ ap (λ (x : Position). x.core) first.after
+
+  -- Who leaves passes nothing, so all that leave began to where they did.
+  same_left : (p r : Position) → PassOn setup p r → map left_at r.stages ≡ map left_at p.stages
+  same_left _ _ (PassOn.Stays p) = refl
+  same_left _ _ (PassOn.Further actor p mid r first on) =
+      same_left mid r on
+      ∙ (ap (λ (x : Position). map left_at x.stages) first.after
+      ∙ map-set_same left_at p.stages actor first.stage (passed first.stage) first.at (by first.stage.leaving first.step))
+    where
+      -- by whether it leaves
+      by : (o : Option Leave) →
+          cond (is_some o) None (option_and_then (λ (plan : Plan). slice_get (steps_of plan) first.stage.at) (slice_get setup.plans actor))
+          ≡ Some first.next → option_map (λ (l : Leave). first.stage.at + 1) o ≡ option_map (λ (l : Leave). first.stage.at) o
+      by None step = refl
+      by (Some l) step = cc
+
+  -- An actor that rests stays where it is while others pass.
+  rests_stay : (p mid : Position) (j actor : ℕ) → Passes setup j p mid → Rests setup p actor →
+      (actor ≡ j → ⊥) × (slice_get mid.stages actor ≡ slice_get p.stages actor) × Rests setup mid actor
+  rests_stay p mid j actor first rests = (
+    apart,
+    same,
+    λ new pass. rests (record p { stages = slice_set p.stages actor (passed pass.stage) }) (record {
+      stage = pass.stage;
+      next = pass.next;
+      at = sym same ∙ pass.at;
+      step = pass.step;
+      silent = pass.silent;
+      looks = subst (λ (s : State). polls s.trackers.fired pass.stage.known pass.next ≡ false) (ap (λ (x : Position). x.core) first.after)
+          pass.looks;
+      after = refl;
+    }),
+  )
+    where
+      -- it is another one
+      apart : actor ≡ j → ⊥
+      apart is = rests mid (subst (λ (k : ℕ). Passes setup k p mid) (sym is) first)
+
+      -- so it stays
+      same : slice_get mid.stages actor ≡ slice_get p.stages actor
+      same = ap (λ (x : Position). slice_get x.stages actor) first.after
+          ∙ get-other p.stages j actor (passed first.stage) (λ is. apart (sym is))
+
+  -- By induction on the passes.
+  rests_on : (p r : Position) → PassOn setup p r → (actor : ℕ) → Rests setup p actor →
+      (slice_get r.stages actor ≡ slice_get p.stages actor) × Rests setup r actor
+  rests_on _ _ (PassOn.Stays p) actor rests = (refl, rests)
+  rests_on _ _ (PassOn.Further j p mid r first on) actor rests =
+      let here = rests_stay p mid j actor first rests in
+      let more = rests_on mid r on actor here.2 in
+      (more.0 ∙ here.1, more.1)
+
+  -- What others pass before the turn of an actor they can pass behind it.
+  carry : (p r : Position) → PassOn setup p r → (actor : ℕ) → Rests setup p actor → (later : State) (new : Stage) →
+      ((n : ℕ) → has_fired p.core.trackers.fired n ≡ true → has_fired later.trackers.fired n ≡ true) →
+      PassOn setup (record { core = later; stages = slice_set p.stages actor new })
+      (record { core = later; stages = slice_set r.stages actor new })
+  carry _ _ (PassOn.Stays p) actor rests later new stay =
+      PassOn.Stays (record { core = later; stages = slice_set p.stages actor new })
+  carry _ _ (PassOn.Further j p mid r first on) actor rests later new stay =
+      PassOn.Further j (record { core = later; stages = slice_set p.stages actor new })
+      (record { core = later; stages = slice_set mid.stages actor new }) (record { core = later; stages = slice_set r.stages actor new })
+      (record {
+        stage = first.stage;
+        next = first.next;
+        at = get-other p.stages actor j new here.0 ∙ first.at;
+        step = first.step;
+        silent = first.silent;
+        looks = looks_later p.core later stay first.stage.known first.next first.looks;
+        after = ap (λ (x : Position). record { core = later; stages = slice_set x.stages actor new }) first.after
+            ∙ ap (λ (ss : List Stage). record { core = later; stages = ss })
+            (sym (set_comm p.stages actor j new (passed first.stage) here.0));
+      })
+      (carry mid r on actor here.2 later new
+      (subst (λ (s : State). (n : ℕ) → has_fired s.trackers.fired n ≡ true → has_fired later.trackers.fired n ≡ true)
+      (sym (ap (λ (x : Position). x.core) first.after)) stay))
+    where
+      -- the actor is another one, and rests
+      here : (actor ≡ j → ⊥) × (slice_get mid.stages actor ≡ slice_get p.stages actor) × Rests setup mid actor
+      here = rests_stay p mid j actor first rests
+
+  -- ---- turns
+
+  -- An actor that has a call to make passes nothing.
+  call_rests : (p : Position) (actor : ℕ) → Asks setup actor p → Rests setup p actor
+  call_rests p actor a new pass =
+      let same : a.stage ≡ pass.stage = some-injective a.stage pass.stage (sym a.at ∙ pass.at) in
+      let next : a.next ≡ pass.next = some-injective a.next pass.next
+      (sym a.step ∙ (ap (next_step setup.plans actor) same ∙ pass.step)) in
+      let none : Some a.asked ≡ None = sym a.call ∙ ((λ i. step_call setup.clients (same i).known (next i).step) ∙ pass.silent) in
+      cc
+
+  -- The call can be made behind passes of the others, who can pass behind it.
+  pub call_on : (p r : Position) → PassOn setup p r → (actor : ℕ) (new : Position) → Calls setup actor p new →
+      (later : Position) × Calls setup actor r later × PassOn setup new later
+  call_on p r on actor new c = (
+    record { core = new.core; stages = slice_set r.stages actor (stage_after c.asks.stage c.asks.next c.asks.asked c.reply) },
+    record {
+      asks = record {
+        stage = c.asks.stage;
+        next = c.asks.next;
+        asked = c.asks.asked;
+        client = c.asks.client;
+        at = (rests_on p r on actor (call_rests p actor c.asks)).0 ∙ c.asks.at;
+        step = c.asks.step;
+        call = c.asks.call;
+        caller = c.asks.caller;
+      };
+      reply = c.reply;
+      made = subst (λ (s : State). Makes s new.core (c.asks.client, c.asks.asked.call, c.reply)) (sym (same_core p r on)) c.made;
+      waits = c.waits;
+      stages = refl;
+    },
+    subst (λ (ss : List Stage). PassOn setup (record { core = new.core; stages = ss })
+        (record { core = new.core; stages = slice_set r.stages actor (stage_after c.asks.stage c.asks.next c.asks.asked c.reply) }))
+        (sym c.stages)
+        (carry p r on actor (call_rests p actor c.asks) new.core (stage_after c.asks.stage c.asks.next c.asks.asked c.reply)
+        (fired_stay p.core new.core c.asks.client c.asks.asked.call c.reply c.made)),
+  )
+
+  -- And so can the call by which an actor leaves.
+  pub leave_on : (p r : Position) → PassOn setup p r → (actor : ℕ) (new : Position) → Leaves setup actor p new →
+      (later : Position) × Leaves setup actor r later × PassOn setup new later
+  leave_on p r on actor new l = (
+    record { core = new.core; stages = slice_set r.stages actor (left l.goes.stage l.reply) },
+    record {
+      goes = record {
+        stage = l.goes.stage;
+        call = l.goes.call;
+        client = l.goes.client;
+        at = there.0 ∙ l.goes.at;
+        by = l.goes.by;
+        caller = l.goes.caller;
+        may = ap (λ (begun : List (Option ℕ)). is_some l.goes.stage.leaving || setup.may_leave begun actor l.goes.stage.at)
+            (same_left p r on)
+            ∙ l.goes.may;
+        rests = there.1;
+      };
+      reply = l.reply;
+      made = subst (λ (s : State). Makes s new.core (l.goes.client, l.goes.call, l.reply)) (sym (same_core p r on)) l.made;
+      stages = refl;
+    },
+    subst (λ (ss : List Stage). PassOn setup (record { core = new.core; stages = ss })
+        (record { core = new.core; stages = slice_set r.stages actor (left l.goes.stage l.reply) })) (sym l.stages)
+        (carry p r on actor l.goes.rests new.core (left l.goes.stage l.reply)
+        (fired_stay p.core new.core l.goes.client l.goes.call l.reply l.made)),
+  )
+    where
+      -- the actor is where it was, and rests
+      there : (slice_get r.stages actor ≡ slice_get p.stages actor) × Rests setup r actor
+      there = rests_on p r on actor l.goes.rests

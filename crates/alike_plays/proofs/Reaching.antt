@@ -1,0 +1,160 @@
+-- What holds wherever a play comes.
+use Rattle.std.proofs.Common.{ℕ, ◌≡◌, ◌≤◌, inl, inr, sym, subst, true}
+use Rattle.std.proofs.Common.{List, [], ◌∷◌, ◌++◌, slice_set}
+use Rattle.sm_names.specs.declared.keys.NodeKey.{NodeKey}
+use Rattle.sm_names.specs.declared.messages.Call.{Call}
+use Rattle.sm_names.specs.declared.messages.Reply.{Reply}
+use Rattle.sm_names.specs.Marks.{Entry}
+use Rattle.sm_names.proofs.ListLaws.{In, In-map}
+use Rattle.forest_store.specs.Forest.{given}
+use Rattle.core_state.specs.Shown.{Shows}
+use Rattle.core_state.specs.State.{State}
+use Rattle.core_state.specs.Theorem.{Makes}
+use Rattle.core_state.proofs.theorem.GoesOn.{goes_on}
+use Rattle.actor_plays.specs.declared.play.Turn.{Turn}
+use Rattle.actor_plays.specs.Plays.{Plays, Stage, first_stage, joins, left, passed, stage_after}
+use Rattle.alike_cores.proofs.Learning.{events_stay, keys_stay, reply_known}
+use Rattle.alike_cores.proofs.Told.{Tells}
+use Rattle.alike_plays.specs.Names.{KnownCall, KnownReply, KnownStage}
+use Rattle.alike_plays.specs.Positions.{Asks, Begins, Calls, Goes, Leaves, Passes, Position, Reached, Setup}
+use Rattle.alike_plays.proofs.Names.{at_in, step_known}
+use Rattle.alike_plays.proofs.NamesAfter.{In-set}
+use Rattle.alike_plays.proofs.Stages.{called_known, first_known, leaving_known, left_known, passed_known, stage_later}
+
+-- the names that the actor knows are known to the core
+abbrev pub IsKnown : State → Stage → Type 0
+IsKnown s stage = KnownStage (λ key. given s.forest key ≡ true) (λ i. i ≤ s.events) (λ n. n ≤ s.events) stage
+
+-- the core shows the history of the play, and knows the names that actors know
+pub record IsSeen (setup : Setup) (p : Position) : Type 0 where
+  pub turns : List Turn
+  pub history : List Entry
+  pub plays : Plays setup.plans setup.clients turns history p.stages
+  pub shows : Shows p.core history
+  pub known : (stage : Stage) → In stage p.stages → IsKnown p.core stage
+
+-- A core that answers a call shows the history with it.
+pub shows_on : (s later : State) (history : List Entry) (client : ℕ) (call : Call) (reply : Reply) → Shows s history →
+    Makes s later (client, call, reply) → Shows later (history ++ (client, call, reply) ∷ [])
+shows_on s later history client call reply shows makes =
+    goes_on s later client call reply makes.answer makes.after makes.room history shows
+
+-- The same names.
+told_known : (Key : NodeKey → Type 0) (Id Num : ℕ → Type 0) (r : Reply) → Tells Key Key Id Num r → KnownReply Key Id Num r
+told_known Key Id Num (Reply.Token key collection) told = told
+told_known Key Id Num _ told = told
+
+-- What was known is known.
+pub grown : (s later : State) (client : ℕ) (call : Call) (reply : Reply) → Makes s later (client, call, reply) → (stage : Stage) →
+    IsKnown s stage → IsKnown later stage
+grown s later client call reply makes = stage_later (λ key. given s.forest key ≡ true) (λ key. given later.forest key ≡ true)
+    (λ i. i ≤ s.events) (λ i. i ≤ later.events) (λ i. i ≤ s.events) (λ i. i ≤ later.events)
+    (keys_stay s later client call reply makes) (events_stay s later client call reply makes) (events_stay s later client call reply makes)
+
+-- Behind a call all actors know names that the core knows, if the caller does.
+stages_known : (s later : State) (history : List Entry) (client : ℕ) (call : Call) (reply : Reply) → Shows s history →
+    Makes s later (client, call, reply) → (stages : List Stage) → ((stage : Stage) → In stage stages → IsKnown s stage) →
+    (actor : ℕ) (new : Stage) →
+    (KnownReply (λ key. given later.forest key ≡ true) (λ i. i ≤ later.events) (λ n. n ≤ later.events) reply → IsKnown later new) →
+    (stage : Stage) → In stage (slice_set stages actor new) → IsKnown later stage
+stages_known s later history client call reply shows makes stages known actor new knows stage there =
+    elim (In-set stages actor new stage there) [
+      | inl is ↦ subst (IsKnown later) (sym is) (knows (told_known (λ key. given later.forest key ≡ true) (λ i. i ≤ later.events)
+          (λ n. n ≤ later.events) reply (reply_known s later client call reply makes history shows)))
+      | inr old ↦ grown s later client call reply makes stage (known stage old)
+    ]
+
+module _ (setup : Setup) where
+  -- the step names only what its actor knows
+  pub asks_known : (p : Position) → IsSeen setup p → (actor : ℕ) (a : Asks setup actor p) →
+      KnownCall (λ key. given p.core.forest key ≡ true) (λ i. i ≤ p.core.events) a.asked.call
+  asks_known p seen actor a = step_known (λ key. given p.core.forest key ≡ true) (λ i. i ≤ p.core.events) (λ n. n ≤ p.core.events)
+      a.stage.known (seen.known a.stage (at_in p.stages actor a.stage a.at)).known setup.clients a.next.step a.asked a.call
+
+  -- and so does the call by which an actor leaves
+  pub goes_known : (p : Position) → IsSeen setup p → (actor : ℕ) (g : Goes setup actor p) →
+      KnownCall (λ key. given p.core.forest key ≡ true) (λ i. i ≤ p.core.events) g.call
+  goes_known p seen actor g = leaving_known (λ key. given p.core.forest key ≡ true) (λ i. i ≤ p.core.events) (λ n. n ≤ p.core.events)
+      g.stage (seen.known g.stage (at_in p.stages actor g.stage g.at)) g.call g.by
+
+  -- At the start no actor knows a name.
+  begins_seen : (p : Position) → Begins setup p → IsSeen setup p
+  begins_seen p b = record {
+    turns = [];
+    history = joins setup.clients;
+    plays = subst (Plays setup.plans setup.clients [] (joins setup.clients)) (sym b.stages) (Plays.Starts b.count);
+    shows = b.shows;
+    known = λ stage there.
+        let c = In-map (λ (client : ℕ). first_stage) setup.clients stage (subst (In stage) b.stages there) in
+        subst (IsKnown p.core) (sym c.2)
+        (first_known (λ key. given p.core.forest key ≡ true) (λ i. i ≤ p.core.events) (λ n. n ≤ p.core.events));
+  }
+
+  -- A pass changes no name.
+  pass_seen : (actor : ℕ) (old new : Position) → IsSeen setup old → Passes setup actor old new → IsSeen setup new
+  pass_seen actor old new seen pass = subst (IsSeen setup) (sym pass.after) (record {
+    turns = seen.turns;
+    history = seen.history;
+    plays = Plays.Passes seen.turns seen.history old.stages actor pass.stage pass.next old.core seen.plays pass.at pass.step pass.silent
+        seen.shows pass.looks;
+    shows = seen.shows;
+    known = λ stage there. elim (In-set old.stages actor (passed pass.stage) stage there) [
+      | inl is ↦ subst (IsKnown old.core) (sym is)
+          (passed_known (λ key. given old.core.forest key ≡ true) (λ i. i ≤ old.core.events) (λ n. n ≤ old.core.events) pass.stage
+          (seen.known pass.stage (at_in old.stages actor pass.stage pass.at)))
+      | inr other ↦ seen.known stage other
+    ];
+  })
+
+  -- By the reply.
+  call_seen : (actor : ℕ) (old new : Position) → IsSeen setup old → Calls setup actor old new → IsSeen setup new
+  call_seen actor old new seen c = record {
+    turns = seen.turns ++ Turn.Step actor ∷ [];
+    history = seen.history ++ (c.asks.client, c.asks.asked.call, c.reply) ∷ [];
+    plays = subst (Plays setup.plans setup.clients (seen.turns ++ Turn.Step actor ∷ [])
+        (seen.history ++ (c.asks.client, c.asks.asked.call, c.reply) ∷ [])) (sym c.stages)
+        (Plays.Calls seen.turns seen.history old.stages actor c.asks.client c.asks.stage c.asks.next c.asks.asked c.reply seen.plays
+        c.asks.at c.asks.step c.asks.call c.asks.caller c.waits);
+    shows = shows_on old.core new.core seen.history c.asks.client c.asks.asked.call c.reply seen.shows c.made;
+    known = λ stage there. stages_known old.core new.core seen.history c.asks.client c.asks.asked.call c.reply seen.shows c.made old.stages
+        seen.known actor (stage_after c.asks.stage c.asks.next c.asks.asked c.reply)
+        (called_known (λ key. given new.core.forest key ≡ true) (λ i. i ≤ new.core.events) (λ n. n ≤ new.core.events) c.asks.stage
+        c.asks.next c.asks.asked c.reply
+        (grown old.core new.core c.asks.client c.asks.asked.call c.reply c.made c.asks.stage
+        (seen.known c.asks.stage (at_in old.stages actor c.asks.stage c.asks.at)))
+        (call_grown (asks_known old seen actor c.asks)))
+        stage (subst (In stage) c.stages there);
+  }
+    where
+      -- what the call names is known
+      call_grown : KnownCall (λ key. given old.core.forest key ≡ true) (λ i. i ≤ old.core.events) c.asks.asked.call →
+          KnownCall (λ key. given new.core.forest key ≡ true) (λ i. i ≤ new.core.events) c.asks.asked.call
+      call_grown known = (
+        λ key is. keys_stay old.core new.core c.asks.client c.asks.asked.call c.reply c.made key (known.0 key is),
+        λ b is. events_stay old.core new.core c.asks.client c.asks.asked.call c.reply c.made b.collection (known.1 b is),
+      )
+
+  -- And so.
+  leave_seen : (actor : ℕ) (old new : Position) → IsSeen setup old → Leaves setup actor old new → IsSeen setup new
+  leave_seen actor old new seen l = record {
+    turns = seen.turns ++ Turn.Leave actor ∷ [];
+    history = seen.history ++ (l.goes.client, l.goes.call, l.reply) ∷ [];
+    plays = subst (Plays setup.plans setup.clients (seen.turns ++ Turn.Leave actor ∷ [])
+        (seen.history ++ (l.goes.client, l.goes.call, l.reply) ∷ [])) (sym l.stages)
+        (Plays.Leaves seen.turns seen.history old.stages actor l.goes.client l.goes.stage l.goes.call l.reply seen.plays l.goes.at l.goes.by
+        l.goes.caller);
+    shows = shows_on old.core new.core seen.history l.goes.client l.goes.call l.reply seen.shows l.made;
+    known = λ stage there. stages_known old.core new.core seen.history l.goes.client l.goes.call l.reply seen.shows l.made old.stages
+        seen.known actor (left l.goes.stage l.reply)
+        (left_known (λ key. given new.core.forest key ≡ true) (λ i. i ≤ new.core.events) (λ n. n ≤ new.core.events) l.goes.stage l.reply
+        (grown old.core new.core l.goes.client l.goes.call l.reply l.made l.goes.stage
+        (seen.known l.goes.stage (at_in old.stages actor l.goes.stage l.goes.at))))
+        stage (subst (In stage) l.stages there);
+  }
+
+  -- By induction on the turns.
+  pub reached_seen : (p : Position) → Reached setup p → IsSeen setup p
+  reached_seen _ (Reached.Starts p begins) = begins_seen p begins
+  reached_seen _ (Reached.ByPass actor old new before pass) = pass_seen actor old new (reached_seen old before) pass
+  reached_seen _ (Reached.ByCall actor old new before call) = call_seen actor old new (reached_seen old before) call
+  reached_seen _ (Reached.ByLeave actor old new before leave) = leave_seen actor old new (reached_seen old before) leave

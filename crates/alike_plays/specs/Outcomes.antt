@@ -1,0 +1,18 @@
+-- What became of nodes, under other names.
+use Rattle.std.specs.Prelude.{Option}
+use Rattle.std.specs.Option.{option_map}
+use Rattle.sm_names.specs.declared.keys.NodeKey.{NodeKey}
+use Rattle.forest_store.specs.Forest.{node_at}
+use Rattle.core_state.specs.State.{State}
+use Rattle.actor_plays.specs.declared.ending.Fate.{Fate}
+use Rattle.actor_plays.specs.Fates.{fate_of}
+use Rattle.name_laws.specs.Renamed.{fault_renamed}
+
+-- the fate, with the new key of the node at which a failure began
+abbrev pub fate_renamed : (NodeKey → NodeKey) → Fate → Fate
+fate_renamed to (Fate.Failed fault) = Fate.Failed (fault_renamed to fault)
+fate_renamed to fate = fate
+
+-- what became of a node that is kept
+abbrev pub fate_kept : State → NodeKey → Option Fate
+fate_kept s key = option_map fate_of (node_at s.forest key)

@@ -1,0 +1,129 @@
+-- Plays of actors on cores, turn by turn, and which of them are alike but for names.
+use Rattle.std.specs.Prelude.{◌≡◌, ℕ, ⊤, Bool, true, false, ◌||◌, ◌&&◌, List, [], ◌∷◌, length, map, slice_get, slice_set}
+use Rattle.std.specs.Prelude.{Option, Some, None, is_some}
+use Rattle.std.specs.Option.{option_map}
+use Rattle.sm_names.specs.declared.keys.NodeKey.{NodeKey}
+use Rattle.sm_names.specs.declared.messages.Call.{Call}
+use Rattle.sm_names.specs.declared.messages.Reply.{Reply}
+use Rattle.sm_names.specs.Bounds.{Bound}
+use Rattle.core_state.specs.Shown.{Shows}
+use Rattle.core_state.specs.State.{State}
+use Rattle.core_state.specs.Theorem.{Makes}
+use Rattle.actor_scripts.specs.declared.object.StepCall.{StepCall}
+use Rattle.actor_scripts.specs.ActorStates.{step_call}
+use Rattle.actor_plays.specs.declared.plan.Plan.{Plan}
+use Rattle.actor_plays.specs.declared.plan.Planned.{Planned}
+use Rattle.actor_plays.specs.Leaves.{Leave}
+use Rattle.actor_plays.specs.Plays.{Stage, first_stage, is_wait, joins, leaves_by, left, next_step, passed, polls, stage_after}
+use Rattle.name_laws.specs.Alike.{KeepsIds}
+use Rattle.name_laws.specs.Renamed.{KeepsKeys}
+use Rattle.alike_cores.specs.Cores.{AreAlikeCores}
+use Rattle.alike_plays.specs.Actors.{AreAlikeStages}
+
+-- what is given for plays: the pages of the pool, the limits, the actors' plans and clients, and which actor may begin to leave.
+-- This is told by where each actor that leaves began to, the place of the actor, and how many steps are behind it
+pub record Setup : Type 0 where
+  pub pool : ℕ
+  pub limits : Bound
+  pub plans : List Plan
+  pub clients : List ℕ
+  pub may_leave : List (Option ℕ) → ℕ → ℕ → Bool
+
+-- where a play is: its core, and how far each actor is
+pub record Position : Type 0 where
+  pub core : State
+  pub stages : List Stage
+
+-- how many steps were behind the actor when it began to leave, if it leaves
+abbrev pub left_at : Stage → Option ℕ
+left_at stage = option_map (λ (l : Leave). stage.at) stage.leaving
+
+-- the actor may leave, or go on to
+abbrev pub may_go : Setup → Position → ℕ → Stage → Bool
+may_go setup p actor stage = is_some stage.leaving || setup.may_leave (map left_at p.stages) actor stage.at
+
+-- the actor passes its next step: it makes no call, and does not wait for a tracker to fire
+pub record Passes (setup : Setup) (actor : ℕ) (old new : Position) : Type 0 where
+  pub stage : Stage
+  pub next : Planned
+  pub at : slice_get old.stages actor ≡ Some stage
+  pub step : next_step setup.plans actor stage ≡ Some next
+  pub silent : step_call setup.clients stage.known next.step ≡ None
+  pub looks : polls old.core.trackers.fired stage.known next ≡ false
+  pub after : new ≡ record old { stages = slice_set old.stages actor (passed stage) }
+
+-- the actor has passed all steps that it can
+abbrev pub Rests : Setup → Position → ℕ → Type 0
+Rests setup p actor = (new : Position) → Passes setup actor p new → ⊥
+
+-- the next step of the actor makes this call
+pub record Asks (setup : Setup) (actor : ℕ) (p : Position) : Type 0 where
+  pub stage : Stage
+  pub next : Planned
+  pub asked : StepCall
+  pub client : ℕ
+  pub at : slice_get p.stages actor ≡ Some stage
+  pub step : next_step setup.plans actor stage ≡ Some next
+  pub call : step_call setup.clients stage.known next.step ≡ Some asked
+  pub caller : slice_get setup.clients actor ≡ Some client
+
+-- the core answers that call so; if the step waits, something was there for it
+pub record Calls (setup : Setup) (actor : ℕ) (old new : Position) : Type 0 where
+  pub asks : Asks setup actor old
+  pub reply : Reply
+  pub made : Makes old.core new.core (asks.client, asks.asked.call, reply)
+  pub waits : asks.next.waits && is_wait reply ≡ false
+  pub stages : new.stages ≡ slice_set old.stages actor (stage_after asks.stage asks.next asks.asked reply)
+
+-- the actor, which may, leaves by this call, or goes on to. Before it begins to, it passes all steps that it can
+pub record Goes (setup : Setup) (actor : ℕ) (p : Position) : Type 0 where
+  pub stage : Stage
+  pub call : Call
+  pub client : ℕ
+  pub at : slice_get p.stages actor ≡ Some stage
+  pub by : leaves_by stage ≡ Some call
+  pub caller : slice_get setup.clients actor ≡ Some client
+  pub may : may_go setup p actor stage ≡ true
+  pub rests : Rests setup p actor
+
+-- the core answers that call so
+pub record Leaves (setup : Setup) (actor : ℕ) (old new : Position) : Type 0 where
+  pub goes : Goes setup actor old
+  pub reply : Reply
+  pub made : Makes old.core new.core (goes.client, goes.call, reply)
+  pub stages : new.stages ≡ slice_set old.stages actor (left goes.stage reply)
+
+-- a core shows that all clients joined and nothing else happened, and no step is behind an actor
+pub record Begins (setup : Setup) (p : Position) : Type 0 where
+  pub pool : p.core.pool ≡ setup.pool
+  pub limits : p.core.limits ≡ setup.limits
+  pub shows : Shows p.core (joins setup.clients)
+  pub count : length setup.clients ≡ length setup.plans
+  pub stages : p.stages ≡ map (λ client. first_stage) setup.clients
+
+-- a play of the actors on a core came here
+pub data Reached (setup : Setup) : Position → Type 0 where
+  Starts : (p : Position) → Begins setup p → Reached setup p
+  ByPass : (actor : ℕ) (old new : Position) → Reached setup old → Passes setup actor old new → Reached setup new
+  ByCall : (actor : ℕ) (old new : Position) → Reached setup old → Calls setup actor old new → Reached setup new
+  ByLeave : (actor : ℕ) (old new : Position) → Reached setup old → Leaves setup actor old new → Reached setup new
+
+-- ---- alike
+
+-- each actor of the second is where the one of its place in the first is, under other names
+abbrev pub AreAlikeAll : (NodeKey → NodeKey) → (ℕ → ℕ) → (ℕ → ℕ) → List Stage → List Stage → Type 0
+AreAlikeAll to id number [] [] = ⊤
+AreAlikeAll to id number [] (other ∷ others) = ⊥
+AreAlikeAll to id number (one ∷ ones) [] = ⊥
+AreAlikeAll to id number (one ∷ ones) (other ∷ others) = AreAlikeStages to id number one other × AreAlikeAll to id number ones others
+
+-- there are names under which the cores are alike, and the actors too; no two names become one
+pub record AreAlikePlays (one other : Position) : Type 0 where
+  pub to : NodeKey → NodeKey
+  pub id : ℕ → ℕ
+  pub number : ℕ → ℕ
+  pub keeps : KeepsKeys to
+  pub kept : KeepsIds id
+  pub counted : KeepsIds number
+  pub cores : AreAlikeCores to id number one.core other.core
+  pub stages : AreAlikeAll to id number one.stages other.stages
