@@ -1,3 +1,4 @@
+pub mod Changes
 pub mod Outcomes
 pub mod Searches
 pub mod Vanishings

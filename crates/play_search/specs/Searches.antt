@@ -12,6 +12,7 @@ use Rattle.play_search.specs.declared.graph.Graph.{Graph}
 use Rattle.play_search.specs.declared.replay.Setting.{Setting}
 use Rattle.play_search.specs.declared.exploring.Found.{Found}
 use Rattle.play_search.specs.declared.vanishing.Vanishing.{Vanishing}
+use Rattle.play_search.specs.Changes.{changes}
 use Rattle.play_search.specs.Outcomes.{IsOutcome}
 use Rattle.play_search.specs.Vanishings.{is_allowed, must_leave, vanished}
 
@@ -60,7 +61,7 @@ HaveNoTurn plans vanishing setting turns actors =
     (actor : ℕ) → actor < actors → HasNoTurn plans vanishing setting turns actor
 
 -- a play with these turns and entries has this outcome, and no actor has another turn. Those that left before their end are
--- these, and they might
+-- these, and they might. So many times the actor changes
 pub record IsFound (plans : List Plan) (vanishing : Vanishing) (setting : Setting) (found : Found) : Type 0 where
   pub play : Play
   pub replay : IsReplay plans setting found.turns.items play
@@ -70,3 +71,4 @@ pub record IsFound (plans : List Plan) (vanishing : Vanishing) (setting : Settin
   pub entries : found.entries.items ≡ play.entries.items
   pub vanished_are : found.vanished.items ≡ vanished vanishing.at_end plans (stages_of play)
   pub allowed : is_allowed vanishing found.vanished.items ≡ true
+  pub changes_are : found.figures.changes ≡ changes found.turns.items

@@ -2,11 +2,13 @@
 ghost use Rattle.std.specs.Prelude.{◌≡◌, ◌≤◌, All, IfOk, OnOk, length, true, vec_len};
 ghost use Rattle.sm_names.specs.declared.rules.TheConstants.{MAX_PAGES};
 ghost use Rattle.actor_plays.specs.Plays.{stages_of};
+ghost use Rattle.play_search.specs.Changes.{changes};
 ghost use Rattle.play_search.specs.Outcomes.{IsOutcome};
 ghost use Rattle.play_search.specs.Searches.{HaveNoTurn, IsFound, IsPool, IsReplay, IsTold};
 ghost use Rattle.play_search.specs.Vanishings.{is_allowed, vanished};
 
 use crate::births::bases_of;
+use crate::changes::changes_in;
 use crate::fault::ExploreFault;
 use crate::graph::{Graph, graph_of};
 use crate::next::Group;
@@ -40,7 +42,7 @@ pub struct Found {
 #[derive(Clone, Copy)]
 pub struct Figures {
     /// How many times the actor changes, the first turn among them.
-    pub changes: u32,
+    pub changes: usize,
     /// The number of the first call, from 1, behind which no other outcome is possible; 0 if there never is another, or
     /// another is possible to the end.
     pub decided: usize,
@@ -63,11 +65,12 @@ pub struct Exploration {
     pub orders: f64,
 }
 
-// An outcome to be shown: the turns of its play.
+// An outcome to be shown: the turns of its play, and the other figures.
 #[derive(Drop)]
 struct Goal {
     turns: Vec<Turn>,
-    figures: Figures,
+    decided: usize,
+    share: f64,
 }
 
 // What the search met.
@@ -196,14 +199,10 @@ fn goal_at(
     share: f64,
 ) -> Result<Goal, AllocError> {
     let turns = ways.turns_to(alloc, at)?;
-    let figures = Figures {
-        changes: ways.best(at).changes,
-        decided: decided_at(lefts, &turns),
-        share,
-    };
     Ok(Goal {
         turns: made_turns(alloc, &turns)?,
-        figures,
+        decided: decided_at(lefts, &turns),
+        share,
     })
 }
 
@@ -260,16 +259,22 @@ fn found_of(
     ensures entries { IfOk result (λ found. found.entries.items ≡ play.now.entries.items) }
     ensures vanished { IfOk result (λ found. found.vanished.items ≡ vanished.items) }
     ensures outcome { IfOk result (λ found. IsOutcome play.now found.outcome) }
+    ensures changes { IfOk result (λ found. found.figures.changes ≡ changes goal.now.turns.items) }
 {
     let turns = goal.turns.clone()?;
     let entries = entries_of(alloc, play)?;
     let outcome = outcome_of(alloc, play)?;
+    let figures = Figures {
+        changes: changes_in(&goal.turns),
+        decided: goal.decided,
+        share: goal.share,
+    };
     Ok(Found {
         turns,
         entries,
         vanished,
         outcome,
-        figures: goal.figures,
+        figures,
     })
 }
 

@@ -2,6 +2,7 @@
 #![tactic(auto)]
 
 mod births;
+mod changes;
 mod exploring;
 mod falls;
 mod fault;

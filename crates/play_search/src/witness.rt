@@ -10,8 +10,8 @@ use std::alloc::{AllocError, Global};
 // comes from, the actor of the turn before the last, and the number of the last turn.
 #[derive(Clone, Copy)]
 pub(crate) struct Way {
-    pub(crate) calls: u32,
-    pub(crate) changes: u32,
+    calls: u32,
+    changes: u32,
     from: u32,
     last: u32,
     turn: u32,
@@ -113,7 +113,7 @@ impl Ways {
     }
 
     // The best way to the value.
-    pub(crate) fn best(&self, at: usize) -> Way {
+    fn best(&self, at: usize) -> Way {
         self.way(at, self.best_last(at))
     }
 

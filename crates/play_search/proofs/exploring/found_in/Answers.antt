@@ -1,4 +1,5 @@
-use Rattle.std.proofs.Common.{◌≡◌, ◌∙◌, subst, sym, true, length}
+use Rattle.std.proofs.Common.{◌≡◌, ◌∙◌, ap, subst, sym, true, length}
+use Rattle.play_search.specs.Changes.{changes}
 use Rattle.play_search.specs.Searches.{HaveNoTurn, IsReplay}
 use Rattle.play_search.specs.Vanishings.{is_allowed}
 use Rattle.play_search.proofs.exploring.found_in.Goals as goal
@@ -20,4 +21,5 @@ returns c =
       entries = shown.entries;
       vanished_are = shown.vanished ∙ c.in_ok-vanished.ensures.are;
       allowed = subst (λ places. is_allowed vanishing places ≡ true) (sym shown.vanished) c.in_ok-vanished.ensures.allowed;
+      changes_are = shown.changes ∙ ap changes (sym shown.turns);
     }
