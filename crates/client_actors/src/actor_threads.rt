@@ -85,30 +85,36 @@ fn run_all<
     );
 }
 
+// The lists of a run, with a place for each actor: the ids of the clients, the actors, and what is answered, their ends or,
+// if none starts, their parts.
+struct Lists<E: Setup, S: Ledger, W: Ledger> {
+    clients: Vec<ClientId>,
+    actors: Vec<Option<ActorEnd<E, S, W>>>,
+    ends: Vec<ActorEnd<E, S, W>>,
+    parts: Vec<Holding<E, S, W>>,
+}
+
 // Makes room in empty lists for this many actors.
 fn make_room<E: Setup, S: Ledger, W: Ledger>(
     state: &State<E, S, W>,
     count: usize,
-    clients: &mut Vec<ClientId>,
-    actors: &mut Vec<Option<ActorEnd<E, S, W>>>,
-    ends: &mut Vec<ActorEnd<E, S, W>>,
-    parts: &mut Vec<Holding<E, S, W>>,
+    lists: &mut Lists<E, S, W>,
 ) -> Result<(), StepFault>
-    requires none { (clients.old.items ≡ []) × (actors.old.items ≡ []) × (ends.old.items ≡ [])
-        × (parts.old.items ≡ []) }
-    ensures none { (clients.new.items ≡ []) × (actors.new.items ≡ []) × (ends.new.items ≡ [])
-        × (parts.new.items ≡ []) }
-    ensures clients { OnOk result (count ≤ vec_capacity clients.new) }
-    ensures actors { OnOk result (count ≤ vec_capacity actors.new) }
-    ensures ends { OnOk result (count ≤ vec_capacity ends.new) }
-    ensures parts { OnOk result (count ≤ vec_capacity parts.new) }
+    requires none { (lists.old.clients.items ≡ []) × (lists.old.actors.items ≡ [])
+        × (lists.old.ends.items ≡ []) × (lists.old.parts.items ≡ []) }
+    ensures none { (lists.new.clients.items ≡ []) × (lists.new.actors.items ≡ [])
+        × (lists.new.ends.items ≡ []) × (lists.new.parts.items ≡ []) }
+    ensures clients { OnOk result (count ≤ vec_capacity lists.new.clients) }
+    ensures actors { OnOk result (count ≤ vec_capacity lists.new.actors) }
+    ensures ends { OnOk result (count ≤ vec_capacity lists.new.ends) }
+    ensures parts { OnOk result (count ≤ vec_capacity lists.new.parts) }
     ensures full { IfErr result (λ f. (f ≡ Fault.HistoryFull)
         ↔ (state.now.limits.events ≤ length state.now.history)) }
 {
-    if clients.reserve(count).is_err()
-        || actors.reserve(count).is_err()
-        || ends.reserve(count).is_err()
-        || parts.reserve(count).is_err()
+    if lists.clients.reserve(count).is_err()
+        || lists.actors.reserve(count).is_err()
+        || lists.ends.reserve(count).is_err()
+        || lists.parts.reserve(count).is_err()
     {
         return Err(memory_fault(state));
     }
@@ -120,22 +126,19 @@ fn room_for<E: Setup, S: Ledger, W: Ledger, R: Wait>(
     rt: &R,
     service: &Service<E, S, W>,
     count: usize,
-    clients: &mut Vec<ClientId>,
-    actors: &mut Vec<Option<ActorEnd<E, S, W>>>,
-    ends: &mut Vec<ActorEnd<E, S, W>>,
-    parts: &mut Vec<Holding<E, S, W>>,
+    lists: &mut Lists<E, S, W>,
 ) -> Result<(), StepFault>
-    requires none { (clients.old.items ≡ []) × (actors.old.items ≡ []) × (ends.old.items ≡ [])
-        × (parts.old.items ≡ []) }
-    ensures none { (clients.new.items ≡ []) × (actors.new.items ≡ []) × (ends.new.items ≡ [])
-        × (parts.new.items ≡ []) }
-    ensures clients { OnOk result (count ≤ vec_capacity clients.new) }
-    ensures actors { OnOk result (count ≤ vec_capacity actors.new) }
-    ensures ends { OnOk result (count ≤ vec_capacity ends.new) }
-    ensures parts { OnOk result (count ≤ vec_capacity parts.new) }
+    requires none { (lists.old.clients.items ≡ []) × (lists.old.actors.items ≡ [])
+        × (lists.old.ends.items ≡ []) × (lists.old.parts.items ≡ []) }
+    ensures none { (lists.new.clients.items ≡ []) × (lists.new.actors.items ≡ [])
+        × (lists.new.ends.items ≡ []) × (lists.new.parts.items ≡ []) }
+    ensures clients { OnOk result (count ≤ vec_capacity lists.new.clients) }
+    ensures actors { OnOk result (count ≤ vec_capacity lists.new.actors) }
+    ensures ends { OnOk result (count ≤ vec_capacity lists.new.ends) }
+    ensures parts { OnOk result (count ≤ vec_capacity lists.new.parts) }
 {
     let guard = service.lock(rt);
-    make_room(guard.state(), count, clients, actors, ends, parts)
+    make_room(guard.state(), count, lists)
 }
 
 // Joins this many clients, in order.
@@ -257,19 +260,19 @@ pub fn run_actors<
     ensures few { IfErr result (λ e. vec_len e.0 ≤ length scripts.now) }
 {
     let count = scripts.len();
-    let mut clients = Vec::new(alloc);
-    let mut actors = Vec::new(alloc);
-    let mut ends = Vec::new(alloc);
-    let mut parts = Vec::new(alloc);
-    let made = room_for(
-        rt,
-        service,
-        count,
-        &mut clients,
-        &mut actors,
-        &mut ends,
-        &mut parts,
-    );
+    let mut lists = Lists {
+        clients: Vec::new(alloc),
+        actors: Vec::new(alloc),
+        ends: Vec::new(alloc),
+        parts: Vec::new(alloc),
+    };
+    let made = room_for(rt, service, count, &mut lists);
+    let Lists {
+        mut clients,
+        mut actors,
+        ends,
+        parts,
+    } = lists;
     if let Err(fault) = made {
         actors.destroy_empty();
         ends.destroy_empty();

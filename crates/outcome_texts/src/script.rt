@@ -183,24 +183,6 @@ fn runs_words(alloc: Global, telling: &Telling<'_>, found: &Found) -> Result<Vec
     }
 }
 
-// Appends the play of this outcome, of whose runs this is said.
-fn push_told(
-    alloc: Global,
-    text: &mut Vec<u8>,
-    telling: &Telling<'_>,
-    found: &Found,
-    rank: u64,
-    outcomes: usize,
-    said: &[u8],
-) -> Result<(), AllocError>
-    ensures { OnOk result (text.new.items
-        ≡ text.old.items ++ play_text telling.now found.now rank outcomes said.now) }
-{
-    let calls = calls_of(alloc, found)?;
-    push_head(text, telling, found, rank, outcomes, said)?;
-    push_lines(text, telling, found, &calls, rank)
-}
-
 /// Appends the play of this outcome, which has this number among so many, as a script for all clients: a remark on it,
 /// the joins, and a line for each call in the order of the turns, with a remark behind the one after which no other
 /// outcome is possible. A call by which a client leaves is a `shut`, a `collect`, a `close` or a `droph`: a node is called
@@ -219,5 +201,7 @@ pub fn push_play(
     ensures { OnOk result (AppendsPlay telling.now found.now rank outcomes text.old.items text.new.items) }
 {
     let said = runs_words(alloc, telling, found)?;
-    push_told(alloc, text, telling, found, rank, outcomes, &said)
+    let calls = calls_of(alloc, found)?;
+    push_head(text, telling, found, rank, outcomes, &said)?;
+    push_lines(text, telling, found, &calls, rank)
 }

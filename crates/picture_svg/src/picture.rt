@@ -16,7 +16,7 @@ use crate::bars::Extent;
 use crate::box_lines::node_lines;
 use crate::elements::{MARGIN, Rect, Style, bold, colored, plain, push_rect, push_words};
 use crate::legend::push_legend;
-use crate::tree::push_trees;
+use crate::tree::{Sheet, push_trees};
 use event_facts::fired_since;
 use event_texts::EventWriter;
 use event_texts::words::push_name;
@@ -125,15 +125,13 @@ fn push_all_trees(
     let clients = event_writer.session.core.clients()?;
     let travels = travels_by_node(*body.allocator(), &picture.travels)?;
     let width = box_width(event_writer, &picture.trees)?;
-    let extent = push_trees(
-        body,
+    let sheet = Sheet {
         event_writer,
-        &clients,
-        &picture.trees,
-        &travels,
+        clients: &clients,
+        travels: &travels,
         width,
-        row,
-    )?;
+    };
+    let extent = push_trees(body, &sheet, &picture.trees, row)?;
     Ok(extent)
 }
 

@@ -34,41 +34,44 @@ pub(crate) fn dashes_of(class: Class) -> &'static str
     }
 }
 
-// Draws these trees one below the other, from this row on, where a box has this width; answers the row below
-// them, and their last column.
+// What the trees of a picture are drawn with: the session, its clients, the links that failures followed, and the width of
+// a box.
+#[derive(Clone, Copy)]
+pub(crate) struct Sheet<'a> {
+    pub(crate) event_writer: &'a EventWriter,
+    pub(crate) clients: &'a Vec<ClientId>,
+    pub(crate) travels: &'a KeyMap<Travel>,
+    pub(crate) width: u64,
+}
+
+// Draws these trees one below the other, from this row on; answers the row below them, and their last column.
 pub(crate) fn push_trees(
     body: &mut Vec<u8>,
-    event_writer: &EventWriter,
-    clients: &Vec<ClientId>,
+    sheet: &Sheet<'_>,
     trees: &[Tree],
-    travels: &KeyMap<Travel>,
-    width: u64,
     row: u64,
 ) -> Result<Extent, AllocError>
-    ensures text { OnOk result ((names : Names) → Keeps event_writer.now.session.tables names →
-        Calls event_writer.now.labels names → (steps : List Step) → FindsTravels travels.now steps →
-        body.new.items ≡ body.old.items ++ svg_trees event_writer.now.session.core names
-        clients.now.items steps width row trees.now) }
-    ensures bottom { IfOk result (λ extent. (names : Names) → Keeps event_writer.now.session.tables names →
-        Calls event_writer.now.labels names → extent.bottom
-        ≡ trees_bottom event_writer.now.session.core names clients.now.items width row trees.now) }
-    ensures right { IfOk result (λ extent. (names : Names) → Keeps event_writer.now.session.tables names →
-        Calls event_writer.now.labels names → extent.right
-        ≡ trees_right event_writer.now.session.core names clients.now.items width row 0 trees.now) }
+    ensures text { OnOk result ((names : Names) → Keeps sheet.now.event_writer.now.session.tables names →
+        Calls sheet.now.event_writer.now.labels names → (steps : List Step) →
+        FindsTravels sheet.now.travels.now steps →
+        body.new.items ≡ body.old.items ++ svg_trees sheet.now.event_writer.now.session.core names
+        sheet.now.clients.now.items steps sheet.now.width row trees.now) }
+    ensures bottom { IfOk result (λ extent. (names : Names) →
+        Keeps sheet.now.event_writer.now.session.tables names →
+        Calls sheet.now.event_writer.now.labels names → extent.bottom
+        ≡ trees_bottom sheet.now.event_writer.now.session.core names sheet.now.clients.now.items
+        sheet.now.width row trees.now) }
+    ensures right { IfOk result (λ extent. (names : Names) →
+        Keeps sheet.now.event_writer.now.session.tables names →
+        Calls sheet.now.event_writer.now.labels names → extent.right
+        ≡ trees_right sheet.now.event_writer.now.session.core names sheet.now.clients.now.items
+        sheet.now.width row 0 trees.now) }
 {
     let mut bottom = row;
     let mut right: u64 = 0;
     let mut rest = trees;
     'trees: while let Some((tree, later)) = rest.split_first() {
-        let extent = push_tree(
-            body,
-            event_writer,
-            clients,
-            tree,
-            travels,
-            width,
-            Extent { bottom, right },
-        )?;
+        let extent = push_tree(body, sheet, tree, Extent { bottom, right })?;
         bottom = extent.bottom;
         right = extent.right;
         rest = later;
@@ -80,27 +83,36 @@ pub(crate) fn push_trees(
 // column.
 fn push_tree(
     body: &mut Vec<u8>,
-    event_writer: &EventWriter,
-    clients: &Vec<ClientId>,
+    sheet: &Sheet<'_>,
     tree: &Tree,
-    travels: &KeyMap<Travel>,
-    width: u64,
     above: Extent,
 ) -> Result<Extent, AllocError>
-    ensures text { OnOk result ((names : Names) → Keeps event_writer.now.session.tables names →
-        Calls event_writer.now.labels names → (steps : List Step) → FindsTravels travels.now steps →
-        body.new.items ≡ body.old.items ++ svg_tree event_writer.now.session.core names
-        clients.now.items steps width above.bottom tree.now) }
-    ensures bottom { IfOk result (λ extent. (names : Names) → Keeps event_writer.now.session.tables names →
-        Calls event_writer.now.labels names → extent.bottom
-        ≡ tree_bottom event_writer.now.session.core names clients.now.items width above.bottom tree.now) }
-    ensures right { IfOk result (λ extent. (names : Names) → Keeps event_writer.now.session.tables names →
-        Calls event_writer.now.labels names → extent.right ≡ tree_right event_writer.now.session.core names
-        clients.now.items width above.bottom above.right tree.now) }
+    ensures text { OnOk result ((names : Names) → Keeps sheet.now.event_writer.now.session.tables names →
+        Calls sheet.now.event_writer.now.labels names → (steps : List Step) →
+        FindsTravels sheet.now.travels.now steps →
+        body.new.items ≡ body.old.items ++ svg_tree sheet.now.event_writer.now.session.core names
+        sheet.now.clients.now.items steps sheet.now.width above.bottom tree.now) }
+    ensures bottom { IfOk result (λ extent. (names : Names) →
+        Keeps sheet.now.event_writer.now.session.tables names →
+        Calls sheet.now.event_writer.now.labels names → extent.bottom
+        ≡ tree_bottom sheet.now.event_writer.now.session.core names sheet.now.clients.now.items
+        sheet.now.width above.bottom tree.now) }
+    ensures right { IfOk result (λ extent. (names : Names) →
+        Keeps sheet.now.event_writer.now.session.tables names →
+        Calls sheet.now.event_writer.now.labels names → extent.right
+        ≡ tree_right sheet.now.event_writer.now.session.core names sheet.now.clients.now.items
+        sheet.now.width above.bottom above.right tree.now) }
 {
-    let below = push_nodes(body, event_writer, tree, travels, width, above)?;
-    let bars = bars_of(event_writer, clients, tree)?;
-    let extent = push_bars(body, &bars, width, below.bottom, below.right)?;
+    let below = push_nodes(
+        body,
+        sheet.event_writer,
+        tree,
+        sheet.travels,
+        sheet.width,
+        above,
+    )?;
+    let bars = bars_of(sheet.event_writer, sheet.clients, tree)?;
+    let extent = push_bars(body, &bars, sheet.width, below.bottom, below.right)?;
     Ok(Extent {
         bottom: plus(extent.bottom, 26),
         right: extent.right,

@@ -26,7 +26,7 @@ use report_io::{
     ReportFault, Sought, behind, fault_of, is_indented, put_out, read_script, unended,
 };
 use script_labels::{Act, Binds, LineStop};
-use script_lines::{MOST_BYTES, line_end};
+use script_lines::{MOST_BYTES, Pages, line_end};
 use sm_names::{Call, ClientId, CollectionId, Limits, MAX_PAGES, NoMemory};
 use std::alloc::Global;
 use std::io::{Read, Write};
@@ -62,6 +62,15 @@ pub struct View {
     pub until: Until,
 }
 
+/// The pages of the pool, and which picture is drawn.
+#[derive(Clone, Copy)]
+pub struct DrawJob {
+    /// The size of the pool.
+    pub pages: Pages,
+    /// What is drawn of the script.
+    pub view: View,
+}
+
 // A script that is played up to some event.
 #[derive(Drop)]
 struct Scroll {
@@ -74,7 +83,7 @@ struct Scroll {
     reply: Vec<u8>,
 }
 
-/// Runs the script that the reader holds against a new core with a pool of `pages` pages, and writes a
+/// Runs the script that the reader holds against a new core with a pool of the job's pages, and writes a
 /// picture of the trees behind its last line, or behind the event, line or failure that is asked for; the
 /// lines behind that are not looked at. Lines that begin with two spaces are passed over. The whole script is read
 /// before any line is judged.
@@ -91,12 +100,10 @@ pub fn draw_script<R: Read, W: Write>(
     seed: [u8; 16],
     reader: &mut R,
     writer: &mut W,
-    pages: u32,
+    job: DrawJob,
     limits: Limits,
-    view: View,
 ) -> Result<(), ReportFault>
-    requires { (1 ≤ pages) × (pages ≤ MAX_PAGES) }
-    ensures { Draws (record { pool = pages; limits = limits }) view
+    ensures { Draws (record { pool = job.pages.count; limits = limits }) job.view
         (R.remaining reader.old) (R.remaining reader.new)
         (W.contents writer.old) (W.contents writer.new) result }
 {
@@ -104,8 +111,8 @@ pub fn draw_script<R: Read, W: Write>(
         Ok(script) => script,
         Err(fault) => return Err(fault),
     };
-    match Scroll::new(alloc, seed, pages, limits) {
-        Ok(mut scroll) => draw_all(alloc, &mut scroll, writer, &script, view),
+    match Scroll::new(alloc, seed, job.pages.count, limits) {
+        Ok(mut scroll) => draw_all(alloc, &mut scroll, writer, &script, job.view),
         Err(_) => Err(ReportFault::NoMemory),
     }
 }

@@ -20,7 +20,7 @@ use report_io::{
     ReportFault, behind, fault_of, is_indented, push_indented, put_out, read_script, unended,
 };
 use script_labels::LineStop;
-use script_lines::{MOST_BYTES, Part, line_end, push_parts, write_out};
+use script_lines::{MOST_BYTES, Pages, Part, line_end, push_parts, write_out};
 use sm_names::{Limits, MAX_PAGES, NoMemory};
 use std::alloc::{AllocError, Global};
 use std::io::{Read, Write};
@@ -50,7 +50,16 @@ pub struct Scope {
     pub has_summary: bool,
 }
 
-/// Runs the script that the reader holds against a new core with a pool of `pages` pages, and writes each
+/// The pages of the pool, and how much is told.
+#[derive(Clone, Copy)]
+pub struct ExplainJob {
+    /// The size of the pool.
+    pub pages: Pages,
+    /// What is told of the script.
+    pub scope: Scope,
+}
+
+/// Runs the script that the reader holds against a new core with a pool of the job's pages, and writes each
 /// line as it is, two spaces and the line's reply, if it has one, and four spaces and each fact that its
 /// event came to, behind one with the numbers of the event and of the line. With `only_failures` it writes
 /// only the lines whose event made a node fail. Lines that begin with two spaces are passed over: they count as lines. The whole script
@@ -76,12 +85,10 @@ pub fn explain_script<R: Read, W: Write>(
     seed: [u8; 16],
     reader: &mut R,
     writer: &mut W,
-    pages: u32,
+    job: ExplainJob,
     limits: Limits,
-    scope: Scope,
 ) -> Result<(), ReportFault>
-    requires { (1 ≤ pages) × (pages ≤ MAX_PAGES) }
-    ensures { Explains (record { pool = pages; limits = limits }) scope
+    ensures { Explains (record { pool = job.pages.count; limits = limits }) job.scope
         (R.remaining reader.old) (R.remaining reader.new)
         (W.contents writer.old) (W.contents writer.new) result }
 {
@@ -89,8 +96,8 @@ pub fn explain_script<R: Read, W: Write>(
         Ok(script) => script,
         Err(fault) => return Err(fault),
     };
-    match Explainer::new(alloc, seed, pages, limits) {
-        Ok(mut explainer) => explain_whole(alloc, &mut explainer, writer, &script, scope),
+    match Explainer::new(alloc, seed, job.pages.count, limits) {
+        Ok(mut explainer) => explain_whole(alloc, &mut explainer, writer, &script, job.scope),
         Err(_) => Err(ReportFault::NoMemory),
     }
 }

@@ -9,6 +9,6 @@ mod seen;
 mod summary;
 
 pub use check::{CheckResult, check_script};
-pub use explain::{Scope, explain_script};
+pub use explain::{ExplainJob, Scope, explain_script};
 pub use program::{check_to_exit, explain_to_exit};
 pub use report_io::ReportFault;

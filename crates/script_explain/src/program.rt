@@ -5,7 +5,7 @@ ghost use Rattle.script_explain.specs.Comparisons.{EndsChecked};
 ghost use Rattle.script_explain.specs.Explanations.{EndsExplained};
 
 use crate::check::{CheckResult, check_script};
-use crate::explain::{Scope, explain_script};
+use crate::explain::{ExplainJob, explain_script};
 use report_io::end_with;
 use script_lines::Pages;
 use sm_names::{Limits, MAX_COLLECTIONS, MAX_EVENTS, MAX_HANDLES, MAX_NODES, MAX_TRACKERS};
@@ -19,7 +19,7 @@ const DIFFERS: u8 = 6;
 // The status of one of which no line was played.
 const EMPTY: u8 = 7;
 
-/// Explains of the script that the reader holds what is in the scope, with these pages and the greatest limits, as
+/// Explains of the script that the reader holds what the job asks for, with the greatest limits, as
 /// `explain_script` does, and answers the status that a program is to end with: 0 where the script came
 /// to its end, and else the status of the fault, which is reported as one line on `faults`, as far as
 /// that takes it. Costs what `explain_script` costs.
@@ -29,12 +29,11 @@ pub fn explain_to_exit<R: Read, W: Write, F: Write>(
     reader: &mut R,
     writer: &mut W,
     faults: &mut F,
-    pages: Pages,
-    scope: Scope,
+    job: ExplainJob,
 ) -> ExitCode
     ensures most { exit_status result ≤ 4 }
     ensures ends { EndsExplained (record {
-      pool = pages.count;
+      pool = job.pages.count;
       limits = record {
         events = MAX_EVENTS;
         nodes = MAX_NODES;
@@ -42,20 +41,12 @@ pub fn explain_to_exit<R: Read, W: Write, F: Write>(
         trackers = MAX_TRACKERS;
         handles = MAX_HANDLES;
       };
-    }) scope
+    }) job.scope
         (R.remaining reader.old) (R.remaining reader.new)
         (W.contents writer.old) (W.contents writer.new)
         (F.contents faults.old) (F.contents faults.new) (exit_status result) }
 {
-    match explain_script(
-        alloc,
-        seed,
-        reader,
-        writer,
-        pages.count,
-        Limits::full(),
-        scope,
-    ) {
+    match explain_script(alloc, seed, reader, writer, job, Limits::full()) {
         Ok(()) => ExitCode::SUCCESS,
         Err(fault) => end_with(alloc, faults, &fault),
     }

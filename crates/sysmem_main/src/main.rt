@@ -20,8 +20,8 @@ use command_line::{CommandLine, Format, ScriptTask, Search, Until, View, command
 use messages::{Misplaced, NAME, NO_COMMAND, Unopened, misplaced_file, reason_of};
 use outcome_runs::{SearchHost, explore_to_exit};
 use progress::ProgressLine;
-use script_draw::draw_to_exit;
-use script_explain::{Scope, check_to_exit, explain_to_exit};
+use script_draw::{DrawJob, draw_to_exit};
+use script_explain::{ExplainJob, Scope, check_to_exit, explain_to_exit};
 use script_lines::Pages;
 use sm_script::run_to_exit;
 use std::alloc::Global;
@@ -33,7 +33,7 @@ use std::sync::Wait;
 use std::thread::Threads;
 use std::time::Clock;
 use std::{env, fs, io};
-use thread_runs::{Job, MOST_REPEATS, Output, run_threads_to_exit};
+use thread_runs::{Job, MOST_REPEATS, Output, RunHost, run_threads_to_exit};
 
 // The status of what clap says of the words.
 fn status_of(kind: ErrorKind) -> u8
@@ -156,13 +156,20 @@ fn start<H: Threads + Wait + Clock + Sync>(
     let writer = &mut io::writer(rt);
     let stderr = rt.stderr();
     let faults = &mut io::writer(&stderr);
-    serve(rt, host, words, parse, reader, writer, faults)
+    let host = Host { rt, threads: host };
+    serve(host, words, parse, reader, writer, faults)
+}
+
+// The host that the program runs on, and where actors get their threads from.
+#[derive(Clone, Copy)]
+struct Host<'a, H> {
+    rt: &'a HostRuntime,
+    threads: &'a H,
 }
 
 // Does what the parse of the words asks for: with the script that is named, or that the reader holds.
 fn serve<H: Threads + Wait + Clock + Sync, R: Read, W: Write, F: Write>(
-    rt: &HostRuntime,
-    host: &H,
+    host: Host<'_, H>,
     words: &[String],
     parse: Result<ArgMatches<'_>, Error>,
     reader: &mut R,
@@ -178,10 +185,13 @@ fn serve<H: Threads + Wait + Clock + Sync, R: Read, W: Write, F: Write>(
 {
     match parse {
         Ok(matches) => match request_of(&matches) {
-            Some(request) => read(rt, host, random_seed(rt), reader, writer, faults, request),
-            None => no_such_pool(rt),
+            Some(request) => {
+                let seed = random_seed(host.rt);
+                read(host, seed, reader, writer, faults, request)
+            }
+            None => no_such_pool(host.rt),
         },
-        Err(error) => refuse(rt, error, words),
+        Err(error) => refuse(host.rt, error, words),
     }
 }
 
@@ -195,8 +205,7 @@ fn no_such_pool(rt: &impl Eprint) -> ExitCode
 
 // Does what is asked for with the script that is named, or that the reader holds.
 fn read<H: Threads + Wait + Clock + Sync, R: Read, W: Write, F: Write>(
-    rt: &HostRuntime,
-    host: &H,
+    host: Host<'_, H>,
     seed: [u8; 16],
     reader: &mut R,
     writer: &mut W,
@@ -210,10 +219,10 @@ fn read<H: Threads + Wait + Clock + Sync, R: Read, W: Write, F: Write>(
         (exit_status result) }
 {
     match request.file {
-        None => play(rt, host, seed, reader, writer, faults, request),
-        Some(name) => match opened(rt, name) {
-            Ok(mut file) => play(rt, host, seed, &mut file, writer, faults, request),
-            Err(kind) => unopened(rt, name, kind),
+        None => play(host, seed, reader, writer, faults, request),
+        Some(name) => match opened(host.rt, name) {
+            Ok(mut file) => play(host, seed, &mut file, writer, faults, request),
+            Err(kind) => unopened(host.rt, name, kind),
         },
     }
 }
@@ -245,10 +254,9 @@ fn unopened(rt: &impl Eprint, name: &str, kind: io::ErrorKind) -> ExitCode
 }
 
 // Does with the script that the reader holds what is asked for, with a pool of the pages that are
-// asked for. Actors get their threads from the host.
+// asked for.
 fn play<H: Threads + Wait + Clock + Sync, R: Read, W: Write, F: Write>(
-    rt: &HostRuntime,
-    host: &H,
+    host: Host<'_, H>,
     seed: [u8; 16],
     reader: &mut R,
     writer: &mut W,
@@ -260,6 +268,7 @@ fn play<H: Threads + Wait + Clock + Sync, R: Read, W: Write, F: Write>(
         (streams (R.remaining reader.new) (W.contents writer.new) (F.contents faults.new))
         (exit_status result) }
 {
+    let Host { rt, threads } = host;
     let alloc = rt.alloc();
     let pages = request.pages;
     match request.task {
@@ -275,7 +284,8 @@ fn play<H: Threads + Wait + Clock + Sync, R: Read, W: Write, F: Write>(
                 repeats,
                 output,
             };
-            run_threads_to_exit(host, alloc, seed, reader, writer, faults, job)
+            let host = RunHost { rt: threads, alloc };
+            run_threads_to_exit(host, seed, reader, writer, faults, job)
         }
         ScriptTask::Explain {
             only_failures,
@@ -285,10 +295,12 @@ fn play<H: Threads + Wait + Clock + Sync, R: Read, W: Write, F: Write>(
                 only_failures,
                 has_summary,
             };
-            explain_to_exit(alloc, seed, reader, writer, faults, pages, scope)
+            let job = ExplainJob { pages, scope };
+            explain_to_exit(alloc, seed, reader, writer, faults, job)
         }
         ScriptTask::Draw(view) => {
-            draw_to_exit(alloc, seed, reader, writer, faults, pages, drawn(view))
+            let view = drawn(view);
+            draw_to_exit(alloc, seed, reader, writer, faults, DrawJob { pages, view })
         }
         ScriptTask::Check => check_to_exit(alloc, seed, reader, writer, faults, pages),
         ScriptTask::Explore(search) => {

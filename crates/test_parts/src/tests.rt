@@ -5,5 +5,4 @@ mod lists;
 mod names;
 mod own_lists;
 mod pages;
-mod reports;
 mod states;

@@ -26,8 +26,8 @@ use outcome_runs::{Ending, SearchHost, SearchJob, explore_script};
 use plain::push_plain;
 use play_search::Silent;
 use report_io::behind;
-use script_draw::{View, draw_script};
-use script_explain::{ReportFault, Scope, check_script, explain_script};
+use script_draw::{DrawJob, View, draw_script};
+use script_explain::{ExplainJob, ReportFault, Scope, check_script, explain_script};
 use script_lines::line_end;
 use setting::Setting;
 use sm_script::run_script;
@@ -47,7 +47,8 @@ fn explain(
 ) -> Result<(), ReportFault> {
     let mut reader = script;
     let Setting { pages, limits, .. } = setting;
-    explain_script(alloc, [0; 16], &mut reader, out, pages.count, limits, scope)
+    let job = ExplainJob { pages, scope };
+    explain_script(alloc, [0; 16], &mut reader, out, job, limits)
 }
 
 // Appends what comes of comparing the transcript.
@@ -73,7 +74,8 @@ fn draw(
 ) -> Result<(), ReportFault> {
     let mut reader = script;
     let Setting { pages, limits, .. } = setting;
-    draw_script(alloc, [0; 16], &mut reader, out, pages.count, limits, view)
+    let job = DrawJob { pages, view };
+    draw_script(alloc, [0; 16], &mut reader, out, job, limits)
 }
 
 // Appends what is told of the outcomes of the script.

@@ -3,5 +3,6 @@ mod exits;
 mod faults;
 mod fixture;
 mod lines;
+mod report_texts;
 mod threads;
 mod turns;

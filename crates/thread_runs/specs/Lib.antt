@@ -1,4 +1,5 @@
 pub mod Endings
 pub mod Faults
 pub mod Gathered
+pub mod Reports
 pub mod Runs

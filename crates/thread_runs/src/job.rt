@@ -1,6 +1,7 @@
 //! What a run of actors is asked for.
 use script_lines::Pages;
 use sm_names::Limits;
+use std::alloc::Global;
 
 /// What a run of actors writes at its end.
 #[derive(Clone, Copy)]
@@ -23,6 +24,13 @@ pub struct Job {
     pub repeats: u64,
     /// What is written once all actors have ended.
     pub output: Output,
+}
+
+/// Where the threads and the memory of a run come from.
+#[derive(Clone, Copy)]
+pub struct RunHost<'a, R> {
+    pub rt: &'a R,
+    pub alloc: Global,
 }
 
 /// What a run is made with: the seed of what is hashed, the job, and the limits.

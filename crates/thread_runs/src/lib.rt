@@ -6,9 +6,11 @@ mod fault;
 mod job;
 mod program;
 mod report;
+mod report_text;
 mod run;
 
 pub use fault::ThreadsFault;
-pub use job::{Job, MOST_REPEATS, Output};
+pub use job::{Job, MOST_REPEATS, Output, RunHost};
 pub use program::run_threads_to_exit;
+pub use report_text::push_report;
 pub use run::run_threads;

@@ -5,11 +5,10 @@ ghost use Rattle.script_lines.specs.Written.{WritesPart};
 ghost use Rattle.thread_runs.specs.Endings.{EndsThreads, outcome_line, outcome_status};
 
 use crate::fault::ThreadsFault;
-use crate::job::Job;
+use crate::job::{Job, RunHost};
 use crate::run::run_threads;
 use script_lines::write_line;
 use sm_names::Limits;
-use std::alloc::Global;
 use std::io::{Read, Write};
 use std::process::ExitCode;
 use std::sync::Wait;
@@ -21,8 +20,7 @@ use std::time::Clock;
 /// status of the fault, whose text is written in one line on `faults`, as far as that
 /// takes it. Costs what `run_threads` costs.
 pub fn run_threads_to_exit<I: Read, O: Write, F: Write, R: Threads + Wait + Clock + Sync>(
-    rt: &R,
-    alloc: Global,
+    host: RunHost<'_, R>,
     seed: [u8; 16],
     reader: &mut I,
     writer: &mut O,
@@ -35,7 +33,7 @@ pub fn run_threads_to_exit<I: Read, O: Write, F: Write, R: Threads + Wait + Cloc
         (F.contents faults.old) (F.contents faults.new) (exit_status result) }
 {
     exit_of(
-        run_threads(rt, alloc, seed, reader, writer, job, Limits::full()),
+        run_threads(host, seed, reader, writer, job, Limits::full()),
         faults,
     )
 }

@@ -11,7 +11,7 @@ ghost use Rattle.thread_runs.specs.Runs.{IsRunText, told_text};
 use crate::actor_parts::{fault_of, part_all};
 use crate::fault::ThreadsFault;
 use crate::job::{Output, Setting};
-use actor_reports::push_report;
+use crate::report_text::push_report;
 use actor_scripts::ActorList;
 use client_actors::{Gate, run_actors};
 use client_vanish::{GatherFault, Holding, Report, compare, end_service};

@@ -5,12 +5,11 @@ ghost use Rattle.script_lines.specs.Written.{WritesPart};
 ghost use Rattle.thread_runs.specs.Runs.{RunsThreads};
 
 use crate::fault::ThreadsFault;
-use crate::job::{Job, Setting};
+use crate::job::{Job, RunHost, Setting};
 use crate::report::tell_all;
 use actor_scripts::read_actors;
 use script_lines::{LabelHash, write_out};
 use sm_names::Limits;
-use std::alloc::Global;
 use std::io::{Read, Write};
 use std::sync::Wait;
 use std::thread::Threads;
@@ -46,8 +45,7 @@ use std::time::Clock;
 /// service's counts are hashed from the seed, best of random bytes: it changes what the run costs,
 /// and nothing that is written.
 pub fn run_threads<I: Read, O: Write, R: Threads + Wait + Clock + Sync>(
-    rt: &R,
-    alloc: Global,
+    host: RunHost<'_, R>,
     seed: [u8; 16],
     reader: &mut I,
     writer: &mut O,
@@ -57,6 +55,7 @@ pub fn run_threads<I: Read, O: Write, R: Threads + Wait + Clock + Sync>(
     ensures { RunsThreads job.output job.repeats job.pages.count limits (I.remaining reader.old)
         (I.remaining reader.new) (O.contents writer.old) (O.contents writer.new) result }
 {
+    let RunHost { rt, alloc } = host;
     let list = match read_actors(alloc, LabelHash::new(seed), reader) {
         Ok(list) => list,
         Err(fault) => return Err(ThreadsFault::from(fault)),

@@ -7,7 +7,7 @@ use std::sync::Wait;
 use std::thread::Threads;
 use std::time::Clock;
 use test_streams::{FailingWriter, ShortReader};
-use thread_runs::run_threads_to_exit;
+use thread_runs::{RunHost, run_threads_to_exit};
 
 /// What runs a script.
 #[derive(Clone, Copy)]
@@ -108,7 +108,8 @@ fn run<R: Threads + Wait + Clock + Abort + Sync>(
     match runner {
         Runner::Script => run_to_exit(alloc, SEED, reader, out, faults, report_of(rt, 16).pages),
         Runner::Threads => {
-            run_threads_to_exit(rt, alloc, SEED, reader, out, faults, report_of(rt, 8))
+            let host = RunHost { rt, alloc };
+            run_threads_to_exit(host, SEED, reader, out, faults, report_of(rt, 8))
         }
     }
 }

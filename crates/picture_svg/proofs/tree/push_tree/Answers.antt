@@ -9,13 +9,13 @@ use Rattle.picture_svg.proofs.tree.push_tree.Goals as goal
 pub returns-clause-text : goal.returns-clause-text
 unfolding svg_tree
 returns-clause-text c = λ names keeps calls steps finds.
-    let s = c.args.event_writer.now.session.core in
-    let width : ℕ = c.args.width in
+    let s = c.args.sheet.now.event_writer.now.session.core in
+    let width : ℕ = c.args.sheet.now.width in
     let y : ℕ = c.args.above.bottom in
     let tree = c.args.tree.now in
     let shown = ap (map shown_in) c.deref.ensures.value ∙ c.in_ok-bars.ensures names keeps calls in
     after _ (svg_nodes names steps width y tree) _ _ _ (c.in_ok-below.ensures.text names keeps calls steps finds)
-    (last _ (bars_text width (bars_row width y tree) (shown_of s names c.args.clients.now.items tree)) _
+    (last _ (bars_text width (bars_row width y tree) (shown_of s names c.args.sheet.now.clients.now.items tree)) _
     (c.in_ok-extent.ensures.text ∙ (λ i. c.push_nodes.new.body.items ++ bars_text width (c.in_ok-below.ensures.bottom i) (shown i))))
 
 -- the row below the buffers
@@ -31,4 +31,4 @@ pub returns-clause-right : goal.returns-clause-right
 unfolding tree_right
 returns-clause-right c = λ names keeps calls.
     let shown = ap (map shown_in) c.deref.ensures.value ∙ c.in_ok-bars.ensures names keeps calls in
-    c.in_ok-extent.ensures.right ∙ (λ i. bars_right c.args.width (c.in_ok-below.ensures.right i) (shown i))
+    c.in_ok-extent.ensures.right ∙ (λ i. bars_right c.args.sheet.now.width (c.in_ok-below.ensures.right i) (shown i))

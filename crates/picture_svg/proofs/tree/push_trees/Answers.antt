@@ -7,9 +7,9 @@ use Rattle.picture_svg.proofs.tree.push_trees.Goals as goal
 -- one more
 pub trees-preserved : goal.trees-preserved
 trees-preserved c = λ names keeps calls.
-    let s = c.args.event_writer.now.session.core in
-    let clients = c.args.clients.now.items in
-    let width : ℕ = c.args.width in
+    let s = c.args.sheet.now.event_writer.now.session.core in
+    let clients = c.args.sheet.now.clients.now.items in
+    let width : ℕ = c.args.sheet.now.width in
     let y : ℕ = c.trees.bottom in
     let tree = c.in-Some.tree.now in
     let later = c.in-Some.later.now in
@@ -34,18 +34,21 @@ trees-preserved c = λ names keeps calls.
 -- none is left
 pub returns-clause-text : goal.returns-clause-text
 returns-clause-text c = λ names keeps calls steps finds.
-    let text = svg_trees c.args.event_writer.now.session.core names c.args.clients.now.items steps c.args.width c.trees.bottom in
+    let text = svg_trees c.args.sheet.now.event_writer.now.session.core names c.args.sheet.now.clients.now.items steps
+    c.args.sheet.now.width c.trees.bottom in
     none c.trees.body.items (text c.trees.rest.now) (ap text (nil_from_length c.trees.rest.now c.in_default.ensures.cases))
     ∙ (c.trees.invariant names keeps calls).0 steps finds
 
 pub returns-clause-bottom : goal.returns-clause-bottom
 returns-clause-bottom c = λ names keeps calls.
-    sym (ap (trees_bottom c.args.event_writer.now.session.core names c.args.clients.now.items c.args.width c.trees.bottom)
+    sym (ap (trees_bottom c.args.sheet.now.event_writer.now.session.core names c.args.sheet.now.clients.now.items
+    c.args.sheet.now.width c.trees.bottom)
     (nil_from_length c.trees.rest.now c.in_default.ensures.cases))
     ∙ (c.trees.invariant names keeps calls).1
 
 pub returns-clause-right : goal.returns-clause-right
 returns-clause-right c = λ names keeps calls.
-    sym (ap (trees_right c.args.event_writer.now.session.core names c.args.clients.now.items c.args.width c.trees.bottom c.trees.right)
+    sym (ap (trees_right c.args.sheet.now.event_writer.now.session.core names c.args.sheet.now.clients.now.items
+    c.args.sheet.now.width c.trees.bottom c.trees.right)
     (nil_from_length c.trees.rest.now c.in_default.ensures.cases))
     ∙ (c.trees.invariant names keeps calls).2

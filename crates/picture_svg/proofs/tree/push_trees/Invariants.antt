@@ -9,14 +9,15 @@ use Rattle.picture_svg.proofs.tree.push_trees.Given as goal
 
 -- those so far, and those that are left, are all
 abbrev pub invariant-trees : goal.invariant-trees
-invariant-trees l = (names : Names) → Keeps l.event_writer.session.tables names → Calls l.event_writer.labels names →
-    ((steps : List Travel) → FindsTravels l.travels steps →
-    l.body.items ++ svg_trees l.event_writer.session.core names l.clients.items steps l.width l.bottom l.rest
-    ≡ l.initial.body.items ++ svg_trees l.event_writer.session.core names l.clients.items steps l.width l.row l.initial.rest)
-    × (trees_bottom l.event_writer.session.core names l.clients.items l.width l.bottom l.rest
-    ≡ trees_bottom l.event_writer.session.core names l.clients.items l.width l.row l.initial.rest)
-    × (trees_right l.event_writer.session.core names l.clients.items l.width l.bottom l.right l.rest
-    ≡ trees_right l.event_writer.session.core names l.clients.items l.width l.row 0 l.initial.rest)
+invariant-trees l = (names : Names) → Keeps l.sheet.event_writer.now.session.tables names → Calls l.sheet.event_writer.now.labels names →
+    ((steps : List Travel) → FindsTravels l.sheet.travels.now steps →
+    l.body.items ++ svg_trees l.sheet.event_writer.now.session.core names l.sheet.clients.now.items steps l.sheet.width l.bottom l.rest
+    ≡ l.initial.body.items ++ svg_trees l.sheet.event_writer.now.session.core names l.sheet.clients.now.items steps l.sheet.width
+    l.row l.initial.rest)
+    × (trees_bottom l.sheet.event_writer.now.session.core names l.sheet.clients.now.items l.sheet.width l.bottom l.rest
+    ≡ trees_bottom l.sheet.event_writer.now.session.core names l.sheet.clients.now.items l.sheet.width l.row l.initial.rest)
+    × (trees_right l.sheet.event_writer.now.session.core names l.sheet.clients.now.items l.sheet.width l.bottom l.right l.rest
+    ≡ trees_right l.sheet.event_writer.now.session.core names l.sheet.clients.now.items l.sheet.width l.row 0 l.initial.rest)
 
 abbrev pub decreases-trees : goal.decreases-trees
 decreases-trees l = length l.rest

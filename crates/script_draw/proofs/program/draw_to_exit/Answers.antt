@@ -10,7 +10,7 @@ pub returns-in-Ok-clause-ends : goal.returns-in-Ok-clause-ends
 returns-in-Ok-clause-ends g c =
     let told = g.F.Write.contents c.args.faults.now in
     subst
-    (λ (limits : Bound). EndsDrawn (record { pool = c.args.pages.count; limits = limits }) c.args.view
+    (λ (limits : Bound). EndsDrawn (record { pool = c.args.job.pages.count; limits = limits }) c.args.job.view
     (g.R.Read.remaining c.args.reader.now) (g.R.Read.remaining c.draw_script.new.reader)
     (g.W.Write.contents c.args.writer.now) (g.W.Write.contents c.draw_script.new.writer) told told 0)
     c.full.ensures
@@ -22,7 +22,7 @@ returns-in-Err-clause-ends g c =
     let before = g.F.Write.contents c.args.faults.now in
     let told = g.F.Write.contents c.end_with.new.faults in
     subst
-    (λ (limits : Bound). EndsDrawn (record { pool = c.args.pages.count; limits = limits }) c.args.view
+    (λ (limits : Bound). EndsDrawn (record { pool = c.args.job.pages.count; limits = limits }) c.args.job.view
     (g.R.Read.remaining c.args.reader.now) (g.R.Read.remaining c.draw_script.new.reader)
     (g.W.Write.contents c.args.writer.now) (g.W.Write.contents c.draw_script.new.writer) before told (exit_status c.end_with.result))
     c.full.ensures

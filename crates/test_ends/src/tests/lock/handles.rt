@@ -135,19 +135,25 @@ fn fetch<E: Setup, S: Ledger, W: Ledger, R: Abort>(
     }
 }
 
+// How many events the record has, and how many handles of each strength the books have.
+#[derive(Clone, Copy)]
+struct Counts {
+    events: u64,
+    strong: u64,
+    weak: u64,
+}
+
 // One more handle goes into a parcel, comes out of it and is dropped: 4 events. Whether the record and the books
-// had this many events and handles while it was in the parcel.
+// had so many events and handles while it was in the parcel.
 fn moved<E: Setup, S: Ledger, W: Ledger, R: Abort>(
     rt: &R,
     state: &mut State<E, S, W>,
     units: &mut Units<E, S, W>,
     strength: Strength,
-    events: u64,
-    strong: u64,
-    weak: u64,
+    counts: Counts,
 ) -> bool {
     send(rt, state, units, strength);
-    let stood = stands(state, events, strong, weak);
+    let stood = stands(state, counts.events, counts.strong, counts.weak);
     fetch(rt, state, units);
     stood
 }
@@ -175,9 +181,19 @@ pub fn handles<E: Setup, S: Ledger, W: Ledger, R: Wait + Abort>(
     let mut units = empty(rt, state);
     open(rt, state, &mut units);
     assert!(rt; stands(state, 11, 2, 2));
-    assert!(rt; moved(rt, state, &mut units, Strength::Strong, 13, 3, 2));
+    let counts = Counts {
+        events: 13,
+        strong: 3,
+        weak: 2,
+    };
+    assert!(rt; moved(rt, state, &mut units, Strength::Strong, counts));
     assert!(rt; stands(state, 15, 2, 2));
-    assert!(rt; moved(rt, state, &mut units, Strength::Weak, 17, 2, 3));
+    let counts = Counts {
+        events: 17,
+        strong: 2,
+        weak: 3,
+    };
+    assert!(rt; moved(rt, state, &mut units, Strength::Weak, counts));
     assert!(rt; stands(state, 19, 2, 2));
     assert!(rt; refuses(rt, state, &mut units));
     assert!(rt; stands(state, 20, 2, 2));

@@ -1,5 +1,5 @@
 //! Runs of actors without a report.
-use crate::tests::threads::fixture::{TWO, TWO_REPORT, events, reports, run_two};
+use crate::tests::threads::fixture::{Case, TWO, TWO_REPORT, events, reports, run_two};
 use sm_names::Limits;
 use std::alloc::Global;
 use std::process::Abort;
@@ -26,7 +26,12 @@ const BAD: &[(&str, u64)] = &[
 fn all_are_bad<R: Threads + Wait + Clock + Abort + Sync>(rt: &R, alloc: Global) -> bool {
     for (script, line) in BAD {
         let outcome = Err(ThreadsFault::BadLine(*line));
-        if !reports(rt, alloc, 1, Limits::full(), script, "", outcome) {
+        let case = Case {
+            pages: 1,
+            limits: Limits::full(),
+            script,
+        };
+        if !reports(rt, alloc, case, "", outcome) {
             return false;
         }
     }
@@ -42,7 +47,12 @@ fn no_actor_starts_if_a_line_is_bad(rt: HostRuntime) {
 fn are_too_few<R: Threads + Wait + Clock + Abort + Sync>(rt: &R, alloc: Global) -> bool {
     for most in 1..16 {
         let outcome = Err(ThreadsFault::HistoryFull);
-        if !reports(rt, alloc, 2, events(rt, most), TWO, "", outcome) {
+        let case = Case {
+            pages: 2,
+            limits: events(rt, most),
+            script: TWO,
+        };
+        if !reports(rt, alloc, case, "", outcome) {
             return false;
         }
     }
@@ -52,8 +62,12 @@ fn are_too_few<R: Threads + Wait + Clock + Abort + Sync>(rt: &R, alloc: Global) 
 #[test]
 fn a_full_history_leaves_no_report(rt: HostRuntime) {
     assert!(rt; are_too_few(&rt, rt.alloc()));
-    let limits = events(&rt, 16);
-    assert!(rt; reports(&rt, rt.alloc(), 16, limits, TWO, TWO_REPORT, Ok(())));
+    let case = Case {
+        pages: 16,
+        limits: events(&rt, 16),
+        script: TWO,
+    };
+    assert!(rt; reports(&rt, rt.alloc(), case, TWO_REPORT, Ok(())));
 }
 
 // Whether nothing is written if the read after this many bytes fails.

@@ -7,7 +7,7 @@ use std::sync::Wait;
 use std::thread::Threads;
 use std::time::Clock;
 use test_streams::{FailingWriter, ShortReader};
-use thread_runs::{Job, Output, ThreadsFault, run_threads};
+use thread_runs::{Job, Output, RunHost, ThreadsFault, run_threads};
 
 /// Two actors that never meet: each asks for a buffer and takes it.
 pub const TWO: &str = "a join\nb join\na open r\nb open s\na bind r\nb bind s\n\
@@ -40,20 +40,27 @@ pub fn report_of<R: Abort>(rt: &R, pages: u32) -> Job {
     }
 }
 
-/// Whether a run of actors with a pool of this many pages writes this report, and ends so.
+/// A script of actors, and how many pages and which limits it is run with.
+#[derive(Clone, Copy)]
+pub struct Case<'a> {
+    pub pages: u32,
+    pub limits: Limits,
+    pub script: &'a str,
+}
+
+/// Whether a run of actors writes this report, and ends so.
 pub fn reports<R: Threads + Wait + Clock + Abort + Sync>(
     rt: &R,
     alloc: Global,
-    pages: u32,
-    limits: Limits,
-    script: &str,
+    case: Case<'_>,
     report: &str,
     outcome: Result<(), ThreadsFault>,
 ) -> bool {
-    let mut reader = script.as_bytes();
+    let mut reader = case.script.as_bytes();
     let mut out = Vec::new(alloc);
-    let job = report_of(rt, pages);
-    let ended = run_threads(rt, alloc, SEED, &mut reader, &mut out, job, limits);
+    let job = report_of(rt, case.pages);
+    let host = RunHost { rt, alloc };
+    let ended = run_threads(host, SEED, &mut reader, &mut out, job, case.limits);
     ended == outcome && out.as_slice() == report.as_bytes()
 }
 
@@ -72,7 +79,8 @@ pub fn run_two<R: Threads + Wait + Clock + Abort + Sync>(
         fails: read_fails,
     };
     let job = report_of(rt, 2);
-    run_threads(rt, alloc, SEED, &mut reader, writer, job, Limits::full())
+    let host = RunHost { rt, alloc };
+    run_threads(host, SEED, &mut reader, writer, job, Limits::full())
 }
 
 // Whether the line is that of an actor that has no handle open.
@@ -97,6 +105,7 @@ pub fn gathers<R: Threads + Wait + Clock + Abort + Sync>(
     let mut reader = script;
     let mut out = Vec::new(alloc);
     let job = report_of(rt, 16);
-    let ended = run_threads(rt, alloc, SEED, &mut reader, &mut out, job, Limits::full());
+    let host = RunHost { rt, alloc };
+    let ended = run_threads(host, SEED, &mut reader, &mut out, job, Limits::full());
     ended == Ok(()) && is_gathered(&out, actors)
 }

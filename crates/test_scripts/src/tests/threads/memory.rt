@@ -2,7 +2,7 @@
 use crate::tests::threads::fixture::{SEED, TWO, TWO_REPORT, report_of};
 use sm_names::Limits;
 use test_streams::FixedWriter;
-use thread_runs::{ThreadsFault, run_threads};
+use thread_runs::{RunHost, ThreadsFault, run_threads};
 
 // Whether the writer has the whole report; or nothing, for want of memory. A thread needs memory too.
 fn is_whole_or_none(writer: &FixedWriter, ended: Result<(), ThreadsFault>) -> bool {
@@ -21,9 +21,12 @@ fn refused_memory_leaves_the_whole_report_or_none(rt: HostRuntime) {
         used: 0,
     };
     let mut reader = TWO.as_bytes();
+    let host = RunHost {
+        rt: &rt,
+        alloc: rt.alloc(),
+    };
     let ended = run_threads(
-        &rt,
-        rt.alloc(),
+        host,
         SEED,
         &mut reader,
         &mut writer,

@@ -1,5 +1,5 @@
 //! Actors that come to their end.
-use crate::tests::threads::fixture::{TWO, TWO_REPORT, events, gathers, reports};
+use crate::tests::threads::fixture::{Case, TWO, TWO_REPORT, events, gathers, reports};
 use sm_names::Limits;
 use std::alloc::Global;
 use std::process::Abort;
@@ -10,7 +10,12 @@ use thread_runs::ThreadsFault;
 
 #[test]
 fn two_independent_actors_are_reported(rt: HostRuntime) {
-    assert!(rt; reports(&rt, rt.alloc(), 64, Limits::full(), TWO, TWO_REPORT, Ok(())));
+    let case = Case {
+        pages: 64,
+        limits: Limits::full(),
+        script: TWO,
+    };
+    assert!(rt; reports(&rt, rt.alloc(), case, TWO_REPORT, Ok(())));
 }
 
 // Scripts, and their reports.
@@ -53,7 +58,12 @@ fn all_report<R: Threads + Wait + Clock + Abort + Sync>(
     cases: &[(&str, &str)],
 ) -> bool {
     for (script, report) in cases {
-        if !reports(rt, alloc, pages, Limits::full(), script, report, Ok(())) {
+        let case = Case {
+            pages,
+            limits: Limits::full(),
+            script,
+        };
+        if !reports(rt, alloc, case, report, Ok(())) {
             return false;
         }
     }
@@ -116,10 +126,18 @@ fn is_just_enough<R: Threads + Wait + Clock + Abort + Sync>(
     most: u32,
     report: &str,
 ) -> bool {
-    let less = events(rt, most.saturating_sub(1));
+    let just = Case {
+        pages,
+        limits: events(rt, most),
+        script: TAKER,
+    };
+    let less = Case {
+        pages,
+        limits: events(rt, most.saturating_sub(1)),
+        script: TAKER,
+    };
     let full = Err(ThreadsFault::HistoryFull);
-    reports(rt, alloc, pages, events(rt, most), TAKER, report, Ok(()))
-        && reports(rt, alloc, pages, less, TAKER, "", full)
+    reports(rt, alloc, just, report, Ok(())) && reports(rt, alloc, less, "", full)
 }
 
 #[test]

@@ -1,6 +1,6 @@
 use Rattle.std.proofs.Common.{◌≡◌, ◌++◌, length}
-use Rattle.actor_reports.specs.Reports.{lines_text}
-use Rattle.actor_reports.proofs.report.push_lines.Given as goal
+use Rattle.thread_runs.specs.Reports.{lines_text}
+use Rattle.thread_runs.proofs.report_text.push_lines.Given as goal
 
 abbrev pub invariant-loop-label : goal.invariant-loop-label
 invariant-loop-label l =

@@ -1,7 +1,7 @@
 //! Reports.
-use actor_reports::push_report;
 use event_laws::ClientLine;
 use script_lines::Label;
+use thread_runs::push_report;
 
 const LINES: [ClientLine; 2] = [
     ClientLine {

@@ -1,6 +1,6 @@
 //! The text of a report.
 ghost use Rattle.std.specs.Prelude.{◌≡◌, ◌++◌, OnOk};
-ghost use Rattle.actor_reports.specs.Reports.{client_line_text, lines_text, report_text};
+ghost use Rattle.thread_runs.specs.Reports.{client_line_text, lines_text, report_text};
 
 use event_laws::ClientLine;
 use script_lines::{Label, push, push_label, push_number};
@@ -11,8 +11,7 @@ use std::alloc::AllocError;
 /// was gathered. Each of these is a line with its end, and begins with `front`. Where there are more
 /// labels than clients, or more clients than labels, those behind are left out.
 ///
-/// Where memory is refused a part may stand behind the text. Takes a time in proportion to what is
-/// put there.
+/// Where memory is refused a part may stand behind the text. O(what is appended).
 pub fn push_report(
     text: &mut Vec<u8>,
     front: &str,

@@ -1,6 +1,0 @@
-//! The report on actors that have ended.
-#![tactic(auto)]
-
-mod report;
-
-pub use report::push_report;
