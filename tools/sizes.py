@@ -5,6 +5,9 @@
   tools/sizes.py --check   the same for those that are wrong; the status is 1 if there is one
   tools/sizes.py --write   puts the sizes of the tree into the documents
 
+All but `--write` also count the words of the documents, and more than MOST_WORDS are a fault. A word stands between blanks and
+has a letter or a digit.
+
 A count is exact. A number of lines is stated in rounded form, and is wrong if it is off by more than 3%, in the list of the
 crates by more than a tenth and ten lines. Lines are counted without comments and blank lines. The sums leave out the test_..
 crates.
@@ -68,6 +71,11 @@ SIZES = [
 ]
 
 
+# The documents, and how many words they have at most, all together.
+DOCUMENTS = ["README.md", "CONTRIBUTING.md", "CHANGELOG.md", *sorted(glob.glob("docs/*.md"))]
+MOST_WORDS = 24_000
+
+
 # The document that lists the crates, and one of its rows: the crate with its three sizes.
 LIST = "docs/CRATES.md"
 ITEM = re.compile(r"\[(\w+)\]\(\.\./crates/\w+\) \| ([\d,]+) \| ([\d,]+) \| ([\d,]+) \|")
@@ -103,6 +111,22 @@ def report_crates(only_wrong):
             exactly = " + ".join(f"{size:,}" for size in sizes_of(crate))
             print(f"{LIST}: {crate} {' + '.join(found[crate])}{' is wrong, it is ' if off else ', exactly '}{exactly}")
     return wrong
+
+
+def words_of(path):
+    """How many words a document has."""
+    with open(path, encoding="utf-8") as file:
+        return sum(1 for word in file.read().split() if any(letter.isalnum() for letter in word))
+
+
+def report_words(only_wrong):
+    """Tells how many words the documents have, and answers whether they are too many."""
+    if not only_wrong:
+        for path in DOCUMENTS:
+            print(f"{path}: {words_of(path):,} words")
+    total = sum(words_of(path) for path in DOCUMENTS)
+    print(f"the documents have {total:,} words{', too many:' if total > MOST_WORDS else ','} at most {MOST_WORDS:,} are wanted")
+    return total > MOST_WORDS
 
 
 def write_crates():
@@ -163,7 +187,7 @@ def main():
     if mode == ["--write"]:
         write()
     only_wrong = mode == ["--check"]
-    wrong = report(only_wrong) + report_crates(only_wrong)
+    wrong = report(only_wrong) + report_crates(only_wrong) + report_words(only_wrong)
     sys.exit(1 if wrong and mode else 0)
 
 

@@ -5,9 +5,9 @@ usage='Runs every test, each program on its own input, and the examples. Nothing
 
 An ITEM is a crate that has tests or is a program, `edits`: that each wrong edit still applies, `transcripts`: that each
 explanation is a transcript of its script, `help_texts`: that the man page and the completions have what the help has,
-`sizes`: that the documents state the sizes of the tree, `shown_files`: that they show files as they are, or `page`: that
-docs/try.html was made of the sources as they are. With none, all of them run. LANES of them (one for each processor, if not
-said) are built and run side by side, in 1 GB each.
+`sizes`: that the documents state the sizes of the tree and stay short, `shown_files`: that they show files as they are, or
+`page`: that docs/try.html was made of the sources as they are. With none, all of them run. LANES of them (one for each
+processor, if not said) are built and run side by side, in 1 GB each.
 
 A line for each item counts its tests; what failed is printed above it. The last line is `N passed, M failed`, and the
 status is 0 if nothing failed.'
