@@ -3,9 +3,9 @@ use Rattle.std.specs.Prelude.{ℕ, ◌≡◌, ◌+◌, ◌≤◌, nat_le, Bool, 
 use Rattle.std.specs.List.{list_any}
 use Rattle.std.specs.Option.{option_and_then, option_map_or}
 use Rattle.script_lines.specs.Pieces.{whole_lines}
-use Rattle.claim_lines.specs.declared.claim.Claim.{Claim}
-use Rattle.claim_lines.specs.Claims.{claim_of, is_claim_line}
-use Rattle.claim_lines.specs.Clients.{are_clients, is_among, listed, vanish_text}
+use Rattle.script_lines.specs.declared.claim.Claim.{Claim}
+use Rattle.script_lines.specs.Claims.{claim_of, is_claim_line}
+use Rattle.script_lines.specs.ClientLists.{are_clients, is_among, listed, vanish_text}
 use Rattle.script_lines.specs.declared.label.Label.{Label}
 use Rattle.outcome_texts.specs.Facts.{is_known}
 use Rattle.outcome_texts.specs.Reasons.{bad_reason, list_reason}

@@ -14,10 +14,10 @@ use Rattle.script_lines.specs.declared.label.Label.{Label}
 use Rattle.script_lines.specs.declared.line.Line.{Line}
 use Rattle.script_lines.specs.Labels.{same_label}
 use Rattle.script_lines.specs.Lines.{line_of}
-use Rattle.claim_lines.specs.declared.claim.Fact.{Fact}
-use Rattle.claim_lines.specs.declared.claim.NodeFact.{NodeFact}
-use Rattle.claim_lines.specs.declared.claim.NodeName.{NodeName}
-use Rattle.claim_lines.specs.declared.claim.SaidCause.{SaidCause}
+use Rattle.script_lines.specs.declared.claim.Fact.{Fact}
+use Rattle.script_lines.specs.declared.claim.NodeFact.{NodeFact}
+use Rattle.script_lines.specs.declared.claim.NodeName.{NodeName}
+use Rattle.script_lines.specs.declared.claim.SaidCause.{SaidCause}
 use Rattle.actor_scripts.specs.declared.step.Step.{Step}
 use Rattle.actor_plays.specs.declared.ending.Fate.{Fate}
 use Rattle.actor_plays.specs.declared.plan.Plan.{Plan}

@@ -1,11 +1,11 @@
 -- Why a line that is to be a claim is bad.
 use Rattle.std.specs.Prelude.{ℕ, ◌==◌, Bool, true, false, not, if◌then◌else◌, List, length, codes, Option, Some, None}
 use Rattle.std.specs.Option.{option_and_then, option_map_or}
-use Rattle.claim_lines.specs.declared.claim.Claim.{Claim}
-use Rattle.claim_lines.specs.declared.claim.Fact.{Fact}
-use Rattle.claim_lines.specs.declared.claim.NodeFact.{NodeFact}
-use Rattle.claim_lines.specs.declared.claim.NodeName.{NodeName}
-use Rattle.claim_lines.specs.Claims.{claim_of}
+use Rattle.script_lines.specs.declared.claim.Claim.{Claim}
+use Rattle.script_lines.specs.declared.claim.Fact.{Fact}
+use Rattle.script_lines.specs.declared.claim.NodeFact.{NodeFact}
+use Rattle.script_lines.specs.declared.claim.NodeName.{NodeName}
+use Rattle.script_lines.specs.Claims.{claim_of}
 use Rattle.outcome_texts.specs.Facts.{any_below, count_below, is_maker, is_meant}
 use Rattle.outcome_texts.specs.declared.telling.Telling.{Telling}
 

@@ -3,9 +3,9 @@ use Rattle.std.specs.Prelude.{ℕ, ◌+◌, ◌-◌, ◌==◌, Bool, true, false
 use Rattle.std.specs.Fmt.{decimal}
 use Rattle.std.specs.List.{flat_map, list_any, position}
 use Rattle.std.specs.Option.{option_map_or}
-use Rattle.claim_lines.specs.declared.claim.Claim.{Claim}
-use Rattle.claim_lines.specs.declared.claim.Fact.{Fact}
-use Rattle.claim_lines.specs.declared.claim.Often.{Often}
+use Rattle.script_lines.specs.declared.claim.Claim.{Claim}
+use Rattle.script_lines.specs.declared.claim.Fact.{Fact}
+use Rattle.script_lines.specs.declared.claim.Often.{Often}
 use Rattle.play_search.specs.declared.exploring.Exploration.{Exploration}
 use Rattle.play_search.specs.declared.exploring.Found.{Found}
 use Rattle.outcome_texts.specs.Calls.{calls_told}

@@ -2,14 +2,15 @@
 ghost use Rattle.std.specs.Prelude.{◌≡◌, ◌++◌, ◌≤◌, length, IfErr, IfOk, None, Ok, OnOk, true};
 ghost use Rattle.script_lines.specs.declared.TheConstants.{MOST_BYTES};
 ghost use Rattle.outcome_texts.specs.ClaimLines.{Adds, IsBadClaim, IsBadList, IsBadText, Takes, claim_text_of, claim_texts_of, claims_in, good_claim as good_told, judged, texts_in, words_behind as words_told};
-ghost use Rattle.claim_lines.specs.Clients.{are_clients as clients_told, listed as listed_told, vanish_text as vanish_told};
+ghost use Rattle.script_lines.specs.ClientLists.{are_clients as clients_told, listed as listed_told, vanish_text as vanish_told};
 
 use crate::makers::is_known;
 use crate::reasons::{list_reason, reason_of};
 use crate::telling::Telling;
 use crate::verdicts::ClaimLine;
-use claim_lines::{Claim, are_clients, is_claim, listed, read_claim, vanish_text};
-use script_lines::{Label, line_end};
+use script_lines::{
+    Claim, Label, are_clients, is_claim, line_end, listed, read_claim, vanish_text,
+};
 use std::alloc::{AllocError, Global};
 
 /// A line that is a claim, good or bad: its number, from 1, and its bytes.

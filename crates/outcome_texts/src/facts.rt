@@ -10,9 +10,8 @@ ghost use Rattle.outcome_texts.specs.Facts.{any_below, became_so as so_told, bin
 use crate::makers::{binds, is_meant};
 use crate::telling::Telling;
 use actor_plays::Fate;
-use claim_lines::{Fact, NodeFact, NodeName, SaidCause};
 use play_search::{Became, Outcome};
-use script_lines::Label;
+use script_lines::{Fact, Label, NodeFact, NodeName, SaidCause};
 use sm_names::{Cause, Failure, Misuse, NodeKey};
 
 // Whether both are the same.

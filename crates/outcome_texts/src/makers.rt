@@ -6,8 +6,7 @@ ghost use Rattle.outcome_texts.specs.Facts.{any_below, binds as binds_told, coun
 use crate::telling::Telling;
 use actor_plays::Plan;
 use actor_scripts::Step;
-use claim_lines::{Fact, NodeFact, NodeName};
-use script_lines::{Label, Line, read_line};
+use script_lines::{Fact, Label, Line, NodeFact, NodeName, read_line};
 use sm_names::{Product, row_of};
 
 // The label that the line binds.

@@ -4,7 +4,7 @@ ghost use Rattle.outcome_texts.specs.Reasons.{claim_reason, count_reason, form_r
 
 use crate::makers::{has_client, makers};
 use crate::telling::Telling;
-use claim_lines::{Fact, NodeFact, NodeName, read_claim};
+use script_lines::{Fact, NodeFact, NodeName, read_claim};
 
 // Whether the name begins with a client that does not join.
 fn is_stranger(telling: &Telling<'_>, name: NodeName) -> bool

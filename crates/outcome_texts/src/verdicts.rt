@@ -8,9 +8,8 @@ use crate::calls::{PlayCall, calls_of};
 use crate::facts::has_fact;
 use crate::script::push_call;
 use crate::telling::Telling;
-use claim_lines::{Claim, Fact, Often};
 use play_search::{Exploration, Found};
-use script_lines::{Part, push, push_parts};
+use script_lines::{Claim, Fact, Often, Part, push, push_parts};
 use std::alloc::{AllocError, Global};
 
 /// A claim: the number of its line, from 1, the words that the report repeats, and what they say.

@@ -3,12 +3,11 @@ ghost use Rattle.std.specs.Prelude.{◌≡◌, IfOk, false, map};
 ghost use Rattle.std.specs.List.{list_any};
 ghost use Rattle.std.specs.Option.{option_map};
 ghost use Rattle.script_lines.specs.declared.label.Label.{Label as LabelTold};
-ghost use Rattle.claim_lines.specs.Clients.{are_clients as clients_told, is_among as among_told, listed as listed_told};
+ghost use Rattle.script_lines.specs.ClientLists.{are_clients as clients_told, is_among as among_told, listed as listed_told};
 ghost use Rattle.outcome_texts.specs.ClaimLines.{is_good_list, lets_vanish as lets_told, may_vanish as may_told, texts_in, who_told};
 
 use crate::claims::ClaimText;
-use claim_lines::{are_clients, is_among, listed, vanish_text};
-use script_lines::Label;
+use script_lines::{Label, are_clients, is_among, listed, vanish_text};
 use std::alloc::{AllocError, Global};
 
 // Whether the client of this label is in the list, whose words spaces separate.

@@ -1,4 +1,6 @@
 pub mod BufferLabels
+pub mod Claims
+pub mod ClientLists
 pub mod Labels
 pub mod LineTexts
 pub mod Lines

@@ -1,8 +1,11 @@
-//! What the lines of a script say, and how they are spelled: labels, numbers, buffers, and what is
-//! asked of them.
+//! What the lines of a script say, and how they are spelled: labels, numbers, buffers, what is asked of
+//! them, and what is claimed of outcomes.
 #![tactic(auto)]
 
 mod buffer_label;
+mod claim;
+mod claim_parser;
+mod client_list;
 mod hashing;
 mod label;
 mod line;
@@ -16,6 +19,9 @@ mod words;
 mod writing;
 
 pub use buffer_label::BufferLabel;
+pub use claim::{Claim, Fact, NodeFact, NodeName, Often, SaidCause};
+pub use claim_parser::{is_claim, read_claim};
+pub use client_list::{are_clients, is_among, listed, vanish_text};
 pub use hashing::LabelHash;
 pub use label::Label;
 pub use line::{Line, Query, Request};

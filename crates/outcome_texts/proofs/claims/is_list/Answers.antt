@@ -1,5 +1,5 @@
 use Rattle.std.proofs.Common.{◌∙◌, List, ℕ, ap, map}
-use Rattle.claim_lines.specs.Clients.{are_clients}
+use Rattle.script_lines.specs.ClientLists.{are_clients}
 use Rattle.outcome_texts.proofs.claims.is_list.Goals as goal
 use denote.Ref.{Bor}
 

@@ -1,5 +1,5 @@
 use Rattle.std.proofs.Common.{◌∙◌, List, ℕ, ap, map}
-use Rattle.claim_lines.specs.Clients.{is_among}
+use Rattle.script_lines.specs.ClientLists.{is_among}
 use Rattle.outcome_texts.proofs.who.is_named.Goals as goal
 use denote.Ref.{Bor}
 

@@ -1,5 +1,5 @@
 use Rattle.std.proofs.Common.{◌∙◌, List, ℕ, ap, map}
-use Rattle.claim_lines.specs.Clients.{are_clients, listed}
+use Rattle.script_lines.specs.ClientLists.{are_clients, listed}
 use Rattle.outcome_texts.proofs.who.is_of_clients.Goals as goal
 use denote.Ref.{Bor}
 

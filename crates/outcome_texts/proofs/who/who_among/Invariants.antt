@@ -1,5 +1,5 @@
 use Rattle.std.proofs.Common.{◌≡◌, map, take}
-use Rattle.claim_lines.specs.Clients.{is_among}
+use Rattle.script_lines.specs.ClientLists.{is_among}
 use Rattle.outcome_texts.proofs.who.who_among.Given as goal
 
 -- so far who of these clients is in the list

@@ -1,6 +1,6 @@
 use Rattle.std.proofs.Common.{◌∙◌, List, ℕ, ap, map}
 use Rattle.std.proofs.lemmas.Result.{IfOk-weaker}
-use Rattle.claim_lines.specs.Clients.{is_among, listed}
+use Rattle.script_lines.specs.ClientLists.{is_among, listed}
 use Rattle.outcome_texts.proofs.who.who_listed.Goals as goal
 use denote.Ref.{Bor}
 

@@ -5,7 +5,7 @@ use Rattle.std.proofs.lemmas.List.{length-map}
 use Rattle.std.proofs.lemmas.List.Folds.{list_all-map}
 use Rattle.sm_names.proofs.ListLaws.{list_any-map}
 use Rattle.script_lines.specs.declared.label.Label.{Label}
-use Rattle.claim_lines.specs.Clients.{are_clients, is_all, is_among, is_called, says_all}
+use Rattle.script_lines.specs.ClientLists.{are_clients, is_all, is_among, is_called, says_all}
 use denote.Ref.{Bor}
 
 -- `all` is the only word that was read

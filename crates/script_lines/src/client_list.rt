@@ -3,9 +3,9 @@ ghost use Rattle.std.specs.Prelude.{◌≡◌, ◌==◌, ◌&&◌, ◌||◌, len
 ghost use Rattle.std.specs.List.{list_all, list_any, slice_split};
 ghost use Rattle.std.specs.Option.{option_map};
 ghost use Rattle.script_lines.specs.declared.label.Label.{Label as LabelTold};
-ghost use Rattle.claim_lines.specs.Clients.{are_clients as clients_told, is_among as among_told, is_called as called_told, says_all, vanish_text as text_told};
+ghost use Rattle.script_lines.specs.ClientLists.{are_clients as clients_told, is_among as among_told, is_called as called_told, says_all, vanish_text as text_told};
 
-use script_lines::Label;
+use crate::label::Label;
 use std::alloc::{AllocError, Global};
 
 // How the lines begin that say which clients may vanish.

@@ -6,12 +6,14 @@ ghost use Rattle.script_lines.specs.Labels.{label_of};
 ghost use Rattle.script_lines.specs.Lines.{at_end};
 ghost use Rattle.script_lines.specs.Numbers.{number_of};
 ghost use Rattle.script_lines.specs.Words.{words_left};
-ghost use Rattle.claim_lines.specs.declared.claim.Fact.{Fact as FactTold};
-ghost use Rattle.claim_lines.specs.declared.claim.NodeName.{NodeName as Name};
-ghost use Rattle.claim_lines.specs.Claims.{claim_behind, claim_of, fact_behind, fact_of, failed_by as failed_told, failure_named as failure_told, failure_of, fails_by as fails_told, full_name as full_told, is_claim_line, misuse_named as misuse_told, misused_by as misused_told, name_of as name_told, node_fact_of, node_said as node_told, often_named as often_told, origin_of, plain_name as plain_told, said_by as said_told};
+ghost use Rattle.script_lines.specs.declared.claim.Fact.{Fact as FactTold};
+ghost use Rattle.script_lines.specs.declared.claim.NodeName.{NodeName as Name};
+ghost use Rattle.script_lines.specs.Claims.{claim_behind, claim_of, fact_behind, fact_of, failed_by as failed_told, failure_named as failure_told, failure_of, fails_by as fails_told, full_name as full_told, is_claim_line, misuse_named as misuse_told, misused_by as misused_told, name_of as name_told, node_fact_of, node_said as node_told, often_named as often_told, origin_of, plain_name as plain_told, said_by as said_told};
 
 use crate::claim::{Claim, Fact, NodeFact, NodeName, Often, SaidCause};
-use script_lines::{Label, cut, is_word, next_word, place_of, read_number};
+use crate::label::Label;
+use crate::number::number as read_number;
+use crate::words::{cut, is_word, next_word, place_of};
 use sm_names::{Failure, Misuse};
 
 /// Whether the line, without its end, is a claim, good or bad: its first word is `#!`. Costs O(n) for n bytes.

@@ -1,7 +1,7 @@
 use Rattle.std.proofs.Common.{arith}
 use Rattle.std.proofs.lemmas.Grind.{common_steps}
-use Rattle.claim_lines.proofs.Listing.{among_read}
-use Rattle.claim_lines.proofs.clients.is_among.Goals as goal
+use Rattle.script_lines.proofs.Listing.{among_read}
+use Rattle.script_lines.proofs.client_list.is_among.Goals as goal
 
 pub returns-then-is_all : goal.returns-then-is_all
 returns-then-is_all c = grind (arith, common_steps, among_read)

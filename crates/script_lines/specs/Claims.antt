@@ -10,12 +10,12 @@ use Rattle.script_lines.specs.Labels.{label_of}
 use Rattle.script_lines.specs.Lines.{at_end}
 use Rattle.script_lines.specs.Numbers.{number_of}
 use Rattle.script_lines.specs.Words.{words}
-use Rattle.claim_lines.specs.declared.claim.Claim.{Claim}
-use Rattle.claim_lines.specs.declared.claim.Fact.{Fact}
-use Rattle.claim_lines.specs.declared.claim.NodeFact.{NodeFact}
-use Rattle.claim_lines.specs.declared.claim.NodeName.{NodeName}
-use Rattle.claim_lines.specs.declared.claim.Often.{Often}
-use Rattle.claim_lines.specs.declared.claim.SaidCause.{SaidCause}
+use Rattle.script_lines.specs.declared.claim.Claim.{Claim}
+use Rattle.script_lines.specs.declared.claim.Fact.{Fact}
+use Rattle.script_lines.specs.declared.claim.NodeFact.{NodeFact}
+use Rattle.script_lines.specs.declared.claim.NodeName.{NodeName}
+use Rattle.script_lines.specs.declared.claim.Often.{Often}
+use Rattle.script_lines.specs.declared.claim.SaidCause.{SaidCause}
 
 -- the first of the words is #!
 abbrev pub begins_claim : List (List ℕ) → Bool

@@ -1,5 +1,5 @@
 //! Claims on the outcomes of a script of actors.
-use script_lines::Label;
+use crate::label::Label;
 use sm_names::{Failure, Misuse};
 
 /// In which outcomes a fact is claimed.
