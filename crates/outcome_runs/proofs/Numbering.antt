@@ -33,5 +33,6 @@ later_rest rest at found = rw (ends_found [] rest at found).rest refl
 pub no_line : (rest : List ℕ) (number : ℕ) → position is_end rest ≡ None → None ≡ line_at rest number
 no_line rest number none = rw (unended_none [] rest none).lines refl
 
+-- the same: without an end all bytes are the rest
 pub all_rest : (rest : List ℕ) → position is_end rest ≡ None → rest ≡ last_part rest
 all_rest rest none = rw (unended_none [] rest none).rest refl

@@ -28,7 +28,7 @@ use std::alloc::{AllocError, Global};
 
 // What is written, and how the search ended.
 #[derive(Drop)]
-pub(crate) struct Told {
+pub(crate) struct SearchReport {
     pub(crate) text: Vec<u8>,
     pub(crate) ending: Ending,
 }
@@ -113,10 +113,10 @@ fn outcome_of(outcomes: &[Found], number: u64) -> Option<&Found>
 }
 
 // Nothing is written, since a play that was made again went on otherwise.
-fn unlike(alloc: Global) -> Told
+fn unlike(alloc: Global) -> SearchReport
     ensures { IsUnlike result.text.items result.ending }
 {
-    Told {
+    SearchReport {
         text: Vec::new(alloc),
         ending: Ending::Unlike,
     }
@@ -139,14 +139,14 @@ fn report_of(
     telling: &Telling<'_>,
     found: &Exploration,
     claims: &[ClaimLine<'_>],
-) -> Result<Told, AllocError>
+) -> Result<SearchReport, AllocError>
     ensures { IfOk result (λ told. IsJudged telling.now found.now claims.now told.text.items told.ending) }
 {
     let mut text = Vec::new(alloc);
     push_report(alloc, &mut text, telling, found)?;
     push_claims(alloc, &mut text, telling, found, claims)?;
     let broken = has_broken(telling, found, claims);
-    Ok(Told {
+    Ok(SearchReport {
         text,
         ending: judged_end(broken, found.complete),
     })
@@ -158,18 +158,18 @@ fn play_of(
     telling: &Telling<'_>,
     found: &Exploration,
     number: u64,
-) -> Result<Told, AllocError>
+) -> Result<SearchReport, AllocError>
     ensures { IfOk result (λ told. IsPlayed telling.now found.now number told.text.items told.ending) }
 {
     let mut text = Vec::new(alloc);
     let Some(one) = outcome_of(&found.outcomes, number) else {
-        return Ok(Told {
+        return Ok(SearchReport {
             text,
             ending: Ending::Missing,
         });
     };
     push_play(alloc, &mut text, telling, one, number, found.outcomes.len())?;
-    Ok(Told {
+    Ok(SearchReport {
         text,
         ending: ending_of(found.complete),
     })
@@ -182,7 +182,7 @@ fn told_of(
     found: &Exploration,
     claims: &[ClaimLine<'_>],
     outcome: Option<u64>,
-) -> Result<Told, AllocError>
+) -> Result<SearchReport, AllocError>
     ensures { IfOk result (λ told. IsText telling.now found.now claims.now outcome
         told.text.items told.ending) }
 {
@@ -216,7 +216,7 @@ fn told_found<P: Progress>(
     job: SearchJob<'_>,
     telling: &Telling<'_>,
     claims: &[ClaimLine<'_>],
-) -> Result<Told, ReportFault>
+) -> Result<SearchReport, ReportFault>
     requires pages { (1 ≤ job.pages) × (job.pages ≤ MAX_PAGES) }
     requires good { is_good_list (list_asked job) telling.now.labels.now ≡ true }
     ensures ok { IfOk result (λ told. IsFoundWith job.entry seed telling.now claims.now
@@ -235,11 +235,11 @@ fn told_found<P: Progress>(
 }
 
 // Nothing is written, since a client that is asked to vanish does not join.
-fn unknown(alloc: Global) -> Told
+fn unknown(alloc: Global) -> SearchReport
     ensures text { result.text.items ≡ [] }
     ensures ending { result.ending ≡ EndingTold.Unknown }
 {
-    Told {
+    SearchReport {
         text: Vec::new(alloc),
         ending: Ending::Unknown,
     }
@@ -252,7 +252,7 @@ fn told_with<P: Progress>(
     job: SearchJob<'_>,
     telling: &Telling<'_>,
     claims: &[ClaimLine<'_>],
-) -> Result<Told, ReportFault>
+) -> Result<SearchReport, ReportFault>
     requires { (1 ≤ job.pages) × (job.pages ≤ MAX_PAGES) }
     ensures ok { IfOk result (λ told. IsToldWith job.entry seed telling.now claims.now
         told.text.items told.ending) }
@@ -272,7 +272,7 @@ fn told_from<P: Progress>(
     job: SearchJob<'_>,
     texts: &[ClaimText<'_>],
     telling: &Telling<'_>,
-) -> Result<Told, ReportFault>
+) -> Result<SearchReport, ReportFault>
     requires { (1 ≤ job.pages) × (job.pages ≤ MAX_PAGES) }
     ensures ok { IfOk result (λ told. IsFoundBy job.entry seed (texts_in texts.now) telling.now
         told.text.items told.ending) }
@@ -334,26 +334,28 @@ fn steps_of_list<'a>(
     step_lines(alloc, &list.labels, script)
 }
 
-// What is written of the script of this list, by these steps and plans, and how the search ended.
+// What is written of the script of this list, by these plans, and how the search ended.
 fn told_by<P: Progress>(
     host: SearchHost<'_, P>,
     seed: [u8; 16],
     job: SearchJob<'_>,
     script: &[u8],
     list: &ActorList,
-    steps: &[StepLine<'_>],
     plans: &[Plan],
-) -> Result<Told, ReportFault>
+) -> Result<SearchReport, ReportFault>
     requires pages { (1 ≤ job.pages) × (job.pages ≤ MAX_PAGES) }
     requires few { length script.now ≤ MOST_BYTES }
-    requires steps { steps_in steps.now ≡ step_lines_of list.now.labels.items script.now }
     ensures ok { IfOk result (λ told. IsToldBy job.entry seed script.now list.now plans.now
         told.text.items told.ending) }
     ensures err { IfErr result (IsUnheldBy script.now list.now plans.now) }
 {
     let alloc = host.alloc;
     let hash = LabelHash::new(seed);
-    let names = match names_of(alloc, hash, &list.labels, steps) {
+    let steps = match steps_of_list(alloc, script, list) {
+        Ok(steps) => steps,
+        Err(_) => return Err(ReportFault::NoMemory),
+    };
+    let names = match names_of(alloc, hash, &list.labels, &steps) {
         Ok(names) => names,
         Err(_) => return Err(ReportFault::NoMemory),
     };
@@ -366,7 +368,7 @@ fn told_by<P: Progress>(
         Err(_) => return Err(ReportFault::NoMemory),
     };
     let vanishing = vanishing_of(job, &who);
-    let telling = telling_of(hash, &list.labels, &names, steps, plans, vanishing);
+    let telling = telling_of(hash, &list.labels, &names, &steps, plans, vanishing);
     told_from(host, seed, job, &texts, &telling)
 }
 
@@ -377,21 +379,16 @@ fn told_in<P: Progress>(
     job: SearchJob<'_>,
     script: &[u8],
     list: &ActorList,
-) -> Result<Told, ReportFault>
+) -> Result<SearchReport, ReportFault>
     requires pages { (1 ≤ job.pages) × (job.pages ≤ MAX_PAGES) }
     requires few { length script.now ≤ MOST_BYTES }
     ensures ok { IfOk result (λ told. HasSearched job.entry script.now list.now told.text.items told.ending) }
     ensures err { IfErr result (IsUnheld job.entry script.now list.now) }
 {
-    let plans = match plans_of(host.alloc, &list.scripts, job.waiting) {
-        Ok(plans) => plans,
-        Err(_) => return Err(ReportFault::NoMemory),
-    };
-    let steps = match steps_of_list(host.alloc, script, list) {
-        Ok(steps) => steps,
-        Err(_) => return Err(ReportFault::NoMemory),
-    };
-    told_by(host, seed, job, script, list, &steps, &plans)
+    match plans_of(host.alloc, &list.scripts, job.waiting) {
+        Ok(plans) => told_by(host, seed, job, script, list, &plans),
+        Err(_) => Err(ReportFault::NoMemory),
+    }
 }
 
 // What is written of a search through the orders of a script, and how it ended.
@@ -400,7 +397,7 @@ pub(crate) fn told_of_script<P: Progress>(
     seed: [u8; 16],
     job: SearchJob<'_>,
     script: &[u8],
-) -> Result<Told, ReportFault>
+) -> Result<SearchReport, ReportFault>
     requires pages { (1 ≤ job.pages) × (job.pages ≤ MAX_PAGES) }
     requires few { length script.now ≤ MOST_BYTES }
     ensures ok { IfOk result (λ told. IsTold job.entry script.now told.text.items told.ending) }

@@ -16,6 +16,7 @@ may_behind texts text client =
     ∙ list_any-append (λ (one : Text). lets_vanish client one.line) (texts_in texts) (text_told text ∷ [])
     ∙ or_last (may_vanish (texts_in texts) client) (lets_vanish client text.line.now)
   where
+    -- a list of one test is that test
     or_last : (a b : Bool) → (a || (b || false)) ≡ (a || b)
     or_last a b = grind (arith, common_steps)
 

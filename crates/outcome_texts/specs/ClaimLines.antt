@@ -41,7 +41,7 @@ abbrev pub texts_in : List ClaimText → List Text
 texts_in texts = map text_told texts
 
 -- a claim: the number of its line, the words that a report repeats, and what they say
-pub record Told : Type 0 where
+pub record ToldClaim : Type 0 where
   pub number : ℕ
   pub words : List ℕ
   pub claim : Claim
@@ -68,37 +68,37 @@ abbrev pub bad_line : Telling → Text → Option (List ℕ) → Bad
 bad_line telling text names = record { number = text.number; reason = bad_reason telling text.line names }
 
 -- the claim comes first
-abbrev pub put_first : Told → Result (List Told) Bad → Result (List Told) Bad
+abbrev pub put_first : ToldClaim → Result (List ToldClaim) Bad → Result (List ToldClaim) Bad
 put_first one (Ok claims) = Ok (one ∷ claims)
 put_first one (Err bad) = Err bad
 
 -- the line is a claim, before these; or it is bad
-abbrev pub with_claim : Telling → Text → Option Claim → Result (List Told) Bad → Result (List Told) Bad
+abbrev pub with_claim : Telling → Text → Option Claim → Result (List ToldClaim) Bad → Result (List ToldClaim) Bad
 with_claim telling text None claims = Err (bad_line telling text None)
 with_claim telling text (Some claim) claims =
     put_first (record { number = text.number; words = words_behind text.line; claim = claim }) claims
 
 -- the clients that the line lets vanish all join, so it is good, and no claim; or it is bad
-abbrev pub with_list : Telling → Text → List ℕ → Result (List Told) Bad → Result (List Told) Bad
+abbrev pub with_list : Telling → Text → List ℕ → Result (List ToldClaim) Bad → Result (List ToldClaim) Bad
 with_list telling text names claims =
     if are_clients (listed 32 names) telling.labels.now then claims else Err (bad_line telling text (Some names))
 
 -- the line lets clients vanish, or is a claim, before these; or it is bad
-abbrev pub with_line : Telling → Text → Option (List ℕ) → Result (List Told) Bad → Result (List Told) Bad
+abbrev pub with_line : Telling → Text → Option (List ℕ) → Result (List ToldClaim) Bad → Result (List ToldClaim) Bad
 with_line telling text None claims = with_claim telling text (good_claim telling text.line) claims
 with_line telling text (Some names) claims = with_list telling text names claims
 
 -- the claims of these lines, or the first bad one
-abbrev pub judged : Telling → List Text → Result (List Told) Bad
+abbrev pub judged : Telling → List Text → Result (List ToldClaim) Bad
 judged telling [] = Ok []
 judged telling (text ∷ texts) = with_line telling text (vanish_text text.line) (judged telling texts)
 
 -- the claim as it is told
-abbrev pub claim_in : ClaimLine → Told
+abbrev pub claim_in : ClaimLine → ToldClaim
 claim_in one = record { number = one.number; words = one.words.now; claim = one.claim }
 
 -- these claims as they are told
-abbrev pub claims_in : List ClaimLine → List Told
+abbrev pub claims_in : List ClaimLine → List ToldClaim
 claims_in claims = map claim_in claims
 
 -- the first of these lines that is bad is that of this number, for this reason; or memory was refused
@@ -136,7 +136,7 @@ IsBadText telling text names (BadClaim.Line number reason) =
     IsBadLine telling text names × (number ≡ text.number) × (reason.now ≡ bad_reason telling text.line.now names)
 
 -- these come before the others
-abbrev pub put_before : List Told → Result (List Told) Bad → Result (List Told) Bad
+abbrev pub put_before : List ToldClaim → Result (List ToldClaim) Bad → Result (List ToldClaim) Bad
 put_before claims (Ok more) = Ok (claims ++ more)
 put_before claims (Err bad) = Err bad
 

@@ -19,31 +19,31 @@ abbrev pub line_of_step : List Label → List ℕ → Option ℕ
 line_of_step labels bytes = option_and_then (client_place labels) (option_and_then client_in (line_of bytes))
 
 -- a line that is a step: its client's place, its number, and its bytes
-pub record Told : Type 0 where
+pub record ToldStep : Type 0 where
   pub actor : ℕ
   pub number : ℕ
   pub line : List ℕ
 
 -- the line of this number, if it is a step
-abbrev pub number_and_line : List Label → ℕ → List ℕ → List Told
+abbrev pub number_and_line : List Label → ℕ → List ℕ → List ToldStep
 number_and_line labels number bytes =
     option_map_or (λ (actor : ℕ). record { actor = actor; number = number; line = bytes } ∷ []) (line_of_step labels bytes) []
 
 -- the steps of these lines, of which the first has this number
-abbrev pub steps_from : List Label → ℕ → List (List ℕ) → List Told
+abbrev pub steps_from : List Label → ℕ → List (List ℕ) → List ToldStep
 steps_from labels number [] = []
 steps_from labels number (line ∷ lines) = number_and_line labels number line ++ steps_from labels (number + 1) lines
 
 -- the steps of a script
-abbrev pub step_lines_of : List Label → List ℕ → List Told
+abbrev pub step_lines_of : List Label → List ℕ → List ToldStep
 step_lines_of labels script = steps_from labels 1 (whole_lines script)
 
 -- a step as it is told
-abbrev pub told_line : StepLine → Told
+abbrev pub told_line : StepLine → ToldStep
 told_line step = record { actor = step.actor; number = step.number; line = step.line.now }
 
 -- the steps as they are told
-abbrev pub steps_in : List StepLine → List Told
+abbrev pub steps_in : List StepLine → List ToldStep
 steps_in steps = map told_line steps
 
 -- the actor's step of this number among these

@@ -4,10 +4,10 @@ ghost use Rattle.outcome_texts.specs.Reports.{AppendsReport, counts_text, counts
 ghost use Rattle.outcome_texts.specs.Vanishing.{how_text};
 
 use crate::numbers::push_great;
-use crate::rows::{Among, Parts, Row, push_rows};
+use crate::rows::{Among, Occurrences, ReportRow, push_rows};
 use crate::telling::{Makers, Subject, Telling, subject_at};
 use crate::vanishing::{can_vanish, has_vanished, how_words, is_alike, push_gone};
-use crate::words::Told;
+use crate::words::MadeOutcome;
 use actor_plays::Plan;
 use indexmap::IndexSet;
 use play_search::{Exploration, Found};
@@ -135,46 +135,46 @@ impl Outcomes<'_> {
 // Adds what became of the subject in the outcome of this place.
 fn add_outcome(
     all: &Outcomes<'_>,
-    parts: &mut Parts,
+    occurrences: &mut Occurrences,
     subject: Subject,
     at: usize,
 ) -> Result<(), AllocError> {
     if at < all.outcomes.len() && at < all.makers.len() {
         let found = &all.outcomes[at];
-        let told = Told {
+        let made = MadeOutcome {
             found,
             makers: &all.makers[at],
         };
         let mut what = Vec::new(all.alloc);
-        all.telling.push_what(&mut what, told, subject)?;
+        all.telling.push_what(&mut what, made, subject)?;
         let rank = (all.first as u64).wrapping_add(at as u64).wrapping_add(1);
-        parts.add(all.alloc, what, found.figures.share, rank)?;
+        occurrences.add(all.alloc, what, found.figures.share, rank)?;
     }
     Ok(())
 }
 
 // What became of the subject in all outcomes.
-fn parts_of(all: &Outcomes<'_>, subject: Subject) -> Result<Parts, AllocError> {
-    let mut parts = Parts::new(all.alloc, all.telling.hash);
+fn occurrences_of(all: &Outcomes<'_>, subject: Subject) -> Result<Occurrences, AllocError> {
+    let mut occurrences = Occurrences::new(all.alloc, all.telling.hash);
     for at in 0..all.outcomes.len() {
-        add_outcome(all, &mut parts, subject, at)?;
+        add_outcome(all, &mut occurrences, subject, at)?;
     }
-    Ok(parts)
+    Ok(occurrences)
 }
 
-// Rows of one kind of subjects, of which those with the same parts stand on one.
+// Rows of one kind of subjects, of which those that became the same in the same outcomes stand on one.
 #[derive(Drop)]
-struct Rows {
+struct ReportRows {
     signatures: IndexSet<Vec<u8>, LabelHash>,
-    rows: Vec<Row>,
+    rows: Vec<ReportRow>,
 }
 
-impl Rows {
+impl ReportRows {
     // Adds the subject.
     fn add(&mut self, all: &Outcomes<'_>, subject: Subject) -> Result<(), AllocError> {
-        let parts = parts_of(all, subject)?;
+        let occurrences = occurrences_of(all, subject)?;
         let mut signature = Vec::new(all.alloc);
-        parts.push_signature(&mut signature)?;
+        occurrences.push_signature(&mut signature)?;
         let (place, is_new) = match self.signatures.insert_full(signature) {
             Ok(placed) => placed,
             Err(_) => return Err(AllocError),
@@ -182,7 +182,7 @@ impl Rows {
         if is_new {
             let mut names = Vec::new(all.alloc);
             all.telling.push_name(&mut names, subject)?;
-            self.rows.push(Row { names, parts })?;
+            self.rows.push(ReportRow { names, occurrences })?;
         } else if place < self.rows.len() {
             let names = &mut self.rows[place].names;
             push(names, " ")?;
@@ -195,10 +195,10 @@ impl Rows {
 // Appends the rows of these subjects.
 fn push_subjects(
     all: &Outcomes<'_>,
-    rows: &mut Vec<Row>,
+    rows: &mut Vec<ReportRow>,
     subjects: &[Subject],
 ) -> Result<(), AllocError> {
-    let mut more = Rows {
+    let mut more = ReportRows {
         signatures: IndexSet::with_hasher(all.alloc, all.telling.hash),
         rows: Vec::new(all.alloc),
     };
@@ -206,7 +206,11 @@ fn push_subjects(
     rows.append(&mut more.rows)
 }
 
-fn add_all(rows: &mut Rows, all: &Outcomes<'_>, subjects: &[Subject]) -> Result<(), AllocError> {
+fn add_all(
+    rows: &mut ReportRows,
+    all: &Outcomes<'_>,
+    subjects: &[Subject],
+) -> Result<(), AllocError> {
     for subject in subjects {
         rows.add(all, *subject)?;
     }
@@ -214,7 +218,7 @@ fn add_all(rows: &mut Rows, all: &Outcomes<'_>, subjects: &[Subject]) -> Result<
 }
 
 // All rows: nodes, clients, trackers, free pages.
-fn rows_of(all: &Outcomes<'_>) -> Result<Vec<Row>, AllocError> {
+fn rows_of(all: &Outcomes<'_>) -> Result<Vec<ReportRow>, AllocError> {
     let mut rows = Vec::new(all.alloc);
     let nodes = made_subjects(all.alloc, all.telling, false)?;
     push_subjects(all, &mut rows, &nodes)?;
@@ -257,18 +261,25 @@ fn extent(complete: bool) -> &'static str
     if complete { ", " } else { "not all explored: " }
 }
 
+// What a report says first of a search: how many steps its clients have, who may vanish, and how many orders there are.
+#[derive(Clone, Copy)]
+struct ReportHead<'a> {
+    steps: usize,
+    how: &'a [u8],
+    orders: &'a [u8],
+}
+
 // Appends how many clients, steps, orders, states and outcomes there are, with these words on who vanishes.
 fn push_counts<'a>(
     text: &mut Vec<u8>,
     clients: usize,
-    steps: usize,
-    how: &'a [u8],
+    head: ReportHead<'a>,
     found: &Exploration,
-    orders: &'a [u8],
 ) -> Result<(), AllocError>
-    ensures { OnOk result
-        (text.new.items ≡ text.old.items ++ counts_with clients steps how.now found.now orders.now) }
+    ensures { OnOk result (text.new.items ≡ text.old.items
+        ++ counts_with clients head.entry.steps head.entry.how.now found.now head.entry.orders.now) }
 {
+    let ReportHead { steps, how, orders } = head;
     push_parts(
         text,
         &[
@@ -390,17 +401,15 @@ fn rows_text(
 fn push_told<'a>(
     text: &mut Vec<u8>,
     telling: &Telling<'_>,
-    steps: usize,
-    how: &'a [u8],
+    head: ReportHead<'a>,
     found: &Exploration,
-    orders: &'a [u8],
     rows: &[u8],
 ) -> Result<(), AllocError>
-    requires { how.now ≡ how_text telling.now.labels.now telling.now.vanishing }
-    ensures { OnOk result
-        (text.new.items ≡ text.old.items ++ counts_text telling.now steps found.now orders.now ++ rows.now) }
+    requires { head.how.now ≡ how_text telling.now.labels.now telling.now.vanishing }
+    ensures { OnOk result (text.new.items ≡ text.old.items
+        ++ counts_text telling.now head.entry.steps found.now head.entry.orders.now ++ rows.now) }
 {
-    push_counts(text, telling.labels.len(), steps, how, found, orders)?;
+    push_counts(text, telling.labels.len(), head, found)?;
     text.extend_from_slice(rows)
 }
 
@@ -420,7 +429,11 @@ pub fn push_report(
 {
     let orders = orders_words(alloc, found.orders)?;
     let rows = rows_text(alloc, telling, &found.outcomes)?;
-    let steps = steps_in(telling.plans);
     let how = how_words(alloc, telling.labels, telling.vanishing)?;
-    push_told(text, telling, steps, &how, found, &orders, &rows)
+    let head = ReportHead {
+        steps: steps_in(telling.plans),
+        how: &how,
+        orders: &orders,
+    };
+    push_told(text, telling, head, found, &rows)
 }

@@ -6,16 +6,16 @@ use std::alloc::{AllocError, Global};
 
 // The share of the runs in which something became of it, and the outcomes, by number.
 #[derive(Drop)]
-pub(crate) struct Part {
+pub(crate) struct Occurrence {
     share: f64,
     ranks: Vec<u64>,
 }
 
-// All that became of it, each with its part.
+// All that became of it, each with the outcomes in which it did.
 #[derive(Drop)]
-pub(crate) struct Parts {
+pub(crate) struct Occurrences {
     whats: IndexSet<Vec<u8>, LabelHash>,
-    parts: Vec<Part>,
+    each: Vec<Occurrence>,
 }
 
 // How many outcomes rows tell of, and whether these have shares of the runs.
@@ -25,11 +25,11 @@ pub(crate) struct Among {
     pub(crate) have_shares: bool,
 }
 
-// The names of which these are the parts.
+// The names of those of which all this became.
 #[derive(Drop)]
-pub(crate) struct Row {
+pub(crate) struct ReportRow {
     pub(crate) names: Vec<u8>,
-    pub(crate) parts: Parts,
+    pub(crate) occurrences: Occurrences,
 }
 
 // Appends so many spaces.
@@ -75,7 +75,7 @@ fn push_of_hundred(alloc: Global, text: &mut Vec<u8>, share: f64) -> Result<(), 
     push(text, " of 100: ")
 }
 
-impl Part {
+impl Occurrence {
     // Appends in which of the outcomes it was so.
     fn push_which(&self, alloc: Global, text: &mut Vec<u8>, of: Among) -> Result<(), AllocError> {
         if self.ranks.len() == of.outcomes {
@@ -88,11 +88,11 @@ impl Part {
     }
 }
 
-impl Parts {
-    pub(crate) fn new(alloc: Global, hash: LabelHash) -> Parts {
-        Parts {
+impl Occurrences {
+    pub(crate) fn new(alloc: Global, hash: LabelHash) -> Occurrences {
+        Occurrences {
             whats: IndexSet::with_hasher(alloc, hash),
-            parts: Vec::new(alloc),
+            each: Vec::new(alloc),
         }
     }
 
@@ -103,11 +103,11 @@ impl Parts {
             Err(_) => return Err(AllocError),
         };
         if is_new {
-            let part = Part {
+            let occurrence = Occurrence {
                 share: 0.0,
                 ranks: Vec::new(alloc),
             };
-            self.parts.push(part)?;
+            self.each.push(occurrence)?;
         }
         Ok(place)
     }
@@ -121,21 +121,21 @@ impl Parts {
         rank: u64,
     ) -> Result<(), AllocError> {
         let place = self.place(alloc, what)?;
-        if place < self.parts.len() {
-            let part = &mut self.parts[place];
-            part.share = part.share + share;
-            part.ranks.push(rank)?;
+        if place < self.each.len() {
+            let occurrence = &mut self.each[place];
+            occurrence.share = occurrence.share + share;
+            occurrence.ranks.push(rank)?;
         }
         Ok(())
     }
 
-    // Appends the text that tells these parts from others.
+    // Appends the text that tells them from others.
     pub(crate) fn push_signature(&self, text: &mut Vec<u8>) -> Result<(), AllocError> {
         let whats = self.whats.as_slice();
         for at in 0..whats.len() {
             text.extend_from_slice(&whats[at])?;
-            if at < self.parts.len() {
-                push_numbers(text, &self.parts[at].ranks)?;
+            if at < self.each.len() {
+                push_numbers(text, &self.each[at].ranks)?;
             }
             push(text, "\n")?;
         }
@@ -153,18 +153,18 @@ impl Parts {
 }
 
 // The widths of the names, at most 40, and of all that became of them.
-fn widths(rows: &[Row]) -> (usize, usize) {
+fn widths(rows: &[ReportRow]) -> (usize, usize) {
     let mut left: usize = 0;
     let mut middle: usize = 0;
     for row in rows {
         left = left.max(row.names.len());
-        middle = middle.max(row.parts.width());
+        middle = middle.max(row.occurrences.width());
     }
     (left.min(40), middle)
 }
 
-impl Row {
-    // Appends a line for the part at this place: the names stand on the first.
+impl ReportRow {
+    // Appends a line for what became of it at this place: the names stand on the first.
     fn push_line(
         &self,
         alloc: Global,
@@ -178,13 +178,13 @@ impl Row {
         push(text, "  ")?;
         push_left(text, names, left)?;
         push(text, "  ")?;
-        let whats = self.parts.whats.as_slice();
+        let whats = self.occurrences.whats.as_slice();
         if at < whats.len() {
             push_left(text, &whats[at], middle)?;
         }
         push(text, "  ")?;
-        if at < self.parts.parts.len() {
-            self.parts.parts[at].push_which(alloc, text, of)?;
+        if at < self.occurrences.each.len() {
+            self.occurrences.each[at].push_which(alloc, text, of)?;
         }
         push(text, "\n")
     }
@@ -196,7 +196,7 @@ impl Row {
         widths: (usize, usize),
         of: Among,
     ) -> Result<(), AllocError> {
-        for at in 0..self.parts.parts.len() {
+        for at in 0..self.occurrences.each.len() {
             self.push_line(alloc, text, at, widths, of)?;
         }
         Ok(())
@@ -207,7 +207,7 @@ impl Row {
 pub(crate) fn push_rows(
     alloc: Global,
     text: &mut Vec<u8>,
-    rows: &[Row],
+    rows: &[ReportRow],
     of: Among,
 ) -> Result<(), AllocError> {
     let widths = widths(rows);

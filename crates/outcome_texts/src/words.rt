@@ -9,7 +9,7 @@ use std::alloc::AllocError;
 
 // An outcome, with the steps that made its nodes.
 #[derive(Clone, Copy)]
-pub(crate) struct Told<'a> {
+pub(crate) struct MadeOutcome<'a> {
     pub(crate) found: &'a Found,
     pub(crate) makers: &'a Makers,
 }
@@ -100,15 +100,15 @@ impl<'a> Telling<'a> {
     pub(crate) fn push_what(
         &self,
         text: &mut Vec<u8>,
-        told: Told<'_>,
+        made: MadeOutcome<'_>,
         subject: Subject,
     ) -> Result<(), AllocError> {
         match subject {
             Subject::Node(actor, at) | Subject::Tracker(actor, at) => {
-                self.push_became(text, told.makers, became_at(told.found, actor, at))
+                self.push_became(text, made.makers, became_at(made.found, actor, at))
             }
-            Subject::Client(actor) => self.push_client(text, told.found, actor),
-            Subject::Free => push_number(text, told.found.outcome.free as u64),
+            Subject::Client(actor) => self.push_client(text, made.found, actor),
+            Subject::Free => push_number(text, made.found.outcome.free as u64),
         }
     }
 
