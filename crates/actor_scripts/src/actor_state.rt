@@ -35,7 +35,7 @@ pub struct ActorState {
 }
 
 impl ActorState {
-    /// Nothing is known. Takes no memory, and O(1) time.
+    /// Nothing is known. Takes no memory. Costs O(1).
     pub fn new(alloc: Global) -> ActorState
         ensures { known result ≡ nothing_known }
     {

@@ -29,8 +29,8 @@ use std::mem;
 ///   for such a client; or it has no end, or stands behind the last of a script without clients.
 /// - `NoMemory`: memory was refused.
 ///
-/// Takes a time in proportion to the script's length, and for each line at most three looks into a
-/// table of labels. The hash of labels changes what a look-up costs, and no answer.
+/// The hash of labels changes what a look-up costs, and no answer. Costs O(n) for n bytes, and at
+/// most three look-ups of labels for each line.
 pub fn read_actors<R: Read>(
     alloc: Global,
     labels: LabelHash,

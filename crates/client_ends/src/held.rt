@@ -22,7 +22,7 @@ pub struct Held<E: Setup, S: Ledger, W: Ledger> {
 }
 
 impl<E: Setup, S: Ledger, W: Ledger> Held<E, S, W> {
-    /// No values: three empty lists. Costs O(1), and takes no memory.
+    /// No values: three empty lists. Takes no memory. Costs O(1).
     pub fn new(alloc: Global) -> Held<E, S, W>
         ensures tokens { result.tokens.items ≡ [] }
         ensures collections { result.collections.items ≡ [] }

@@ -408,7 +408,7 @@ fn commands() -> &'static [Row] {
     COMMANDS
 }
 
-/// The commands with their options and help. Takes O(1) time.
+/// The commands with their options and help. Costs O(1).
 pub fn command<'a>(alloc: Global) -> Result<Command<'a>, AllocError> {
     let mut program = program(alloc)?;
     for row in commands() {

@@ -20,7 +20,7 @@ pub struct CommandLine<'a> {
 }
 
 /// What the matches of a parse ask for. `None` where no pool has as many pages as they ask for.
-/// Takes a time in proportion to the words.
+/// Costs O(n) for n words.
 pub fn request_of<'a>(matches: &ArgMatches<'a>) -> Option<CommandLine<'a>>
     ensures pages { AreAsked (value_text (codes "pages") matches.now)
         (option_map (λ request. request.pages.count) result) }

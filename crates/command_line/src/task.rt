@@ -85,7 +85,7 @@ pub enum ScriptTask<'a> {
 }
 
 /// What the matches of a parse ask for: the task of the subcommand of that name, and `Run` for any other
-/// name. Takes a time in proportion to the words.
+/// name. Costs O(n) for n words.
 pub fn task_of<'a>(matches: &ArgMatches<'a>) -> ScriptTask<'a>
     ensures task { IsTask (subcommand_name_of matches.now) result }
     ensures format { HasFormat (subcommand_text (codes "format") matches.now) result }

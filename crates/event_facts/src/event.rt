@@ -108,7 +108,7 @@ fn after_of(core: &Core, before: &Option<Before>) -> Result<Option<Snapshot>, St
     }
 }
 
-/// The trackers that fired since this many had, by event and then by id. Takes O(1) time.
+/// The trackers that fired since this many had, by event and then by id. Costs O(1).
 pub fn fired_since(core: &Core, before: usize) -> &[Fired]
     ensures { result.now ≡ drop before core.now.trackers.fired }
 {
@@ -121,7 +121,7 @@ pub fn fired_since(core: &Core, before: usize) -> &[Fired]
 }
 
 impl Event {
-    /// What the collection has been given by now, if it was given buffers. Takes O(1) time.
+    /// What the collection has been given by now, if it was given buffers. Costs O(1).
     pub fn given(&self) -> Option<Buffers>
         ensures { result ≡ given_in self.now.after self.now.before }
     {
@@ -156,7 +156,7 @@ impl Event {
         }
     }
 
-    /// The collection's buffers with pages after the event. Takes O(1) time.
+    /// The collection's buffers with pages after the event. Costs O(1).
     pub fn held_after(&self) -> &[HeldBuffer]
         ensures { result.now ≡ snapshot_held self.now.after }
     {
@@ -192,8 +192,8 @@ fn left(core: &Core, node: &Node) -> bool
     !(node.gone || node.released) && !core.is_live(node.key)
 }
 
-/// The collection's buffers with their pages after a mark, where these moments follow it. Takes O(1)
-/// time.
+/// The collection's buffers with their pages after a mark, where these moments follow it. Costs
+/// O(1).
 pub fn placed_by<'a>(later: &'a [Moment], event: &'a Event) -> Option<(Buffers, &'a [HeldBuffer])>
     ensures buffers { option_map (λ placed. placed.0) result
         ≡ option_and_then (λ (s : Copy). s.buffers) (scene_after later.now event.now.after) }

@@ -10,9 +10,9 @@ use sm_names::NodeKey;
 use std::alloc::{AllocError, Global};
 use std::collections::BTreeMap;
 
-/// The keys as a set. Costs O(n log n) for n keys.
+/// The keys as a set.
 ///
-/// `AllocError` where memory is refused.
+/// `AllocError` where memory is refused. Costs O(n log n) for n keys.
 pub fn keys_of(alloc: Global, keys: &[NodeKey]) -> Result<KeySet, AllocError>
     ensures { IfOk result (λ set. HasKeys set keys.now) }
 {
@@ -30,7 +30,7 @@ pub struct KeyMap<V> {
 }
 
 impl<V: Drop> KeyMap<V> {
-    /// No values. Takes O(1) time.
+    /// No values. Costs O(1).
     pub fn new(alloc: Global) -> KeyMap<V>
         ensures { (key : Key) → value_at result key ≡ None }
     {
@@ -46,9 +46,9 @@ impl<V: Drop> KeyMap<V> {
         self.values.get(&key)
     }
 
-    /// Gives the key this value, unless it has one. Costs O(log n) for n keys.
+    /// Gives the key this value, unless it has one.
     ///
-    /// `AllocError` where memory is refused.
+    /// `AllocError` where memory is refused. Costs O(log n) for n keys.
     pub fn add(&mut self, key: NodeKey, value: V) -> Result<(), AllocError>
         ensures { OnOk result ((other : Key) → value_at self.new other
             ≡ option_or (value_at self.old other) (if same_key key other then Some value else None)) }
@@ -68,7 +68,7 @@ pub struct KeyRows<V> {
 }
 
 impl<V: Copy + Drop> KeyRows<V> {
-    /// Each row is empty. Takes O(1) time.
+    /// Each row is empty. Costs O(1).
     pub fn new(alloc: Global) -> KeyRows<V>
         ensures { (key : Key) → values_at result key ≡ [] }
     {
@@ -87,9 +87,9 @@ impl<V: Copy + Drop> KeyRows<V> {
         }
     }
 
-    /// Puts the value behind the others of the key's row. Costs O(log n) for n rows that are not empty.
+    /// Puts the value behind the others of the key's row.
     ///
-    /// `AllocError` where memory is refused.
+    /// `AllocError` where memory is refused. Costs O(log n) for n rows that are not empty.
     pub fn add(&mut self, alloc: Global, key: NodeKey, value: V) -> Result<(), AllocError>
         ensures { OnOk result ((other : Key) → values_at self.new other
             ≡ values_at self.old other ++ (if same_key key other then value ∷ [] else [])) }

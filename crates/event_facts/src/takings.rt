@@ -46,9 +46,9 @@ fn takes(under: &KeySet, node: &Node) -> bool
 }
 
 /// To which nodes each node hands on what takes it: its children among those that are taken, by birth, but
-/// for those on the way up. Costs O(n log n) for n nodes, those on the way among them.
+/// for those on the way up.
 ///
-/// `AllocError` where memory is refused.
+/// `AllocError` where memory is refused. Costs O(n log n) for n nodes, those on the way among them.
 pub fn handed_on(taken: &Vec<Node>, way: &[NodeKey]) -> Result<KeyRows<NodeKey>, AllocError>
     ensures { IfOk result (λ rows. (above : Key) → values_at rows above
         ≡ map (λ (n : NodeValue). n.key) (filter (is_handed way.now above) taken.now.items)) }

@@ -55,7 +55,7 @@ pub struct EventWriter {
 impl EventWriter {
     /// An event writer that has seen no line. Counts and labels hash from the seed.
     ///
-    /// `NoMemory` where the core is refused its first tables. Takes O(1) time.
+    /// `NoMemory` where the core is refused its first tables. Costs O(1).
     pub fn new(
         alloc: Global,
         seed: [u8; 16],
@@ -349,7 +349,7 @@ impl EventWriter {
     }
 
     /// Appends the label under which the end of the node was collected last, if it is another than that
-    /// of its birth. Costs a look into two tables.
+    /// of its birth. Costs two look-ups.
     pub fn push_other_name(&self, text: &mut Vec<u8>, node: NodeKey) -> Result<(), AllocError>
         ensures { OnOk result ((names : Names) → Keeps self.now.session.tables names →
             Calls self.now.labels names → text.new.items ≡ text.old.items
@@ -362,7 +362,7 @@ impl EventWriter {
         )
     }
 
-    /// Appends the name of the buffer. Costs a look into a table, and the text.
+    /// Appends the name of the buffer. Costs O(n) for n bytes of text, and a look-up.
     pub fn push_buffer_name(&self, text: &mut Vec<u8>, buffer: BufferName) -> Result<(), AllocError>
         ensures { OnOk result ((names : Names) → Keeps self.now.session.tables names →
             text.new.items ≡ text.old.items ++ buffer_name names buffer) }

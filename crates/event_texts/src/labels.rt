@@ -18,7 +18,7 @@ pub struct Labels {
 }
 
 impl Labels {
-    /// No labels. Takes O(1) time.
+    /// No labels. Costs O(1).
     pub fn new(alloc: Global) -> Labels
         ensures { Calls result no_names }
     {
@@ -59,7 +59,7 @@ impl Labels {
         Ok(())
     }
 
-    /// The label of the client. Costs a look into a table.
+    /// The label of the client. Costs a look-up.
     pub fn client(&self, client: ClientId) -> Option<Label>
         ensures { (names : Names) → Calls self.now names → result ≡ client_label names client }
     {
@@ -67,7 +67,7 @@ impl Labels {
     }
 
     /// The label that the node got last: that of its birth, or the last under which its end was collected.
-    /// Costs a look into a table.
+    /// Costs a look-up.
     pub fn last(&self, node: NodeKey) -> Option<Label>
         ensures { (names : Names) → Calls self.now names → result ≡ last_label names node }
     {

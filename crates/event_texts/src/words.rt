@@ -23,7 +23,7 @@ pub(crate) const PAGE: u64 = PAGE_SIZE as u64;
 // How many bits a set has, one for each buffer.
 const SET_BITS: u8 = 64;
 
-/// Appends the node's label. Takes a time in proportion to it, and a look into a table.
+/// Appends the node's label. Costs O(n) for a label of n bytes, and a look-up.
 pub fn push_name(text: &mut Vec<u8>, tables: &Tables, node: NodeKey) -> Result<(), AllocError>
     ensures { OnOk result ((names : Names) → Keeps tables.now names →
         text.new.items ≡ text.old.items ++ label_text (label_of_node names node)) }
@@ -31,8 +31,7 @@ pub fn push_name(text: &mut Vec<u8>, tables: &Tables, node: NodeKey) -> Result<(
     push_label(text, tables.birth_label(node))
 }
 
-/// Appends a space and the label of each node. Takes a time in proportion to them, and a look into a table
-/// for each.
+/// Appends a space and the label of each node. Costs O(n) for n bytes of labels, and a look-up of each.
 pub fn push_nodes(text: &mut Vec<u8>, tables: &Tables, nodes: &[NodeKey]) -> Result<(), AllocError>
     ensures { OnOk result ((names : Names) → Keeps tables.now names →
         text.new.items ≡ text.old.items ++ flat_map (node_text names) nodes.now) }
@@ -43,7 +42,7 @@ pub fn push_nodes(text: &mut Vec<u8>, tables: &Tables, nodes: &[NodeKey]) -> Res
     Ok(())
 }
 
-/// Appends the client's label. Takes a time in proportion to it, and a look into a table.
+/// Appends the client's label. Costs O(n) for a label of n bytes, and a look-up.
 pub fn push_client(text: &mut Vec<u8>, labels: &Labels, client: ClientId) -> Result<(), AllocError>
     ensures { OnOk result ((names : Names) → Calls labels.now names →
         text.new.items ≡ text.old.items ++ label_text (client_label names client)) }

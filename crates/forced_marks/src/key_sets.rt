@@ -15,7 +15,7 @@ pub struct KeySet {
 }
 
 impl KeySet {
-    /// No keys. Takes O(1) time.
+    /// No keys. Costs O(1).
     pub fn new(alloc: Global) -> KeySet
         ensures { (key : Key) → is_in result key ≡ false }
     {
@@ -31,9 +31,9 @@ impl KeySet {
         self.keys.contains(&key)
     }
 
-    /// Adds the key, if it is to be there. Costs O(log n) for n keys.
+    /// Adds the key, if it is to be there.
     ///
-    /// `AllocError` where memory is refused.
+    /// `AllocError` where memory is refused. Costs O(log n) for n keys.
     pub fn add_if(&mut self, key: NodeKey, there: bool) -> Result<(), AllocError>
         ensures { OnOk result ((other : Key) →
             is_in self.new other ≡ (there && same_key key other || is_in self.old other)) }
@@ -44,9 +44,9 @@ impl KeySet {
         Ok(())
     }
 
-    /// Adds the key if it is to be there, and removes it if not. Costs O(log n) for n keys.
+    /// Adds the key if it is to be there, and removes it if not.
     ///
-    /// `AllocError` where memory is refused.
+    /// `AllocError` where memory is refused. Costs O(log n) for n keys.
     pub fn put(&mut self, key: NodeKey, there: bool) -> Result<(), AllocError>
         ensures { OnOk result ((other : Key) →
             is_in self.new other ≡ (if same_key key other then there else is_in self.old other)) }

@@ -14,9 +14,9 @@ use sm_names::{Buffers, Failure, NodeKey};
 use std::alloc::{AllocError, Global};
 
 /// The head of the unit that is to be allocated next: of the attached units that are ready and not
-/// allocated, below an allocated unit, the one whose head was born first. Costs O(n log n) for n nodes.
+/// allocated, below an allocated unit, the one whose head was born first.
 ///
-/// `AllocError` where memory is refused.
+/// `AllocError` where memory is refused. Costs O(n log n) for n nodes.
 pub fn next_head(alloc: Global, nodes: &[Node]) -> Result<Option<NodeKey>, AllocError>
     ensures { IfOk result (λ head.
         head ≡ option_map (λ n. n.key) (find (is_next_node nodes.now) nodes.now)) }

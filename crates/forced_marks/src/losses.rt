@@ -12,9 +12,9 @@ use sm_names::{Fault, NodeKey};
 use std::alloc::{AllocError, Global};
 
 /// The node where the fault began fails, and with it the highest node that its failure climbs to
-/// and all below that one. Nodes that are gone keep their faults. Costs O(n log n) for n nodes.
+/// and all below that one. Nodes that are gone keep their faults.
 ///
-/// `AllocError` where memory is refused: then nothing is changed.
+/// `AllocError` where memory is refused: then nothing is changed. Costs O(n log n) for n nodes.
 pub fn lose(alloc: Global, nodes: &mut [Node], fault: Fault) -> Result<(), AllocError>
     ensures made { OnOk result (nodes.new ≡ after_loss fault nodes.old) }
     ensures stays { OnErr result (nodes.new ≡ nodes.old) }

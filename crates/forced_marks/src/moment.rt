@@ -16,9 +16,9 @@ pub struct Moment {
     pub before: Snapshot,
 }
 
-/// The moment of the loss that the change itself is, if it is one. Costs a copy of the collection then.
+/// The moment of the loss that the change itself is, if it is one.
 ///
-/// `AllocError` where memory is refused.
+/// `AllocError` where memory is refused. Costs a copy of the collection then.
 pub fn own_moment(
     alloc: Global,
     change: &Change,

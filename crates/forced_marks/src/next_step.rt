@@ -26,9 +26,10 @@ use std::alloc::{AllocError, Global};
 
 /// The next step that the collection forces, if any: the first of these that applies. A collection
 /// or an attached subtree ends, the buffers are abandoned, the root unit is allocated, or an
-/// attached unit is. Costs O(n log n) for n nodes, and a look-up for each of its buffers.
+/// attached unit is.
 ///
-/// `AllocError` where memory is refused.
+/// `AllocError` where memory is refused. Costs O(n log n) for n nodes, and a look-up for each of
+/// its buffers.
 pub fn decide(scene: &Snapshot, holds: &Holds) -> Result<Option<PendingStep>, AllocError>
     requires { IsSound (collection_of scene.now) }
     ensures forced { IfOk result (λ step. (pool : ℕ) (others : List Interval) →

@@ -14,9 +14,9 @@ use forest_store::Node;
 use sm_names::NodeKey;
 use std::alloc::{AllocError, Global};
 
-/// The top node and those below it. Costs O(n log n) for n nodes.
+/// The top node and those below it.
 ///
-/// `AllocError` where memory is refused.
+/// `AllocError` where memory is refused. Costs O(n log n) for n nodes.
 pub fn nodes_under(alloc: Global, nodes: &[Node], top: NodeKey) -> Result<KeySet, AllocError>
     ensures { IfOk result (λ under. (key : Key) → has under key ≡ is_below nodes.now top key) }
 {
@@ -42,9 +42,9 @@ fn joins(under: &KeySet, top: NodeKey, node: &Node) -> bool
     }
 }
 
-/// The nodes at or below which a node is live. Costs O(n log n) for n nodes.
+/// The nodes at or below which a node is live.
 ///
-/// `AllocError` where memory is refused.
+/// `AllocError` where memory is refused. Costs O(n log n) for n nodes.
 pub fn busy_nodes(alloc: Global, nodes: &[Node]) -> Result<KeySet, AllocError>
     requires { are_distinct nodes.now ≡ true }
     ensures { IfOk result (λ busy. (key : Key) →
@@ -82,9 +82,9 @@ fn climb(busy: &mut KeySet, node: &Node) -> Result<(), AllocError>
     busy.add_if(node.key, true)
 }
 
-/// The nodes that are not gone, and whose unit has its buffers. Costs O(n log n) for n nodes.
+/// The nodes that are not gone, and whose unit has its buffers.
 ///
-/// `AllocError` where memory is refused.
+/// `AllocError` where memory is refused. Costs O(n log n) for n nodes.
 pub fn allocated_nodes(alloc: Global, nodes: &[Node]) -> Result<KeySet, AllocError>
     ensures { IfOk result (λ keys. (key : Key) →
         has keys key ≡ list_any (is_allocated_node key) nodes.now) }
@@ -96,9 +96,9 @@ pub fn allocated_nodes(alloc: Global, nodes: &[Node]) -> Result<KeySet, AllocErr
     Ok(keys)
 }
 
-/// The heads of the units that wait for constraints or a release. Costs O(n log n) for n nodes.
+/// The heads of the units that wait for constraints or a release.
 ///
-/// `AllocError` where memory is refused.
+/// `AllocError` where memory is refused. Costs O(n log n) for n nodes.
 pub fn waiting_heads(alloc: Global, nodes: &[Node]) -> Result<KeySet, AllocError>
     ensures { IfOk result (λ keys. (key : Key) →
         has keys key ≡ not (list_all (is_ready_node key) nodes.now)) }
@@ -110,9 +110,9 @@ pub fn waiting_heads(alloc: Global, nodes: &[Node]) -> Result<KeySet, AllocError
     Ok(keys)
 }
 
-/// The nodes whose failure does not go to their parent. Costs O(n log n) for n nodes.
+/// The nodes whose failure does not go to their parent.
 ///
-/// `AllocError` where memory is refused.
+/// `AllocError` where memory is refused. Costs O(n log n) for n nodes.
 pub fn blocking_nodes(alloc: Global, nodes: &[Node]) -> Result<KeySet, AllocError>
     ensures { IfOk result (λ keys. (key : Key) →
         has keys key ≡ list_any (blocks_here key) nodes.now) }

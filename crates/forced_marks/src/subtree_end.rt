@@ -14,9 +14,9 @@ use sm_names::NodeKey;
 use std::alloc::{AllocError, Global};
 
 /// Of the roots and attached nodes that are not gone, with no live node at or below them, the one
-/// that was born first. It ends. Costs O(n log n) for n nodes.
+/// that was born first. It ends.
 ///
-/// `AllocError` where memory is refused.
+/// `AllocError` where memory is refused. Costs O(n log n) for n nodes.
 pub fn deserted_head(alloc: Global, nodes: &[Node]) -> Result<Option<NodeKey>, AllocError>
     requires { are_distinct nodes.now ≡ true }
     ensures { IfOk result (λ head.
@@ -46,9 +46,9 @@ fn is_deserted(busy: &KeySet, node: &Node) -> bool
     (node.parent.is_none() || node.attached) && !node.gone && !busy.has(node.key)
 }
 
-/// The top node leaves without a fault, and all below it. Costs O(n log n) for n nodes.
+/// The top node leaves without a fault, and all below it.
 ///
-/// `AllocError` where memory is refused: then nothing is changed.
+/// `AllocError` where memory is refused: then nothing is changed. Costs O(n log n) for n nodes.
 pub fn end_subtree(alloc: Global, nodes: &mut [Node], top: NodeKey) -> Result<(), AllocError>
     ensures made { OnOk result (nodes.new ≡ after_end top nodes.old) }
     ensures stays { OnErr result (nodes.new ≡ nodes.old) }

@@ -71,7 +71,7 @@ fn reason_of_rest(rest: &[u8]) -> &'static str
     }
 }
 
-/// Why the line of this number is the first bad one of the script. Takes a time in proportion to the script.
+/// Why the line of this number is the first bad one of the script. Costs O(n) for a script of n bytes.
 pub(crate) fn reason_of(script: &[u8], number: u64) -> &'static str
     ensures { result.now ≡ reason_at script.now number }
 {

@@ -26,8 +26,8 @@ use std::alloc::AllocError;
 /// Appends the picture, and what its signs stand for; the last event has this line.
 ///
 /// `NoMemory` where memory is refused. Costs O(n log n) for the n nodes of each tree and the n links that
-/// failures followed, a look into a table for each label, and for each buffer a look-up for each client
-/// and strength.
+/// failures followed, a look-up of each label, and for each buffer a look-up for each client and
+/// strength.
 #[tactic(auto, unfolding(crate::specs::DotPictures::dot_text))]
 pub fn push_dot(
     text: &mut Vec<u8>,

@@ -28,7 +28,7 @@ pub const EARTH: &str = "#7A6A00";
 /// The ground of a released node.
 pub const WHITE: &str = "#FFFFFF";
 
-/// The colour that a node is filled with. Takes O(1) time.
+/// The colour that a node is filled with. Costs O(1).
 pub fn fill_color(class: Class) -> &'static str
     ensures { result.now ≡ fill_text class }
 {
@@ -41,7 +41,7 @@ pub fn fill_color(class: Class) -> &'static str
     }
 }
 
-/// The colour of a node's border. Takes O(1) time.
+/// The colour of a node's border. Costs O(1).
 pub fn edge_color(class: Class) -> &'static str
     ensures { result.now ≡ edge_text class }
 {
@@ -53,7 +53,7 @@ pub fn edge_color(class: Class) -> &'static str
     }
 }
 
-/// The colour of a node's words. Takes O(1) time.
+/// The colour of a node's words. Costs O(1).
 pub fn ink_color(class: Class) -> &'static str
     ensures { result.now ≡ ink_text class }
 {

@@ -34,9 +34,9 @@ pub struct Travel {
     pub way: Way,
 }
 
-/// The links by their nodes. Costs O(n log n) for n links.
+/// The links by their nodes.
 ///
-/// `AllocError` where memory is refused.
+/// `AllocError` where memory is refused. Costs O(n log n) for n links.
 pub fn travels_by_node(alloc: Global, travels: &[Travel]) -> Result<KeyMap<Travel>, AllocError>
     ensures { IfOk result (λ map. FindsTravels map travels.now) }
 {

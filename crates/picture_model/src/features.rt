@@ -28,7 +28,7 @@ pub enum Class {
     Ended,
 }
 
-/// What the node is drawn as. Takes O(1) time.
+/// What the node is drawn as. Costs O(1).
 pub fn class_of(node: &Node) -> Class
     ensures { result ≡ class_in node.now }
 {
@@ -51,7 +51,7 @@ pub fn class_of(node: &Node) -> Class
     }
 }
 
-/// The sign of what a node is drawn as: none for a live one. Takes O(1) time.
+/// The sign of what a node is drawn as: none for a live one. Costs O(1).
 pub fn class_sign(class: Class) -> &'static str
     ensures { result.now ≡ sign_text class }
 {
@@ -75,7 +75,7 @@ pub enum LinkStyle {
 }
 
 /// How the link of the node to its parent is drawn: that of an attached node as attached, also if the node
-/// is dispensable. Takes O(1) time.
+/// is dispensable. Costs O(1).
 pub fn link_of(node: &Node) -> LinkStyle
     ensures { result ≡ link_in node.now }
 {
@@ -88,14 +88,14 @@ pub fn link_of(node: &Node) -> LinkStyle
     }
 }
 
-/// The name of what the node's end is. Takes O(1) time.
+/// The name of what the node's end is. Costs O(1).
 pub fn kind_name(node: &Node) -> &'static str
     ensures { result.now ≡ kind_text node.now }
 {
     if node.bound { "collection" } else { "token" }
 }
 
-/// Appends where the node's end is. Takes a time in proportion to the text.
+/// Appends where the node's end is. Costs O(n) for n bytes of text.
 pub fn push_place(text: &mut Vec<u8>, labels: &Labels, node: &Node) -> Result<(), AllocError>
     ensures { OnOk result ((names : Names) → Calls labels.now names →
         text.new.items ≡ text.old.items ++ place_text names node.now.end) }
@@ -110,7 +110,7 @@ pub fn push_place(text: &mut Vec<u8>, labels: &Labels, node: &Node) -> Result<()
     }
 }
 
-/// Appends the pages. Takes a time in proportion to the text.
+/// Appends the pages. Costs O(n) for n bytes of text.
 pub fn push_pages(text: &mut Vec<u8>, pages: Interval) -> Result<(), AllocError>
     ensures { OnOk result (text.new.items ≡ text.old.items ++ pages_text pages) }
 {
@@ -130,7 +130,7 @@ pub fn push_pages(text: &mut Vec<u8>, pages: Interval) -> Result<(), AllocError>
     )
 }
 
-/// Appends how many of this many pages are free. Takes a time in proportion to the text.
+/// Appends how many of this many pages are free. Costs O(n) for n bytes of text.
 #[tactic(auto, unfolding(crate::specs::Features::free_words))]
 pub fn push_free_pages(text: &mut Vec<u8>, free: u32, pages: u32) -> Result<(), AllocError>
     ensures { OnOk result (text.new.items ≡ text.old.items ++ free_words free pages) }
@@ -147,8 +147,8 @@ pub fn push_free_pages(text: &mut Vec<u8>, free: u32, pages: u32) -> Result<(), 
 }
 
 /// Appends who keeps the buffer: these strong nodes, which are live, and whoever has handles on it, these
-/// clients among them. Takes a time in proportion to the text, a look into a table for each label, and a
-/// look-up for each client and strength.
+/// clients among them. Costs O(n) for n bytes of text, a look-up of each label, and one of each client
+/// and strength.
 #[tactic(auto, unfolding(crate::specs::Features::keepers_words))]
 pub fn push_keepers(
     text: &mut Vec<u8>,

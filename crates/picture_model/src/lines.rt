@@ -13,7 +13,7 @@ use script_lines::{Part, push, push_parts};
 use sm_names::{Constraints, Fault, Fired, NodeKey};
 use std::alloc::AllocError;
 
-/// Appends the number of the event and its line. Takes a time in proportion to the text.
+/// Appends the number of the event and its line. Costs O(n) for n bytes of text.
 pub fn push_header(text: &mut Vec<u8>, event: u64, line: &[u8]) -> Result<(), AllocError>
     ensures { OnOk result (text.new.items ≡ text.old.items ++ header_text event line.now) }
 {
@@ -24,7 +24,7 @@ pub fn push_header(text: &mut Vec<u8>, event: u64, line: &[u8]) -> Result<(), Al
     push_parts(text, &[Part::Word(": "), Part::Bytes(line)])
 }
 
-/// Appends the state of the node. Takes a time in proportion to the text, and a look into a table.
+/// Appends the state of the node. Costs O(n) for n bytes of text, and a look-up.
 pub fn push_state_line(text: &mut Vec<u8>, tables: &Tables, node: &Node) -> Result<(), AllocError>
     ensures { OnOk result ((names : Names) → Keeps tables.now names →
         text.new.items ≡ text.old.items ++ state_words names node.now) }
@@ -41,8 +41,8 @@ pub fn push_state_line(text: &mut Vec<u8>, tables: &Tables, node: &Node) -> Resu
     }
 }
 
-/// Appends the label of the node, behind the sign of what it is drawn as, if it has one. Takes a time in
-/// proportion to the text, and a look into a table.
+/// Appends the label of the node, behind the sign of what it is drawn as, if it has one. Costs O(n) for
+/// n bytes of text, and a look-up.
 pub fn push_node_name(text: &mut Vec<u8>, tables: &Tables, node: &Node) -> Result<(), AllocError>
     ensures { OnOk result ((names : Names) → Keeps tables.now names →
         text.new.items ≡ text.old.items ++ node_words names node.now) }
@@ -68,8 +68,7 @@ fn gap_behind(class: Class) -> &'static str
     }
 }
 
-/// Appends that the tracker fired, and at which event. Takes a time in proportion to the text, and a look
-/// into a table.
+/// Appends that the tracker fired, and at which event. Costs O(n) for n bytes of text, and a look-up.
 pub fn push_fired(text: &mut Vec<u8>, tables: &Tables, firing: Fired) -> Result<(), AllocError>
     ensures { OnOk result ((names : Names) → Keeps tables.now names →
         text.new.items ≡ text.old.items ++ fired_words names firing) }
@@ -111,8 +110,8 @@ fn push_fallen(text: &mut Vec<u8>, tables: &Tables, fault: Fault) -> Result<(), 
     )
 }
 
-/// Appends what the node is, and what it was collected as. Takes a time in proportion to the text, and a
-/// look into two tables.
+/// Appends what the node is, and what it was collected as. Costs O(n) for n bytes of text, and two
+/// look-ups.
 pub fn push_kind_line(
     text: &mut Vec<u8>,
     event_writer: &EventWriter,
@@ -180,7 +179,7 @@ fn push_also(text: &mut Vec<u8>, name: &[u8]) -> Result<(), AllocError>
     )
 }
 
-/// Appends what is asked for. Takes a time in proportion to the text.
+/// Appends what is asked for. Costs O(n) for n bytes of text.
 pub fn push_asked_line(text: &mut Vec<u8>, asked: Constraints) -> Result<(), AllocError>
     ensures { OnOk result (text.new.items ≡ text.old.items ++ asked_words asked) }
 {

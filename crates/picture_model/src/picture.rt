@@ -65,13 +65,13 @@ pub struct Picture {
     pub fired: usize,
 }
 
-/// What is to be shown behind the last event, if there was one: a tree for each collection that is kept, or
-/// of which the event took a node or gave pages back, in the order of their ids, with each of its nodes that
-/// the picture state knows; each mark of the event, in the first line of its text; the links that its
-/// failures followed; and how many trackers had fired before it. Costs O(n log n) for the n nodes that were ever born
-/// in each collection, and for those before each mark that is a failure; and the text of each mark.
+/// What is to be shown behind the last event, if there was one: a tree for each collection that is kept, or of which
+/// the event took a node or gave pages back, in the order of their ids, with each of its nodes that the picture state
+/// knows; each mark of the event, in the first line of its text; the links that its failures followed; and how many
+/// trackers had fired before it.
 ///
-/// `NoMemory` where memory is refused.
+/// `NoMemory` where memory is refused. Costs O(n log n) for the n nodes that were ever born in each
+/// collection, and for those before each mark that is a failure; and the text of each mark.
 pub fn picture_of(
     alloc: Global,
     event_writer: &EventWriter,

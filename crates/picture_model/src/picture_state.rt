@@ -59,7 +59,7 @@ fn collection_of(core: &Core, key: NodeKey) -> Option<CollectionId>
 }
 
 impl PictureState {
-    /// No nodes. Takes O(1) time.
+    /// No nodes. Costs O(1).
     pub fn new(alloc: Global) -> PictureState
         ensures { (id : ℕ) → known_in result id ≡ [] }
     {
@@ -68,13 +68,13 @@ impl PictureState {
         }
     }
 
-    /// Takes in what an event changed, whose call named this collection: its nodes are brought to their
-    /// present state, those among them that the core forgot to the state that the walk of the event gave them
-    /// last; and the node in the reply is added, or brought to its present state. So the picture state knows
-    /// each node that the core keeps, if it did before. Costs O(n log n) for the n nodes that were ever born in
-    /// these collections, and O(log m) for m collections.
+    /// Takes in what an event changed, whose call named this collection: its nodes are brought to their present
+    /// state, those among them that the core forgot to the state that the walk of the event gave them last; and
+    /// the node in the reply is added, or brought to its present state. So the picture state knows each node
+    /// that the core keeps, if it did before.
     ///
-    /// `NoMemory` where memory is refused: then some of this may be left out.
+    /// `NoMemory` where memory is refused: then some of this may be left out. Costs O(n log n) for
+    /// the n nodes that were ever born in these collections, and O(log m) for m collections.
     pub fn update(
         &mut self,
         alloc: Global,

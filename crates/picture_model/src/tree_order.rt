@@ -7,9 +7,9 @@ use forced_marks::key_sets::KeySet;
 use forest_store::Node;
 use std::alloc::AllocError;
 
-/// The nodes by their keys. Costs O(n log n) for n nodes.
+/// The nodes by their keys.
 ///
-/// `AllocError` where memory is refused.
+/// `AllocError` where memory is refused. Costs O(n log n) for n nodes.
 pub fn nodes_by_key(nodes: &Vec<Node>) -> Result<KeyMap<Node>, AllocError>
     ensures { IfOk result (λ map. FindsNodes map nodes.now.items) }
 {
@@ -20,9 +20,9 @@ pub fn nodes_by_key(nodes: &Vec<Node>) -> Result<KeyMap<Node>, AllocError>
     Ok(map)
 }
 
-/// The children of each node, by birth. Costs O(n log n) for n nodes.
+/// The children of each node, by birth.
 ///
-/// `AllocError` where memory is refused.
+/// `AllocError` where memory is refused. Costs O(n log n) for n nodes.
 pub fn children_by_key(nodes: &Vec<Node>) -> Result<KeyRows<Node>, AllocError>
     ensures { IfOk result (λ rows. FindsChildren rows nodes.now.items) }
 {
@@ -36,9 +36,9 @@ pub fn children_by_key(nodes: &Vec<Node>) -> Result<KeyRows<Node>, AllocError>
     Ok(rows)
 }
 
-/// The keys of the nodes that have children. Costs O(n log n) for n nodes.
+/// The keys of the nodes that have children.
 ///
-/// `AllocError` where memory is refused.
+/// `AllocError` where memory is refused. Costs O(n log n) for n nodes.
 pub fn parents_among(nodes: &Vec<Node>) -> Result<KeySet, AllocError>
     ensures { IfOk result (λ set. AreParents set nodes.now.items) }
 {

@@ -25,7 +25,7 @@ pub(crate) fn node_name(alloc: Global, tables: &Tables, node: &Node) -> Result<V
 }
 
 // The lines of the node's box, below its name: its state, what it is, what it asks for, and where its end
-// is. Takes a time in proportion to the text, and a look into a table for each label.
+// is. Costs O(n) for n bytes of text, and a look-up of each label.
 pub(crate) fn node_lines(
     alloc: Global,
     event_writer: &EventWriter,

@@ -35,8 +35,8 @@ use std::alloc::{AllocError, Global};
 /// pool, and what its signs stand for.
 ///
 /// `NoMemory` where memory is refused. Costs O(n log n) for the n nodes of each tree and the n links that
-/// failures followed, a look into a table for each label, and for each buffer a look-up for each client
-/// and strength.
+/// failures followed, a look-up of each label, and for each buffer a look-up for each client and
+/// strength.
 #[tactic(auto, unfolding(crate::specs::SvgPictures::svg_text))]
 pub fn push_svg(
     text: &mut Vec<u8>,

@@ -22,8 +22,8 @@ const MOST_DRAWN: u32 = 64;
 
 /// Appends the picture, where the last event has this line.
 ///
-/// `NoMemory` where memory is refused. Costs O(n log n) for the n nodes of each tree, the text, a look into
-/// a table for each label, and for each buffer a look-up for each client and strength.
+/// `NoMemory` where memory is refused. Costs O(n log n) for the n nodes of each tree, the text, a look-up
+/// of each label, and for each buffer a look-up for each client and strength.
 #[tactic(auto, unfolding(crate::specs::TextPictures::picture_text))]
 pub fn push_text(
     text: &mut Vec<u8>,

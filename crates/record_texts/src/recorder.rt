@@ -110,8 +110,8 @@ fn labels_left<'a>(labels: &'a [Label], call: &Call) -> &'a [Label]
 /// called `n5` too. What has no label is written without one: a client beyond the labels, or a node that
 /// was never made.
 ///
-/// `AllocError` where memory is refused: then a part of the text may stand there. Costs a time in proportion
-/// to the text, and some looks into tables for each entry. Labels hash from this hash.
+/// `AllocError` where memory is refused: then a part of the text may stand there. Labels hash from this
+/// hash. Costs O(n) for n bytes of text, and some look-ups for each entry.
 pub fn push_record(
     alloc: Global,
     hash: LabelHash,

@@ -45,7 +45,7 @@ fn tell<F: Write>(alloc: Global, faults: &mut F, fault: &ReportFault) -> Result<
 }
 
 /// The status of the fault, which is reported as one line on `faults`, as far as that takes it; where
-/// memory is refused, that is reported. Takes a time in proportion to the line.
+/// memory is refused, that is reported. Costs O(n) for a line of n bytes.
 pub fn end_with<F: Write>(alloc: Global, faults: &mut F, fault: &ReportFault) -> ExitCode
     ensures status { exit_status result ≡ fault_status fault.now }
     ensures told { IsTold (F.contents faults.old) (F.contents faults.new) fault.now }

@@ -64,7 +64,7 @@ pub enum ReportFault {
 impl ReportFault {
     /// The status that a program ends with on this fault: 1 where reading or writing failed, 2 where
     /// what is asked for is not there, 3 for a bad line, 4 where the history is full or memory was
-    /// refused. Takes O(1) time.
+    /// refused. Costs O(1).
     pub fn status(&self) -> u8
         ensures { result ≡ fault_status self.now }
     {
@@ -77,7 +77,7 @@ impl ReportFault {
     }
 
     /// Appends the text of the fault, without an end of a line; a part of it where memory is
-    /// refused. Takes a time in proportion to the text.
+    /// refused. Costs O(n) for n bytes of text.
     pub fn push_text(&self, text: &mut Vec<u8>) -> Result<(), AllocError>
         ensures { OnOk result (text.new.items ≡ text.old.items ++ fault_text self.now) }
     {
@@ -112,8 +112,9 @@ impl ReportFault {
     }
 }
 
-/// The fault of the line of this number, which was not answered, where the labels of those before it stand
-/// so. The fault of a bad line has its number and its reason, and each line that asks for nothing has one. Takes a time in proportion to the line, and a look into a table for each label.
+/// The fault of the line of this number, which was not answered, where the labels of those before it
+/// stand so. The fault of a bad line has its number and its reason, and each line that asks for nothing
+/// has one. Costs O(n) for a line of n bytes, and a look-up of each label.
 pub fn fault_of(
     alloc: Global,
     stop: LineStop,
@@ -151,7 +152,7 @@ fn push_reason(text: &mut Vec<u8>, tables: &Tables, line: &[u8]) -> Result<(), A
     }
 }
 
-/// The fault of the line of this number, for this reason. Takes a time in proportion to the reason.
+/// The fault of the line of this number, for this reason. Costs O(n) for a reason of n bytes.
 pub fn bad_line(alloc: Global, number: u64, words: &str) -> ReportFault
     ensures line { IsBadLine number result }
     ensures reason { HasReason words.now result }
@@ -163,7 +164,7 @@ pub fn bad_line(alloc: Global, number: u64, words: &str) -> ReportFault
     }
 }
 
-/// The fault that the last line, the one of this number, has no end. Takes O(1) time.
+/// The fault that the last line, the one of this number, has no end. Costs O(1).
 pub fn unended(alloc: Global, number: u64) -> ReportFault
     ensures line { IsBadLine number result }
     ensures reason { HasReason unended_reason result }

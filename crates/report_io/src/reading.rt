@@ -11,10 +11,10 @@ use std::io::Read;
 // How many bytes are asked for at a time.
 const BLOCK: usize = 65_536;
 
-/// Reads to the end. Takes a time in proportion to what is read.
+/// Reads to the end.
 ///
 /// `ReadFault` where the reader fails, `TooLong` where it gives more than `MOST_BYTES` bytes, `NoMemory`
-/// where memory is refused.
+/// where memory is refused. Costs O(n) for n bytes.
 pub fn read_script<R: Read>(alloc: Global, reader: &mut R) -> Result<Vec<u8>, ReportFault>
     ensures ok { IfOk result (λ script.
         Consumes (R.remaining reader.old) (R.remaining reader.new) script.items) }
@@ -55,7 +55,7 @@ fn read_on<R: Read>(alloc: Global, reader: &mut R, block: &mut [u8]) -> Result<V
     }
 }
 
-/// The bytes behind the one at this place. Takes O(1) time.
+/// The bytes behind the one at this place. Costs O(1).
 pub fn behind(bytes: &[u8], at: usize) -> &[u8]
     requires { at < length bytes.now }
     ensures value { result.now ≡ drop (at + 1) bytes.now }

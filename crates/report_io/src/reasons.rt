@@ -94,7 +94,7 @@ fn used_label<'a>(word: &'a [u8], is_bound: bool) -> Option<Reason<'a>>
 }
 
 // Why the line, which says something, is bad, where the labels of the lines before stand so: the first test
-// that fails. Costs a walk over the line, and a look into a table for each label.
+// that fails. Costs a walk over the line, and a look-up of each label.
 pub(crate) fn line_fault<'a>(tables: &Tables, line: &'a [u8]) -> Option<Reason<'a>>
     ensures { (names : Names) → Keeps tables.now names →
         option_map told result ≡ line_reason names line.now }

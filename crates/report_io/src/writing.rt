@@ -7,9 +7,10 @@ use crate::fault::ReportFault;
 use script_lines::write_out;
 use std::io::Write;
 
-/// Writes the text, and flushes the writer. Takes a time in proportion to the text.
+/// Writes the text, and flushes the writer.
 ///
 /// `WriteFault` where the writer fails, takes nothing, or can't be flushed: a first part was written.
+/// Costs O(n) for n bytes of text.
 pub fn put_out<W: Write>(writer: &mut W, text: &[u8]) -> Result<(), ReportFault>
     ensures ok { OnOk result (Appends (W.contents writer.old) (W.contents writer.new) text.now) }
     ensures err { IfErr result (λ fault. (fault ≡ ReportFault.WriteFault)

@@ -29,7 +29,7 @@ pub struct Tables {
 }
 
 impl Tables {
-    /// No label stands for anything. Takes O(1) time.
+    /// No label stands for anything. Costs O(1).
     pub fn new(alloc: Global, labels: LabelHash) -> Tables
         ensures { Keeps result no_names }
     {
@@ -43,14 +43,14 @@ impl Tables {
         }
     }
 
-    /// The client of this label, if it stands for one. Takes a look into a table.
+    /// The client of this label, if it stands for one. Costs a look-up.
     pub fn client(&self, label: Label) -> Option<ClientId>
         ensures { (names : Names) → Keeps self.now names → result ≡ labelled_client names label }
     {
         self.clients.get(&label).copied()
     }
 
-    /// The node of this label, if it stands for one. Takes a look into a table.
+    /// The node of this label, if it stands for one. Costs a look-up.
     pub fn node(&self, label: Label) -> Option<NodeKey>
         ensures { (names : Names) → Keeps self.now names → result ≡ labelled_node names label }
     {
@@ -73,21 +73,21 @@ impl Tables {
         }
     }
 
-    /// The tracker of this label, if it stands for one. Takes a look into a table.
+    /// The tracker of this label, if it stands for one. Costs a look-up.
     pub fn tracker(&self, label: Label) -> Option<TrackerId>
         ensures { (names : Names) → Keeps self.now names → result ≡ labelled_tracker names label }
     {
         self.trackers.get(&label).copied()
     }
 
-    /// The label under which the node was born. Takes a look into a table.
+    /// The label under which the node was born. Costs a look-up.
     pub fn birth_label(&self, node: NodeKey) -> Option<Label>
         ensures { (names : Names) → Keeps self.now names → result ≡ label_of_node names node }
     {
         self.births.get(&node).copied()
     }
 
-    /// The label of the collection's root. Takes a look into a table.
+    /// The label of the collection's root. Costs a look-up.
     pub fn root_label(&self, collection: CollectionId) -> Option<Label>
         ensures { (names : Names) → Keeps self.now names →
             result ≡ label_of_root names collection }
@@ -95,7 +95,7 @@ impl Tables {
         self.roots.get(&collection).copied()
     }
 
-    /// The label of the tracker. Takes a look into a table.
+    /// The label of the tracker. Costs a look-up.
     pub fn tracker_label(&self, tracker: TrackerId) -> Option<Label>
         ensures { (names : Names) → Keeps self.now names →
             result ≡ label_of_tracker names tracker }
@@ -141,8 +141,8 @@ impl Tables {
 
     /// Binds what the reply made, or named for the first time.
     ///
-    /// `AllocError` where memory is refused: then some of this may be left out. Takes a look into a table
-    /// for each label.
+    /// `AllocError` where memory is refused: then some of this may be left out. Costs a look-up of each
+    /// label.
     pub fn bind(&mut self, binds: Binds, reply: Reply) -> Result<(), AllocError>
         ensures { OnOk result ((names : Names) → Keeps self.old names →
             Keeps self.new (names_after names binds reply)) }
@@ -166,7 +166,7 @@ impl Tables {
     }
 
     /// What the line asks for, or `None` if it is bad: a label that it uses stands for nothing, or one that it
-    /// binds stands for something. Takes a look into a table for each label.
+    /// binds stands for something. Costs a look-up of each label.
     pub fn act(&self, line: Line) -> Option<Act>
         ensures { (names : Names) → Keeps self.now names → result ≡ act_of names line }
     {

@@ -76,8 +76,7 @@ fn kind_name(kind: Kind) -> &'static str
     }
 }
 
-/// Appends why a node failed; a part of it where memory is refused. Takes a time in proportion to the
-/// text.
+/// Appends why a node failed; a part of it where memory is refused. Costs O(n) for n bytes of text.
 pub fn push_cause(text: &mut Vec<u8>, cause: Cause) -> Result<(), AllocError>
     ensures { OnOk result (text.new.items ≡ text.old.items ++ cause_text cause) }
 {
@@ -90,7 +89,7 @@ pub fn push_cause(text: &mut Vec<u8>, cause: Cause) -> Result<(), AllocError>
 }
 
 /// Appends the reply to a call that was to bind this, without the end of its line; a part of it where
-/// memory is refused. Takes a time in proportion to the text, and a look into a table for each label.
+/// memory is refused. Costs O(n) for n bytes of text, and a look-up of each label.
 pub fn push_reply(
     text: &mut Vec<u8>,
     tables: &Tables,
@@ -254,8 +253,8 @@ fn push_closed(
     push_named(text, " ", tables.birth_label(origin))
 }
 
-/// Appends a space and the node's label; a part of it where memory is refused. Takes a time in
-/// proportion to the text, and a look into a table.
+/// Appends a space and the node's label; a part of it where memory is refused. Costs O(n) for n
+/// bytes of text, and a look-up.
 pub fn push_node(text: &mut Vec<u8>, tables: &Tables, node: NodeKey) -> Result<(), AllocError>
     ensures { OnOk result ((names : Names) → Keeps tables.now names →
         text.new.items ≡ text.old.items ++ node_text names node) }
@@ -263,8 +262,8 @@ pub fn push_node(text: &mut Vec<u8>, tables: &Tables, node: NodeKey) -> Result<(
     push_named(text, " ", tables.birth_label(node))
 }
 
-/// Appends a space and the buffer; a part of it where memory is refused. Takes a time in proportion to
-/// the text, and a look into a table.
+/// Appends a space and the buffer; a part of it where memory is refused. Costs O(n) for n bytes of
+/// text, and a look-up.
 pub fn push_buffer(
     text: &mut Vec<u8>,
     tables: &Tables,
@@ -278,7 +277,7 @@ pub fn push_buffer(
 }
 
 /// Appends a space, the held buffer, its first page and their number; a part of it where memory is
-/// refused. Takes a time in proportion to the text, and a look into a table.
+/// refused. Costs O(n) for n bytes of text, and a look-up.
 pub fn push_held(text: &mut Vec<u8>, tables: &Tables, held: HeldBuffer) -> Result<(), AllocError>
     ensures { OnOk result ((names : Names) → Keeps tables.now names →
         text.new.items ≡ text.old.items ++ held_text names held) }
@@ -289,7 +288,7 @@ pub fn push_held(text: &mut Vec<u8>, tables: &Tables, held: HeldBuffer) -> Resul
 }
 
 /// Appends a space, the tracker's label and the event of its firing; a part of it where memory is
-/// refused. Takes a time in proportion to the text, and a look into a table.
+/// refused. Costs O(n) for n bytes of text, and a look-up.
 pub fn push_firing(text: &mut Vec<u8>, tables: &Tables, firing: Fired) -> Result<(), AllocError>
     ensures { OnOk result ((names : Names) → Keeps tables.now names →
         text.new.items ≡ text.old.items ++ fired_text names firing) }
@@ -298,8 +297,8 @@ pub fn push_firing(text: &mut Vec<u8>, tables: &Tables, firing: Fired) -> Result
     push_count(text, " ", firing.event)
 }
 
-/// Appends that a tracker fired at this event; a part of it where memory is refused. Takes a time in
-/// proportion to the text.
+/// Appends that a tracker fired at this event; a part of it where memory is refused. Costs O(n) for
+/// n bytes of text.
 pub fn push_poll(text: &mut Vec<u8>, event: u64) -> Result<(), AllocError>
     ensures { OnOk result (text.new.items ≡ text.old.items ++ poll_text event) }
 {

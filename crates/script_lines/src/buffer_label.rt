@@ -15,8 +15,8 @@ pub struct BufferLabel {
 }
 
 impl BufferLabel {
-    /// The buffer that is spelled so, or `None` if the word is none. Takes a time in proportion to
-    /// the word's length.
+    /// The buffer that is spelled so, or `None` if the word is none. Costs O(n) for a word of n
+    /// bytes.
     pub fn new(word: &[u8]) -> Option<BufferLabel>
         ensures { result ≡ buffer_label_of word.now }
     {

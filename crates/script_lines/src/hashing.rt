@@ -14,7 +14,7 @@ pub struct LabelHash {
 }
 
 impl LabelHash {
-    /// Hashes from this seed, best of random bytes. Takes O(1) time.
+    /// Hashes from this seed, best of random bytes. Costs O(1).
     pub fn new(seed: [u8; 16]) -> LabelHash
         ensures { result.start ≡ fold.write fold.initial seed }
     {

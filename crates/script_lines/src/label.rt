@@ -12,7 +12,7 @@ pub struct Label {
 }
 
 impl Label {
-    /// The label that is spelled so, or `None` if the word is none. Takes O(1) time.
+    /// The label that is spelled so, or `None` if the word is none. Costs O(1).
     pub fn new(word: &[u8]) -> Option<Label>
         ensures value { result ≡ label_of word.now }
         ensures text { IfSome result (λ label. text_of_label label ≡ word.now) }
@@ -23,7 +23,7 @@ impl Label {
         Some(Label { code: packed(word) })
     }
 
-    /// How the label is spelled: the bytes from the number on. Takes O(1) time.
+    /// How the label is spelled: the bytes from the number on. Costs O(1).
     pub fn spelled(&self) -> ([u8; 16], usize)
         ensures text { drop result.1 result.0 ≡ text_of_label self.now }
         ensures within { result.1 ≤ 16 }

@@ -10,7 +10,7 @@ use crate::spelling::{push, push_label, push_number};
 use sm_names::{Argument, Constraints, Object, Strength, word_of};
 use std::alloc::AllocError;
 
-/// The name of the strength: `strong` or `weak`. Takes O(1) time.
+/// The name of the strength: `strong` or `weak`. Costs O(1).
 pub fn strength_name(strength: Strength) -> &'static str
     ensures { result.now ≡ name_of_strength strength }
 {
@@ -21,7 +21,7 @@ pub fn strength_name(strength: Strength) -> &'static str
 }
 
 /// Appends the line, without its end, as `read_line` reads it; a part of it where memory is
-/// refused. Takes a time in proportion to the text.
+/// refused. Costs O(n) for n bytes of text.
 pub fn push_line(text: &mut Vec<u8>, line: Line) -> Result<(), AllocError>
     ensures { OnOk result (text.new.items ≡ text.old.items ++ line_text line) }
 {

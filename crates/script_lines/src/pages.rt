@@ -12,7 +12,7 @@ pub struct Pages {
 }
 
 impl Pages {
-    /// This many pages, or `None` where a pool may not have as many. Takes O(1) time.
+    /// This many pages, or `None` where a pool may not have as many. Costs O(1).
     pub fn new(count: u32) -> Option<Pages>
         ensures { SomeIff (option_map (λ pages. pages.count) result)
             ((1 ≤ count) × (count ≤ MAX_PAGES)) count }

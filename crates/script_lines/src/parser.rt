@@ -14,8 +14,7 @@ use sm_names::{
     Strength, Target, kind_named, row_of,
 };
 
-/// What the line says, without its end, or `None` if it is bad. Takes a time in proportion to the
-/// line's length.
+/// What the line says, without its end, or `None` if it is bad. Costs O(n) for a line of n bytes.
 pub fn line(bytes: &[u8]) -> Option<Line>
     ensures { result ≡ line_of bytes.now }
 {

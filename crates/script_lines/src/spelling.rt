@@ -6,8 +6,8 @@ use crate::label::Label;
 use itoa::Buffer;
 use std::alloc::AllocError;
 
-/// Appends the text; nothing where memory is refused. Takes a time in proportion to its length, once
-/// in a while to all that is there, which then moves.
+/// Appends the text; nothing where memory is refused. Costs O(n) for n bytes, and once in a while a
+/// move of all that is there.
 pub fn push(text: &mut Vec<u8>, more: &str) -> Result<(), AllocError>
     ensures ok { OnOk result (text.new.items ≡ text.old.items ++ more.now) }
     ensures err { OnErr result (text.new.items ≡ text.old.items) }

@@ -17,7 +17,7 @@ const LONGEST: usize = 64;
 pub struct WriteFault;
 
 /// Writes all of the text. Where the writer fails or takes nothing, a first part of the text was
-/// written. Takes no memory, and a time in proportion to the text.
+/// written. Takes no memory. Costs O(n) for n bytes of text.
 pub fn write_out<W: Write>(writer: &mut W, text: &[u8]) -> Result<(), WriteFault>
     ensures ok { OnOk result (Appends (W.contents writer.old) (W.contents writer.new) text.now) }
     ensures part { OnErr result
@@ -35,8 +35,8 @@ pub fn write_out<W: Write>(writer: &mut W, text: &[u8]) -> Result<(), WriteFault
 }
 
 /// Writes what the value displays, in one line with its end. Where the writer fails or takes nothing,
-/// a first part of the line was written; of a line of more than 64 bytes, none. Takes no memory, and
-/// a time in proportion to the line.
+/// a first part of the line was written; of a line of more than 64 bytes, none. Takes no memory.
+/// Costs O(n) for a line of n bytes.
 pub fn write_line<W: Write, D: fmt::Display + Copy>(
     writer: &mut W,
     told: D,

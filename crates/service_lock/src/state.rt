@@ -105,7 +105,7 @@ impl<E: Setup, S: Ledger, W: Ledger> State<E, S, W> {
     }
 }
 
-/// The number of `Units` that can still be handed out. Costs O(1), and takes no memory.
+/// The number of `Units` that can still be handed out. Takes no memory. Costs O(1).
 pub fn parts<E: Setup, S: Ledger, W: Ledger>(state: &State<E, S, W>) -> u64
     ensures { result ≡ state.now.parts }
 {
@@ -115,7 +115,7 @@ pub fn parts<E: Setup, S: Ledger, W: Ledger>(state: &State<E, S, W>) -> u64
 /// Hands out an empty share of each book. `NoMemory` if the books have no part left, also if the record
 /// is full: a caller for whom a full record comes first asks `is_full` before.
 ///
-/// Costs O(1), and takes no memory.
+/// Takes no memory. Costs O(1).
 pub fn units<E: Setup, S: Ledger, W: Ledger>(
     state: &mut State<E, S, W>,
 ) -> Result<Units<E, S, W>, NoMemory>
@@ -135,7 +135,7 @@ pub fn units<E: Setup, S: Ledger, W: Ledger>(
 }
 
 /// Takes empty shares back. Their parts can be handed out again, up to the number that the books have.
-/// Costs O(1), and takes no memory.
+/// Takes no memory. Costs O(1).
 pub fn take_back<E: Setup, S: Ledger, W: Ledger>(state: &mut State<E, S, W>, units: Units<E, S, W>)
     requires { units ≡ record { events = 0; strong = 0; weak = 0 } }
     ensures part { state.old.parts + 1 < 2 ^ 40 → state.new ≡ with_parts 1 state.old }
@@ -152,7 +152,7 @@ pub fn take_back<E: Setup, S: Ledger, W: Ledger>(state: &mut State<E, S, W>, uni
 }
 
 /// The record: each event's client, call and reply, in order. It is a legal history at all times, with
-/// the pool and the limits that the service was asked for. Costs O(1), and takes no memory.
+/// the pool and the limits that the service was asked for. Takes no memory. Costs O(1).
 pub fn entries<E: Setup, S: Ledger, W: Ledger>(state: &State<E, S, W>) -> &[(ClientId, Call, Reply)]
     ensures value { result.now ≡ state.now.history }
     ensures legal { IsLegal state.now.pool state.now.limits state.now.history }
@@ -161,7 +161,7 @@ pub fn entries<E: Setup, S: Ledger, W: Ledger>(state: &State<E, S, W>) -> &[(Cli
     state.log.as_slice()
 }
 
-/// The core, which shows the record. Costs O(1), and takes no memory.
+/// The core, which shows the record. Takes no memory. Costs O(1).
 pub fn core<E: Setup, S: Ledger, W: Ledger>(state: &State<E, S, W>) -> &Core
     ensures shows { Shows result.now state.now.history }
     ensures pool { result.now.pool ≡ state.now.pool }
@@ -171,7 +171,7 @@ pub fn core<E: Setup, S: Ledger, W: Ledger>(state: &State<E, S, W>) -> &Core
 }
 
 /// The sums of the books: the events of the record, and the handles of each strength that are then open
-/// on all buffers, those in parcels included. Costs O(1), and takes no memory.
+/// on all buffers, those in parcels included. Takes no memory. Costs O(1).
 pub fn books<E: Setup, S: Ledger, W: Ledger>(state: &State<E, S, W>) -> Books
     ensures events { result.events ≡ length state.now.history }
     ensures strong { result.strong
@@ -186,8 +186,8 @@ pub fn books<E: Setup, S: Ledger, W: Ledger>(state: &State<E, S, W>) -> Books
     }
 }
 
-/// Whether the record is full: it has as many entries as the limit allows. Costs O(1), and takes no
-/// memory.
+/// Whether the record is full: it has as many entries as the limit allows. Takes no memory. Costs
+/// O(1).
 pub fn is_full<E: Setup, S: Ledger, W: Ledger>(state: &State<E, S, W>) -> bool
     ensures { result ≡ nat_le state.now.limits.events (length state.now.history) }
 {

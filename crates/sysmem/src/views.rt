@@ -164,7 +164,7 @@ pub extern "C" fn sysmem_held(
 /// Writes the trackers that fired, by event, and by rising id within an event, as many as `out` has room
 /// for, and the number of all.
 ///
-/// `NOT_OPEN` if the handle has no core: nothing is written then. Takes no memory, and costs what it
+/// `NOT_OPEN` if the handle has no core: nothing is written then. Takes no memory. Costs what it
 /// writes.
 #[unsafe(no_mangle)]
 pub extern "C" fn sysmem_fired(
@@ -187,7 +187,7 @@ pub extern "C" fn sysmem_fired(
 /// Writes the trackers that fired, without the first `from`, as `sysmem_fired` does. The count is that of
 /// all.
 ///
-/// `NOT_OPEN` if the handle has no core: nothing is written then. Takes no memory, and costs what it
+/// `NOT_OPEN` if the handle has no core: nothing is written then. Takes no memory. Costs what it
 /// writes.
 #[unsafe(no_mangle)]
 pub extern "C" fn sysmem_fired_from(

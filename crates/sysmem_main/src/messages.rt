@@ -49,7 +49,7 @@ impl fmt::Display for Misplaced<'_> {
     }
 }
 
-/// Why a file can't be opened, where the system gives an error of this kind. Takes O(1) time.
+/// Why a file can't be opened, where the system gives an error of this kind. Costs O(1).
 pub(crate) fn reason_of(kind: ErrorKind) -> &'static str
     ensures { result.now ≡ open_reason kind }
 {
@@ -65,7 +65,7 @@ pub(crate) fn reason_of(kind: ErrorKind) -> &'static str
     }
 }
 
-/// The word in the place of a command, if it is the name of a file. Takes a time in proportion to that word.
+/// The word in the place of a command, if it is the name of a file. Costs O(n) for a word of n bytes.
 pub(crate) fn misplaced_file(words: &[String]) -> Option<&str>
     ensures { option_map (λ name. name.now) result
         ≡ file_in (option_map (λ word. string_bytes word) (slice_get words.now 1)) }
