@@ -135,7 +135,8 @@ impl<E: Setup, S: Ledger, W: Ledger> Actor<E, S, W> {
     ) -> Result<Option<Reply>, StepFault>
         requires sound { ActorInvariant self.old }
         requires aware { IsAware self.old }
-        ensures stepped { IfOk result (λ reply. HasStepped clients.now step reply self.old self.new) }
+        ensures stepped { IfOk result (λ reply.
+            HasStepped clients.now step reply self.old self.new) }
         ensures faltered { OnErr result (HasFaltered clients.now step self.old self.new) }
         ensures sound { ActorInvariant self.new }
         ensures id { self.new.client.id ≡ self.old.client.id }

@@ -45,8 +45,10 @@ fn take_step<E: Setup, S: Ledger, W: Ledger, G: Gate, R: Wait + Clock>(
 ) -> Result<(), StepFault>
     requires sound { ActorInvariant actor.old }
     requires aware { IsAware actor.old }
-    ensures taken { OnOk result (HasTaken playing.now.clients.now playing.now.most step.now actor.old actor.new) }
-    ensures given { OnErr result (HasGivenUp playing.now.clients.now playing.now.most step.now actor.old actor.new) }
+    ensures taken { OnOk result (HasTaken playing.now.clients.now playing.now.most step.now
+        actor.old actor.new) }
+    ensures given { OnErr result (HasGivenUp playing.now.clients.now playing.now.most step.now
+        actor.old actor.new) }
     ensures sound { ActorInvariant actor.new }
     ensures id { actor.new.client.id ≡ actor.old.client.id }
 {
@@ -71,7 +73,8 @@ fn try_step<E: Setup, S: Ledger, W: Ledger, G: Gate, R: Wait>(
 ) -> Result<Option<Reply>, StepFault>
     requires sound { ActorInvariant actor.old }
     requires aware { IsAware actor.old }
-    ensures stepped { IfOk result (λ reply. HasStepped playing.now.clients.now step reply actor.old actor.new) }
+    ensures stepped { IfOk result (λ reply.
+        HasStepped playing.now.clients.now step reply actor.old actor.new) }
     ensures faltered { OnErr result (HasFaltered playing.now.clients.now step actor.old actor.new) }
     ensures sound { ActorInvariant actor.new }
     ensures id { actor.new.client.id ≡ actor.old.client.id }
@@ -91,13 +94,13 @@ fn run_steps<E: Setup, S: Ledger, W: Ledger, G: Gate, R: Wait + Clock>(
 ) -> Result<(), StepFault>
     requires sound { ActorInvariant actor.old }
     requires aware { IsAware actor.old }
-    requires none { RunsPatiently playing.now.clients.now playing.now.most [] (pairs_of actor.old.client.own)
-        (known actor.old.state) }
+    requires none { RunsPatiently playing.now.clients.now playing.now.most []
+        (pairs_of actor.old.client.own) (known actor.old.state) }
     ensures runs { OnOk result (RunsPatiently playing.now.clients.now playing.now.most steps.now
         (pairs_of actor.new.client.own) (known actor.new.state)) }
     ensures aware { OnOk result (IsAware actor.new) }
-    ensures some { OnErr result (HasRunSome playing.now.clients.now playing.now.most steps.now actor.new.client
-        (lies actor.new.slots.items)) }
+    ensures some { OnErr result (HasRunSome playing.now.clients.now playing.now.most steps.now
+        actor.new.client (lies actor.new.slots.items)) }
     ensures sound { ActorInvariant actor.new }
     ensures id { actor.new.client.id ≡ actor.old.client.id }
 {
@@ -154,7 +157,8 @@ pub fn run_actor<E: Setup, S: Ledger, W: Ledger, G: Gate, R: Wait + Clock>(
     script: &ActorScript,
 ) -> ActorEnd<E, S, W>
     requires { client.own ≡ [] }
-    ensures { EndsSo playing.now.clients.now playing.now.most script.now.steps.items client.id result }
+    ensures { EndsSo playing.now.clients.now playing.now.most script.now.steps.items client.id
+        result }
 {
     let mut actor = Actor::new(playing.alloc, client);
     let steps = script.steps.as_slice();

@@ -69,7 +69,8 @@ fn run_all<
 )
     requires ready { All CanStart actors.old }
     requires len { length scripts.now ≡ length actors.old }
-    ensures ends { AllZip (IsEndThere playing.now.clients.now playing.now.most) scripts.now actors.new }
+    ensures ends { AllZip (IsEndThere playing.now.clients.now playing.now.most) scripts.now
+        actors.new }
     ensures ids { map id_there actors.new ≡ map id_there actors.old }
 {
     let count = actors.len();

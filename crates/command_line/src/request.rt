@@ -25,23 +25,24 @@ pub fn request_of<'a>(matches: &ArgMatches<'a>) -> Option<CommandLine<'a>>
     ensures pages { AreAsked (value_text (codes "pages") matches.now)
         (option_map (λ request. request.pages.count) result) }
     ensures task { IfSome result (λ request. IsTask (subcommand_name_of matches.now) request.task) }
-    ensures format { IfSome result (λ request. HasFormat (subcommand_text (codes "format") matches.now)
-        request.task) }
+    ensures format { IfSome result (λ request.
+        HasFormat (subcommand_text (codes "format") matches.now) request.task) }
     ensures until { IfSome result (λ request. HasUntil (value_text (codes "at") matches.now)
         (value_text (codes "line") matches.now) (value_text (codes "failure") matches.now)
         request.task) }
-    ensures failures { IfSome result (λ request. HasFailures (value_text (codes "failures") matches.now)
-        request.task) }
-    ensures summary { IfSome result (λ request. HasSummary (value_text (codes "summary") matches.now)
-        request.task) }
+    ensures failures { IfSome result (λ request.
+        HasFailures (value_text (codes "failures") matches.now) request.task) }
+    ensures summary { IfSome result (λ request.
+        HasSummary (value_text (codes "summary") matches.now) request.task) }
     ensures record { IfSome result (λ request. HasRecord (value_text (codes "record") matches.now)
         request.task) }
-    ensures patience { IfSome result (λ request. HasPatience (value_text (codes "patient") matches.now)
-        request.task) }
+    ensures patience { IfSome result (λ request.
+        HasPatience (value_text (codes "patient") matches.now) request.task) }
     ensures search { IfSome result (λ request. HasSearch (value_text (codes "once") matches.now)
         (value_text (codes "outcome") matches.now) (value_text (codes "states") matches.now)
         request.task) }
-    ensures vanishing { IfSome result (λ request. HasVanishing (subcommand_text (codes "vanish") matches.now)
+    ensures vanishing { IfSome result (λ request.
+        HasVanishing (subcommand_text (codes "vanish") matches.now)
         (value_text (codes "most") matches.now) (value_text (codes "end") matches.now)
         request.task) }
     ensures file { IfSome result (λ request. IsFile (subcommand_text (codes "file") matches.now)

@@ -147,7 +147,8 @@ fn view_of(matches: &ArgMatches<'_>) -> View
 // The search that the matches of `explore` ask for.
 fn search_of<'a>(matches: &ArgMatches<'a>) -> Search<'a>
     ensures once { IsFlag (one_text (found_of matches.now) (codes "once")) result.once }
-    ensures patience { IsFlag (one_text (found_of matches.now) (codes "patient")) result.is_patient }
+    ensures patience { IsFlag (one_text (found_of matches.now) (codes "patient"))
+        result.is_patient }
     ensures search { IsSearch (one_text (found_of matches.now) (codes "outcome"))
         (one_text (found_of matches.now) (codes "states")) result }
     ensures end { IsFlag (one_text (found_of matches.now) (codes "end")) result.at_end }

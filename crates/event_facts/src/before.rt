@@ -20,7 +20,8 @@ pub struct Before {
 
 // The collection of which the call would change a node, or drop a handle, if it were made now.
 fn concerned(core: &Core, client: ClientId, call: &Call) -> Option<CollectionId>
-    ensures { (reply : Reply) → IsAnswer core.now.limits (readings_of core.now) client call.now reply →
+    ensures { (reply : Reply) → IsAnswer core.now.limits (readings_of core.now) client call.now
+        reply →
         result ≡ concerned_by core.now client call.now reply }
 {
     if let Call::DropHandle(buffer, strength) = *call {
@@ -33,7 +34,8 @@ fn concerned(core: &Core, client: ClientId, call: &Call) -> Option<CollectionId>
 
 // The collection of which the call would change a node.
 fn changed(core: &Core, client: ClientId, call: &Call) -> Option<CollectionId>
-    ensures { (reply : Reply) → IsAnswer core.now.limits (readings_of core.now) client call.now reply →
+    ensures { (reply : Reply) → IsAnswer core.now.limits (readings_of core.now) client call.now
+        reply →
         result ≡ changed_on core.now client call.now reply }
 {
     match core.change_of(client, call) {

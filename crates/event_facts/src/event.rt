@@ -48,7 +48,8 @@ pub fn take_event(
     call: Call,
 ) -> Result<Event, StepFault>
     ensures call { IfOk result (λ event. event.call ≡ call) }
-    ensures stepped { IfOk result (λ event. Stepped core.old core.new client call (Ok event.reply)) }
+    ensures stepped { IfOk result (λ event. Stepped core.old core.new client call
+        (Ok event.reply)) }
     ensures stages { IfOk result (λ event.
         AreStages core.old core.new client call event.reply (map stage_of event.moments.items)) }
     // The copies are of the one collection that the event concerns.
@@ -197,7 +198,8 @@ fn left(core: &Core, node: &Node) -> bool
 pub fn placed_by<'a>(later: &'a [Moment], event: &'a Event) -> Option<(Buffers, &'a [HeldBuffer])>
     ensures buffers { option_map (λ placed. placed.0) result
         ≡ option_and_then (λ (s : Copy). s.buffers) (scene_after later.now event.now.after) }
-    ensures held { IfSome result (λ placed. placed.1.now ≡ snapshot_held (scene_after later.now event.now.after)) }
+    ensures held { IfSome result (λ placed. placed.1.now
+        ≡ snapshot_held (scene_after later.now event.now.after)) }
 {
     match (later.first(), &event.after) {
         (Some(next), _) => Some((next.before.buffers?, &next.before.held)),

@@ -239,7 +239,8 @@ impl EventWriter {
         ensures deeds { self.new.deeds ≡ self.old.deeds }
         ensures limits { self.new.limits ≡ self.old.limits }
         ensures failures { OnOk result (self.new.failures ≤ self.old.failures + 1) }
-        ensures err { IfErr result (λ stop. (stop ≢ LineStop.BadLine) × (stop ≡ LineStop.HistoryFull →
+        ensures err { IfErr result (λ stop. (stop ≢ LineStop.BadLine)
+            × (stop ≡ LineStop.HistoryFull →
             self.old.session.core.limits.events ≤ self.old.session.core.events)) }
     {
         reply.clear();

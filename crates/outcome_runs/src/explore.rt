@@ -52,7 +52,8 @@ fn tell<P: Progress, W: Write>(
 ) -> Result<Ending, ReportFault>
     requires pages { (1 ≤ job.pages) × (job.pages ≤ MAX_PAGES) }
     requires few { length script.now ≤ MOST_BYTES }
-    ensures ok { IfOk result (IsExplored job.entry (W.contents writer.old) (W.contents writer.new) script.now) }
+    ensures ok { IfOk result (IsExplored job.entry (W.contents writer.old)
+        (W.contents writer.new) script.now) }
     ensures err { IfErr result
         (TellingStops job.entry (W.contents writer.old) (W.contents writer.new) script.now) }
 {

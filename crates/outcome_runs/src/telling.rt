@@ -69,7 +69,8 @@ fn searched<P: Progress>(
     vanishing: Vanishing<'_>,
 ) -> Result<Option<Exploration>, ReportFault>
     requires { (1 ≤ job.pages) × (job.pages ≤ MAX_PAGES) }
-    ensures ok { IfOk result (λ found. IfSome found (IsSearch plans.now vanishing.entry job.entry seed)) }
+    ensures ok { IfOk result (λ found. IfSome found
+        (IsSearch plans.now vanishing.entry job.entry seed)) }
     ensures err { IfErr result IsUnsearched }
 {
     let setting = Setting {
@@ -140,7 +141,8 @@ fn report_of(
     found: &Exploration,
     claims: &[ClaimLine<'_>],
 ) -> Result<SearchReport, AllocError>
-    ensures { IfOk result (λ told. IsJudged telling.now found.now claims.now told.text.items told.ending) }
+    ensures { IfOk result (λ told. IsJudged telling.now found.now claims.now told.text.items
+        told.ending) }
 {
     let mut text = Vec::new(alloc);
     push_report(alloc, &mut text, telling, found)?;
@@ -159,7 +161,8 @@ fn play_of(
     found: &Exploration,
     number: u64,
 ) -> Result<SearchReport, AllocError>
-    ensures { IfOk result (λ told. IsPlayed telling.now found.now number told.text.items told.ending) }
+    ensures { IfOk result (λ told. IsPlayed telling.now found.now number told.text.items
+        told.ending) }
 {
     let mut text = Vec::new(alloc);
     let Some(one) = outcome_of(&found.outcomes, number) else {
@@ -382,7 +385,8 @@ fn told_in<P: Progress>(
 ) -> Result<SearchReport, ReportFault>
     requires pages { (1 ≤ job.pages) × (job.pages ≤ MAX_PAGES) }
     requires few { length script.now ≤ MOST_BYTES }
-    ensures ok { IfOk result (λ told. HasSearched job.entry script.now list.now told.text.items told.ending) }
+    ensures ok { IfOk result (λ told. HasSearched job.entry script.now list.now told.text.items
+        told.ending) }
     ensures err { IfErr result (IsUnheld job.entry script.now list.now) }
 {
     match plans_of(host.alloc, &list.scripts, job.waiting) {

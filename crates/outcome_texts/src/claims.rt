@@ -130,7 +130,8 @@ fn judge_list(
     number: u64,
     names: &[u8],
 ) -> Result<(), BadClaim>
-    ensures ok { OnOk result (clients_told (listed_told 32 names.now) telling.now.labels.now ≡ true) }
+    ensures ok { OnOk result (clients_told (listed_told 32 names.now) telling.now.labels.now
+        ≡ true) }
     ensures err { IfErr result (IsBadList telling.now number names.now) }
 {
     match is_list(alloc, names, telling.labels) {
@@ -152,7 +153,8 @@ fn take_line<'a>(
 ) -> Result<(), BadClaim>
     ensures ok { OnOk result (Takes telling.now text.entry (vanish_told text.entry.line.now)
         claims.old.items claims.new.items) }
-    ensures err { IfErr result (IsBadText telling.now text.entry (vanish_told text.entry.line.now)) }
+    ensures err { IfErr result (IsBadText telling.now text.entry
+        (vanish_told text.entry.line.now)) }
 {
     match vanish_text(text.line) {
         Some(names) => judge_list(alloc, telling, text.number, names),
@@ -170,7 +172,8 @@ pub fn judged_claims<'a>(
     telling: &Telling<'_>,
     texts: &[ClaimText<'a>],
 ) -> Result<Vec<ClaimLine<'a>>, BadClaim>
-    ensures ok { IfOk result (λ claims. judged telling.now (texts_in texts.now) ≡ Ok (claims_in claims.items)) }
+    ensures ok { IfOk result (λ claims. judged telling.now (texts_in texts.now)
+        ≡ Ok (claims_in claims.items)) }
     ensures err { IfErr result (IsBadClaim telling.now (texts_in texts.now)) }
 {
     let mut claims = Vec::new(alloc);

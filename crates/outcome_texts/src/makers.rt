@@ -120,7 +120,8 @@ fn is_maker(telling: &Telling<'_>, trackers: bool, name: NodeName, actor: usize)
 
 // How many clients do.
 pub(crate) fn makers(telling: &Telling<'_>, trackers: bool, name: NodeName) -> usize
-    ensures { result ≡ count_below (maker_told telling.now trackers name) (length telling.now.plans.now) }
+    ensures { result ≡ count_below (maker_told telling.now trackers name)
+        (length telling.now.plans.now) }
 {
     let mut count = 0;
     'actors: for actor in 0..telling.plans.len() {

@@ -103,7 +103,8 @@ pub(crate) fn push_call(
     found: &Found,
     call: PlayCall,
 ) -> Result<(), AllocError>
-    ensures { OnOk result (text.new.items ≡ text.old.items ++ call_text telling.now found.now call) }
+    ensures { OnOk result (text.new.items ≡ text.old.items
+        ++ call_text telling.now found.now call) }
 {
     match call {
         PlayCall::Step { actor, at } => push_step_at(text, telling, actor, at),
@@ -198,7 +199,8 @@ pub fn push_play(
     rank: u64,
     outcomes: usize,
 ) -> Result<(), AllocError>
-    ensures { OnOk result (AppendsPlay telling.now found.now rank outcomes text.old.items text.new.items) }
+    ensures { OnOk result (AppendsPlay telling.now found.now rank outcomes text.old.items
+        text.new.items) }
 {
     let said = runs_words(alloc, telling, found)?;
     let calls = calls_of(alloc, found)?;

@@ -215,7 +215,8 @@ fn push_broken(
     rank: u64,
     found: &Found,
 ) -> Result<(), AllocError>
-    ensures { OnOk result (text.new.items ≡ text.old.items ++ broken_text telling.now rank found.now) }
+    ensures { OnOk result (text.new.items ≡ text.old.items
+        ++ broken_text telling.now rank found.now) }
 {
     push_broken_head(text, rank, found)?;
     push_decided(alloc, text, telling, found)
@@ -281,7 +282,8 @@ fn push_claim(
     found: &Exploration,
     one: &ClaimLine<'_>,
 ) -> Result<(), AllocError>
-    ensures { OnOk result (text.new.items ≡ text.old.items ++ claim_text telling.now found.now one.now) }
+    ensures { OnOk result (text.new.items ≡ text.old.items
+        ++ claim_text telling.now found.now one.now) }
 {
     push_words(text, one)?;
     let said = verdict_on(telling, found, one.claim);

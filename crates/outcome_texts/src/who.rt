@@ -65,7 +65,8 @@ fn who_among(alloc: Global, words: &[&[u8]], labels: &[Label]) -> Result<Vec<boo
 
 // Which of the clients are in the list, whose words commas separate.
 fn who_listed(alloc: Global, names: &str, labels: &[Label]) -> Result<Vec<bool>, AllocError>
-    ensures { IfOk result (λ who. who.items ≡ map (among_told (listed_told 44 names.now)) labels.now) }
+    ensures { IfOk result (λ who. who.items
+        ≡ map (among_told (listed_told 44 names.now)) labels.now) }
 {
     let words = listed(alloc, b',', names.as_bytes())?;
     who_among(alloc, &words, labels)

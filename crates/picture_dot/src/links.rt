@@ -78,7 +78,8 @@ fn push_link_of(
 
 // The parent of the node, if it has one.
 fn parent_of(by_key: &KeyMap<Node>, node: &Node) -> Option<Node>
-    ensures { (all : List NodeValue) → FindsNodes by_key.now all → result ≡ parent_among all node.now }
+    ensures { (all : List NodeValue) → FindsNodes by_key.now all →
+        result ≡ parent_among all node.now }
 {
     match node.parent {
         Some(parent) => by_key.get(parent).copied(),

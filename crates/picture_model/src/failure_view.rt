@@ -173,7 +173,8 @@ struct Reached {
 // way up: one generation a step. A generation that is all on the way takes no step.
 #[tactic(auto, unfolding(crate::specs::Travels::fallen_on))]
 fn trace_down(trail: &mut Trail, taken: &Vec<Node>, way: &[NodeKey]) -> Result<(), AllocError>
-    ensures { OnOk result (trace_in trail.new ≡ fallen taken.now.items way.now (trace_in trail.old)) }
+    ensures { OnOk result (trace_in trail.new
+        ≡ fallen taken.now.items way.now (trace_in trail.old)) }
 {
     let reached = reached_below(taken, way)?;
     let ones = ones_of(&reached, taken.len())?;

@@ -78,10 +78,12 @@ pub fn picture_of(
     picture_state: &PictureState,
     event: Option<&Event>,
 ) -> Result<Picture, LineStop>
-    ensures shows { IfOk result (λ picture. (names : Names) → Keeps event_writer.now.session.tables names →
-        ShowsEvent event_writer.now.session.core names picture_state.now (option_map (λ e. e.now) event.entry)
-        picture) }
-    ensures seen { IfOk result (λ picture. All (IsTree event_writer.now.session.core) picture.trees.items) }
+    ensures shows { IfOk result (λ picture. (names : Names) →
+        Keeps event_writer.now.session.tables names →
+        ShowsEvent event_writer.now.session.core names picture_state.now
+        (option_map (λ e. e.now) event.entry) picture) }
+    ensures seen { IfOk result (λ picture.
+        All (IsTree event_writer.now.session.core) picture.trees.items) }
     // No node that the core keeps is missing, if the picture state knows each.
     ensures kept { IfOk result (λ picture. (history : List Entry) →
         Shows event_writer.now.session.core history → KnowsKept event_writer.now.session.core picture_state.now →

@@ -85,7 +85,8 @@ impl PictureState {
         ensures known { OnOk result ((id : ℕ) →
             known_in self.new id ≡ known_after core.now named event.now id (known_in self.old id)) }
         // The event leads from a core, each of whose nodes is known, to this core.
-        ensures kept { OnOk result ((old : State) (client : ℕ) (call : CallMade) (history : List Entry) →
+        ensures kept { OnOk result ((old : State) (client : ℕ) (call : CallMade)
+            (history : List Entry) →
             Shows old history → IsEventOf old client call event.now → core.now.pool ≡ old.pool →
             Shows core.now (history ++ (client, call, event.now.reply) ∷ []) →
             KnowsKept old self.old → KnowsKept core.now self.new) }
@@ -303,7 +304,8 @@ fn left_among(
     under: &KeySet,
     fault: Option<Fault>,
 ) -> Result<Vec<Node>, AllocError>
-    ensures { IfOk result (λ later. (below : Key → Bool) → ((key : Key) → has under.now key ≡ below key) →
+    ensures { IfOk result (λ later. (below : Key → Bool) →
+        ((key : Key) → has under.now key ≡ below key) →
         later.items ≡ map (left_as fault below) nodes.now.items) }
 {
     let mut later = Vec::new(*nodes.allocator());

@@ -74,10 +74,12 @@ fn push_body(
     ensures text { OnOk result ((names : Names) → Keeps event_writer.now.session.tables names →
         Calls event_writer.now.labels names → body.new.items ≡ body.old.items
         ++ body_text event_writer.now.session.core names line.now picture.now) }
-    ensures bottom { IfOk result (λ extent. (names : Names) → Keeps event_writer.now.session.tables names →
+    ensures bottom { IfOk result (λ extent. (names : Names) →
+        Keeps event_writer.now.session.tables names →
         Calls event_writer.now.labels names →
         extent.bottom ≡ height_of event_writer.now.session.core names picture.now) }
-    ensures right { IfOk result (λ extent. (names : Names) → Keeps event_writer.now.session.tables names →
+    ensures right { IfOk result (λ extent. (names : Names) →
+        Keeps event_writer.now.session.tables names →
         Calls event_writer.now.labels names →
         extent.right ≡ width_of event_writer.now.session.core names picture.now) }
 {
@@ -115,11 +117,15 @@ fn push_all_trees(
     ensures text { OnOk result ((names : Names) → Keeps event_writer.now.session.tables names →
         Calls event_writer.now.labels names → row ≡ trees_row event_writer.now.session.core picture.now →
         body.new.items ≡ body.old.items ++ all_trees event_writer.now.session.core names picture.now) }
-    ensures bottom { IfOk result (λ extent. (names : Names) → Keeps event_writer.now.session.tables names →
-        Calls event_writer.now.labels names → row ≡ trees_row event_writer.now.session.core picture.now →
+    ensures bottom { IfOk result (λ extent. (names : Names) →
+        Keeps event_writer.now.session.tables names →
+        Calls event_writer.now.labels names →
+        row ≡ trees_row event_writer.now.session.core picture.now →
         extent.bottom ≡ pool_row event_writer.now.session.core names picture.now) }
-    ensures right { IfOk result (λ extent. (names : Names) → Keeps event_writer.now.session.tables names →
-        Calls event_writer.now.labels names → row ≡ trees_row event_writer.now.session.core picture.now →
+    ensures right { IfOk result (λ extent. (names : Names) →
+        Keeps event_writer.now.session.tables names →
+        Calls event_writer.now.labels names →
+        row ≡ trees_row event_writer.now.session.core picture.now →
         extent.right ≡ last_column event_writer.now.session.core names picture.now) }
 {
     let clients = event_writer.session.core.clients()?;

@@ -51,7 +51,8 @@ pub(crate) fn push_trees(
     trees: &[Tree],
     row: u64,
 ) -> Result<Extent, AllocError>
-    ensures text { OnOk result ((names : Names) → Keeps sheet.now.event_writer.now.session.tables names →
+    ensures text { OnOk result ((names : Names) →
+        Keeps sheet.now.event_writer.now.session.tables names →
         Calls sheet.now.event_writer.now.labels names → (steps : List Step) →
         FindsTravels sheet.now.travels.now steps →
         body.new.items ≡ body.old.items ++ svg_trees sheet.now.event_writer.now.session.core names
@@ -87,7 +88,8 @@ fn push_tree(
     tree: &Tree,
     above: Extent,
 ) -> Result<Extent, AllocError>
-    ensures text { OnOk result ((names : Names) → Keeps sheet.now.event_writer.now.session.tables names →
+    ensures text { OnOk result ((names : Names) →
+        Keeps sheet.now.event_writer.now.session.tables names →
         Calls sheet.now.event_writer.now.labels names → (steps : List Step) →
         FindsTravels sheet.now.travels.now steps →
         body.new.items ≡ body.old.items ++ svg_tree sheet.now.event_writer.now.session.core names

@@ -82,7 +82,8 @@ fn push_next(
 
 // The first of the nodes alone, which is the root, if there is one.
 fn begin(nodes: &Vec<Node>) -> Result<Vec<Branch>, AllocError>
-    ensures { IfOk result (λ waiting. map branch_of waiting.items ≡ first_branches nodes.now.items) }
+    ensures { IfOk result (λ waiting. map branch_of waiting.items
+        ≡ first_branches nodes.now.items) }
 {
     let alloc = *nodes.allocator();
     match nodes.as_slice().split_first() {
@@ -175,7 +176,8 @@ fn text_of(alloc: Global, text: &[u8], words: &str) -> Result<Vec<u8>, AllocErro
 
 // What leads to the rows of the node's children.
 fn stem_below(next: &Branch) -> Result<Vec<u8>, AllocError>
-    ensures { IfOk result (λ stem. stem.items ≡ next.now.stem.items ++ stem_text next.now.depth next.now.last) }
+    ensures { IfOk result (λ stem. stem.items ≡ next.now.stem.items
+        ++ stem_text next.now.depth next.now.last) }
 {
     let alloc = *next.stem.allocator();
     text_of(alloc, &next.stem, stem_words(next.depth, next.last))

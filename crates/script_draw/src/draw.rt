@@ -126,8 +126,8 @@ fn draw_all<W: Write>(
     view: View,
 ) -> Result<(), ReportFault>
     requires { length script.now ≤ MOST_BYTES }
-    ensures { (setting : Setting) → Reached setting view.until scroll.old [] → LinesDrawn setting view
-        (W.contents writer.old) (W.contents writer.new) script.now result }
+    ensures { (setting : Setting) → Reached setting view.until scroll.old [] →
+        LinesDrawn setting view (W.contents writer.old) (W.contents writer.new) script.now result }
 {
     match play(alloc, scroll, script, view.until) {
         Ok(is_reached) => draw_asked(alloc, scroll, writer, view, is_reached),
@@ -233,7 +233,8 @@ fn draw_last<W: Write>(
     view: View,
     fault: ReportFault,
 ) -> Result<(), ReportFault>
-    ensures { (setting : Setting) (script : List ℕ) → wanted view.until ≡ None → stops_at_line fault ≡ true →
+    ensures { (setting : Setting) (script : List ℕ) → wanted view.until ≡ None →
+        stops_at_line fault ≡ true →
         PlayLinesHalt setting view.until scroll.now script fault →
         LinesDrawn setting view (W.contents writer.old) (W.contents writer.new) script result }
 {
@@ -312,7 +313,8 @@ fn play(
     until: Until,
 ) -> Result<bool, ReportFault>
     requires { length script.now ≤ MOST_BYTES }
-    ensures ok { IfOk result (λ is_reached. (setting : Setting) → Reached setting until scroll.old [] →
+    ensures ok { IfOk result (λ is_reached. (setting : Setting) →
+        Reached setting until scroll.old [] →
         IsPlayedOn setting until is_reached scroll.new script.now) }
     ensures err { IfErr result (λ fault. (setting : Setting) → Reached setting until scroll.old [] →
         PlayLinesHalt setting until scroll.new script.now fault) }
@@ -360,7 +362,8 @@ impl Scroll {
 
     // Whether what is asked for was reached, where so many lines were played.
     fn is_at(&self, until: Until, lines: u64) -> bool
-        ensures { (setting : Setting) (played : List (List ℕ)) (far : Reached setting until self.now played) →
+        ensures { (setting : Setting) (played : List (List ℕ))
+            (far : Reached setting until self.now played) →
             lines ≡ length played →
             result ≡ is_reached (asked_number until) (found until setting.pool played far.scene) }
     {
@@ -513,11 +516,13 @@ fn keep(
     event: Event,
 ) -> Result<(), LineStop>
     ensures last { OnOk result (last.new ≡ Some event) }
-    ensures kept { OnOk result ((old : State) (client : ℕ) (call : CallMade) (history : List Entry) →
+    ensures kept { OnOk result ((old : State) (client : ℕ) (call : CallMade)
+        (history : List Entry) →
         Shows old history → IsEventOf old client call event →
         event_writer.now.session.core.pool ≡ old.pool →
         Shows event_writer.now.session.core (history ++ (client, call, event.reply) ∷ []) →
-        KnowsKept old picture_state.old → KnowsKept event_writer.now.session.core picture_state.new) }
+        KnowsKept old picture_state.old →
+        KnowsKept event_writer.now.session.core picture_state.new) }
 {
     let updated = picture_state.update(alloc, &event_writer.session.core, named, &event);
     *last = Some(event);

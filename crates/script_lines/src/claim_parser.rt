@@ -102,7 +102,8 @@ fn said_by(subject: &[u8], verb: &[u8], rest: Option<&[u8]>) -> Option<Fact>
 
 // So many pages are free.
 fn free(word: &[u8], rest: Option<&[u8]>) -> Option<Fact>
-    ensures { result ≡ at_end (words_left rest.entry) (option_map (λ (pages : ℕ). FactTold.Free pages) (number_of word.now)) }
+    ensures { result ≡ at_end (words_left rest.entry)
+        (option_map (λ (pages : ℕ). FactTold.Free pages) (number_of word.now)) }
 {
     match (next_word(rest), read_number(word)) {
         (None, Some(pages)) => Some(Fact::Free(pages)),
