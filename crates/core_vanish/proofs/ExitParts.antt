@@ -305,7 +305,8 @@ shut_alone client events h = (
 )
 
 -- or was not shut
-unshut_begun : (client : ℕ) (fault : VanishFault) (events : List Entry) (marks later : Timeline) → IsUnshut client fault marks events later →
+unshut_begun : (client : ℕ) (fault : VanishFault) (events : List Entry) (marks later : Timeline) →
+    IsUnshut client fault marks events later →
     IsBegun client fault events
 unshut_begun client VanishFault.NoSuchClient events marks later h = h
 unshut_begun client VanishFault.HistoryFull events marks later h = shut_alone client events h

@@ -1,6 +1,8 @@
 -- Lines that are judged one after another.
-use Rattle.std.proofs.Common.{◌≡◌, ◌∙◌, ◌<◌, ◌++◌, ℕ, suc, List, [], ◌∷◌, Option, Some, None, Result, Ok, Err, drop, get_or, length, ap, refl, append_assoc, drop-cons}
-use Rattle.outcome_texts.specs.ClaimLines.{Bad, IsBadLine, Takes, ToldClaim, bad_line, claims_in, judged, put_before, put_first, text_told, texts_in, with_line, words_behind}
+use Rattle.std.proofs.Common.{◌≡◌, ◌∙◌, ◌<◌, ◌++◌, ℕ, suc, List, [], ◌∷◌, Option, Some, None, Result, Ok, Err, drop,
+    get_or, length, ap, refl, append_assoc, drop-cons}
+use Rattle.outcome_texts.specs.ClaimLines.{Bad, IsBadLine, Takes, ToldClaim, bad_line, claims_in, judged, put_before,
+    put_first, text_told, texts_in, with_line, words_behind}
 use Rattle.script_lines.specs.ClientLists.{vanish_text}
 use Rattle.outcome_texts.specs.declared.claims.ClaimText.{ClaimText}
 use Rattle.outcome_texts.specs.declared.telling.Telling.{Telling}
@@ -13,7 +15,8 @@ added old one new (Ok more) last = ap Ok (ap (λ (front : List ToldClaim). front
 added old one new (Err bad) last = refl
 
 -- a good line is judged, and those that are left
-pub takes_next : (telling : Telling) (text : ClaimText) (names : Option (List ℕ)) (old new : List ClaimLine) (rest : Result (List ToldClaim) Bad) →
+pub takes_next : (telling : Telling) (text : ClaimText) (names : Option (List ℕ)) (old new : List ClaimLine)
+    (rest : Result (List ToldClaim) Bad) →
     Takes telling text names old new →
     put_before (claims_in new) rest ≡ put_before (claims_in old) (with_line telling (text_told text) names rest)
 takes_next telling text None old new rest is =
