@@ -11,4 +11,4 @@ mod taken;
 
 pub use account::Account;
 pub use empty_units::{empty, memory_fault};
-pub use taken::{Taken, taken_by};
+pub use taken::{TakenHandles, taken_by};

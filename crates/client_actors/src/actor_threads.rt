@@ -10,7 +10,7 @@ ghost use Rattle.client_actors.specs.ActorEnds.{HaveRun, IsEndAt, IsEndThere, Is
 
 use crate::actor_run::{Playing, run_actor};
 use crate::gate::{ActorEnd, Gate};
-use crate::start::Start;
+use crate::start::StartBarrier;
 use actor_scripts::ActorScript;
 use client_ends::{Held, join, memory_fault};
 use client_vanish::Holding;
@@ -28,7 +28,7 @@ use std::{mem, thread};
 fn run_there<E: Setup, S: Ledger, W: Ledger, G: Gate, R: Wait + Clock>(
     rt: &R,
     playing: &Playing<'_, E, S, W, G>,
-    start: &Start,
+    start: &StartBarrier,
     scripts: &[ActorScript],
     number: usize,
     on: &mut Option<ActorEnd<E, S, W>>,
@@ -77,7 +77,7 @@ fn run_all<
     if count == 0 {
         return;
     }
-    let start = Start::new(count);
+    let start = StartBarrier::new(count);
     thread::for_each_mut(
         rt,
         actors,

@@ -8,16 +8,16 @@ const PATIENCE: u64 = 10;
 // A thread that the system refuses never starts. So the threads that have started begin without
 // the others once no thread was added for a while.
 #[derive(Drop)]
-pub(crate) struct Start {
+pub(crate) struct StartBarrier {
     // How many threads have not started yet, or `None` once the others have begun.
     awaited: Mutex<Option<usize>>,
     begun: Condvar,
 }
 
-impl Start {
+impl StartBarrier {
     // Where this many are to come.
-    pub(crate) fn new(count: usize) -> Start {
-        Start {
+    pub(crate) fn new(count: usize) -> StartBarrier {
+        StartBarrier {
             awaited: Mutex::new(Some(count)),
             begun: Condvar::new(),
         }

@@ -11,7 +11,7 @@ use Rattle.sm_names.specs.declared.messages.Call.{Call}
 use Rattle.sm_names.specs.declared.messages.Reply.{Reply}
 use Rattle.event_laws.specs.HandleSums.{indices_in}
 use Rattle.service_lock.specs.Units.{Amounts, HasOne, with_one}
-use Rattle.client_accounts.specs.declared.taken.Taken.{Taken}
+use Rattle.client_accounts.specs.declared.taken.TakenHandles.{TakenHandles}
 use Rattle.client_accounts.specs.Accounts.{SameHandles, no_amounts}
 use Rattle.client_accounts.specs.Takes.{handful, told_taken}
 use Rattle.client_ends.specs.Clients.{Grip, Made, Seen}
@@ -23,7 +23,7 @@ pub took : (old mid new : Seen) (key : NodeKey) (reply : Reply) (collection : �
     Made mid new (Call.Take key) reply → reply ≡ Reply.Taken collection strength set → handles ≡ grips_by mid.id (told_taken reply) →
     Took old new key handles
 took old mid new key reply collection strength set handles is made tells brought =
-    let taken : Taken = record { collection = collection; strength = strength; set = set } in record {
+    let taken : TakenHandles = record { collection = collection; strength = strength; set = set } in record {
       taken = taken;
       made = subst (λ (o : Seen). Made o new (Call.Take key) (Reply.Taken collection strength set)) (sym is)
           (subst (λ (r : Reply). Made mid new (Call.Take key) r) tells made);
@@ -118,7 +118,7 @@ module _ (index set : ℕ) where
   none_left Strong units is same = let none = ap length (at_end is) in (omega (arith, none, same.0), same.1)
   none_left Weak units is same = let none = ap length (at_end is) in (same.0, omega (arith, none, same.1))
 
-  module _ (client : ℕ) (taken : Taken) (items all : List Grip) where
+  module _ (client : ℕ) (taken : TakenHandles) (items all : List Grip) where
     -- one handle more was handed out
     pub grips_with : index < MAX_BUFFERS → (bit_at set index == 1) ≡ true → items ++ grips_at client taken rest_from ≡ all →
         (items ++ grip_at client taken index ∷ []) ++ grips_at client taken behind ≡ all
@@ -137,14 +137,14 @@ module _ (index set : ℕ) where
         sym (append-nil items) ∙ (ap (λ (l : List ℕ). items ++ grips_at client taken l) (sym (at_end is)) ∙ so)
 
 -- at first all are still to come
-pub grips_first : (client : ℕ) (taken : Taken) (items : List Grip) → items ≡ [] →
+pub grips_first : (client : ℕ) (taken : TakenHandles) (items : List Grip) → items ≡ [] →
     items ++ grips_at client taken (indices_from 0 MAX_BUFFERS taken.set) ≡ grips_at client taken (indices_in taken.set)
 grips_first client taken items none =
     ap (λ (l : List Grip). l ++ grips_at client taken (indices_from 0 MAX_BUFFERS taken.set)) none
     ∙ ap (λ (l : List ℕ). grips_at client taken l) (from_first taken.set)
 
 -- with their units
-pub units_first : (units : Amounts) (taken : Taken) → SameHandles units (handful taken.strength (length (indices_in taken.set))) →
+pub units_first : (units : Amounts) (taken : TakenHandles) → SameHandles units (handful taken.strength (length (indices_in taken.set))) →
     SameHandles units (handful taken.strength (length (indices_from 0 MAX_BUFFERS taken.set)))
 units_first units taken same =
     subst (λ (l : List ℕ). SameHandles units (handful taken.strength (length l))) (sym (from_first taken.set)) same

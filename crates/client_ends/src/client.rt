@@ -11,7 +11,7 @@ ghost use Rattle.client_ends.specs.Clients.{Made, MadeOr, is_collect_reply, rele
 ghost use Rattle.client_ends.specs.Collecting.{Collected, handles_collected};
 ghost use Rattle.client_ends.specs.Taking.{Took};
 
-use crate::ended::Ended;
+use crate::ended::EndedService;
 use crate::ends::{CollectionEnd, TokenEnd};
 use crate::handle::Handle;
 use crate::held::ParcelContent;
@@ -462,7 +462,7 @@ impl<E: Setup, S: Ledger, W: Ledger> Client<E, S, W> {
     }
 
     /// Spends the client without an event, after the end of the service.
-    pub fn spend(self, _ended: &Ended<E, S, W>) {
+    pub fn spend(self, _ended: &EndedService<E, S, W>) {
         let Client { id: _, account } = self;
         account.spend();
     }

@@ -6,14 +6,14 @@ use std::sync::ledger::Ledger;
 /// A value that exists only after the end of a service. With it the values of the service's clients can be
 /// spent without events.
 #[derive(Drop)]
-pub struct Ended<E: Setup, S: Ledger, W: Ledger> {
+pub struct EndedService<E: Setup, S: Ledger, W: Ledger> {
     ledgers: PhantomData<(E, S, W)>,
 }
 
 /// Ends the service, and drops its record and its core. Takes no lock and no memory.
-pub fn end<E: Setup, S: Ledger, W: Ledger>(service: Service<E, S, W>) -> Ended<E, S, W> {
+pub fn end<E: Setup, S: Ledger, W: Ledger>(service: Service<E, S, W>) -> EndedService<E, S, W> {
     service.end();
-    Ended {
+    EndedService {
         ledgers: PhantomData,
     }
 }

@@ -6,7 +6,7 @@ ghost use Rattle.client_accounts.specs.Accounts.{is_done};
 ghost use Rattle.client_ends.specs.Clients.{Made, MadeOr, release_spends, is_tracker_reply};
 
 use crate::client::Client;
-use crate::ended::Ended;
+use crate::ended::EndedService;
 use crate::why::{Kept, Why};
 use service_lock::{Service, Setup};
 use sm_names::{Call, ClientId, CollectionId, NodeKey, Reply, StepFault};
@@ -63,7 +63,7 @@ impl<K, E: Setup> EndOf<K, E> {
     }
 
     /// Spends the end without an event, after the end of a service.
-    pub fn spend<S: Ledger, W: Ledger>(self, _ended: &Ended<E, S, W>) {
+    pub fn spend<S: Ledger, W: Ledger>(self, _ended: &EndedService<E, S, W>) {
         self.used_up();
     }
 

@@ -6,7 +6,7 @@ ghost use Rattle.client_accounts.specs.Accounts.{handle_unit, is_done, lets_go};
 ghost use Rattle.client_ends.specs.Clients.{Made, MadeOr, is_tracker_reply};
 
 use crate::client::Client;
-use crate::ended::Ended;
+use crate::ended::EndedService;
 use crate::why::{Kept, Why};
 use service_lock::{Service, Setup, Units};
 use sm_names::{BufferName, Call, ClientId, Strength};
@@ -57,7 +57,7 @@ impl<E: Setup, S: Ledger, W: Ledger> Handle<E, S, W> {
     }
 
     /// Spends the handle without an event, after the end of the service.
-    pub fn spend(self, _ended: &Ended<E, S, W>) {
+    pub fn spend(self, _ended: &EndedService<E, S, W>) {
         let Handle {
             client: _,
             buffer: _,

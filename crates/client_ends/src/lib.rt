@@ -25,7 +25,7 @@ mod why;
 pub use client::{Client, join};
 pub use client_accounts::memory_fault;
 pub use draft::{Draft, DraftPart, Synced};
-pub use ended::{Ended, end};
+pub use ended::{EndedService, end};
 pub use ends::{Bound, CollectionEnd, EndOf, TokenEnd, Unbound};
 pub use event_laws::Own;
 pub use handle::Handle;

@@ -11,7 +11,7 @@ ghost use Rattle.client_accounts.specs.Takes.{handful, told_taken, units_by};
 ghost use Rattle.client_ends.specs.Taking.{grip_at, grips_at, grips_by};
 
 use crate::handle::Handle;
-use client_accounts::{Account, Taken, empty, memory_fault, taken_by};
+use client_accounts::{Account, TakenHandles, empty, memory_fault, taken_by};
 use service_lock::{Setup, State, parts};
 use sm_names::{BufferName, ClientId, MAX_BUFFERS, NodeKey, Reply, StepFault, has_buffer};
 use std::alloc::Global;
@@ -46,7 +46,7 @@ fn hand_one<E: Setup, S: Ledger, W: Ledger>(
     account: &mut Account<E, S, W>,
     state: &mut State<E, S, W>,
     client: ClientId,
-    taken: &Taken,
+    taken: &TakenHandles,
     index: u8,
 ) -> Handle<E, S, W>
     requires unit { HasOne taken.now.strength account.old.units }
@@ -75,7 +75,7 @@ fn hand_out<E: Setup, S: Ledger, W: Ledger>(
     state: &mut State<E, S, W>,
     handles: &mut Vec<Handle<E, S, W>>,
     client: ClientId,
-    taken: &Taken,
+    taken: &TakenHandles,
 )
     requires units { SameHandles account.old.units
         (handful taken.now.strength (length (indices_in taken.now.set))) }
@@ -102,7 +102,7 @@ fn hand_out_if<E: Setup, S: Ledger, W: Ledger>(
     state: &mut State<E, S, W>,
     handles: &mut Vec<Handle<E, S, W>>,
     client: ClientId,
-    taken: Option<Taken>,
+    taken: Option<TakenHandles>,
 )
     requires units { SameHandles account.old.units (units_by taken) }
     requires none { handles.old.items ≡ [] }

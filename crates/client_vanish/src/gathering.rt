@@ -7,7 +7,7 @@ ghost use Rattle.client_vanish.specs.Gatherings.{IsFirstMismatch, IsFound, IsGat
 
 use crate::fault::GatherFault;
 use crate::wreck::Wreck;
-use client_ends::{Client, EndOf, Ended, Handle, Held, Own, end};
+use client_ends::{Client, EndOf, EndedService, Handle, Held, Own, end};
 use event_laws::{ClientLine, Parts};
 use service_lock::{Service, Setup, State, books, entries};
 use sm_names::{ClientId, NoMemory, Strength};
@@ -230,7 +230,10 @@ pub fn gather<E: Setup, S: Ledger, W: Ledger, R: Wait>(
 }
 
 // Spends ends.
-fn spend_ends<K, E: Setup, S: Ledger, W: Ledger>(ended: &Ended<E, S, W>, ends: Vec<EndOf<K, E>>) {
+fn spend_ends<K, E: Setup, S: Ledger, W: Ledger>(
+    ended: &EndedService<E, S, W>,
+    ends: Vec<EndOf<K, E>>,
+) {
     let mut ends = ends;
     while let Some(end) = ends.pop() {
         end.spend(ended);
@@ -240,7 +243,7 @@ fn spend_ends<K, E: Setup, S: Ledger, W: Ledger>(ended: &Ended<E, S, W>, ends: V
 
 // Spends a client and all that it holds.
 fn spend<E: Setup, S: Ledger, W: Ledger>(
-    ended: &Ended<E, S, W>,
+    ended: &EndedService<E, S, W>,
     client: Client<E, S, W>,
     held: Held<E, S, W>,
 ) {

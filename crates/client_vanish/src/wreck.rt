@@ -2,7 +2,7 @@
 ghost use Rattle.std.specs.Prelude.{◌≡◌, ◌+◌, length};
 ghost use Rattle.client_vanish.specs.Vanishings.{held_in};
 
-use client_ends::{Client, Ended, Held, Own};
+use client_ends::{Client, EndedService, Held, Own};
 use service_lock::Setup;
 use sm_names::ClientId;
 use std::marker::Model;

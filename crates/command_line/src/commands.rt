@@ -265,7 +265,7 @@ enum Word {
 }
 
 // A command: its name, what its help says, and what it takes.
-struct Row {
+struct CommandRow {
     name: &'static str,
     about: &'static str,
     long_about: &'static str,
@@ -273,9 +273,9 @@ struct Row {
     words: &'static [Word],
 }
 
-const COMMANDS: &[Row] = &[
+const COMMANDS: &[CommandRow] = &[
     // Answers each line.
-    Row {
+    CommandRow {
         name: "run",
         about: RUN_ABOUT,
         long_about: LINES,
@@ -283,7 +283,7 @@ const COMMANDS: &[Row] = &[
         words: &[Word::Pages, Word::File],
     },
     // Runs the clients side by side.
-    Row {
+    CommandRow {
         name: THREADS,
         about: THREADS_ABOUT,
         long_about: LINES,
@@ -291,7 +291,7 @@ const COMMANDS: &[Row] = &[
         words: &[Word::Pages, Word::File, Word::Record, Word::Patient],
     },
     // Explains each line.
-    Row {
+    CommandRow {
         name: EXPLAIN,
         about: EXPLAIN_ABOUT,
         long_about: EXPLAIN_HELP,
@@ -299,7 +299,7 @@ const COMMANDS: &[Row] = &[
         words: &[Word::Pages, Word::File, Word::Failures, Word::Summary],
     },
     // Draws trees.
-    Row {
+    CommandRow {
         name: DRAW,
         about: DRAW_ABOUT,
         long_about: DRAW_HELP,
@@ -314,7 +314,7 @@ const COMMANDS: &[Row] = &[
         ],
     },
     // Compares replies.
-    Row {
+    CommandRow {
         name: CHECK,
         about: CHECK_ABOUT,
         long_about: CHECK_HELP,
@@ -322,7 +322,7 @@ const COMMANDS: &[Row] = &[
         words: &[Word::Pages, Word::File],
     },
     // Goes through all orders.
-    Row {
+    CommandRow {
         name: EXPLORE,
         about: EXPLORE_ABOUT,
         long_about: EXPLORE_HELP,
@@ -365,7 +365,7 @@ fn argument<'a>(alloc: Global, word: Word) -> Result<Arg<'a>, AllocError> {
 }
 
 // The command without what it takes.
-fn named<'a>(alloc: Global, row: &Row) -> Command<'a> {
+fn named<'a>(alloc: Global, row: &CommandRow) -> Command<'a> {
     let command = Command::new(alloc, row.name)
         .about(row.about)
         .long_about(row.long_about);
@@ -376,7 +376,7 @@ fn named<'a>(alloc: Global, row: &Row) -> Command<'a> {
 }
 
 // The command of this row.
-fn made<'a>(alloc: Global, row: &Row) -> Result<Command<'a>, AllocError> {
+fn made<'a>(alloc: Global, row: &CommandRow) -> Result<Command<'a>, AllocError> {
     let mut command = named(alloc, row);
     for word in row.words {
         command = command.arg(argument(alloc, *word)?)?;
@@ -398,13 +398,13 @@ fn program<'a>(alloc: Global) -> Result<Command<'a>, AllocError> {
 fn with_command<'a>(
     alloc: Global,
     program: Command<'a>,
-    row: &Row,
+    row: &CommandRow,
 ) -> Result<Command<'a>, AllocError> {
     program.subcommand(made(alloc, row)?)
 }
 
 // The commands of the program. The long texts stand in this function alone.
-fn commands() -> &'static [Row] {
+fn commands() -> &'static [CommandRow] {
     COMMANDS
 }
 

@@ -7,7 +7,7 @@ use Rattle.node_table.specs.Forest.{first_key, next_key, siblings_at}
 use Rattle.std.specs.Option.{option_map_or}
 use Rattle.node_table.specs.Sound.{IsSound, IsRun, run_from, run_in, first_in, last_in, prev_in, next_in, rows_of, table_of}
 use Rattle.node_table.specs.Sound.{with_vacant, entry_in, stamp_in, link_in, core_of, row_of, with_children, given_count}
-use Rattle.node_table.specs.declared.slot.Entry.{Entry}
+use Rattle.node_table.specs.declared.slot.SlotEntry.{SlotEntry}
 use Rattle.node_table.specs.declared.slot.Slot.{Slot}
 use Rattle.node_table.proofs.Keys.{eq-true, eq-false, same-fields}
 use Rattle.node_table.proofs.Runs.{run-first, run-next, run_is, run_from-none, run_from-short}
@@ -16,11 +16,11 @@ use Rattle.node_table.proofs.Depths.{next-there, there-above, parent-there}
 
 module _ {N : Type 0} where
   -- what the entry of a slot, if it has one, says of the key that the slot gave last
-  pub record Shows (t : Table N) (key : NodeKey) (o : Option (Entry N)) : Type 0 where
+  pub record Shows (t : Table N) (key : NodeKey) (o : Option (SlotEntry N)) : Type 0 where
     pub there : is_some o ≡ is_some (row_at t key)
-    pub node : option_map (λ (e : Entry N). e.node) o ≡ node_at t key
-    pub parent : link_in (λ (e : Entry N). e.parent) o ≡ parent_at t key
-    pub first : link_in (λ (e : Entry N). e.first) o ≡ first_key (children_at t key)
+    pub node : option_map (λ (e : SlotEntry N). e.node) o ≡ node_at t key
+    pub parent : link_in (λ (e : SlotEntry N). e.parent) o ≡ parent_at t key
+    pub first : link_in (λ (e : SlotEntry N). e.first) o ≡ first_key (children_at t key)
 
   -- a key that is not there shows nothing
   pub none-shown : (t : Table N) (key : NodeKey) → row_at t key ≡ None → Shows t key None
@@ -61,8 +61,8 @@ module _ {N : Type 0} where
           option_map (with_children keys) (option_map core_of (entry_in (slice_index_or slots i None)))) (runs_are i)
 
   -- a slot with a child has an entry
-  entry-with-child : (next : ℕ → Option NodeKey) (most : ℕ) (o : Option (Entry N)) (x : NodeKey) →
-      Contains (run_from next most (link_in (λ (e : Entry N). e.first) o)) x → IsSome o
+  entry-with-child : (next : ℕ → Option NodeKey) (most : ℕ) (o : Option (SlotEntry N)) (x : NodeKey) →
+      Contains (run_from next most (link_in (λ (e : SlotEntry N). e.first) o)) x → IsSome o
   entry-with-child next most None x there =
       let none : Contains [] x = subst (λ keys. Contains keys x) (run_from-none next most) there in absurd (omega (arith, none.1))
   entry-with-child next most (Some e) x there = refl
@@ -73,7 +73,7 @@ module _ {N : Type 0} where
   children-there keys (Some row) some = refl
 
   -- an entry that is there has a core
-  some-core : (o : Option (Entry N)) → IsSome o → IsSome (option_map core_of o)
+  some-core : (o : Option (SlotEntry N)) → IsSome o → IsSome (option_map core_of o)
   some-core None some = absurd (cc)
   some-core (Some e) some = refl
 
@@ -175,7 +175,7 @@ module _ {N : Type 0} where
             ∙ ap (next_key key) (sym keys)
 
     -- a key of another generation than the entry in its slot is not there
-    pub not-there : (vacant : ℕ) (t : Table N) → with_vacant vacant (table_of slots nexts first limit) ≡ t → (key : NodeKey) (e : Entry N) →
+    pub not-there : (vacant : ℕ) (t : Table N) → with_vacant vacant (table_of slots nexts first limit) ≡ t → (key : NodeKey) (e : SlotEntry N) →
         entry_in (slice_index_or slots key.slot None) ≡ Some e → (e.generation ≡ key.generation → ⊥) → row_at t key ≡ None
     not-there vacant t is key e at differ =
         let next : slice_index_or nexts key.slot first ≡ e.generation + 1 = sound.stamped key.slot e.generation (ap stamp_in at) in
@@ -185,14 +185,14 @@ module _ {N : Type 0} where
 
     -- an entry says what its key's row has, since the row is made of it
     pub entry-shows : (vacant : ℕ) (t : Table N) → with_vacant vacant (table_of slots nexts first limit) ≡ t → (key : NodeKey)
-        (o : Option (Entry N)) → entry_in (slice_index_or slots key.slot None) ≡ o →
+        (o : Option (SlotEntry N)) → entry_in (slice_index_or slots key.slot None) ≡ o →
         slice_index_or nexts key.slot first ≡ key.generation + 1 → Shows t key o
     entry-shows vacant t is key o at next = subst (λ u. Shows u key o) is (by_entry o at
         (ap (λ b. cond b (slice_index_or (rows_of slots (given_count first nexts)) key.slot None) None)
         (eq-true (slice_index_or nexts key.slot first) (key.generation + 1) next)
         ∙ (row-at slots (given_count first nexts) key.slot ∙ ap (option_map (row_of (next_in slots) (given_count first nexts))) at)))
       where
-        by_entry : (o : Option (Entry N)) → entry_in (slice_index_or slots key.slot None) ≡ o →
+        by_entry : (o : Option (SlotEntry N)) → entry_in (slice_index_or slots key.slot None) ≡ o →
             row_at (table_of slots nexts first limit) key ≡ option_map (row_of (next_in slots) (given_count first nexts)) o →
             Shows (with_vacant vacant (table_of slots nexts first limit)) key o
         by_entry None at row = record {
@@ -205,8 +205,8 @@ module _ {N : Type 0} where
           there = sym (ap is_some row);
           node = sym (ap (option_map (λ (row : Row N). row.node)) row);
           parent = sym (ap parent_in row);
-          first = subst (λ (q : Option (Entry N)). link_in (λ (e : Entry N). e.first) q
-              ≡ first_key (run_from (next_in slots) (given_count first nexts) (link_in (λ (e : Entry N). e.first) q))) at
+          first = subst (λ (q : Option (SlotEntry N)). link_in (λ (e : SlotEntry N). e.first) q
+              ≡ first_key (run_from (next_in slots) (given_count first nexts) (link_in (λ (e : SlotEntry N). e.first) q))) at
               (run-first (next_in slots) (prev_in slots) None (first_in slots key.slot) (run_in slots (given_count first nexts) key.slot)
               (last_in slots key.slot) (sound.chained key.slot))
               ∙ sym (ap (λ q. first_key (children_in q)) row);

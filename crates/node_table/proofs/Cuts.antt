@@ -6,7 +6,7 @@ use Rattle.node_table.specs.Table.{Row, Table, row_at, parent_at, parent_in, chi
 use Rattle.node_table.specs.Changes.{Cuts, at_parent, without_child, without_parent}
 use Rattle.node_table.specs.Sound.{row_of, rows_of, run_in, first_in, last_in, prev_in, next_in, link_in, entry_in, stamp_in}
 use Rattle.node_table.specs.Sound.{parent_of, given_count, table_of, with_vacant, IsRun, IsSound, IsLinked, EditsRows, at_slot}
-use Rattle.node_table.specs.declared.slot.Entry.{Entry}
+use Rattle.node_table.specs.declared.slot.SlotEntry.{SlotEntry}
 use Rattle.node_table.specs.declared.slot.Slot.{Slot}
 use Rattle.node_table.proofs.Keys.{eq-true}
 use Rattle.node_table.proofs.Parents.{map-parent, map-stranger, map-up, map-down, children-without, parent-without}
@@ -45,8 +45,8 @@ module _ {N : Type 0} (old : List (Option (Slot N))) (nexts : List ℕ) (first c
     loosened-rows = edit-one old-rows key without_parent (slot-there before key there)
 
     -- the parent in the row of a slot
-    parent-in-row : (next : ℕ → Option NodeKey) (o : Option (Entry N)) →
-        parent_in (option_map (row_of next most) o) ≡ link_in (λ (e : Entry N). e.parent) o
+    parent-in-row : (next : ℕ → Option NodeKey) (o : Option (SlotEntry N)) →
+        parent_in (option_map (row_of next most) o) ≡ link_in (λ (e : SlotEntry N). e.parent) o
     parent-in-row next None = refl
     parent-in-row next (Some e) = refl
 

@@ -12,7 +12,7 @@ use Rattle.node_table.specs.Changes.{Births, with_child}
 use Rattle.node_table.specs.Sound.{IsSound, IsRun, run_from, LinksLast, Bumped, run_in, first_in, last_in}
 use Rattle.node_table.specs.Sound.{prev_in, next_in, last_under, rows_of, table_of, table_in, entry_in}
 use Rattle.node_table.specs.Sound.{stamp_in, link_in, core_of, with_children, given_count, at_slot, unless}
-use Rattle.node_table.specs.declared.slot.Entry.{Entry}
+use Rattle.node_table.specs.declared.slot.SlotEntry.{SlotEntry}
 use Rattle.node_table.specs.declared.slot.Slot.{Slot}
 use Rattle.node_table.specs.declared.slot.Slot.TheVariants.{Taken}
 use Rattle.node_table.proofs.Keys.{eq-true, eq-false}
@@ -129,19 +129,19 @@ module _ {N : Type 0} (old mid new : Slab (Slot N)) (nexts nexts2 : List ℕ) (f
     member-away i x child = elsewhere x (member-there old.slots nexts first count limit sound i x child)
 
     -- a link elsewhere is the one of the slots between
-    new-link : (link : Entry N → Option NodeKey) (i : ℕ) → i ≢ key.slot →
+    new-link : (link : SlotEntry N → Option NodeKey) (i : ℕ) → i ≢ key.slot →
         link_in link (entry_in (get new i)) ≡ link_in link (entry_in (get mid i))
     new-link link i differ = ap (λ o. link_in link (entry_in o)) (updates.others i differ)
 
     -- since its slot has the new entry
-    key-link : (link : Entry N → Option NodeKey) →
+    key-link : (link : SlotEntry N → Option NodeKey) →
         link_in link (entry_in (get new key.slot)) ≡ link
         (record { generation = key.generation; parent = parent; first = None; last = None; prev = last; next = None; node = node })
     key-link link = ap (λ o. link_in link (entry_in o)) updates.changed
 
     -- since the slot was vacant
     nothing-there : run key.slot ≡ []
-    nothing-there = ap (λ o. run_from (next_in old.slots) most (link_in (λ (e : Entry N). e.first) (entry_in o))) was_vacant
+    nothing-there = ap (λ o. run_from (next_in old.slots) most (link_in (λ (e : SlotEntry N). e.first) (entry_in o))) was_vacant
         ∙ run_from-none (next_in old.slots) most
 
     -- the last child of the parent is one of its children
@@ -161,7 +161,7 @@ module _ {N : Type 0} (old mid new : Slab (Slot N)) (nexts nexts2 : List ℕ) (f
     -- a neighbour other than the last child keeps its links
     next-kept : (i : ℕ) (x : NodeKey) → Contains (run i) x → last ≢ Some x → next_in new.slots x.slot ≡ next_in old.slots x.slot
     next-kept i x child off =
-        new-link (λ (e : Entry N). e.next) x.slot (member-away i x child)
+        new-link (λ (e : SlotEntry N). e.next) x.slot (member-away i x child)
         ∙ (linked.nexts x.slot
         ∙ at_key-away last (Some key) x.slot (next_in old.slots x.slot) (λ y is at. by_parent parent refl y is at))
       where
@@ -175,18 +175,18 @@ module _ {N : Type 0} (old mid new : Slab (Slot N)) (nexts nexts2 : List ℕ) (f
 
     -- since a child that was there is in another slot, whose links stay
     prev-kept : (i : ℕ) (x : NodeKey) → Contains (run i) x → prev_in new.slots x.slot ≡ prev_in old.slots x.slot
-    prev-kept i x child = new-link (λ (e : Entry N). e.prev) x.slot (member-away i x child) ∙ linked.prevs x.slot
+    prev-kept i x child = new-link (λ (e : SlotEntry N). e.prev) x.slot (member-away i x child) ∙ linked.prevs x.slot
 
     -- the list of a slot that is not the parent's stays
     each-away : (i : ℕ) → i ≢ key.slot → ((p : NodeKey) → parent ≡ Some p → p.slot ≢ i) →
         IsRun (next_in new.slots) (prev_in new.slots) None (first_in new.slots i) (run i) (last_in new.slots i)
     each-away i differ away =
         let same_first : first_in new.slots i ≡ first_in old.slots i =
-        new-link (λ (e : Entry N). e.first) i differ
+        new-link (λ (e : SlotEntry N). e.first) i differ
         ∙ (linked.firsts i ∙ at_key-away (unless last parent) (Some key) i (first_in old.slots i) (λ y is.
         away y (unless-parent last parent y is))) in
         let same_last : last_in new.slots i ≡ last_in old.slots i =
-        new-link (λ (e : Entry N). e.last) i differ ∙ (linked.lasts i ∙ at_key-away parent (Some key) i (last_in old.slots i) away) in
+        new-link (λ (e : SlotEntry N). e.last) i differ ∙ (linked.lasts i ∙ at_key-away parent (Some key) i (last_in old.slots i) away) in
         subst (λ o. IsRun (next_in new.slots) (prev_in new.slots) None o (run i) (last_in new.slots i)) (sym same_first)
         (subst (λ o. IsRun (next_in new.slots) (prev_in new.slots) None (first_in old.slots i) (run i) o) (sym same_last)
         (run-frame (next_in old.slots) (prev_in old.slots) (next_in new.slots) (prev_in new.slots) None (first_in old.slots i) (run i)
@@ -207,26 +207,26 @@ module _ {N : Type 0} (old mid new : Slab (Slot N)) (nexts nexts2 : List ℕ) (f
         IsRun (next_in new.slots) (prev_in new.slots) None (first_in new.slots p.slot) (run p.slot ++ key ∷ []) (last_in new.slots p.slot)
     each-here p is differ =
         let under : last ≡ last_in old.slots p.slot = is_last ∙ ap (last_under old.slots) is in
-        let at_end : last_in new.slots p.slot ≡ Some key = new-link (λ (e : Entry N). e.last) p.slot differ
+        let at_end : last_in new.slots p.slot ≡ Some key = new-link (λ (e : SlotEntry N). e.last) p.slot differ
         ∙ (linked.lasts p.slot ∙ at_key-here parent (Some key) p.slot (last_in old.slots p.slot) p is refl) in
         subst (λ o. IsRun (next_in new.slots) (prev_in new.slots) None (first_in new.slots p.slot) (run p.slot ++ key ∷ []) o) (sym at_end)
         (run-push (next_in old.slots) (prev_in old.slots) (next_in new.slots) (prev_in new.slots) key None (first_in old.slots p.slot)
         (first_in new.slots p.slot) (run p.slot) (last_in old.slots p.slot)
         (sound.chained p.slot)
         (λ x child off. next-kept p.slot x child (λ some. off (sym under ∙ some)))
-        (λ x child some. new-link (λ (e : Entry N). e.next) x.slot (member-away p.slot x child)
+        (λ x child some. new-link (λ (e : SlotEntry N). e.next) x.slot (member-away p.slot x child)
         ∙ (linked.nexts x.slot ∙ at_key-here last (Some key) x.slot (next_in old.slots x.slot) x (under ∙ some) refl))
         (λ x child. prev-kept p.slot x child)
-        (key-link (λ (e : Entry N). e.prev) ∙ under)
-        (key-link (λ (e : Entry N). e.next))
+        (key-link (λ (e : SlotEntry N). e.prev) ∙ under)
+        (key-link (λ (e : SlotEntry N). e.next))
         (λ none.
         let no : last ≡ None = under ∙ run-none (next_in old.slots) (prev_in old.slots) None (first_in old.slots p.slot) (run p.slot)
         (last_in old.slots p.slot) (sound.chained p.slot) none in
-        new-link (λ (e : Entry N). e.first) p.slot differ
+        new-link (λ (e : SlotEntry N). e.first) p.slot differ
         ∙ (linked.firsts p.slot ∙ at_key-here (unless last parent) (Some key) p.slot (first_in old.slots p.slot) p (ap (λ o.
         unless o parent) no ∙ is) refl))
         (λ x rest list.
-        new-link (λ (e : Entry N). e.first) p.slot differ
+        new-link (λ (e : SlotEntry N). e.first) p.slot differ
         ∙ (linked.firsts p.slot
         ∙ at_key-away (unless last parent) (Some key) p.slot (first_in old.slots p.slot)
         (λ y some at. run-some (next_in old.slots) (prev_in old.slots) None (first_in old.slots p.slot) x rest (last_in old.slots p.slot)
@@ -251,7 +251,7 @@ module _ {N : Type 0} (old mid new : Slab (Slot N)) (nexts nexts2 : List ℕ) (f
               (subst (λ keys. IsRun (next_in new.slots) (prev_in new.slots) None (first_in new.slots key.slot) keys
               (last_in new.slots key.slot))
               (sym (gains-away parent key.slot (parent-away parent in_table) ∙ nothing-there))
-              (key-link (λ (e : Entry N). e.first), key-link (λ (e : Entry N). e.last)))
+              (key-link (λ (e : SlotEntry N). e.first), key-link (λ (e : SlotEntry N). e.last)))
           | inr differ ↦ by_parent parent refl i differ
         ]
       where
@@ -343,7 +343,7 @@ module _ {N : Type 0} where
   -- the last child of the parent has an entry
   pub last-entry : (slots : List (Option (Slot N))) (nexts : List ℕ) (first count limit : ℕ) → IsSound slots nexts first count limit →
       (parent last : Option NodeKey) → last ≡ last_under slots parent →
-      IfSome last (λ k. (e : Entry N) × (slice_index_or slots k.slot None ≡ Some (Taken e)))
+      IfSome last (λ k. (e : SlotEntry N) × (slice_index_or slots k.slot None ≡ Some (Taken e)))
   last-entry slots nexts first count limit sound parent None is = tt
   last-entry slots nexts first count limit sound None (Some l) is = absurd (cc)
   last-entry slots nexts first count limit sound (Some p) (Some l) is =

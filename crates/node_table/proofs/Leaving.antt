@@ -9,7 +9,7 @@ use Rattle.node_table.specs.Changes.{without_child, without_parent}
 use Rattle.node_table.specs.Sound.{IsSound, IsRun, Edits, EditsRows, Joins, HasEntry, loosened, run_in}
 use Rattle.node_table.specs.Sound.{first_in, last_in, prev_in, next_in, parent_of, rows_of, table_of, entry_in}
 use Rattle.node_table.specs.Sound.{link_in, core_of, with_children, given_count, at_key, at_slot, unless}
-use Rattle.node_table.specs.declared.slot.Entry.{Entry}
+use Rattle.node_table.specs.declared.slot.SlotEntry.{SlotEntry}
 use Rattle.node_table.specs.declared.slot.Slot.{Slot}
 use Rattle.node_table.proofs.Keys.{eq-true, eq-false}
 use Rattle.node_table.proofs.Lists.{AllDiffer, without, without_stranger}
@@ -60,24 +60,24 @@ module _ {N : Type 0} (old mid : Slab (Slot N)) (nexts : List ℕ) (first count 
     -- the key lost its links, and nobody else did
     mid-next : (x : NodeKey) (i : ℕ) → Contains (run i) x → x ≢ key → next_in mid.slots x.slot ≡ next_in old.slots x.slot
     mid-next x i child differ =
-        ap (λ o. link_in (λ (e : Entry N). e.next) (entry_in o)) (there old mid key.slot loosened edits x.slot
+        ap (λ o. link_in (λ (e : SlotEntry N). e.next) (entry_in o)) (there old mid key.slot loosened edits x.slot
         (λ at. differ (one_key old.slots nexts first count limit sound x key (member-there old.slots nexts first count limit sound i x
         child) in_table at)))
 
     -- every child but the key keeps its link to the sibling before it
     mid-prev : (x : NodeKey) (i : ℕ) → Contains (run i) x → x ≢ key → prev_in mid.slots x.slot ≡ prev_in old.slots x.slot
     mid-prev x i child differ =
-        ap (λ o. link_in (λ (e : Entry N). e.prev) (entry_in o)) (there old mid key.slot loosened edits x.slot
+        ap (λ o. link_in (λ (e : SlotEntry N). e.prev) (entry_in o)) (there old mid key.slot loosened edits x.slot
         (λ at. differ (one_key old.slots nexts first count limit sound x key (member-there old.slots nexts first count limit sound i x
         child) in_table at)))
 
     -- each slot keeps its first child, since a loosened entry keeps its links to children
     mid-first : (i : ℕ) → first_in mid.slots i ≡ first_in old.slots i
-    mid-first = part-kept old mid key.slot loosened edits (link_in (λ (e : Entry N). e.first)) (λ e. refl)
+    mid-first = part-kept old mid key.slot loosened edits (link_in (λ (e : SlotEntry N). e.first)) (λ e. refl)
 
     -- each slot keeps its last child, since a loosened entry keeps its links to children
     mid-last : (i : ℕ) → last_in mid.slots i ≡ last_in old.slots i
-    mid-last = part-kept old mid key.slot loosened edits (link_in (λ (e : Entry N). e.last)) (λ e. refl)
+    mid-last = part-kept old mid key.slot loosened edits (link_in (λ (e : SlotEntry N). e.last)) (λ e. refl)
 
     -- in the key's slot the core loses its parent, and in every other slot it stays
     mid-core : (i : ℕ) → option_map core_of (entry_in (get mid i)) ≡ option_map (at_slot (Some key) without_parent i)

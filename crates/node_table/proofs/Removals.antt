@@ -8,7 +8,7 @@ use Rattle.node_table.specs.Table.{Row, Table, row_at, node_at, parent_at, paren
 use Rattle.node_table.specs.Changes.{Cuts, Removes, without_parent}
 use Rattle.node_table.specs.Sound.{row_in, row_of, rows_of, core_of, with_children, entry_in, stamp_in, link_in}
 use Rattle.node_table.specs.Sound.{run_in, first_in, last_in, prev_in, next_in, given_count, IsRun, table_in, IsSound}
-use Rattle.node_table.specs.declared.slot.Entry.{Entry}
+use Rattle.node_table.specs.declared.slot.SlotEntry.{SlotEntry}
 use Rattle.node_table.specs.declared.slot.Slot.{Slot}
 use Rattle.node_table.specs.declared.slot.Slot.TheVariants.{Taken}
 use Rattle.node_table.proofs.Rows.{count-gain}
@@ -26,7 +26,7 @@ node-through : {N : Type 0} (o : Option (Row N)) → option_map (λ (row : Row N
 node-through None = refl
 node-through (Some row) = refl
 
-module _ {N : Type 0} (whole : Table N) (old new : Slab (Slot N)) (nexts : List ℕ) (first count limit : ℕ) (key : NodeKey) (e : Entry N)
+module _ {N : Type 0} (whole : Table N) (old new : Slab (Slot N)) (nexts : List ℕ) (first count limit : ℕ) (key : NodeKey) (e : SlotEntry N)
     (there : IsSome (row_at whole key))
     (leaf : children_at whole key ≡ [])
     (cut : Cuts whole (table_in old nexts first limit) key)
@@ -72,7 +72,7 @@ module _ {N : Type 0} (whole : Table N) (old new : Slab (Slot N)) (nexts : List 
         absurd (cc)
 
     -- a link of what lies in another slot stays
-    link-kept : (link : Entry N → Option NodeKey) (i : ℕ) → i ≢ key.slot →
+    link-kept : (link : SlotEntry N → Option NodeKey) (i : ℕ) → i ≢ key.slot →
         link_in link (entry_in (get new i)) ≡ link_in link (entry_in (get old i))
     link-kept link i differ = ap (λ (o : Option (Slot N)). link_in link (entry_in o)) (same i differ)
 
@@ -89,18 +89,18 @@ module _ {N : Type 0} (whole : Table N) (old new : Slab (Slot N)) (nexts : List 
     each-by : (i : ℕ) (c : (i ≡ key.slot) ⊎ (i ≢ key.slot)) →
         IsRun (next_in new.slots) (prev_in new.slots) None (first_in new.slots i) (left i c) (last_in new.slots i)
     each-by i (inl at) = (
-      ap (λ j. link_in (λ (e : Entry N). e.first) (entry_in (get new j))) at ∙ ap (link_in (λ (e : Entry N). e.first)) empty,
-      ap (λ j. link_in (λ (e : Entry N). e.last) (entry_in (get new j))) at ∙ ap (link_in (λ (e : Entry N). e.last)) empty,
+      ap (λ j. link_in (λ (e : SlotEntry N). e.first) (entry_in (get new j))) at ∙ ap (link_in (λ (e : SlotEntry N). e.first)) empty,
+      ap (λ j. link_in (λ (e : SlotEntry N). e.last) (entry_in (get new j))) at ∙ ap (link_in (λ (e : SlotEntry N). e.last)) empty,
     )
     each-by i (inr differ) =
         subst (λ o. IsRun (next_in new.slots) (prev_in new.slots) None o (run_in old.slots most i) (last_in new.slots i))
-        (sym (link-kept (λ (e : Entry N). e.first) i differ))
+        (sym (link-kept (λ (e : SlotEntry N). e.first) i differ))
         (subst (λ o. IsRun (next_in new.slots) (prev_in new.slots) None (first_in old.slots i) (run_in old.slots most i) o)
-        (sym (link-kept (λ (e : Entry N). e.last) i differ))
+        (sym (link-kept (λ (e : SlotEntry N). e.last) i differ))
         (run-frame (next_in old.slots) (prev_in old.slots) (next_in new.slots) (prev_in new.slots) None (first_in old.slots i)
         (run_in old.slots most i) (last_in old.slots i)
-        (λ x child. link-kept (λ (e : Entry N). e.next) x.slot (away i x child))
-        (λ x child. link-kept (λ (e : Entry N). e.prev) x.slot (away i x child))
+        (λ x child. link-kept (λ (e : SlotEntry N). e.next) x.slot (away i x child))
+        (λ x child. link-kept (λ (e : SlotEntry N). e.prev) x.slot (away i x child))
         (sound.chained i)))
 
     -- by cases: a vacant slot has none, and each other has no more than before

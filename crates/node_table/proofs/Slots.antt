@@ -9,7 +9,7 @@ use Rattle.node_table.specs.Table.{Row, Table, row_at, next_at}
 use Rattle.node_table.specs.Changes.{at_parent}
 use Rattle.node_table.specs.Sound.{row_in, rows_of, row_of, core_of, with_children, run_from, next_in}
 use Rattle.node_table.specs.Sound.{link_in, given_count, entry_in, table_of, EditsRows, at_slot}
-use Rattle.node_table.specs.declared.slot.Entry.{Entry}
+use Rattle.node_table.specs.declared.slot.SlotEntry.{SlotEntry}
 use Rattle.node_table.specs.declared.slot.Slot.{Slot}
 use Rattle.node_table.specs.declared.slot.Slot.TheVariants.{Retired, Taken}
 use Rattle.node_table.proofs.Rows.{count-same}
@@ -62,28 +62,28 @@ module _ {N : Type 0} where
   row-at slots most i = get_or-map (row_in (next_in slots) most) slots i None
 
   -- what a row is made of
-  pub row-parts : (next : ℕ → Option NodeKey) (most : ℕ) (o : Option (Entry N)) →
-      option_map (row_of next most) o ≡ option_map (with_children (run_from next most (link_in (λ (e : Entry N). e.first) o)))
+  pub row-parts : (next : ℕ → Option NodeKey) (most : ℕ) (o : Option (SlotEntry N)) →
+      option_map (row_of next most) o ≡ option_map (with_children (run_from next most (link_in (λ (e : SlotEntry N). e.first) o)))
       (option_map core_of o)
   row-parts next most None = refl
   row-parts next most (Some e) = refl
 
   -- a slot with a row is taken by an entry
   pub entry-of-row : (next : ℕ → Option NodeKey) (most : ℕ) (o : Option (Slot N)) → IsSome (row_in next most o) →
-      (e : Entry N) × (o ≡ Some (Taken e))
+      (e : SlotEntry N) × (o ≡ Some (Taken e))
   entry-of-row next most None some = absurd (cc)
   entry-of-row next most (Some Retired) some = absurd (cc)
   entry-of-row next most (Some (Taken e)) some = (e, refl)
 
   -- a slot whose entry this is is taken by it
-  pub taken-by : (o : Option (Slot N)) (e : Entry N) → entry_in o ≡ Some e → o ≡ Some (Taken e)
+  pub taken-by : (o : Option (Slot N)) (e : SlotEntry N) → entry_in o ≡ Some e → o ≡ Some (Taken e)
   taken-by None e is = absurd (cc)
   taken-by (Some Retired) e is = absurd (cc)
-  taken-by (Some (Taken other)) e is = ap (λ (entry : Entry N). Some (Taken entry)) (cc)
+  taken-by (Some (Taken other)) e is = ap (λ (entry : SlotEntry N). Some (Taken entry)) (cc)
 
   -- a key that is there has an entry in its slot
   pub entry-there : (slots : List (Option (Slot N))) (nexts : List ℕ) (first limit : ℕ) (key : NodeKey) →
-      IsSome (row_at (table_of slots nexts first limit) key) → (e : Entry N) × (slice_index_or slots key.slot None ≡ Some (Taken e))
+      IsSome (row_at (table_of slots nexts first limit) key) → (e : SlotEntry N) × (slice_index_or slots key.slot None ≡ Some (Taken e))
   entry-there slots nexts first limit key there =
       entry-of-row (next_in slots) (given_count first nexts) (slice_index_or slots key.slot None) (subst (λ (o : Option (Row N)).
       IsSome o) (row-at slots (given_count first nexts) key.slot) (slot-there (table_of slots nexts first limit) key there))
@@ -91,7 +91,7 @@ module _ {N : Type 0} where
   -- so has a parent that is there
   pub entry-parent : (slots : List (Option (Slot N))) (nexts : List ℕ) (first limit : ℕ) (parent : Option NodeKey) →
       IfSome parent (λ p. IsSome (row_at (table_of slots nexts first limit) p)) →
-      IfSome parent (λ p. (e : Entry N) × (slice_index_or slots p.slot None ≡ Some (Taken e)))
+      IfSome parent (λ p. (e : SlotEntry N) × (slice_index_or slots p.slot None ≡ Some (Taken e)))
   entry-parent slots nexts first limit None there = tt
   entry-parent slots nexts first limit (Some p) there = entry-there slots nexts first limit p there
 

@@ -6,14 +6,14 @@ use Rattle.sm_names.specs.declared.keys.NodeKey.{NodeKey}
 use Rattle.node_table.specs.Table.{Row}
 use Rattle.node_table.specs.Sound.{Edits, Relinks, LinksLast, Joins, HasEntry, entry_in, stamp_in, link_in}
 use Rattle.node_table.specs.Sound.{core_of, with_first, with_last, with_prev, with_next, with_adopted, childless}
-use Rattle.node_table.specs.declared.slot.Entry.{Entry}
+use Rattle.node_table.specs.declared.slot.SlotEntry.{SlotEntry}
 use Rattle.node_table.specs.declared.slot.Slot.{Slot}
 use Rattle.node_table.specs.declared.slot.Slot.TheVariants.{Taken}
 use Rattle.node_table.proofs.Keys.{eq-true, eq-false}
 use Rattle.node_table.proofs.Slots.{write-same, write-other, option_map-keeps}
 
 module _ {N : Type 0} where
-  module _ (old new : Slab (Slot N)) (slot : ℕ) (f : Entry N → Entry N) (edits : Edits old new slot f) where
+  module _ (old new : Slab (Slot N)) (slot : ℕ) (f : SlotEntry N → SlotEntry N) (edits : Edits old new slot f) where
     -- the slot has what f makes of its entry
     pub here : get new slot ≡ Some (Taken (f edits.before))
     here = ap (λ (s : Slab (Slot N)). get s slot) edits.becomes
@@ -41,7 +41,7 @@ module _ {N : Type 0} where
         ]
 
     -- a part that f keeps stays everywhere
-    pub part-kept : {X : Type 0} (part : Option (Entry N) → X) → ((e : Entry N) → part (Some (f e)) ≡ part (Some e)) → (i : ℕ) →
+    pub part-kept : {X : Type 0} (part : Option (SlotEntry N) → X) → ((e : SlotEntry N) → part (Some (f e)) ≡ part (Some e)) → (i : ℕ) →
         part (entry_in (get new i)) ≡ part (entry_in (get old i))
     part-kept part keeps i =
         elim (cases_eq i slot) [
@@ -52,7 +52,7 @@ module _ {N : Type 0} where
         ]
 
     -- a field that f sets has that value at the slot
-    pub part-set : {X : Type 0} (part : Option (Entry N) → X) (value : X) → ((e : Entry N) → part (Some (f e)) ≡ value) → (i : ℕ) →
+    pub part-set : {X : Type 0} (part : Option (SlotEntry N) → X) (value : X) → ((e : SlotEntry N) → part (Some (f e)) ≡ value) → (i : ℕ) →
         part (entry_in (get new i)) ≡ cond (slot == i) value (part (entry_in (get old i)))
     part-set part value sets i =
         elim (cases_eq i slot) [
@@ -65,7 +65,7 @@ module _ {N : Type 0} where
         ]
 
     -- with a change that keeps the core, the slab is linked anew and no more
-    pub relinks : ((e : Entry N) → core_of (f e) ≡ core_of e) → ((e : Entry N) → (f e).generation ≡ e.generation) →
+    pub relinks : ((e : SlotEntry N) → core_of (f e) ≡ core_of e) → ((e : SlotEntry N) → (f e).generation ≡ e.generation) →
         Relinks old new (λ i row. row)
     relinks keeps same =
         record {
@@ -112,10 +112,10 @@ module _ {N : Type 0} where
   links_first old new parent key one =
       record {
         same_rows = relinks old new parent.slot (with_adopted None key) one (λ e. refl) (λ e. refl);
-        firsts = part-set old new parent.slot (with_adopted None key) one (link_in (λ (e : Entry N). e.first)) (Some key) (λ e. refl);
-        lasts = part-set old new parent.slot (with_adopted None key) one (link_in (λ (e : Entry N). e.last)) (Some key) (λ e. refl);
-        prevs = part-kept old new parent.slot (with_adopted None key) one (link_in (λ (e : Entry N). e.prev)) (λ e. refl);
-        nexts = part-kept old new parent.slot (with_adopted None key) one (link_in (λ (e : Entry N). e.next)) (λ e. refl);
+        firsts = part-set old new parent.slot (with_adopted None key) one (link_in (λ (e : SlotEntry N). e.first)) (Some key) (λ e. refl);
+        lasts = part-set old new parent.slot (with_adopted None key) one (link_in (λ (e : SlotEntry N). e.last)) (Some key) (λ e. refl);
+        prevs = part-kept old new parent.slot (with_adopted None key) one (link_in (λ (e : SlotEntry N). e.prev)) (λ e. refl);
+        nexts = part-kept old new parent.slot (with_adopted None key) one (link_in (λ (e : SlotEntry N). e.next)) (λ e. refl);
       }
 
   -- a further child is linked to the last one
@@ -125,15 +125,15 @@ module _ {N : Type 0} where
       record {
         same_rows = relinks-both old mid new (relinks old mid parent.slot (with_adopted (Some last) key) one (λ e. refl) (λ e. refl))
             (relinks mid new last.slot (with_next (Some key)) two (λ e. refl) (λ e. refl));
-        firsts = λ i. part-kept mid new last.slot (with_next (Some key)) two (link_in (λ (e : Entry N). e.first)) (λ e. refl) i
-            ∙ part-kept old mid parent.slot (with_adopted (Some last) key) one (link_in (λ (e : Entry N). e.first)) (λ e. refl) i;
-        lasts = λ i. part-kept mid new last.slot (with_next (Some key)) two (link_in (λ (e : Entry N). e.last)) (λ e. refl) i
-            ∙ part-set old mid parent.slot (with_adopted (Some last) key) one (link_in (λ (e : Entry N). e.last)) (Some key) (λ e. refl) i;
-        prevs = λ i. part-kept mid new last.slot (with_next (Some key)) two (link_in (λ (e : Entry N). e.prev)) (λ e. refl) i
-            ∙ part-kept old mid parent.slot (with_adopted (Some last) key) one (link_in (λ (e : Entry N). e.prev)) (λ e. refl) i;
-        nexts = λ i. part-set mid new last.slot (with_next (Some key)) two (link_in (λ (e : Entry N). e.next)) (Some key) (λ e. refl) i
+        firsts = λ i. part-kept mid new last.slot (with_next (Some key)) two (link_in (λ (e : SlotEntry N). e.first)) (λ e. refl) i
+            ∙ part-kept old mid parent.slot (with_adopted (Some last) key) one (link_in (λ (e : SlotEntry N). e.first)) (λ e. refl) i;
+        lasts = λ i. part-kept mid new last.slot (with_next (Some key)) two (link_in (λ (e : SlotEntry N). e.last)) (λ e. refl) i
+            ∙ part-set old mid parent.slot (with_adopted (Some last) key) one (link_in (λ (e : SlotEntry N). e.last)) (Some key) (λ e. refl) i;
+        prevs = λ i. part-kept mid new last.slot (with_next (Some key)) two (link_in (λ (e : SlotEntry N). e.prev)) (λ e. refl) i
+            ∙ part-kept old mid parent.slot (with_adopted (Some last) key) one (link_in (λ (e : SlotEntry N). e.prev)) (λ e. refl) i;
+        nexts = λ i. part-set mid new last.slot (with_next (Some key)) two (link_in (λ (e : SlotEntry N). e.next)) (Some key) (λ e. refl) i
             ∙ ap (λ o. cond (last.slot == i) (Some key) o) (part-kept old mid parent.slot (with_adopted (Some last) key) one
-            (link_in (λ (e : Entry N). e.next)) (λ e. refl) i);
+            (link_in (λ (e : SlotEntry N). e.next)) (λ e. refl) i);
       }
 
   -- an only child leaves none
@@ -141,10 +141,10 @@ module _ {N : Type 0} where
   joins_only old new parent one =
       record {
         same_rows = relinks old new parent.slot childless one (λ e. refl) (λ e. refl);
-        firsts = part-set old new parent.slot childless one (link_in (λ (e : Entry N). e.first)) None (λ e. refl);
-        lasts = part-set old new parent.slot childless one (link_in (λ (e : Entry N). e.last)) None (λ e. refl);
-        prevs = part-kept old new parent.slot childless one (link_in (λ (e : Entry N). e.prev)) (λ e. refl);
-        nexts = part-kept old new parent.slot childless one (link_in (λ (e : Entry N). e.next)) (λ e. refl);
+        firsts = part-set old new parent.slot childless one (link_in (λ (e : SlotEntry N). e.first)) None (λ e. refl);
+        lasts = part-set old new parent.slot childless one (link_in (λ (e : SlotEntry N). e.last)) None (λ e. refl);
+        prevs = part-kept old new parent.slot childless one (link_in (λ (e : SlotEntry N). e.prev)) (λ e. refl);
+        nexts = part-kept old new parent.slot childless one (link_in (λ (e : SlotEntry N). e.next)) (λ e. refl);
       }
 
   -- a first child leaves the next as the first
@@ -154,15 +154,15 @@ module _ {N : Type 0} where
       record {
         same_rows = relinks-both old mid new (relinks old mid parent.slot (with_first (Some after)) one (λ e. refl) (λ e. refl))
             (relinks mid new after.slot (with_prev None) two (λ e. refl) (λ e. refl));
-        firsts = λ i. part-kept mid new after.slot (with_prev None) two (link_in (λ (e : Entry N). e.first)) (λ e. refl) i
-            ∙ part-set old mid parent.slot (with_first (Some after)) one (link_in (λ (e : Entry N). e.first)) (Some after) (λ e. refl) i;
-        lasts = λ i. part-kept mid new after.slot (with_prev None) two (link_in (λ (e : Entry N). e.last)) (λ e. refl) i
-            ∙ part-kept old mid parent.slot (with_first (Some after)) one (link_in (λ (e : Entry N). e.last)) (λ e. refl) i;
-        prevs = λ i. part-set mid new after.slot (with_prev None) two (link_in (λ (e : Entry N). e.prev)) None (λ e. refl) i
+        firsts = λ i. part-kept mid new after.slot (with_prev None) two (link_in (λ (e : SlotEntry N). e.first)) (λ e. refl) i
+            ∙ part-set old mid parent.slot (with_first (Some after)) one (link_in (λ (e : SlotEntry N). e.first)) (Some after) (λ e. refl) i;
+        lasts = λ i. part-kept mid new after.slot (with_prev None) two (link_in (λ (e : SlotEntry N). e.last)) (λ e. refl) i
+            ∙ part-kept old mid parent.slot (with_first (Some after)) one (link_in (λ (e : SlotEntry N). e.last)) (λ e. refl) i;
+        prevs = λ i. part-set mid new after.slot (with_prev None) two (link_in (λ (e : SlotEntry N). e.prev)) None (λ e. refl) i
             ∙ ap (λ o. cond (after.slot == i) None o) (part-kept old mid parent.slot (with_first (Some after)) one
-            (link_in (λ (e : Entry N). e.prev)) (λ e. refl) i);
-        nexts = λ i. part-kept mid new after.slot (with_prev None) two (link_in (λ (e : Entry N). e.next)) (λ e. refl) i
-            ∙ part-kept old mid parent.slot (with_first (Some after)) one (link_in (λ (e : Entry N). e.next)) (λ e. refl) i;
+            (link_in (λ (e : SlotEntry N). e.prev)) (λ e. refl) i);
+        nexts = λ i. part-kept mid new after.slot (with_prev None) two (link_in (λ (e : SlotEntry N). e.next)) (λ e. refl) i
+            ∙ part-kept old mid parent.slot (with_first (Some after)) one (link_in (λ (e : SlotEntry N). e.next)) (λ e. refl) i;
       }
 
   -- a last child leaves the one before as the last
@@ -172,15 +172,15 @@ module _ {N : Type 0} where
       record {
         same_rows = relinks-both old mid new (relinks old mid before.slot (with_next None) one (λ e. refl) (λ e. refl))
             (relinks mid new parent.slot (with_last (Some before)) two (λ e. refl) (λ e. refl));
-        firsts = λ i. part-kept mid new parent.slot (with_last (Some before)) two (link_in (λ (e : Entry N). e.first)) (λ e. refl) i
-            ∙ part-kept old mid before.slot (with_next None) one (link_in (λ (e : Entry N). e.first)) (λ e. refl) i;
-        lasts = λ i. part-set mid new parent.slot (with_last (Some before)) two (link_in (λ (e : Entry N). e.last)) (Some before) (λ e.
+        firsts = λ i. part-kept mid new parent.slot (with_last (Some before)) two (link_in (λ (e : SlotEntry N). e.first)) (λ e. refl) i
+            ∙ part-kept old mid before.slot (with_next None) one (link_in (λ (e : SlotEntry N). e.first)) (λ e. refl) i;
+        lasts = λ i. part-set mid new parent.slot (with_last (Some before)) two (link_in (λ (e : SlotEntry N). e.last)) (Some before) (λ e.
             refl) i ∙ ap (λ o. cond (parent.slot == i) (Some before) o) (part-kept old mid before.slot (with_next None) one
-            (link_in (λ (e : Entry N). e.last)) (λ e. refl) i);
-        prevs = λ i. part-kept mid new parent.slot (with_last (Some before)) two (link_in (λ (e : Entry N). e.prev)) (λ e. refl) i
-            ∙ part-kept old mid before.slot (with_next None) one (link_in (λ (e : Entry N). e.prev)) (λ e. refl) i;
-        nexts = λ i. part-kept mid new parent.slot (with_last (Some before)) two (link_in (λ (e : Entry N). e.next)) (λ e. refl) i
-            ∙ part-set old mid before.slot (with_next None) one (link_in (λ (e : Entry N). e.next)) None (λ e. refl) i;
+            (link_in (λ (e : SlotEntry N). e.last)) (λ e. refl) i);
+        prevs = λ i. part-kept mid new parent.slot (with_last (Some before)) two (link_in (λ (e : SlotEntry N). e.prev)) (λ e. refl) i
+            ∙ part-kept old mid before.slot (with_next None) one (link_in (λ (e : SlotEntry N). e.prev)) (λ e. refl) i;
+        nexts = λ i. part-kept mid new parent.slot (with_last (Some before)) two (link_in (λ (e : SlotEntry N). e.next)) (λ e. refl) i
+            ∙ part-set old mid before.slot (with_next None) one (link_in (λ (e : SlotEntry N). e.next)) None (λ e. refl) i;
       }
 
   -- a child between two leaves them side by side
@@ -190,13 +190,13 @@ module _ {N : Type 0} where
       record {
         same_rows = relinks-both old mid new (relinks old mid before.slot (with_next (Some after)) one (λ e. refl) (λ e. refl))
             (relinks mid new after.slot (with_prev (Some before)) two (λ e. refl) (λ e. refl));
-        firsts = λ i. part-kept mid new after.slot (with_prev (Some before)) two (link_in (λ (e : Entry N). e.first)) (λ e. refl) i
-            ∙ part-kept old mid before.slot (with_next (Some after)) one (link_in (λ (e : Entry N). e.first)) (λ e. refl) i;
-        lasts = λ i. part-kept mid new after.slot (with_prev (Some before)) two (link_in (λ (e : Entry N). e.last)) (λ e. refl) i
-            ∙ part-kept old mid before.slot (with_next (Some after)) one (link_in (λ (e : Entry N). e.last)) (λ e. refl) i;
-        prevs = λ i. part-set mid new after.slot (with_prev (Some before)) two (link_in (λ (e : Entry N). e.prev)) (Some before) (λ e.
+        firsts = λ i. part-kept mid new after.slot (with_prev (Some before)) two (link_in (λ (e : SlotEntry N). e.first)) (λ e. refl) i
+            ∙ part-kept old mid before.slot (with_next (Some after)) one (link_in (λ (e : SlotEntry N). e.first)) (λ e. refl) i;
+        lasts = λ i. part-kept mid new after.slot (with_prev (Some before)) two (link_in (λ (e : SlotEntry N). e.last)) (λ e. refl) i
+            ∙ part-kept old mid before.slot (with_next (Some after)) one (link_in (λ (e : SlotEntry N). e.last)) (λ e. refl) i;
+        prevs = λ i. part-set mid new after.slot (with_prev (Some before)) two (link_in (λ (e : SlotEntry N). e.prev)) (Some before) (λ e.
             refl) i ∙ ap (λ o. cond (after.slot == i) (Some before) o) (part-kept old mid before.slot (with_next (Some after)) one
-            (link_in (λ (e : Entry N). e.prev)) (λ e. refl) i);
-        nexts = λ i. part-kept mid new after.slot (with_prev (Some before)) two (link_in (λ (e : Entry N). e.next)) (λ e. refl) i
-            ∙ part-set old mid before.slot (with_next (Some after)) one (link_in (λ (e : Entry N). e.next)) (Some after) (λ e. refl) i;
+            (link_in (λ (e : SlotEntry N). e.prev)) (λ e. refl) i);
+        nexts = λ i. part-kept mid new after.slot (with_prev (Some before)) two (link_in (λ (e : SlotEntry N). e.next)) (λ e. refl) i
+            ∙ part-set old mid before.slot (with_next (Some after)) one (link_in (λ (e : SlotEntry N). e.next)) (Some after) (λ e. refl) i;
       }

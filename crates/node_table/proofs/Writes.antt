@@ -9,7 +9,7 @@ use Rattle.node_table.specs.Changes.{Writes, at_parent, with_node}
 use Rattle.node_table.specs.Lending.{table_with_node}
 use Rattle.node_table.specs.Sound.{row_in, rows_of, run_in, first_in, last_in, prev_in, next_in, link_in, stamp_in}
 use Rattle.node_table.specs.Sound.{given_count, IsRun, table_of, table_in, IsSound, EditsRows, Edits, at_slot}
-use Rattle.node_table.specs.declared.slot.Entry.{Entry}
+use Rattle.node_table.specs.declared.slot.SlotEntry.{SlotEntry}
 use Rattle.node_table.specs.declared.slot.Slot.{Slot}
 use Rattle.node_table.specs.declared.slot.Slot.TheVariants.{Taken}
 use Rattle.node_table.proofs.Rows.{count-same}
@@ -23,7 +23,7 @@ use Rattle.node_table.proofs.Steps.{part-kept, kinds}
 use Rattle.node_table.proofs.Runs.{run-frame}
 use Rattle.node_table.proofs.Chains.{chained_so, runs_short}
 
-module _ {N : Type 0} (slots : Slab (Slot N)) (nexts : List ℕ) (first count limit : ℕ) (key : NodeKey) (e : Entry N) (node : N)
+module _ {N : Type 0} (slots : Slab (Slot N)) (nexts : List ℕ) (first count limit : ℕ) (key : NodeKey) (e : SlotEntry N) (node : N)
     (was : get slots key.slot ≡ Some (Taken e))
   where
     -- the slots where the entry has this node
@@ -35,7 +35,7 @@ module _ {N : Type 0} (slots : Slab (Slot N)) (nexts : List ℕ) (first count li
     most = given_count first nexts
 
     -- a write of the node, whatever the entry is
-    abbrev writing : Entry N → Entry N
+    abbrev writing : SlotEntry N → SlotEntry N
     writing entry = record entry { node = node }
 
     -- the write edits the entry in the key's slot alone
@@ -44,19 +44,19 @@ module _ {N : Type 0} (slots : Slab (Slot N)) (nexts : List ℕ) (first count li
 
     -- each slot keeps its link to the next sibling, since the write changes the node alone
     nexts_kept : (i : ℕ) → next_in written.slots i ≡ next_in slots.slots i
-    nexts_kept = part-kept slots written key.slot writing edits (link_in (λ (entry : Entry N). entry.next)) (λ entry. refl)
+    nexts_kept = part-kept slots written key.slot writing edits (link_in (λ (entry : SlotEntry N). entry.next)) (λ entry. refl)
 
     -- each slot keeps its link to the previous sibling
     prevs_kept : (i : ℕ) → prev_in written.slots i ≡ prev_in slots.slots i
-    prevs_kept = part-kept slots written key.slot writing edits (link_in (λ (entry : Entry N). entry.prev)) (λ entry. refl)
+    prevs_kept = part-kept slots written key.slot writing edits (link_in (λ (entry : SlotEntry N). entry.prev)) (λ entry. refl)
 
     -- each slot keeps its link to the first child
     firsts_kept : (i : ℕ) → first_in written.slots i ≡ first_in slots.slots i
-    firsts_kept = part-kept slots written key.slot writing edits (link_in (λ (entry : Entry N). entry.first)) (λ entry. refl)
+    firsts_kept = part-kept slots written key.slot writing edits (link_in (λ (entry : SlotEntry N). entry.first)) (λ entry. refl)
 
     -- each slot keeps its link to the last child
     lasts_kept : (i : ℕ) → last_in written.slots i ≡ last_in slots.slots i
-    lasts_kept = part-kept slots written key.slot writing edits (link_in (λ (entry : Entry N). entry.last)) (λ entry. refl)
+    lasts_kept = part-kept slots written key.slot writing edits (link_in (λ (entry : SlotEntry N). entry.last)) (λ entry. refl)
 
     -- all links are as they were
     same-nexts : next_in written.slots ≡ next_in slots.slots
@@ -131,7 +131,7 @@ module _ {N : Type 0} (slots : Slab (Slot N)) (nexts : List ℕ) (first count li
               (first_in slots.slots i) (run_in slots.slots most i) (last_in slots.slots i)
               (λ x child. nexts_kept x.slot) (λ x child. prevs_kept x.slot) (sound.chained i)))
 
-module _ {N : Type 0} (slots : Slab (Slot N)) (nexts : List ℕ) (first limit : ℕ) (key : NodeKey) (e : Entry N)
+module _ {N : Type 0} (slots : Slab (Slot N)) (nexts : List ℕ) (first limit : ℕ) (key : NodeKey) (e : SlotEntry N)
     (was : get slots key.slot ≡ Some (Taken e))
     (there : IsSome (row_at (table_of slots.slots nexts first limit) key))
   where

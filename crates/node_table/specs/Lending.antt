@@ -5,15 +5,15 @@ use Rattle.sm_names.specs.declared.keys.NodeKey.{NodeKey}
 use Rattle.node_table.specs.Table.{Table}
 use Rattle.node_table.specs.Changes.{with_node}
 use Rattle.node_table.specs.contracts.table.NodeTable.{the_row}
-use Rattle.node_table.specs.contracts.slot.Entry.{the_row as entry_row}
+use Rattle.node_table.specs.contracts.slot.SlotEntry.{the_row as entry_row}
 use Rattle.node_table.specs.contracts.slot.Slot.{the_row as slot_row}
-use Rattle.node_table.specs.declared.slot.Entry.{Entry}
+use Rattle.node_table.specs.declared.slot.SlotEntry.{SlotEntry}
 use Rattle.node_table.specs.declared.slot.Slot.{Slot}
 use Rattle.node_table.specs.declared.slot.Slot.TheVariants.{Taken}
 
 module _ (N : RattleType) (s : MutBor (Slot N.Denot)) where
   -- once the borrow r ends, the slot is taken by the last entry written through r
-  abbrev pub lends_entry : MutBor (Entry N.Denot) → Fml
+  abbrev pub lends_entry : MutBor (SlotEntry N.Denot) → Fml
   lends_entry r = Lends (slot_row N) (entry_row N) s r Taken
 
 -- the table where the slot of a key has this node

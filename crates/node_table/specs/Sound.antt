@@ -5,7 +5,7 @@ use Rattle.slab.specs.Slab.{Slab, get, with_value}
 use Rattle.sm_names.specs.declared.keys.NodeKey.{NodeKey}
 use Rattle.node_table.specs.Table.{Row, Table, parent_at, children_at}
 use Rattle.node_table.specs.Forest.{first_key}
-use Rattle.node_table.specs.declared.slot.Entry.{Entry}
+use Rattle.node_table.specs.declared.slot.SlotEntry.{SlotEntry}
 use Rattle.node_table.specs.declared.slot.Slot.{Slot}
 use Rattle.node_table.specs.declared.slot.Slot.TheVariants.{Retired, Taken}
 
@@ -52,43 +52,43 @@ pub record Appends (children old now : List NodeKey) (next : Option NodeKey) : T
 
 module _ {N : Type 0} where
   -- the entry of a slot, if it has one
-  abbrev pub entry_in : Option (Slot N) → Option (Entry N)
+  abbrev pub entry_in : Option (Slot N) → Option (SlotEntry N)
   entry_in None = None
   entry_in (Some Retired) = None
   entry_in (Some (Taken e)) = Some e
 
   -- the node of a slot, if it has one
   abbrev pub node_in : Option (Slot N) → Option N
-  node_in slot = option_map (λ (e : Entry N). e.node) (entry_in slot)
+  node_in slot = option_map (λ (e : SlotEntry N). e.node) (entry_in slot)
 
   -- the generation of an entry, if there is one
-  abbrev pub stamp_in : Option (Entry N) → Option ℕ
-  stamp_in entry = option_map (λ (e : Entry N). e.generation) entry
+  abbrev pub stamp_in : Option (SlotEntry N) → Option ℕ
+  stamp_in entry = option_map (λ (e : SlotEntry N). e.generation) entry
 
   -- a link of an entry, if there is one
-  abbrev pub link_in : (Entry N → Option NodeKey) → Option (Entry N) → Option NodeKey
+  abbrev pub link_in : (SlotEntry N → Option NodeKey) → Option (SlotEntry N) → Option NodeKey
   link_in link None = None
   link_in link (Some e) = link e
 
   -- the first and last child, and the neighbours, of what lies in a slot
   abbrev pub first_in : List (Option (Slot N)) → ℕ → Option NodeKey
-  first_in slots i = link_in (λ (e : Entry N). e.first) (entry_in (slice_index_or slots i None))
+  first_in slots i = link_in (λ (e : SlotEntry N). e.first) (entry_in (slice_index_or slots i None))
 
   -- the last child of the node in a slot, if it has one
   abbrev pub last_in : List (Option (Slot N)) → ℕ → Option NodeKey
-  last_in slots i = link_in (λ (e : Entry N). e.last) (entry_in (slice_index_or slots i None))
+  last_in slots i = link_in (λ (e : SlotEntry N). e.last) (entry_in (slice_index_or slots i None))
 
   -- the child of its parent before the node in a slot, if there is one
   abbrev pub prev_in : List (Option (Slot N)) → ℕ → Option NodeKey
-  prev_in slots i = link_in (λ (e : Entry N). e.prev) (entry_in (slice_index_or slots i None))
+  prev_in slots i = link_in (λ (e : SlotEntry N). e.prev) (entry_in (slice_index_or slots i None))
 
   -- the child of its parent after the node in a slot, if there is one
   abbrev pub next_in : List (Option (Slot N)) → ℕ → Option NodeKey
-  next_in slots i = link_in (λ (e : Entry N). e.next) (entry_in (slice_index_or slots i None))
+  next_in slots i = link_in (λ (e : SlotEntry N). e.next) (entry_in (slice_index_or slots i None))
 
   -- the parent of what lies in a slot
   abbrev pub parent_of : List (Option (Slot N)) → ℕ → Option NodeKey
-  parent_of slots i = link_in (λ (e : Entry N). e.parent) (entry_in (slice_index_or slots i None))
+  parent_of slots i = link_in (λ (e : SlotEntry N). e.parent) (entry_in (slice_index_or slots i None))
 
   -- the last child of the parent, if there is a parent
   abbrev pub last_under : List (Option (Slot N)) → Option NodeKey → Option NodeKey
@@ -100,7 +100,7 @@ module _ {N : Type 0} where
   run_in slots most i = run_from (next_in slots) most (first_in slots i)
 
   -- an entry as a row, but for the children
-  abbrev pub core_of : Entry N → Row N
+  abbrev pub core_of : SlotEntry N → Row N
   core_of e = record { parent = e.parent; children = []; node = e.node }
 
   -- the row with these children
@@ -108,7 +108,7 @@ module _ {N : Type 0} where
   with_children keys row = record row { children = keys }
 
   -- what a contract sees of an entry, over links to the next sibling
-  abbrev pub row_of : (ℕ → Option NodeKey) → ℕ → Entry N → Row N
+  abbrev pub row_of : (ℕ → Option NodeKey) → ℕ → SlotEntry N → Row N
   row_of next most e = with_children (run_from next most e.first) (core_of e)
 
   -- a slot of the slab is vacant, retired or taken by a node
@@ -134,7 +134,7 @@ module _ {N : Type 0} where
 
   -- the slot is taken by a node
   abbrev pub HasEntry : Slab (Slot N) → ℕ → Type 0
-  HasEntry slots slot = (e : Entry N) × (get slots slot ≡ Some (Taken e))
+  HasEntry slots slot = (e : SlotEntry N) × (get slots slot ≡ Some (Taken e))
 
   -- what holds of the fields of each table
   pub record IsSound (slots : List (Option (Slot N))) (nexts : List ℕ) (first count limit : ℕ) : Type 0 where
@@ -156,38 +156,38 @@ module _ {N : Type 0} where
         (run_in slots (given_count first nexts) slot) (last_in slots slot)
 
   -- the entry at this slot was changed by f
-  pub record Edits (old new : Slab (Slot N)) (slot : ℕ) (f : Entry N → Entry N) : Type 0 where
-    pub before : Entry N
+  pub record Edits (old new : Slab (Slot N)) (slot : ℕ) (f : SlotEntry N → SlotEntry N) : Type 0 where
+    pub before : SlotEntry N
     pub was : get old slot ≡ Some (Taken before)
     pub becomes : new ≡ with_value old slot (Taken (f before))
 
   -- the entry with another link
-  abbrev pub with_first : Option NodeKey → Entry N → Entry N
+  abbrev pub with_first : Option NodeKey → SlotEntry N → SlotEntry N
   with_first link e = record e { first = link }
 
   -- the entry with this last child
-  abbrev pub with_last : Option NodeKey → Entry N → Entry N
+  abbrev pub with_last : Option NodeKey → SlotEntry N → SlotEntry N
   with_last link e = record e { last = link }
 
   -- the entry with this child before it
-  abbrev pub with_prev : Option NodeKey → Entry N → Entry N
+  abbrev pub with_prev : Option NodeKey → SlotEntry N → SlotEntry N
   with_prev link e = record e { prev = link }
 
   -- the entry with this child after it
-  abbrev pub with_next : Option NodeKey → Entry N → Entry N
+  abbrev pub with_next : Option NodeKey → SlotEntry N → SlotEntry N
   with_next link e = record e { next = link }
 
   -- the entry with another last child, which is the first if there was no last one
-  abbrev pub with_adopted : Option NodeKey → NodeKey → Entry N → Entry N
+  abbrev pub with_adopted : Option NodeKey → NodeKey → SlotEntry N → SlotEntry N
   with_adopted None key e = record e { first = Some key; last = Some key }
   with_adopted (Some last) key e = record e { last = Some key }
 
   -- the entry without children
-  abbrev pub childless : Entry N → Entry N
+  abbrev pub childless : SlotEntry N → SlotEntry N
   childless e = record e { first = None; last = None }
 
   -- the entry without a parent and neighbours
-  abbrev pub loosened : Entry N → Entry N
+  abbrev pub loosened : SlotEntry N → SlotEntry N
   loosened e = record e { parent = None; prev = None; next = None }
 
   -- what f at a slot does to the row at slot i

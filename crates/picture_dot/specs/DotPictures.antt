@@ -18,7 +18,7 @@ use Rattle.picture_model.specs.declared.features.Class.{Class}
 use Rattle.picture_model.specs.declared.features.LinkStyle.{LinkStyle}
 use Rattle.picture_model.specs.declared.picture.Tree.{Tree}
 use Rattle.picture_model.specs.declared.failure_view.Travel.{Travel}
-use Rattle.picture_model.specs.declared.failure_view.Way.{Way}
+use Rattle.picture_model.specs.declared.failure_view.TravelWay.{TravelWay}
 use Rattle.picture_model.specs.BoxLines.{asked_words, fired_words, header_text, kind_words, node_words, state_words}
 use Rattle.picture_model.specs.Colors.{edge_text, fill_text, ink_text}
 use Rattle.picture_model.specs.Features.{class_of, free_words, keepers_words, link_of, pages_text, place_text, sign_text}
@@ -217,11 +217,11 @@ stop_words =
     codes "dir=both, arrowhead=tee, arrowtail=none, arrowsize=1.6, color=\"#222222\", penwidth=2, label=\" stops\""
 
 -- how a failure went along a link, if it did
-abbrev pub dot_way_text : Option Way → List ℕ
+abbrev pub dot_way_text : Option TravelWay → List ℕ
 dot_way_text None = codes "dir=none"
-dot_way_text (Some (Way.Up step)) = arrow_text (codes "dir=back") (codes "3") step
-dot_way_text (Some (Way.Down step)) = arrow_text (codes "dir=forward") (codes "2") step
-dot_way_text (Some Way.Stop) = stop_words
+dot_way_text (Some (TravelWay.Up step)) = arrow_text (codes "dir=back") (codes "3") step
+dot_way_text (Some (TravelWay.Down step)) = arrow_text (codes "dir=forward") (codes "2") step
+dot_way_text (Some TravelWay.Stop) = stop_words
 
 -- what stands before that
 abbrev pub link_begin : LinkStyle → List ℕ
@@ -230,7 +230,7 @@ link_begin LinkStyle.Attached = codes " [style=dashed, "
 link_begin LinkStyle.Dispensable = codes " [style=dotted, "
 
 -- the link from a parent that was born at this event
-abbrev pub link_text : ℕ → Node → Option Way → List ℕ
+abbrev pub link_text : ℕ → Node → Option TravelWay → List ℕ
 link_text above n way = concat (
     codes "  n" ∷ decimal above ∷ codes " -> n" ∷ decimal n.event ∷ link_begin (link_of n) ∷ dot_way_text way ∷ codes "];\n" ∷ []
     )

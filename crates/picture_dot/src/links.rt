@@ -11,7 +11,9 @@ use crate::tables::has_table;
 use event_facts::KeyMap;
 use forced_marks::key_sets::KeySet;
 use forest_store::Node;
-use picture_model::{LinkStyle, Travel, Tree, Way, link_of, nodes_by_key, parents_among, way_of};
+use picture_model::{
+    LinkStyle, Travel, TravelWay, Tree, link_of, nodes_by_key, parents_among, way_of,
+};
 use script_lines::{Part, push, push_parts};
 use std::alloc::AllocError;
 
@@ -93,7 +95,7 @@ fn push_link(
     text: &mut Vec<u8>,
     above: u64,
     node: &Node,
-    way: Option<Way>,
+    way: Option<TravelWay>,
 ) -> Result<(), AllocError>
     ensures { OnOk result (text.new.items ≡ text.old.items ++ link_text above node.now way) }
 {
@@ -123,13 +125,13 @@ fn begin_of(link: LinkStyle) -> &'static str
 }
 
 // Appends how a failure followed a link, if it did.
-fn push_way(text: &mut Vec<u8>, way: Option<Way>) -> Result<(), AllocError>
+fn push_way(text: &mut Vec<u8>, way: Option<TravelWay>) -> Result<(), AllocError>
     ensures { OnOk result (text.new.items ≡ text.old.items ++ dot_way_text way) }
 {
     match way {
-        Some(Way::Up(step)) => push_arrow(text, "dir=back", "3", step),
-        Some(Way::Down(step)) => push_arrow(text, "dir=forward", "2", step),
-        Some(Way::Stop) => push(text, words_for_stop()),
+        Some(TravelWay::Up(step)) => push_arrow(text, "dir=back", "3", step),
+        Some(TravelWay::Down(step)) => push_arrow(text, "dir=forward", "2", step),
+        Some(TravelWay::Stop) => push(text, words_for_stop()),
         None => push(text, "dir=none"),
     }
 }

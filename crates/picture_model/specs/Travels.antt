@@ -17,7 +17,7 @@ use Rattle.picture_model.specs.PictureStates.{top_of}
 use Rattle.picture_model.specs.declared.failure_view.Reached.{Reached}
 use Rattle.picture_model.specs.declared.failure_view.Trail.{Trail}
 use Rattle.picture_model.specs.declared.failure_view.Travel.{Travel}
-use Rattle.picture_model.specs.declared.failure_view.Way.{Way}
+use Rattle.picture_model.specs.declared.failure_view.TravelWay.{TravelWay}
 
 -- it is the link of this node
 abbrev pub is_link_of : NodeKey → Travel → Bool
@@ -28,7 +28,7 @@ abbrev pub FindsTravels : KeyMap Travel → List Travel → Type 0
 FindsTravels map travels = (node : NodeKey) → value_at map node ≡ find (is_link_of node) travels
 
 -- how a failure went along the link of the node
-abbrev pub way_in : List Travel → NodeKey → Option Way
+abbrev pub way_in : List Travel → NodeKey → Option TravelWay
 way_in travels key = option_map (λ (t : Travel). t.way) (find (is_link_of key) travels)
 
 -- the node hangs on this one
@@ -55,7 +55,7 @@ steps_and a b = min (a + b) (2 ^ 64 - 1)
 -- the failure climbs from the node, one step later
 unfoldable pub climbed : Trace → NodeKey → Trace
 climbed t node = record {
-  links = t.links ++ record { node = node; way = Way.Up (steps_and t.step 1) } ∷ [];
+  links = t.links ++ record { node = node; way = TravelWay.Up (steps_and t.step 1) } ∷ [];
   step = steps_and t.step 1;
 }
 
@@ -66,7 +66,7 @@ has_parent nodes key = option_map_or (λ (n : Node). is_some n.parent) (node_of 
 -- it stopped at the node, unless that is a root
 unfoldable pub stopped : List Node → NodeKey → Trace → Trace
 stopped nodes top t =
-    let links = if has_parent nodes top then t.links ++ record { node = top; way = Way.Stop } ∷ [] else t.links in
+    let links = if has_parent nodes top then t.links ++ record { node = top; way = TravelWay.Stop } ∷ [] else t.links in
     record { links = links; step = t.step }
 
 -- ---- down
@@ -126,7 +126,7 @@ number_at numbers at = option_map_or (λ n. n) (slice_get numbers at) 0
 
 -- the failure falls to the node at the step of its generation
 abbrev pub link_down : List ℕ → Reached → Travel
-link_down steps r = record { node = r.node; way = Way.Down (number_at steps r.generation) }
+link_down steps r = record { node = r.node; way = TravelWay.Down (number_at steps r.generation) }
 
 -- it falls to these, one generation a step, where this many generations are taken
 unfoldable pub fallen_on : ℕ → List Reached → Trace → Trace

@@ -18,7 +18,7 @@ use std::alloc::{AllocError, Global};
 
 /// How a failure followed a link, and at which step of the event.
 #[derive(Clone, Copy)]
-pub enum Way {
+pub enum TravelWay {
     /// From the node to its parent.
     Up(u64),
     /// From the parent to the node.
@@ -31,7 +31,7 @@ pub enum Way {
 #[derive(Clone, Copy)]
 pub struct Travel {
     pub node: NodeKey,
-    pub way: Way,
+    pub way: TravelWay,
 }
 
 /// The links by their nodes.
@@ -48,7 +48,7 @@ pub fn travels_by_node(alloc: Global, travels: &[Travel]) -> Result<KeyMap<Trave
 }
 
 /// How a failure followed the link of this node. Costs O(log n) for n links.
-pub fn way_of(travels: &KeyMap<Travel>, node: NodeKey) -> Option<Way>
+pub fn way_of(travels: &KeyMap<Travel>, node: NodeKey) -> Option<TravelWay>
     ensures { (links : List Link) → FindsTravels travels.now links → result ≡ way_in links node }
 {
     match travels.get(node) {
@@ -133,7 +133,7 @@ fn climb_from(trail: &mut Trail, node: NodeKey) -> Result<(), AllocError>
     trail.step = step;
     trail.travels.push(Travel {
         node,
-        way: Way::Up(step),
+        way: TravelWay::Up(step),
     })?;
     Ok(())
 }
@@ -146,7 +146,7 @@ fn note_stop(trail: &mut Trail, nodes: &[Node], top: NodeKey) -> Result<(), Allo
     if has_parent(nodes, top) {
         trail.travels.push(Travel {
             node: top,
-            way: Way::Stop,
+            way: TravelWay::Stop,
         })?;
     }
     Ok(())
@@ -298,7 +298,7 @@ fn down_to(node: &Reached, steps: &[u64]) -> Travel
 {
     Travel {
         node: node.node,
-        way: Way::Down(number_at(steps, node.generation)),
+        way: TravelWay::Down(number_at(steps, node.generation)),
     }
 }
 

@@ -10,7 +10,7 @@ mod picture;
 mod picture_state;
 mod tree_order;
 
-pub use failure_view::{Travel, Way, travels_by_node, way_of};
+pub use failure_view::{Travel, TravelWay, travels_by_node, way_of};
 pub use features::{
     Class, LinkStyle, class_of, class_sign, kind_name, link_of, push_free_pages, push_keepers,
     push_pages, push_place,

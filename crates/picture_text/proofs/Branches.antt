@@ -5,7 +5,7 @@ use Rattle.std.proofs.lemmas.List.{reverse-append}
 use Rattle.std.specs.List.{flat_map}
 use Rattle.script_labels.specs.Names.{Names}
 use Rattle.forest_store.specs.declared.node.Node.{Node}
-use Rattle.picture_text.specs.declared.outline.Row.{Row}
+use Rattle.picture_text.specs.declared.outline.OutlineRow.{OutlineRow}
 use Rattle.picture_text.specs.Outlines.{Line, Twig, first_branches, is_end, line_of_row, line_of_branch}
 use Rattle.picture_text.specs.Outlines.{outline_from, outline, twig, twigs, twigs_below}
 use Rattle.picture_text.specs.TextPictures.{row_width, widest, widest_row}
@@ -86,16 +86,16 @@ lines_end count nodes at lines ts all =
     ap (λ (n : ℕ). lines ++ outline_from n nodes ts) none ∙ append-nil lines
 
 -- the widest row is the widest line
-pub widest_lines : (names : Names) (rows : List Row) → widest_row names rows ≡ widest names (map line_of_row rows)
+pub widest_lines : (names : Names) (rows : List OutlineRow) → widest_row names rows ≡ widest names (map line_of_row rows)
 widest_lines names rows = from rows 0
   where
     -- by induction on the rows
-    from : (rs : List Row) (width : ℕ) → fold (λ width r. max width (row_width names (line_of_row r))) width rs
+    from : (rs : List OutlineRow) (width : ℕ) → fold (λ width r. max width (row_width names (line_of_row r))) width rs
         ≡ fold (λ width l. max width (row_width names l)) width (map line_of_row rs)
     from [] width = refl
     from (r ∷ rs) width = from rs (max width (row_width names (line_of_row r)))
 
 -- texts of rows are texts of their lines
-pub texts_of_lines : (f : Line → List ℕ) (rows : List Row) → flat_map (λ r. f (line_of_row r)) rows ≡ flat_map f (map line_of_row rows)
+pub texts_of_lines : (f : Line → List ℕ) (rows : List OutlineRow) → flat_map (λ r. f (line_of_row r)) rows ≡ flat_map f (map line_of_row rows)
 texts_of_lines f [] = refl
 texts_of_lines f (r ∷ rs) = ap (λ (t : List ℕ). f (line_of_row r) ++ t) (texts_of_lines f rs)

@@ -6,7 +6,7 @@ use Rattle.picture_model.specs.declared.features.LinkStyle.{LinkStyle}
 use Rattle.picture_model.specs.Features.{link_of}
 use Rattle.picture_model.specs.Travels.{is_child_of}
 use Rattle.picture_text.specs.declared.outline.Branch.{Branch}
-use Rattle.picture_text.specs.declared.outline.Row.{Row}
+use Rattle.picture_text.specs.declared.outline.OutlineRow.{OutlineRow}
 
 -- a node, the lines that lead to it, and how many columns they take
 pub record Line : Type 0 where
@@ -15,7 +15,7 @@ pub record Line : Type 0 where
   pub columns : ℕ
 
 -- a row as that
-abbrev pub line_of_row : Row → Line
+abbrev pub line_of_row : OutlineRow → Line
 line_of_row r = record { node = r.node; lines = r.lines.items; columns = r.columns }
 
 -- a node without a line: what leads to the lines of its parent's children, how deep it hangs, and whether it is the last of them

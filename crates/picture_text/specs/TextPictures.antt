@@ -18,7 +18,7 @@ use Rattle.picture_model.specs.declared.features.Class.{Class}
 use Rattle.picture_model.specs.declared.picture.Tree.{Tree}
 use Rattle.picture_model.specs.BoxLines.{asked_words, fired_words, header_text, state_words}
 use Rattle.picture_model.specs.Features.{class_of, free_words, keepers_words, kind_text, pages_text, place_text, sign_text}
-use Rattle.picture_text.specs.declared.outline.Row.{Row}
+use Rattle.picture_text.specs.declared.outline.OutlineRow.{OutlineRow}
 use Rattle.picture_text.specs.Outlines.{Line, line_of_row, outline}
 use Rattle.picture_text.specs.declared.picture.TheConstants.{MOST_DRAWN}
 
@@ -47,7 +47,7 @@ abbrev pub widest : Names → List Line → ℕ
 widest names rows = fold (λ width r. max width (row_width names r)) 0 rows
 
 -- the same of rows as they are kept
-abbrev pub widest_row : Names → List Row → ℕ
+abbrev pub widest_row : Names → List OutlineRow → ℕ
 widest_row names rows = fold (λ width r. max width (row_width names (line_of_row r))) 0 rows
 
 -- spaces from this many columns up to this width
@@ -94,7 +94,7 @@ row_text names width left r = concat
     (name_cell names width r ∷ signs_of_node left r.node ∷ state_words names r.node ∷ facts_text names r.node ∷ [])
 
 -- the same, of what the program has as a row
-abbrev pub told_row : Names → ℕ → List NodeKey → Row → List ℕ
+abbrev pub told_row : Names → ℕ → List NodeKey → OutlineRow → List ℕ
 told_row names width left r = row_text names width left (line_of_row r)
 
 -- ---- the row of a buffer

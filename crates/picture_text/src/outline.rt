@@ -12,7 +12,7 @@ use std::alloc::{AllocError, Global};
 
 // A node, the lines that lead to it, and how many columns they take.
 #[derive(Drop)]
-pub(crate) struct Row {
+pub(crate) struct OutlineRow {
     pub(crate) node: Node,
     pub(crate) lines: Vec<u8>,
     pub(crate) columns: u64,
@@ -30,7 +30,7 @@ struct Branch {
 
 // A row for each node, the root first, and behind each node the rows of its children, by birth. Costs
 // O(n log n) for n nodes, and the lines.
-pub(crate) fn outline_of(nodes: &Vec<Node>) -> Result<Vec<Row>, AllocError>
+pub(crate) fn outline_of(nodes: &Vec<Node>) -> Result<Vec<OutlineRow>, AllocError>
     ensures { IfOk result (λ rows. map line_of_row rows.items ≡ outline nodes.now.items) }
 {
     let children = children_by_key(nodes)?;
@@ -43,7 +43,7 @@ pub(crate) fn outline_of(nodes: &Vec<Node>) -> Result<Vec<Row>, AllocError>
 // Puts the rows of those that wait behind the others, and below each those of its children, but no more
 // than this many.
 fn push_waiting(
-    rows: &mut Vec<Row>,
+    rows: &mut Vec<OutlineRow>,
     waiting: &mut Vec<Branch>,
     children: &KeyRows<Node>,
     count: usize,
@@ -63,7 +63,7 @@ fn push_waiting(
 
 // Puts the row of the node behind the others; its children wait.
 fn push_next(
-    rows: &mut Vec<Row>,
+    rows: &mut Vec<OutlineRow>,
     waiting: &mut Vec<Branch>,
     children: &KeyRows<Node>,
     next: Branch,
@@ -198,7 +198,7 @@ fn stem_words(depth: u64, last: bool) -> &'static str
 }
 
 // The row of the node.
-fn row_of(next: Branch) -> Result<Row, AllocError>
+fn row_of(next: Branch) -> Result<OutlineRow, AllocError>
     ensures { IfOk result (λ row. line_of_row row ≡ line_of_branch (branch_of next)) }
 {
     let Branch {
@@ -209,7 +209,7 @@ fn row_of(next: Branch) -> Result<Row, AllocError>
     } = next;
     let mut lines = stem;
     push(&mut lines, begin_words(depth, last, link_of(&node)))?;
-    Ok(Row {
+    Ok(OutlineRow {
         node,
         lines,
         columns: depth.saturating_mul(4),

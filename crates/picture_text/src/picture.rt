@@ -7,7 +7,7 @@ ghost use Rattle.event_texts.specs.Called.{Calls};
 ghost use Rattle.picture_text.specs.Outlines.{line_of_row, outline};
 ghost use Rattle.picture_text.specs.TextPictures.{fired_line, fired_lines, has_page, head_text, picture_text, pool_signs, pool_text, sign_of_page, signs_of_pages, tree_text};
 
-use crate::outline::{Row, outline_of};
+use crate::outline::{OutlineRow, outline_of};
 use crate::rows::{push_freed_rows, push_held_rows, push_rows, width_of};
 use event_texts::EventWriter;
 use lifetime_core::Core;
@@ -91,7 +91,7 @@ fn push_grown(
     event_writer: &EventWriter,
     clients: &Vec<ClientId>,
     tree: &Tree,
-    rows: &Vec<Row>,
+    rows: &Vec<OutlineRow>,
 ) -> Result<(), AllocError>
     ensures { OnOk result ((names : Names) → Keeps event_writer.now.session.tables names →
         Calls event_writer.now.labels names →

@@ -10,7 +10,7 @@ ghost use Rattle.event_texts.specs.FactTexts.{buffer_name};
 ghost use Rattle.picture_text.specs.Outlines.{line_of_row};
 ghost use Rattle.picture_text.specs.TextPictures.{asked_text, buffer_row, dispensable_text, facts_text, freed_row, full_name as full_name_of, in_parentheses, keepers_text, name_cell, node_mark as mark_in, pages_row, row_text, row_width as width_of_row, sign_cell as cell_of, signs_of_node, spaces, told_row, weak_text, widest_row};
 
-use crate::outline::Row;
+use crate::outline::OutlineRow;
 use event_facts::keys_of;
 use event_texts::EventWriter;
 use forced_marks::key_sets::KeySet;
@@ -24,7 +24,10 @@ use sm_names::{BufferName, ClientId, Constraints, HeldBuffer, NodeKey};
 use std::alloc::AllocError;
 
 // The width of the widest row: the lines that lead to its node, and the node's name.
-pub(crate) fn width_of(event_writer: &EventWriter, rows: &Vec<Row>) -> Result<u64, AllocError>
+pub(crate) fn width_of(
+    event_writer: &EventWriter,
+    rows: &Vec<OutlineRow>,
+) -> Result<u64, AllocError>
     ensures { IfOk result (λ width. (names : Names) → Keeps event_writer.now.session.tables names →
         Calls event_writer.now.labels names → width ≡ widest_row names rows.now.items) }
 {
@@ -36,7 +39,7 @@ pub(crate) fn width_of(event_writer: &EventWriter, rows: &Vec<Row>) -> Result<u6
 }
 
 // The columns of the lines that lead to the row's node, and of its name.
-fn row_width(event_writer: &EventWriter, row: &Row) -> Result<u64, AllocError>
+fn row_width(event_writer: &EventWriter, row: &OutlineRow) -> Result<u64, AllocError>
     ensures { IfOk result (λ width. (names : Names) → Keeps event_writer.now.session.tables names →
         Calls event_writer.now.labels names → width ≡ width_of_row names (line_of_row row.now)) }
 {
@@ -46,7 +49,7 @@ fn row_width(event_writer: &EventWriter, row: &Row) -> Result<u64, AllocError>
 
 // The label of the birth of the row's node, and in parentheses another under which its end was collected
 // last.
-fn full_name(event_writer: &EventWriter, row: &Row) -> Result<Vec<u8>, AllocError>
+fn full_name(event_writer: &EventWriter, row: &OutlineRow) -> Result<Vec<u8>, AllocError>
     ensures { IfOk result (λ name. (names : Names) → Keeps event_writer.now.session.tables names →
         Calls event_writer.now.labels names → name.items ≡ full_name_of names row.now.node.key) }
 {
@@ -100,7 +103,7 @@ fn push_spaces(text: &mut Vec<u8>, count: u64) -> Result<(), AllocError>
 pub(crate) fn push_rows(
     text: &mut Vec<u8>,
     event_writer: &EventWriter,
-    rows: &[Row],
+    rows: &[OutlineRow],
     left: &[NodeKey],
     width: u64,
 ) -> Result<(), AllocError>
@@ -116,7 +119,7 @@ pub(crate) fn push_rows(
 fn push_each_row(
     text: &mut Vec<u8>,
     event_writer: &EventWriter,
-    rows: &[Row],
+    rows: &[OutlineRow],
     left: &KeySet,
     width: u64,
 ) -> Result<(), AllocError>
@@ -135,7 +138,7 @@ fn push_each_row(
 fn push_row(
     text: &mut Vec<u8>,
     event_writer: &EventWriter,
-    row: &Row,
+    row: &OutlineRow,
     left: &KeySet,
     width: u64,
 ) -> Result<(), AllocError>
@@ -153,7 +156,7 @@ fn push_row(
 fn push_name(
     text: &mut Vec<u8>,
     event_writer: &EventWriter,
-    row: &Row,
+    row: &OutlineRow,
     width: u64,
 ) -> Result<(), AllocError>
     ensures { OnOk result ((names : Names) → Keeps event_writer.now.session.tables names →

@@ -22,7 +22,7 @@ use Rattle.event_texts.specs.Tellings.{TellsLine}
 use Rattle.script_explain.proofs.LineTold.{answers-in, tells-in}
 use Rattle.sm_script.proofs.Playing.{plays-more}
 use Rattle.script_explain.specs.declared.check.Comparison.{Comparison}
-use Rattle.script_explain.specs.declared.check.Outcome.{Outcome}
+use Rattle.script_explain.specs.declared.check.LineResult.{LineResult}
 use Rattle.script_explain.specs.declared.check.CheckResult.{CheckResult}
 use Rattle.script_explain.specs.Comparisons.{Agreement, Agrees, Begins, Checks, Difference, EndsChecked, Plays,
     Remarks, Replies, early_reason}
@@ -422,7 +422,7 @@ compared-none setting c pool limits knows recalls its_number its_line its_reply 
 
 -- all agrees, and the text of that was put
 pub agreed-fully : (setting : Setting) (c : Comparison) (script text : List ℕ) (verdict : CheckResult) →
-    Ended setting c script Outcome.Agrees →
+    Ended setting c script LineResult.Agrees →
     ((scene : Scene) (kept : KeptLines) → IsSaid verdict (comparison_place c scene kept) c.text.items text) →
     IsVerdict setting script text verdict
 agreed-fully setting c script text verdict ended said = by verdict (said ended.0.scene ended.0.kept)

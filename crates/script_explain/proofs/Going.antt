@@ -12,7 +12,7 @@ use Rattle.report_io.proofs.LinesTaken.{taken-all, taken-at, taken-more, taken-n
 use Rattle.sm_script.specs.Scenes.{Setting}
 use Rattle.sm_script.proofs.Taking.{some_behind}
 use Rattle.script_explain.specs.declared.check.Comparison.{Comparison}
-use Rattle.script_explain.specs.declared.check.Outcome.{Outcome}
+use Rattle.script_explain.specs.declared.check.LineResult.{LineResult}
 use Rattle.script_explain.specs.declared.seen.Seen.{Seen}
 use Rattle.script_explain.specs.Comparisons.{Difference, ComparisonLinesStop}
 use Rattle.script_explain.specs.Progress.{CheckHalted, Compared, Ended, Explained, Halted, Judges, LinesHalted, ExplainedSoFar}
@@ -124,7 +124,7 @@ module _ (script rest : List ℕ) (number : ℕ) (first now : Comparison) (along
     -- one more was
     pub agreeing-more : (next : Comparison) (left : List ℕ) → left ≡ drop (at + 1) rest →
         ((setting : Setting) (lines : List (List ℕ)) → Compared setting now lines → count ≡ length lines + 1 →
-        Judges setting now next lines (take at rest) Outcome.Agrees) → Agreeing script left count first next
+        Judges setting now next lines (take at rest) LineResult.Agrees) → Agreeing script left count first next
     agreeing-more next left is step = record {
       taken = along.taken ++ take at rest ∷ [];
       takes = subst (λ (r : List ℕ). AreTaken script r (along.taken ++ take at rest ∷ [])) (sym is)
@@ -139,7 +139,7 @@ module _ (script rest : List ℕ) (number : ℕ) (first now : Comparison) (along
     -- the next is the first that does not agree
     pub agreeing-differs : (next : Comparison) → first.text.items ≡ [] →
         ((setting : Setting) (lines : List (List ℕ)) → Compared setting now lines → count ≡ length lines + 1 →
-        Judges setting now next lines (take at rest) Outcome.Differs) → (setting : Setting) → Compared setting first [] →
+        Judges setting now next lines (take at rest) LineResult.Differs) → (setting : Setting) → Compared setting first [] →
         Difference setting (whole_lines script) next.text.items
     agreeing-differs next empty step setting far =
         let so_far = along.agreeing setting far in
@@ -166,7 +166,7 @@ module _ (script rest : List ℕ) (number : ℕ) (first now : Comparison) (along
 
     -- no line is left, and the last one has an end
     pub agreeing-ended : (length rest == 0) ≡ true → first.text.items ≡ [] → (setting : Setting) → Compared setting first [] →
-        Ended setting now script Outcome.Agrees
+        Ended setting now script LineResult.Agrees
     agreeing-ended empty blank setting far = (
       all-agree setting far,
       rest-all script rest along.taken along.takes none ∙ none-left rest empty,

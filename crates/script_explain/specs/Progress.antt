@@ -13,7 +13,7 @@ use Rattle.event_texts.specs.SummaryTexts.{summary_text}
 use Rattle.event_texts.specs.Called.{Knows}
 use Rattle.event_texts.specs.Deeds.{KeptLines, Recalls}
 use Rattle.script_explain.specs.declared.check.Comparison.{Comparison}
-use Rattle.script_explain.specs.declared.check.Outcome.{Outcome}
+use Rattle.script_explain.specs.declared.check.LineResult.{LineResult}
 use Rattle.script_explain.specs.declared.seen.Seen.{Seen}
 use Rattle.script_explain.specs.Comparisons.{Agrees, Difference, IsUnchecked, TranscriptPlace}
 use Rattle.script_explain.specs.Explanations.{Explanation, ExplanationCutOff, ExplanationFault}
@@ -145,9 +145,9 @@ lines_counted lines [] = lines
 lines_counted lines (byte ∷ more) = min (lines + 1) (2 ^ 64 - 1)
 
 -- the verdict on one more line, where this many were compared before it: it agrees, or is the first that does not
-abbrev pub Judges : Setting → Comparison → Comparison → List (List ℕ) → List ℕ → Outcome → Type 0
-Judges setting old new lines line Outcome.Agrees = Compared setting new (lines ++ line ∷ []) × (new.text.items ≡ old.text.items)
-Judges setting old new lines line Outcome.Differs =
+abbrev pub Judges : Setting → Comparison → Comparison → List (List ℕ) → List ℕ → LineResult → Type 0
+Judges setting old new lines line LineResult.Agrees = Compared setting new (lines ++ line ∷ []) × (new.text.items ≡ old.text.items)
+Judges setting old new lines line LineResult.Differs =
     old.text.items ≡ [] → Difference setting (lines ++ line ∷ []) new.text.items
 
 -- why one of these lines could be neither played nor compared
@@ -158,7 +158,7 @@ CheckHalted setting lines ReportFault.NoMemory = Unit {0}
 CheckHalted setting lines _ = ⊥
 
 -- the verdict on all lines: they agree, and the last one has an end; or one of them is the first that does not
-abbrev pub Ended : Setting → Comparison → List ℕ → Outcome → Type 0
-Ended setting c script Outcome.Agrees =
+abbrev pub Ended : Setting → Comparison → List ℕ → LineResult → Type 0
+Ended setting c script LineResult.Agrees =
     Compared setting c (whole_lines script) × (last_part script ≡ []) × (c.text.items ≡ [])
-Ended setting c script Outcome.Differs = Difference setting (whole_lines script) c.text.items
+Ended setting c script LineResult.Differs = Difference setting (whole_lines script) c.text.items

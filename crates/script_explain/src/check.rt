@@ -32,7 +32,7 @@ pub enum CheckResult {
 
 // The result of comparing some lines: whether all replies that are there are the machine's.
 #[derive(Clone, Copy)]
-enum Outcome {
+enum LineResult {
     Agrees,
     Differs,
 }
@@ -149,8 +149,8 @@ impl Comparison {
             ComparisonLinesStop setting script.now fault) }
     {
         match self.take_lines(alloc, script) {
-            Ok(Outcome::Agrees) => self.agree(),
-            Ok(Outcome::Differs) => Ok(CheckResult::Differs),
+            Ok(LineResult::Agrees) => self.agree(),
+            Ok(LineResult::Differs) => Ok(CheckResult::Differs),
             Err(fault) => Err(fault),
         }
     }
@@ -174,7 +174,7 @@ impl Comparison {
     }
 
     // Plays and compares the lines, one after another, up to the first that differs.
-    fn take_lines(&mut self, alloc: Global, script: &[u8]) -> Result<Outcome, ReportFault>
+    fn take_lines(&mut self, alloc: Global, script: &[u8]) -> Result<LineResult, ReportFault>
         requires few { length script.now ≤ MOST_BYTES }
         requires no_text { self.old.text.items ≡ [] }
         ensures ok { IfOk result (λ outcome. (setting : Setting) → Compared setting self.old [] →
@@ -187,20 +187,25 @@ impl Comparison {
         'lines: while let Some(at) = line_end(rest) {
             number = number.saturating_add(1);
             match self.take_line(alloc, number, &rest[..at]) {
-                Ok(Outcome::Agrees) => rest = behind(rest, at),
-                Ok(Outcome::Differs) => return Ok(Outcome::Differs),
+                Ok(LineResult::Agrees) => rest = behind(rest, at),
+                Ok(LineResult::Differs) => return Ok(LineResult::Differs),
                 Err(fault) => return Err(fault),
             }
         }
         if rest.is_empty() {
-            Ok(Outcome::Agrees)
+            Ok(LineResult::Agrees)
         } else {
             Err(unended(alloc, number.saturating_add(1)))
         }
     }
 
     // Plays or compares the line of this number.
-    fn take_line(&mut self, alloc: Global, number: u64, line: &[u8]) -> Result<Outcome, ReportFault>
+    fn take_line(
+        &mut self,
+        alloc: Global,
+        number: u64,
+        line: &[u8],
+    ) -> Result<LineResult, ReportFault>
         requires { number ≤ MOST_BYTES }
         ensures ok { IfOk result (λ outcome. (setting : Setting) (lines : List (List ℕ)) →
             Compared setting self.old lines → number ≡ length lines + 1 →
@@ -211,12 +216,12 @@ impl Comparison {
     {
         match behind_indent(line) {
             None => match self.play(alloc, number, line) {
-                Ok(()) => Ok(Outcome::Agrees),
+                Ok(()) => Ok(LineResult::Agrees),
                 Err(fault) => Err(fault),
             },
             Some(recorded) => {
                 if is_indented(recorded) {
-                    return Ok(Outcome::Agrees);
+                    return Ok(LineResult::Agrees);
                 }
                 self.compare(alloc, number, recorded)
             }
@@ -260,7 +265,7 @@ impl Comparison {
         alloc: Global,
         number: u64,
         recorded: &[u8],
-    ) -> Result<Outcome, ReportFault>
+    ) -> Result<LineResult, ReportFault>
         requires { number ≤ MOST_BYTES }
         ensures ok { IfOk result (λ outcome. (setting : Setting) (lines : List (List ℕ))
             (line : List ℕ) → Records line recorded.now →
@@ -273,7 +278,7 @@ impl Comparison {
     {
         if is_line_of(&self.reply, recorded) {
             self.replies = self.replies.saturating_add(1);
-            return Ok(Outcome::Agrees);
+            return Ok(LineResult::Agrees);
         }
         if self.lines == 0 {
             return Err(bad_line(
@@ -283,7 +288,7 @@ impl Comparison {
             ));
         }
         match self.tell_difference(recorded) {
-            Ok(()) => Ok(Outcome::Differs),
+            Ok(()) => Ok(LineResult::Differs),
             Err(_) => Err(ReportFault::NoMemory),
         }
     }

@@ -13,8 +13,8 @@ ghost use Rattle.service_lock.specs.Units.{AreFor};
 use crate::blank_books::{BlankBooks, MAX_SHARES};
 use crate::setup::Setup;
 use crate::shares::Units;
+use crate::summed_book::SummedBook;
 use crate::sums::Books;
-use crate::tally::Tally;
 use lifetime_core::Core;
 use sm_names::{Call, ClientId, Limits, MAX_PAGES, NoMemory, Reply, TrackerId};
 use std::alloc::Global;
@@ -30,9 +30,9 @@ pub struct State<E: Setup, S: Ledger, W: Ledger> {
     pub(crate) core: Core,
     pub(crate) limits: Limits,
     pub(crate) log: Vec<(ClientId, Call, Reply)>,
-    pub(crate) events: Tally<E>,
-    pub(crate) strong: Tally<S>,
-    pub(crate) weak: Tally<W>,
+    pub(crate) events: SummedBook<E>,
+    pub(crate) strong: SummedBook<S>,
+    pub(crate) weak: SummedBook<W>,
 }
 
 impl<E: Setup, S: Ledger, W: Ledger> Model for State<E, S, W> {
@@ -82,9 +82,9 @@ impl<E: Setup, S: Ledger, W: Ledger> State<E, S, W> {
             core: Core::with_seed(alloc, pages, limits, seed)?,
             limits,
             log: Vec::new(alloc),
-            events: Tally::new(events, MAX_SHARES),
-            strong: Tally::new(strong, MAX_SHARES),
-            weak: Tally::new(weak, MAX_SHARES),
+            events: SummedBook::new(events, MAX_SHARES),
+            strong: SummedBook::new(strong, MAX_SHARES),
+            weak: SummedBook::new(weak, MAX_SHARES),
         })
     }
 

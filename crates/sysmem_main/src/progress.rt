@@ -8,12 +8,12 @@ use std::time::{Clock, Instant};
 
 // How far a search is: how many states it met, and how many seconds it took, if the clock says so.
 #[derive(Clone, Copy)]
-struct Reached {
+struct StatesMet {
     states: usize,
     seconds: Option<u64>,
 }
 
-impl fmt::Display for Reached {
+impl fmt::Display for StatesMet {
     ghost use Rattle.std.specs.Prelude.{Some};
     ghost use Rattle.sysmem_main.specs.Messages.{reached_text};
 
@@ -66,7 +66,7 @@ impl<R: Eprint + Clock> Progress for ProgressLine<'_, R> {
     fn met(&self, states: usize) {
         if self.is_terminal {
             let seconds = self.seconds();
-            let _ = self.rt.eprint(Reached { states, seconds });
+            let _ = self.rt.eprint(StatesMet { states, seconds });
             self.is_written.set(true);
         }
     }

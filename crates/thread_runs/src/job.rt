@@ -35,7 +35,7 @@ pub struct RunHost<'a, R> {
 
 /// What a run is made with: the seed of what is hashed, the job, and the limits.
 #[derive(Clone, Copy)]
-pub(crate) struct Setting {
+pub(crate) struct RunSetting {
     pub(crate) seed: [u8; 16],
     pub(crate) job: Job,
     pub(crate) limits: Limits,

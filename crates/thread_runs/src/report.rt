@@ -10,7 +10,7 @@ ghost use Rattle.thread_runs.specs.Runs.{IsRunText, told_text};
 
 use crate::actor_parts::{fault_of, part_all};
 use crate::fault::ThreadsFault;
-use crate::job::{Output, Setting};
+use crate::job::{Output, RunSetting};
 use crate::report_text::push_report;
 use actor_scripts::ActorList;
 use client_actors::{Gate, run_actors};
@@ -37,9 +37,9 @@ struct OutputStyle {
 }
 
 // Tells nobody of steps.
-struct Silent;
+struct SilentGate;
 
-impl Gate for Silent {
+impl Gate for SilentGate {
     fn before(&self, _client: ClientId, _step: u64) {}
 
     fn after(&self, _client: ClientId, _step: u64, _reply: &Option<Reply>) {}
@@ -166,7 +166,7 @@ fn run_all<
         Err(_) => return (Vec::new(alloc), Err(ThreadsFault::NoMemory)),
     };
     let scripts = list.scripts.as_slice();
-    match run_actors(rt, alloc, service, &Silent, scripts, style.repeats) {
+    match run_actors(rt, alloc, service, &SilentGate, scripts, style.repeats) {
         Ok(ends) => match part_all(alloc, ends, &mut parts) {
             Some(fault) => (parts, Err(fault)),
             None => tell(rt, alloc, service, style, list.labels.as_slice(), parts),
@@ -188,7 +188,7 @@ fn run_on<
     rt: &R,
     alloc: Global,
     blanks: BlankBooks,
-    setting: Setting,
+    setting: RunSetting,
     list: &ActorList,
 ) -> Result<Vec<u8>, ThreadsFault>
     requires blanks { AreFor E.name E.parts S.name S.parts W.name W.parts blanks }
@@ -197,7 +197,7 @@ fn run_on<
         setting.job.pages.count setting.limits (actors_of list.now) text.items) }
     ensures late { IfErr result IsLate }
 {
-    let Setting { seed, job, limits } = setting;
+    let RunSetting { seed, job, limits } = setting;
     match Service::<E, S, W>::with_seed(alloc, blanks, job.pages.count, limits, seed) {
         Ok(service) => {
             let style = OutputStyle {
@@ -217,7 +217,7 @@ fn run_on<
 pub(crate) fn tell_all<R: Threads + Wait + Clock + Sync>(
     rt: &R,
     alloc: Global,
-    setting: Setting,
+    setting: RunSetting,
     list: &ActorList,
 ) -> Result<Vec<u8>, ThreadsFault>
     ensures ok { IfOk result (λ text. IsRunText setting.job.output setting.job.repeats

@@ -5,7 +5,7 @@ ghost use Rattle.script_lines.specs.Written.{WritesPart};
 ghost use Rattle.thread_runs.specs.Runs.{RunsThreads};
 
 use crate::fault::ThreadsFault;
-use crate::job::{Job, RunHost, Setting};
+use crate::job::{Job, RunHost, RunSetting};
 use crate::report::tell_all;
 use actor_scripts::read_actors;
 use script_lines::{LabelHash, write_out};
@@ -60,7 +60,7 @@ pub fn run_threads<I: Read, O: Write, R: Threads + Wait + Clock + Sync>(
         Ok(list) => list,
         Err(fault) => return Err(ThreadsFault::from(fault)),
     };
-    let setting = Setting { seed, job, limits };
+    let setting = RunSetting { seed, job, limits };
     match tell_all(rt, alloc, setting, &list) {
         Ok(text) => put_out(writer, text.as_slice()),
         Err(fault) => Err(fault),

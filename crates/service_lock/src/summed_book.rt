@@ -10,14 +10,14 @@ use std::sync::ledger::{Blank, Book, Ledger, Share};
 /// A book with its sum, and a share of the book that has the parts that were not handed out, and that
 /// counts the handles in parcels.
 #[derive(Drop)]
-pub(crate) struct Tally<L: Ledger> {
+pub(crate) struct SummedBook<L: Ledger> {
     book: Book<L>,
     total: u64,
     rest: Share<L>,
     left: u64,
 }
 
-impl<L: Ledger> Model for Tally<L> {
+impl<L: Ledger> Model for SummedBook<L> {
     ghost use Rattle.std.specs.Prelude.{◌≡◌, ◌+◌, ◌<◌, ◌^◌};
     ghost use Rattle.service_lock.specs.Units.{BookSums};
 
@@ -29,9 +29,9 @@ impl<L: Ledger> Model for Tally<L> {
         × (t.left < 2 ^ 40) };
 }
 
-impl<L: Ledger> Tally<L> {
+impl<L: Ledger> SummedBook<L> {
     /// Makes an empty book of this many parts, and keeps one of them for the parcels.
-    pub fn new(blank: Blank, parts: u64) -> Tally<L>
+    pub fn new(blank: Blank, parts: u64) -> SummedBook<L>
         requires name { blank.name ≡ L.name }
         requires parts { (blank.parts ≡ L.parts) × (parts ≡ L.parts) }
         requires some { (0 < parts) × (parts ≤ 2 ^ 40) }
@@ -40,7 +40,7 @@ impl<L: Ledger> Tally<L> {
         ensures left { result.left + 1 ≡ parts }
     {
         let (book, rest) = blank.open::<L>();
-        Tally {
+        SummedBook {
             book,
             total: 0,
             rest,
