@@ -17,7 +17,7 @@ use Rattle.client_vanish.specs.Vanishings.{AllHeldBy, Collection, Goes, Handle, 
 use Rattle.client_vanish.specs.Vanishings.{all_objects, collections_among, held_end, end_told, handles_among, handle_told}
 use Rattle.client_vanish.specs.Vanishings.{held_in, kept_of, owner_of, vanishing_call, sorted, tokens_among, parcels_told}
 use Rattle.client_vanish.specs.Stacks.{CollectsMany, CollectsFor, CollectsOne, HasRoomFor}
-use Rattle.client_vanish.specs.Stacks.{PartsWithSome, PartsIf, PartsWith, both, top_first}
+use Rattle.client_vanish.specs.Stacks.{GivesUp, GivesUpIf, GivesUpSome, both, top_first}
 use Rattle.client_vanish.proofs.ObjectLaws.{both_none, flat-append, flat_collections, flat_handles, flat_tokens, no_collection_h}
 use Rattle.client_vanish.proofs.ObjectLaws.{no_collection_t, no_handle_c, no_handle_t, no_token_c, no_token_h, sorted-append}
 
@@ -53,7 +53,7 @@ collects_more old mid new told ends handles ends' handles' so one = record {
 -- ---- vanishing
 
 -- with nothing yet
-abbrev pub parts_none : (s : Seen) (all : List HeldObject) (kept : Holds) → kept ≡ sorted [] → PartsWithSome s s all all kept
+abbrev pub parts_none : (s : Seen) (all : List HeldObject) (kept : Holds) → kept ≡ sorted [] → GivesUpSome s s all all kept
 parts_none s all kept none = record { answers = []; parted = []; made = made_none s; all_is = refl; kept_is = none }
 
 -- each answer is to one call
@@ -82,8 +82,8 @@ kept_push (t ∷ objects) (a ∷ answers) object answer many =
 
 -- with one more
 pub parts_more : (old mid new : Seen) (all left later : List HeldObject) (object : HeldObject) (ks : List HeldObject) (kept kept' : Holds) →
-    PartsWithSome old mid all left kept → left ≡ object ∷ later → PartsWith mid new object ks →
-    kept' ≡ both kept (sorted ks) → PartsWithSome old new all later kept'
+    GivesUpSome old mid all left kept → left ≡ object ∷ later → GivesUp mid new object ks →
+    kept' ≡ both kept (sorted ks) → GivesUpSome old new all later kept'
 parts_more old mid new all left later object ks kept kept' so on one grown =
     let many : length so.parted ≡ length so.answers =
     sym (length-map so.parted vanishing_call) ∙ as_many old mid (map vanishing_call so.parted) so.answers so.made in
@@ -105,7 +105,7 @@ parts_more old mid new all left later object ks kept kept' so on one grown =
 
 -- with one that was answered Done
 pub parted_done : (old new : Seen) (object : HeldObject) (call : Call) → vanishing_call object ≡ call → Made old new call Reply.Done →
-    PartsWith old new object []
+    GivesUp old new object []
 parted_done old new object call is made = record {
   answer = Reply.Done;
   made = subst (λ (c : Call). Made old new c Reply.Done) (sym is) made;
@@ -113,7 +113,7 @@ parted_done old new object call is made = record {
 }
 
 -- what is kept of one object is that object
-pub kept_same : (old new : Seen) (x y : HeldObject) → PartsWith old new x (y ∷ []) → y ≡ x
+pub kept_same : (old new : Seen) (x y : HeldObject) → GivesUp old new x (y ∷ []) → y ≡ x
 kept_same old new x y one = either (is_done one.answer) refl
   where
     -- by cases: an object whose answer is Done is not kept
@@ -178,7 +178,7 @@ in_turn may P Q (inr so) whole = inr (whole so)
 -- a client that made its Shut, this many Collects, and gave up some
 abbrev pub goes : (old mid far new : Seen) (shut : Reply) (may : Bool) (ends handles all left : List HeldObject) (held kept back : Holds) →
     Made old mid Call.Shut shut →
-    CollectsFor may (parcels_told shut) mid far ends handles → PartsIf may far new all left kept → all ≡ stacked ends handles held →
+    CollectsFor may (parcels_told shut) mid far ends handles → GivesUpIf may far new all left kept → all ≡ stacked ends handles held →
     back ≡ both kept (sorted left) → Goes old new held back
 goes old mid far new shut may ends handles all left held kept back made collects part is back_is = record {
   shut = shut;
@@ -201,7 +201,7 @@ goes old mid far new shut may ends handles all left held kept back made collects
 -- one that is gone
 pub gone : (old mid far new : Seen) (shut : Reply) (may : Bool) (ends handles all left : List HeldObject) (held kept : Holds) →
     Made old mid Call.Shut shut →
-    CollectsFor may (parcels_told shut) mid far ends handles → PartsIf may far new all left kept → all ≡ stacked ends handles held →
+    CollectsFor may (parcels_told shut) mid far ends handles → GivesUpIf may far new all left kept → all ≡ stacked ends handles held →
     left ≡ [] → may ≡ true → IsGone old new held kept
 gone old mid far new shut may ends handles all left held kept made collects part is none may_so = record {
   goes = goes old mid far new shut may ends handles all left held kept kept made collects part is (sym (both_none kept)

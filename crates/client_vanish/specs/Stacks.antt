@@ -54,13 +54,13 @@ kept_objects None = []
 kept_objects (Some object) = object_of object ∷ []
 
 -- the client made the call that gives up the object, and kept it unless the answer was Done
-pub record PartsWith (old new : Seen) (object : HeldObject) (kept : List HeldObject) : Type 0 where
+pub record GivesUp (old new : Seen) (object : HeldObject) (kept : List HeldObject) : Type 0 where
   pub answer : Reply
   pub made : Made old new (vanishing_call object) answer
   pub kept_is : kept ≡ kept_of (object ∷ []) (answer ∷ [])
 
 -- the client gave up the first of these, the others are left, and it kept what it was refused
-pub record PartsWithSome (old new : Seen) (all left : List HeldObject) (kept : Holds) : Type 0 where
+pub record GivesUpSome (old new : Seen) (all left : List HeldObject) (kept : Holds) : Type 0 where
   pub answers : List Reply
   pub parted : List HeldObject
   pub made : MadeAll old new (map vanishing_call parted) answers
@@ -85,6 +85,6 @@ pub record IsRoom {E S W : Type 0} (room : Room E S W) (held : Held E S W) (wait
   pub for_handles : vec_len held.handles + waiting ≤ vec_capacity held.handles
 
 -- the same, and it gave up none if `may` is false
-pub record PartsIf (may : Bool) (old new : Seen) (all left : List HeldObject) (kept : Holds) : Type 0 where
-  pub parts : PartsWithSome old new all left kept
+pub record GivesUpIf (may : Bool) (old new : Seen) (all left : List HeldObject) (kept : Holds) : Type 0 where
+  pub parts : GivesUpSome old new all left kept
   pub turn : (parts.parted ≡ []) ⊎ (may ≡ true)

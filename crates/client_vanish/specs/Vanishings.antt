@@ -46,7 +46,7 @@ owner_of (Token t) = t.client
 owner_of (Collection c) = c.client
 owner_of (Handle h) = h.client
 
--- the call that parts with it
+-- the call that gives it up
 abbrev pub vanishing_call : HeldObject → Call
 vanishing_call (Token t) = Call.Close t.key
 vanishing_call (Collection c) = Call.Close c.key

@@ -3,7 +3,7 @@ ghost use Rattle.std.specs.Prelude.{◌≡◌, ◌+◌, ◌<◌, ◌≤◌, ◌�
 ghost use Rattle.std.specs.List.{All};
 ghost use Rattle.sm_names.specs.declared.outcomes.StepFault.{StepFault as Fault};
 ghost use Rattle.client_vanish.specs.Vanishings.{AllHeldBy, Collection, Handle as Handed, IsBroken, IsGone, Token, held_in, owner_of, sorted, object_of, parcels_told};
-ghost use Rattle.client_vanish.specs.Stacks.{CollectsFor, CollectsOne, HasRoomFor, IsRoom, PartsWithSome, PartsIf, PartsWith, kept_objects, top_first};
+ghost use Rattle.client_vanish.specs.Stacks.{CollectsFor, CollectsOne, GivesUp, GivesUpIf, GivesUpSome, HasRoomFor, IsRoom, kept_objects, top_first};
 
 use crate::stack::{put, put_all, stack_collections, stack_ends, stack_handles, stack_tokens};
 use crate::wreck::Wreck;
@@ -159,7 +159,7 @@ fn collect_all<E: Setup, S: Ledger, W: Ledger, R: Wait>(
 }
 
 // Makes the call that gives up the object, which comes back if the answer is not Done.
-fn part_with<E: Setup, S: Ledger, W: Ledger, R: Wait>(
+fn give_up<E: Setup, S: Ledger, W: Ledger, R: Wait>(
     rt: &R,
     service: &Service<E, S, W>,
     client: &mut Client<E, S, W>,
@@ -167,7 +167,7 @@ fn part_with<E: Setup, S: Ledger, W: Ledger, R: Wait>(
 ) -> Result<Option<ParcelContent<E, S, W>>, (ParcelContent<E, S, W>, StepFault)>
     requires { owner_of (object_of object) ≡ client.old.id }
     ensures { MatchResult result
-        (λ kept. PartsWith client.old client.new (object_of object) (kept_objects kept))
+        (λ kept. GivesUp client.old client.new (object_of object) (kept_objects kept))
         (λ e. (e.0 ≡ object) × (client.new ≡ client.old)) }
 {
     let (object, why) = match object {
@@ -191,7 +191,7 @@ fn part_with<E: Setup, S: Ledger, W: Ledger, R: Wait>(
 }
 
 // Gives up all objects on the stack, and keeps those whose call is refused.
-fn part_with_all<E: Setup, S: Ledger, W: Ledger, R: Wait>(
+fn give_up_all<E: Setup, S: Ledger, W: Ledger, R: Wait>(
     rt: &R,
     service: &Service<E, S, W>,
     client: &mut Client<E, S, W>,
@@ -201,13 +201,13 @@ fn part_with_all<E: Setup, S: Ledger, W: Ledger, R: Wait>(
     requires owner { All (λ t. owner_of t ≡ client.old.id) (top_first stack.old.items) }
     requires none { held_in kept.old ≡ sorted [] }
     requires room { HasRoomFor kept.old (top_first stack.old.items) }
-    ensures parts { PartsWithSome client.old client.new (top_first stack.old.items)
+    ensures parts { GivesUpSome client.old client.new (top_first stack.old.items)
         (top_first stack.new.items) (held_in kept.new) }
     ensures all { OnOk result (vec_len stack.new ≡ 0) }
     ensures room { HasRoomFor kept.new (top_first stack.new.items) }
 {
     while let Some(object) = stack.pop() {
-        match part_with(rt, service, client, object) {
+        match give_up(rt, service, client, object) {
             Ok(None) => {}
             Ok(Some(object)) => put(kept, object),
             Err((object, fault)) => {
@@ -220,7 +220,7 @@ fn part_with_all<E: Setup, S: Ledger, W: Ledger, R: Wait>(
 }
 
 // Gives up all objects on the stack, if all parcels were collected.
-fn part_if<E: Setup, S: Ledger, W: Ledger, R: Wait>(
+fn give_up_if<E: Setup, S: Ledger, W: Ledger, R: Wait>(
     rt: &R,
     service: &Service<E, S, W>,
     client: &mut Client<E, S, W>,
@@ -231,13 +231,13 @@ fn part_if<E: Setup, S: Ledger, W: Ledger, R: Wait>(
     requires owner { All (λ t. owner_of t ≡ client.old.id) (top_first stack.old.items) }
     requires none { held_in kept.old ≡ sorted [] }
     requires room { HasRoomFor kept.old (top_first stack.old.items) }
-    ensures parts { PartsIf (is_ok collected) client.old client.new (top_first stack.old.items)
+    ensures parts { GivesUpIf (is_ok collected) client.old client.new (top_first stack.old.items)
         (top_first stack.new.items) (held_in kept.new) }
     ensures all { OnOk result ((vec_len stack.new ≡ 0) × (is_ok collected ≡ true)) }
     ensures room { HasRoomFor kept.new (top_first stack.new.items) }
 {
     match collected {
-        Ok(()) => part_with_all(rt, service, client, stack, kept),
+        Ok(()) => give_up_all(rt, service, client, stack, kept),
         Err(fault) => Err(fault),
     }
 }
@@ -315,7 +315,7 @@ pub fn vanish<E: Setup, S: Ledger, W: Ledger, R: Wait>(
         waiting,
     );
     let mut stack = stack_all(room, &mut held);
-    let parted = part_if(rt, service, &mut client, collected, &mut stack, &mut held);
+    let parted = give_up_if(rt, service, &mut client, collected, &mut stack, &mut held);
     match parted {
         Ok(()) => {
             stack.destroy_empty();

@@ -20,7 +20,7 @@ use Rattle.sm_names.specs.Timelines.{timeline}
 use Rattle.sm_names.proofs.SamenessLaws.{false_if}
 use Rattle.core_state.specs.State.{State}
 use Rattle.core_vanish.specs.declared.exit.VanishFault.{VanishFault}
-use Rattle.core_vanish.specs.Events.{Collecting, Collects, Gathered, GetsNothing, IsRest, IsShut, PartsWithAll, Leaving, Lets, Whatever}
+use Rattle.core_vanish.specs.Events.{Collecting, Collects, Gathered, GetsNothing, GivesUpAll, IsRest, IsShut, Leaving, Lets, Whatever}
 use Rattle.core_vanish.specs.Exits.{HasExited, IsClose, IsCollect, IsDrop, IsExit, holds_end}
 use Rattle.core_vanish.specs.Vanishing.{Exits, IsBegun, ExitStops}
 use Rattle.core_vanish.specs.Phases.{HasAmong, HasLeft, HoldsAmong, IsUnshut, Phase, part_fault}
@@ -79,9 +79,9 @@ lets_all client old mid new p q =
 -- all was given up
 pub leaves : (client waiting : ℕ) (old one two new : State) → Phase old one (Collecting client waiting waiting) →
     Phase one two (Lets (IsClose client) client (HoldsAmong client [])) →
-    Phase two new (Lets (IsDrop client) client (HasAmong client [])) → Phase old new (PartsWithAll client waiting)
+    Phase two new (Lets (IsDrop client) client (HasAmong client [])) → Phase old new (GivesUpAll client waiting)
 leaves client waiting old one two new p q r =
-    phase_then old one new (Collecting client waiting waiting) (LettingAll client) (PartsWithAll client waiting) p
+    phase_then old one new (Collecting client waiting waiting) (LettingAll client) (GivesUpAll client waiting) p
     (lets_all client one two new q r) (λ marks midway later first more a b joined shut many.
     let x : Collects client waiting waiting marks first midway = a joined many in
     let y : LetsAll client midway more later = b x.joined in
@@ -233,9 +233,9 @@ rest_exit client waiting first more is r = record {
 
 -- the client exited
 pub has_left : (client waiting : ℕ) (old one new : State) → Phase old one (λ marks events later. IsShut client waiting events later) →
-    Phase one new (PartsWithAll client waiting) → Phase old new (λ marks events later. HasLeft client events later)
+    Phase one new (GivesUpAll client waiting) → Phase old new (λ marks events later. HasLeft client events later)
 has_left client waiting old one new p q =
-    phase_then old one new (λ marks events later. IsShut client waiting events later) (PartsWithAll client waiting) (λ marks events later.
+    phase_then old one new (λ marks events later. IsShut client waiting events later) (GivesUpAll client waiting) (λ marks events later.
     HasLeft client events later) p q (λ marks midway later first more a b.
     let x = b a.joined a.shut a.waits in
     record { is_exit = rest_exit client waiting first more a.are x.0; has_exited = x.1 })

@@ -65,8 +65,8 @@ pub record IsRest (client waiting : ℕ) (events : List Entry) : Type 0 where
   pub dropped : All (IsDrop client) drops
 
 -- a client that was shut, and for which this many parcels waited, gave up all that it had
-abbrev pub PartsWithAll : ℕ → ℕ → Timeline → List Entry → Timeline → Type 0
-PartsWithAll client waiting marks events later =
+abbrev pub GivesUpAll : ℕ → ℕ → Timeline → List Entry → Timeline → Type 0
+GivesUpAll client waiting marks events later =
     has_joined marks client ≡ true → is_shut marks client ≡ true → length (parcels marks client) ≡ waiting →
     IsRest client waiting events × HasExited (readings later) client
 

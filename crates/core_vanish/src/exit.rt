@@ -8,7 +8,7 @@ ghost use Rattle.sm_names.specs.Reading.{readings};
 ghost use Rattle.core_state.specs.Kinds.{takes_no_memory};
 ghost use Rattle.core_state.specs.Reads.{readings_of};
 ghost use Rattle.core_vanish.specs.declared.exit.VanishFault.{VanishFault};
-ghost use Rattle.core_vanish.specs.Events.{Collecting, Gathered, IsShut, PartsWithAll, Leaving, Lets, Whatever};
+ghost use Rattle.core_vanish.specs.Events.{Collecting, Gathered, GivesUpAll, IsShut, Leaving, Lets, Whatever};
 ghost use Rattle.core_vanish.specs.Exits.{IsClose, IsDrop, holds_end};
 ghost use Rattle.core_vanish.specs.Vanishing.{AdvancesBy, Exits, IsBegun, ExitStops};
 ghost use Rattle.core_vanish.specs.Phases.{HasAmong, HasLeft, HoldsAmong, IsUnshut, Phase, part_fault, waiting_told};
@@ -194,7 +194,7 @@ fn drop_all(core: &mut Core, client: ClientId) -> Result<(), StepFault>
 
 // Gives up all that the client has, once it was shut and this many parcels waited for it.
 fn let_go(core: &mut Core, client: ClientId, waiting: u64) -> Result<(), StepFault>
-    ensures ok { OnOk result (Phase core.old core.new (PartsWithAll client waiting)) }
+    ensures ok { OnOk result (Phase core.old core.new (GivesUpAll client waiting)) }
     ensures err { OnErr result (Phase core.old core.new (Leaving client waiting)) }
     ensures gathered { IfErr result (λ fault. fault ≡ StepFault.NoMemory →
         Phase core.old core.new (Gathered client waiting)) }

@@ -53,13 +53,13 @@ pub(crate) fn look(core: &Core, client: ClientId, call: &Call) -> Result<Option<
         (is_doomed_in core.now.holds b.copied.id b.copied.nodes.items b.copied.buffers) b.doomed)) }
 {
     match concerned(core, client, call) {
-        Some(id) => look_at(core, id),
+        Some(id) => look_if_kept(core, id),
         None => Ok(None),
     }
 }
 
 // The collection as it stands, if it is kept.
-fn look_at(core: &Core, id: CollectionId) -> Result<Option<Before>, NoMemory>
+fn look_if_kept(core: &Core, id: CollectionId) -> Result<Option<Before>, NoMemory>
     ensures copied { IfOk result (λ before. IsSnapshot core.now (Some id) before) }
     ensures doomed { IfOk result (λ before. IfSome before (λ b. IsSetOf
         (is_doomed_in core.now.holds b.copied.id b.copied.nodes.items b.copied.buffers) b.doomed)) }

@@ -16,8 +16,8 @@ returns-in-Err-room_for-clause-own g c =
     broken_own c.args.client c.shut.new.self (held_in c.args.held) (held_in c.room_for.new.held) c.requires
     (returns-in-Err-room_for-clause-fault g c)
 
-pub part_if-parted-requires-clause-owner : goal.part_if-parted-requires-clause-owner
-part_if-parted-requires-clause-owner g c =
+pub give_up_if-parted-requires-clause-owner : goal.give_up_if-parted-requires-clause-owner
+give_up_if-parted-requires-clause-owner g c =
     let ends = map object_of c.collect_all-collected.new.ends.items in
     let handles = map object_of c.collect_all-collected.new.handles.items in
     let made = c.collect_all-collected.ensures.made in
@@ -30,8 +30,8 @@ part_if-parted-requires-clause-owner g c =
     subst (λ n. All (λ t. owner_of t ≡ n) (top_first c.stack_all-stack.result.items)) now
     (subst (All (λ t. owner_of t ≡ c.shut.new.self.id)) (sym is) all)
 
-pub part_if-parted-requires-clause-room : goal.part_if-parted-requires-clause-room
-part_if-parted-requires-clause-room g c =
+pub give_up_if-parted-requires-clause-room : goal.give_up_if-parted-requires-clause-room
+give_up_if-parted-requires-clause-room g c =
     let ends = map object_of c.collect_all-collected.new.ends.items in
     let handles = map object_of c.collect_all-collected.new.handles.items in
     let made = c.collect_all-collected.ensures.made in
@@ -49,11 +49,11 @@ returns-in-Ok-parted-clause-gone g c =
     let far = c.collect_all-collected.new.client in
     let collects = subst (λ n. CollectsFor (is_ok c.collect_all-collected.result) n c.shut.new.self far ends handles) c.parcels_told.ensures
     c.collect_all-collected.ensures.made in
-    let none : length c.part_if-parted.new.stack.items ≡ 0 = omega (arith, c.in-Ok-parted.ensures.all.0, c.part_if-parted.new.stack.ok.0) in
-    let over = gone c.args.client c.shut.new.self far c.part_if-parted.new.client c.in-Ok.reply (is_ok c.collect_all-collected.result) ends
+    let none : length c.give_up_if-parted.new.stack.items ≡ 0 = omega (arith, c.in-Ok-parted.ensures.all.0, c.give_up_if-parted.new.stack.ok.0) in
+    let over = gone c.args.client c.shut.new.self far c.give_up_if-parted.new.client c.in-Ok.reply (is_ok c.collect_all-collected.result) ends
     handles (top_first c.stack_all-stack.result.items)
-    (top_first c.part_if-parted.new.stack.items) (held_in c.args.held) (held_in c.part_if-parted.new.kept) c.in-Ok.ensures collects
-    c.part_if-parted.ensures.parts is (top_none c.part_if-parted.new.stack.items none)
+    (top_first c.give_up_if-parted.new.stack.items) (held_in c.args.held) (held_in c.give_up_if-parted.new.kept) c.in-Ok.ensures collects
+    c.give_up_if-parted.ensures.parts is (top_none c.give_up_if-parted.new.stack.items none)
     c.in-Ok-parted.ensures.all.1 in
     subst (λ w. IsGone c.args.client w.client (held_in c.args.held) w.refused) (sym c.new.ensures) over
 
@@ -65,12 +65,12 @@ returns-in-Err-parted-clause-fault g c =
     let far = c.collect_all-collected.new.client in
     let collects = subst (λ n. CollectsFor (is_ok c.collect_all-collected.result) n c.shut.new.self far ends handles) c.parcels_told.ensures
     c.collect_all-collected.ensures.made in
-    inr (goes c.args.client c.shut.new.self far c.part_if-parted.new.client c.in-Ok.reply (is_ok c.collect_all-collected.result) ends
+    inr (goes c.args.client c.shut.new.self far c.give_up_if-parted.new.client c.in-Ok.reply (is_ok c.collect_all-collected.result) ends
     handles (top_first c.stack_all-stack.result.items)
-    (top_first c.part_if-parted.new.stack.items) (held_in c.args.held) (held_in c.part_if-parted.new.kept) (held_in c.put_all.new.held)
-    c.in-Ok.ensures collects c.part_if-parted.ensures.parts is c.put_all.ensures)
+    (top_first c.give_up_if-parted.new.stack.items) (held_in c.args.held) (held_in c.give_up_if-parted.new.kept) (held_in c.put_all.new.held)
+    c.in-Ok.ensures collects c.give_up_if-parted.ensures.parts is c.put_all.ensures)
 
 pub returns-in-Err-parted-clause-own : goal.returns-in-Err-parted-clause-own
 returns-in-Err-parted-clause-own g c =
-    broken_own c.args.client c.part_if-parted.new.client (held_in c.args.held) (held_in c.put_all.new.held) c.requires
+    broken_own c.args.client c.give_up_if-parted.new.client (held_in c.args.held) (held_in c.put_all.new.held) c.requires
     (returns-in-Err-parted-clause-fault g c)

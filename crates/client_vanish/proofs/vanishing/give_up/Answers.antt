@@ -2,7 +2,7 @@ use Rattle.std.proofs.Common.{ap}
 use Rattle.sm_names.specs.declared.messages.Call.{Call}
 use Rattle.client_vanish.specs.Vanishings.{vanishing_call, object_of}
 use Rattle.client_vanish.proofs.VanishingLaws.{parted_done}
-use Rattle.client_vanish.proofs.vanishing.part_with.Goals as goal
+use Rattle.client_vanish.proofs.vanishing.give_up.Goals as goal
 
 pub returns-in-Ok : goal.returns-in-Ok
 returns-in-Ok g c =

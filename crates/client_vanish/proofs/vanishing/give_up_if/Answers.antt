@@ -2,7 +2,7 @@ use Rattle.std.proofs.Common.{inl, refl}
 use Rattle.client_vanish.specs.Vanishings.{held_in}
 use Rattle.client_vanish.specs.Stacks.{top_first}
 use Rattle.client_vanish.proofs.VanishingLaws.{parts_none}
-use Rattle.client_vanish.proofs.vanishing.part_if.Goals as goal
+use Rattle.client_vanish.proofs.vanishing.give_up_if.Goals as goal
 
 pub returns-in-Err-clause-parts : goal.returns-in-Err-clause-parts
 returns-in-Err-clause-parts g c = record {

@@ -1,13 +1,13 @@
 use Rattle.std.proofs.Common.{◌≡◌, vec_len}
 use Rattle.std.specs.List.{All}
 use Rattle.client_vanish.specs.Vanishings.{held_in, owner_of}
-use Rattle.client_vanish.specs.Stacks.{HasRoomFor, PartsWithSome, top_first}
-use Rattle.client_vanish.proofs.vanishing.part_with_all.Given as goal
+use Rattle.client_vanish.specs.Stacks.{GivesUpSome, HasRoomFor, top_first}
+use Rattle.client_vanish.proofs.vanishing.give_up_all.Given as goal
 
 -- it gave up the first ones
 abbrev pub invariant-loop-object : goal.invariant-loop-object
 invariant-loop-object g l = record {
-  parts : PartsWithSome l.initial.client l.client (top_first l.initial.stack.items) (top_first l.stack.items) (held_in l.kept);
+  parts : GivesUpSome l.initial.client l.client (top_first l.initial.stack.items) (top_first l.stack.items) (held_in l.kept);
   owner : All (λ t. owner_of t ≡ l.client.id) (top_first l.stack.items);
   room : HasRoomFor l.kept (top_first l.stack.items);
 }
