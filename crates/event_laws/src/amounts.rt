@@ -7,7 +7,7 @@ use sm_names::{Strength, has_buffer};
 // How many bits the set of a Take has, one for each buffer.
 pub(crate) const SET_BITS: u8 = 64;
 
-/// One, where the strengths are the same, and else none. Takes O(1) time.
+/// One, where the strengths are the same, and else none. Costs O(1).
 pub fn count_one(strength: Strength, other: Strength) -> u64
     ensures { result ≡ count_if strength other 1 }
 {

@@ -18,8 +18,8 @@ use std::alloc::Global;
 /// whose link does not block, and every child of each node that it takes.
 ///
 /// The first key is the highest node, and then come the children of each key in turn, by birth.
-/// Takes O(1) time for each visit, and memory for the keys alone. `NoMemory` comes only
-/// where the list of keys was refused room. The table stays as it is.
+/// Takes memory for the keys alone. `NoMemory` comes only where the list of keys was refused room.
+/// The table stays as it is. Costs O(1) for each visit.
 pub fn fall<N: Link>(alloc: Global, table: &NodeTable<N>, origin: NodeKey) -> Result<Fall, NoMemory>
     requires { IsSome (row_at table.now origin) }
 
@@ -107,10 +107,10 @@ fn way_up<N: Link>(table: &NodeTable<N>, key: NodeKey) -> Option<NodeKey>
 /// that it takes and that doesn't stop it. They are written into this list, which is emptied first:
 /// the top first, and then such children of each key in turn, by birth.
 ///
-/// Takes O(1) time for each key, and none for what lies below a node that stops it. Where
-/// the list has room for as many keys as there are nodes, it takes no memory and never fails. It
-/// never loses room. On `NoMemory`, which comes only where it was refused more, it is empty. The
-/// table stays as it is.
+/// Where the list has room for as many keys as there are nodes, it takes no memory and never fails.
+/// It never loses room. On `NoMemory`, which comes only where it was refused more, it is empty. The
+/// table stays as it is. Costs O(1) for each key, and nothing for what lies below a node that stops
+/// it.
 pub fn walk_within<N, B: WalkBound<N>>(
     table: &NodeTable<N>,
     top: NodeKey,
