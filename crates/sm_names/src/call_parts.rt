@@ -123,7 +123,7 @@ pub enum Product {
 }
 
 impl Product {
-    /// Whether it is an end, or may be one. Takes O(1) time, as does `is_tracker`.
+    /// Whether it is an end, or may be one. Costs O(1), as does `is_tracker`.
     pub fn brings_end(self) -> bool
         ensures { result ≡ is_end self }
     {

@@ -117,7 +117,7 @@ fn on_handle(kind: CallKind, buffer: BufferName, strength: Strength) -> CallPart
     on_buffer(kind, buffer, Argument::Strength(strength))
 }
 
-/// The call, taken apart. Takes O(1) time.
+/// The call, taken apart. Costs O(1).
 pub fn parts_of(call: Call) -> CallParts
     ensures { result ≡ parts_made call }
 {
@@ -162,7 +162,7 @@ pub fn parts_of(call: Call) -> CallParts
     }
 }
 
-/// The node that the object is, if it is one. Takes O(1) time, as do those below.
+/// The node that the object is, if it is one. Costs O(1), as do those below.
 pub fn object_key(object: Object<NodeKey, BufferName>) -> Option<NodeKey>
     ensures { result ≡ key_in object }
 {
@@ -260,8 +260,8 @@ fn buffer_call(kind: CallKind, buffer: BufferName, argument: Argument<ClientId>)
     }
 }
 
-/// The call of these parts, or `None` if the object or the argument does not fit the kind. Takes O(1)
-/// time.
+/// The call of these parts, or `None` if the object or the argument does not fit the kind. Costs
+/// O(1).
 pub fn call_of(parts: CallParts) -> Option<Call>
     ensures { result ≡ made_of parts }
 {
@@ -327,7 +327,7 @@ fn tracker(on: Target, says: ArgumentForm) -> CallRow
     row(on, says, Product::Tracker, Spends::Never, Answer::Tracker)
 }
 
-/// The row of the kind. Takes O(1) time.
+/// The row of the kind. Costs O(1).
 pub fn row_of(kind: CallKind) -> CallRow
     ensures { result ≡ row_at kind }
 {
@@ -364,7 +364,7 @@ pub fn row_of(kind: CallKind) -> CallRow
     }
 }
 
-/// The word for calls of the kind in a script. Takes O(1) time.
+/// The word for calls of the kind in a script. Costs O(1).
 pub fn word_of(kind: CallKind) -> &'static str
     ensures { result.now ≡ word_spelled kind }
 {
@@ -402,7 +402,7 @@ fn kind_in(kinds: &[CallKind], number: usize) -> Option<CallKind>
     kinds.get(number).copied()
 }
 
-/// The kind of this number, or `None` if there is none. Takes O(1) time.
+/// The kind of this number, or `None` if there is none. Costs O(1).
 pub fn kind_at(number: u32) -> Option<CallKind>
     ensures { result ≡ kind_numbered number }
 {

@@ -39,7 +39,7 @@ pub enum Misuse {
 }
 
 impl Misuse {
-    /// The misuse's number, from 1. Takes O(1) time.
+    /// The misuse's number, from 1. Costs O(1).
     pub fn number(self) -> u8
         ensures { result ≡ misuse_number self }
     {
@@ -52,7 +52,7 @@ impl Misuse {
         }
     }
 
-    /// The misuse's name, as it is spelled here. Takes O(1) time.
+    /// The misuse's name, as it is spelled here. Costs O(1).
     pub fn name(self) -> &'static str
         ensures { result.now ≡ misuse_name self }
     {
@@ -119,8 +119,8 @@ pub enum Refusal {
 }
 
 impl Refusal {
-    /// The refusal's number, from 1. Takes O(1) time. A call is checked in another order, which
-    /// `answers_first` defines: NoSuchHandle precedes the limits.
+    /// The refusal's number, from 1. A call is checked in another order, which `answers_first`
+    /// defines: NoSuchHandle precedes the limits. Costs O(1).
     pub fn number(self) -> u8
         ensures { result ≡ refusal_number self }
     {
@@ -138,7 +138,7 @@ impl Refusal {
         }
     }
 
-    /// The refusal's name, as it is spelled here. Takes O(1) time.
+    /// The refusal's name, as it is spelled here. Costs O(1).
     pub fn name(self) -> &'static str
         ensures { result.now ≡ refusal_name self }
     {

@@ -4,8 +4,7 @@ ghost use Rattle.std.specs.Int.{bit_at};
 
 use crate::rules::MAX_BUFFERS;
 
-/// Whether the set has the buffer with this index: bit i stands for buffer i. Takes O(1)
-/// time.
+/// Whether the set has the buffer with this index: bit i stands for buffer i. Costs O(1).
 pub fn has_buffer(set: u64, index: u8) -> bool
     requires { index < MAX_BUFFERS }
     ensures { result ≡ (bit_at set index == 1) }
