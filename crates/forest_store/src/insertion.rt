@@ -8,7 +8,7 @@ ghost use Rattle.forest_store.specs.declared.entry.Entry.{Entry as EntryValue};
 ghost use Rattle.forest_store.specs.declared.node.Node.{Node as NodeValue};
 ghost use Rattle.forest_store.specs.Calm.{put_in};
 ghost use Rattle.forest_store.specs.Counts.{HaveUnits};
-ghost use Rattle.forest_store.specs.Insertion.{IsEntryWith, IsEntryWithout, KeepsNotes, birth_change};
+ghost use Rattle.forest_store.specs.Insertion.{IsEntryWith, IsEntryWithout, KeepsNotes, birth_change, born_at};
 ghost use Rattle.forest_store.specs.CollectionRows.{AreRising, Bears, born, named, row_of, rows_of};
 ghost use Rattle.forest_store.specs.Settling.{MayChange, no_key};
 ghost use Rattle.forest_store.specs.Still.{no_row, row_with};
@@ -19,7 +19,7 @@ use crate::entry::{Entry, place_of};
 use crate::key_list::KeyList;
 use crate::node::Node;
 use crate::store::{Store, put_entry};
-use crate::unit_counts::{bound, count_at, no_unit, put_unit};
+use crate::unit_counts::{bound, count_born, no_unit, put_unit};
 use crate::unkept::reserve_notes;
 use node_table::NodeTable;
 use sm_names::{ClientId, CollectionId, NoMemory, NodeKey};
@@ -196,31 +196,26 @@ fn insert_root(
     Ok(key)
 }
 
-/// The birth of a node, where nothing else changes with it. `NoMemory` leaves the table as it was,
-/// and of the entries all but their room. Costs O(1) and a binary search, growth spread
+/// The birth of the drafted node, where nothing else changes with it. `NoMemory` leaves the table as it
+/// was, and of the entries all but their room. Costs O(1) and a binary search, growth spread
 /// over the births, and for a root the shift of the entries behind it.
 fn insert_uncounted(
     store: &mut Store,
     id: CollectionId,
     birth: Birth,
+    draft: &Node,
     spare: &mut KeyList,
 ) -> Result<NodeKey, NoMemory>
     requires forest { IsResting store.old }
     requires change { MayChange (forest_in store.old) id (birth_change birth) }
+    requires draft { draft.now ≡ born_at store.old.nodes.table id birth no_key }
     ensures ok { IfOk result (InsertedIn store.old store.new id birth) }
     ensures err { OnErr result (RefusedIn store.old store.new) }
     ensures units { store.new.nodes.units.items ≡ store.old.nodes.units.items }
 {
-    let draft = drafted(&store.nodes.table, id, birth);
     match place_of(&store.entries, id) {
-        Some(at) => insert_child(&mut store.nodes.table, &mut store.entries[at], &draft),
-        None => insert_root(
-            &mut store.nodes.table,
-            &mut store.entries,
-            id,
-            &draft,
-            spare,
-        ),
+        Some(at) => insert_child(&mut store.nodes.table, &mut store.entries[at], draft),
+        None => insert_root(&mut store.nodes.table, &mut store.entries, id, draft, spare),
     }
 }
 
@@ -243,9 +238,11 @@ pub fn insert_counted(
     ensures units { HaveUnits store.new.nodes.units.items store.new.nodes.table
         store.new.entries.items }
 {
-    let key = insert_uncounted(store, id, birth, spare)?;
+    let mut draft = drafted(&store.nodes.table, id, birth);
+    let key = insert_uncounted(store, id, birth, &draft, spare)?;
+    name(&mut draft, key);
     bound(&store.nodes.table);
     put_unit(&mut store.nodes.units, key.slot as usize, no_unit());
-    count_at(&mut store.nodes.units, &store.nodes.table, key);
+    count_born(&mut store.nodes.units, &store.nodes.table, &draft);
     Ok(key)
 }

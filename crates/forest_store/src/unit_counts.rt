@@ -1,11 +1,12 @@
 //! What is counted of units: how many of their nodes are live, for how many they wait, and how many
 //! units hang right below them.
-ghost use Rattle.std.specs.Prelude.{◌≡◌, ◌<◌, ◌≤◌, [], ◌∷◌, set, length, IsSome, OnOk};
-ghost use Rattle.node_table.specs.Table.{row_at, table_len};
+ghost use Rattle.std.specs.Prelude.{◌≡◌, ◌<◌, ◌≤◌, [], ◌∷◌, set, true, length, Some, OnOk};
+ghost use Rattle.node_table.specs.Table.{node_at, table_len};
+ghost use Rattle.forest_store.specs.declared.node.Node.{Node as NodeValue};
 ghost use Rattle.forest_store.specs.Counts.{Extends, decrement_if, head_above, head_of, hung, is_held_by, is_unready, no_unit, raised, reckoned, tallied, unit_at, with_below, with_node};
 ghost use Rattle.forest_store.specs.CollectionRows.{nodes_with};
+ghost use Rattle.forest_store.specs.Questions.{is_live_node};
 
-use crate::lookup::is_live;
 use crate::node::Node;
 use node_table::NodeTable;
 use sm_names::{NoMemory, NodeKey};
@@ -102,15 +103,17 @@ fn raised(count: usize, is: bool) -> usize
     }
 }
 
-/// Counts the node for its unit.
-fn count(units: &mut Vec<Unit>, node: &Node)
-    ensures { units.new.items ≡ with_node node.now units.old.items }
+/// Counts one more node for the unit with this head, which is live and not ready.
+#[inline(always)]
+fn count_unready(units: &mut Vec<Unit>, head: NodeKey)
+    ensures { (n : NodeValue) → n.head ≡ head → is_live_node n ≡ true → is_unready n ≡ true →
+        units.new.items ≡ with_node n units.old.items }
 {
-    let slot = node.head.slot as usize;
+    let slot = head.slot as usize;
     let unit = unit_in(units, slot);
     let more = Unit {
-        live: raised(unit.live, is_live(node)),
-        unready: raised(unit.unready, is_unready(node)),
+        live: raised(unit.live, true),
+        unready: raised(unit.unready, true),
         below: unit.below,
     };
     put_unit(units, slot, more);
@@ -145,16 +148,16 @@ fn count_below(units: &mut Vec<Unit>, head: Option<NodeKey>)
     }
 }
 
-/// Counts the node with this key, for its unit and for the one right above that.
-pub(crate) fn count_at(units: &mut Vec<Unit>, table: &NodeTable<Node>, key: NodeKey)
-    requires { IsSome (row_at table.now key) }
+/// Counts a node that was just born, for its unit and for the one right above that.
+#[inline(always)]
+pub(crate) fn count_born(units: &mut Vec<Unit>, table: &NodeTable<Node>, node: &Node)
+    requires live { is_live_node node.now ≡ true }
+    requires unready { is_unready node.now ≡ true }
+    requires there { node_at table.now node.now.key ≡ Some node.now }
     ensures { units.new.items
-        ≡ reckoned table.now (nodes_with table.now (key ∷ [])) units.old.items }
+        ≡ reckoned table.now (nodes_with table.now (node.now.key ∷ [])) units.old.items }
 {
-    let node = table.kept(key);
-    if !node.gone {
-        count(units, node);
-    }
+    count_unready(units, node.head);
     count_below(units, head_above(table, node));
 }
 

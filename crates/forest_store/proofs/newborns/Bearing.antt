@@ -3,8 +3,8 @@ use Rattle.forest_store.proofs.Common.{◌≡◌, ℕ, ◌+◌, Bool, true, fals
 use Rattle.forest_store.proofs.Common.{refl, sym, ap, ◌∙◌, inl, inr, arith, option_map_or, lt-ltb, NodeKey, same_key, Table}
 use Rattle.forest_store.proofs.Common.{node_at, parent_at, Node, Result, IfOk, ne_eqb, cases_eq, get_or_past, Row, row_at}
 use Rattle.forest_store.proofs.Common.{parent_in, was_given, Writes, table_with_node, key_cases, same_key-equal}
-use Rattle.forest_store.proofs.Common.{same_key-apart, Bears, born, named, le-leb, Births, with_child, IsSome, is_some}
-use Rattle.forest_store.proofs.tables.Storing.{row_there}
+use Rattle.forest_store.proofs.Common.{same_key-apart, same_key-refl, is_live_node, is_unready, Bears, born, named, le-leb}
+use Rattle.forest_store.proofs.Common.{Births, with_child}
 use Rattle.forest_store.proofs.tables.Writing.{look-written, parents-written}
 use Rattle.forest_store.proofs.tables.TakingOut.{still_node, still_parent}
 
@@ -82,14 +82,37 @@ pub born_weak : (above : Option Node) (attached : Bool) (id event client : ℕ) 
 born_weak None attached id event client key = refl
 born_weak (Some above) attached id event client key = refl
 
+-- a node that is born is live
+pub born_live : (above : Option Node) (attached : Bool) (id event client : ℕ) (key : NodeKey) →
+    is_live_node (born above attached id event client key) ≡ true
+born_live None attached id event client key = refl
+born_live (Some above) attached id event client key = refl
+
+-- and its unit waits for it
+pub born_unready : (above : Option Node) (attached : Bool) (id event client : ℕ) (key : NodeKey) →
+    is_unready (born above attached id event client key) ≡ true
+born_unready None attached id event client key = refl
+born_unready (Some above) attached id event client key = refl
+
+-- with its key, the draft is the node that is born
+born_named : (above : Option Node) (attached : Bool) (id event client : ℕ) (any key : NodeKey) →
+    named key (born above attached id event client any) ≡ born above attached id event client key
+born_named None attached id event client any key = refl
+born_named (Some above) true id event client any key = refl
+born_named (Some above) false id event client any key = refl
+
+-- so the table has it
+pub born_found : {t now : Table Node} (above : Option Node) (attached : Bool) (id event client : ℕ) (any key : NodeKey) {draft : Node} →
+    draft ≡ born above attached id event client any → Bears t now (born above attached id event client key) →
+    node_at now key ≡ Some (named key draft)
+born_found above attached id event client any key is bears =
+    bears.look key
+    ∙ rw (ap (λ (k : NodeKey). same_key k key) (born_key above attached id event client key) ∙ same_key-refl key)
+    (ap Some (sym (ap (named key) is ∙ born_named above attached id event client any key)))
+
 -- so it is born
 pub named_bears : {E : Type 0} (t now : Table Node) (above : Option Node) (attached : Bool) (id event client : ℕ) (any : NodeKey)
     (draft : Node) → draft ≡ born above attached id event client any → (result : Result NodeKey E) →
     IfOk result (λ key. Bears t now (named key draft)) →
     IfOk result (λ key. Bears t now (born above attached id event client key))
 named_bears t now above attached id event client any draft is result bears = grind arith
-
--- a node that was born has a row
-pub born_row : {old new : Table Node} {node : Node} {key : NodeKey} → Bears old new node → node.key ≡ key → IsSome (row_at new key)
-born_row {old} {new} {node} {key} bears is =
-    row_there new key (ap is_some (bears.look key) ∙ rw (same_key-equal node.key key is) refl)

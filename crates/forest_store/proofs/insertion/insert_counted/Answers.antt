@@ -1,13 +1,26 @@
 -- The node is born, and counted for its unit.
 use Rattle.forest_store.proofs.Common.{ℕ, ◌<◌, length, ap, sym, subst, ◌∙◌, NodeKey, rows_of}
 use Rattle.forest_store.proofs.newborns.Units.{newborn_units}
-use Rattle.forest_store.proofs.newborns.Newborn.{above_is}
-use Rattle.forest_store.proofs.newborns.Bearing.{born_key, born_row}
+use Rattle.forest_store.proofs.newborns.Newborn.{above_is, above_there}
+use Rattle.forest_store.proofs.newborns.Bearing.{born_found, born_key, born_live, born_unready}
 use Rattle.forest_store.proofs.insertion.insert_counted.Goals as goal
 
--- the node that was born is counted
-pub count_at-requires : goal.count_at-requires
-count_at-requires c = born_row c.in_ok-key.ensures.ok.bears (born_key _ _ _ _ _ _)
+-- a birth is below a node that is kept
+pub drafted-draft-requires : goal.drafted-draft-requires
+drafted-draft-requires c = above_there _ _ _ _ _ (above_is _ _ c.requires.forest.kept _ _ _ _ _ c.requires.change)
+
+-- the node that was born is live
+pub count_born-requires-clause-live : goal.count_born-requires-clause-live
+count_born-requires-clause-live c = rw (c.name.ensures, c.drafted-draft.ensures) (born_live _ _ _ _ _ _)
+
+-- its unit waits for it
+pub count_born-requires-clause-unready : goal.count_born-requires-clause-unready
+count_born-requires-clause-unready c = rw (c.name.ensures, c.drafted-draft.ensures) (born_unready _ _ _ _ _ _)
+
+-- the table has it
+pub count_born-requires-clause-there : goal.count_born-requires-clause-there
+count_born-requires-clause-there c =
+    rw c.name.ensures (born_found _ _ _ _ _ _ _ c.drafted-draft.ensures c.in_ok-key.ensures.ok.bears)
 
 pub returns-clause-units : goal.returns-clause-units
 returns-clause-units c =
@@ -15,7 +28,7 @@ returns-clause-units c =
     let key_is = born_key _ _ _ _ _ _ in
     let slot_is = ap (λ (k : NodeKey). k.slot) (sym key_is) ∙ c.in_ok-key.ensures.ok.bears.gives.slot in
     let inside = subst (λ (slot : ℕ). slot < length c.args.store.now.nodes.units.items) (sym slot_is) c.requires.reached in
-    rw (c.count_at.ensures, c.put_unit.ensures, c.no_unit.ensures, c.insert_uncounted.ensures.units)
+    rw (c.count_born.ensures, c.name.ensures, c.put_unit.ensures, c.no_unit.ensures, c.insert_uncounted.ensures.units)
     (newborn_units _ _ _ c.requires.forest.kept _ _ _ _ _ _ at c.in_ok-key.key c.in_ok-key.ensures.ok.bears
     (rows_of c.insert_uncounted.new.store.entries.items) c.in_ok-key.ensures.ok.entries c.args.store.now.nodes.units.items
     c.requires.forest.units inside c.bound.ensures)
