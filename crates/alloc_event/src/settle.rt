@@ -1,9 +1,11 @@
 //! Changes to a collection that is there, the births of nodes, and handles that are dropped.
-ghost use Rattle.std.specs.Prelude.{◌≡◌, ◌≤◌, ◌+◌, false, true, is_ok, min, vec_capacity, IfOk, OnErr};
+ghost use Rattle.std.specs.Prelude.{◌≡◌, ◌≤◌, ◌+◌, Some, false, true, get_or, is_ok, min, vec_capacity, IfOk, OnErr};
 ghost use Rattle.std.specs.Option.{option_map_or};
 ghost use Rattle.buffer_holds.specs.Counts.{total};
 ghost use Rattle.node_table.specs.Table.{table_len};
 ghost use Rattle.forest_store.specs.declared.change.Change.{Change as Changed};
+ghost use Rattle.forest_store.specs.declared.entry.Entry.{Entry as EntryValue};
+ghost use Rattle.forest_store.specs.CollectionRows.{place_in};
 ghost use Rattle.forest_store.specs.Dropped.{are_others_out};
 ghost use Rattle.forest_store.specs.Forest.{IsPoolOf, collection_at};
 ghost use Rattle.forest_store.specs.Insertion.{birth_change};
@@ -14,7 +16,7 @@ ghost use Rattle.forest_steps.specs.StoreSteps.{BornIn, OutcomeOf, ReadyFor, Unb
 use crate::forced_steps::{settle_effect, settle_loss, settle_nothing};
 use buffer_holds::Holds;
 use buffer_pool::Pool;
-use forest_steps::dropped::drop_in_place;
+use forest_steps::dropped::drop_without_strong;
 use forest_steps::event_end::{finish_event, is_finished};
 use forest_steps::scratch::Scratch;
 use forest_store::change::Change;
@@ -92,8 +94,37 @@ pub(crate) fn settle_birth(
     Ok(key)
 }
 
-/// Makes what a dropped handle of the buffer forces. `NoMemory` leaves the table, the entries and the
-/// pool as they were.
+/// Makes what a dropped handle of the buffer forces, where its collection stands at this place and no
+/// strong node of it is live. `NoMemory` leaves the table, the entries and the pool as they were.
+#[inline(always)]
+fn settle_without_strong(
+    store: &mut Store,
+    at: usize,
+    pool: &mut Pool,
+    holds: &Holds,
+    buffer: BufferName,
+    room: &mut Scratch,
+) -> Result<(), NoMemory>
+    requires forest { IsResting store.old }
+    requires place { place_in buffer.collection store.old.entries.items ≡ Some at }
+    requires strong { (e : EntryValue) → e ≡ get_or store.old.entries.items at e → e.strong ≡ 0 }
+    requires others { option_map_or (are_others_out (total holds.now) buffer)
+        (collection_at (forest_in store.old) buffer.collection) false ≡ true }
+    requires pool { IsPoolOf pool.old (forest_in store.old) }
+    ensures { OutcomeOf (is_ok result) (total holds.now) pool.old pool.new store.old store.new
+        buffer.collection Changed.Nothing }
+{
+    let nodes = &store.nodes.table;
+    if drop_without_strong(nodes, &mut store.entries, at, pool, holds, buffer) {
+        return Ok(());
+    }
+    settle_nothing(store, at, pool, holds, room)
+}
+
+/// Makes what a dropped handle of the buffer forces: nothing, where a strong node of its collection is
+/// live. `NoMemory` leaves the table, the entries and the pool as they were. Looks the collection up once,
+/// by a binary search.
+#[inline(always)]
 pub(crate) fn settle_dropped(
     store: &mut Store,
     pool: &mut Pool,
@@ -108,15 +139,12 @@ pub(crate) fn settle_dropped(
     ensures { OutcomeOf (is_ok result) (total holds.now) pool.old pool.new store.old store.new
         buffer.collection Changed.Nothing }
 {
-    if drop_in_place(&store.nodes.table, &mut store.entries, pool, holds, buffer) {
+    let Some(at) = place_of(&store.entries, buffer.collection) else {
+        unreachable!();
+    };
+    let entry = &store.entries[at];
+    if entry.strong > 0 {
         return Ok(());
     }
-    settle_change(
-        store,
-        pool,
-        holds,
-        buffer.collection,
-        &Change::Nothing,
-        room,
-    )
+    settle_without_strong(store, at, pool, holds, buffer, room)
 }

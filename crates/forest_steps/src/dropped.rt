@@ -1,6 +1,6 @@
 //! A handle that is dropped: no other buffer can be home by that, and no step is forced by it but
 //! that the buffers are abandoned.
-ghost use Rattle.std.specs.Prelude.{◌≡◌, ◌&&◌, ◌||◌, ◌++◌, ℕ, List, Some, get_or, nat_lt, not, true, false};
+ghost use Rattle.std.specs.Prelude.{◌≡◌, ◌&&◌, ◌++◌, List, Some, get_or, nat_lt, not, true, false};
 ghost use Rattle.std.specs.List.{filter, list_any};
 ghost use Rattle.std.specs.Option.{option_map_or};
 ghost use Rattle.sm_names.specs.declared.keys.Interval.{Interval};
@@ -22,7 +22,7 @@ use crate::placement::assert_disjoint;
 use crate::returns::look_at;
 use buffer_holds::Holds;
 use buffer_pool::Pool;
-use forest_store::entry::{Entry, place_of};
+use forest_store::entry::Entry;
 use forest_store::node::Node;
 use node_table::NodeTable;
 use sm_names::{BufferName, Buffers, CollectionId, HeldBuffer, NodeKey, Strength};
@@ -85,39 +85,38 @@ fn free_buffer(held: &mut Vec<HeldBuffer>, pool: &mut Pool, holds: &Holds, buffe
     }
 }
 
-/// The buffer with this name gives its pages back, if it is home. No other one is home.
-fn free_if_home(
-    held: &mut Vec<HeldBuffer>,
-    pool: &mut Pool,
-    holds: &Holds,
-    buffer: BufferName,
-    strong_live: bool,
-)
+/// The buffer with this name gives its pages back, if it is home where no strong node is live. No other
+/// one is home.
+fn free_if_home(held: &mut Vec<HeldBuffer>, pool: &mut Pool, holds: &Holds, buffer: BufferName)
     requires pool { (others : List Interval)
         × (pool.old.held ≡ by_page (pages_held held.old.items ++ others)) }
-    requires others { are_rest_out (total holds.now) buffer strong_live held.old.items ≡ true }
-    ensures held { held.new.items ≡ filter (is_out (total holds.now) strong_live) held.old.items }
+    requires others { are_rest_out (total holds.now) buffer false held.old.items ≡ true }
+    ensures held { held.new.items ≡ filter (is_out (total holds.now) false) held.old.items }
     ensures pool { (others : List Interval) →
         pool.old.held ≡ by_page (pages_held held.old.items ++ others) →
         pool.new.held ≡ by_page (pages_held held.new.items ++ others) }
     ensures size { pool.new.size ≡ pool.old.size }
 {
-    if !strong_live && holds.home(buffer, strong_live) {
+    if holds.home(buffer, false) {
         free_buffer(held, pool, holds, buffer);
     }
 }
 
-/// What comes of a handle of the buffer that was dropped, if no step is forced by that: the buffer
-/// gives its pages back, if it is home. Answers whether no step is forced; else nothing changed. No step
-/// is forced where the collection is there, and a strong node of it is live, or its root is gone or has
-/// no buffers, or a strong handle is open on one of its buffers. Takes no memory.
-pub fn drop_in_place(
+/// What comes of a handle of the buffer that was dropped, where its collection stands at this place and
+/// no strong node of it is live, if no step is forced by that: the buffer gives its pages back, if it is
+/// home. Answers whether no step is forced; else nothing changed. No step is forced where the root is gone
+/// or has no buffers, or a strong handle is open on one of these. Takes no memory.
+#[inline(always)]
+pub fn drop_without_strong(
     table: &NodeTable<Node>,
     entries: &mut Vec<Entry>,
+    at: usize,
     pool: &mut Pool,
     holds: &Holds,
     buffer: BufferName,
 ) -> bool
+    requires place { place_in buffer.collection entries.old.items ≡ Some at }
+    requires strong { (e : EntryValue) → e ≡ get_or entries.old.items at e → e.strong ≡ 0 }
     requires kept { IsStored table.now (rows_of entries.old.items) }
     requires counted { AreCounted table.now entries.old.items }
     requires others { option_map_or (are_others_out (total holds.now) buffer)
@@ -128,20 +127,15 @@ pub fn drop_in_place(
         entries.old.items entries.new.items buffer.collection Changed.Nothing }
     ensures units { (us : List Counts) → HaveUnits us table.now entries.old.items →
         HaveUnits us table.now entries.new.items }
-    ensures made { (at : ℕ) (e : EntryValue) →
-        place_in buffer.collection entries.old.items ≡ Some at → e ≡ get_or entries.old.items at e →
-        (nat_lt 0 e.strong || not (has_given_root table.now e.keys.items
-        && not (is_held_strongly (total holds.now) e.id e.buffers))) ≡ true → result ≡ true }
+    ensures made { (e : EntryValue) → e ≡ get_or entries.old.items at e →
+        not (has_given_root table.now e.keys.items
+        && not (is_held_strongly (total holds.now) e.id e.buffers)) ≡ true → result ≡ true }
 {
-    let Some(at) = place_of(entries, buffer.collection) else {
-        return false;
-    };
-    let strong_live = entries[at].strong > 0;
-    if !strong_live && is_abandoned(table, &entries[at], holds) {
+    if is_abandoned(table, &entries[at], holds) {
         return false;
     }
     assert_disjoint(pool);
-    free_if_home(&mut entries[at].held, pool, holds, buffer, strong_live);
+    free_if_home(&mut entries[at].held, pool, holds, buffer);
     assert_disjoint(pool);
     true
 }

@@ -12,6 +12,7 @@ use Rattle.forest_steps.proofs.Common.{given_back, none_calm, forced_made, still
 use Rattle.forest_steps.proofs.Common.{start_of, rows_put, IsPlace, place_is, set_put, put-map, collection_is, row_found}
 use Rattle.forest_steps.proofs.Common.{and-false, same_buffer-true, filter-list_all, Rests, found_counted, strong_told, kept-put}
 use Rattle.forest_steps.proofs.Common.{list_all, is_filed, strong_count, ◌||◌, list_any, Member, is_strong, member_of}
+use Rattle.forest_steps.proofs.Common.{Change, Holdings, IsOutcomeIn, IsPoolOf, all_on, set-get_or}
 use Rattle.sm_names.specs.Members.{some_strong_live, is_live as lives}
 use Rattle.forest_store.proofs.quiescence.Resting.{root_first}
 use Rattle.forest_store.proofs.quiescence.Watched.{strong_lives}
@@ -245,3 +246,28 @@ module _ (handles : Handles) {t : Table Node} (es : List Entry) (id : ℕ) {at :
         pool_back _ t t _ _ ss kept.rising collections_are parted
         (of ∙ ap (λ x. sorted_by start_of (pages_in x ++ beside (forest_of t ss) old.id)) shown)
         ∙ ap (λ xs. sorted_by start_of (map (λ (h : HeldBuffer). h.pages) (all_held (forest_of t xs)))) (sym set_is)
+
+  -- where a strong node lives, no buffer is home and nothing is forced: the collection stays as it is
+  pub stays_strong : nat_lt 0 old.strong ≡ true → (pool : Holdings) → IsPoolOf pool (forest_of t (rows_of es)) →
+      IsOutcomeIn true handles pool pool t t es es id Change.Nothing
+  stays_strong lives pool of =
+      let as_was : IsReturned handles old old = record {
+        id = refl;
+        keys = refl;
+        buffers = refl;
+        held = sym (filter-list_all _ _ (all_on (is_out handles (nat_lt 0 old.strong)) old.held.items
+            (λ h on. ap not (strong_keeps _ _ _ lives))));
+      } in
+      record {
+        settled = λ made. record {
+          finishes = subst (λ xs. Finishes pool.size handles t (rows_of es) t (rows_of xs) (collection_or_new (forest_of t (rows_of es)) id))
+              (ap (set es at) is ∙ set-get_or es at old) (finishes_so as_was (decides_none (inl lives)) pool.size);
+          kept = kept;
+          counted = all;
+          holds = of;
+        };
+        unchanged = λ not. cc;
+        same_pool = λ not. cc;
+        same = record { first = refl; nexts = refl; limit = refl; len = refl };
+        size = refl;
+      }
