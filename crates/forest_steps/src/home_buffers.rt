@@ -8,6 +8,7 @@ use buffer_holds::Holds;
 use sm_names::HeldBuffer;
 
 /// Whether none of the buffers is home.
+#[inline(always)]
 pub(crate) fn no_buffer_home(held: &[HeldBuffer], holds: &Holds, strong_live: bool) -> bool
     ensures { result ≡ list_all (is_out (total holds.now) strong_live) held.now }
 {
