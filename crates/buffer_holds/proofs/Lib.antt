@@ -1,8 +1,8 @@
+pub mod CellRuns
 pub mod Invariant
 pub mod KindLemmas
 pub mod Landing
 pub mod Most
-pub mod NameLemmas
 pub mod Opening
 pub mod Outcomes
 pub mod PageLemmas

@@ -171,7 +171,7 @@ module _ {S : Type 0} (m : HashMap Owner (List (Option ℕ)) S) (hold : Hold) (p
   distinct_pages = subst (λ eq. IsDistinct eq (keys_of m.entries)) derived_owner unique
 
   -- another page is written there
-  page_written : (w : List (Option ℕ)) →
+  pub page_written : (w : List (Option ℕ)) →
       Resets same_owner m.entries (set_value_at m.entries place w) (owner_of hold) (Some page.now) (Some w)
   page_written w =
       subst (λ o. Resets same_owner m.entries (set_value_at m.entries place w) (owner_of hold) o (Some w)) page_there

@@ -1,5 +1,5 @@
 -- Handles on the buffers of a set, opened one after the other in the same two pages.
-use Rattle.std.proofs.Common.{ℕ, ◌≡◌, ◌==◌, ◌≢◌, ◌+◌, ◌-◌, ◌/◌, ◌%◌, ◌^◌, ◌<◌, ◌≤◌, ◌∙◌, refl, sym, ap, subst, Bool, true, false, length, slice_get, Some, arith}
+use Rattle.std.proofs.Common.{ℕ, ◌≡◌, ◌==◌, ◌≢◌, ◌+◌, ◌-◌, ◌/◌, ◌%◌, ◌^◌, ◌<◌, ◌≤◌, ◌∙◌, refl, sym, ap, subst, Bool, true, false, length, Some, arith}
 use Rattle.std.proofs.lemmas.Nat.{shr-shr}
 use Rattle.std.specs.Int.{bit_at}
 use Rattle.sm_names.specs.declared.keys.BufferName.{BufferName}
@@ -12,7 +12,7 @@ use Rattle.buffer_holds.specs.Kinds.{kind_of, same_handle_kind}
 use Rattle.buffer_holds.specs.PagedRows.{PagedRows}
 use Rattle.buffer_holds.specs.PagedTallies.{PagedTallies}
 use Rattle.buffer_holds.specs.Rows.{Raises, count_at}
-use Rattle.buffer_holds.specs.Runs.{HasRoomFor, IsSound, KeepsOlder, OpensBelow, StandThere, counts_in}
+use Rattle.buffer_holds.specs.Runs.{HasRoomFor, IsSound, KeepsOlder, OpensBelow, counts_in}
 use Rattle.buffer_holds.specs.Sound.{tally_at}
 use Rattle.buffer_holds.specs.Stored.{OpensOne, one_more}
 use Rattle.buffer_holds.proofs.KindLemmas.{same_kind-one}
@@ -145,10 +145,7 @@ module _ (limit most : ℕ) (rows rows' : PagedRows) (tallies tallies' : PagedTa
       (λ later. absurd (omega (arith, later, within))) none
 
 -- the buffers from that of the hold on, below this index, were gone through: this is left of the set
-pub record Runs (limit : ℕ) (old_rows rows : PagedRows) (old_tallies tallies : PagedTallies) (most : ℕ) (first : Hold) (rest index left row tally : ℕ) : Type 0 where
-  pub from : first.kind.buffer.index ≤ index
-  pub part : index / 32 ≡ first.kind.buffer.index / 32
-  pub there : StandThere rows tallies first row tally
+pub record Runs (limit : ℕ) (old_rows rows : PagedRows) (old_tallies tallies : PagedTallies) (most : ℕ) (first : Hold) (rest index left : ℕ) : Type 0 where
   pub sound : IsSound limit most rows tallies
   pub room : HasRoomFor limit rows tallies first.kind.buffer.collection first.kind.strength index left
   pub opened : (places : ℕ) (before : Counts) (set : ℕ) → set / 2 ^ first.kind.buffer.index ≡ rest →
@@ -157,7 +154,6 @@ pub record Runs (limit : ℕ) (old_rows rows : PagedRows) (old_tallies tallies :
       (set / 2 ^ index ≡ left) × AddsSet before (counts_in limit places rows tallies) first.client first.kind.buffer.collection
       first.kind.strength set index
   pub older : KeepsOlder first.kind.buffer.collection old_tallies tallies
-  pub places : rows.room ≡ old_rows.room
 
 -- the hold on the buffer with another index
 abbrev pub with_index : Hold → ℕ → Hold
@@ -169,22 +165,13 @@ with_index first index = record {
   };
 }
 
--- a hold of the same part stands in the same pages
-pub same_pages : (rows : PagedRows) (tallies : PagedTallies) (first : Hold) (index row tally : ℕ) →
-    index / 32 ≡ first.kind.buffer.index / 32 → StandThere rows tallies first row tally →
-    StandThere rows tallies (with_index first index) row tally
-same_pages rows tallies first index row tally same there = (
-  there.0 ∙ ap (λ n. Some (record { client = first.client; part = record { collection = first.kind.buffer.collection; number = n } })) (sym same),
-  there.1 ∙ ap (λ n. Some (record { collection = first.kind.buffer.collection; number = n })) (sym same),
-)
-
 -- one buffer more is gone through
 module _ {limit : ℕ} {old_rows rows : PagedRows} {old_tallies tallies : PagedTallies} {most : ℕ} {first : Hold}
-    {rest index left row tally : ℕ} (rows' : PagedRows) (tallies' : PagedTallies) (runs : Runs limit old_rows rows old_tallies tallies most first rest index left row tally)
+    {rest index left : ℕ} (rows' : PagedRows) (tallies' : PagedTallies) (runs : Runs limit old_rows rows old_tallies tallies most first rest index left)
     (opens : OpensBelow limit rows rows' tallies tallies' (with_index first index) left (index + 1))
-    (keeps : KeepsOlder first.kind.buffer.collection tallies tallies') (same : rows'.room ≡ rows.room) where
+    (keeps : KeepsOlder first.kind.buffer.collection tallies tallies') where
   -- those of the set below the next index are open
-  pub opened_next : (places : ℕ) (before : Counts) (set : ℕ) → set / 2 ^ first.kind.buffer.index ≡ rest →
+  opened_next : (places : ℕ) (before : Counts) (set : ℕ) → set / 2 ^ first.kind.buffer.index ≡ rest →
       AddsSet before (counts_in limit places old_rows old_tallies) first.client first.kind.buffer.collection first.kind.strength set
       first.kind.buffer.index →
       (set / 2 ^ (index + 1) ≡ left / 2) × AddsSet before (counts_in limit places rows' tallies') first.client
@@ -194,24 +181,11 @@ module _ {limit : ℕ} {old_rows rows : PagedRows} {old_tallies tallies : PagedT
       (sym (shr-shr set index 1) ∙ ap (λ n. n / 2 ^ 1) was.0, opens places before set was.0 was.1)
 
   -- none is open on a newer collection
-  pub keeps_next : KeepsOlder first.kind.buffer.collection old_tallies tallies'
+  keeps_next : KeepsOlder first.kind.buffer.collection old_tallies tallies'
   keeps_next newest within none = keeps newest within (runs.older newest within none)
 
-  -- as many places are free
-  pub places_next : rows'.room ≡ old_rows.room
-  places_next = same ∙ runs.places
-
-  -- the next buffer is of the part
-  pub runs_next : (most' : ℕ) → (index + 1) / 32 ≡ first.kind.buffer.index / 32 → rows'.names ≡ rows.names → tallies'.names ≡ tallies.names →
-      IsSound limit most' rows' tallies' → HasRoomFor limit rows' tallies' first.kind.buffer.collection first.kind.strength (index + 1) (left / 2) →
-      Runs limit old_rows rows' old_tallies tallies' most' first rest (index + 1) (left / 2) row tally
-  runs_next most' part row_names tally_names sound room = record {
-    from = omega (arith, runs.from);
-    part = part;
-    there = (ap (λ ns. slice_get ns row) row_names ∙ runs.there.0, ap (λ ns. slice_get ns tally) tally_names ∙ runs.there.1);
-    sound = sound;
-    room = room;
-    opened = opened_next;
-    older = keeps_next;
-    places = places_next;
-  }
+  -- one buffer more is gone through
+  pub runs_next : (most' : ℕ) → IsSound limit most' rows' tallies' →
+      HasRoomFor limit rows' tallies' first.kind.buffer.collection first.kind.strength (index + 1) (left / 2) →
+      Runs limit old_rows rows' old_tallies tallies' most' first rest (index + 1) (left / 2)
+  runs_next most' sound room = record { sound = sound; room = room; opened = opened_next; older = keeps_next }

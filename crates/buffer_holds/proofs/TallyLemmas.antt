@@ -141,7 +141,7 @@ module _ {S : Type 0} (m : HashMap Part (List (Option Tally)) S) (kind : HandleK
   distinct_pages = subst (λ eq. IsDistinct eq (keys_of m.entries)) derived_part unique
 
   -- another page is written there
-  page_written : (w : List (Option Tally)) →
+  pub page_written : (w : List (Option Tally)) →
       Resets same_part m.entries (set_value_at m.entries place w) (part_of kind) (Some page.now) (Some w)
   page_written w =
       subst (λ o. Resets same_part m.entries (set_value_at m.entries place w) (part_of kind) o (Some w)) page_there

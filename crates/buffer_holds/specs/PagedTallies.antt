@@ -7,11 +7,10 @@ use Rattle.buffer_holds.specs.declared.tally.Tally.{Tally}
 use Rattle.buffer_holds.specs.Pages.{flat, kind_at, page_size, part_of, same_part, slot_of, IsBlank, SetsCell}
 use Rattle.buffer_holds.specs.Rows.{Resets}
 
--- the tallies by kind, how many pages more take no memory, and of which part a page stands at which place
+-- the tallies by kind, and how many pages more take no memory
 pub record PagedTallies : Type 0 where
   pub entries : List (HandleKind × Tally)
   pub room : ℕ
-  pub names : List Part
 
 -- the tallies in these pages
 abbrev pub tallies_in : List (Part × List (Option Tally)) → List (HandleKind × Tally)

@@ -1,13 +1,12 @@
 -- What it changes to open handles on buffers whose counts stand in the same two pages.
 use Rattle.std.specs.Int.{bit_at}
-use Rattle.std.specs.Prelude.{◌≡◌, ◌+◌, ◌/◌, ◌^◌, ◌<◌, ◌≤◌, ℕ, Some, slice_get}
+use Rattle.std.specs.Prelude.{◌≡◌, ◌+◌, ◌/◌, ◌^◌, ◌<◌, ◌≤◌, ℕ}
 use Rattle.sm_names.specs.declared.keys.Strength.{Strength}
 use Rattle.buffer_holds.specs.Changes.{AddsSet}
 use Rattle.buffer_holds.specs.Counts.{Counts, total}
 use Rattle.buffer_holds.specs.declared.kinds.Hold.{Hold}
 use Rattle.buffer_holds.specs.PagedRows.{PagedRows}
 use Rattle.buffer_holds.specs.PagedTallies.{PagedTallies}
-use Rattle.buffer_holds.specs.Pages.{owner_of, part_of}
 use Rattle.buffer_holds.specs.Sound.{CountsInvariant, NoneIsNewer, TotalsAreUpTo, parcels_in}
 
 -- the counts as contracts see them
@@ -23,11 +22,6 @@ counts_in limit places rows tallies = record {
 abbrev pub IsSound : (limit most : ℕ) → PagedRows → PagedTallies → Type 0
 IsSound limit most rows tallies =
     CountsInvariant limit rows.entries tallies.entries × TotalsAreUpTo most tallies.entries × (most ≤ limit)
-
--- the page of the hold's owner and that of its part stand at these places
-abbrev pub StandThere : PagedRows → PagedTallies → Hold → (row tally : ℕ) → Type 0
-StandThere rows tallies hold row tally =
-    (slice_get rows.names row ≡ Some (owner_of hold)) × (slice_get tallies.names tally ≡ Some (part_of hold.kind))
 
 -- fewer handles than may be are open on each buffer that the rest of a set has, which begins at this index
 abbrev pub HasRoomFor : (limit : ℕ) → PagedRows → PagedTallies → (collection : ℕ) → Strength → (index rest : ℕ) → Type 0

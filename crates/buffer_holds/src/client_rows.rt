@@ -1,5 +1,5 @@
 //! The rows of counts: one for each client and kind of handle, in pages.
-ghost use Rattle.std.specs.Prelude.{ℕ, ◌≡◌, ◌+◌, ◌-◌, ◌^◌, ◌<◌, ◌≤◌, ◌↔◌, true, [], if◌then◌else◌, is_some, min, slice_get, sum_by, All, length, unwrap_or, Some, None, IfSome, IfNone, IfOk, IsTrue, OnOk, OnErr, IsSome, IsOk};
+ghost use Rattle.std.specs.Prelude.{ℕ, ◌≡◌, ◌+◌, ◌-◌, ◌^◌, ◌<◌, ◌≤◌, ◌↔◌, true, [], if◌then◌else◌, is_some, min, sum_by, All, length, Some, None, IfSome, IfNone, IfOk, IsTrue, OnOk, OnErr, IsSome, IsOk};
 ghost use Rattle.std.specs.Bool.{OnTrue, OnFalse};
 ghost use Rattle.buffer_holds.specs.declared.kinds.HandleKind.{HandleKind};
 ghost use Rattle.buffer_holds.specs.Kinds.{same_hold};
@@ -28,7 +28,7 @@ type Pages = IndexMap<Owner, BoxedPage, CountHash>;
 // table for the next row of its owner, until another one becomes blank.
 #[derive(Drop)]
 pub(crate) struct Rows {
-    pages: Pages,
+    pub(crate) pages: Pages,
     spares: Vec<BoxedPage>,
     alloc: Global,
     // No page is of a collection with a greater id.
@@ -51,7 +51,6 @@ impl Model for Rows {
     ghost view = { λ r. record {
       entries = rows_in r.pages.entries;
       room = min (spare r.pages) (length r.spares.items);
-      names = keys_of r.pages.entries;
     } };
 
     ghost invariant = { λ r. IsDistinct same_owner (keys_of r.pages.entries)
@@ -76,7 +75,7 @@ fn find_page(pages: &Pages, owner: Owner, last: &Cell<usize>) -> Option<usize>
 
 // Whether the page at this place is that of the owner.
 #[inline(always)]
-fn is_page_at(pages: &Pages, owner: Owner, place: usize) -> bool
+pub(crate) fn is_page_at(pages: &Pages, owner: Owner, place: usize) -> bool
     ensures { result ≡ true → StandsAt pages.now.entries place owner }
 {
     match pages.get_index(place) {
@@ -132,7 +131,7 @@ fn make_spares(spares: &mut Vec<BoxedPage>, alloc: Global, count: usize) -> Resu
 
 // No rows.
 pub(crate) fn no_rows(alloc: Global, hash: CountHash) -> Rows
-    ensures { result ≡ record { entries = []; room = 0; names = [] } }
+    ensures { result ≡ record { entries = []; room = 0 } }
 {
     Rows {
         pages: IndexMap::with_hasher(alloc, hash),
@@ -281,29 +280,6 @@ pub(crate) fn raise_at(rows: &mut Rows, hold: Hold, place: usize) -> Option<usiz
     }
     let page = rows.pages.get_index_mut(place).unwrap();
     Some(page.raise(slot_of(hold.kind)))
-}
-
-// Whether the page of the hold's owner stands at this place.
-#[inline(always)]
-pub(crate) fn has_rows(rows: &Rows, hold: Hold, place: usize) -> bool
-    ensures { result ≡ true → slice_get rows.now.names place ≡ Some (owner_of hold) }
-{
-    is_page_at(&rows.pages, owner_of(hold), place)
-}
-
-// One handle more, where the owner's page stands at this place. The answer is 1 where the row is new, and
-// else 0.
-#[inline(always)]
-pub(crate) fn raise_there(rows: &mut Rows, hold: Hold, place: usize) -> usize
-    requires there { slice_get rows.old.names place ≡ Some (owner_of hold) }
-    requires fits { count_at rows.old.entries hold + 1 < 2 ^ 32 }
-    ensures raised { Raises rows.old.entries rows.new.entries hold }
-    ensures fresh { result ≡ (if is_some (row_at rows.old.entries hold) then 0 else 1) }
-    ensures names { rows.new.names ≡ rows.old.names }
-    ensures places { rows.new.room ≡ rows.old.room }
-{
-    let page = rows.pages.get_index_mut(place).unwrap();
-    page.raise(slot_of(hold.kind))
 }
 
 // One handle less, where there is one. The row stays, though it may be of 0.

@@ -2,6 +2,7 @@
 //! keeps alive.
 #![tactic(auto)]
 
+mod cells;
 mod client_rows;
 mod fault;
 mod hashing;

@@ -139,7 +139,7 @@ impl Page {
 // A page in memory of its own, which stays where it is.
 #[derive(Drop)]
 pub(crate) struct BoxedPage {
-    page: Box<Page>,
+    pub(crate) page: Box<Page>,
 }
 
 impl Model for BoxedPage {

@@ -1,66 +1,23 @@
 //! Handles on buffers of a set whose counts stand in the same two pages.
-ghost use Rattle.std.specs.Prelude.{◌≡◌, ◌+◌, ◌/◌, ◌<◌, ◌≤◌, max};
-ghost use Rattle.buffer_holds.specs.Runs.{HasRoomFor, IsSound, KeepsOlder, OpensBelow, StandThere};
+ghost use Rattle.std.specs.Prelude.{◌≡◌, ◌+◌, ◌%◌, ◌^◌, ◌<◌, ◌≤◌};
+ghost use Rattle.buffer_holds.specs.Runs.{HasRoomFor, IsSound, KeepsOlder, OpensBelow};
 
-use crate::client_rows::{Rows, few_rows, has_rows, raise_there};
-use crate::kinds::{HandleKind, Hold};
+use crate::cells::count_boxed;
+use crate::client_rows::{Rows, few_rows, is_page_at as is_row_page};
+use crate::kinds::Hold;
+use crate::names::{owner_of, part_of, slot_of};
 use crate::spot::Last;
-use crate::tally_pages::{Tallies, count_there, has_tallies};
-use sm_names::BufferName;
+use crate::tally_pages::{Tallies, is_page_at as is_tally_page};
 
 // How many buffers a part has.
 const PART_SIZE: u8 = 32;
 
-// Where a page of rows and one of tallies stand.
-#[derive(Clone, Copy)]
-struct Places {
-    row: usize,
-    tally: usize,
-}
-
-// Notes how many of one kind are open now, if there never were as many.
-#[inline(always)]
-fn note_most(most: &mut u32, total: u32)
-    ensures { most.new ≡ max most.old total }
+// The first so many bits of a set.
+fn first_bits(set: u64, size: u8) -> u64
+    requires { size ≤ 32 }
+    ensures { result ≡ set % 2 ^ size }
 {
-    if *most < total {
-        *most = total;
-    }
-}
-
-// Opens a handle of the hold, whose pages stand at these places, if a set has its buffer of which the rest is
-// that from this buffer on.
-#[inline(always)]
-fn open_next(
-    tallies: &mut Tallies,
-    rows: &mut Rows,
-    hold: Hold,
-    rest: u64,
-    limit: u32,
-    most: &mut u32,
-    at: Places,
-)
-    requires sound { IsSound limit most.old rows.old tallies.old }
-    requires there { StandThere rows.old tallies.old hold at.row at.tally }
-    requires fewer { HasRoomFor limit rows.old tallies.old hold.kind.buffer.collection hold.kind.strength
-        hold.kind.buffer.index rest }
-    ensures sound { IsSound limit most.new rows.new tallies.new }
-    ensures opened { OpensBelow limit rows.old rows.new tallies.old tallies.new hold rest
-        (hold.kind.buffer.index + 1) }
-    ensures fewer { HasRoomFor limit rows.new tallies.new hold.kind.buffer.collection hold.kind.strength
-        (hold.kind.buffer.index + 1) (rest / 2) }
-    ensures older { KeepsOlder hold.kind.buffer.collection tallies.old tallies.new }
-    ensures row_names { rows.new.names ≡ rows.old.names }
-    ensures tally_names { tallies.new.names ≡ tallies.old.names }
-    ensures places { rows.new.room ≡ rows.old.room }
-{
-    if rest % 2 == 0 {
-        return;
-    }
-    few_rows(rows);
-    let more = raise_there(rows, hold, at.row);
-    let total = count_there(tallies, hold.kind, more, at.tally);
-    note_most(most, total);
+    set % (1 << size)
 }
 
 // Opens a handle on each buffer that the rest of a set has, from the first one on to the end of its part, if
@@ -87,37 +44,20 @@ pub(crate) fn open_run(
     ensures older { KeepsOlder first.kind.buffer.collection tallies.old tallies.new }
     ensures places { rows.new.room ≡ rows.old.room }
 {
-    let mut index = first.kind.buffer.index;
-    let at = Places {
-        row: last.row.get(),
-        tally: last.tally.get(),
-    };
-    if !has_rows(rows, first, at.row) {
+    let index = first.kind.buffer.index;
+    let row = last.row.get();
+    let tally = last.tally.get();
+    if !is_row_page(&rows.pages, owner_of(first), row) {
         return index;
     }
-    if !has_tallies(tallies, first.kind, at.tally) {
+    if !is_tally_page(&tallies.pages, part_of(first.kind), tally) {
         return index;
     }
-    let mut left = rest;
-    while left != 0 {
-        let buffer = BufferName {
-            collection: first.kind.buffer.collection,
-            index,
-        };
-        let kind = HandleKind {
-            buffer,
-            strength: first.kind.strength,
-        };
-        let hold = Hold {
-            client: first.client,
-            kind,
-        };
-        open_next(tallies, rows, hold, left, limit, most, at);
-        left /= 2;
-        index += 1;
-        if index % PART_SIZE == 0 {
-            break;
-        }
-    }
-    index
+    few_rows(rows);
+    let size = PART_SIZE - index % PART_SIZE;
+    let set = first_bits(rest, size);
+    let slot = slot_of(first.kind);
+    let page = rows.pages.get_index_mut(row).unwrap();
+    let sums = tallies.pages.get_index_mut(tally).unwrap();
+    index + count_boxed(page, sums, slot, size, set, most)
 }

@@ -11,7 +11,7 @@ use std::marker::Model;
 
 // The tallies of a part: a cell for each kind. A tally that says nothing is an empty cell.
 #[derive(Drop)]
-struct TallyPage {
+pub(crate) struct TallyPage {
     // How many cells are not empty.
     live: u32,
     tallies: [Tally; 64],
@@ -42,7 +42,7 @@ impl TallyPage {
 
     // What the cell says.
     #[inline(always)]
-    fn get(&self, at: usize) -> Tally
+    pub(crate) fn get(&self, at: usize) -> Tally
         requires { at < 64 }
         ensures value { result ≡ unwrap_or (cell_at self.now at) no_tally }
         ensures busy { IsSome (cell_at self.now at) → is_idle result ≡ false }
@@ -71,7 +71,7 @@ impl TallyPage {
 
     // One handle more in the cell, and so many clients.
     #[inline(always)]
-    fn count(&mut self, at: usize, clients: usize)
+    pub(crate) fn count(&mut self, at: usize, clients: usize)
         requires there { at < 64 }
         requires fits { (unwrap_or (cell_at self.old at) no_tally).total + 1 < 2 ^ 32 }
         requires few { (unwrap_or (cell_at self.old at) no_tally).clients + clients < 2 ^ 64 }
@@ -119,7 +119,7 @@ impl TallyPage {
 // A page in memory of its own, which stays where it is.
 #[derive(Drop)]
 pub(crate) struct BoxedTallies {
-    page: Box<TallyPage>,
+    pub(crate) page: Box<TallyPage>,
 }
 
 impl Model for BoxedTallies {

@@ -1,5 +1,5 @@
 //! The tallies of kinds of handles, in pages.
-ghost use Rattle.std.specs.Prelude.{ℕ, ◌≡◌, ◌==◌, ◌&&◌, ◌+◌, ◌-◌, ◌^◌, ◌<◌, ◌≤◌, ◌↔◌, true, [], min, slice_get, sum_by, All, length, Some, None, IfSome, IfNone, OnOk, OnErr, IsErrOf, IsOk, IsOkUnless, IsSome};
+ghost use Rattle.std.specs.Prelude.{ℕ, ◌≡◌, ◌==◌, ◌&&◌, ◌+◌, ◌-◌, ◌^◌, ◌<◌, ◌≤◌, ◌↔◌, true, [], min, sum_by, All, length, Some, None, IfSome, IfNone, OnOk, OnErr, IsErrOf, IsOk, IsOkUnless, IsSome};
 ghost use Rattle.std.specs.Bool.{OnTrue, OnFalse};
 ghost use Rattle.std.specs.List.{IsDistinct};
 ghost use Rattle.std.specs.Map.{keys_of, lookup};
@@ -33,7 +33,7 @@ type Pages = IndexMap<Part, BoxedTallies, CountHash>;
 // table for the next one of its part, until another one becomes blank.
 #[derive(Drop)]
 pub(crate) struct Tallies {
-    pages: Pages,
+    pub(crate) pages: Pages,
     spares: Vec<BoxedTallies>,
     alloc: Global,
     // No page is of a collection with a greater id.
@@ -57,7 +57,6 @@ impl Model for Tallies {
     ghost view = { λ r. record {
       entries = tallies_in r.pages.entries;
       room = min (spare r.pages) (length r.spares.items);
-      names = keys_of r.pages.entries;
     } };
 
     ghost invariant = { λ r. IsDistinct same_part (keys_of r.pages.entries)
@@ -82,7 +81,7 @@ fn find_page(pages: &Pages, part: Part, last: &Cell<usize>) -> Option<usize>
 
 // Whether the page at this place is that of the part.
 #[inline(always)]
-fn is_page_at(pages: &Pages, part: Part, place: usize) -> bool
+pub(crate) fn is_page_at(pages: &Pages, part: Part, place: usize) -> bool
     ensures { result ≡ true → StandsAt pages.now.entries place part }
 {
     match pages.get_index(place) {
@@ -137,7 +136,7 @@ fn make_spares(
 
 // No tallies.
 pub(crate) fn no_tallies(alloc: Global, hash: CountHash) -> Tallies
-    ensures { result ≡ record { entries = []; room = 0; names = [] } }
+    ensures { result ≡ record { entries = []; room = 0 } }
 {
     Tallies {
         pages: IndexMap::with_hasher(alloc, hash),
@@ -463,39 +462,6 @@ pub(crate) fn open_there(
         *most = total;
     }
     true
-}
-
-// Whether the page of the kind's part stands at this place.
-#[inline(always)]
-pub(crate) fn has_tallies(tallies: &Tallies, kind: HandleKind, place: usize) -> bool
-    ensures { result ≡ true → slice_get tallies.now.names place ≡ Some (part_of kind) }
-{
-    is_page_at(&tallies.pages, part_of(kind), place)
-}
-
-// One handle more of this kind, and so many clients, where its page stands at this place. The answer is how
-// many are open now.
-#[inline(always)]
-pub(crate) fn count_there(
-    tallies: &mut Tallies,
-    kind: HandleKind,
-    clients: usize,
-    place: usize,
-) -> u32
-    requires there { slice_get tallies.old.names place ≡ Some (part_of kind) }
-    requires fits { (tally_at tallies.old.entries kind).total + 1 < 2 ^ 32 }
-    requires few { (tally_at tallies.old.entries kind).clients + clients < 2 ^ 64 }
-    requires some { 0 < (tally_at tallies.old.entries kind).clients + clients }
-    ensures counted { Resets same_handle_kind tallies.old.entries tallies.new.entries kind
-        (tally_row tallies.old.entries kind) (Some (one_more (tally_at tallies.old.entries kind) clients)) }
-    ensures total { result ≡ (tally_at tallies.old.entries kind).total + 1 }
-    ensures names { tallies.new.names ≡ tallies.old.names }
-{
-    let page = tallies.pages.get_index_mut(place).unwrap();
-    let slot = slot_of(kind);
-    let tally = page.get(slot);
-    page.count(slot, clients);
-    tally.total + 1
 }
 
 // Takes the blank page at this place away, and keeps it for another part.
