@@ -3,7 +3,7 @@ use Rattle.std.specs.Prelude.{ℕ, ◌+◌, false, List, [], ◌∷◌, ◌++◌
 use Rattle.event_texts.specs.FactTexts.{concat}
 use Rattle.picture_model.specs.declared.features.Class.{Class}
 use Rattle.picture_model.specs.declared.features.LinkStyle.{LinkStyle}
-use Rattle.picture_model.specs.declared.failure_view.Way.{Way}
+use Rattle.picture_model.specs.declared.failure_view.TravelWay.{TravelWay}
 use Rattle.picture_model.specs.Colors.{edge_text, fill_text}
 use Rattle.picture_layout.specs.Lengths.{capped_sum}
 use Rattle.picture_svg.specs.declared.elements.TheConstants.{MARGIN}
@@ -60,14 +60,14 @@ unfoldable pub sample_path : ℕ → ℕ → ℕ → List ℕ
 sample_path x y right = concat (codes "<path d=\"M" ∷ decimal x ∷ codes " " ∷ decimal y ∷ codes " H" ∷ decimal right ∷ [])
 
 -- its end, with an arrow where a failure went along it
-abbrev pub sample_end : Option Way → List ℕ
-sample_end (Some (Way.Up step)) = codes " marker-end=\"url(#a)\"/>\n"
-sample_end (Some (Way.Down step)) = codes " marker-end=\"url(#a)\"/>\n"
-sample_end (Some Way.Stop) = codes "/>\n"
+abbrev pub sample_end : Option TravelWay → List ℕ
+sample_end (Some (TravelWay.Up step)) = codes " marker-end=\"url(#a)\"/>\n"
+sample_end (Some (TravelWay.Down step)) = codes " marker-end=\"url(#a)\"/>\n"
+sample_end (Some TravelWay.Stop) = codes "/>\n"
 sample_end None = codes "/>\n"
 
 -- a short link of this kind, along which a failure went so, and the word for it
-unfoldable pub sample_line : ℕ → ℕ → LinkStyle → Option Way → List ℕ → List ℕ
+unfoldable pub sample_line : ℕ → ℕ → LinkStyle → Option TravelWay → List ℕ → List ℕ
 sample_line x y link way word = concat (
     sample_path x (capped_sum y 8) (capped_sum x 26)
     ∷ svg_line link way
@@ -92,8 +92,8 @@ plain_signs y = concat (
 -- a link for each way of a failure, and the bar where it stops
 unfoldable pub way_signs : ℕ → List ℕ
 way_signs y = concat (
-    sample_line (MARGIN + 346) y LinkStyle.Normal (Some (Way.Up 1)) (codes "failure up")
-    ∷ sample_line (MARGIN + 476) y LinkStyle.Normal (Some (Way.Down 2)) (codes "failure down")
+    sample_line (MARGIN + 346) y LinkStyle.Normal (Some (TravelWay.Up 1)) (codes "failure up")
+    ∷ sample_line (MARGIN + 476) y LinkStyle.Normal (Some (TravelWay.Down 2)) (codes "failure down")
     ∷ stop_sample y
     ∷ []
     )

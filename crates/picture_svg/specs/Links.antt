@@ -5,7 +5,7 @@ use Rattle.forest_store.specs.declared.node.Node.{Node}
 use Rattle.event_texts.specs.FactTexts.{concat}
 use Rattle.picture_model.specs.declared.features.LinkStyle.{LinkStyle}
 use Rattle.picture_model.specs.declared.failure_view.Travel.{Travel}
-use Rattle.picture_model.specs.declared.failure_view.Way.{Way}
+use Rattle.picture_model.specs.declared.failure_view.TravelWay.{TravelWay}
 use Rattle.picture_model.specs.Features.{link_of}
 use Rattle.picture_model.specs.Travels.{way_in}
 use Rattle.picture_layout.specs.declared.layout.Corner.{Corner}
@@ -37,28 +37,28 @@ abbrev pub middle_row : ℕ → ℕ
 middle_row y = y - ROW_GAP / 2
 
 -- the path between two ends: upwards to the right of the parent's middle, downwards to its left, each with room for an arrow
-unfoldable pub way_path : Corner → Corner → Option Way → List ℕ
+unfoldable pub way_path : Corner → Corner → Option TravelWay → List ℕ
 way_path from to None = path_text from.x from.y (middle_row to.y) to.x to.y
-way_path from to (Some (Way.Up step)) =
+way_path from to (Some (TravelWay.Up step)) =
     path_text to.x to.y (middle_row to.y) (capped_sum from.x 12) (capped_sum from.y 9)
-way_path from to (Some (Way.Down step)) =
+way_path from to (Some (TravelWay.Down step)) =
     path_text (from.x - 12) from.y (middle_row to.y - 12) to.x (to.y - 9)
-way_path from to (Some Way.Stop) = path_text from.x from.y (middle_row to.y) to.x to.y
+way_path from to (Some TravelWay.Stop) = path_text from.x from.y (middle_row to.y) to.x to.y
 
 -- ---- how a link looks
 
 -- its colour, its width and its dashes
-abbrev pub line_color : Option Way → List ℕ
-line_color (Some (Way.Up step)) = codes "#D55E00"
-line_color (Some (Way.Down step)) = codes "#D55E00"
-line_color (Some Way.Stop) = codes "#808080"
+abbrev pub line_color : Option TravelWay → List ℕ
+line_color (Some (TravelWay.Up step)) = codes "#D55E00"
+line_color (Some (TravelWay.Down step)) = codes "#D55E00"
+line_color (Some TravelWay.Stop) = codes "#808080"
 line_color None = codes "#808080"
 
 -- the width of a link: wide where a failure climbed it
-abbrev pub line_width : Option Way → List ℕ
-line_width (Some (Way.Up step)) = codes "4"
-line_width (Some (Way.Down step)) = codes "2"
-line_width (Some Way.Stop) = codes "1.5"
+abbrev pub line_width : Option TravelWay → List ℕ
+line_width (Some (TravelWay.Up step)) = codes "4"
+line_width (Some (TravelWay.Down step)) = codes "2"
+line_width (Some TravelWay.Stop) = codes "1.5"
 line_width None = codes "1.5"
 
 -- the dashes of a link: none, or those that the legend names
@@ -68,12 +68,12 @@ line_dashes LinkStyle.Attached = codes "7 5"
 line_dashes LinkStyle.Dispensable = codes "2 4"
 
 -- the start of a link: its color and its width
-unfoldable pub line_start : Option Way → List ℕ
+unfoldable pub line_start : Option TravelWay → List ℕ
 line_start way = concat
     (codes "\" fill=\"none\" stroke=\"" ∷ line_color way ∷ codes "\" stroke-width=\"" ∷ line_width way ∷ codes "\"" ∷ [])
 
 -- the attributes of a link's line
-unfoldable pub svg_line : LinkStyle → Option Way → List ℕ
+unfoldable pub svg_line : LinkStyle → Option TravelWay → List ℕ
 svg_line link way = concat (line_start way ∷ attribute (codes "stroke-dasharray") (line_dashes link) ∷ [])
 
 -- ---- its end
@@ -111,16 +111,16 @@ svg_stop_end to = concat
     (codes "/>\n" ∷ svg_stop (to.x - 16) (to.y - 10) (capped_sum to.x 16) (capped_sum to.x 22) (to.y - 6) ∷ [])
 
 -- the end of a link: plain, with an arrow, or with a bar where the failure stopped
-abbrev pub svg_end : Corner → Option Way → List ℕ
+abbrev pub svg_end : Corner → Option TravelWay → List ℕ
 svg_end to None = codes "/>\n"
-svg_end to (Some (Way.Up step)) = svg_arrow to step
-svg_end to (Some (Way.Down step)) = svg_arrow to step
-svg_end to (Some Way.Stop) = svg_stop_end to
+svg_end to (Some (TravelWay.Up step)) = svg_arrow to step
+svg_end to (Some (TravelWay.Down step)) = svg_arrow to step
+svg_end to (Some TravelWay.Stop) = svg_stop_end to
 
 -- ---- the link
 
 -- the link of a node, from below its parent's box to above its own, along which failures went so
-unfoldable pub svg_link : Node → Corner → Corner → Option Way → List ℕ
+unfoldable pub svg_link : Node → Corner → Corner → Option TravelWay → List ℕ
 svg_link n from to way = concat (way_path from to way ∷ svg_line (link_of n) way ∷ svg_end to way ∷ [])
 
 -- the middle of the lower edge of a box of this width, and of its upper edge

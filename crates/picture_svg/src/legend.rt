@@ -8,7 +8,7 @@ use crate::links::{push_line, push_stop};
 use crate::tree::dashes_of;
 use picture_layout::{Corner, plus};
 use picture_model::colors::{edge_color, fill_color};
-use picture_model::{Class, LinkStyle, Way};
+use picture_model::{Class, LinkStyle, TravelWay};
 use script_lines::{Part, push, push_parts};
 use std::alloc::AllocError;
 
@@ -128,7 +128,7 @@ fn push_ways(body: &mut Vec<u8>, y: u64) -> Result<(), AllocError>
         MARGIN + 346,
         y,
         LinkStyle::Normal,
-        Some(Way::Up(1)),
+        Some(TravelWay::Up(1)),
         "failure up",
     )?;
     push_sample_line(
@@ -136,7 +136,7 @@ fn push_ways(body: &mut Vec<u8>, y: u64) -> Result<(), AllocError>
         MARGIN + 476,
         y,
         LinkStyle::Normal,
-        Some(Way::Down(2)),
+        Some(TravelWay::Down(2)),
         "failure down",
     )?;
     push_stop_sample(body, y)
@@ -168,7 +168,7 @@ fn push_sample_line(
     x: u64,
     y: u64,
     link: LinkStyle,
-    way: Option<Way>,
+    way: Option<TravelWay>,
     word: &'static str,
 ) -> Result<(), AllocError>
     ensures { OnOk result (body.new.items ≡ body.old.items ++ sample_line x y link way word.now) }
@@ -198,13 +198,13 @@ fn push_path(body: &mut Vec<u8>, x: u64, y: u64, right: u64) -> Result<(), Alloc
 }
 
 // The end of a short link, along which a failure went so.
-fn end_of(way: Option<Way>) -> &'static str
+fn end_of(way: Option<TravelWay>) -> &'static str
     ensures { result.now ≡ sample_end way }
 {
     match way {
-        Some(Way::Up(_)) => " marker-end=\"url(#a)\"/>\n",
-        Some(Way::Down(_)) => " marker-end=\"url(#a)\"/>\n",
-        Some(Way::Stop) => "/>\n",
+        Some(TravelWay::Up(_)) => " marker-end=\"url(#a)\"/>\n",
+        Some(TravelWay::Down(_)) => " marker-end=\"url(#a)\"/>\n",
+        Some(TravelWay::Stop) => "/>\n",
         None => "/>\n",
     }
 }

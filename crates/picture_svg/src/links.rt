@@ -10,7 +10,7 @@ use event_facts::KeyMap;
 use forest_store::Node;
 use picture_layout::{BOX_HEIGHT, Corner, NodeBox, ROW_GAP, minus, plus};
 use picture_model::colors::{GREY, INK, RED};
-use picture_model::{LinkStyle, Travel, Way, link_of, way_of};
+use picture_model::{LinkStyle, Travel, TravelWay, link_of, way_of};
 use script_lines::{Part, push, push_parts};
 use std::alloc::AllocError;
 
@@ -80,7 +80,7 @@ fn push_link(
     node: &Node,
     from: Corner,
     to: Corner,
-    way: Option<Way>,
+    way: Option<TravelWay>,
 ) -> Result<(), AllocError>
     ensures { OnOk result (body.new.items ≡ body.old.items ++ svg_link node.now from to way) }
 {
@@ -94,7 +94,7 @@ fn push_link(
 pub(crate) fn push_line(
     body: &mut Vec<u8>,
     link: LinkStyle,
-    way: Option<Way>,
+    way: Option<TravelWay>,
 ) -> Result<(), AllocError>
     ensures { OnOk result (body.new.items ≡ body.old.items ++ svg_line link way) }
 {
@@ -104,7 +104,7 @@ pub(crate) fn push_line(
 
 // Appends the colour and the width of a link.
 #[tactic(auto, unfolding(crate::specs::Links::line_start))]
-fn push_stroke(body: &mut Vec<u8>, way: Option<Way>) -> Result<(), AllocError>
+fn push_stroke(body: &mut Vec<u8>, way: Option<TravelWay>) -> Result<(), AllocError>
     ensures { OnOk result (body.new.items ≡ body.old.items ++ line_start way) }
 {
     push_parts(
@@ -120,25 +120,25 @@ fn push_stroke(body: &mut Vec<u8>, way: Option<Way>) -> Result<(), AllocError>
 }
 
 // The colour of a link.
-fn color_of(way: Option<Way>) -> &'static str
+fn color_of(way: Option<TravelWay>) -> &'static str
     ensures { result.now ≡ line_color way }
 {
     match way {
-        Some(Way::Up(_)) => RED,
-        Some(Way::Down(_)) => RED,
-        Some(Way::Stop) => GREY,
+        Some(TravelWay::Up(_)) => RED,
+        Some(TravelWay::Down(_)) => RED,
+        Some(TravelWay::Stop) => GREY,
         None => GREY,
     }
 }
 
 // The width of a link.
-fn width_of(way: Option<Way>) -> &'static str
+fn width_of(way: Option<TravelWay>) -> &'static str
     ensures { result.now ≡ line_width way }
 {
     match way {
-        Some(Way::Up(_)) => "4",
-        Some(Way::Down(_)) => "2",
-        Some(Way::Stop) => "1.5",
+        Some(TravelWay::Up(_)) => "4",
+        Some(TravelWay::Down(_)) => "2",
+        Some(TravelWay::Stop) => "1.5",
         None => "1.5",
     }
 }
@@ -155,13 +155,13 @@ fn dashes_of(link: LinkStyle) -> &'static str
 }
 
 // Draws the end of a link, and the step at which a failure followed it.
-fn push_end(body: &mut Vec<u8>, to: Corner, way: Option<Way>) -> Result<(), AllocError>
+fn push_end(body: &mut Vec<u8>, to: Corner, way: Option<TravelWay>) -> Result<(), AllocError>
     ensures { OnOk result (body.new.items ≡ body.old.items ++ svg_end to way) }
 {
     match way {
-        Some(Way::Up(step)) => push_arrow(body, to, step),
-        Some(Way::Down(step)) => push_arrow(body, to, step),
-        Some(Way::Stop) => push_bar(body, to),
+        Some(TravelWay::Up(step)) => push_arrow(body, to, step),
+        Some(TravelWay::Down(step)) => push_arrow(body, to, step),
+        Some(TravelWay::Stop) => push_bar(body, to),
         None => push(body, "/>\n"),
     }
 }
@@ -201,21 +201,21 @@ fn push_way(
     body: &mut Vec<u8>,
     from: Corner,
     to: Corner,
-    way: Option<Way>,
+    way: Option<TravelWay>,
 ) -> Result<(), AllocError>
     ensures { OnOk result (body.new.items ≡ body.old.items ++ way_path from to way) }
 {
     let middle = minus(to.y, ROW_GAP / 2);
     match way {
-        Some(Way::Up(_)) => push_bends(body, to, middle, plus(from.x, 12), plus(from.y, 9)),
-        Some(Way::Down(_)) => {
+        Some(TravelWay::Up(_)) => push_bends(body, to, middle, plus(from.x, 12), plus(from.y, 9)),
+        Some(TravelWay::Down(_)) => {
             let start = Corner {
                 x: minus(from.x, 12),
                 y: from.y,
             };
             push_bends(body, start, minus(middle, 12), to.x, minus(to.y, 9))
         }
-        Some(Way::Stop) => push_bends(body, from, middle, to.x, to.y),
+        Some(TravelWay::Stop) => push_bends(body, from, middle, to.x, to.y),
         None => push_bends(body, from, middle, to.x, to.y),
     }
 }

@@ -1,7 +1,7 @@
 use Rattle.std.specs.Prelude.{◌+◌, Some, codes}
 use Rattle.std.proofs.lemmas.Result.{on_ok_weaker}
 use Rattle.picture_model.specs.declared.features.LinkStyle.{LinkStyle}
-use Rattle.picture_model.specs.declared.failure_view.Way.{Way}
+use Rattle.picture_model.specs.declared.failure_view.TravelWay.{TravelWay}
 use Rattle.picture_model.proofs.Texts.{after, last}
 use Rattle.picture_svg.specs.declared.elements.TheConstants.{MARGIN}
 use Rattle.picture_svg.specs.Legend.{sample_line, stop_sample, way_signs}
@@ -13,9 +13,9 @@ unfolding way_signs
 returns c =
     let y = c.args.y in
     on_ok_weaker c.push_stop_sample.result
-    (λ put. after _ (sample_line (MARGIN + 346) y LinkStyle.Normal (Some (Way.Up 1))
+    (λ put. after _ (sample_line (MARGIN + 346) y LinkStyle.Normal (Some (TravelWay.Up 1))
     (codes "failure up")) _ _ _ c.in_ok-push_sample_line.ensures
-    (after _ (sample_line (MARGIN + 476) y LinkStyle.Normal (Some (Way.Down 2))
+    (after _ (sample_line (MARGIN + 476) y LinkStyle.Normal (Some (TravelWay.Down 2))
     (codes "failure down")) _ _ _ c.in_ok-push_sample_line-2.ensures
     (last _ (stop_sample y) _ put)))
     c.push_stop_sample.ensures
