@@ -83,7 +83,7 @@ first_alike to id number (c ∷ cs) = (
 )
 
 -- Two starts are alike.
-starts_alike : (setup : Setup) (one other : Position) → Begins setup one → Begins setup other → AreAlikePlays one other
+pub starts_alike : (setup : Setup) (one other : Position) → Begins setup one → Begins setup other → AreAlikePlays one other
 starts_alike setup one other a b = record {
   to = λ key. key;
   id = λ i. i;
@@ -99,7 +99,7 @@ starts_alike setup one other a b = record {
 
 module _ (setup : Setup) where
   -- A step that makes a turn does not have to wait in the play that was met.
-  no_wait : (actor : ℕ) (p row new : Position) (alike : AreAlikePlays p row) → IsSeen setup p → IsSeen setup row →
+  pub no_wait : (actor : ℕ) (p row new : Position) (alike : AreAlikePlays p row) → IsSeen p → IsSeen row →
       (c : Calls setup actor p new) (b : Asks setup actor row) → HasToWait setup actor row b → ⊥
   no_wait actor p row new alike seen seen_too c b waits =
       both_ways (c.asks.next.waits && is_wait c.reply) (sym same ∙ waits) c.waits

@@ -13,7 +13,7 @@ use Rattle.alike_cores.specs.Cores.{node_undated}
 use Rattle.alike_cores.proofs.Finding.{found_node, sound_apart}
 use Rattle.alike_cores.proofs.Shown.{shown_sound}
 use Rattle.alike_plays.specs.Outcomes.{fate_kept, fate_renamed}
-use Rattle.alike_plays.specs.Positions.{AreAlikePlays, Position, Setup}
+use Rattle.alike_plays.specs.Positions.{AreAlikePlays, Position}
 use Rattle.alike_plays.proofs.Reaching.{IsSeen}
 
 -- By whether it was released.
@@ -52,9 +52,9 @@ fates-alike to id (Some n) (Some m) same = ap Some
     ∙ (ap fate_of (some-injective (node_undated m) (node_renamed to id n) same) ∙ fate-renamed to id n)))
 
 -- A node that is kept has alike fates in alike plays.
-pub fate_alike : (setup : Setup) (one other : Position) → IsSeen setup one → (alike : AreAlikePlays one other) → (key : NodeKey) →
+pub fate_alike : (one other : Position) → IsSeen one → (alike : AreAlikePlays one other) → (key : NodeKey) →
     fate_kept other.core (alike.to key) ≡ option_map (fate_renamed alike.to) (fate_kept one.core key)
-fate_alike setup one other seen alike key =
+fate_alike one other seen alike key =
     fates-alike alike.to alike.id (node_at one.core.forest key) (node_at other.core.forest (alike.to key))
     (found_node alike.to alike.id alike.keeps alike.kept one.core.forest.collections other.core.forest.collections alike.cores.collections
     (sound_apart one.core.forest (shown_sound one.core seen.history seen.shows)) key)

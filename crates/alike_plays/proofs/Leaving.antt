@@ -141,7 +141,7 @@ module _ (to : NodeKey → NodeKey) (id : ℕ → ℕ) where
       flat-renamed (picked_there test) (picked_there test) (option_map (object_renamed to id)) (there-renamed test blind) slots
 
   -- An actor parts with the same objects, in order.
-  all-renamed : (collected : List ActorObject) (slots : List (Option ActorObject)) →
+  pub all-renamed : (collected : List ActorObject) (slots : List (Option ActorObject)) →
       all_objects (map (object_renamed to id) collected) (map (option_map (object_renamed to id)) slots)
       ≡ map (object_renamed to id) (all_objects collected slots)
   all-renamed collected slots =

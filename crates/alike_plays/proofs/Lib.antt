@@ -14,3 +14,7 @@ pub mod Passing
 pub mod Waiting
 pub mod Closing
 pub mod Ending
+pub mod Ordered
+pub mod Ahead
+pub mod AheadActors
+pub mod AheadTurns

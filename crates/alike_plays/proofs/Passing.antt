@@ -29,7 +29,7 @@ use Rattle.alike_plays.specs.Positions.{Asks, Calls, Leaves, Passes, Position, R
 -- ---- lists
 
 -- At another place it stays.
-get-other : {A : Type 0} (xs : List A) (i j : ℕ) (y : A) → (i ≡ j → ⊥) → slice_get (slice_set xs i y) j ≡ slice_get xs j
+pub get-other : {A : Type 0} (xs : List A) (i j : ℕ) (y : A) → (i ≡ j → ⊥) → slice_get (slice_set xs i y) j ≡ slice_get xs j
 get-other [] i j y apart = refl
 get-other (x ∷ xs) zero zero y apart = absurd (apart refl)
 get-other (x ∷ xs) zero (suc j) y apart = refl
@@ -37,7 +37,7 @@ get-other (x ∷ xs) (suc i) zero y apart = refl
 get-other (x ∷ xs) (suc i) (suc j) y apart = get-other xs i j y (λ is. apart (ap suc is))
 
 -- What is the same of both elements is that of the list.
-map-set_same : {A B : Type 0} (f : A → B) (xs : List A) (i : ℕ) (x y : A) → slice_get xs i ≡ Some x → f y ≡ f x →
+pub map-set_same : {A B : Type 0} (f : A → B) (xs : List A) (i : ℕ) (x y : A) → slice_get xs i ≡ Some x → f y ≡ f x →
     map f (slice_set xs i y) ≡ map f xs
 map-set_same f [] i x y at same = refl
 map-set_same f (z ∷ zs) zero x y at same = λ i. (same ∙ ap f (sym (some-injective z x at))) i ∷ map f zs
@@ -159,7 +159,7 @@ module _ (setup : Setup) where
   same_core _ _ (PassOn.Further actor p mid r first on) = same_core mid r on ∙ ap (λ (x : Position). x.core) first.after
 
   -- Who leaves passes nothing, so all that leave began to where they did.
-  same_left : (p r : Position) → PassOn setup p r → map left_at r.stages ≡ map left_at p.stages
+  pub same_left : (p r : Position) → PassOn setup p r → map left_at r.stages ≡ map left_at p.stages
   same_left _ _ (PassOn.Stays p) = refl
   same_left _ _ (PassOn.Further actor p mid r first on) =
       same_left mid r on

@@ -25,13 +25,17 @@ use Rattle.alike_plays.proofs.Stages.{called_known, first_known, leaving_known, 
 abbrev pub IsKnown : State → Stage → Type 0
 IsKnown s stage = KnownStage (λ key. given s.forest key ≡ true) (λ i. i ≤ s.events) (λ n. n ≤ s.events) stage
 
--- the core shows the history of the play, and knows the names that actors know
-pub record IsSeen (setup : Setup) (p : Position) : Type 0 where
-  pub turns : List Turn
+-- the core shows a history, and knows the names that actors know
+pub record IsSeen (p : Position) : Type 0 where
   pub history : List Entry
-  pub plays : Plays setup.plans setup.clients turns history p.stages
   pub shows : Shows p.core history
   pub known : (stage : Stage) → In stage p.stages → IsKnown p.core stage
+
+-- and this history is a play by these turns
+pub record IsPlayed (setup : Setup) (p : Position) : Type 0 where
+  pub turns : List Turn
+  pub seen : IsSeen p
+  pub plays : Plays setup.plans setup.clients turns seen.history p.stages
 
 -- A core that answers a call shows the history with it.
 pub shows_on : (s later : State) (history : List Entry) (client : ℕ) (call : Call) (reply : Reply) → Shows s history →
@@ -66,55 +70,54 @@ stages_known s later history client call reply shows makes stages known actor ne
 
 module _ (setup : Setup) where
   -- the step names only what its actor knows
-  pub asks_known : (p : Position) → IsSeen setup p → (actor : ℕ) (a : Asks setup actor p) →
+  pub asks_known : (p : Position) → IsSeen p → (actor : ℕ) (a : Asks setup actor p) →
       KnownCall (λ key. given p.core.forest key ≡ true) (λ i. i ≤ p.core.events) a.asked.call
   asks_known p seen actor a = step_known (λ key. given p.core.forest key ≡ true) (λ i. i ≤ p.core.events) (λ n. n ≤ p.core.events)
       a.stage.known (seen.known a.stage (at_in p.stages actor a.stage a.at)).known setup.clients a.next.step a.asked a.call
 
   -- and so does the call by which an actor leaves
-  pub goes_known : (p : Position) → IsSeen setup p → (actor : ℕ) (g : Goes setup actor p) →
+  pub goes_known : (p : Position) → IsSeen p → (actor : ℕ) (g : Goes setup actor p) →
       KnownCall (λ key. given p.core.forest key ≡ true) (λ i. i ≤ p.core.events) g.call
   goes_known p seen actor g = leaving_known (λ key. given p.core.forest key ≡ true) (λ i. i ≤ p.core.events) (λ n. n ≤ p.core.events)
       g.stage (seen.known g.stage (at_in p.stages actor g.stage g.at)) g.call g.by
 
   -- At the start no actor knows a name.
-  begins_seen : (p : Position) → Begins setup p → IsSeen setup p
-  begins_seen p b = record {
+  begins_played : (p : Position) → Begins setup p → IsPlayed setup p
+  begins_played p b = record {
     turns = [];
-    history = joins setup.clients;
+    seen = record {
+      history = joins setup.clients;
+      shows = b.shows;
+      known = λ stage there.
+          let c = In-map (λ (client : ℕ). first_stage) setup.clients stage (subst (In stage) b.stages there) in
+          subst (IsKnown p.core) (sym c.2)
+          (first_known (λ key. given p.core.forest key ≡ true) (λ i. i ≤ p.core.events) (λ n. n ≤ p.core.events));
+    };
     plays = subst (Plays setup.plans setup.clients [] (joins setup.clients)) (sym b.stages) (Plays.Starts b.count);
-    shows = b.shows;
-    known = λ stage there.
-        let c = In-map (λ (client : ℕ). first_stage) setup.clients stage (subst (In stage) b.stages there) in
-        subst (IsKnown p.core) (sym c.2)
-        (first_known (λ key. given p.core.forest key ≡ true) (λ i. i ≤ p.core.events) (λ n. n ≤ p.core.events));
   }
 
   -- A pass changes no name.
-  pass_seen : (actor : ℕ) (old new : Position) → IsSeen setup old → Passes setup actor old new → IsSeen setup new
-  pass_seen actor old new seen pass = subst (IsSeen setup) (sym pass.after) (record {
-    turns = seen.turns;
-    history = seen.history;
-    plays = Plays.Passes seen.turns seen.history old.stages actor pass.stage pass.next old.core seen.plays pass.at pass.step pass.silent
-        seen.shows pass.looks;
-    shows = seen.shows;
-    known = λ stage there. elim (In-set old.stages actor (passed pass.stage) stage there) [
-      | inl is ↦ subst (IsKnown old.core) (sym is)
-          (passed_known (λ key. given old.core.forest key ≡ true) (λ i. i ≤ old.core.events) (λ n. n ≤ old.core.events) pass.stage
-          (seen.known pass.stage (at_in old.stages actor pass.stage pass.at)))
-      | inr other ↦ seen.known stage other
-    ];
+  pass_played : (actor : ℕ) (old new : Position) → IsPlayed setup old → Passes setup actor old new → IsPlayed setup new
+  pass_played actor old new played pass = subst (IsPlayed setup) (sym pass.after) (record {
+    turns = played.turns;
+    seen = record {
+      history = played.seen.history;
+      shows = played.seen.shows;
+      known = λ stage there. elim (In-set old.stages actor (passed pass.stage) stage there) [
+        | inl is ↦ subst (IsKnown old.core) (sym is)
+            (passed_known (λ key. given old.core.forest key ≡ true) (λ i. i ≤ old.core.events) (λ n. n ≤ old.core.events) pass.stage
+            (played.seen.known pass.stage (at_in old.stages actor pass.stage pass.at)))
+        | inr other ↦ played.seen.known stage other
+      ];
+    };
+    plays = Plays.Passes played.turns played.seen.history old.stages actor pass.stage pass.next old.core played.plays pass.at pass.step
+        pass.silent played.seen.shows pass.looks;
   })
 
   -- By the reply.
-  call_seen : (actor : ℕ) (old new : Position) → IsSeen setup old → Calls setup actor old new → IsSeen setup new
+  call_seen : (actor : ℕ) (old new : Position) → IsSeen old → Calls setup actor old new → IsSeen new
   call_seen actor old new seen c = record {
-    turns = seen.turns ++ Turn.Step actor ∷ [];
     history = seen.history ++ (c.asks.client, c.asks.asked.call, c.reply) ∷ [];
-    plays = subst (Plays setup.plans setup.clients (seen.turns ++ Turn.Step actor ∷ [])
-        (seen.history ++ (c.asks.client, c.asks.asked.call, c.reply) ∷ [])) (sym c.stages)
-        (Plays.Calls seen.turns seen.history old.stages actor c.asks.client c.asks.stage c.asks.next c.asks.asked c.reply seen.plays
-        c.asks.at c.asks.step c.asks.call c.asks.caller c.waits);
     shows = shows_on old.core new.core seen.history c.asks.client c.asks.asked.call c.reply seen.shows c.made;
     known = λ stage there. stages_known old.core new.core seen.history c.asks.client c.asks.asked.call c.reply seen.shows c.made old.stages
         seen.known actor (stage_after c.asks.stage c.asks.next c.asks.asked c.reply)
@@ -134,15 +137,22 @@ module _ (setup : Setup) where
         λ b is. events_stay old.core new.core c.asks.client c.asks.asked.call c.reply c.made b.collection (known.1 b is),
       )
 
-  -- And so.
-  leave_seen : (actor : ℕ) (old new : Position) → IsSeen setup old → Leaves setup actor old new → IsSeen setup new
+  -- And so is the play.
+  call_played : (actor : ℕ) (old new : Position) → IsPlayed setup old → Calls setup actor old new → IsPlayed setup new
+  unfolding call_seen
+  call_played actor old new played c = record {
+    turns = played.turns ++ Turn.Step actor ∷ [];
+    seen = call_seen actor old new played.seen c;
+    plays = subst (Plays setup.plans setup.clients (played.turns ++ Turn.Step actor ∷ [])
+        (played.seen.history ++ (c.asks.client, c.asks.asked.call, c.reply) ∷ [])) (sym c.stages)
+        (Plays.Calls played.turns played.seen.history old.stages actor c.asks.client c.asks.stage c.asks.next c.asks.asked c.reply
+        played.plays c.asks.at c.asks.step c.asks.call c.asks.caller c.waits);
+  }
+
+  -- By the reply.
+  leave_seen : (actor : ℕ) (old new : Position) → IsSeen old → Leaves setup actor old new → IsSeen new
   leave_seen actor old new seen l = record {
-    turns = seen.turns ++ Turn.Leave actor ∷ [];
     history = seen.history ++ (l.goes.client, l.goes.call, l.reply) ∷ [];
-    plays = subst (Plays setup.plans setup.clients (seen.turns ++ Turn.Leave actor ∷ [])
-        (seen.history ++ (l.goes.client, l.goes.call, l.reply) ∷ [])) (sym l.stages)
-        (Plays.Leaves seen.turns seen.history old.stages actor l.goes.client l.goes.stage l.goes.call l.reply seen.plays l.goes.at l.goes.by
-        l.goes.caller);
     shows = shows_on old.core new.core seen.history l.goes.client l.goes.call l.reply seen.shows l.made;
     known = λ stage there. stages_known old.core new.core seen.history l.goes.client l.goes.call l.reply seen.shows l.made old.stages
         seen.known actor (left l.goes.stage l.reply)
@@ -152,9 +162,25 @@ module _ (setup : Setup) where
         stage (subst (In stage) l.stages there);
   }
 
+  -- And so is the play.
+  leave_played : (actor : ℕ) (old new : Position) → IsPlayed setup old → Leaves setup actor old new → IsPlayed setup new
+  unfolding leave_seen
+  leave_played actor old new played l = record {
+    turns = played.turns ++ Turn.Leave actor ∷ [];
+    seen = leave_seen actor old new played.seen l;
+    plays = subst (Plays setup.plans setup.clients (played.turns ++ Turn.Leave actor ∷ [])
+        (played.seen.history ++ (l.goes.client, l.goes.call, l.reply) ∷ [])) (sym l.stages)
+        (Plays.Leaves played.turns played.seen.history old.stages actor l.goes.client l.goes.stage l.goes.call l.reply played.plays
+        l.goes.at l.goes.by l.goes.caller);
+  }
+
   -- By induction on the turns.
-  pub reached_seen : (p : Position) → Reached setup p → IsSeen setup p
-  reached_seen _ (Reached.Starts p begins) = begins_seen p begins
-  reached_seen _ (Reached.ByPass actor old new before pass) = pass_seen actor old new (reached_seen old before) pass
-  reached_seen _ (Reached.ByCall actor old new before call) = call_seen actor old new (reached_seen old before) call
-  reached_seen _ (Reached.ByLeave actor old new before leave) = leave_seen actor old new (reached_seen old before) leave
+  pub reached_played : (p : Position) → Reached setup p → IsPlayed setup p
+  reached_played _ (Reached.Starts p begins) = begins_played p begins
+  reached_played _ (Reached.ByPass actor old new before pass) = pass_played actor old new (reached_played old before) pass
+  reached_played _ (Reached.ByCall actor old new before call) = call_played actor old new (reached_played old before) call
+  reached_played _ (Reached.ByLeave actor old new before leave) = leave_played actor old new (reached_played old before) leave
+
+  -- So the core shows a history.
+  pub reached_seen : (p : Position) → Reached setup p → IsSeen p
+  reached_seen p reached = (reached_played p reached).seen

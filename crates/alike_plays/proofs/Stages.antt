@@ -158,7 +158,7 @@ module _ (Key : NodeKey → Type 0) (Id Num : ℕ → Type 0) where
       by (Some x) on has = subst (KnownObject Key Id) (sym (picked_in (test x) x o has)) (known x on)
 
   -- By the sorts.
-  parts_known : (collected : List ActorObject) (slots : List (Option ActorObject)) →
+  pub parts_known : (collected : List ActorObject) (slots : List (Option ActorObject)) →
       ((o : ActorObject) → In o collected → KnownObject Key Id o) → ((o : ActorObject) → In (Some o) slots → KnownObject Key Id o) →
       (o : ActorObject) → In o (all_objects collected slots) → KnownObject Key Id o
   parts_known collected slots known lying o among =

@@ -288,7 +288,7 @@ module _ (setup : Setup) (actor : ℕ) (one other : Position) where
             from None = refl
             from (Some l) = refl
 
-    module _ (seen : IsSeen setup one) (seen_too : IsSeen setup other) (new again : Position) where
+    module _ (seen : IsSeen one) (seen_too : IsSeen other) (new again : Position) where
       -- Where both answer, the plays stay alike.
       pub calls_alike : Calls setup actor one new → Calls setup actor other again → AreAlikePlays new again
       calls_alike c d = subst (AreAlikePlays new) (λ i. record again { stages = sym d.stages i })

@@ -2,4 +2,5 @@ pub mod Actors
 pub mod Names
 pub mod Positions
 pub mod Closed
+pub mod Ahead
 pub mod Outcomes

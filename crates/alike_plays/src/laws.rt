@@ -1,6 +1,6 @@
 //! What is proved of actors that are alike but for names. `to` gives each key a new one, `id` each
 //! collection a new number, and `number` each tracker.
-ghost use Rattle.std.specs.Prelude.{◌≡◌, Bool, List, Some, true, ℕ};
+ghost use Rattle.std.specs.Prelude.{◌≡◌, Bool, List, Option, Some, false, is_some, map, slice_get, true, ℕ};
 ghost use Rattle.std.specs.Option.{option_map};
 ghost use Rattle.sm_names.specs.declared.keys.NodeKey.{NodeKey};
 ghost use Rattle.sm_names.specs.declared.messages.Reply.{Reply};
@@ -18,11 +18,12 @@ ghost use Rattle.actor_plays.specs.declared.play.Turn.{Turn};
 ghost use Rattle.actor_plays.specs.Plays.{Plays, Stage, has_fired, leaves_by, left, next_step, passed, polls, stage_after};
 ghost use Rattle.name_laws.specs.Alike.{KeepsIds, call_renamed, reply_renamed};
 ghost use Rattle.name_laws.specs.Renamed.{KeepsKeys};
-ghost use Rattle.alike_plays.specs.Actors.{AreAlikeKnown, AreAlikeStages, asked_renamed};
+ghost use Rattle.alike_plays.specs.Actors.{AreAlikeKnown, AreAlikeStages, asked_renamed, made_of, made_renamed};
+ghost use Rattle.alike_plays.specs.Ahead.{AreAlikeAhead, GoesByEarly, count_early};
 ghost use Rattle.alike_plays.specs.Closed.{IsClosed, IsMet, IsSimulation};
 ghost use Rattle.alike_plays.specs.Names.{KnownActor, KnownCall, KnownReply, KnownStage, NamesAgree};
 ghost use Rattle.alike_plays.specs.Outcomes.{fate_kept, fate_renamed};
-ghost use Rattle.alike_plays.specs.Positions.{AreAlikePlays, Calls, Leaves, Passes, Position, Reached, Rests, Setup};
+ghost use Rattle.alike_plays.specs.Positions.{AreAlikePlays, Calls, Leaves, Passes, Position, Reached, Rests, Setup, left_at};
 
 /// Actors that are alike are at the same step, which asks for the same under their names, and leave
 /// by the same calls. They wait alike for a tracker, where the same ones have fired.
@@ -129,6 +130,45 @@ pub fn alike_plays_end_alike()
         (views_of other.core).free ≡ (views_of one.core).free }
 {}
 
+/// Of an actor that leaves only what it has still to do makes a difference: plays that are alike but for
+/// what lies behind such actors do the same, and those that are alike are so. Which actor may begin to leave
+/// must be told by which ones began early; it is, if it is told by how many did.
+pub fn what_lies_behind_makes_no_difference()
+    ensures exactly { (early : ℕ → ℕ → Bool) (one other : Position) →
+        AreAlikePlays one other → AreAlikeAhead early one other }
+    ensures counts { (setup : Setup) (early : ℕ → ℕ → Bool) (may : ℕ → ℕ → ℕ → Bool) →
+        ((begun : List (Option ℕ)) (actor at : ℕ) →
+        setup.may_leave begun actor at ≡ may (count_early early begun) actor at) → GoesByEarly early setup }
+    ensures simulates { (setup : Setup) (early : ℕ → ℕ → Bool) → GoesByEarly early setup →
+        IsSimulation setup (AreAlikeAhead early) }
+{}
+
+/// Two plays that are alike but for what lies behind actors that leave come to alike ends, as plays do that
+/// are alike. Of each actor the same steps made the same nodes and trackers, but for names. It is at the same
+/// step in both, or leaves in both, and began to early or not.
+pub fn plays_alike_ahead_end_alike()
+    ensures fates { (setup : Setup) (early : ℕ → ℕ → Bool) (one other : Position) → Reached setup one →
+        (like : AreAlikeAhead early one other) (key : NodeKey) →
+        fate_kept other.core (like.alike.to key)
+        ≡ option_map (fate_renamed like.alike.to) (fate_kept one.core key) }
+    ensures fired { (early : ℕ → ℕ → Bool) (one other : Position) (like : AreAlikeAhead early one other)
+        (tracker : ℕ) →
+        has_fired other.core.trackers.fired (like.alike.number tracker)
+        ≡ has_fired one.core.trackers.fired tracker }
+    ensures free { (early : ℕ → ℕ → Bool) (one other : Position) → AreAlikeAhead early one other →
+        (views_of other.core).free ≡ (views_of one.core).free }
+    ensures made { (early : ℕ → ℕ → Bool) (one other : Position) (like : AreAlikeAhead early one other)
+        (actor : ℕ) (stage same : Stage) → slice_get one.stages actor ≡ Some stage →
+        slice_get other.stages actor ≡ Some same →
+        made_of same.made
+        ≡ map (made_renamed like.alike.to like.alike.id like.alike.number) (made_of stage.made) }
+    ensures steps { (early : ℕ → ℕ → Bool) (one other : Position) (like : AreAlikeAhead early one other)
+        (actor : ℕ) (stage same : Stage) → slice_get one.stages actor ≡ Some stage →
+        slice_get other.stages actor ≡ Some same →
+        (option_map (early actor) (left_at same) ≡ option_map (early actor) (left_at stage))
+        × (is_some stage.leaving ≡ false → same.at ≡ stage.at) }
+{}
+
 /// Where no turn leads out of these positions, but for names, none is missing: each play passes on to
 /// one that is alike to one of these, and is alike to it itself if all actors have passed what they can.
 /// So it is with whatever likeness by which plays do the same.
@@ -138,6 +178,13 @@ pub fn no_play_leads_out_of_a_closed_set()
     ensures rested { (setup : Setup) (rows : List Position) → IsClosed setup AreAlikePlays rows →
         (p : Position) → Reached setup p → ((actor : ℕ) → Rests setup p actor) →
         (row : Position) × In row rows × AreAlikePlays p row }
+    ensures ahead { (setup : Setup) (early : ℕ → ℕ → Bool) → GoesByEarly early setup →
+        (rows : List Position) → IsClosed setup (AreAlikeAhead early) rows →
+        (p : Position) → Reached setup p → IsMet setup (AreAlikeAhead early) rows p }
+    ensures ahead_rested { (setup : Setup) (early : ℕ → ℕ → Bool) → GoesByEarly early setup →
+        (rows : List Position) → IsClosed setup (AreAlikeAhead early) rows →
+        (p : Position) → Reached setup p → ((actor : ℕ) → Rests setup p actor) →
+        (row : Position) × In row rows × AreAlikeAhead early p row }
     ensures like { (setup : Setup) (like : Position → Position → Bool) →
         IsSimulation setup (λ one other. like one other ≡ true) → (rows : List Position) →
         IsClosed setup (λ one other. like one other ≡ true) rows →

@@ -4,7 +4,7 @@ use Rattle.alike_plays.proofs.Reaching.{reached_seen}
 use Rattle.alike_plays.proofs.laws.alike_plays_end_alike.Goals as goal
 
 pub returns-clause-fates : goal.returns-clause-fates
-returns-clause-fates c setup one other reached alike key = fate_alike setup one other (reached_seen setup one reached) alike key
+returns-clause-fates c setup one other reached alike key = fate_alike one other (reached_seen setup one reached) alike key
 
 pub returns-clause-fired : goal.returns-clause-fired
 returns-clause-fired c one other alike tracker =
