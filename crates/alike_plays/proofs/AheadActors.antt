@@ -1,6 +1,6 @@
 -- Actors of plays that are alike but for what lies behind those that leave.
 use Rattle.std.proofs.Common.{ℕ, zero, suc, ◌≡◌, ◌≤◌, ◌⊎◌, inl, inr, refl, ap, sym, subst, ◌∙◌, Bool, true, false, cond, ◌==◌, ◌+◌}
-use Rattle.std.proofs.Common.{List, [], ◌∷◌, map, Option, Some, None, is_some, slice_get, slice_set}
+use Rattle.std.proofs.Common.{List, [], ◌∷◌, length, map, Option, Some, None, is_some, slice_get, slice_set}
 use Rattle.std.proofs.lemmas.Bool.{eq-eqb, eqb-true}
 use Rattle.std.proofs.lemmas.Option.{slice_get-map}
 use Rattle.std.specs.Option.{option_map, option_map_or}
@@ -12,7 +12,8 @@ use Rattle.forest_store.specs.Forest.{given}
 use Rattle.actor_plays.specs.Leaves.{Leave}
 use Rattle.actor_plays.specs.Plays.{Stage}
 use Rattle.alike_plays.specs.Actors.{AreAlikeStages, leave_renamed, made_of, made_renamed}
-use Rattle.alike_plays.specs.Ahead.{AreAlikeAhead, GoesByEarly, ahead, ahead_by, ahead_of, count_early, early_in, going_on}
+use Rattle.alike_plays.specs.Ahead.{AreAlikeAhead, GoesByEarly, ahead, ahead_by, ahead_of, count_early, early_first, early_in}
+use Rattle.alike_plays.specs.Ahead.{going_on}
 use Rattle.alike_plays.specs.Positions.{AreAlikeAll, AreAlikePlays, Position, Setup, left_at}
 use Rattle.alike_plays.proofs.Ahead.{ahead-alike, ahead_known, plain, plain_back, same_leaving}
 use Rattle.alike_plays.proofs.Passing.{get-other}
@@ -75,22 +76,35 @@ early_put early xs ys i x y told there same place = by (either_way (i == place))
         apart is = both_ways (i == place) (eq-eqb i place is) other
 
 -- By cases.
-flag-told : (test : ℕ → Bool) (o : Option ℕ) → option_map_or test o false ≡ option_map_or (λ (b : Bool). b) (option_map test o) false
+flag-told : (test : ℕ → Bool) (o : Option (Option ℕ)) →
+    option_map_or (λ (x : Option ℕ). option_map_or test x false) o false
+    ≡ option_map_or (λ (x : Option Bool). option_map_or (λ (b : Bool). b) x false) (option_map (option_map test) o) false
 flag-told test None = refl
-flag-told test (Some n) = refl
+flag-told test (Some None) = refl
+flag-told test (Some (Some n)) = refl
 
--- So many began early, if the same ones did.
+-- The same ones began early, so as many of the first did.
+first-alike : (early : ℕ → ℕ → Bool) (xs ys : List (Option ℕ)) → ((place : ℕ) → early_in early ys place ≡ early_in early xs place) →
+    (n : ℕ) → early_first early ys n ≡ early_first early xs n
+first-alike early xs ys told zero = refl
+first-alike early xs ys told (suc n) =
+    λ i. first-alike early xs ys told n i + cond ((flag-told (early n) (slice_get ys n)
+    ∙ (ap (λ (o : Option (Option Bool)). option_map_or (λ (x : Option Bool). option_map_or (λ (b : Bool). b) x false) o false) (told n)
+    ∙ sym (flag-told (early n) (slice_get xs n)))) i) 1 0
+
+-- There are as many actors.
+length-alike : (early : ℕ → ℕ → Bool) (xs ys : List (Option ℕ)) → ((place : ℕ) → early_in early ys place ≡ early_in early xs place) →
+    length ys ≡ length xs
+length-alike early [] [] told = refl
+length-alike early [] (y ∷ ys) told = let none : Some (option_map (early 0) y) ≡ None = told 0 in cc
+length-alike early (x ∷ xs) [] told = let none : None ≡ Some (option_map (early 0) x) = told 0 in cc
+length-alike early (x ∷ xs) (y ∷ ys) told = ap suc (length-alike (λ place. early (suc place)) xs ys (λ place. told (suc place)))
+
+-- So as many of all did.
 count-alike : (early : ℕ → ℕ → Bool) (xs ys : List (Option ℕ)) → ((place : ℕ) → early_in early ys place ≡ early_in early xs place) →
     count_early early ys ≡ count_early early xs
-count-alike early [] [] told = refl
-count-alike early [] (y ∷ ys) told = let none : Some (option_map (early 0) y) ≡ None = told 0 in cc
-count-alike early (x ∷ xs) [] told = let none : None ≡ Some (option_map (early 0) x) = told 0 in cc
-count-alike early (x ∷ xs) (y ∷ ys) told =
-    λ i. cond ((flag-told (early 0) y
-    ∙ (ap (λ (o : Option Bool). option_map_or (λ (b : Bool). b) o false)
-    (some-injective (option_map (early 0) y) (option_map (early 0) x) (told 0))
-    ∙ sym (flag-told (early 0) x))) i) 1 0
-    + count-alike (λ place. early (suc place)) xs ys (λ place. told (suc place)) i
+count-alike early xs ys told =
+    ap (early_first early ys) (length-alike early xs ys told) ∙ first-alike early xs ys told (length xs)
 
 -- So who may begin is told by who began early, if it is told by how many did.
 pub counts_early : (setup : Setup) (early : ℕ → ℕ → Bool) (may : ℕ → ℕ → ℕ → Bool) →

@@ -1,5 +1,5 @@
 -- What lies ahead of actors: of one that leaves, only what it has still to do counts.
-use Rattle.std.specs.Prelude.{◌≡◌, ◌==◌, ◌+◌, ℕ, suc, Bool, true, false, if◌then◌else◌, List, [], ◌∷◌, drop, map, slice_get, Option, Some, None}
+use Rattle.std.specs.Prelude.{◌≡◌, ◌==◌, ◌+◌, ℕ, zero, suc, Bool, true, false, if◌then◌else◌, List, [], drop, length, map, slice_get, Option, Some, None}
 use Rattle.std.specs.Option.{option_map, option_map_or}
 use Rattle.actor_scripts.specs.ActorStates.{nothing_known}
 use Rattle.actor_plays.specs.Leaves.{Leave, all_objects}
@@ -46,12 +46,19 @@ abbrev pub GoesByEarly : (ℕ → ℕ → Bool) → Setup → Type 0
 GoesByEarly early setup = (begun again : List (Option ℕ)) → ((place : ℕ) → early_in early again place ≡ early_in early begun place) →
     (actor at : ℕ) → setup.may_leave again actor at ≡ setup.may_leave begun actor at
 
--- how many of these began early
+-- the actor of this place leaves, and began early
+abbrev pub is_early_in : (ℕ → ℕ → Bool) → List (Option ℕ) → ℕ → Bool
+is_early_in early begun place =
+    option_map_or (λ (o : Option ℕ). option_map_or (early place) o false) (slice_get begun place) false
+
+-- how many of the first actors did so
+abbrev pub early_first : (ℕ → ℕ → Bool) → List (Option ℕ) → ℕ → ℕ
+early_first early begun zero = zero
+early_first early begun (suc count) = early_first early begun count + (if is_early_in early begun count then 1 else 0)
+
+-- how many of all
 abbrev pub count_early : (ℕ → ℕ → Bool) → List (Option ℕ) → ℕ
-count_early early [] = 0
-count_early early (begun ∷ more) =
-    let first : ℕ = if option_map_or (early 0) begun false then 1 else 0 in
-    first + count_early (λ place. early (suc place)) more
+count_early early begun = early_first early begun (length begun)
 
 -- the plays are alike but for what lies behind actors that leave, and of these the same ones began early
 pub record AreAlikeAhead (early : ℕ → ℕ → Bool) (one other : Position) : Type 0 where
