@@ -15,7 +15,7 @@ use Rattle.actor_plays.specs.declared.plan.Planned.{Planned}
 use Rattle.actor_plays.specs.Leaves.{Leave, all_objects, leave_after, leave_call, parting_call}
 use Rattle.actor_plays.specs.Plans.{steps_of}
 use Rattle.actor_plays.specs.Plays.{Stage, leaves_by, left, next_step}
-use Rattle.alike_plays.specs.Actors.{AreAlikeStages, leave_renamed, object_renamed}
+use Rattle.alike_plays.specs.Actors.{AreAlikeStages, leave_renamed, made_of, made_renamed, object_renamed}
 use Rattle.alike_plays.specs.Ahead.{ahead_by, ahead_of, going_on}
 use Rattle.alike_plays.specs.Names.{KnownActor, KnownObject, KnownStage}
 use Rattle.alike_plays.proofs.Leaving.{all-renamed}
@@ -251,6 +251,49 @@ module _ (to : NodeKey → NodeKey) (id number : ℕ → ℕ) where
           AreAlikeStages to id number (ahead_by one o) (ahead_by other (option_map (leave_renamed to id) o))
       by None = alike
       by (Some l) = goes (l.waiting == 0) l
+
+  -- Two that leave are alike ahead if as many parcels wait for both, and they part with the same: if none waits with what is left, and
+  -- otherwise with each sort of what they collected and of what lies in their slots.
+  pub going-alike : (one other : Stage) (l m : Leave) → one.leaving ≡ Some l → other.leaving ≡ Some m → m.waiting ≡ l.waiting →
+      made_of other.made ≡ map (made_renamed to id number) (made_of one.made) →
+      ((l.waiting == 0) ≡ true → drop m.parted (all_objects m.collected other.known.objects)
+      ≡ map (object_renamed to id) (drop l.parted (all_objects l.collected one.known.objects))) →
+      ((l.waiting == 0) ≡ false → (m.parted ≡ l.parted)
+      × (all_objects m.collected [] ≡ map (object_renamed to id) (all_objects l.collected []))
+      × (all_objects [] other.known.objects ≡ map (object_renamed to id) (all_objects [] one.known.objects))) →
+      AreAlikeStages to id number (ahead_of one) (ahead_of other)
+  going-alike one other l m is is_too waiting made rest sorts =
+      subst (λ (o : Option Leave). AreAlikeStages to id number (ahead_by one o) (ahead_of other)) (sym is)
+      (subst (λ (o : Option Leave). AreAlikeStages to id number (ahead_by one (Some l)) (ahead_by other o)) (sym is_too)
+      (subst (λ (n : ℕ). AreAlikeStages to id number (ahead_by one (Some l)) (going_on (n == 0) other m)) (sym waiting)
+      (goes (l.waiting == 0) refl)))
+    where
+      -- by whether parcels wait
+      goes : (b : Bool) → (l.waiting == 0) ≡ b → AreAlikeStages to id number (going_on b one l) (going_on b other m)
+      goes true none = record {
+        at = refl;
+        known = record {
+          nodes = λ label. refl;
+          trackers = λ label. refl;
+          objects = refl;
+          spots = λ key. refl;
+          handles = λ strength b. refl;
+        };
+        made = made;
+        leaving = λ i. Some (record { waiting = waiting i; collected = rest none i; parted = 0 });
+      }
+      goes false some = record {
+        at = refl;
+        known = record {
+          nodes = λ label. refl;
+          trackers = λ label. refl;
+          objects = ap (map Some) (sorts some).2 ∙ somes-renamed (all_objects [] one.known.objects);
+          spots = λ key. refl;
+          handles = λ strength b. refl;
+        };
+        made = made;
+        leaving = λ i. Some (record { waiting = waiting i; collected = (sorts some).1 i; parted = (sorts some).0 i });
+      }
 
 -- By the number.
 In-drop : {A : Type 0} (n : ℕ) (xs : List A) (x : A) → In x (drop n xs) → In x xs
