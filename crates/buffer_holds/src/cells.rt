@@ -9,7 +9,7 @@ use crate::tally_page::{BoxedTallies, TallyPage};
 
 // Notes how many of one kind are open now, if there never were as many.
 #[inline(always)]
-fn note_most(most: &mut u32, total: u32)
+pub(crate) fn note_most(most: &mut u32, total: u32)
     ensures { most.new ≡ max most.old total }
 {
     if *most < total {

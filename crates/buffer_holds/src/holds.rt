@@ -13,8 +13,8 @@ use crate::client_rows::{Rows, count_of, few_rows, forget, lower, make_room, no_
 use crate::fault::HoldFault;
 use crate::hashing::CountHash;
 use crate::kinds::{HandleKind, Hold};
+use crate::last::Last;
 use crate::runs::open_run;
-use crate::spot::{Last, Spot};
 use crate::tally_pages::{
     Tallies, close, land, leave, lift, no_tallies, none_open, open, open_there, tally_of, total_of,
 };
@@ -42,7 +42,6 @@ use std::marker::Model;
 /// count. The last page that lost its rows stays in its table, so that a client which comes and goes takes no
 /// memory; others are kept for the next page that is needed. A new page is amortised: where a table grows, its
 /// entries are moved, and no page is.
-/// `total_near` and `add_near` do what `total` and `add` do.
 #[derive(Drop)]
 pub struct Holds {
     limit: u32,
@@ -138,15 +137,6 @@ impl Holds {
         total_of(&self.tallies, kind, &self.last.tally)
     }
 
-    /// Answers what `total` answers, at the same cost. The spot stays as it is.
-    pub fn total_near(&self, buffer: BufferName, strength: Strength, _near: &mut Spot) -> u32
-        ensures value { result ≡ total self.now buffer strength }
-        ensures within { result ≤ self.now.limit }
-        ensures one_row_each { IsDistinct same_hold (keys_of self.now.rows) }
-    {
-        self.total(buffer, strength)
-    }
-
     /// Whether it is known of each kind of handle that fewer are open than may be. It is, until as many
     /// of one kind were open at once. Costs O(1).
     pub fn have_room(&self) -> bool
@@ -194,15 +184,6 @@ impl Holds {
         none_open(&self.tallies, buffer, &self.last.tally)
     }
 
-    /// What `home` says, at the same cost. The spot stays as it is.
-    #[inline(always)]
-    pub fn home_near(&self, buffer: BufferName, strong_live: bool, _near: &mut Spot) -> bool
-        ensures { result ≡ is_home (total self.now buffer Strength.Strong)
-            (total self.now buffer Strength.Weak) strong_live }
-    {
-        self.home(buffer, strong_live)
-    }
-
     /// Opens one more of these handles for the client.
     ///
     /// `TooMany` comes exactly where as many are open as may be, and `NoMemory` only where the
@@ -225,21 +206,16 @@ impl Holds {
         ensures places { self.new.places ≡ self.old.places }
         ensures err { OnErr result (self.new ≡ self.old) }
     {
-        if self.add_there(client, buffer, strength) {
-            return Ok(());
-        }
-        self.add_by_search(client, buffer, strength)
+        self.add_inline(client, buffer, strength)
     }
 
-    /// Does what `add` does. It takes no look-up where the last ones ended in the client's page and in that of
-    /// the sums. The spot stays as it is.
+    // Does what `add` does, as a part of the caller.
     #[inline(always)]
-    pub fn add_near(
+    pub(crate) fn add_inline(
         &mut self,
         client: ClientId,
         buffer: BufferName,
         strength: Strength,
-        _near: &mut Spot,
     ) -> Result<(), HoldFault>
         ensures opened { OnOk result (Sets self.old self.new client buffer strength
             (of self.old client buffer strength + 1) (moving_count self.old buffer strength)

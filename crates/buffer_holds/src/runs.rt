@@ -5,8 +5,8 @@ ghost use Rattle.buffer_holds.specs.Runs.{HasRoomFor, IsSound, KeepsOlder, Opens
 use crate::cells::count_boxed;
 use crate::client_rows::{Rows, few_rows, is_page_at as is_row_page};
 use crate::kinds::Hold;
+use crate::last::Last;
 use crate::names::{owner_of, part_of, slot_of};
-use crate::spot::Last;
 use crate::tally_pages::{Tallies, is_page_at as is_tally_page};
 
 // How many buffers a part has.

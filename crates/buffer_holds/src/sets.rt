@@ -6,7 +6,6 @@ ghost use Rattle.buffer_holds.specs.Counts.{Counts, has_handle_room, moving_coun
 
 use crate::fault::HoldFault;
 use crate::holds::Holds;
-use crate::spot::Spot;
 use sm_names::{BufferName, ClientId, CollectionId, NoMemory, Strength};
 
 // How many bits a set of buffers has.
@@ -41,11 +40,10 @@ impl Holds {
         if set == 1 {
             return self.add_first(client, collection, strength);
         }
-        let mut near = Spot::new();
         let mut rest = set;
         let mut index = 0;
         while rest != 0 {
-            match self.add_at(client, collection, strength, rest, index, &mut near) {
+            match self.add_at(client, collection, strength, rest, index) {
                 Ok(next) => {
                     rest >>= next - index;
                     index = next;
@@ -95,7 +93,6 @@ impl Holds {
         strength: Strength,
         rest: u64,
         index: u8,
-        near: &mut Spot,
     ) -> Result<u8, NoMemory>
         requires within { index < 64 }
         requires fewer { (n : ℕ) → bit_at rest n ≡ 1 →
@@ -113,7 +110,7 @@ impl Holds {
         if rest % 2 == 0 {
             return Ok(index + 1);
         }
-        self.add_one(client, BufferName { collection, index }, strength, near)?;
+        self.add_one(client, BufferName { collection, index }, strength)?;
         let next = index + 1;
         if next % 32 == 0 {
             return Ok(next);
@@ -121,14 +118,13 @@ impl Holds {
         Ok(self.add_run(client, collection, strength, rest / 2, next))
     }
 
-    // Does what `add_near` does, where fewer are open than may be.
+    // Does what `add` does, where fewer are open than may be.
     #[inline(always)]
     fn add_one(
         &mut self,
         client: ClientId,
         buffer: BufferName,
         strength: Strength,
-        near: &mut Spot,
     ) -> Result<(), NoMemory>
         requires { total self.old buffer strength < self.old.limit }
         ensures opened { OnOk result (Sets self.old self.new client buffer strength
@@ -138,7 +134,7 @@ impl Holds {
         ensures places { self.new.places ≡ self.old.places }
         ensures err { OnErr result (self.new ≡ self.old) }
     {
-        match self.add_near(client, buffer, strength, near) {
+        match self.add_inline(client, buffer, strength) {
             Ok(()) => Ok(()),
             Err(HoldFault::NoMemory) => Err(NoMemory),
             Err(HoldFault::TooMany) => unreachable!(),

@@ -11,12 +11,13 @@ ghost use Rattle.buffer_holds.specs.Rows.{count_at, row_at, Keeps, Raises, Reset
 ghost use Rattle.buffer_holds.specs.Stored.{OpensOne, one_more};
 ghost use Rattle.buffer_holds.specs.Sound.{no_tally, one_of, tally_at, tally_row, without_client};
 
+use crate::cells::note_most;
 use crate::client_rows::{Rows, few_rows, raise, raise_at};
 use crate::fault::HoldFault;
 use crate::hashing::CountHash;
 use crate::kinds::{HandleKind, Hold};
+use crate::last::Last;
 use crate::names::{Part, part_of, slot_of};
-use crate::spot::Last;
 use crate::tally::{NO_TALLY, Tally};
 use crate::tally_page::BoxedTallies;
 use indexmap::IndexMap;
@@ -404,10 +405,7 @@ pub(crate) fn open(
     };
     let page = tallies.pages.get_index_mut(place).unwrap();
     page.count(slot, more);
-    let total = tally.total + 1;
-    if *most < total {
-        *most = total;
-    }
+    note_most(most, tally.total + 1);
     Ok(())
 }
 

@@ -8,7 +8,7 @@ ghost use Rattle.forest_steps.specs.Runs.{rest_of, HoldsRun};
 ghost use Rattle.forest_store.specs.Scenes.{by_page, is_out, pages_held};
 
 use crate::page_ranges::{PageRange, extend_range, return_range};
-use buffer_holds::{Holds, Spot};
+use buffer_holds::Holds;
 use buffer_pool::Pool;
 use sm_names::HeldBuffer;
 
@@ -46,11 +46,10 @@ fn return_pages(held: &[HeldBuffer], pool: &mut Pool, holds: &Holds, strong_live
     ensures out { result ≡ length (filter (is_out (total holds.now) strong_live) held.now) }
 {
     look_at(pool);
-    let mut near = Spot::new();
     let mut run = PageRange::new();
     let mut out = 0;
     for buffer in held {
-        out += return_one(*buffer, pool, holds, strong_live, &mut near, &mut run);
+        out += return_one(*buffer, pool, holds, strong_live, &mut run);
     }
     return_range(pool, run);
     out
@@ -63,7 +62,6 @@ fn return_one(
     pool: &mut Pool,
     holds: &Holds,
     strong_live: bool,
-    near: &mut Spot,
     run: &mut PageRange,
 ) -> usize
     requires sound { IsSoundPool pool.old }
@@ -77,7 +75,7 @@ fn return_one(
     ensures sound { IsSoundPool pool.new }
     ensures out { result ≡ (if is_out (total holds.now) strong_live buffer then 1 else 0) }
 {
-    if holds.home_near(buffer.buffer, strong_live, near) {
+    if holds.home(buffer.buffer, strong_live) {
         *run = extend_range(pool, *run, buffer.pages);
         return 0;
     }
@@ -103,10 +101,9 @@ fn keep_held(held: &mut Vec<HeldBuffer>, holds: &Holds, strong_live: bool, out: 
         held.clear();
         return;
     }
-    let mut near = Spot::new();
     let mut at = 0;
     while at < held.len() {
-        if holds.home_near(held[at].buffer, strong_live, &mut near) {
+        if holds.home(held[at].buffer, strong_live) {
             held.remove(at);
         } else {
             at += 1;

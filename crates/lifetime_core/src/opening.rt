@@ -5,7 +5,6 @@ ghost use Rattle.sm_names.specs.Answers.{is_at_limit, set_of, strength_of as str
 ghost use Rattle.core_state.specs.Reads.{readings_of, to_open_in};
 
 use crate::machine::Core;
-use buffer_holds::Spot;
 use sm_names::{BufferName, CollectionId, MAX_BUFFERS, Strength};
 
 /// The strength of handles that are taken through a node, which is weak or not.
@@ -33,12 +32,9 @@ pub(crate) fn is_one_full(core: &Core, collection: CollectionId, strength: Stren
         return false;
     };
     let strong_live = core.strong_live(collection);
-    let mut near = Spot::new();
     for index in 0..buffers.count as u8 {
         let buffer = BufferName { collection, index };
-        if !core.is_doomed(buffer, strong_live)
-            && core.has_all_handles_near(buffer, strength, &mut near)
-        {
+        if !core.is_doomed(buffer, strong_live) && core.has_all_handles(buffer, strength) {
             return true;
         }
     }

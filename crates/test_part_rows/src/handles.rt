@@ -3,7 +3,7 @@ ghost use Rattle.std.specs.Prelude.{◌<◌};
 
 use crate::line::Line;
 use crate::verb::Verb;
-use buffer_holds::{CountHash, HandleKind, Hold, HoldFault, Holds, Spot};
+use buffer_holds::{CountHash, HandleKind, Hold, HoldFault, Holds};
 use script_lines::Part;
 use sm_names::{BufferName, ClientId, Strength};
 use std::alloc::Global;
@@ -16,11 +16,10 @@ const HERE: u64 = 7;
 // The numbers of the twins begin behind this one.
 const TWINS: u64 = 100;
 
-/// The counts, and where the last look-up of those that are near each other found them.
+/// The counts.
 #[derive(Drop)]
 pub struct Handles {
     holds: Holds,
-    near: Spot,
 }
 
 // The buffer whose collection undoes what a client makes of the hash under the seed of zeros: with their client
@@ -134,7 +133,6 @@ impl Handles {
     pub fn new(alloc: Global, limit: u32, seed: u64) -> Handles {
         Handles {
             holds: Holds::with_seed(alloc, limit, bytes_of(seed)),
-            near: Spot::new(),
         }
     }
 
@@ -175,10 +173,7 @@ impl Handles {
         let (buffer, strength) = (buffer_of(buffer), strength_of(strength));
         match line.verb {
             Verb::Open => opened(self.holds.add(client, buffer, strength)),
-            Verb::Next => opened(
-                self.holds
-                    .add_near(client, buffer, strength, &mut self.near),
-            ),
+            Verb::Next => opened(self.holds.add(client, buffer, strength)),
             Verb::Each => self.open_each(line),
             Verb::Close => found(self.holds.sub(client, buffer, strength)),
             Verb::Lift => self.lift(client, buffer, strength),
@@ -187,16 +182,13 @@ impl Handles {
                 self.holds.tidy(client, buffer, strength);
                 ""
             }
-            Verb::Anew => {
-                self.near = Spot::new();
-                ""
-            }
+            Verb::Anew => "",
             _ => ": not understood",
         }
     }
 
     // Puts the counts of a buffer and a strength behind what is there: of clients 1 to 3, of the parcels, and of
-    // all. The latter is looked for twice, where it is near what was looked for before, and anew.
+    // all. The latter is looked for twice.
     fn push_counts(&mut self, buffer: BufferName, strength: Strength, text: &mut Text) {
         text.word(word_of(strength));
         for client in 1..=3 {
@@ -205,7 +197,7 @@ impl Handles {
         }
         let moving = u64::from(self.holds.moving(buffer, strength));
         let total = u64::from(self.holds.total(buffer, strength));
-        let near = u64::from(self.holds.total_near(buffer, strength, &mut self.near));
+        let near = u64::from(self.holds.total(buffer, strength));
         text.push(&[
             Part::Word(", "),
             Part::Number(moving),

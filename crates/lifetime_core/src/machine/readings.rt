@@ -18,7 +18,6 @@ ghost use Rattle.core_state.specs.Reads.{readings_of};
 
 use super::Core;
 use alloc_event::Node;
-use buffer_holds::Spot;
 use core_state::clients::{count_waiting, first_waiting, has_joined, is_shut};
 use core_state::reading::with_end;
 use sm_names::{
@@ -84,19 +83,6 @@ impl Core {
             return false;
         }
         self.limits.handles() <= self.contents.holds.total(buffer, strength)
-    }
-
-    // Does what `has_all_handles` does, and searches from this spot on.
-    #[inline(always)]
-    pub(crate) fn has_all_handles_near(
-        &self,
-        buffer: BufferName,
-        strength: Strength,
-        near: &mut Spot,
-    ) -> bool
-        ensures { result ≡ is_at_limit self.now.limits (readings_of self.now) strength buffer }
-    {
-        self.limits.handles() <= self.contents.holds.total_near(buffer, strength, near)
     }
 
     // Whether as many trackers wait as the limit allows.

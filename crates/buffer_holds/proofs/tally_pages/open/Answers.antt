@@ -181,9 +181,9 @@ count-requires-clause-some c =
       ap (λ o. (unwrap_or o no_tally).clients) (there (goal.at.count-requires-clause-some c).After-unwrap-page),
     ))
 
-pub overflow_add-total : goal.overflow_add-total
-overflow_add-total c =
-    let d = (goal.at.overflow_add-total c).After-get-tally in
+pub overflow_add-tally : goal.overflow_add-tally
+overflow_add-tally c =
+    let d = (goal.at.overflow_add-tally c).After-get-tally in
     omega (arith, c.requires.within, c.if-tally-limit.false, c.ranges.limit.fits, ap (λ (t : Tally). t.total) (was d))
 
 pub returns-clause-too_many : goal.returns-clause-too_many

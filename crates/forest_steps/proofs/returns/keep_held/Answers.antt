@@ -14,8 +14,8 @@ returns-then-out-eq0 c =
     (omega (arith, c.requires, c.if-out-eq0.true)))
 
 -- one is removed
-pub loop-at-preserved-then-home_near : goal.loop-at-preserved-then-home_near
-loop-at-preserved-then-home_near c = grind (arith, filter_removed, take_removed)
+pub loop-at-preserved-then-home : goal.loop-at-preserved-then-home
+loop-at-preserved-then-home c = grind (arith, filter_removed, take_removed)
 
 pub returns : goal.returns
 returns c = grind (arith, common_steps)

@@ -5,7 +5,7 @@ use Rattle.sm_names.specs.declared.keys.BufferName.{BufferName}
 use Rattle.sm_names.specs.Answers.{is_at_limit}
 use Rattle.core_state.specs.Reads.{readings_of, to_open_in}
 use Rattle.core_state.proofs.handles.ToOpen.{all_to_open, keeps_buffer, kept_from, next_passes, none_kept}
-use Rattle.lifetime_core.proofs.opening.is_one_full.Goals.{else-not-is_doomed-via-then-not-is_doomed+else-has_all_handles_near}
+use Rattle.lifetime_core.proofs.opening.is_one_full.Goals.{else-not-is_doomed-via-then-not-is_doomed+else-has_all_handles}
 use Rattle.lifetime_core.proofs.opening.is_one_full.Goals.{else-not-is_doomed-via-else-not-is_doomed}
 use Rattle.lifetime_core.proofs.opening.is_one_full.Goals as goal
 
@@ -23,12 +23,12 @@ loop-index-init c =
     (all_to_open c.args.core.now c.args.collection c.in-Some.buffers (sym c.in-Some.ensures.value)))
 
 -- this one is full
-pub returns-then-has_all_handles_near : goal.returns-then-has_all_handles_near
-returns-then-has_all_handles_near c =
+pub returns-then-has_all_handles : goal.returns-then-has_all_handles
+returns-then-has_all_handles c =
     let full : BufferName → Bool = is_at_limit c.args.core.now.limits (readings_of c.args.core.now) c.args.strength in
     sym (next_passes full c.args.core.now c.args.collection c.strong_live-strong_live.result c.loop-index.index c.in-Some.buffers.count
     c.loop-index-test.true
-    ∙ rw (← c.if-not-is_doomed.ensures, ← c.if-has_all_handles_near.ensures) refl)
+    ∙ rw (← c.if-not-is_doomed.ensures, ← c.if-has_all_handles.ensures) refl)
     ∙ c.loop-index.invariant
 
 -- this one is doomed, or not full
@@ -40,8 +40,8 @@ loop-index-preserved c =
     c.in-Some.buffers.count) in
     let passes_not : (keeps_buffer c.args.core.now c.strong_live-strong_live.result name && full name) ≡ false =
     elim c.else-not-is_doomed.branch [
-      | else-not-is_doomed-via-then-not-is_doomed+else-has_all_handles_near w ↦
-          rw (← w.if-not-is_doomed.ensures, ← w.if-has_all_handles_near.ensures) refl
+      | else-not-is_doomed-via-then-not-is_doomed+else-has_all_handles w ↦
+          rw (← w.if-not-is_doomed.ensures, ← w.if-has_all_handles.ensures) refl
       | else-not-is_doomed-via-else-not-is_doomed w ↦ rw (← w.if-not-is_doomed.ensures) refl
     ] in
     sym (next_passes full c.args.core.now c.args.collection c.strong_live-strong_live.result c.loop-index.index c.in-Some.buffers.count

@@ -1,0 +1,20 @@
+//! Where look-ups found their counts.
+use std::cell::Cell;
+
+// Where the last look-ups found a page of rows and one of tallies. These are looked at first, and no
+// clause knows of them.
+#[derive(Drop)]
+pub(crate) struct Last {
+    pub(crate) row: Cell<usize>,
+    pub(crate) tally: Cell<usize>,
+}
+
+impl Last {
+    // Before the first look-up.
+    pub(crate) fn new() -> Last {
+        Last {
+            row: Cell::new(0),
+            tally: Cell::new(0),
+        }
+    }
+}
