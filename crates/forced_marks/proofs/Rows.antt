@@ -35,9 +35,11 @@ module _ (marks : Timeline) (way taken : List NodeKey) where
   row_is h on =
       let f = In-filter (λ (x : Handing). nat_lt 0 (length x.below)) _ h on in
       let m = In-map (λ node. record { above = node; below = handed marks way taken node }) taken h f.0 in
-      let same : m.0 ≡ h.above = ap (λ (x : Handing). x.above) (sym m.2) in
-      (subst (λ (k : NodeKey). In k taken) same m.1, m.2 ∙ ap
-        (λ (k : NodeKey). record { above = k; below = handed marks way taken k }) same)
+      let same : m.0 ≡ h.above = ap (λ (x : Handing). x.above) (sym m.2) in (
+        subst (λ (k : NodeKey). In k taken) same m.1,
+        m.2 ∙ ap
+            (λ (k : NodeKey). record { above = k; below = handed marks way taken k }) same,
+      )
 
   -- what is handed on was taken, hangs on whoever hands it on, and is not on the way
   pub below_is : (above node : NodeKey) → In node (handed marks way taken above) →

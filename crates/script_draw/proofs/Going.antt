@@ -74,7 +74,7 @@ halted-at-end : (setting : Setting) (until : Until) (scroll : Scroll) (script : 
     (far : Reached setting until scroll (whole_lines script)) →
     IsAhead until setting.pool (whole_lines script) far.scene → last_part script ≢ [] →
     number ≡ length (whole_lines script) + 1 → IsBadLine number fault → HasReason unended_reason fault →
-      PlayLinesHalt setting until scroll script fault
+    PlayLinesHalt setting until scroll script fault
 halted-at-end setting until scroll script number ReportFault.ReadFault far ahead some numbered is told = absurd is
 halted-at-end setting until scroll script number ReportFault.TooLong far ahead some numbered is told = absurd is
 halted-at-end setting until scroll script number ReportFault.WriteFault far ahead some numbered is told = absurd is
@@ -166,7 +166,7 @@ module _ (script rest : List ℕ) (number : ℕ) (until : Until) (first now : Sc
       -- the last line has no end
       pub along-unended : (length rest == 0) ≡ false → (count : ℕ) → count ≡ min (number + 1) (2 ^ 64 - 1) →
           (fault : ReportFault) → IsBadLine count fault → HasReason unended_reason fault →
-            (setting : Setting) → Reached setting until first [] →
+          (setting : Setting) → Reached setting until first [] →
           PlayLinesHalt setting until now script fault
       along-unended some count counted fault is told setting far =
           let so_far = along.reached setting far in

@@ -106,7 +106,7 @@ halted-lines setting only old new pending script ReportFault.NoMemory stop = sto
 pub halted-at-end : (setting : Setting) (only : Bool) (seen : Seen) (old new : Option (List ℕ)) (pending script : List ℕ) (number : ℕ)
     (fault : ReportFault) → ExplainedSoFar setting only seen old new pending (whole_lines script) → last_part script ≢ [] →
     number ≡ length (whole_lines script) + 1 → IsBadLine number fault → HasReason unended_reason fault →
-      LinesHalted setting only old new pending script fault
+    LinesHalted setting only old new pending script fault
 halted-at-end setting only seen old new pending script number ReportFault.ReadFault far some numbered is told = absurd is
 halted-at-end setting only seen old new pending script number ReportFault.TooLong far some numbered is told = absurd is
 halted-at-end setting only seen old new pending script number ReportFault.WriteFault far some numbered is told = absurd is

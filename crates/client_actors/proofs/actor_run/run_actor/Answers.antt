@@ -24,7 +24,7 @@ returns-in-Ok-vanish g c =
     let left = c.leave-client in
     let gone = c.in-Ok-vanish.ensures.gone in
     let runs = subst (λ l. RunsPatiently c.args.playing.now.clients.now c.args.playing.now.most l
-      (pairs_of actor.client.own) (known actor.state))
+    (pairs_of actor.client.own) (known actor.state))
     c.as_slice-steps.ensures.value
     c.in-Ok.ensures.runs in (
       gone.goes.made.id ∙ same_client left.result.0 actor.client c.new-actor.result.client c.args.client left.ensures.client
@@ -42,7 +42,7 @@ returns-in-Err-vanish g c =
     let left = c.leave-client in
     let back = c.in-Err-vanish in
     let runs = subst (λ l. RunsPatiently c.args.playing.now.clients.now c.args.playing.now.most l
-      (pairs_of actor.client.own) (known actor.state))
+    (pairs_of actor.client.own) (known actor.state))
     c.as_slice-steps.ensures.value
     c.in-Ok.ensures.runs in (
       broken_id left.result.0 back.client (held_in left.result.1) (held_in back.held) back.ensures.fault
@@ -60,11 +60,11 @@ returns-in-Err g c =
     let steps = c.args.script.now.steps.items in
     let left = c.leave-client in
     let some = subst (λ l. HasRunSome c.args.playing.now.clients.now c.args.playing.now.most l actor.client
-      (lies actor.slots.items)) c.as_slice-steps.ensures.value
+    (lies actor.slots.items)) c.as_slice-steps.ensures.value
     c.in-Err.ensures.some in (
       same_client left.result.0 actor.client c.new-actor.result.client c.args.client left.ensures.client c.run_steps-ran.ensures.id
           c.new-actor.ensures.client,
       has_stopped c.args.playing.now.clients.now c.args.playing.now.most steps actor left.result.0
-        (held_in left.result.1) left.ensures.client some
+          (held_in left.result.1) left.ensures.client some
           c.run_steps-ran.ensures.sound left.ensures.held left.ensures.owned,
     )

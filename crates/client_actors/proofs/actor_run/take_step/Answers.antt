@@ -30,14 +30,14 @@ pub returns-in_err-reply-clause-given : goal.returns-in_err-reply-clause-given
 returns-in_err-reply-clause-given g c =
     on_err c.from_residual.result _
     (waiting-given c.args.playing.now.clients.now c.args.step.now c.args.actor.now c.loop-tries.tries
-      c.loop-tries.actor c.loop-tries.invariant.waits
+    c.loop-tries.actor c.loop-tries.invariant.waits
     c.args.playing.now.most (omega (arith, c.loop-tries-test.true)) c.try_step.new.actor c.in_err-reply.ensures.faltered)
 
 -- something was there, or the step made no call
 pub returns-then-not-is_nothing-clause-taken : goal.returns-then-not-is_nothing-clause-taken
 returns-then-not-is_nothing-clause-taken g c =
     waiting-taken c.args.playing.now.clients.now c.args.step.now c.args.actor.now c.loop-tries.tries
-      c.loop-tries.actor c.loop-tries.invariant.waits
+    c.loop-tries.actor c.loop-tries.invariant.waits
     c.args.playing.now.most (omega (arith, c.loop-tries-test.true)) c.try_step.new.actor c.in_ok-reply.reply c.in_ok-reply.ensures.stepped
     (inl (sym c.is_nothing.ensures ∙ c.if-not-is_nothing.true))
 
@@ -47,7 +47,7 @@ returns-in_err-_last-clause-given g c =
     let all : c.loop-tries.tries ≡ c.args.playing.now.most = omega (arith, c.loop-tries-test.false, c.loop-tries.auto.tries-end) in
     on_err c.from_residual-in_err-_last.result _
     (waiting-given c.args.playing.now.clients.now c.args.step.now c.args.actor.now c.loop-tries.tries
-      c.loop-tries.actor c.loop-tries.invariant.waits
+    c.loop-tries.actor c.loop-tries.invariant.waits
     c.args.playing.now.most (omega (arith, all)) c.try_step-2.new.actor c.in_err-_last.ensures.faltered)
 
 -- the last try
@@ -55,5 +55,5 @@ pub returns-clause-taken : goal.returns-clause-taken
 returns-clause-taken g c =
     let all : c.loop-tries.tries ≡ c.args.playing.now.most = omega (arith, c.loop-tries-test.false, c.loop-tries.auto.tries-end) in
     waiting-taken c.args.playing.now.clients.now c.args.step.now c.args.actor.now c.loop-tries.tries
-      c.loop-tries.actor c.loop-tries.invariant.waits
+    c.loop-tries.actor c.loop-tries.invariant.waits
     c.args.playing.now.most (omega (arith, all)) c.try_step-2.new.actor c.in_ok-_last._last c.in_ok-_last.ensures.stepped (inr all)

@@ -10,10 +10,10 @@ pub returns-clause-ends : goal.returns-clause-ends
 returns-clause-ends g c =
     let len = same_length g c in
     zip_each (IsEndThere c.args.playing.now.clients.now c.args.playing.now.most) c.args.scripts.now c.for_each_mut.new.s
-      (c.requires.len ∙ len) (λ i a b l.
+    (c.requires.len ∙ len) (λ i a b l.
     let at = (c.for_each_mut.ensures i b (omega (arith, l, c.requires.len))).1 in
     let is : IsEndAt c.args.playing.now.clients.now c.args.playing.now.most c.args.scripts.now i
-      (slice_index_or c.for_each_mut.new.s i b) = search rules in
+    (slice_index_or c.for_each_mut.new.s i b) = search rules in
     is.end a)
 
 pub returns-clause-ids : goal.returns-clause-ids
