@@ -20,8 +20,8 @@ use Rattle.forest_store.specs.Forest.{Collection, given}
 use Rattle.trackers.specs.declared.waiting.Waiting.{Waiting}
 use Rattle.core_state.specs.Shown.{Shows, tracked_as}
 use Rattle.core_state.specs.State.{State}
-use Rattle.name_laws.specs.Alike.{KeepsIds, client_renamed, parcel_renamed}
-use Rattle.name_laws.specs.Renamed.{buffer_renamed, collection_renamed, fault_renamed, held_renamed, node_renamed}
+use Rattle.alike_cores.specs.Alike.{KeepsIds, client_renamed, parcel_renamed}
+use Rattle.alike_cores.specs.Renamed.{buffer_renamed, collection_renamed, fault_renamed, held_renamed, node_renamed}
 use Rattle.alike_cores.specs.Cores.{AreAlikeCores, condition_renamed, node_undated, tracker_renamed, undated}
 use Rattle.alike_cores.specs.Mixed.{Mixed}
 use Rattle.alike_cores.proofs.Finding.{}

@@ -19,8 +19,8 @@ use Rattle.event_laws.specs.ByEvent.{gains, loses, one_if}
 use Rattle.core_state.specs.declared.task.EndPlace.{EndPlace}
 use Rattle.core_state.specs.State.{Client}
 use Rattle.core_state.specs.Steps.{client_by, clients_by, end_by, new_client}
-use Rattle.name_laws.specs.Alike.{KeepsIds, call_renamed, client_renamed, parcel_renamed, reply_renamed}
-use Rattle.name_laws.specs.Renamed.{buffer_renamed}
+use Rattle.alike_cores.specs.Alike.{KeepsIds, call_renamed, client_renamed, parcel_renamed, reply_renamed}
+use Rattle.alike_cores.specs.Renamed.{buffer_renamed}
 
 -- an end that is put, under its new name
 abbrev pub place_renamed : (NodeKey → NodeKey) → EndPlace → EndPlace

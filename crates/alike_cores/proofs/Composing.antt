@@ -12,8 +12,8 @@ use Rattle.forest_store.specs.Forest.{Collection}
 use Rattle.trackers.specs.declared.waiting.Waiting.{Waiting}
 use Rattle.core_state.specs.Shown.{tracked_as}
 use Rattle.core_state.specs.State.{Client, State}
-use Rattle.name_laws.specs.Alike.{client_renamed, parcel_renamed}
-use Rattle.name_laws.specs.Renamed.{buffer_renamed, collection_renamed, fault_renamed, held_renamed, node_renamed}
+use Rattle.alike_cores.specs.Alike.{client_renamed, parcel_renamed}
+use Rattle.alike_cores.specs.Renamed.{buffer_renamed, collection_renamed, fault_renamed, held_renamed, node_renamed}
 use Rattle.alike_cores.specs.Cores.{AreAlikeCores, condition_renamed, tracker_renamed, undated}
 use Rattle.alike_cores.specs.Mixed.{Mixed, Mixes}
 use Rattle.alike_cores.proofs.Mixing.{mixed-map, mixed-same}

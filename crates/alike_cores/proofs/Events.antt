@@ -20,11 +20,11 @@ use Rattle.core_state.specs.Shown.{tracked_as}
 use Rattle.core_state.specs.State.{HandleCounts, State}
 use Rattle.core_state.specs.Steps.{Follows, Worked, clients_by, end_by, tracker_by, with_place, without_unkept, work_of}
 use Rattle.core_state.specs.Whole.{IsSound}
-use Rattle.name_laws.specs.Alike.{KeepsIds, call_renamed, client_renamed, reply_renamed}
-use Rattle.name_laws.specs.Renamed.{CountsAlike, KeepsKeys, buffer_renamed, collection_renamed, held_renamed, node_renamed}
-use Rattle.name_laws.proofs.Answering.{length-renamed}
-use Rattle.name_laws.proofs.Changing.{end_put-renamed, tidied-renamed}
-use Rattle.name_laws.proofs.Forcings.{filter_alike}
+use Rattle.alike_cores.specs.Alike.{KeepsIds, call_renamed, client_renamed, reply_renamed}
+use Rattle.alike_cores.specs.Renamed.{CountsAlike, KeepsKeys, buffer_renamed, collection_renamed, held_renamed, node_renamed}
+use Rattle.alike_cores.proofs.Answering.{length-renamed}
+use Rattle.alike_cores.proofs.Changing.{end_put-renamed, tidied-renamed}
+use Rattle.alike_cores.proofs.Forcings.{filter_alike}
 use Rattle.alike_cores.specs.Cores.{AreAlikeCores, tracker_renamed, undated}
 use Rattle.alike_cores.specs.Mixed.{Mixed}
 use Rattle.alike_cores.proofs.Clients.{called, clients-renamed, of-renamed, place-renamed, place_renamed, total-renamed}

@@ -13,11 +13,11 @@ use Rattle.forest_store.specs.Nodes.{is_of, node_of}
 use Rattle.core_state.specs.Whole.{IsSound, Rise}
 use Rattle.core_state.proofs.collections.ById.{found_by_id, ids}
 use Rattle.core_state.proofs.forced.Forest.{node_in}
-use Rattle.name_laws.specs.Alike.{KeepsIds}
-use Rattle.name_laws.specs.Renamed.{KeepsKeys, collection_renamed, node_renamed}
-use Rattle.name_laws.proofs.Forcings.{find_alike}
-use Rattle.name_laws.proofs.Reading.{nodes-renamed}
-use Rattle.name_laws.proofs.Renamings.{node_of-renamed}
+use Rattle.alike_cores.specs.Alike.{KeepsIds}
+use Rattle.alike_cores.specs.Renamed.{KeepsKeys, collection_renamed, node_renamed}
+use Rattle.alike_cores.proofs.Forcings.{find_alike}
+use Rattle.alike_cores.proofs.Reading.{nodes-renamed}
+use Rattle.alike_cores.proofs.Renamings.{node_of-renamed}
 use Rattle.alike_cores.specs.Cores.{node_undated, undated}
 use Rattle.alike_cores.specs.Mixed.{Mixed}
 use Rattle.alike_cores.proofs.Mixing.{find-mixed, mixed-flat_map}

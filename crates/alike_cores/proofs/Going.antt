@@ -14,8 +14,8 @@ use Rattle.forest_store.specs.Forest.{given}
 use Rattle.core_state.specs.Shown.{Shows}
 use Rattle.core_state.specs.State.{State}
 use Rattle.core_state.specs.Theorem.{Makes}
-use Rattle.name_laws.specs.Alike.{KeepsIds, call_renamed, reply_renamed}
-use Rattle.name_laws.specs.Renamed.{KeepsKeys}
+use Rattle.alike_cores.specs.Alike.{KeepsIds, call_renamed, reply_renamed}
+use Rattle.alike_cores.specs.Renamed.{KeepsKeys}
 use Rattle.alike_cores.specs.Cores.{AreAlikeCores, GoOn, NamesOld}
 use Rattle.alike_cores.proofs.Agreeing.{agree, ids_agree, numbers_agree}
 use Rattle.alike_cores.proofs.Moving.{keys_kept, keys_moved, keys_same, keys_there, number_kept, number_moved, number_there}

@@ -21,7 +21,7 @@ use Rattle.sm_names.specs.Sameness.{same_kind}
 use Rattle.sm_names.specs.Timelines.{key_of}
 use Rattle.sm_names.specs.Words.{first_some}
 use Rattle.core_state.specs.Tasks.{with_key}
-use Rattle.name_laws.proofs.Forcings.{first_some-map}
+use Rattle.alike_cores.proofs.Forcings.{first_some-map}
 
 -- a new node has this key
 abbrev keyed : NodeKey → Reply → Reply

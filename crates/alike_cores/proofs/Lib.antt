@@ -1,3 +1,9 @@
+pub mod Renamings
+pub mod Forcings
+pub mod Settlings
+pub mod Answering
+pub mod Changing
+pub mod Reading
 pub mod Mixing
 pub mod Finding
 pub mod Readings

@@ -17,10 +17,10 @@ use Rattle.forest_store.specs.Settling.{buffer_names}
 use Rattle.core_state.specs.Reads.{end_in, open_end_in, open_end_of, readings_of}
 use Rattle.core_state.specs.Shown.{tracked_as}
 use Rattle.core_state.specs.State.{State}
-use Rattle.name_laws.specs.Alike.{AreAlike, KeepsIds, client_renamed, end_renamed}
-use Rattle.name_laws.specs.Renamed.{KeepsKeys, buffer_renamed, collection_renamed, fault_renamed}
-use Rattle.name_laws.proofs.Answering.{length-renamed}
-use Rattle.name_laws.proofs.Reading.{readings-renamed}
+use Rattle.alike_cores.specs.Alike.{AreAlike, KeepsIds, client_renamed, end_renamed}
+use Rattle.alike_cores.specs.Renamed.{KeepsKeys, buffer_renamed, collection_renamed, fault_renamed}
+use Rattle.alike_cores.proofs.Answering.{length-renamed}
+use Rattle.alike_cores.proofs.Reading.{readings-renamed}
 use Rattle.alike_cores.specs.Cores.{AreAlikeCores, tracker_renamed, undated}
 use Rattle.alike_cores.specs.Mixed.{Mixed}
 use Rattle.alike_cores.proofs.Finding.{AreApart, collections_mixed, nodes_mixed, renamed_apart}

@@ -24,10 +24,10 @@ use Rattle.forest_store.specs.Nodes.{after_allocation, members_of}
 use Rattle.forest_store.specs.Settling.{Handles, Settles, Rests, Forces, is_root_of, made, put, standing}
 use Rattle.core_state.specs.Whole.{Rise}
 use Rattle.core_state.proofs.collections.ById.{ids}
-use Rattle.name_laws.specs.Alike.{KeepsIds}
-use Rattle.name_laws.specs.Renamed.{CountsAlike, KeepsKeys, collection_renamed}
-use Rattle.name_laws.proofs.Forcings.{filter_alike}
-use Rattle.name_laws.proofs.Settlings.{pages-renamed, settles-renamed}
+use Rattle.alike_cores.specs.Alike.{KeepsIds}
+use Rattle.alike_cores.specs.Renamed.{CountsAlike, KeepsKeys, collection_renamed}
+use Rattle.alike_cores.proofs.Forcings.{filter_alike}
+use Rattle.alike_cores.proofs.Settlings.{pages-renamed, settles-renamed}
 use Rattle.alike_cores.specs.Cores.{undated}
 use Rattle.alike_cores.specs.Mixed.{Mixed, Keeps, Swaps, Mixes}
 use Rattle.alike_cores.proofs.Mixing.{any-mixed, mixed-back, mixed-filter, mixed-flat_map, mixed-map, mixed-same}

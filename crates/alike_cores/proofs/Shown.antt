@@ -17,9 +17,9 @@ use Rattle.core_state.specs.Tasks.{with_key}
 use Rattle.core_state.specs.Theorem.{Makes}
 use Rattle.core_state.specs.Whole.{IsSound}
 use Rattle.core_state.proofs.theorem.OfHistory.{sound_of}
-use Rattle.name_laws.specs.Alike.{AreAlike, KeepsIds, call_renamed, reply_renamed}
-use Rattle.name_laws.specs.Renamed.{KeepsKeys}
-use Rattle.name_laws.proofs.Answering.{answer-alike}
+use Rattle.alike_cores.specs.Alike.{AreAlike, KeepsIds, call_renamed, reply_renamed}
+use Rattle.alike_cores.specs.Renamed.{KeepsKeys}
+use Rattle.alike_cores.proofs.Answering.{answer-alike}
 use Rattle.alike_cores.specs.Cores.{AreAlikeCores, NamesNew}
 use Rattle.alike_cores.proofs.Events.{stay_alike}
 use Rattle.alike_cores.proofs.Finding.{sound_apart}

@@ -23,11 +23,11 @@ use Rattle.trackers.specs.Table.{TrackerTable, firing, firings, is_due, still_wa
 use Rattle.core_state.specs.Reads.{world_in}
 use Rattle.core_state.specs.Shown.{tracked_as}
 use Rattle.core_state.specs.Steps.{GainsTracker}
-use Rattle.name_laws.specs.Alike.{KeepsIds}
-use Rattle.name_laws.specs.Renamed.{CountsAlike, KeepsKeys, buffer_renamed, collection_renamed, held_renamed, node_renamed}
-use Rattle.name_laws.proofs.Answering.{length-renamed}
-use Rattle.name_laws.proofs.Forcings.{filter_alike, strong-renamed}
-use Rattle.name_laws.proofs.Renamings.{members-renamed}
+use Rattle.alike_cores.specs.Alike.{KeepsIds}
+use Rattle.alike_cores.specs.Renamed.{CountsAlike, KeepsKeys, buffer_renamed, collection_renamed, held_renamed, node_renamed}
+use Rattle.alike_cores.proofs.Answering.{length-renamed}
+use Rattle.alike_cores.proofs.Forcings.{filter_alike, strong-renamed}
+use Rattle.alike_cores.proofs.Renamings.{members-renamed}
 use Rattle.alike_cores.specs.Cores.{condition_renamed, node_undated, tracker_renamed, undated}
 use Rattle.alike_cores.specs.Mixed.{Mixed, Mixes}
 use Rattle.alike_cores.proofs.Finding.{found_collection, found_node}

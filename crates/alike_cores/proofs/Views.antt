@@ -11,9 +11,9 @@ use Rattle.forest_store.specs.Forest.{Collection, pages_in}
 use Rattle.core_state.specs.Reads.{views_of}
 use Rattle.core_state.specs.State.{State}
 use Rattle.core_state.proofs.collections.Pages.{sum-map}
-use Rattle.name_laws.specs.Alike.{KeepsIds}
-use Rattle.name_laws.specs.Renamed.{collection_renamed}
-use Rattle.name_laws.proofs.Forcings.{any_alike}
+use Rattle.alike_cores.specs.Alike.{KeepsIds}
+use Rattle.alike_cores.specs.Renamed.{collection_renamed}
+use Rattle.alike_cores.proofs.Forcings.{any_alike}
 use Rattle.alike_cores.specs.Cores.{AreAlikeCores, undated}
 use Rattle.alike_cores.specs.Mixed.{Mixed, Nothing, Keeps, Swaps, Mixes}
 use Rattle.alike_cores.proofs.Mixing.{any-mixed, mixed-flat_map}

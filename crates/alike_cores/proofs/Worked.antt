@@ -14,9 +14,9 @@ use Rattle.core_state.specs.State.{State}
 use Rattle.core_state.specs.Steps.{Work, Worked}
 use Rattle.core_state.specs.Whole.{AreOnce, IsSound, Rise}
 use Rattle.core_state.proofs.collections.ById.{ids, put_from, put_rises, put_there}
-use Rattle.name_laws.specs.Alike.{KeepsIds}
-use Rattle.name_laws.specs.Renamed.{CountsAlike, KeepsKeys, change_renamed, collection_renamed}
-use Rattle.name_laws.proofs.Changing.{changed-renamed, given-renamed}
+use Rattle.alike_cores.specs.Alike.{KeepsIds}
+use Rattle.alike_cores.specs.Renamed.{CountsAlike, KeepsKeys, change_renamed, collection_renamed}
+use Rattle.alike_cores.proofs.Changing.{changed-renamed, given-renamed}
 use Rattle.alike_cores.specs.Cores.{AreAlikeCores, undated}
 use Rattle.alike_cores.specs.Mixed.{Mixed}
 use Rattle.alike_cores.proofs.Finding.{AreApart, one_collection, sound_apart}

@@ -20,9 +20,9 @@ use Rattle.forest_store.specs.Settling.{collection_or_new}
 use Rattle.core_state.specs.Shown.{tracked_as}
 use Rattle.core_state.specs.State.{State}
 use Rattle.core_state.specs.Steps.{Work, at_collection, at_node, birth_by, done_to, drop_at, effect_at, loss_at, tracker_by, work_of}
-use Rattle.name_laws.specs.Alike.{KeepsIds, call_renamed, reply_renamed}
-use Rattle.name_laws.specs.Renamed.{KeepsKeys, buffer_renamed, change_renamed, collection_renamed, node_renamed}
-use Rattle.name_laws.proofs.Answering.{key-renamed}
+use Rattle.alike_cores.specs.Alike.{KeepsIds, call_renamed, reply_renamed}
+use Rattle.alike_cores.specs.Renamed.{KeepsKeys, buffer_renamed, change_renamed, collection_renamed, node_renamed}
+use Rattle.alike_cores.proofs.Answering.{key-renamed}
 use Rattle.alike_cores.specs.Cores.{AreAlikeCores, node_undated, tracker_renamed, undated}
 use Rattle.alike_cores.proofs.Finding.{AreApart, found_collection, found_node}
 use Rattle.alike_cores.proofs.FoundAlike.{read-alike, read_then-alike}

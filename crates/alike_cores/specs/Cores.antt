@@ -15,8 +15,8 @@ use Rattle.forest_store.specs.declared.node.Node.{Node}
 use Rattle.forest_store.specs.Forest.{Collection, given}
 use Rattle.core_state.specs.Shown.{tracked_as}
 use Rattle.core_state.specs.State.{State}
-use Rattle.name_laws.specs.Alike.{KeepsIds, client_renamed, reply_renamed}
-use Rattle.name_laws.specs.Renamed.{CountsAlike, KeepsKeys, buffer_renamed, collection_renamed, node_renamed}
+use Rattle.alike_cores.specs.Alike.{KeepsIds, client_renamed, reply_renamed}
+use Rattle.alike_cores.specs.Renamed.{CountsAlike, KeepsKeys, buffer_renamed, collection_renamed, node_renamed}
 use Rattle.alike_cores.specs.Mixed.{Mixed}
 
 -- what a tracker waits for, under new names

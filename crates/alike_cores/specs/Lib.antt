@@ -1,2 +1,4 @@
+pub mod Renamed
+pub mod Alike
 pub mod Mixed
 pub mod Cores

@@ -16,8 +16,8 @@ ghost use Rattle.core_state.specs.Reads.{readings_of, views_of};
 ghost use Rattle.core_state.specs.Shown.{Shows};
 ghost use Rattle.core_state.specs.State.{State};
 ghost use Rattle.core_state.specs.Theorem.{Makes};
-ghost use Rattle.name_laws.specs.Alike.{AreAlike, KeepsIds, call_renamed, reply_renamed};
-ghost use Rattle.name_laws.specs.Renamed.{KeepsKeys, node_renamed};
+ghost use Rattle.alike_cores.specs.Alike.{AreAlike, KeepsIds, call_renamed, reply_renamed};
+ghost use Rattle.alike_cores.specs.Renamed.{KeepsKeys, node_renamed};
 ghost use Rattle.alike_cores.specs.Cores.{AreAlikeCores, GoOn, NamesNew, NamesOld, node_undated};
 
 /// All that answers read of cores that are alike is alike, so that a renamed call is answered by the

@@ -4,7 +4,7 @@ use Rattle.std.proofs.Common.{List, map, Option, Some, None, is_some, slice_get,
 use Rattle.std.specs.Option.{option_map}
 use Rattle.actor_plays.specs.Leaves.{Leave}
 use Rattle.actor_plays.specs.Plays.{Stage, left, passed, stage_after}
-use Rattle.name_laws.specs.Alike.{call_renamed}
+use Rattle.alike_cores.specs.Alike.{call_renamed}
 use Rattle.alike_plays.specs.Ahead.{AreAlikeAhead, GoesByEarly, ahead, ahead_of, early_in}
 use Rattle.alike_plays.specs.Closed.{IsSimulation, PassOn}
 use Rattle.alike_plays.specs.Positions.{AreAlikePlays, Asks, Calls, Goes, Leaves, Passes, Position, Rests, Setup, left_at, may_go}

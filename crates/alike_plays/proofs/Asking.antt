@@ -20,8 +20,8 @@ use Rattle.actor_scripts.specs.ActorStates.{bare_call, call_at, call_for, call_o
 use Rattle.actor_scripts.specs.ActorStates.{end_slot, handle_slot, is_bound, is_join, node_label}
 use Rattle.actor_scripts.specs.ActorStates.{object_at, slot_call, step_call, target_of}
 use Rattle.actor_scripts.specs.ActorStates.{tracker_label}
-use Rattle.name_laws.specs.Alike.{call_renamed}
-use Rattle.name_laws.specs.Renamed.{buffer_renamed}
+use Rattle.alike_cores.specs.Alike.{call_renamed}
+use Rattle.alike_cores.specs.Renamed.{buffer_renamed}
 use Rattle.alike_plays.specs.Actors.{AreAlikeKnown, asked_renamed, object_renamed, place_renamed}
 
 -- what a call is made on, under its new name

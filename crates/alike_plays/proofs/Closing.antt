@@ -18,7 +18,7 @@ use Rattle.actor_scripts.specs.declared.object.StepCall.{StepCall}
 use Rattle.actor_plays.specs.Plays.{Stage, first_stage, is_wait, joins}
 use Rattle.alike_cores.specs.Cores.{AreAlikeCores, tracker_renamed, undated}
 use Rattle.alike_cores.specs.Mixed.{Mixed}
-use Rattle.name_laws.specs.Renamed.{collection_renamed}
+use Rattle.alike_cores.specs.Renamed.{collection_renamed}
 use Rattle.alike_cores.proofs.Composing.{alike-same}
 use Rattle.alike_plays.specs.Closed.{HasToWait, IsClosed, IsMet, IsSimulation, PassOn}
 use Rattle.alike_plays.specs.Names.{KnownCall}

@@ -7,7 +7,7 @@ use Rattle.actor_scripts.specs.declared.object.ActorObject.{ActorObject}
 use Rattle.actor_scripts.specs.ActorStates.{Known}
 use Rattle.actor_plays.specs.Leaves.{Leave}
 use Rattle.actor_plays.specs.Plays.{Stage}
-use Rattle.name_laws.specs.Alike.{reply_renamed}
+use Rattle.alike_cores.specs.Alike.{reply_renamed}
 use Rattle.alike_cores.proofs.Composing.{alike-alike}
 use Rattle.alike_plays.specs.Actors.{AreAlikeKnown, AreAlikeStages, leave_renamed, made_of, made_renamed, object_renamed}
 use Rattle.alike_plays.specs.Actors.{place_renamed}

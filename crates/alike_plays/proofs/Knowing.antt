@@ -21,9 +21,9 @@ use Rattle.actor_scripts.specs.ActorStates.{Known, bound, handle_of, handles_fro
 use Rattle.actor_scripts.specs.ActorStates.{new_place, new_tracker, node_label, on_of, spends_by, spends_object, state_after, tracker_label}
 use Rattle.actor_scripts.specs.ActorStates.{with_first_gone, with_new, with_node_label, with_object, with_objects, with_queues}
 use Rattle.actor_scripts.specs.ActorStates.{with_slot_last, with_spot, with_tracker_label, without_handle, without_object, without_spent}
-use Rattle.name_laws.specs.Alike.{KeepsIds, call_renamed, reply_renamed}
-use Rattle.name_laws.specs.Renamed.{KeepsKeys, buffer_renamed}
-use Rattle.name_laws.proofs.Answering.{length-renamed}
+use Rattle.alike_cores.specs.Alike.{KeepsIds, call_renamed, reply_renamed}
+use Rattle.alike_cores.specs.Renamed.{KeepsKeys, buffer_renamed}
+use Rattle.alike_cores.proofs.Answering.{length-renamed}
 use Rattle.alike_plays.specs.Actors.{AreAlikeKnown, asked_renamed, object_renamed, place_renamed}
 use Rattle.alike_plays.proofs.Asking.{object-alike}
 

@@ -19,8 +19,8 @@ use Rattle.actor_plays.specs.declared.plan.Planned.{Planned}
 use Rattle.actor_plays.specs.Leaves.{Leave, all_objects, leave_after, leave_call, parting_call, waiting_told}
 use Rattle.actor_plays.specs.Plans.{steps_of}
 use Rattle.actor_plays.specs.Plays.{Stage, has_fired, is_silent, leaves_by, left, next_step, passed, polls, stage_after}
-use Rattle.name_laws.specs.Alike.{KeepsIds, call_renamed, reply_renamed}
-use Rattle.name_laws.specs.Renamed.{KeepsKeys}
+use Rattle.alike_cores.specs.Alike.{KeepsIds, call_renamed, reply_renamed}
+use Rattle.alike_cores.specs.Renamed.{KeepsKeys}
 use Rattle.alike_plays.specs.Actors.{AreAlikeKnown, AreAlikeStages, asked_renamed, leave_renamed, made_of, made_renamed}
 use Rattle.alike_plays.specs.Actors.{object_renamed, tells_made}
 use Rattle.alike_plays.proofs.Knowing.{gives-renamed, knows-alike}

@@ -6,8 +6,8 @@ use Rattle.sm_names.specs.declared.keys.BufferName.{BufferName}
 use Rattle.sm_names.specs.declared.keys.NodeKey.{NodeKey}
 use Rattle.sm_names.specs.Sameness.{same_key}
 use Rattle.sm_names.proofs.SamenessLaws.{both_ways, either_way, false_if, same_key-refl, same_key-true, some-injective}
-use Rattle.name_laws.specs.Alike.{KeepsIds}
-use Rattle.name_laws.specs.Renamed.{KeepsKeys, buffer_renamed}
+use Rattle.alike_cores.specs.Alike.{KeepsIds}
+use Rattle.alike_cores.specs.Renamed.{KeepsKeys, buffer_renamed}
 use Rattle.alike_cores.proofs.Moving.{keys_back, keys_moved, keys_same, keys_there, number_back, number_moved, number_same, number_there}
 use Rattle.alike_plays.specs.Names.{NamesAgree}
 

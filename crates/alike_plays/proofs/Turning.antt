@@ -20,9 +20,9 @@ use Rattle.actor_scripts.specs.ActorStates.{step_call}
 use Rattle.actor_plays.specs.declared.plan.Planned.{Planned}
 use Rattle.actor_plays.specs.Leaves.{Leave}
 use Rattle.actor_plays.specs.Plays.{Stage, left, passed, polls, stage_after}
-use Rattle.name_laws.specs.Alike.{call_renamed, reply_renamed}
-use Rattle.name_laws.specs.Renamed.{buffer_renamed}
-use Rattle.name_laws.proofs.Answering.{key-renamed}
+use Rattle.alike_cores.specs.Alike.{call_renamed, reply_renamed}
+use Rattle.alike_cores.specs.Renamed.{buffer_renamed}
+use Rattle.alike_cores.proofs.Answering.{key-renamed}
 use Rattle.alike_cores.specs.Cores.{AreAlikeCores, NamesOld}
 use Rattle.alike_cores.proofs.Going.{fresh, goes_on_named}
 use Rattle.alike_cores.proofs.Moving.{keys_kept, keys_moved, number_kept, number_moved}

@@ -12,8 +12,8 @@ use Rattle.core_state.specs.Shown.{Shows}
 use Rattle.core_state.specs.State.{State}
 use Rattle.core_state.specs.Tasks.{with_key}
 use Rattle.actor_plays.specs.Plays.{is_wait}
-use Rattle.name_laws.specs.Alike.{KeepsIds, call_renamed, reply_renamed}
-use Rattle.name_laws.specs.Renamed.{KeepsKeys}
+use Rattle.alike_cores.specs.Alike.{KeepsIds, call_renamed, reply_renamed}
+use Rattle.alike_cores.specs.Renamed.{KeepsKeys}
 use Rattle.alike_cores.specs.Cores.{AreAlikeCores, NamesOld}
 use Rattle.alike_cores.proofs.Agreeing.{agree, ids_agree}
 use Rattle.alike_cores.proofs.Going.{call-agrees}

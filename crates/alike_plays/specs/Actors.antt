@@ -11,8 +11,8 @@ use Rattle.actor_scripts.specs.declared.object.StepCall.{StepCall}
 use Rattle.actor_scripts.specs.ActorStates.{Known, NodePlace}
 use Rattle.actor_plays.specs.Leaves.{Leave}
 use Rattle.actor_plays.specs.Plays.{Stage}
-use Rattle.name_laws.specs.Alike.{call_renamed, reply_renamed}
-use Rattle.name_laws.specs.Renamed.{buffer_renamed}
+use Rattle.alike_cores.specs.Alike.{call_renamed, reply_renamed}
+use Rattle.alike_cores.specs.Renamed.{buffer_renamed}
 
 -- an object that an actor has, under its new name
 abbrev pub object_renamed : (NodeKey → NodeKey) → (ℕ → ℕ) → ActorObject → ActorObject

@@ -11,7 +11,7 @@ use Rattle.actor_scripts.specs.declared.object.ActorObject.{ActorObject}
 use Rattle.actor_scripts.specs.ActorStates.{Known}
 use Rattle.actor_plays.specs.Leaves.{Leave}
 use Rattle.actor_plays.specs.Plays.{Stage}
-use Rattle.name_laws.specs.Renamed.{buffer_renamed}
+use Rattle.alike_cores.specs.Renamed.{buffer_renamed}
 
 -- the names of an object
 abbrev pub KnownObject : (NodeKey → Type 0) → (ℕ → Type 0) → ActorObject → Type 0

@@ -6,7 +6,7 @@ use Rattle.forest_store.specs.Forest.{node_at}
 use Rattle.core_state.specs.State.{State}
 use Rattle.actor_plays.specs.declared.ending.Fate.{Fate}
 use Rattle.actor_plays.specs.Fates.{fate_of}
-use Rattle.name_laws.specs.Renamed.{fault_renamed}
+use Rattle.alike_cores.specs.Renamed.{fault_renamed}
 
 -- the fate, with the new key of the node at which a failure began
 abbrev pub fate_renamed : (NodeKey → NodeKey) → Fate → Fate

@@ -15,8 +15,8 @@ use Rattle.actor_plays.specs.declared.plan.Plan.{Plan}
 use Rattle.actor_plays.specs.declared.plan.Planned.{Planned}
 use Rattle.actor_plays.specs.Leaves.{Leave}
 use Rattle.actor_plays.specs.Plays.{Stage, first_stage, is_wait, joins, leaves_by, left, next_step, passed, polls, stage_after}
-use Rattle.name_laws.specs.Alike.{KeepsIds}
-use Rattle.name_laws.specs.Renamed.{KeepsKeys}
+use Rattle.alike_cores.specs.Alike.{KeepsIds}
+use Rattle.alike_cores.specs.Renamed.{KeepsKeys}
 use Rattle.alike_cores.specs.Cores.{AreAlikeCores}
 use Rattle.alike_plays.specs.Actors.{AreAlikeStages}
 
