@@ -98,7 +98,7 @@ module _ (setup : Setup) where
   -- ---- calls
 
   -- A step that makes a call makes it without what lies behind.
-  asks_to : (actor : ℕ) (p : Position) → Asks setup actor p → Asks setup actor (ahead p)
+  abbrev pub asks_to : (actor : ℕ) (p : Position) → Asks setup actor p → Asks setup actor (ahead p)
   asks_to actor p a = record {
     stage = a.stage;
     next = a.next;
@@ -111,7 +111,7 @@ module _ (setup : Setup) where
   }
 
   -- And the other way round.
-  asks_from : (actor : ℕ) (p : Position) → Asks setup actor (ahead p) → Asks setup actor p
+  pub asks_from : (actor : ℕ) (p : Position) → Asks setup actor (ahead p) → Asks setup actor p
   asks_from actor p a = record {
     stage = a.stage;
     next = a.next;
@@ -125,7 +125,6 @@ module _ (setup : Setup) where
 
   -- Its call is answered.
   calls_to : (actor : ℕ) (p new : Position) → Calls setup actor p new → Calls setup actor (ahead p) (ahead new)
-  unfolding asks_to
   calls_to actor p new c = record {
     asks = asks_to actor p c.asks;
     reply = c.reply;
@@ -297,7 +296,6 @@ module _ (setup : Setup) where
 
   -- Plays that are alike ahead do the same.
   pub ahead_simulates : (early : ℕ → ℕ → Bool) → GoesByEarly early setup → IsSimulation setup (AreAlikeAhead early)
-  unfolding asks_to
   ahead_simulates early by_early = record {
     starts = λ one other a b. exactly_ahead early one other (starts_alike setup one other a b);
     composes = ahead-composed early;

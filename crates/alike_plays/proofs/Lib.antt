@@ -18,3 +18,4 @@ pub mod Ordered
 pub mod Ahead
 pub mod AheadActors
 pub mod AheadTurns
+pub mod TurnsLeft

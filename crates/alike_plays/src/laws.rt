@@ -20,10 +20,10 @@ ghost use Rattle.alike_cores.specs.Alike.{KeepsIds, call_renamed, reply_renamed}
 ghost use Rattle.alike_cores.specs.Renamed.{KeepsKeys};
 ghost use Rattle.alike_plays.specs.Actors.{AreAlikeKnown, AreAlikeStages, asked_renamed, made_of, made_renamed};
 ghost use Rattle.alike_plays.specs.Ahead.{AreAlikeAhead, GoesByEarly, count_early};
-ghost use Rattle.alike_plays.specs.Closed.{IsClosed, IsMet, IsSimulation};
+ghost use Rattle.alike_plays.specs.Closed.{HasToWait, IsClosed, IsMet, IsSimulation};
 ghost use Rattle.alike_plays.specs.Names.{KnownActor, KnownCall, KnownReply, KnownStage, NamesAgree};
 ghost use Rattle.alike_plays.specs.Outcomes.{fate_kept, fate_renamed};
-ghost use Rattle.alike_plays.specs.Positions.{AreAlikePlays, Calls, Leaves, Passes, Position, Reached, Rests, Setup, left_at};
+ghost use Rattle.alike_plays.specs.Positions.{AreAlikePlays, Asks, Calls, Leaves, Passes, Position, Reached, Rests, Setup, left_at};
 
 /// Actors that are alike are at the same step, which asks for the same under their names, and leave
 /// by the same calls. They wait alike for a tracker, where the same ones have fired.
@@ -167,6 +167,26 @@ pub fn plays_alike_ahead_end_alike()
         slice_get other.stages actor ≡ Some same →
         (option_map (early actor) (left_at same) ≡ option_map (early actor) (left_at stage))
         × (is_some stage.leaving ≡ false → same.at ≡ stage.at) }
+{}
+
+/// Two plays that are alike but for what lies behind actors that leave have the same turns left: an actor
+/// asks for a call in both or in none, has to wait with it in both or in none, and has a call left by which
+/// it leaves in both or in none. That the second asks where the first does stands in `simulates`.
+pub fn plays_alike_ahead_have_the_same_turns_left()
+    ensures asks { (setup : Setup) (early : ℕ → ℕ → Bool) (actor : ℕ) (one other : Position) →
+        AreAlikeAhead early one other → Asks setup actor other → Asks setup actor one }
+    ensures waits { (setup : Setup) (early : ℕ → ℕ → Bool) (actor : ℕ) (one other : Position) →
+        AreAlikeAhead early one other → Reached setup one → Reached setup other →
+        (a : Asks setup actor one) (b : Asks setup actor other) →
+        HasToWait setup actor one a → HasToWait setup actor other b }
+    ensures back { (setup : Setup) (early : ℕ → ℕ → Bool) (actor : ℕ) (one other : Position) →
+        AreAlikeAhead early one other → Reached setup one → Reached setup other →
+        (a : Asks setup actor one) (b : Asks setup actor other) →
+        HasToWait setup actor other b → HasToWait setup actor one a }
+    ensures leaves { (early : ℕ → ℕ → Bool) (actor : ℕ) (one other : Position) →
+        AreAlikeAhead early one other → (stage same : Stage) → slice_get one.stages actor ≡ Some stage →
+        slice_get other.stages actor ≡ Some same →
+        is_some (leaves_by same) ≡ is_some (leaves_by stage) }
 {}
 
 /// Where no turn leads out of these positions, but for names, none is missing: each play passes on to
