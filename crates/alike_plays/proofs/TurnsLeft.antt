@@ -1,5 +1,5 @@
 -- Which turns are left in plays that are alike.
-use Rattle.std.proofs.Common.{ℕ, ◌≡◌, ◌≤◌, refl, ap, sym, subst, ◌∙◌, Bool, ◌&&◌, Option, Some, None, is_some, slice_get}
+use Rattle.std.proofs.Common.{ℕ, ◌≡◌, ◌≤◌, refl, ap, sym, subst, ◌∙◌, Bool, true, ◌&&◌, Option, Some, None, is_some, slice_get}
 use Rattle.std.specs.Option.{option_map}
 use Rattle.sm_names.specs.declared.messages.Call.{Call}
 use Rattle.sm_names.specs.Answers.{answer}
@@ -13,7 +13,6 @@ use Rattle.actor_plays.specs.Plays.{Stage, is_wait, leaves_by}
 use Rattle.name_laws.specs.Alike.{call_renamed}
 use Rattle.alike_plays.specs.Actors.{asked_renamed}
 use Rattle.alike_plays.specs.Ahead.{AreAlikeAhead, ahead, ahead_of}
-use Rattle.alike_plays.specs.Closed.{HasToWait}
 use Rattle.alike_plays.specs.Names.{KnownCall}
 use Rattle.alike_plays.specs.Positions.{AreAlikePlays, Asks, Position, Setup}
 use Rattle.alike_plays.proofs.Ahead.{leaves-same}
