@@ -10,7 +10,7 @@ use Rattle.core_state.specs.Reads.{readings_of}
 use Rattle.actor_scripts.specs.declared.object.StepCall.{StepCall}
 use Rattle.actor_scripts.specs.ActorStates.{step_call}
 use Rattle.actor_plays.specs.Plays.{Stage, is_wait, leaves_by}
-use Rattle.name_laws.specs.Alike.{call_renamed}
+use Rattle.alike_cores.specs.Alike.{call_renamed}
 use Rattle.alike_plays.specs.Actors.{asked_renamed}
 use Rattle.alike_plays.specs.Ahead.{AreAlikeAhead, ahead, ahead_of}
 use Rattle.alike_plays.specs.Names.{KnownCall}
