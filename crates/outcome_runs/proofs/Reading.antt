@@ -12,17 +12,7 @@ use Rattle.outcome_texts.specs.declared.telling.Telling.{Telling}
 use Rattle.outcome_texts.specs.ClaimLines.{Text, claim_texts_of}
 use Rattle.outcome_runs.specs.declared.job.SearchJob.{SearchJob}
 use Rattle.outcome_runs.specs.Reasons.{reason_at}
-use Rattle.outcome_runs.specs.Searches.{
-  IsBadAmong,
-  IsTelling,
-  IsUnfound,
-  IsUnheld,
-  IsUnheldBy,
-  IsUnjudged,
-  IsUnlisted,
-  IsUnsearched,
-  IsUntold,
-}
+use Rattle.outcome_runs.specs.Searches.{IsBadAmong, IsTelling, IsUnfound, IsUnheld, IsUnheldBy, IsUnjudged, IsUnlisted, IsUnsearched, IsUntold}
 
 -- what came is all that there was
 all_came : (script came : List ℕ) (after : Option (List ℕ)) → ReadsWhole (Some script) after came → came ≡ script

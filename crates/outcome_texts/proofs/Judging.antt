@@ -1,43 +1,6 @@
 -- Lines that are judged one after another.
-use Rattle.std.proofs.Common.{
-  ◌≡◌,
-  ◌∙◌,
-  ◌<◌,
-  ◌++◌,
-  ℕ,
-  suc,
-  List,
-  [],
-  ◌∷◌,
-  Option,
-  Some,
-  None,
-  Result,
-  Ok,
-  Err,
-  drop,
-  get_or,
-  length,
-  ap,
-  refl,
-  append_assoc,
-  drop-cons,
-}
-use Rattle.outcome_texts.specs.ClaimLines.{
-  Bad,
-  IsBadLine,
-  Takes,
-  ToldClaim,
-  bad_line,
-  claims_in,
-  judged,
-  put_before,
-  put_first,
-  text_told,
-  texts_in,
-  with_line,
-  words_behind,
-}
+use Rattle.std.proofs.Common.{◌≡◌, ◌∙◌, ◌<◌, ◌++◌, ℕ, suc, List, [], ◌∷◌, Option, Some, None, Result, Ok, Err, drop, get_or, length, ap, refl, append_assoc, drop-cons}
+use Rattle.outcome_texts.specs.ClaimLines.{Bad, IsBadLine, Takes, ToldClaim, bad_line, claims_in, judged, put_before, put_first, text_told, texts_in, with_line, words_behind}
 use Rattle.script_lines.specs.ClientLists.{vanish_text}
 use Rattle.outcome_texts.specs.declared.claims.ClaimText.{ClaimText}
 use Rattle.outcome_texts.specs.declared.telling.Telling.{Telling}

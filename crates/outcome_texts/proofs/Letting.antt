@@ -1,27 +1,5 @@
 -- Lines that let clients vanish.
-use Rattle.std.proofs.Common.{
-  ◌≡◌,
-  ◌∙◌,
-  ◌<◌,
-  ◌++◌,
-  ◌+◌,
-  ◌||◌,
-  ℕ,
-  suc,
-  Bool,
-  false,
-  List,
-  [],
-  ◌∷◌,
-  take,
-  get_or,
-  length,
-  map,
-  ap,
-  take-suc,
-  add-one,
-  arith,
-}
+use Rattle.std.proofs.Common.{◌≡◌, ◌∙◌, ◌<◌, ◌++◌, ◌+◌, ◌||◌, ℕ, suc, Bool, false, List, [], ◌∷◌, take, get_or, length, map, ap, take-suc, add-one, arith}
 use Rattle.std.specs.List.{list_any}
 use Rattle.std.proofs.lemmas.List.{map-append}
 use Rattle.std.proofs.lemmas.List.Folds.{list_any-append}

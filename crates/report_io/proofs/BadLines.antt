@@ -1,30 +1,5 @@
 -- A line that asks for nothing fails a test: where no test of it fails, it asks for something.
-use Rattle.std.proofs.Common.{
-  ◌≡◌,
-  ◌∙◌,
-  ℕ,
-  ◌+◌,
-  ◌==◌,
-  Bool,
-  true,
-  false,
-  refl,
-  ap,
-  sym,
-  subst,
-  arith,
-  List,
-  [],
-  ◌∷◌,
-  length,
-  Option,
-  Some,
-  None,
-  if◌then◌else◌,
-  is_some,
-  codes,
-  nat_lt,
-}
+use Rattle.std.proofs.Common.{◌≡◌, ◌∙◌, ℕ, ◌+◌, ◌==◌, Bool, true, false, refl, ap, sym, subst, arith, List, [], ◌∷◌, length, Option, Some, None, if◌then◌else◌, is_some, codes, nat_lt}
 use Rattle.std.specs.List.{list_any}
 use Rattle.std.specs.Option.{option_and_then, option_map, option_map_or}
 use Rattle.std.specs.Str.{bytes_eq}
@@ -41,28 +16,7 @@ use Rattle.script_lines.specs.Lines.{ask_of, asked_of, at_end, call_read, is_sil
 use Rattle.script_lines.specs.Words.{words}
 use Rattle.script_labels.specs.Names.{Names, act_in, act_of, ask_by, labelled_client, labelled_tracker}
 use Rattle.report_io.specs.declared.wanted.Wanted.{Wanted}
-use Rattle.report_io.specs.Reasons.{
-  IsReason,
-  Reason,
-  bad_text,
-  bound_reason,
-  client_reason,
-  ends_in,
-  is_empty,
-  label_reason,
-  line_reason,
-  reason_text,
-  reason_unless,
-  rest_reason,
-  said_reason,
-  verb_reason,
-  view_reason,
-  wanted_behind,
-  wanted_of_kind,
-  wanted_on,
-  word_reason,
-  words_reason,
-}
+use Rattle.report_io.specs.Reasons.{IsReason, Reason, bad_text, bound_reason, client_reason, ends_in, is_empty, label_reason, line_reason, reason_text, reason_unless, rest_reason, said_reason, verb_reason, view_reason, wanted_behind, wanted_of_kind, wanted_on, word_reason, words_reason}
 use Rattle.report_io.proofs.GoodWords.{and_then_is, holds_so, none_both, not_there, passed_so, request_so, rest_so, there}
 
 -- where a chain of tests gives no reason, its first test passes, since a failed one gives it

@@ -1,27 +1,5 @@
 -- Words of a call that pass their tests: what is read of them, and what the labels among them stand for.
-use Rattle.std.proofs.Common.{
-  ◌≡◌,
-  ◌∙◌,
-  ℕ,
-  Bool,
-  true,
-  false,
-  ◌&&◌,
-  nat_le,
-  not,
-  refl,
-  ap,
-  sym,
-  List,
-  [],
-  ◌∷◌,
-  Option,
-  Some,
-  None,
-  is_some,
-  codes,
-  subst,
-}
+use Rattle.std.proofs.Common.{◌≡◌, ◌∙◌, ℕ, Bool, true, false, ◌&&◌, nat_le, not, refl, ap, sym, List, [], ◌∷◌, Option, Some, None, is_some, codes, subst}
 use Rattle.std.specs.Option.{option_and_then, option_map, option_map_or}
 use Rattle.std.specs.Str.{bytes_eq}
 use Rattle.std.proofs.lemmas.Bool.{and_parts}
@@ -45,33 +23,9 @@ use Rattle.script_lines.specs.BufferLabels.{buffer_label_of}
 use Rattle.script_lines.specs.Labels.{label_of}
 use Rattle.script_lines.specs.Lines.{argument_read, binds_read, demand_of, first_read, gift_read, object_read, request_of, strength_named}
 use Rattle.script_lines.specs.Numbers.{number_of}
-use Rattle.script_labels.specs.Names.{
-  Names,
-  Place,
-  act_binding,
-  argument_named,
-  ask_by,
-  call_named,
-  labelled_client,
-  labelled_node,
-  labelled_place,
-  labelled_tracker,
-  object_named,
-}
+use Rattle.script_labels.specs.Names.{Names, Place, act_binding, argument_named, ask_by, call_named, labelled_client, labelled_node, labelled_place, labelled_tracker, object_named}
 use Rattle.report_io.specs.declared.wanted.Wanted.{Wanted}
-use Rattle.report_io.specs.Reasons.{
-  Reason,
-  bound_reason,
-  new_wanted,
-  reason_or,
-  reason_unless,
-  rest_reason,
-  wanted_by,
-  wanted_of_kind,
-  wanted_on,
-  word_reason,
-  words_reason,
-}
+use Rattle.report_io.specs.Reasons.{Reason, bound_reason, new_wanted, reason_or, reason_unless, rest_reason, wanted_by, wanted_of_kind, wanted_on, word_reason, words_reason}
 
 -- ---- tests
 

@@ -24,18 +24,7 @@ use Rattle.sm_script.proofs.Playing.{plays-more}
 use Rattle.script_explain.specs.declared.check.Comparison.{Comparison}
 use Rattle.script_explain.specs.declared.check.LineResult.{LineResult}
 use Rattle.script_explain.specs.declared.check.CheckResult.{CheckResult}
-use Rattle.script_explain.specs.Comparisons.{
-  Agreement,
-  Agrees,
-  Begins,
-  Checks,
-  Difference,
-  EndsChecked,
-  Plays,
-  Remarks,
-  Replies,
-  early_reason,
-}
+use Rattle.script_explain.specs.Comparisons.{Agreement, Agrees, Begins, Checks, Difference, EndsChecked, Plays, Remarks, Replies, early_reason}
 use Rattle.script_explain.specs.Comparisons.{FullAgreement, IsJudged, IsRemark, IsSaid, IsUnchecked, IsVerdict, ComparisonLinesStop}
 use Rattle.script_explain.specs.Comparisons.{TranscriptPlace, Records, ComparisonStopped, checking_status, lines_with, told_difference}
 use Rattle.script_explain.specs.Progress.{CheckHalted, Compared, Ended, comparison_place, lines_counted}
