@@ -4,6 +4,7 @@ ghost use Rattle.actor_plays.specs.Plays.{IsPlay};
 
 use actor_plays::{Fate, Plan, Play, Turned, Waiting, plan_of};
 use actor_scripts::Step;
+use core_likeness::{Names, cores_are_alike};
 use script_lines::Request;
 use sm_names::{Argument, CallKind, Limits, Object, Reply};
 use std::alloc::{AllocError, Global};
@@ -92,6 +93,14 @@ fn is_live(play: &Play) -> bool {
     }
 }
 
+// Whether the core is found to be itself, each name its own.
+fn is_itself(play: &Play, alloc: Global, plans: &[Plan]) -> bool
+    requires { IsPlay plans.now play.now }
+{
+    let (core, entries, names) = (play.core(), play.entries(), Names::new(alloc));
+    cores_are_alike(alloc, core, entries, core, entries, &names) == Ok(true)
+}
+
 // Whether both come to their end, one turn after another.
 fn comes_to_its_end(play: &mut Play, alloc: Global, plans: &[Plan]) -> bool
     requires { IsPlay plans.now play.old }
@@ -100,6 +109,7 @@ fn comes_to_its_end(play: &mut Play, alloc: Global, plans: &[Plan]) -> bool
         && makes_turn(play, alloc, plans, 0)
         && makes_turn(play, alloc, plans, 0)
         && makes_turn(play, alloc, plans, 1)
+        && is_itself(play, alloc, plans)
         && is_live(play)
         && play.falls().is_empty()
         && play.entries().len() == 6

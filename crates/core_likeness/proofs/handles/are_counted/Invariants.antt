@@ -1,0 +1,8 @@
+use Rattle.std.proofs.Common.{take}
+use Rattle.core_likeness.specs.Naming.{new_id}
+use Rattle.core_likeness.specs.Parts.{AreCounted}
+use Rattle.core_likeness.proofs.handles.are_counted.Given as goal
+
+-- so far those of these entries are
+abbrev pub invariant-loop-entry : goal.invariant-loop-entry
+invariant-loop-entry l = AreCounted l.one.holds l.other.holds (new_id l.names) l.is_old (take l.entry-index l.entries)

@@ -1,0 +1,30 @@
+use Rattle.std.proofs.Common.{◌≡◌, ◌<◌, ◌==◌, arith, below_more, refl, sym, true, false, ◌∙◌}
+use Rattle.std.proofs.lemmas.Bool.{eq-eqb, false≢true}
+use Rattle.std.specs.Int.{bit_at}
+use Rattle.sm_names.specs.declared.keys.Strength.{Strength}
+use Rattle.core_likeness.specs.Naming.{new_id}
+use Rattle.core_likeness.specs.Parts.{IsCounted}
+use Rattle.core_likeness.proofs.HandleLaws.{set-counted}
+use Rattle.core_likeness.proofs.handles.is_set_counted.Goals as goal
+use Rattle.core_likeness.proofs.handles.is_set_counted.Goals.{then-has_buffer+else-not-is_counted, else-has_buffer}
+
+-- one more is counted, or is not of the set
+pub counting-preserved : goal.counting-preserved
+counting-preserved c =
+    below_more (λ n. bit_at c.args.set n ≡ 1 → (strength : Strength) →
+    IsCounted c.args.one.now.holds c.args.other.now.holds (new_id c.args.names.now) c.args.is_old c.args.client
+    (record { collection = c.args.collection; index = n }) strength) c.counting.index c.counting.invariant
+    (λ bit. elim c.if-has_buffer.branch [
+      | then-has_buffer+else-not-is_counted w ↦ w.if-not-is_counted.ensures refl
+      | else-has_buffer w ↦
+          let set : (bit_at c.args.set c.counting.index == 1) ≡ true = eq-eqb (bit_at c.args.set c.counting.index) 1 bit in
+          let no : false ≡ true = sym w.if-has_buffer.false ∙ (c.has_buffer.ensures ∙ set) in
+          absurd (false≢true no)
+    ])
+
+-- no buffer of the set is left
+pub returns : goal.returns
+returns c = λ _.
+    set-counted c.args.one.now.holds c.args.other.now.holds (new_id c.args.names.now) c.args.is_old c.args.client c.args.collection
+    c.args.set
+    (omega arith) (λ n less. c.counting.invariant n (omega arith))

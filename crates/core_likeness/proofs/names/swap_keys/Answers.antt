@@ -1,0 +1,18 @@
+use Rattle.std.proofs.Common.{◌+◌, ◌<◌, ◌≤◌, ◌∙◌, ap, arith, drop, length, sym}
+use Rattle.sm_names.specs.Sameness.{same_key}
+use Rattle.core_likeness.specs.Naming.{under}
+use Rattle.core_likeness.proofs.Swapping.{under-done, under-more}
+use Rattle.core_likeness.proofs.names.swap_keys.Goals as goal
+
+-- by one swap more
+pub loop-swap-preserved : goal.loop-swap-preserved
+loop-swap-preserved c =
+    let within : c.loop-swap.swap-index < length c.args.swaps.now = omega arith in
+    ap (under same_key (drop (c.loop-swap.swap-index + 1) c.args.swaps.now)) c.swap_key-name.ensures
+    ∙ (sym (under-more same_key c.args.swaps.now c.loop-swap.swap-index _ c.loop-swap.name within) ∙ c.loop-swap.invariant)
+
+-- none is left
+pub returns : goal.returns
+returns c =
+    let all : length c.args.swaps.now ≤ c.loop-swap.swap-index = omega arith in
+    sym (under-done same_key c.args.swaps.now c.loop-swap.swap-index c.loop-swap.name all) ∙ c.loop-swap.invariant

@@ -1,0 +1,17 @@
+//! Whether a core is another one under other names. The names are swaps one after another, so that no two names become
+//! one whatever the swaps are.
+#![tactic(auto)]
+
+mod clients;
+mod collections;
+mod cores;
+mod handles;
+pub mod laws;
+mod matching;
+mod names;
+mod nodes;
+mod sameness;
+mod tracking;
+
+pub use cores::cores_are_alike;
+pub use names::Names;

@@ -1,0 +1,120 @@
+//! Tests of whether two values are one.
+ghost use Rattle.std.specs.Prelude.{◌≡◌, true};
+ghost use Rattle.core_likeness.specs.Naming.{new_key};
+ghost use Rattle.std.specs.Prelude.{option_map};
+ghost use Rattle.alike_cores.specs.Renamed.{fault_renamed};
+
+use crate::names::Names;
+use forest_store::End;
+use sm_names::{Buffers, Cause, Constraints, Fault, NodeKey, Strength};
+
+// Whether the causes are one.
+pub(crate) fn is_cause(one: Cause, other: Cause) -> bool
+    ensures { result ≡ true → other ≡ one }
+{
+    one == other
+}
+
+// Whether the strengths are one.
+pub(crate) fn is_strength(one: Strength, other: Strength) -> bool
+    ensures { result ≡ true → other ≡ one }
+{
+    match one {
+        Strength::Strong => matches!(other, Strength::Strong),
+        Strength::Weak => matches!(other, Strength::Weak),
+    }
+}
+
+// Whether the keys are one.
+pub(crate) fn is_key(one: NodeKey, other: NodeKey) -> bool
+    ensures { result ≡ true → other ≡ one }
+{
+    one.slot == other.slot && one.generation == other.generation
+}
+
+// Whether the other key is the one under its new name.
+pub(crate) fn is_new_key(one: NodeKey, other: NodeKey, names: &Names) -> bool
+    ensures { result ≡ true → other ≡ new_key names.now one }
+{
+    is_key(names.key(one), other)
+}
+
+// Whether the other key is the one under its new name, or neither is there.
+pub(crate) fn is_new_option(one: Option<NodeKey>, other: Option<NodeKey>, names: &Names) -> bool
+    ensures { result ≡ true → other ≡ option_map (new_key names.now) one }
+{
+    match one {
+        Some(key) => match other {
+            Some(new) => is_new_key(key, new, names),
+            None => false,
+        },
+        None => other.is_none(),
+    }
+}
+
+// Whether the faults are one, but for the new name of their origin, or neither is there.
+pub(crate) fn is_new_fault(one: Option<Fault>, other: Option<Fault>, names: &Names) -> bool
+    ensures { result ≡ true → other ≡ option_map (fault_renamed (new_key names.now)) one }
+{
+    match one {
+        Some(fault) => match other {
+            Some(new) => {
+                is_cause(fault.cause, new.cause) && is_new_key(fault.origin, new.origin, names)
+            }
+            None => false,
+        },
+        None => other.is_none(),
+    }
+}
+
+// Whether the demands are one.
+fn is_demand(one: &Constraints, other: &Constraints) -> bool
+    ensures { result ≡ true → other.now ≡ one.now }
+{
+    one.camping() == other.camping()
+        && one.at_least() == other.at_least()
+        && one.size() == other.size()
+}
+
+// Whether the demands are one, or neither is there.
+pub(crate) fn is_same_demand(one: &Option<Constraints>, other: &Option<Constraints>) -> bool
+    ensures { result ≡ true → other.now ≡ one.now }
+{
+    match one {
+        Some(demand) => match other {
+            Some(new) => is_demand(demand, new),
+            None => false,
+        },
+        None => other.is_none(),
+    }
+}
+
+// Whether the ends are at one place.
+pub(crate) fn is_end(one: End, other: End) -> bool
+    ensures { result ≡ true → other ≡ one }
+{
+    match one {
+        End::Held(client) => match other {
+            End::Held(new) => client == new,
+            _ => false,
+        },
+        End::InTransit(client) => match other {
+            End::InTransit(new) => client == new,
+            _ => false,
+        },
+        End::Spent => matches!(other, End::Spent),
+    }
+}
+
+// Whether the two were given as many buffers of one size, or neither was.
+pub(crate) fn is_given(one: Option<Buffers>, other: Option<Buffers>) -> bool
+    ensures { result ≡ true → other ≡ one }
+{
+    match one {
+        Some(given) => match other {
+            Some(new) => given.count == new.count && given.size == new.size,
+            None => false,
+        },
+        None => other.is_none(),
+    }
+}
