@@ -1,1 +1,3 @@
 pub mod PlayLaws
+pub mod PositionLaws
+pub mod MoveLaws

@@ -14,6 +14,7 @@ use Rattle.actor_scripts.specs.declared.object.StepCall.{StepCall}
 use Rattle.actor_scripts.specs.ActorStates.{step_call}
 use Rattle.core_state.specs.Shown.{Shows}
 use Rattle.core_state.specs.State.{State}
+use Rattle.core_state.specs.Theorem.{Makes}
 use Rattle.forced_marks.specs.declared.moment.Moment.{Moment}
 use Rattle.forced_marks.specs.Marks.{AreStages, Stage as MarkStage}
 use Rattle.forced_marks.specs.Moments.{stage_of as stage_told}
@@ -27,6 +28,7 @@ use Rattle.actor_plays.specs.declared.falls.GoneNode.{GoneNode}
 use Rattle.actor_plays.specs.Fates.{AreFalls, AreTold, falls_at}
 use Rattle.actor_plays.specs.Plays.{AreJoining, IsLeave, IsLeftWaiting, IsPlay, IsTurn, Plays, Stage, first_stage}
 use Rattle.actor_plays.specs.Plays.{is_wait, leaves_by, left, joins, next_step, passed, polls, stage_after, stage_of, stages_of}
+use Rattle.actor_plays.proofs.MoveLaws.{one_joined}
 
 -- two changes of the actors are one
 pub only_actors : (a b c : Play) → b ≡ record a { actors = b.actors } → c ≡ record b { actors = c.actors } →
@@ -49,17 +51,21 @@ none_fell p are = subst (λ falls. AreFalls p.entries.items falls) (sym are.fall
 
 -- one more client joins
 pub joined : (old mid new : Play) (client : ℕ) → AreJoining old → Shows mid.core mid.entries.items →
+    Makes old.core mid.core (0, Call.Join, Reply.Joined client) →
     mid.entries.items ≡ old.entries.items ++ (0, Call.Join, Reply.Joined client) ∷ [] →
     mid ≡ record old { core = mid.core; entries = mid.entries } →
     new.clients.items ≡ mid.clients.items ++ client ∷ [] → stages_of new ≡ stages_of mid ++ first_stage ∷ [] →
     new ≡ record mid { clients = new.clients; actors = new.actors } → AreJoining new
-joined old mid new client are shows entries same clients stages rest =
+joined old mid new client are shows makes entries same clients stages rest =
     let before : mid.clients.items ≡ old.clients.items = ap (λ (p : Play). p.clients.items) same in
     let all : new.clients.items ≡ old.clients.items ++ client ∷ [] = clients ∙ ap (λ cs. cs ++ client ∷ []) before in
     record {
       shows = subst (λ (p : Play). Shows p.core p.entries.items) (sym rest) shows;
       entries = ap (λ (p : Play). p.entries.items) rest ∙ (entries ∙ (ap (λ es. es ++ (0, Call.Join, Reply.Joined client) ∷ []) are.entries
           ∙ (sym (map-append (λ c. (0, Call.Join, Reply.Joined c)) old.clients.items (client ∷ [])) ∙ ap joins (sym all))));
+      clients = one_joined old.core new.core client old.clients.items new.clients.items
+          (subst (λ (s : State). Makes old.core s (0, Call.Join, Reply.Joined client)) (sym (ap (λ (p : Play). p.core) rest)) makes)
+          are.clients all;
       turns = ap (λ (p : Play). p.turns.items) rest ∙ (ap (λ (p : Play). p.turns.items) same ∙ are.turns);
       falls = ap (λ (p : Play). p.falls.items) rest ∙ (ap (λ (p : Play). p.falls.items) same ∙ are.falls);
       stages = stages ∙ (ap (λ (p : Play). stages_of p ++ first_stage ∷ []) same ∙ (ap (λ ss. ss ++ first_stage ∷ []) are.stages

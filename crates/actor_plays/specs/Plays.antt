@@ -1,5 +1,5 @@
 -- The plays of actors: which calls they can make, one turn after another, and what they know then.
-use Rattle.std.specs.Prelude.{ℕ, ◌+◌, ◌≡◌, Bool, true, false, ◌&&◌, ◌==◌, not, if◌then◌else◌, List, [], ◌∷◌, ◌++◌, length, map, slice_get, slice_set, Option, Some, None, is_some}
+use Rattle.std.specs.Prelude.{ℕ, zero, suc, ◌+◌, ◌≡◌, Bool, true, false, ◌&&◌, ◌==◌, not, if◌then◌else◌, List, [], ◌∷◌, ◌++◌, length, map, slice_get, slice_set, Option, Some, None, is_some}
 use Rattle.std.specs.List.{list_any}
 use Rattle.std.specs.Option.{option_and_then, option_map, option_map_or}
 use Rattle.sm_names.specs.declared.messages.Call.{Call}
@@ -126,10 +126,16 @@ pub record IsPlay (plans : List Plan) (play : Play) : Type 0 where
   pub shows : Shows play.core play.entries.items
   pub plays : Plays plans play.clients.items play.turns.items play.entries.items (stages_of play)
 
+-- the clients that join first, if so many do: each is numbered by the event that made it
+abbrev pub first_clients : ℕ → List ℕ
+first_clients zero = []
+first_clients (suc count) = first_clients count ++ (count + 1) ∷ []
+
 -- so far clients have joined, and nothing else happened
 pub record AreJoining (play : Play) : Type 0 where
   pub shows : Shows play.core play.entries.items
   pub entries : play.entries.items ≡ joins play.clients.items
+  pub clients : play.clients.items ≡ first_clients play.core.events
   pub turns : play.turns.items ≡ []
   pub falls : play.falls.items ≡ []
   pub stages : stages_of play ≡ map (λ client. first_stage) play.clients.items

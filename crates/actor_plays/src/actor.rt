@@ -1,12 +1,13 @@
 //! An actor in a play.
-ghost use Rattle.std.specs.Prelude.{◌≡◌, ◌≤◌, false, true, IfErr, IfOk, OnOk};
+ghost use Rattle.std.specs.Prelude.{◌≡◌, ◌≤◌, length, false, true, IfErr, IfOk, OnOk};
 ghost use Rattle.sm_names.specs.declared.outcomes.StepFault.{StepFault as Fault};
 ghost use Rattle.actor_scripts.specs.ActorStates.{step_call};
 ghost use Rattle.actor_scripts.specs.Tables.{known};
+ghost use Rattle.actor_plays.specs.Plans.{steps_of};
 ghost use Rattle.actor_plays.specs.Plays.{first_stage, leaves_by, left, passed, stage_after, stage_of};
 
 use crate::leaving::{Leaving, leave_call, note_leave};
-use crate::plan::Planned;
+use crate::plan::{Plan, Planned};
 use actor_scripts::{ActorState, Step, StepCall};
 use sm_names::{Call, ClientId, Reply, StepFault};
 use std::alloc::{AllocError, Global};
@@ -45,12 +46,13 @@ impl Actor {
         self.state.call(clients, step)
     }
 
-    // One more step is behind it, unless there are as many as can be counted.
-    pub(crate) fn pass(&mut self) -> bool
+    // One more step of its plan is behind it, unless all are.
+    pub(crate) fn pass(&mut self, plan: &Plan) -> bool
         ensures stage { result ≡ true → stage_of self.new ≡ passed (stage_of self.old) }
         ensures same { result ≡ false → self.new ≡ self.old }
+        ensures done { result ≡ false → length (steps_of plan.now) ≤ self.old.at }
     {
-        if self.at == usize::MAX {
+        if plan.steps.len() <= self.at {
             return false;
         }
         self.at += 1;

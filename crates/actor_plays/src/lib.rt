@@ -6,6 +6,7 @@ mod departure;
 mod ending;
 mod falls;
 mod leaving;
+mod passing;
 mod plan;
 mod play;
 

@@ -1,24 +1,26 @@
 //! A play on a core, turn by turn.
-ghost use Rattle.std.specs.Prelude.{◌≡◌, ◌+◌, ◌≤◌, ◌&&◌, ◌∷◌, ◌++◌, [], length, option_copied, slice_get, slice_set, false, true, None, Err, IfErr, IfOk, IfSome, OnOk};
-ghost use Rattle.std.specs.Option.{option_and_then, option_map, option_map_or};
+ghost use Rattle.std.specs.Prelude.{ℕ, ◌≡◌, ◌+◌, ◌≤◌, ◌&&◌, ◌∷◌, ◌++◌, [], length, option_copied, slice_get, slice_set, true, None, Err, IfErr, IfOk, IfSome, OnOk};
+ghost use Rattle.std.specs.Option.{option_and_then, option_map};
 ghost use Rattle.sm_names.specs.declared.rules.TheConstants.{MAX_PAGES};
 ghost use Rattle.sm_names.specs.declared.outcomes.StepFault.{StepFault as Fault};
 ghost use Rattle.core_state.specs.Shown.{Shows};
+ghost use Rattle.core_state.specs.Theorem.{Makes};
 ghost use Rattle.actor_plays.specs.declared.play.Asked.{Asked as AskedFor};
 ghost use Rattle.actor_plays.specs.declared.play.Turn.{Turn as Made};
 ghost use Rattle.actor_plays.specs.Fates.{AreFalls, fate_in};
-ghost use Rattle.actor_plays.specs.Plays.{AreJoining, Asks, AsksNothing, IsPlay, IsTurn, Stage, first_stage, has_fired as has_fired_among, is_wait as is_waiting, next_step, passed, polls as polls_for, stage_after, stage_of, stages_of};
+ghost use Rattle.actor_plays.specs.Moves.{IsOfSetup, TakesTurn, position_of};
+ghost use Rattle.actor_plays.specs.Plays.{AreJoining, Asks, AsksNothing, IsPlay, IsTurn, Stage, first_clients, first_stage, is_wait as is_waiting, next_step, stage_after, stage_of, stages_of};
+ghost use Rattle.actor_plays.specs.Positions.{Begins, Setup};
 ghost use Rattle.actor_scripts.specs.ActorStates.{step_call};
-ghost use Rattle.actor_scripts.specs.Tables.{known};
 
 use crate::actor::Actor;
 use crate::ending::{Fate, fallen, fate_of};
 use crate::falls::{GoneNode, note_falls};
 use crate::plan::{Plan, Planned};
-use actor_scripts::{ActorState, Step, StepCall};
+use actor_scripts::{Step, StepCall};
 use event_facts::step_with_marks;
 use lifetime_core::Core;
-use sm_names::{Call, ClientId, Fired, Limits, NoMemory, NodeKey, Reply, StepFault, TrackerId};
+use sm_names::{Call, ClientId, Limits, NoMemory, NodeKey, Reply, StepFault};
 use std::alloc::Global;
 
 /// What came of an actor's turn.
@@ -75,29 +77,6 @@ fn must_wait(next: &Planned, reply: &Reply) -> bool
     next.waits && is_wait(reply)
 }
 
-// Whether the tracker is among those that fired.
-fn has_fired(fired: &[Fired], tracker: TrackerId) -> bool
-    ensures { result ≡ has_fired_among fired.now tracker }
-{
-    fired.iter().any(|one| one.tracker == tracker)
-}
-
-// Whether the step looks at a tracker that has not fired, and waits for it.
-fn polls(fired: &[Fired], state: &ActorState, next: Planned) -> bool
-    ensures { result ≡ polls_for fired.now (known state.now) next }
-{
-    if !next.waits {
-        return false;
-    }
-    match next.step {
-        Step::Poll { tracker } => match state.tracker(tracker) {
-            Some(id) => !has_fired(fired, id),
-            None => false,
-        },
-        Step::Ask { .. } => false,
-    }
-}
-
 impl Play {
     /// A play in which no client has joined, on a core with a pool of this many pages, 1 to 1,048,576. Its
     /// table of handles hashes from the seed, which changes no reply.
@@ -125,6 +104,7 @@ impl Play {
     fn make_call(&mut self, client: ClientId, call: Call) -> Result<Reply, StepFault>
         requires { Shows self.old.core self.old.entries.items }
         ensures shows { OnOk result (Shows self.new.core self.new.entries.items) }
+        ensures makes { IfOk result (λ reply. Makes self.old.core self.new.core (client, call, reply)) }
         ensures entries { IfOk result (λ reply. self.new.entries.items
             ≡ self.old.entries.items ++ (client, call, reply) ∷ []) }
         ensures rest { OnOk result
@@ -147,6 +127,7 @@ impl Play {
     fn tell_call(&mut self, alloc: Global, client: ClientId, call: Call) -> Result<Reply, StepFault>
         requires { Shows self.old.core self.old.entries.items }
         ensures shows { OnOk result (Shows self.new.core self.new.entries.items) }
+        ensures makes { IfOk result (λ reply. Makes self.old.core self.new.core (client, call, reply)) }
         ensures entries { IfOk result (λ reply. self.new.entries.items
             ≡ self.old.entries.items ++ (client, call, reply) ∷ []) }
         ensures told { OnOk result (AreFalls self.old.entries.items self.old.falls.items →
@@ -223,12 +204,16 @@ impl Play {
         ensures play { AreJoining self.now →
             length self.now.clients.items ≡ length plans.now → IsPlay plans.now self.now }
         ensures told { AreJoining self.now → AreFalls self.now.entries.items self.now.falls.items }
+        ensures clients { AreJoining self.now → length self.now.clients.items ≡ length plans.now →
+            self.now.clients.items ≡ first_clients (length plans.now) }
+        ensures begins { AreJoining self.now → length self.now.clients.items ≡ length plans.now →
+            (setup : Setup) → IsOfSetup setup plans.now self.now → Begins setup (position_of self.now) }
     {
         self.clients.len() == plans.len()
     }
 
     // The next step of the actor.
-    fn next(&self, plans: &[Plan], actor: usize) -> Option<Planned>
+    pub(crate) fn next(&self, plans: &[Plan], actor: usize) -> Option<Planned>
         ensures { result
             ≡ option_and_then (next_step plans.now actor) (slice_get (stages_of self.now) actor) }
     {
@@ -247,7 +232,7 @@ impl Play {
     }
 
     // The call that the actor's step makes.
-    fn asked(&self, actor: usize, step: Step) -> Option<StepCall>
+    pub(crate) fn asked(&self, actor: usize, step: Step) -> Option<StepCall>
         ensures { result ≡ option_and_then
             (λ (stage : Stage). step_call self.now.clients.items stage.known step)
             (slice_get (stages_of self.now) actor) }
@@ -255,92 +240,6 @@ impl Play {
         match self.actor(actor) {
             Some(one) => one.asked(&self.clients, step),
             None => None,
-        }
-    }
-
-    // Whether the actor waits for a tracker to fire.
-    fn polls(&self, actor: usize, next: Planned) -> bool
-        ensures { result ≡ option_map_or
-            (λ (stage : Stage). polls_for self.now.core.trackers.fired stage.known next)
-            (slice_get (stages_of self.now) actor) false }
-    {
-        match self.actors.get(actor) {
-            Some(one) => polls(self.core.fired(), &one.state, next),
-            None => false,
-        }
-    }
-
-    // Whether the actor can't pass its next step: it makes a call, or waits for a tracker to fire.
-    fn stays(&self, actor: usize, next: Planned) -> bool
-        ensures none { result ≡ false → option_and_then
-            (λ (stage : Stage). step_call self.now.clients.items stage.known next.step)
-            (slice_get (stages_of self.now) actor) ≡ None }
-        ensures quiet { result ≡ false → option_map_or
-            (λ (stage : Stage). polls_for self.now.core.trackers.fired stage.known next)
-            (slice_get (stages_of self.now) actor) false ≡ false }
-    {
-        match self.asked(actor, next.step) {
-            Some(_) => true,
-            None => self.polls(actor, next),
-        }
-    }
-
-    // One more step of the actor is behind it, unless there are as many as can be counted.
-    fn step_on(&mut self, actor: usize) -> bool
-        ensures stages { result ≡ true → IfSome (slice_get (stages_of self.old) actor) (λ stage.
-            stages_of self.new ≡ slice_set (stages_of self.old) actor (passed stage)) }
-        ensures none { result ≡ false → stages_of self.new ≡ stages_of self.old }
-        ensures rest { self.new ≡ record self.old { actors = self.new.actors } }
-    {
-        if self.actors.len() <= actor {
-            return false;
-        }
-        self.actors[actor].pass()
-    }
-
-    // Passes the next step of the actor, if it makes no call and does not wait.
-    fn pass_one(&mut self, plans: &[Plan], actor: usize) -> bool
-        requires { IsPlay plans.now self.old }
-        ensures play { IsPlay plans.now self.new }
-        ensures rest { self.new ≡ record self.old { actors = self.new.actors } }
-    {
-        let Some(next) = self.next(plans, actor) else {
-            return false;
-        };
-        if self.stays(actor, next) {
-            return false;
-        }
-        self.step_on(actor)
-    }
-
-    // Passes all that the actor can pass.
-    #[tactic(auto, using(crate::proofs::PlayLaws::only_actors))]
-    fn pass(&mut self, plans: &[Plan], actor: usize)
-        requires { IsPlay plans.now self.old }
-        ensures play { IsPlay plans.now self.new }
-        ensures rest { self.new ≡ record self.old { actors = self.new.actors } }
-    {
-        let most = match plans.get(actor) {
-            Some(plan) => plan.steps.len(),
-            None => 0,
-        };
-        'passing: for _ in 0..most {
-            if !self.pass_one(plans, actor) {
-                return;
-            }
-        }
-    }
-
-    /// Each actor passes the steps that it can pass. It makes no turn. Costs a constant number of look-ups
-    /// for each step.
-    #[tactic(auto, using(crate::proofs::PlayLaws::only_actors))]
-    pub fn pass_all(&mut self, plans: &[Plan])
-        requires { IsPlay plans.now self.old }
-        ensures play { IsPlay plans.now self.new }
-        ensures rest { self.new ≡ record self.old { actors = self.new.actors } }
-    {
-        'actors: for actor in 0..plans.len() {
-            self.pass(plans, actor);
         }
     }
 
@@ -354,6 +253,7 @@ impl Play {
     ) -> Result<Reply, StepFault>
         requires { Shows self.old.core self.old.entries.items }
         ensures shows { OnOk result (Shows self.new.core self.new.entries.items) }
+        ensures makes { IfOk result (λ reply. Makes self.old.core self.new.core (client, call, reply)) }
         ensures entries { IfOk result (λ reply. self.new.entries.items
             ≡ self.old.entries.items ++ (client, call, reply) ∷ []) }
         ensures told { tells ≡ true → OnOk result
@@ -448,6 +348,7 @@ impl Play {
         requires play { IsPlay plans.now self.old }
         requires asks { Asks plans.now self.old actor asks.now }
         ensures turn { IfOk result (IsTurn plans.now self.old self.new actor) }
+        ensures takes { IfOk result (TakesTurn plans.now self.old self.new actor) }
         ensures told { tells ≡ true → AreFalls self.old.entries.items self.old.falls.items →
             OnOk result (AreFalls self.new.entries.items self.new.falls.items) }
         ensures full { result ≡ Err Fault.HistoryFull →
@@ -473,6 +374,7 @@ impl Play {
     ) -> Result<Turned, StepFault>
         requires { IsPlay plans.now self.old }
         ensures turn { IfOk result (IsTurn plans.now self.old self.new actor) }
+        ensures takes { IfOk result (TakesTurn plans.now self.old self.new actor) }
         ensures told { tells ≡ true → AreFalls self.old.entries.items self.old.falls.items →
             OnOk result (AreFalls self.new.entries.items self.new.falls.items) }
         ensures full { result ≡ Err Fault.HistoryFull →
@@ -502,6 +404,7 @@ impl Play {
     ) -> Result<Turned, StepFault>
         requires { IsPlay plans.now self.old }
         ensures turn { IfOk result (IsTurn plans.now self.old self.new actor) }
+        ensures takes { IfOk result (TakesTurn plans.now self.old self.new actor) }
         ensures told { tells ≡ true → AreFalls self.old.entries.items self.old.falls.items →
             OnOk result (AreFalls self.new.entries.items self.new.falls.items) }
         ensures full { result ≡ Err Fault.HistoryFull →

@@ -11,12 +11,13 @@ use Rattle.sm_names.proofs.SamenessLaws.{both_ways, either_way, map-Some, none_i
 use Rattle.forest_store.specs.Forest.{given}
 use Rattle.actor_plays.specs.Leaves.{Leave}
 use Rattle.actor_plays.specs.Plays.{Stage}
+use Rattle.actor_plays.specs.Positions.{Position, Setup, left_at}
+use Rattle.actor_plays.proofs.PositionLaws.{get-other}
 use Rattle.alike_plays.specs.Actors.{AreAlikeStages, leave_renamed, made_of, made_renamed}
 use Rattle.alike_plays.specs.Ahead.{AreAlikeAhead, GoesByEarly, ahead, ahead_by, ahead_of, count_early, early_first, early_in}
 use Rattle.alike_plays.specs.Ahead.{going_on}
-use Rattle.alike_plays.specs.Positions.{AreAlikeAll, AreAlikePlays, Position, Setup, left_at}
+use Rattle.alike_plays.specs.AlikePlays.{AreAlikeAll, AreAlikePlays}
 use Rattle.alike_plays.proofs.Ahead.{ahead-alike, ahead_known, plain, plain_back, same_leaving}
-use Rattle.alike_plays.proofs.Passing.{get-other}
 use Rattle.alike_plays.proofs.Places.{all_at, all_left}
 use Rattle.alike_plays.proofs.Reaching.{IsKnown, IsSeen}
 

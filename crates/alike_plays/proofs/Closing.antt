@@ -16,15 +16,17 @@ use Rattle.core_state.specs.Shown.{IsAfter, Shows, collection_after, kept_ids, t
 use Rattle.core_state.specs.State.{HandleCounts, State}
 use Rattle.actor_scripts.specs.declared.object.StepCall.{StepCall}
 use Rattle.actor_plays.specs.Plays.{Stage, first_stage, is_wait, joins}
+use Rattle.actor_plays.specs.Positions.{Asks, Begins, Calls, HasToWait, PassOn, Position, Reached, Rests, Setup}
+use Rattle.actor_plays.proofs.PositionLaws.{all_rest, further, reached_on}
 use Rattle.alike_cores.specs.Cores.{AreAlikeCores, tracker_renamed, undated}
 use Rattle.alike_cores.specs.Mixed.{Mixed}
 use Rattle.alike_cores.specs.Renamed.{collection_renamed}
 use Rattle.alike_cores.proofs.Composing.{alike-same}
-use Rattle.alike_plays.specs.Closed.{HasToWait, IsClosed, IsMet, IsSimulation, PassOn}
+use Rattle.alike_plays.specs.AlikePlays.{AreAlikeAll, AreAlikePlays}
+use Rattle.alike_plays.specs.Closed.{IsClosed, IsMet, IsSimulation}
 use Rattle.alike_plays.specs.Names.{KnownCall}
-use Rattle.alike_plays.specs.Positions.{AreAlikeAll, AreAlikePlays, Asks, Begins, Calls, Position, Reached, Rests, Setup}
 use Rattle.alike_plays.proofs.Composing.{plays-composed}
-use Rattle.alike_plays.proofs.Passing.{call_on, further, leave_on, past, reached_on}
+use Rattle.alike_plays.proofs.Passing.{call_on, leave_on, past}
 use Rattle.alike_plays.proofs.Reaching.{IsSeen, asks_known, reached_seen}
 use Rattle.alike_plays.proofs.Turning.{AskAlike, asks_both, calls_alike, leaves_alike, names_old, other_asks, other_goes}
 use Rattle.alike_plays.proofs.Turning.{pass_alike, pass_back}
@@ -158,11 +160,6 @@ module _ (setup : Setup) (Like : Position → Position → Type 0) (like : IsSim
       let step = like.passes actor one other here there alike new pass in
       rests step.0 step.1
 
-  -- Where all rest, nobody passes on.
-  all_rest : (p r : Position) → PassOn setup p r → ((actor : ℕ) → Rests setup p actor) → r ≡ p
-  all_rest _ _ (PassOn.Stays p) rest = refl
-  all_rest _ _ (PassOn.Further actor p mid r first on) rest = absurd (rest actor mid first)
-
   module _ (rows : List Position) (closed : IsClosed setup Like rows) where
     -- What passes on to what is like what was met, was met.
     lands : (p one other : Position) → PassOn setup p one → Reached setup one → Reached setup other → Like one other →
@@ -226,5 +223,5 @@ module _ (setup : Setup) (Like : Position → Position → Type 0) (like : IsSim
         let m = all_met p reached in (
           m.row,
           m.met,
-          subst (λ (x : Position). Like x m.row) (all_rest p m.rested m.passes rest) m.alike,
+          subst (λ (x : Position). Like x m.row) (all_rest setup p m.rested m.passes rest) m.alike,
         )

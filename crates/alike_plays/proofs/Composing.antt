@@ -7,11 +7,12 @@ use Rattle.actor_scripts.specs.declared.object.ActorObject.{ActorObject}
 use Rattle.actor_scripts.specs.ActorStates.{Known}
 use Rattle.actor_plays.specs.Leaves.{Leave}
 use Rattle.actor_plays.specs.Plays.{Stage}
+use Rattle.actor_plays.specs.Positions.{Position}
 use Rattle.alike_cores.specs.Alike.{reply_renamed}
 use Rattle.alike_cores.proofs.Composing.{alike-alike}
 use Rattle.alike_plays.specs.Actors.{AreAlikeKnown, AreAlikeStages, leave_renamed, made_of, made_renamed, object_renamed}
 use Rattle.alike_plays.specs.Actors.{place_renamed}
-use Rattle.alike_plays.specs.Positions.{AreAlikeAll, AreAlikePlays, Position}
+use Rattle.alike_plays.specs.AlikePlays.{AreAlikeAll, AreAlikePlays}
 
 -- Element by element.
 twice-map : {A B C : Type 0} (f : A → B) (g : B → C) (h : A → C) → ((x : A) → g (f x) ≡ h x) → (xs : List A) → map g (map f xs) ≡ map h xs

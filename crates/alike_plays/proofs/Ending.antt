@@ -8,12 +8,13 @@ use Rattle.forest_store.specs.declared.node.Node.{Node}
 use Rattle.forest_store.specs.Forest.{node_at}
 use Rattle.actor_plays.specs.declared.ending.Fate.{Fate}
 use Rattle.actor_plays.specs.Fates.{fate_gone, fate_of, fate_there}
+use Rattle.actor_plays.specs.Positions.{Position}
 use Rattle.alike_cores.specs.Renamed.{fault_renamed, node_renamed}
 use Rattle.alike_cores.specs.Cores.{node_undated}
 use Rattle.alike_cores.proofs.Finding.{found_node, sound_apart}
 use Rattle.alike_cores.proofs.Shown.{shown_sound}
+use Rattle.alike_plays.specs.AlikePlays.{AreAlikePlays}
 use Rattle.alike_plays.specs.Outcomes.{fate_kept, fate_renamed}
-use Rattle.alike_plays.specs.Positions.{AreAlikePlays, Position}
 use Rattle.alike_plays.proofs.Reaching.{IsSeen}
 
 -- By whether it was released.

@@ -19,3 +19,4 @@ pub mod Ahead
 pub mod AheadActors
 pub mod AheadTurns
 pub mod TurnsLeft
+pub mod SameTurns

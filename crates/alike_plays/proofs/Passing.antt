@@ -23,18 +23,10 @@ use Rattle.actor_plays.specs.declared.plan.Planned.{Planned}
 use Rattle.actor_plays.specs.Leaves.{Leave}
 use Rattle.actor_plays.specs.Plans.{steps_of}
 use Rattle.actor_plays.specs.Plays.{Stage, has_fired, is_silent, left, next_step, passed, polls, stage_after}
-use Rattle.alike_plays.specs.Closed.{PassOn}
-use Rattle.alike_plays.specs.Positions.{Asks, Calls, Leaves, Passes, Position, Reached, Rests, Setup, left_at}
+use Rattle.actor_plays.specs.Positions.{Asks, Calls, Leaves, PassOn, Passes, Position, Rests, Setup, left_at}
+use Rattle.actor_plays.proofs.PositionLaws.{get-other, rests_on, rests_stay}
 
 -- ---- lists
-
--- At another place it stays.
-pub get-other : {A : Type 0} (xs : List A) (i j : ℕ) (y : A) → (i ≡ j → ⊥) → slice_get (slice_set xs i y) j ≡ slice_get xs j
-get-other [] i j y apart = refl
-get-other (x ∷ xs) zero zero y apart = absurd (apart refl)
-get-other (x ∷ xs) zero (suc j) y apart = refl
-get-other (x ∷ xs) (suc i) zero y apart = refl
-get-other (x ∷ xs) (suc i) (suc j) y apart = get-other xs i j y (λ is. apart (ap suc is))
 
 -- What is the same of both elements is that of the list.
 pub map-set_same : {A B : Type 0} (f : A → B) (xs : List A) (i : ℕ) (x y : A) → slice_get xs i ≡ Some x → f y ≡ f x →
@@ -143,15 +135,28 @@ module _ (setup : Setup) where
           let both = two_pass actor j p next mid (λ is. both_ways (actor == j) (eq-eqb actor j is) other) pass first in
           PassOn.Further j next both.0 r both.1 (more both.0 both.2)
 
-  -- One after another.
-  pub further : (p q r : Position) → PassOn setup p q → PassOn setup q r → PassOn setup p r
-  further _ _ r (PassOn.Stays p) on = on
-  further _ _ r (PassOn.Further actor p mid q first then) on = PassOn.Further actor p mid r first (further mid q r then on)
+  -- Where an actor passes a step, and actors pass on: the step is among those, or can be passed behind them.
+  pub meets : (p r : Position) → PassOn setup p r → (actor : ℕ) (next : Position) → Passes setup actor p next →
+      PassOn setup next r ⊎ ((later : Position) × Passes setup actor r later × PassOn setup next later)
+  meets _ _ (PassOn.Stays p) actor next pass = inr (next, pass, PassOn.Stays next)
+  meets _ _ (PassOn.Further j p mid r first on) actor next pass = by (either_way (actor == j)) (meets mid r on actor)
+    where
+      -- it is carried over the passes behind the first
+      more : (both : Position) → Passes setup j next both →
+          PassOn setup both r ⊎ ((later : Position) × Passes setup actor r later × PassOn setup both later) →
+          PassOn setup next r ⊎ ((later : Position) × Passes setup actor r later × PassOn setup next later)
+      more both step (inl on) = inl (PassOn.Further j next both r step on)
+      more both step (inr so) = inr (so.0, so.1, PassOn.Further j next both so.0 step so.2)
 
-  -- A play comes there.
-  pub reached_on : (p r : Position) → PassOn setup p r → Reached setup p → Reached setup r
-  reached_on _ _ (PassOn.Stays p) reached = reached
-  reached_on _ _ (PassOn.Further actor p mid r first on) reached = reached_on mid r on (Reached.ByPass actor p mid reached first)
+      -- by whether it is the first
+      by : (actor == j ≡ true) ⊎ (actor == j ≡ false) → ((x : Position) → Passes setup actor mid x →
+          PassOn setup x r ⊎ ((later : Position) × Passes setup actor r later × PassOn setup x later)) →
+          PassOn setup next r ⊎ ((later : Position) × Passes setup actor r later × PassOn setup next later)
+      by (inl same) on_more = inl (subst (λ (x : Position). PassOn setup x r)
+          (one_pass actor p mid next (subst (λ (k : ℕ). Passes setup k p mid) (sym (eqb-true actor j same)) first) pass) on)
+      by (inr other) on_more =
+          let both = two_pass actor j p next mid (λ is. both_ways (actor == j) (eq-eqb actor j is) other) pass first in
+          more both.0 both.1 (on_more both.0 both.2)
 
   -- Passes leave the core.
   pub same_core : (p r : Position) → PassOn setup p r → r.core ≡ p.core
@@ -172,42 +177,6 @@ module _ (setup : Setup) where
           ≡ Some first.next → option_map (λ (l : Leave). first.stage.at + 1) o ≡ option_map (λ (l : Leave). first.stage.at) o
       by None step = refl
       by (Some l) step = cc
-
-  -- An actor that rests stays where it is while others pass.
-  rests_stay : (p mid : Position) (j actor : ℕ) → Passes setup j p mid → Rests setup p actor →
-      (actor ≡ j → ⊥) × (slice_get mid.stages actor ≡ slice_get p.stages actor) × Rests setup mid actor
-  rests_stay p mid j actor first rests = (
-    apart,
-    same,
-    λ new pass. rests (record p { stages = slice_set p.stages actor (passed pass.stage) }) (record {
-      stage = pass.stage;
-      next = pass.next;
-      at = sym same ∙ pass.at;
-      step = pass.step;
-      silent = pass.silent;
-      looks = subst (λ (s : State). polls s.trackers.fired pass.stage.known pass.next ≡ false) (ap (λ (x : Position). x.core) first.after)
-          pass.looks;
-      after = refl;
-    }),
-  )
-    where
-      -- it is another one
-      apart : actor ≡ j → ⊥
-      apart is = rests mid (subst (λ (k : ℕ). Passes setup k p mid) (sym is) first)
-
-      -- so it stays
-      same : slice_get mid.stages actor ≡ slice_get p.stages actor
-      same = ap (λ (x : Position). slice_get x.stages actor) first.after
-          ∙ get-other p.stages j actor (passed first.stage) (λ is. apart (sym is))
-
-  -- By induction on the passes.
-  rests_on : (p r : Position) → PassOn setup p r → (actor : ℕ) → Rests setup p actor →
-      (slice_get r.stages actor ≡ slice_get p.stages actor) × Rests setup r actor
-  rests_on _ _ (PassOn.Stays p) actor rests = (refl, rests)
-  rests_on _ _ (PassOn.Further j p mid r first on) actor rests =
-      let here = rests_stay p mid j actor first rests in
-      let more = rests_on mid r on actor here.2 in
-      (more.0 ∙ here.1, more.1)
 
   -- What others pass before the turn of an actor they can pass behind it.
   carry : (p r : Position) → PassOn setup p r → (actor : ℕ) → Rests setup p actor → (later : State) (new : Stage) →
@@ -236,7 +205,7 @@ module _ (setup : Setup) where
     where
       -- the actor is another one, and rests
       here : (actor ≡ j → ⊥) × (slice_get mid.stages actor ≡ slice_get p.stages actor) × Rests setup mid actor
-      here = rests_stay p mid j actor first rests
+      here = rests_stay setup p mid j actor first rests
 
   -- ---- turns
 
@@ -260,7 +229,7 @@ module _ (setup : Setup) where
         next = c.asks.next;
         asked = c.asks.asked;
         client = c.asks.client;
-        at = (rests_on p r on actor (call_rests p actor c.asks)).0 ∙ c.asks.at;
+        at = (rests_on setup p r on actor (call_rests p actor c.asks)).0 ∙ c.asks.at;
         step = c.asks.step;
         call = c.asks.call;
         caller = c.asks.caller;
@@ -307,4 +276,4 @@ module _ (setup : Setup) where
     where
       -- the actor is where it was, and rests
       there : (slice_get r.stages actor ≡ slice_get p.stages actor) × Rests setup r actor
-      there = rests_on p r on actor l.goes.rests
+      there = rests_on setup p r on actor l.goes.rests

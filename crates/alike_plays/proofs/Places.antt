@@ -7,8 +7,9 @@ use Rattle.sm_names.proofs.ListLaws.{In}
 use Rattle.sm_names.proofs.SamenessLaws.{some-injective}
 use Rattle.actor_plays.specs.Leaves.{Leave}
 use Rattle.actor_plays.specs.Plays.{Stage}
+use Rattle.actor_plays.specs.Positions.{left_at}
 use Rattle.alike_plays.specs.Actors.{AreAlikeStages, leave_renamed}
-use Rattle.alike_plays.specs.Positions.{AreAlikeAll, left_at}
+use Rattle.alike_plays.specs.AlikePlays.{AreAlikeAll}
 
 module _ (to : NodeKey → NodeKey) (id number : ℕ → ℕ) where
   -- By the place.

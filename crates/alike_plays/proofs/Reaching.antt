@@ -13,10 +13,10 @@ use Rattle.core_state.specs.Theorem.{Makes}
 use Rattle.core_state.proofs.theorem.GoesOn.{goes_on}
 use Rattle.actor_plays.specs.declared.play.Turn.{Turn}
 use Rattle.actor_plays.specs.Plays.{Plays, Stage, first_stage, joins, left, passed, stage_after}
+use Rattle.actor_plays.specs.Positions.{Asks, Begins, Calls, Goes, Leaves, Passes, Position, Reached, Setup}
 use Rattle.alike_cores.proofs.Learning.{events_stay, keys_stay, reply_known}
 use Rattle.alike_cores.proofs.Told.{Tells}
 use Rattle.alike_plays.specs.Names.{KnownCall, KnownReply, KnownStage}
-use Rattle.alike_plays.specs.Positions.{Asks, Begins, Calls, Goes, Leaves, Passes, Position, Reached, Setup}
 use Rattle.alike_plays.proofs.Names.{at_in, step_known}
 use Rattle.alike_plays.proofs.NamesAfter.{In-set}
 use Rattle.alike_plays.proofs.Stages.{called_known, first_known, leaving_known, left_known, passed_known, stage_later}

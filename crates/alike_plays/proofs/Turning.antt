@@ -20,6 +20,7 @@ use Rattle.actor_scripts.specs.ActorStates.{step_call}
 use Rattle.actor_plays.specs.declared.plan.Planned.{Planned}
 use Rattle.actor_plays.specs.Leaves.{Leave}
 use Rattle.actor_plays.specs.Plays.{Stage, left, passed, polls, stage_after}
+use Rattle.actor_plays.specs.Positions.{Asks, Calls, Goes, Leaves, Passes, Position, Rests, Setup}
 use Rattle.alike_cores.specs.Alike.{call_renamed, reply_renamed}
 use Rattle.alike_cores.specs.Renamed.{buffer_renamed}
 use Rattle.alike_cores.proofs.Answering.{key-renamed}
@@ -28,8 +29,8 @@ use Rattle.alike_cores.proofs.Going.{fresh, goes_on_named}
 use Rattle.alike_cores.proofs.Moving.{keys_kept, keys_moved, number_kept, number_moved}
 use Rattle.alike_cores.proofs.Views.{fired-alike}
 use Rattle.alike_plays.specs.Actors.{AreAlikeStages, asked_renamed, leave_renamed}
+use Rattle.alike_plays.specs.AlikePlays.{AreAlikeAll, AreAlikePlays}
 use Rattle.alike_plays.specs.Names.{KnownCall}
-use Rattle.alike_plays.specs.Positions.{AreAlikeAll, AreAlikePlays, Asks, Calls, Goes, Leaves, Passes, Position, Rests, Setup}
 use Rattle.alike_plays.proofs.Asking.{asks-alike}
 use Rattle.alike_plays.proofs.Leaving.{after-alike, leaves-alike, left-alike, next-alike, passed-alike, polls-alike}
 use Rattle.alike_plays.proofs.NamesAgree.{stages-agree}

@@ -10,11 +10,12 @@ use Rattle.core_state.specs.Reads.{readings_of}
 use Rattle.actor_scripts.specs.declared.object.StepCall.{StepCall}
 use Rattle.actor_scripts.specs.ActorStates.{step_call}
 use Rattle.actor_plays.specs.Plays.{Stage, is_wait, leaves_by}
+use Rattle.actor_plays.specs.Positions.{Asks, Position, Setup}
 use Rattle.alike_cores.specs.Alike.{call_renamed}
 use Rattle.alike_plays.specs.Actors.{asked_renamed}
 use Rattle.alike_plays.specs.Ahead.{AreAlikeAhead, ahead, ahead_of}
 use Rattle.alike_plays.specs.Names.{KnownCall}
-use Rattle.alike_plays.specs.Positions.{AreAlikePlays, Asks, Position, Setup}
+use Rattle.alike_plays.specs.AlikePlays.{AreAlikePlays}
 use Rattle.alike_plays.proofs.Ahead.{leaves-same}
 use Rattle.alike_plays.proofs.AheadActors.{both_at, seen_ahead}
 use Rattle.alike_plays.proofs.AheadTurns.{asks_from, asks_to}

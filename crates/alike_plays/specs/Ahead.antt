@@ -4,7 +4,8 @@ use Rattle.std.specs.Option.{option_map, option_map_or}
 use Rattle.actor_scripts.specs.ActorStates.{nothing_known}
 use Rattle.actor_plays.specs.Leaves.{Leave, all_objects}
 use Rattle.actor_plays.specs.Plays.{Stage}
-use Rattle.alike_plays.specs.Positions.{AreAlikePlays, Position, Setup, left_at}
+use Rattle.actor_plays.specs.Positions.{Position, Setup, left_at}
+use Rattle.alike_plays.specs.AlikePlays.{AreAlikePlays}
 
 -- where an actor is that leaves, without what lies behind it: where it was and what it knew. If no parcel waits, its objects are
 -- those with which it has still to part, in their order. Otherwise they are the ends and the handles that it collected, and the

@@ -1,16 +1,7 @@
 -- Positions out of which no turn leads, but to what is like one of them.
 use Rattle.std.specs.Prelude.{◌≡◌, ◌⊎◌, ℕ, List, true, ◌&&◌}
-use Rattle.sm_names.specs.Answers.{answer}
 use Rattle.sm_names.specs.Elements.{In}
-use Rattle.core_state.specs.Reads.{readings_of}
-use Rattle.forest_store.specs.Settling.{no_key}
-use Rattle.actor_plays.specs.Plays.{is_wait}
-use Rattle.alike_plays.specs.Positions.{Asks, Begins, Calls, Goes, Leaves, Passes, Position, Reached, Rests, Setup}
-
--- from the first to the last, actors pass one step after another
-pub data PassOn (setup : Setup) : Position → Position → Type 0 where
-  Stays : (p : Position) → PassOn setup p p
-  Further : (actor : ℕ) (old mid new : Position) → Passes setup actor old mid → PassOn setup mid new → PassOn setup old new
+use Rattle.actor_plays.specs.Positions.{Asks, Begins, Calls, Goes, HasToWait, Leaves, PassOn, Passes, Position, Reached, Rests, Setup}
 
 -- actors pass on from here to a position that is like one of these
 pub record IsMet (setup : Setup) (Like : Position → Position → Type 0) (rows : List Position) (p : Position) : Type 0 where
@@ -19,11 +10,6 @@ pub record IsMet (setup : Setup) (Like : Position → Position → Type 0) (rows
   pub passes : PassOn setup p rested
   pub met : In row rows
   pub alike : Like rested row
-
--- the step waits, and nothing is there for its call
-abbrev pub HasToWait : (setup : Setup) (actor : ℕ) (p : Position) → Asks setup actor p → Type 0
-HasToWait setup actor p asks =
-    asks.next.waits && is_wait (answer p.core.limits (readings_of p.core) asks.client no_key asks.asked.call) ≡ true
 
 -- a play came to what is like this one, where the call of the actor's next step leads back to one of these, or has to wait
 pub record IsTried (setup : Setup) (Like : Position → Position → Type 0) (rows : List Position) (actor : ℕ) (p : Position) : Type 0

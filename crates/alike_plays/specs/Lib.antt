@@ -1,6 +1,7 @@
 pub mod Actors
 pub mod Names
-pub mod Positions
+pub mod AlikePlays
 pub mod Closed
 pub mod Ahead
 pub mod Outcomes
+pub mod Ways

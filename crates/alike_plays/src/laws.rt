@@ -16,14 +16,16 @@ ghost use Rattle.actor_plays.specs.declared.plan.Plan.{Plan};
 ghost use Rattle.actor_plays.specs.declared.plan.Planned.{Planned};
 ghost use Rattle.actor_plays.specs.declared.play.Turn.{Turn};
 ghost use Rattle.actor_plays.specs.Plays.{Plays, Stage, has_fired, leaves_by, left, next_step, passed, polls, stage_after};
+ghost use Rattle.actor_plays.specs.Positions.{Asks, Calls, HasToWait, Leaves, Passes, Position, Reached, Rests, Setup, left_at};
 ghost use Rattle.alike_cores.specs.Alike.{KeepsIds, call_renamed, reply_renamed};
 ghost use Rattle.alike_cores.specs.Renamed.{KeepsKeys};
 ghost use Rattle.alike_plays.specs.Actors.{AreAlikeKnown, AreAlikeStages, asked_renamed, made_of, made_renamed};
 ghost use Rattle.alike_plays.specs.Ahead.{AreAlikeAhead, GoesByEarly, count_early};
-ghost use Rattle.alike_plays.specs.Closed.{HasToWait, IsClosed, IsMet, IsSimulation};
+ghost use Rattle.alike_plays.specs.AlikePlays.{AreAlikePlays};
+ghost use Rattle.alike_plays.specs.Closed.{IsClosed, IsMet, IsSimulation};
 ghost use Rattle.alike_plays.specs.Names.{KnownActor, KnownCall, KnownReply, KnownStage, NamesAgree};
 ghost use Rattle.alike_plays.specs.Outcomes.{fate_kept, fate_renamed};
-ghost use Rattle.alike_plays.specs.Positions.{AreAlikePlays, Asks, Calls, Leaves, Passes, Position, Reached, Rests, Setup, left_at};
+ghost use Rattle.alike_plays.specs.Ways.{AreClosedWays, IsAt};
 
 /// Actors that are alike are at the same step, which asks for the same under their names, and leave
 /// by the same calls. They wait alike for a tracker, where the same ones have fired.
@@ -209,4 +211,34 @@ pub fn no_play_leads_out_of_a_closed_set()
         IsSimulation setup (λ one other. like one other ≡ true) → (rows : List Position) →
         IsClosed setup (λ one other. like one other ≡ true) rows →
         (p : Position) → Reached setup p → IsMet setup (λ one other. like one other ≡ true) rows p }
+{}
+
+/// Two plays that made the same turns, one after another, are like one another, once all actors have passed what they can: by
+/// whatever likeness plays do the same.
+pub fn the_same_turns_lead_to_the_same()
+    ensures alike { (setup : Setup) (way : List Turn) (one other : Position) → IsAt setup way one →
+        IsAt setup way other → AreAlikePlays one other }
+    ensures ahead { (setup : Setup) (early : ℕ → ℕ → Bool) → GoesByEarly early setup →
+        (way : List Turn) (one other : Position) → IsAt setup way one → IsAt setup way other →
+        AreAlikeAhead early one other }
+    ensures like { (setup : Setup) (like : Position → Position → Bool) →
+        IsSimulation setup (λ one other. like one other ≡ true) → (way : List Turn) (one other : Position) →
+        IsAt setup way one → IsAt setup way other → like one other ≡ true }
+{}
+
+/// Where the turns behind some ways lead back, each play in which all have passed what they can is like one that went one of
+/// these ways.
+pub fn no_play_leads_out_of_closed_ways()
+    ensures alike { (setup : Setup) (ways : List (List Turn)) → AreClosedWays setup AreAlikePlays ways →
+        (p : Position) → Reached setup p → ((actor : ℕ) → Rests setup p actor) → (way : List Turn) × In way ways
+        × ((row : Position) × IsAt setup way row × AreAlikePlays p row) }
+    ensures ahead { (setup : Setup) (early : ℕ → ℕ → Bool) → GoesByEarly early setup →
+        (ways : List (List Turn)) → AreClosedWays setup (AreAlikeAhead early) ways →
+        (p : Position) → Reached setup p → ((actor : ℕ) → Rests setup p actor) → (way : List Turn) × In way ways
+        × ((row : Position) × IsAt setup way row × AreAlikeAhead early p row) }
+    ensures like { (setup : Setup) (like : Position → Position → Bool) →
+        IsSimulation setup (λ one other. like one other ≡ true) → (ways : List (List Turn)) →
+        AreClosedWays setup (λ one other. like one other ≡ true) ways → (p : Position) → Reached setup p →
+        ((actor : ℕ) → Rests setup p actor) → (way : List Turn) × In way ways
+        × ((row : Position) × IsAt setup way row × (like p row ≡ true)) }
 {}

@@ -1,6 +1,7 @@
 use Rattle.std.proofs.Common.{◌∙◌, ◌∷◌, ◌++◌, [], ap, sym, refl}
 use Rattle.actor_plays.specs.declared.play.Play.{Play}
 use Rattle.actor_plays.specs.declared.play.Turn.{Turn}
+use Rattle.actor_plays.proofs.MoveLaws.{takes_made, takes_waits}
 use Rattle.actor_plays.proofs.PlayLaws.{called, left_waiting}
 use Rattle.actor_plays.proofs.play.Play.make_turn.Goals as goal
 
@@ -19,3 +20,14 @@ returns-clause-turn c = (
       c.in_ok-reply.ensures.rest c.in_ok-note.ensures.stages c.in_ok-note.ensures.turns c.in_ok-note.ensures.rest,
   c.in_ok-note.ensures.turns ∙ ap (λ (p : Play). p.turns.items ++ Turn.Step c.args.actor ∷ []) c.in_ok-reply.ensures.rest,
 )
+
+pub returns-then-must_wait-clause-takes : goal.returns-then-must_wait-clause-takes
+returns-then-must_wait-clause-takes c =
+    takes_waits c.args.plans.now c.args.self.now c.call.new.self c.call.new.self c.args.actor c.args.asks.now c.in_ok-reply.reply
+    c.requires.asks c.in_ok-reply.ensures.makes (sym c.must_wait.ensures ∙ c.if-must_wait.true) c.in_ok-reply.ensures.rest
+
+pub returns-clause-takes : goal.returns-clause-takes
+returns-clause-takes c =
+    takes_made c.args.plans.now c.args.self.now c.call.new.self c.note.new.self c.args.actor c.args.asks.now c.in_ok-reply.reply
+    c.requires.asks c.in_ok-reply.ensures.makes (sym c.must_wait.ensures ∙ c.if-must_wait.false) c.in_ok-reply.ensures.rest
+    c.in_ok-note.ensures.stages c.in_ok-note.ensures.rest

@@ -1,10 +1,14 @@
-use Rattle.std.proofs.Common.{◌≡◌}
-use Rattle.actor_plays.specs.Plays.{IsPlay}
+use Rattle.std.proofs.Common.{◌≡◌, ◌≤◌, slice_get}
+use Rattle.std.specs.Prelude.{IfSome}
+use Rattle.actor_plays.specs.Moves.{HavePassed}
+use Rattle.actor_plays.specs.Plays.{IsPlay, stages_of}
 use Rattle.actor_plays.proofs.play.Play.pass.Given as goal
 
--- only what the actors know of their steps has changed
+-- so many steps are behind the actor, and only what it knows of its steps has changed
 abbrev pub invariant-passing : goal.invariant-passing
 invariant-passing l = record {
   play : IsPlay l.plans l.self;
+  passes : HavePassed l.plans l.fn.self l.self;
+  behind : IfSome (slice_get (stages_of l.self) l.actor) (λ stage. l.behind ≤ stage.at);
   rest : l.self ≡ record l.fn.self { actors = l.self.actors };
 }

@@ -1,5 +1,6 @@
 use Rattle.std.specs.Prelude.{OnOk}
 use Rattle.actor_plays.specs.Fates.{AreFalls}
+use Rattle.actor_plays.proofs.MoveLaws.{takes_behind_ok, takes_rest}
 use Rattle.actor_plays.proofs.PlayLaws.{fallen_before, turned_ok}
 use Rattle.actor_plays.proofs.play.Play.pass_and_turn.Goals as goal
 
@@ -16,3 +17,13 @@ returns-in-Some-clause-told c = λ tells.
 
 pub returns-in-None-clause-turn : goal.returns-in-None-clause-turn
 returns-in-None-clause-turn c = (c.pass.ensures.play, c.pass.ensures.rest, c.asks.ensures.none c.in-None.is)
+
+pub returns-in-Some-clause-takes : goal.returns-in-Some-clause-takes
+returns-in-Some-clause-takes c =
+    takes_behind_ok c.args.plans.now c.args.self.now c.pass.new.self c.make_turn.new.self c.args.actor c.make_turn.result
+    c.pass.ensures.passes c.pass.ensures.rest c.make_turn.ensures.takes
+
+pub returns-in-None-clause-takes : goal.returns-in-None-clause-takes
+returns-in-None-clause-takes c =
+    takes_rest c.args.plans.now c.args.self.now c.pass.new.self c.args.actor c.pass.ensures.passes c.pass.ensures.rest
+    c.pass.ensures.rests (c.asks.ensures.none c.in-None.is)

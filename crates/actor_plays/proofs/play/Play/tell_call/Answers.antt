@@ -1,3 +1,6 @@
+use Rattle.std.proofs.Common.{refl}
+use Rattle.std.specs.Prelude.{Ok}
+use Rattle.actor_plays.proofs.MoveLaws.{call_makes}
 use Rattle.actor_plays.proofs.PlayLaws.{told_by}
 use Rattle.actor_plays.proofs.play.Play.tell_call.Goals as goal
 
@@ -7,3 +10,8 @@ returns-in-Ok-clause-told c = λ are.
     c.args.self.now.core c.step_with_marks.new.core c.args.client c.args.call c.in_ok-told.told.reply c.in_ok-told.told.moments
     c.requires (c.in_ok-told.ensures.stepped.goes_on c.args.self.now.entries.items c.requires) c.in_ok-told.ensures.stages
     c.in-Ok.ensures.items c.in_ok-note_falls.ensures.told are
+
+pub returns-in-Ok-clause-makes : goal.returns-in-Ok-clause-makes
+returns-in-Ok-clause-makes c =
+    call_makes c.args.self.now.core c.step_with_marks.new.core c.args.client c.args.call c.in_ok-told.told.reply
+    (Ok c.in_ok-told.told.reply) refl c.in_ok-told.ensures.stepped.answer c.in_ok-told.ensures.stepped.after c.in_ok-told.ensures.stepped.full

@@ -1,24 +1,23 @@
--- Plays of actors on cores, turn by turn, and which of them are alike but for names.
-use Rattle.std.specs.Prelude.{◌≡◌, ℕ, ⊤, Bool, true, false, ◌||◌, ◌&&◌, List, [], ◌∷◌, length, map, slice_get, slice_set}
+-- Plays of actors on cores, turn by turn.
+use Rattle.std.specs.Prelude.{◌≡◌, ℕ, Bool, true, false, ◌||◌, ◌&&◌, List, [], ◌∷◌, ◌++◌, length, map, slice_get, slice_set}
 use Rattle.std.specs.Prelude.{Option, Some, None, is_some}
 use Rattle.std.specs.Option.{option_map}
-use Rattle.sm_names.specs.declared.keys.NodeKey.{NodeKey}
 use Rattle.sm_names.specs.declared.messages.Call.{Call}
 use Rattle.sm_names.specs.declared.messages.Reply.{Reply}
+use Rattle.sm_names.specs.Answers.{answer}
 use Rattle.sm_names.specs.Bounds.{Bound}
+use Rattle.core_state.specs.Reads.{readings_of}
 use Rattle.core_state.specs.Shown.{Shows}
 use Rattle.core_state.specs.State.{State}
 use Rattle.core_state.specs.Theorem.{Makes}
+use Rattle.forest_store.specs.Settling.{no_key}
 use Rattle.actor_scripts.specs.declared.object.StepCall.{StepCall}
 use Rattle.actor_scripts.specs.ActorStates.{step_call}
 use Rattle.actor_plays.specs.declared.plan.Plan.{Plan}
 use Rattle.actor_plays.specs.declared.plan.Planned.{Planned}
+use Rattle.actor_plays.specs.declared.play.Turn.{Turn}
 use Rattle.actor_plays.specs.Leaves.{Leave}
 use Rattle.actor_plays.specs.Plays.{Stage, first_stage, is_wait, joins, leaves_by, left, next_step, passed, polls, stage_after}
-use Rattle.alike_cores.specs.Alike.{KeepsIds}
-use Rattle.alike_cores.specs.Renamed.{KeepsKeys}
-use Rattle.alike_cores.specs.Cores.{AreAlikeCores}
-use Rattle.alike_plays.specs.Actors.{AreAlikeStages}
 
 -- what is given for plays: the pages of the pool, the limits, the actors' plans and clients, and which actor may begin to leave.
 -- This is told by where each actor that leaves began to, the place of the actor, and how many steps are behind it
@@ -56,6 +55,11 @@ pub record Passes (setup : Setup) (actor : ℕ) (old new : Position) : Type 0 wh
 abbrev pub Rests : Setup → Position → ℕ → Type 0
 Rests setup p actor = (new : Position) → Passes setup actor p new → ⊥
 
+-- from the first to the last, actors pass one step after another
+pub data PassOn (setup : Setup) : Position → Position → Type 0 where
+  Stays : (p : Position) → PassOn setup p p
+  Further : (actor : ℕ) (old mid new : Position) → Passes setup actor old mid → PassOn setup mid new → PassOn setup old new
+
 -- the next step of the actor makes this call
 pub record Asks (setup : Setup) (actor : ℕ) (p : Position) : Type 0 where
   pub stage : Stage
@@ -66,6 +70,11 @@ pub record Asks (setup : Setup) (actor : ℕ) (p : Position) : Type 0 where
   pub step : next_step setup.plans actor stage ≡ Some next
   pub call : step_call setup.clients stage.known next.step ≡ Some asked
   pub caller : slice_get setup.clients actor ≡ Some client
+
+-- the step waits, and nothing is there for its call
+abbrev pub HasToWait : (setup : Setup) (actor : ℕ) (p : Position) → Asks setup actor p → Type 0
+HasToWait setup actor p asks =
+    asks.next.waits && is_wait (answer p.core.limits (readings_of p.core) asks.client no_key asks.asked.call) ≡ true
 
 -- the core answers that call so; if the step waits, something was there for it
 pub record Calls (setup : Setup) (actor : ℕ) (old new : Position) : Type 0 where
@@ -108,22 +117,12 @@ pub data Reached (setup : Setup) : Position → Type 0 where
   ByCall : (actor : ℕ) (old new : Position) → Reached setup old → Calls setup actor old new → Reached setup new
   ByLeave : (actor : ℕ) (old new : Position) → Reached setup old → Leaves setup actor old new → Reached setup new
 
--- ---- alike
-
--- each actor of the second is where the one of its place in the first is, under other names
-abbrev pub AreAlikeAll : (NodeKey → NodeKey) → (ℕ → ℕ) → (ℕ → ℕ) → List Stage → List Stage → Type 0
-AreAlikeAll to id number [] [] = ⊤
-AreAlikeAll to id number [] (other ∷ others) = ⊥
-AreAlikeAll to id number (one ∷ ones) [] = ⊥
-AreAlikeAll to id number (one ∷ ones) (other ∷ others) = AreAlikeStages to id number one other × AreAlikeAll to id number ones others
-
--- there are names under which the cores are alike, and the actors too; no two names become one
-pub record AreAlikePlays (one other : Position) : Type 0 where
-  pub to : NodeKey → NodeKey
-  pub id : ℕ → ℕ
-  pub number : ℕ → ℕ
-  pub keeps : KeepsKeys to
-  pub kept : KeepsIds id
-  pub counted : KeepsIds number
-  pub cores : AreAlikeCores to id number one.core other.core
-  pub stages : AreAlikeAll to id number one.stages other.stages
+-- the same by these turns, one after another
+pub data ReachedBy (setup : Setup) : List Turn → Position → Type 0 where
+  Starts : (p : Position) → Begins setup p → ReachedBy setup [] p
+  ByPass : (actor : ℕ) (turns : List Turn) (old new : Position) → ReachedBy setup turns old → Passes setup actor old new →
+      ReachedBy setup turns new
+  ByCall : (actor : ℕ) (turns : List Turn) (old new : Position) → ReachedBy setup turns old → Calls setup actor old new →
+      ReachedBy setup (turns ++ Turn.Step actor ∷ []) new
+  ByLeave : (actor : ℕ) (turns : List Turn) (old new : Position) → ReachedBy setup turns old → Leaves setup actor old new →
+      ReachedBy setup (turns ++ Turn.Leave actor ∷ []) new
