@@ -86,7 +86,7 @@ class Source:
 
     def commands(self):
         """The commands, by name."""
-        rows = re.findall(r"^    Row \{\n(.*?)^    \},$", self.code, re.M | re.S)
+        rows = re.findall(r"^    CommandRow \{\n(.*?)^    \},$", self.code, re.M | re.S)
         return {self.one(r'\bname: (\w+|"[^"]*")', row): self.command(row) for row in rows}
 
 
