@@ -15,7 +15,7 @@ returns-clause-ok g c = IfOk-weaker c.told_from.result _ _
       telling = c.telling_of-telling.result;
       is_telling = record {
         labels = c.telling_of-telling.ensures.labels ∙ c.deref-6.ensures.value;
-        steps = ap steps_in (c.telling_of-telling.ensures.steps ∙ c.deref-7.ensures.value) ∙ c.in-Ok-steps_of_list.ensures;
+        steps = ap steps_in (c.telling_of-telling.ensures.steps ∙ c.deref-7.ensures.value) ∙ c.in-Ok.ensures;
         its_plans = c.telling_of-telling.ensures.plans;
       };
       vanishing = record {
@@ -38,7 +38,7 @@ returns-clause-err g c = IfErr-weaker c.told_from.result _ _
     (λ fault why. unfound_held c.args.script.now c.args.list.now c.args.plans.now c.telling_of-telling.result fault
     (record {
       labels = c.telling_of-telling.ensures.labels ∙ c.deref-6.ensures.value;
-      steps = ap steps_in (c.telling_of-telling.ensures.steps ∙ c.deref-7.ensures.value) ∙ c.in-Ok-steps_of_list.ensures;
+      steps = ap steps_in (c.telling_of-telling.ensures.steps ∙ c.deref-7.ensures.value) ∙ c.in-Ok.ensures;
       its_plans = c.telling_of-telling.ensures.plans;
     }) why)
     (subst (λ (texts : List Text). IfErr c.told_from.result (IsUnfound texts c.telling_of-telling.result))

@@ -15,11 +15,11 @@ returns-in-Ok-clause-ok g c = IfOk-weaker c.told_by.result _ _
           c.deref.ensures.value;
       seed = c.args.seed;
       told = is;
-    }) (rw c.deref-2.ensures.value at c.told_by.ensures.ok)
+    }) (rw c.deref-in-Ok.ensures.value at c.told_by.ensures.ok)
 
 pub returns-in-Ok-clause-err : goal.returns-in-Ok-clause-err
 returns-in-Ok-clause-err g c = IfErr-weaker c.told_by.result _ _
     (λ fault why. unheld_in c.args.job c.args.script.now c.args.list.now c.in-Ok.plans.items fault (c.in-Ok.ensures
     ∙ ap (λ (scripts : List ActorScript). map (λ (one : ActorScript). planned c.args.job.waiting one.steps.items) scripts)
     c.deref.ensures.value) why)
-    (rw c.deref-2.ensures.value at c.told_by.ensures.err)
+    (rw c.deref-in-Ok.ensures.value at c.told_by.ensures.err)
