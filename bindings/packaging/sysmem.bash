@@ -23,7 +23,7 @@ _sysmem() {
     [ "$command" = draw ] && options+=' --format --at --line --failure'
     [ "$command" = explain ] && options+=' --failures --summary'
     [ "$command" = threads ] && options+=' --record --patient'
-    [ "$command" = explore ] && options+=' --once --patient --end --vanish --most --outcome --states'
+    [ "$command" = explore ] && options+=' --once --patient --end --vanish --most --outcome --states --certify'
     mapfile -t COMPREPLY < <(compgen -W "$options" -- "$word")
   else
     mapfile -t COMPREPLY < <(compgen -f -- "$word")

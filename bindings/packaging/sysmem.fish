@@ -40,3 +40,5 @@ complete -c sysmem -n '__fish_seen_subcommand_from explore' -l most -x -d 'How m
 complete -c sysmem -n '__fish_seen_subcommand_from explore' -l outcome -x \
     -d 'The outcome whose play is written'
 complete -c sysmem -n '__fish_seen_subcommand_from explore' -l states -x -d 'How many states are met at most'
+complete -c sysmem -n '__fish_seen_subcommand_from explore' -l certify \
+    -d 'Makes sure that no outcome is missing'

@@ -1,3 +1,5 @@
 pub mod PlayLaws
 pub mod PositionLaws
+pub mod FallLaws
+pub mod PassLaws
 pub mod MoveLaws

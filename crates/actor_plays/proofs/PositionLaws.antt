@@ -1,12 +1,12 @@
 -- How positions of plays go on.
-use Rattle.std.proofs.Common.{ℕ, zero, suc, ◌≡◌, ◌+◌, ◌≤◌, ◌<◌, refl, ap, sym, subst, ◌∙◌, Bool, true, false, cond, List, [], ◌∷◌}
+use Rattle.std.proofs.Common.{ℕ, zero, suc, ◌≡◌, ◌≤◌, refl, ap, sym, subst, ◌∙◌, Bool, true, false, cond, List, [], ◌∷◌}
 use Rattle.std.proofs.Common.{length, Option, Some, None, is_some, slice_get, slice_set}
-use Rattle.std.proofs.lemmas.Option.{slice_get_past, slice_get_within}
+use Rattle.std.proofs.lemmas.Option.{slice_get_past}
 use Rattle.std.specs.Option.{option_and_then, option_map_or}
 use Rattle.sm_names.proofs.SamenessLaws.{some-injective}
 use Rattle.core_state.specs.State.{State}
-use Rattle.actor_scripts.specs.declared.object.StepCall.{StepCall}
 use Rattle.actor_scripts.specs.ActorStates.{step_call}
+use Rattle.actor_plays.specs.declared.falls.GoneNode.{GoneNode}
 use Rattle.actor_plays.specs.declared.plan.Plan.{Plan}
 use Rattle.actor_plays.specs.declared.plan.Planned.{Planned}
 use Rattle.actor_plays.specs.declared.play.Turn.{Turn}
@@ -33,6 +33,32 @@ module _ (setup : Setup) where
   pub further : (p q r : Position) → PassOn setup p q → PassOn setup q r → PassOn setup p r
   further _ _ r (PassOn.Stays p) on = on
   further _ _ r (PassOn.Further actor p mid q first then) on = PassOn.Further actor p mid r first (further mid q r then on)
+
+  -- A step is passed so too where others fell.
+  pub passes_at : (falls : List GoneNode) (actor : ℕ) (p q : Position) → Passes setup actor p q →
+      Passes setup actor (record p { falls = falls }) (record q { falls = falls })
+  passes_at falls actor p q pass = record {
+    stage = pass.stage;
+    next = pass.next;
+    at = pass.at;
+    step = pass.step;
+    silent = pass.silent;
+    looks = pass.looks;
+    after = ap (λ (x : Position). record x { falls = falls }) pass.after;
+  }
+
+  -- And so are several.
+  pub pass_on_at : (falls : List GoneNode) (p r : Position) → PassOn setup p r →
+      PassOn setup (record p { falls = falls }) (record r { falls = falls })
+  pass_on_at falls _ _ (PassOn.Stays p) = PassOn.Stays (record p { falls = falls })
+  pass_on_at falls _ _ (PassOn.Further actor p mid r first on) =
+      PassOn.Further actor (record p { falls = falls }) (record mid { falls = falls }) (record r { falls = falls })
+      (passes_at falls actor p mid first) (pass_on_at falls mid r on)
+
+  -- Who rests does so too where others fell.
+  pub rests_at : (falls : List GoneNode) (p : Position) (actor : ℕ) → Rests setup p actor → Rests setup (record p { falls = falls }) actor
+  rests_at falls p actor rests new pass =
+      rests (record new { falls = p.falls }) (passes_at p.falls actor (record p { falls = falls }) new pass)
 
   -- A play comes there.
   pub reached_on : (p r : Position) → PassOn setup p r → Reached setup p → Reached setup r

@@ -1,6 +1,7 @@
 -- Plays of actors on cores, turn by turn.
 use Rattle.std.specs.Prelude.{◌≡◌, ℕ, Bool, true, false, ◌||◌, ◌&&◌, List, [], ◌∷◌, ◌++◌, length, map, slice_get, slice_set}
 use Rattle.std.specs.Prelude.{Option, Some, None, is_some}
+use Rattle.std.specs.List.{flat_map}
 use Rattle.std.specs.Option.{option_map}
 use Rattle.sm_names.specs.declared.messages.Call.{Call}
 use Rattle.sm_names.specs.declared.messages.Reply.{Reply}
@@ -10,12 +11,15 @@ use Rattle.core_state.specs.Reads.{readings_of}
 use Rattle.core_state.specs.Shown.{Shows}
 use Rattle.core_state.specs.State.{State}
 use Rattle.core_state.specs.Theorem.{Makes}
+use Rattle.forced_marks.specs.Marks.{AreStages, Stage as Marked}
 use Rattle.forest_store.specs.Settling.{no_key}
 use Rattle.actor_scripts.specs.declared.object.StepCall.{StepCall}
 use Rattle.actor_scripts.specs.ActorStates.{step_call}
 use Rattle.actor_plays.specs.declared.plan.Plan.{Plan}
 use Rattle.actor_plays.specs.declared.plan.Planned.{Planned}
 use Rattle.actor_plays.specs.declared.play.Turn.{Turn}
+use Rattle.actor_plays.specs.declared.falls.GoneNode.{GoneNode}
+use Rattle.actor_plays.specs.Fates.{falls_at}
 use Rattle.actor_plays.specs.Leaves.{Leave}
 use Rattle.actor_plays.specs.Plays.{Stage, first_stage, is_wait, joins, leaves_by, left, next_step, passed, polls, stage_after}
 
@@ -28,10 +32,11 @@ pub record Setup : Type 0 where
   pub clients : List ℕ
   pub may_leave : List (Option ℕ) → ℕ → ℕ → Bool
 
--- where a play is: its core, and how far each actor is
+-- where a play is: its core, how far each actor is, and which nodes fell
 pub record Position : Type 0 where
   pub core : State
   pub stages : List Stage
+  pub falls : List GoneNode
 
 -- how many steps were behind the actor when it began to leave, if it leaves
 abbrev pub left_at : Stage → Option ℕ
@@ -76,6 +81,12 @@ abbrev pub HasToWait : (setup : Setup) (actor : ℕ) (p : Position) → Asks set
 HasToWait setup actor p asks =
     asks.next.waits && is_wait (answer p.core.limits (readings_of p.core) asks.client no_key asks.asked.call) ≡ true
 
+-- the nodes that fell, with those that the marks of this call take
+pub record Fell (old new : Position) (client : ℕ) (call : Call) (reply : Reply) : Type 0 where
+  pub marks : List Marked
+  pub are : AreStages old.core new.core client call reply marks
+  pub falls : new.falls ≡ old.falls ++ flat_map falls_at marks
+
 -- the core answers that call so; if the step waits, something was there for it
 pub record Calls (setup : Setup) (actor : ℕ) (old new : Position) : Type 0 where
   pub asks : Asks setup actor old
@@ -83,6 +94,7 @@ pub record Calls (setup : Setup) (actor : ℕ) (old new : Position) : Type 0 whe
   pub made : Makes old.core new.core (asks.client, asks.asked.call, reply)
   pub waits : asks.next.waits && is_wait reply ≡ false
   pub stages : new.stages ≡ slice_set old.stages actor (stage_after asks.stage asks.next asks.asked reply)
+  pub fell : Fell old new asks.client asks.asked.call reply
 
 -- the actor, which may, leaves by this call, or goes on to. Before it begins to, it passes all steps that it can
 pub record Goes (setup : Setup) (actor : ℕ) (p : Position) : Type 0 where
@@ -101,14 +113,16 @@ pub record Leaves (setup : Setup) (actor : ℕ) (old new : Position) : Type 0 wh
   pub reply : Reply
   pub made : Makes old.core new.core (goes.client, goes.call, reply)
   pub stages : new.stages ≡ slice_set old.stages actor (left goes.stage reply)
+  pub fell : Fell old new goes.client goes.call reply
 
--- a core shows that all clients joined and nothing else happened, and no step is behind an actor
+-- a core shows that all clients joined and nothing else happened, no step is behind an actor, and no node fell
 pub record Begins (setup : Setup) (p : Position) : Type 0 where
   pub pool : p.core.pool ≡ setup.pool
   pub limits : p.core.limits ≡ setup.limits
   pub shows : Shows p.core (joins setup.clients)
   pub count : length setup.clients ≡ length setup.plans
   pub stages : p.stages ≡ map (λ client. first_stage) setup.clients
+  pub falls : p.falls ≡ []
 
 -- a play of the actors on a core came here
 pub data Reached (setup : Setup) : Position → Type 0 where

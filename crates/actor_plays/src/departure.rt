@@ -4,7 +4,7 @@ ghost use Rattle.std.specs.Option.{option_and_then};
 ghost use Rattle.sm_names.specs.declared.outcomes.StepFault.{StepFault as Fault};
 ghost use Rattle.actor_plays.specs.declared.play.Turn.{Turn as Made};
 ghost use Rattle.actor_plays.specs.Fates.{AreFalls};
-ghost use Rattle.actor_plays.specs.Moves.{TakesLeave};
+ghost use Rattle.actor_plays.specs.Moves.{TakesLeave, TakesLeaveUntold};
 ghost use Rattle.actor_plays.specs.Plays.{IsLeave, IsPlay, leaves_by, left, stages_of};
 
 use crate::plan::Plan;
@@ -58,7 +58,8 @@ impl Play {
         requires call { option_and_then leaves_by (slice_get (stages_of self.old) actor) ≡ Some call }
         requires caller { slice_get self.old.clients.items actor ≡ Some client }
         ensures leave { OnOk result (IsLeave plans.now self.old self.new actor true) }
-        ensures takes { OnOk result (TakesLeave plans.now self.old self.new actor true) }
+        ensures takes { tells ≡ true → OnOk result (TakesLeave plans.now self.old self.new actor true) }
+        ensures untold { OnOk result (TakesLeaveUntold plans.now self.old self.new actor true) }
         ensures told { tells ≡ true → AreFalls self.old.entries.items self.old.falls.items →
             OnOk result (AreFalls self.new.entries.items self.new.falls.items) }
         ensures full { result ≡ Err Fault.HistoryFull →
@@ -86,7 +87,8 @@ impl Play {
     ) -> Result<bool, StepFault>
         requires { IsPlay plans.now self.old }
         ensures leave { IfOk result (IsLeave plans.now self.old self.new actor) }
-        ensures takes { IfOk result (TakesLeave plans.now self.old self.new actor) }
+        ensures takes { tells ≡ true → IfOk result (TakesLeave plans.now self.old self.new actor) }
+        ensures untold { IfOk result (TakesLeaveUntold plans.now self.old self.new actor) }
         ensures told { tells ≡ true → AreFalls self.old.entries.items self.old.falls.items →
             OnOk result (AreFalls self.new.entries.items self.new.falls.items) }
         ensures full { result ≡ Err Fault.HistoryFull →

@@ -7,10 +7,10 @@ ghost use Rattle.core_state.specs.Shown.{Shows};
 ghost use Rattle.core_state.specs.Theorem.{Makes};
 ghost use Rattle.actor_plays.specs.declared.play.Asked.{Asked as AskedFor};
 ghost use Rattle.actor_plays.specs.declared.play.Turn.{Turn as Made};
-ghost use Rattle.actor_plays.specs.Fates.{AreFalls, fate_in};
-ghost use Rattle.actor_plays.specs.Moves.{IsOfSetup, TakesTurn, position_of};
+ghost use Rattle.actor_plays.specs.Fates.{AreFalls, fate_fallen, fate_in};
+ghost use Rattle.actor_plays.specs.Moves.{IsOfSetup, TakesTurn, TakesTurnUntold, position_of};
 ghost use Rattle.actor_plays.specs.Plays.{AreJoining, Asks, AsksNothing, IsPlay, IsTurn, Stage, first_clients, first_stage, is_wait as is_waiting, next_step, stage_after, stage_of, stages_of};
-ghost use Rattle.actor_plays.specs.Positions.{Begins, Setup};
+ghost use Rattle.actor_plays.specs.Positions.{Begins, Fell, Setup};
 ghost use Rattle.actor_scripts.specs.ActorStates.{step_call};
 
 use crate::actor::Actor;
@@ -132,6 +132,8 @@ impl Play {
             ≡ self.old.entries.items ++ (client, call, reply) ∷ []) }
         ensures told { OnOk result (AreFalls self.old.entries.items self.old.falls.items →
             AreFalls self.new.entries.items self.new.falls.items) }
+        ensures fell { IfOk result
+            (λ reply. Fell (position_of self.old) (position_of self.new) client call reply) }
         ensures rest { OnOk result (self.new ≡ record self.old {
           core = self.new.core;
           entries = self.new.entries;
@@ -259,6 +261,8 @@ impl Play {
         ensures told { tells ≡ true → OnOk result
             (AreFalls self.old.entries.items self.old.falls.items →
             AreFalls self.new.entries.items self.new.falls.items) }
+        ensures fell { tells ≡ true → IfOk result
+            (λ reply. Fell (position_of self.old) (position_of self.new) client call reply) }
         ensures rest { OnOk result (self.new ≡ record self.old {
           core = self.new.core;
           entries = self.new.entries;
@@ -348,7 +352,8 @@ impl Play {
         requires play { IsPlay plans.now self.old }
         requires asks { Asks plans.now self.old actor asks.now }
         ensures turn { IfOk result (IsTurn plans.now self.old self.new actor) }
-        ensures takes { IfOk result (TakesTurn plans.now self.old self.new actor) }
+        ensures takes { tells ≡ true → IfOk result (TakesTurn plans.now self.old self.new actor) }
+        ensures untold { IfOk result (TakesTurnUntold plans.now self.old self.new actor) }
         ensures told { tells ≡ true → AreFalls self.old.entries.items self.old.falls.items →
             OnOk result (AreFalls self.new.entries.items self.new.falls.items) }
         ensures full { result ≡ Err Fault.HistoryFull →
@@ -374,7 +379,8 @@ impl Play {
     ) -> Result<Turned, StepFault>
         requires { IsPlay plans.now self.old }
         ensures turn { IfOk result (IsTurn plans.now self.old self.new actor) }
-        ensures takes { IfOk result (TakesTurn plans.now self.old self.new actor) }
+        ensures takes { tells ≡ true → IfOk result (TakesTurn plans.now self.old self.new actor) }
+        ensures untold { IfOk result (TakesTurnUntold plans.now self.old self.new actor) }
         ensures told { tells ≡ true → AreFalls self.old.entries.items self.old.falls.items →
             OnOk result (AreFalls self.new.entries.items self.new.falls.items) }
         ensures full { result ≡ Err Fault.HistoryFull →
@@ -404,7 +410,8 @@ impl Play {
     ) -> Result<Turned, StepFault>
         requires { IsPlay plans.now self.old }
         ensures turn { IfOk result (IsTurn plans.now self.old self.new actor) }
-        ensures takes { IfOk result (TakesTurn plans.now self.old self.new actor) }
+        ensures takes { tells ≡ true → IfOk result (TakesTurn plans.now self.old self.new actor) }
+        ensures untold { IfOk result (TakesTurnUntold plans.now self.old self.new actor) }
         ensures told { tells ≡ true → AreFalls self.old.entries.items self.old.falls.items →
             OnOk result (AreFalls self.new.entries.items self.new.falls.items) }
         ensures full { result ≡ Err Fault.HistoryFull →
@@ -444,6 +451,14 @@ impl Play {
         ensures { result.now ≡ self.now.falls.items }
     {
         &self.falls
+    }
+
+    /// How the node fell, the first time, in calls that were told. `None` where it did not. Costs O(n) for the n nodes
+    /// that fell.
+    pub fn fallen(&self, key: NodeKey) -> Option<Fate>
+        ensures { result ≡ fate_fallen self.now.falls.items key }
+    {
+        fallen(&self.falls, key)
     }
 
     /// What became of the node: what the core has of it, or else how it fell. `None` where it is neither kept

@@ -3,3 +3,4 @@ pub mod FitLaws
 pub mod Lines
 pub mod StepLaws
 pub mod TableLaws
+pub mod ListedLaws

@@ -3,6 +3,8 @@ ghost use Rattle.std.specs.Prelude.{◌≡◌, ◌||◌, IfSome, OnOk};
 ghost use Rattle.actor_scripts.specs.ActorStates.{state_after, new_objects, handle_of as handle_told, handles_of_set, without_spent, with_node_label, with_object, with_objects, with_tracker_label, without_handle, without_object, step_call, call_at as call_told, call_on as on_object, slot_call as call_lying, end_slot as slot_of_end, handle_slot as slot_of_handle, is_bound as bound_to, node_label as label_of_node, nothing_known, on_of as lies_in, object_at as lies_at, objects_after, Fits, tracker_label as label_of_tracker};
 ghost use Rattle.actor_scripts.specs.Tables.{known};
 
+mod tables;
+
 use crate::calls::{asked_strength, bare_call, call_on, node_label, tracker_label};
 use crate::object::{ActorObject as Held, StepCall};
 use crate::queues::Queues;

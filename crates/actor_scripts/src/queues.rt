@@ -3,6 +3,8 @@ ghost use Rattle.std.specs.Prelude.{◌≡◌, [], OnOk, slice_get};
 ghost use Rattle.actor_scripts.specs.ActorStates.{with_first_gone, with_slot_last};
 ghost use Rattle.actor_scripts.specs.Tables.{queues_of};
 
+mod listed;
+
 use sm_names::BufferName;
 use std::alloc::{AllocError, Global};
 use std::collections::{HashMap, VecDeque};

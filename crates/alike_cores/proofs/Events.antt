@@ -112,7 +112,7 @@ over-alike to id keeps p cs ds alike =
 -- ---- the event
 
 -- By the reply.
-new_key-renamed : (to : NodeKey → NodeKey) (id number : ℕ → ℕ) (reply : Reply) →
+pub new_key-renamed : (to : NodeKey → NodeKey) (id number : ℕ → ℕ) (reply : Reply) →
     new_key (reply_renamed to id number reply) ≡ option_map to (new_key reply)
 new_key-renamed to id number Reply.Done = refl
 new_key-renamed to id number _ = refl

@@ -82,11 +82,11 @@ module _ (to : NodeKey → NodeKey) (id number : ℕ → ℕ) (keeps : KeepsKeys
       (λ is. fresh t again client (call_renamed to id call) told (to key) makes_too is there)
 
   -- the cores are alike under the new names
-  alike_again : AreAlikeCores keys ids numbers s t
+  pub alike_again : AreAlikeCores keys ids numbers s t
   alike_again = agree to keys id number kept counted s t one other shows shows_too alike old_key
 
   -- so the call is the renamed one
-  same_call : call_renamed keys ids call ≡ call_renamed to id call
+  pub same_call : call_renamed keys ids call ≡ call_renamed to id call
   same_call = call-agrees to keys id ids call
       (λ key is. let k = old.nodes key is in old_key key k.0 k.1)
       (λ b is. let k = old.buffers b is in

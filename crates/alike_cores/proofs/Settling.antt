@@ -44,7 +44,7 @@ pages_behind [] others again same test = same test
 pages_behind (p ∷ front) others again same test = ap (λ (b : Bool). test p || b) (pages_behind front others again same test)
 
 -- Only the room for the buffers of a root depends on the pages of the others.
-forced-others : (pool : ℕ) (handles : Handles) (others again : List Interval) → SamePages others again → (c : Collection) →
+pub forced-others : (pool : ℕ) (handles : Handles) (others again : List Interval) → SamePages others again → (c : Collection) →
     forced pool (standing handles others c) ≡ forced pool (standing handles again c)
 forced-others pool handles others again same c =
     ap (λ (o : Option Mark).
@@ -69,7 +69,7 @@ forced-others pool handles others again same c =
     want = asked (members_of c.nodes)
 
 -- And where they are laid out.
-made-others : (pool : ℕ) (others again : List Interval) → SamePages others again → (mark : Mark) (c : Collection) →
+pub made-others : (pool : ℕ) (others again : List Interval) → SamePages others again → (mark : Mark) (c : Collection) →
     made pool others mark c ≡ made pool again mark c
 made-others pool others again same (Called client reply call) c = refl
 made-others pool others again same (Loss origin cause) c = refl

@@ -185,7 +185,7 @@ strong_open-renamed id before after alike collection (Some b) =
     (λ b. ap (nat_lt 0) (alike b Strength.Strong)) (names collection b.count)
 
 -- Part by part: members, held pages, open handles.
-standing-renamed : (to : NodeKey → NodeKey) (id : ℕ → ℕ) → KeepsKeys to → (before after : Handles) → CountsAlike id before after →
+pub standing-renamed : (to : NodeKey → NodeKey) (id : ℕ → ℕ) → KeepsKeys to → (before after : Handles) → CountsAlike id before after →
     (others : List Interval) (c : Collection) →
     standing after others (collection_renamed to id c) ≡ standing_renamed to (standing before others c)
 standing-renamed to id keeps before after alike others c = λ i. record {

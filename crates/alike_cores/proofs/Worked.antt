@@ -150,7 +150,7 @@ module _ (to : NodeKey → NodeKey) (id number : ℕ → ℕ) (keeps : KeepsKeys
   s_apart = sound_apart s.forest s_sound
 
   -- By the key: a birth has the new one, and no other change reads it.
-  start : (w v : Work) → work_undated v ≡ work_renamed to id w → (key : Option NodeKey) → is_some key ≡ is_birth w.change →
+  pub start : (w v : Work) → work_undated v ≡ work_renamed to id w → (key : Option NodeKey) → is_some key ≡ is_birth w.change →
       is_some (option_map to key) ≡ is_birth v.change →
       collection_renamed to id (changed w.change (unwrap_or key no_key) (collection_or_new s.forest w.collection))
       ≡ undated (changed v.change (unwrap_or (option_map to key) no_key) (collection_or_new t.forest v.collection))

@@ -136,6 +136,7 @@ both_ahead one other alike = record {
   counted = alike.counted;
   cores = alike.cores;
   stages = all_ahead alike.to alike.id alike.number one.stages other.stages alike.stages;
+  fallen = alike.fallen;
 }
 
 -- And who leaves began to at the same steps.
@@ -156,6 +157,7 @@ seen_ahead p seen = record {
       subst (IsKnown p.core) (sym old.2)
       (ahead_known (λ key. given p.core.forest key ≡ true) (λ i. i ≤ p.core.events) (λ n. n ≤ p.core.events) old.0
       (seen.known old.0 old.1));
+  fell = seen.fell;
 }
 
 -- At each place stands what is ahead of the actor.

@@ -134,6 +134,7 @@ module _ (setup : Setup) where
     stages = ap (map ahead_of) c.stages
         ∙ put_plain p actor (stage_after c.asks.stage c.asks.next c.asks.asked c.reply)
         (steps_plain setup.plans actor c.asks.stage c.asks.next c.asks.step);
+    fell = record { marks = c.fell.marks; are = c.fell.are; falls = c.fell.falls };
   }
 
   -- Who makes a step does not leave.
@@ -195,16 +196,23 @@ module _ (setup : Setup) where
   half actor p new l = record {
     core = new.core;
     stages = slice_set (map ahead_of p.stages) actor (left (ahead_of l.goes.stage) l.reply);
+    falls = new.falls;
   }
 
   -- Its call is answered.
   leaves_to : (actor : ℕ) (p new : Position) (l : Leaves setup actor p new) → Leaves freely actor (ahead p) (half actor p new l)
   unfolding goes_to
-  leaves_to actor p new l = record { goes = goes_to actor p l.goes; reply = l.reply; made = l.made; stages = refl }
+  leaves_to actor p new l = record {
+    goes = goes_to actor p l.goes;
+    reply = l.reply;
+    made = l.made;
+    stages = refl;
+    fell = record { marks = l.fell.marks; are = l.fell.are; falls = l.fell.falls };
+  }
 
   -- What lies ahead then is told by what lay ahead.
   half-ahead : (actor : ℕ) (p new : Position) (l : Leaves setup actor p new) → ahead (half actor p new l) ≡ ahead new
-  half-ahead actor p new l = λ i. record { core = new.core; stages = same i }
+  half-ahead actor p new l = λ i. record { core = new.core; stages = same i; falls = new.falls }
     where
       -- actor by actor
       same : map ahead_of (slice_set (map ahead_of p.stages) actor (left (ahead_of l.goes.stage) l.reply)) ≡ map ahead_of new.stages

@@ -1,6 +1,7 @@
 -- Where no turn leads out of what was met, each play comes to what was met, but for names.
 use Rattle.std.proofs.Common.{ℕ, ◌≡◌, ◌≤◌, inl, inr, refl, ap, sym, subst, ◌∙◌, Bool, true, ◌&&◌}
 use Rattle.std.proofs.Common.{List, [], ◌∷◌, map}
+use Rattle.std.specs.Option.{option_map}
 use Rattle.sm_names.specs.declared.keys.NodeKey.{NodeKey}
 use Rattle.sm_names.specs.declared.tracking.Fired.{Fired}
 use Rattle.sm_names.specs.Answers.{answer, key_told}
@@ -15,6 +16,8 @@ use Rattle.core_state.specs.Reads.{readings_of}
 use Rattle.core_state.specs.Shown.{IsAfter, Shows, collection_after, kept_ids, tracked_as}
 use Rattle.core_state.specs.State.{HandleCounts, State}
 use Rattle.actor_scripts.specs.declared.object.StepCall.{StepCall}
+use Rattle.actor_plays.specs.declared.falls.GoneNode.{GoneNode}
+use Rattle.actor_plays.specs.Fates.{fate_fallen}
 use Rattle.actor_plays.specs.Plays.{Stage, first_stage, is_wait, joins}
 use Rattle.actor_plays.specs.Positions.{Asks, Begins, Calls, HasToWait, PassOn, Position, Reached, Rests, Setup}
 use Rattle.actor_plays.proofs.PositionLaws.{all_rest, further, reached_on}
@@ -25,6 +28,7 @@ use Rattle.alike_cores.proofs.Composing.{alike-same}
 use Rattle.alike_plays.specs.AlikePlays.{AreAlikeAll, AreAlikePlays}
 use Rattle.alike_plays.specs.Closed.{IsClosed, IsMet, IsSimulation}
 use Rattle.alike_plays.specs.Names.{KnownCall}
+use Rattle.alike_plays.specs.Outcomes.{fate_renamed}
 use Rattle.alike_plays.proofs.Composing.{plays-composed}
 use Rattle.alike_plays.proofs.Passing.{call_on, leave_on, past}
 use Rattle.alike_plays.proofs.Reaching.{IsSeen, asks_known, reached_seen}
@@ -97,6 +101,8 @@ starts_alike setup one other a b = record {
   stages = subst (λ (ss : List Stage). AreAlikeAll (λ key. key) (λ i. i) (λ n. n) ss other.stages) (sym a.stages)
       (subst (AreAlikeAll (λ key. key) (λ i. i) (λ n. n) (map (λ (client : ℕ). first_stage) setup.clients)) (sym b.stages)
       (first_alike (λ key. key) (λ i. i) (λ n. n) setup.clients));
+  fallen = λ key. ap (λ (falls : List GoneNode). fate_fallen falls key) b.falls
+      ∙ sym (ap (λ (falls : List GoneNode). option_map (fate_renamed (λ k. k)) (fate_fallen falls key)) a.falls);
 }
 
 module _ (setup : Setup) where

@@ -18,5 +18,10 @@ pub mod Ordered
 pub mod Ahead
 pub mod AheadActors
 pub mod AheadTurns
+pub mod Falling
+pub mod FallsKnown
+pub mod EventFalls
+pub mod FellAgain
+pub mod Fallen
 pub mod TurnsLeft
 pub mod SameTurns

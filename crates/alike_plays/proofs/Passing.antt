@@ -1,9 +1,10 @@
 -- Passes of several actors, one after another, and turns between them.
 use Rattle.std.proofs.Common.{ℕ, zero, suc, ◌≡◌, ◌+◌, ◌⊎◌, inl, inr, refl, ap, sym, subst, ◌∙◌, Bool, true, false, cond}
-use Rattle.std.proofs.Common.{◌==◌, ◌&&◌, ◌||◌, not, List, [], ◌∷◌, map, Option, Some, None, is_some, slice_get, slice_set}
+use Rattle.std.proofs.Common.{◌==◌, ◌&&◌, ◌||◌, not, List, [], ◌∷◌, ◌++◌, map, Option, Some, None, is_some, slice_get, slice_set}
 use Rattle.std.proofs.lemmas.Bool.{eq-eqb, eqb-true}
 use Rattle.std.proofs.lemmas.List.{set_comm}
 use Rattle.std.proofs.lemmas.List.Folds.{list_any-append}
+use Rattle.std.specs.List.{flat_map}
 use Rattle.std.specs.Option.{option_and_then, option_map, option_map_or}
 use Rattle.sm_names.specs.declared.messages.Call.{Call}
 use Rattle.sm_names.specs.declared.messages.Reply.{Reply}
@@ -16,14 +17,17 @@ use Rattle.core_state.specs.Reads.{world_in}
 use Rattle.core_state.specs.State.{State}
 use Rattle.core_state.specs.Steps.{GainsTracker, tracker_by}
 use Rattle.core_state.specs.Theorem.{Makes}
+use Rattle.forced_marks.specs.Marks.{AreStages}
 use Rattle.actor_scripts.specs.declared.step.Step.{Step}
 use Rattle.actor_scripts.specs.ActorStates.{Known, step_call}
 use Rattle.actor_plays.specs.declared.plan.Plan.{Plan}
 use Rattle.actor_plays.specs.declared.plan.Planned.{Planned}
+use Rattle.actor_plays.specs.declared.falls.GoneNode.{GoneNode}
+use Rattle.actor_plays.specs.Fates.{falls_at}
 use Rattle.actor_plays.specs.Leaves.{Leave}
 use Rattle.actor_plays.specs.Plans.{steps_of}
 use Rattle.actor_plays.specs.Plays.{Stage, has_fired, is_silent, left, next_step, passed, polls, stage_after}
-use Rattle.actor_plays.specs.Positions.{Asks, Calls, Leaves, PassOn, Passes, Position, Rests, Setup, left_at}
+use Rattle.actor_plays.specs.Positions.{Asks, Calls, Fell, Leaves, PassOn, Passes, Position, Rests, Setup, left_at}
 use Rattle.actor_plays.proofs.PositionLaws.{get-other, rests_on, rests_stay}
 
 -- ---- lists
@@ -163,6 +167,20 @@ module _ (setup : Setup) where
   same_core _ _ (PassOn.Stays p) = refl
   same_core _ _ (PassOn.Further actor p mid r first on) = same_core mid r on ∙ ap (λ (x : Position). x.core) first.after
 
+  -- And the nodes that fell.
+  same_falls : (p r : Position) → PassOn setup p r → r.falls ≡ p.falls
+  same_falls _ _ (PassOn.Stays p) = refl
+  same_falls _ _ (PassOn.Further actor p mid r first on) = same_falls mid r on ∙ ap (λ (x : Position). x.falls) first.after
+
+  -- Behind passes a call takes the same nodes.
+  fell_on : (p r new : Position) → PassOn setup p r → (stages : List Stage) (client : ℕ) (call : Call) (reply : Reply) →
+      Fell p new client call reply → Fell r (record new { stages = stages }) client call reply
+  fell_on p r new on stages client call reply fell = record {
+    marks = fell.marks;
+    are = subst (λ (s : State). AreStages s new.core client call reply fell.marks) (sym (same_core p r on)) fell.are;
+    falls = fell.falls ∙ ap (λ (falls : List GoneNode). falls ++ flat_map falls_at fell.marks) (sym (same_falls p r on));
+  }
+
   -- Who leaves passes nothing, so all that leave began to where they did.
   pub same_left : (p r : Position) → PassOn setup p r → map left_at r.stages ≡ map left_at p.stages
   same_left _ _ (PassOn.Stays p) = refl
@@ -179,15 +197,17 @@ module _ (setup : Setup) where
       by (Some l) step = cc
 
   -- What others pass before the turn of an actor they can pass behind it.
-  carry : (p r : Position) → PassOn setup p r → (actor : ℕ) → Rests setup p actor → (later : State) (new : Stage) →
+  carry : (p r : Position) → PassOn setup p r → (actor : ℕ) → Rests setup p actor → (later : State) (new : Stage)
+      (fell : List GoneNode) →
       ((n : ℕ) → has_fired p.core.trackers.fired n ≡ true → has_fired later.trackers.fired n ≡ true) →
-      PassOn setup (record { core = later; stages = slice_set p.stages actor new })
-      (record { core = later; stages = slice_set r.stages actor new })
-  carry _ _ (PassOn.Stays p) actor rests later new stay =
-      PassOn.Stays (record { core = later; stages = slice_set p.stages actor new })
-  carry _ _ (PassOn.Further j p mid r first on) actor rests later new stay =
-      PassOn.Further j (record { core = later; stages = slice_set p.stages actor new })
-      (record { core = later; stages = slice_set mid.stages actor new }) (record { core = later; stages = slice_set r.stages actor new })
+      PassOn setup (record { core = later; stages = slice_set p.stages actor new; falls = fell })
+      (record { core = later; stages = slice_set r.stages actor new; falls = fell })
+  carry _ _ (PassOn.Stays p) actor rests later new fell stay =
+      PassOn.Stays (record { core = later; stages = slice_set p.stages actor new; falls = fell })
+  carry _ _ (PassOn.Further j p mid r first on) actor rests later new fell stay =
+      PassOn.Further j (record { core = later; stages = slice_set p.stages actor new; falls = fell })
+      (record { core = later; stages = slice_set mid.stages actor new; falls = fell })
+      (record { core = later; stages = slice_set r.stages actor new; falls = fell })
       (record {
         stage = first.stage;
         next = first.next;
@@ -195,11 +215,11 @@ module _ (setup : Setup) where
         step = first.step;
         silent = first.silent;
         looks = looks_later p.core later stay first.stage.known first.next first.looks;
-        after = ap (λ (x : Position). record { core = later; stages = slice_set x.stages actor new }) first.after
-            ∙ ap (λ (ss : List Stage). record { core = later; stages = ss })
+        after = ap (λ (x : Position). record { core = later; stages = slice_set x.stages actor new; falls = fell }) first.after
+            ∙ ap (λ (ss : List Stage). record { core = later; stages = ss; falls = fell })
             (sym (set_comm p.stages actor j new (passed first.stage) here.0));
       })
-      (carry mid r on actor here.2 later new
+      (carry mid r on actor here.2 later new fell
       (subst (λ (s : State). (n : ℕ) → has_fired s.trackers.fired n ≡ true → has_fired later.trackers.fired n ≡ true)
       (sym (ap (λ (x : Position). x.core) first.after)) stay))
     where
@@ -222,7 +242,7 @@ module _ (setup : Setup) where
   pub call_on : (p r : Position) → PassOn setup p r → (actor : ℕ) (new : Position) → Calls setup actor p new →
       (later : Position) × Calls setup actor r later × PassOn setup new later
   call_on p r on actor new c = (
-    record { core = new.core; stages = slice_set r.stages actor (stage_after c.asks.stage c.asks.next c.asks.asked c.reply) },
+    record new { stages = slice_set r.stages actor (stage_after c.asks.stage c.asks.next c.asks.asked c.reply) },
     record {
       asks = record {
         stage = c.asks.stage;
@@ -238,11 +258,13 @@ module _ (setup : Setup) where
       made = subst (λ (s : State). Makes s new.core (c.asks.client, c.asks.asked.call, c.reply)) (sym (same_core p r on)) c.made;
       waits = c.waits;
       stages = refl;
+      fell = fell_on p r new on (slice_set r.stages actor (stage_after c.asks.stage c.asks.next c.asks.asked c.reply)) c.asks.client
+          c.asks.asked.call c.reply c.fell;
     },
-    subst (λ (ss : List Stage). PassOn setup (record { core = new.core; stages = ss })
-        (record { core = new.core; stages = slice_set r.stages actor (stage_after c.asks.stage c.asks.next c.asks.asked c.reply) }))
+    subst (λ (ss : List Stage). PassOn setup (record new { stages = ss })
+        (record new { stages = slice_set r.stages actor (stage_after c.asks.stage c.asks.next c.asks.asked c.reply) }))
         (sym c.stages)
-        (carry p r on actor (call_rests p actor c.asks) new.core (stage_after c.asks.stage c.asks.next c.asks.asked c.reply)
+        (carry p r on actor (call_rests p actor c.asks) new.core (stage_after c.asks.stage c.asks.next c.asks.asked c.reply) new.falls
         (fired_stay p.core new.core c.asks.client c.asks.asked.call c.reply c.made)),
   )
 
@@ -250,7 +272,7 @@ module _ (setup : Setup) where
   pub leave_on : (p r : Position) → PassOn setup p r → (actor : ℕ) (new : Position) → Leaves setup actor p new →
       (later : Position) × Leaves setup actor r later × PassOn setup new later
   leave_on p r on actor new l = (
-    record { core = new.core; stages = slice_set r.stages actor (left l.goes.stage l.reply) },
+    record new { stages = slice_set r.stages actor (left l.goes.stage l.reply) },
     record {
       goes = record {
         stage = l.goes.stage;
@@ -267,10 +289,11 @@ module _ (setup : Setup) where
       reply = l.reply;
       made = subst (λ (s : State). Makes s new.core (l.goes.client, l.goes.call, l.reply)) (sym (same_core p r on)) l.made;
       stages = refl;
+      fell = fell_on p r new on (slice_set r.stages actor (left l.goes.stage l.reply)) l.goes.client l.goes.call l.reply l.fell;
     },
-    subst (λ (ss : List Stage). PassOn setup (record { core = new.core; stages = ss })
-        (record { core = new.core; stages = slice_set r.stages actor (left l.goes.stage l.reply) })) (sym l.stages)
-        (carry p r on actor l.goes.rests new.core (left l.goes.stage l.reply)
+    subst (λ (ss : List Stage). PassOn setup (record new { stages = ss })
+        (record new { stages = slice_set r.stages actor (left l.goes.stage l.reply) })) (sym l.stages)
+        (carry p r on actor l.goes.rests new.core (left l.goes.stage l.reply) new.falls
         (fired_stay p.core new.core l.goes.client l.goes.call l.reply l.made)),
   )
     where

@@ -1,22 +1,26 @@
 -- What holds wherever a play comes.
 use Rattle.std.proofs.Common.{ℕ, ◌≡◌, ◌≤◌, inl, inr, sym, subst, true}
 use Rattle.std.proofs.Common.{List, [], ◌∷◌, ◌++◌, slice_set}
+use Rattle.std.specs.List.{flat_map}
 use Rattle.sm_names.specs.declared.keys.NodeKey.{NodeKey}
 use Rattle.sm_names.specs.declared.messages.Call.{Call}
 use Rattle.sm_names.specs.declared.messages.Reply.{Reply}
 use Rattle.sm_names.specs.Marks.{Entry}
-use Rattle.sm_names.proofs.ListLaws.{In, In-map}
+use Rattle.sm_names.proofs.ListLaws.{In, In-append, In-map}
 use Rattle.forest_store.specs.Forest.{given}
 use Rattle.core_state.specs.Shown.{Shows}
 use Rattle.core_state.specs.State.{State}
 use Rattle.core_state.specs.Theorem.{Makes}
 use Rattle.core_state.proofs.theorem.GoesOn.{goes_on}
+use Rattle.actor_plays.specs.declared.falls.GoneNode.{GoneNode}
 use Rattle.actor_plays.specs.declared.play.Turn.{Turn}
+use Rattle.actor_plays.specs.Fates.{AreFalls, falls_at}
 use Rattle.actor_plays.specs.Plays.{Plays, Stage, first_stage, joins, left, passed, stage_after}
-use Rattle.actor_plays.specs.Positions.{Asks, Begins, Calls, Goes, Leaves, Passes, Position, Reached, Setup}
+use Rattle.actor_plays.specs.Positions.{Asks, Begins, Calls, Fell, Goes, Leaves, Passes, Position, Reached, Setup}
 use Rattle.alike_cores.proofs.Learning.{events_stay, keys_stay, reply_known}
 use Rattle.alike_cores.proofs.Told.{Tells}
-use Rattle.alike_plays.specs.Names.{KnownCall, KnownReply, KnownStage}
+use Rattle.alike_plays.specs.Names.{KnownCall, KnownGone, KnownReply, KnownStage}
+use Rattle.alike_plays.proofs.EventFalls.{event_known}
 use Rattle.alike_plays.proofs.Names.{at_in, step_known}
 use Rattle.alike_plays.proofs.NamesAfter.{In-set}
 use Rattle.alike_plays.proofs.Stages.{called_known, first_known, leaving_known, left_known, passed_known, stage_later}
@@ -25,17 +29,19 @@ use Rattle.alike_plays.proofs.Stages.{called_known, first_known, leaving_known, 
 abbrev pub IsKnown : State → Stage → Type 0
 IsKnown s stage = KnownStage (λ key. given s.forest key ≡ true) (λ i. i ≤ s.events) (λ n. n ≤ s.events) stage
 
--- the core shows a history, and knows the names that actors know
+-- the core shows a history, and knows the names that actors know, and those of nodes that fell
 pub record IsSeen (p : Position) : Type 0 where
   pub history : List Entry
   pub shows : Shows p.core history
   pub known : (stage : Stage) → In stage p.stages → IsKnown p.core stage
+  pub fell : (g : GoneNode) → In g p.falls → KnownGone (λ key. given p.core.forest key ≡ true) g
 
--- and this history is a play by these turns
+-- and this history is a play by these turns, in which these nodes fell
 pub record IsPlayed (setup : Setup) (p : Position) : Type 0 where
   pub turns : List Turn
   pub seen : IsSeen p
   pub plays : Plays setup.plans setup.clients turns seen.history p.stages
+  pub fell : AreFalls seen.history p.falls
 
 -- A core that answers a call shows the history with it.
 pub shows_on : (s later : State) (history : List Entry) (client : ℕ) (call : Call) (reply : Reply) → Shows s history →
@@ -68,6 +74,30 @@ stages_known s later history client call reply shows makes stages known actor ne
       | inr old ↦ grown s later client call reply makes stage (known stage old)
     ]
 
+-- The nodes that fell before are known, and those that fall now.
+fell_known : (old new : Position) → IsSeen old → (client : ℕ) (call : Call) (reply : Reply) →
+    Makes old.core new.core (client, call, reply) → Fell old new client call reply → (g : GoneNode) → In g new.falls →
+    KnownGone (λ key. given new.core.forest key ≡ true) g
+fell_known old new seen client call reply makes fell g there =
+    elim (In-append old.falls (flat_map falls_at fell.marks) g (subst (In g) fell.falls there)) [
+      | inl before ↦
+          let k = seen.fell g before in
+          record {
+            key = keys_stay old.core new.core client call reply makes g.key k.key;
+            origin = λ f is. keys_stay old.core new.core client call reply makes f.origin (k.origin f is);
+          }
+      | inr now ↦ event_known old.core new.core seen.history seen.shows client call reply makes fell.marks fell.are g now
+    ]
+
+-- They fell in the history.
+falls_on : (old new : Position) (history : List Entry) (client : ℕ) (call : Call) (reply : Reply) → Shows old.core history →
+    Makes old.core new.core (client, call, reply) → Fell old new client call reply → AreFalls history old.falls →
+    AreFalls (history ++ (client, call, reply) ∷ []) new.falls
+falls_on old new history client call reply shows makes fell before =
+    subst (AreFalls (history ++ (client, call, reply) ∷ [])) (sym fell.falls)
+    (AreFalls.Tells history old.falls old.core new.core client call reply fell.marks before shows
+    (shows_on old.core new.core history client call reply shows makes) fell.are)
+
 module _ (setup : Setup) where
   -- the step names only what its actor knows
   pub asks_known : (p : Position) → IsSeen p → (actor : ℕ) (a : Asks setup actor p) →
@@ -92,8 +122,10 @@ module _ (setup : Setup) where
           let c = In-map (λ (client : ℕ). first_stage) setup.clients stage (subst (In stage) b.stages there) in
           subst (IsKnown p.core) (sym c.2)
           (first_known (λ key. given p.core.forest key ≡ true) (λ i. i ≤ p.core.events) (λ n. n ≤ p.core.events));
+      fell = λ g there. absurd (subst (In g) b.falls there);
     };
     plays = subst (Plays setup.plans setup.clients [] (joins setup.clients)) (sym b.stages) (Plays.Starts b.count);
+    fell = subst (AreFalls (joins setup.clients)) (sym b.falls) (AreFalls.Starts setup.clients);
   }
 
   -- A pass changes no name.
@@ -109,9 +141,11 @@ module _ (setup : Setup) where
             (played.seen.known pass.stage (at_in old.stages actor pass.stage pass.at)))
         | inr other ↦ played.seen.known stage other
       ];
+      fell = played.seen.fell;
     };
     plays = Plays.Passes played.turns played.seen.history old.stages actor pass.stage pass.next old.core played.plays pass.at pass.step
         pass.silent played.seen.shows pass.looks;
+    fell = played.fell;
   })
 
   -- By the reply.
@@ -127,6 +161,7 @@ module _ (setup : Setup) where
         (seen.known c.asks.stage (at_in old.stages actor c.asks.stage c.asks.at)))
         (call_grown (asks_known old seen actor c.asks)))
         stage (subst (In stage) c.stages there);
+    fell = fell_known old new seen c.asks.client c.asks.asked.call c.reply c.made c.fell;
   }
     where
       -- what the call names is known
@@ -147,6 +182,7 @@ module _ (setup : Setup) where
         (played.seen.history ++ (c.asks.client, c.asks.asked.call, c.reply) ∷ [])) (sym c.stages)
         (Plays.Calls played.turns played.seen.history old.stages actor c.asks.client c.asks.stage c.asks.next c.asks.asked c.reply
         played.plays c.asks.at c.asks.step c.asks.call c.asks.caller c.waits);
+    fell = falls_on old new played.seen.history c.asks.client c.asks.asked.call c.reply played.seen.shows c.made c.fell played.fell;
   }
 
   -- By the reply.
@@ -160,6 +196,7 @@ module _ (setup : Setup) where
         (grown old.core new.core l.goes.client l.goes.call l.reply l.made l.goes.stage
         (seen.known l.goes.stage (at_in old.stages actor l.goes.stage l.goes.at))))
         stage (subst (In stage) l.stages there);
+    fell = fell_known old new seen l.goes.client l.goes.call l.reply l.made l.fell;
   }
 
   -- And so is the play.
@@ -172,6 +209,7 @@ module _ (setup : Setup) where
         (played.seen.history ++ (l.goes.client, l.goes.call, l.reply) ∷ [])) (sym l.stages)
         (Plays.Leaves played.turns played.seen.history old.stages actor l.goes.client l.goes.stage l.goes.call l.reply played.plays
         l.goes.at l.goes.by l.goes.caller);
+    fell = falls_on old new played.seen.history l.goes.client l.goes.call l.reply played.seen.shows l.made l.fell played.fell;
   }
 
   -- By induction on the turns.

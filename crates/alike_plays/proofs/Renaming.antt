@@ -20,7 +20,7 @@ module _ (to : NodeKey → NodeKey) (keeps : KeepsKeys to) (o p : Option NodeKey
   old_keys key here there = keys_same to keeps o p key (λ is. new key is here) (λ is. new_too (to key) is there)
 
   -- What was nothing for new keys is alike under the other names: of two that change places both stand for nothing.
-  far : (before after : NodeKey → Option ℕ) → ((key : NodeKey) → after (to key) ≡ before key) →
+  far : {X : Type 0} (before after : NodeKey → Option X) → ((key : NodeKey) → after (to key) ≡ before key) →
       ((key : NodeKey) → (Key key → ⊥) → before key ≡ None) → ((key : NodeKey) → (Other key → ⊥) → after key ≡ None) →
       (from into : NodeKey) → o ≡ Some from → p ≡ Some into → (key : NodeKey) → after (keys_moved to o p key) ≡ before key
   far before after same none none_there from into is is_too key = by (either_way (same_key key from)) (either_way (same_key (to key) into))
@@ -46,9 +46,9 @@ module _ (to : NodeKey → NodeKey) (keeps : KeepsKeys to) (o p : Option NodeKey
           ∙ same key
 
 -- By whether there are both new keys.
-far_keys : (to : NodeKey → NodeKey) → KeepsKeys to → (o p : Option NodeKey) (Key Other : NodeKey → Type 0) →
+pub far_keys : {X : Type 0} (to : NodeKey → NodeKey) → KeepsKeys to → (o p : Option NodeKey) (Key Other : NodeKey → Type 0) →
     ((key : NodeKey) → o ≡ Some key → Key key → ⊥) → ((key : NodeKey) → p ≡ Some key → Other key → ⊥) →
-    (before after : NodeKey → Option ℕ) → ((key : NodeKey) → after (to key) ≡ before key) →
+    (before after : NodeKey → Option X) → ((key : NodeKey) → after (to key) ≡ before key) →
     ((key : NodeKey) → (Key key → ⊥) → before key ≡ None) → ((key : NodeKey) → (Other key → ⊥) → after key ≡ None) →
     (key : NodeKey) → after (keys_moved to o p key) ≡ before key
 far_keys to keeps None None Key Other new new_too before after same none none_there key = same key

@@ -1,6 +1,7 @@
 -- Turns of plays that are alike.
 use Rattle.std.proofs.Common.{ℕ, ◌≡◌, ◌≤◌, ◌+◌, refl, ap, sym, subst, ◌∙◌, true, ◌||◌}
-use Rattle.std.proofs.Common.{List, Option, Some, None, is_some, slice_set}
+use Rattle.std.proofs.Common.{List, ◌++◌, map, Option, Some, None, is_some, slice_set}
+use Rattle.std.specs.List.{flat_map}
 use Rattle.std.specs.Option.{option_map}
 use Rattle.sm_names.specs.declared.keys.NodeKey.{NodeKey}
 use Rattle.sm_names.specs.declared.messages.Call.{Call}
@@ -14,10 +15,14 @@ use Rattle.sm_names.proofs.SamenessLaws.{map-None, some-injective}
 use Rattle.forest_store.specs.Forest.{given}
 use Rattle.core_state.specs.Shown.{Shows}
 use Rattle.core_state.specs.State.{State}
+use Rattle.core_state.specs.Steps.{Follows}
 use Rattle.core_state.specs.Theorem.{Makes}
+use Rattle.forced_marks.specs.Marks.{AreStages, Stage as Marked}
 use Rattle.actor_scripts.specs.declared.object.StepCall.{StepCall}
 use Rattle.actor_scripts.specs.ActorStates.{step_call}
 use Rattle.actor_plays.specs.declared.plan.Planned.{Planned}
+use Rattle.actor_plays.specs.declared.falls.GoneNode.{GoneNode}
+use Rattle.actor_plays.specs.Fates.{falls_at}
 use Rattle.actor_plays.specs.Leaves.{Leave}
 use Rattle.actor_plays.specs.Plays.{Stage, left, passed, polls, stage_after}
 use Rattle.actor_plays.specs.Positions.{Asks, Calls, Goes, Leaves, Passes, Position, Rests, Setup}
@@ -25,13 +30,18 @@ use Rattle.alike_cores.specs.Alike.{call_renamed, reply_renamed}
 use Rattle.alike_cores.specs.Renamed.{buffer_renamed}
 use Rattle.alike_cores.proofs.Answering.{key-renamed}
 use Rattle.alike_cores.specs.Cores.{AreAlikeCores, NamesOld}
-use Rattle.alike_cores.proofs.Going.{fresh, goes_on_named}
+use Rattle.alike_cores.proofs.Going.{alike_again, fresh, goes_on_named, same_call}
 use Rattle.alike_cores.proofs.Moving.{keys_kept, keys_moved, number_kept, number_moved}
+use Rattle.alike_cores.proofs.Shown.{shown_sound}
 use Rattle.alike_cores.proofs.Views.{fired-alike}
 use Rattle.alike_plays.specs.Actors.{AreAlikeStages, asked_renamed, leave_renamed}
 use Rattle.alike_plays.specs.AlikePlays.{AreAlikeAll, AreAlikePlays}
-use Rattle.alike_plays.specs.Names.{KnownCall}
+use Rattle.alike_plays.specs.Names.{KnownCall, KnownGone}
+use Rattle.alike_plays.specs.Outcomes.{FellAlike, gone_renamed}
 use Rattle.alike_plays.proofs.Asking.{asks-alike}
+use Rattle.alike_plays.proofs.EventFalls.{event_falls}
+use Rattle.alike_plays.proofs.Falling.{both-fell, fallen-renamed}
+use Rattle.alike_plays.proofs.FellAgain.{fell-agrees}
 use Rattle.alike_plays.proofs.Leaving.{after-alike, leaves-alike, left-alike, next-alike, passed-alike, polls-alike}
 use Rattle.alike_plays.proofs.NamesAgree.{stages-agree}
 use Rattle.alike_plays.proofs.Places.{all_again, all_at, all_back, all_left, all_set}
@@ -56,6 +66,7 @@ module _ (setup : Setup) (actor : ℕ) (one other : Position) (alike : AreAlikeP
     cores = alike.cores;
     stages = all_set alike.to alike.id alike.number one.stages other.stages alike.stages actor (passed stage) (passed again)
         (passed-alike alike.to alike.id alike.number stage again same);
+    fallen = alike.fallen;
   }
 
   -- they wait alike for a tracker
@@ -123,7 +134,8 @@ names_old to id s t call here there = record {
   buffers = λ b is. (here.1 b is, there.1 (buffer_renamed id b) (buffer-renamed to id call ∙ ap (option_map (buffer_renamed id)) is));
 }
 
--- cores that are alike answer a call and its renamed one, and the actors know names that the cores know
+-- cores that are alike answer a call and its renamed one, whose marks are these. The actors know names that the cores know, and so
+-- do the nodes that fell
 record BothAnswer (one other : Position) (alike : AreAlikePlays one other) (later again : State) (client : ℕ) (call : Call)
     (reply told : Reply) : Type 0 where
   history : List Entry
@@ -136,6 +148,12 @@ record BothAnswer (one other : Position) (alike : AreAlikePlays one other) (late
   old : NamesOld alike.to alike.id one.core other.core call
   made : Makes one.core later (client, call, reply)
   made_too : Makes other.core again (client, call_renamed alike.to alike.id call, told)
+  fell : (g : GoneNode) → In g one.falls → KnownGone (λ key. given one.core.forest key ≡ true) g
+  fell_too : (g : GoneNode) → In g other.falls → KnownGone (λ key. given other.core.forest key ≡ true) g
+  marks : List Marked
+  more : List Marked
+  are : AreStages one.core later client call reply marks
+  are_too : AreStages other.core again client (call_renamed alike.to alike.id call) told more
 
 module _ (one other : Position) (alike : AreAlikePlays one other) where
   -- the new key, if there is one, becomes that of the other
@@ -181,10 +199,43 @@ module _ (one other : Position) (alike : AreAlikePlays one other) (later again :
       (λ key is known. fresh other.core again client (call_renamed alike.to alike.id call) told key both.made_too is known))
       stage same are (both.known stage here) (both.known_too same there))
 
+  -- The cores are alike under the new names before the event too.
+  cores_before : AreAlikeCores to_new id_new number_new one.core other.core
+  cores_before = alike_again alike.to alike.id alike.number alike.keeps alike.kept alike.counted one.core other.core later again
+      both.history both.past both.shows both.shows_too alike.cores client call reply told both.joinless both.old both.made both.made_too
+
+  -- And the call is the same one.
+  call_before : call_renamed to_new id_new call ≡ call_renamed alike.to alike.id call
+  call_before = same_call alike.to alike.id alike.number alike.keeps alike.kept alike.counted one.core other.core later again
+      both.history both.past both.shows both.shows_too alike.cores client call reply told both.joinless both.old both.made both.made_too
+
+  -- The same nodes fall by the event.
+  falls_now : flat_map falls_at both.more ≡ map (gone_renamed to_new) (flat_map falls_at both.marks)
+  falls_now = event_falls to_new id_new number_new (keys_kept alike.to alike.keeps (new_key reply) (new_key told))
+      (number_kept alike.id alike.kept (one.core.events + 1) (other.core.events + 1)) one.core other.core later again cores_before
+      (shown_sound one.core both.history both.shows) (shown_sound other.core both.past both.shows_too) cores_again.1.total client call reply
+      both.made.after
+      (subst (λ (c : Call). Follows other.core again client c (reply_renamed to_new id_new number_new reply)) (sym call_before)
+      (subst (Follows other.core again client (call_renamed alike.to alike.id call)) cores_again.0 both.made_too.after))
+      both.marks both.more both.are
+      (subst (λ (c : Call). AreStages other.core again client c (reply_renamed to_new id_new number_new reply) both.more) (sym call_before)
+      (subst (λ (r : Reply). AreStages other.core again client (call_renamed alike.to alike.id call) r both.more) cores_again.0 both.are_too))
+
+  -- And the same fell before, under the new names too.
+  fell_again : FellAlike to_new (one.falls ++ flat_map falls_at both.marks) (other.falls ++ flat_map falls_at both.more)
+  fell_again = both-fell to_new one.falls other.falls (flat_map falls_at both.marks) (flat_map falls_at both.more)
+      (fell-agrees alike.to alike.keeps (new_key reply) (new_key told) (λ key. given one.core.forest key ≡ true)
+      (λ key. given other.core.forest key ≡ true) (λ key is known. fresh one.core later client call reply key both.made is known)
+      (λ key is known. fresh other.core again client (call_renamed alike.to alike.id call) told key both.made_too is known)
+      one.falls other.falls both.fell both.fell_too alike.fallen)
+      (subst (FellAlike to_new (flat_map falls_at both.marks)) (sym falls_now)
+      (fallen-renamed to_new (keys_kept alike.to alike.keeps (new_key reply) (new_key told)) (flat_map falls_at both.marks)))
+
   -- With an actor that went on alike under the new names, the plays are alike.
   goes_alike : (actor : ℕ) (stage same : Stage) → AreAlikeStages to_new id_new number_new stage same →
-      AreAlikePlays (record { core = later; stages = slice_set one.stages actor stage })
-      (record { core = again; stages = slice_set other.stages actor same })
+      AreAlikePlays
+      (record { core = later; stages = slice_set one.stages actor stage; falls = one.falls ++ flat_map falls_at both.marks })
+      (record { core = again; stages = slice_set other.stages actor same; falls = other.falls ++ flat_map falls_at both.more })
   goes_alike actor stage same are = record {
     to = to_new;
     id = id_new;
@@ -194,6 +245,7 @@ module _ (one other : Position) (alike : AreAlikePlays one other) (later again :
     counted = number_kept alike.number alike.counted (one.core.events + 1) (other.core.events + 1);
     cores = cores_again.1;
     stages = all_set to_new id_new number_new one.stages other.stages stages_again actor stage same are;
+    fallen = fell_again;
   }
 
 -- ---- what both ask for
@@ -292,10 +344,11 @@ module _ (setup : Setup) (actor : ℕ) (one other : Position) where
     module _ (seen : IsSeen one) (seen_too : IsSeen other) (new again : Position) where
       -- Where both answer, the plays stay alike.
       pub calls_alike : Calls setup actor one new → Calls setup actor other again → AreAlikePlays new again
-      calls_alike c d = subst (AreAlikePlays new) (λ i. record again { stages = sym d.stages i })
+      calls_alike c d = subst (AreAlikePlays new) (λ i. record again { stages = sym d.stages i; falls = sym d.fell.falls i })
           (subst (λ (p : Position). AreAlikePlays p (record again {
             stages = slice_set other.stages actor (stage_after d.asks.stage d.asks.next d.asks.asked d.reply);
-          })) (λ i. record new { stages = sym c.stages i })
+            falls = other.falls ++ flat_map falls_at d.fell.marks;
+          })) (λ i. record new { stages = sym c.stages i; falls = sym c.fell.falls i })
           (goes_alike one other alike new.core again.core c.asks.client c.asks.asked.call c.reply d.reply both actor
           (stage_after c.asks.stage c.asks.next c.asks.asked c.reply) (stage_after d.asks.stage d.asks.next d.asks.asked d.reply)
           (subst (AreAlikeStages (keys one other alike c.reply d.reply) (ids one other alike) (numbers one other alike)
@@ -325,6 +378,13 @@ module _ (setup : Setup) (actor : ℕ) (one other : Position) where
             made = c.made;
             made_too = subst (λ (x : StepCall). Makes other.core again.core (c.asks.client, x.call, d.reply)) old.asked
                 (subst (λ (n : ℕ). Makes other.core again.core (n, d.asks.asked.call, d.reply)) old.client d.made);
+            fell = seen.fell;
+            fell_too = seen_too.fell;
+            marks = c.fell.marks;
+            more = d.fell.marks;
+            are = c.fell.are;
+            are_too = subst (λ (x : StepCall). AreStages other.core again.core c.asks.client x.call d.reply d.fell.marks) old.asked
+                (subst (λ (n : ℕ). AreStages other.core again.core n d.asks.asked.call d.reply d.fell.marks) old.client d.fell.are);
           }
 
           -- the reply under the new names
@@ -339,9 +399,12 @@ module _ (setup : Setup) (actor : ℕ) (one other : Position) where
 
       -- And so where an actor leaves.
       pub leaves_alike : Leaves setup actor one new → Leaves setup actor other again → AreAlikePlays new again
-      leaves_alike c d = subst (AreAlikePlays new) (λ i. record again { stages = sym d.stages i })
-          (subst (λ (p : Position). AreAlikePlays p (record again { stages = slice_set other.stages actor (left d.goes.stage d.reply) }))
-          (λ i. record new { stages = sym c.stages i })
+      leaves_alike c d = subst (AreAlikePlays new) (λ i. record again { stages = sym d.stages i; falls = sym d.fell.falls i })
+          (subst (λ (p : Position). AreAlikePlays p (record again {
+            stages = slice_set other.stages actor (left d.goes.stage d.reply);
+            falls = other.falls ++ flat_map falls_at d.fell.marks;
+          }))
+          (λ i. record new { stages = sym c.stages i; falls = sym c.fell.falls i })
           (goes_alike one other alike new.core again.core c.goes.client c.goes.call c.reply d.reply both actor (left c.goes.stage c.reply)
           (left d.goes.stage d.reply)
           (subst (AreAlikeStages (keys one other alike c.reply d.reply) (ids one other alike) (numbers one other alike)
@@ -369,6 +432,13 @@ module _ (setup : Setup) (actor : ℕ) (one other : Position) where
             made = c.made;
             made_too = subst (λ (x : Call). Makes other.core again.core (c.goes.client, x, d.reply)) old.call
                 (subst (λ (n : ℕ). Makes other.core again.core (n, d.goes.call, d.reply)) old.client d.made);
+            fell = seen.fell;
+            fell_too = seen_too.fell;
+            marks = c.fell.marks;
+            more = d.fell.marks;
+            are = c.fell.are;
+            are_too = subst (λ (x : Call). AreStages other.core again.core c.goes.client x d.reply d.fell.marks) old.call
+                (subst (λ (n : ℕ). AreStages other.core again.core n d.goes.call d.reply d.fell.marks) old.client d.fell.are);
           }
 
           -- the reply under the new names

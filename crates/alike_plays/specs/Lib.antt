@@ -1,7 +1,7 @@
 pub mod Actors
 pub mod Names
+pub mod Outcomes
 pub mod AlikePlays
 pub mod Closed
 pub mod Ahead
-pub mod Outcomes
 pub mod Ways

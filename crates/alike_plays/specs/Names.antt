@@ -5,10 +5,12 @@ use Rattle.sm_names.specs.declared.keys.NodeKey.{NodeKey}
 use Rattle.sm_names.specs.declared.keys.Strength.{Strength}
 use Rattle.sm_names.specs.declared.messages.Call.{Call}
 use Rattle.sm_names.specs.declared.messages.Reply.{Reply}
+use Rattle.sm_names.specs.declared.outcomes.Fault.{Fault}
 use Rattle.sm_names.specs.Elements.{In}
 use Rattle.sm_names.specs.Timelines.{buffer_of, key_of}
 use Rattle.actor_scripts.specs.declared.object.ActorObject.{ActorObject}
 use Rattle.actor_scripts.specs.ActorStates.{Known}
+use Rattle.actor_plays.specs.declared.falls.GoneNode.{GoneNode}
 use Rattle.actor_plays.specs.Leaves.{Leave}
 use Rattle.actor_plays.specs.Plays.{Stage}
 use Rattle.alike_cores.specs.Renamed.{buffer_renamed}
@@ -61,3 +63,8 @@ pub record NamesAgree (to again : NodeKey → NodeKey) (id later number next : �
   pub far_ids : (before after : BufferName → List ℕ) → ((b : BufferName) → after (buffer_renamed id b) ≡ before b) →
       ((b : BufferName) → (Id b.collection → ⊥) → before b ≡ []) → ((b : BufferName) → (Next b.collection → ⊥) → after b ≡ []) →
       (b : BufferName) → after (buffer_renamed later b) ≡ before b
+
+-- the names of a node that is gone: its key, and that of the node at which its failure began
+pub record KnownGone (Key : NodeKey → Type 0) (g : GoneNode) : Type 0 where
+  pub key : Key g.key
+  pub origin : (fault : Fault) → g.fault ≡ Some fault → Key fault.origin

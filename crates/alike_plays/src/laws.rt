@@ -15,6 +15,7 @@ ghost use Rattle.actor_scripts.specs.ActorStates.{Known, state_after, step_call}
 ghost use Rattle.actor_plays.specs.declared.plan.Plan.{Plan};
 ghost use Rattle.actor_plays.specs.declared.plan.Planned.{Planned};
 ghost use Rattle.actor_plays.specs.declared.play.Turn.{Turn};
+ghost use Rattle.actor_plays.specs.Fates.{AreFalls, fate_in};
 ghost use Rattle.actor_plays.specs.Plays.{Plays, Stage, has_fired, leaves_by, left, next_step, passed, polls, stage_after};
 ghost use Rattle.actor_plays.specs.Positions.{Asks, Calls, HasToWait, Leaves, Passes, Position, Reached, Rests, Setup, left_at};
 ghost use Rattle.alike_cores.specs.Alike.{KeepsIds, call_renamed, reply_renamed};
@@ -93,11 +94,13 @@ pub fn only_known_names_matter()
         AreAlikeStages again later next one other }
 {}
 
-/// What plays come to on cores, turn by turn, is a play by its history, which the core shows.
+/// What plays come to on cores, turn by turn, is a play by its history, which the core shows. The nodes that
+/// fell are those that the marks of its events took.
 pub fn plays_on_cores_are_plays()
     ensures { (setup : Setup) (p : Position) → Reached setup p →
         (turns : List Turn) × (history : List Entry)
-        × Plays setup.plans setup.clients turns history p.stages × Shows p.core history }
+        × Plays setup.plans setup.clients turns history p.stages × Shows p.core history
+        × AreFalls history p.falls }
 {}
 
 /// Two plays that are alike stay alike over one and the same turn, with names for what is new: a step
@@ -118,13 +121,17 @@ pub fn alike_plays_stay_alike()
         Leaves setup actor one new → Leaves setup actor other again → AreAlikePlays new again }
 {}
 
-/// Two plays that are alike come to alike ends: of each kept node, of each tracker, and of the pool.
+/// Two plays that are alike come to alike ends: of each node, kept or fallen, of each tracker, and of the pool.
 /// How far each actor is, and what was made by which step, stands in `AreAlikePlays`.
 pub fn alike_plays_end_alike()
     ensures fates { (setup : Setup) (one other : Position) → Reached setup one →
         (alike : AreAlikePlays one other) (key : NodeKey) →
         fate_kept other.core (alike.to key)
         ≡ option_map (fate_renamed alike.to) (fate_kept one.core key) }
+    ensures became { (setup : Setup) (one other : Position) → Reached setup one →
+        (alike : AreAlikePlays one other) (key : NodeKey) →
+        fate_in other.core other.falls (alike.to key)
+        ≡ option_map (fate_renamed alike.to) (fate_in one.core one.falls key) }
     ensures fired { (one other : Position) (alike : AreAlikePlays one other) (tracker : ℕ) →
         has_fired other.core.trackers.fired (alike.number tracker)
         ≡ has_fired one.core.trackers.fired tracker }
@@ -153,6 +160,10 @@ pub fn plays_alike_ahead_end_alike()
         (like : AreAlikeAhead early one other) (key : NodeKey) →
         fate_kept other.core (like.alike.to key)
         ≡ option_map (fate_renamed like.alike.to) (fate_kept one.core key) }
+    ensures became { (setup : Setup) (early : ℕ → ℕ → Bool) (one other : Position) → Reached setup one →
+        (like : AreAlikeAhead early one other) (key : NodeKey) →
+        fate_in other.core other.falls (like.alike.to key)
+        ≡ option_map (fate_renamed like.alike.to) (fate_in one.core one.falls key) }
     ensures fired { (early : ℕ → ℕ → Bool) (one other : Position) (like : AreAlikeAhead early one other)
         (tracker : ℕ) →
         has_fired other.core.trackers.fired (like.alike.number tracker)

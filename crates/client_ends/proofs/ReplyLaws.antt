@@ -6,7 +6,7 @@ use Rattle.sm_names.specs.declared.keys.Strength.{Strength}
 use Rattle.sm_names.specs.declared.messages.Call.{Call}
 use Rattle.sm_names.specs.declared.messages.Reply.{Reply}
 use Rattle.trackers.specs.Table.{is_untaken}
-use Rattle.client_accounts.specs.Accounts.{gained, is_done}
+use Rattle.service_lock.specs.Accounts.{gained, is_done}
 use Rattle.client_ends.specs.Clients.{is_collect_reply}
 
 -- the tracker that was told of last is still to be taken

@@ -11,9 +11,9 @@ use Rattle.sm_names.specs.declared.messages.Call.{Call}
 use Rattle.sm_names.specs.declared.messages.Reply.{Reply}
 use Rattle.event_laws.specs.HandleSums.{indices_in}
 use Rattle.service_lock.specs.Units.{Amounts, HasOne, with_one}
-use Rattle.client_accounts.specs.declared.taken.TakenHandles.{TakenHandles}
-use Rattle.client_accounts.specs.Accounts.{SameHandles, no_amounts}
-use Rattle.client_accounts.specs.Takes.{handful, told_taken}
+use Rattle.service_lock.specs.declared.taken.TakenHandles.{TakenHandles}
+use Rattle.service_lock.specs.Accounts.{SameHandles, no_amounts}
+use Rattle.service_lock.specs.Takes.{handful, told_taken}
 use Rattle.client_ends.specs.Clients.{Grip, Made, Seen}
 use Rattle.client_ends.specs.Taking.{Took, grip_at, grips_at, grips_by}
 

@@ -7,8 +7,8 @@ use Rattle.sm_names.specs.declared.messages.Call.{Call}
 use Rattle.sm_names.specs.declared.messages.Reply.{Reply}
 use Rattle.core_state.specs.Kinds.{fits_call}
 use Rattle.event_laws.specs.declared.own.Own.{Own}
-use Rattle.client_accounts.specs.Accounts.{AppendsOwn}
-pub use Rattle.client_accounts.specs.Accounts.{is_done}
+use Rattle.service_lock.specs.Accounts.{AppendsOwn}
+pub use Rattle.service_lock.specs.Accounts.{is_done}
 use Rattle.client_ends.specs.declared.why.Why.{Why}
 
 -- a client: its id, the amount of its share of the events, and its own list

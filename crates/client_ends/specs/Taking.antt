@@ -4,7 +4,7 @@ use Rattle.sm_names.specs.declared.keys.NodeKey.{NodeKey}
 use Rattle.sm_names.specs.declared.messages.Call.{Call}
 use Rattle.sm_names.specs.declared.messages.Reply.{Reply}
 use Rattle.event_laws.specs.HandleSums.{indices_in}
-use Rattle.client_accounts.specs.declared.taken.TakenHandles.{TakenHandles}
+use Rattle.service_lock.specs.declared.taken.TakenHandles.{TakenHandles}
 use Rattle.client_ends.specs.Clients.{Grip, Made, Seen}
 
 -- the client's handle on the buffer with this index

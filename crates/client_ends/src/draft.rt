@@ -7,8 +7,7 @@ ghost use Rattle.client_ends.specs.Drafts.{DraftStopped, IsSynced, drafted_call,
 use crate::client::Client;
 use crate::ends::TokenEnd;
 use crate::syncing::{make_all, make_room};
-use client_accounts::memory_fault;
-use service_lock::{Service, Setup, State};
+use service_lock::{Service, Setup, State, memory_fault};
 use sm_names::{ClientId, NoMemory, Reply, StepFault};
 use std::alloc::Global;
 use std::collections::VecDeque;

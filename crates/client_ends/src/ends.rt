@@ -2,7 +2,7 @@
 ghost use Rattle.std.specs.Prelude.{◌≡◌, MatchResult, true};
 ghost use Rattle.sm_names.specs.declared.messages.Call.{Call as Asked};
 ghost use Rattle.sm_names.specs.declared.messages.Reply.{Reply as Told};
-ghost use Rattle.client_accounts.specs.Accounts.{is_done};
+ghost use Rattle.service_lock.specs.Accounts.{is_done};
 ghost use Rattle.client_ends.specs.Clients.{Made, MadeOr, release_spends, is_tracker_reply};
 
 use crate::client::Client;

@@ -2,7 +2,7 @@
 ghost use Rattle.std.specs.Prelude.{◌≡◌, MatchResult, Some};
 ghost use Rattle.sm_names.specs.declared.messages.Call.{Call as Asked};
 ghost use Rattle.sm_names.specs.declared.messages.Reply.{Reply as Told};
-ghost use Rattle.client_accounts.specs.Accounts.{handle_unit, is_done, lets_go};
+ghost use Rattle.service_lock.specs.Accounts.{handle_unit, is_done, lets_go};
 ghost use Rattle.client_ends.specs.Clients.{Made, MadeOr, is_tracker_reply};
 
 use crate::client::Client;
@@ -28,7 +28,7 @@ pub struct Handle<E: Setup, S: Ledger, W: Ledger> {
 
 impl<E: Setup, S: Ledger, W: Ledger> Model for Handle<E, S, W> {
     ghost use Rattle.std.specs.Prelude.{◌≡◌};
-    ghost use Rattle.client_accounts.specs.Accounts.{handle_unit};
+    ghost use Rattle.service_lock.specs.Accounts.{handle_unit};
     ghost use Rattle.client_ends.specs.Clients.{Grip};
 
     ghost Value = { Grip };

@@ -23,11 +23,11 @@ mod tokens;
 mod why;
 
 pub use client::{Client, join};
-pub use client_accounts::memory_fault;
 pub use draft::{Draft, DraftPart, Synced};
 pub use ended::{EndedService, end};
 pub use ends::{Bound, CollectionEnd, EndOf, TokenEnd, Unbound};
 pub use event_laws::Own;
 pub use handle::Handle;
 pub use held::{Held, ParcelContent};
+pub use service_lock::memory_fault;
 pub use why::{Kept, Why};

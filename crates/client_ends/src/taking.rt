@@ -6,13 +6,12 @@ ghost use Rattle.core_state.specs.Kinds.{fits_call};
 ghost use Rattle.event_laws.specs.HandleSums.{indices_in};
 ghost use Rattle.service_lock.specs.States.{with_parts};
 ghost use Rattle.service_lock.specs.Units.{HasOne, with_one};
-ghost use Rattle.client_accounts.specs.Accounts.{AppendsOwn, SameHandles, no_amounts};
-ghost use Rattle.client_accounts.specs.Takes.{handful, told_taken, units_by};
+ghost use Rattle.service_lock.specs.Accounts.{AppendsOwn, SameHandles, no_amounts};
+ghost use Rattle.service_lock.specs.Takes.{handful, told_taken, units_by};
 ghost use Rattle.client_ends.specs.Taking.{grip_at, grips_at, grips_by};
 
 use crate::handle::Handle;
-use client_accounts::{Account, TakenHandles, empty, memory_fault, taken_by};
-use service_lock::{Setup, State, parts};
+use service_lock::{Account, Setup, State, TakenHandles, empty, memory_fault, parts, taken_by};
 use sm_names::{BufferName, ClientId, MAX_BUFFERS, NodeKey, Reply, StepFault, has_buffer};
 use std::alloc::Global;
 use std::sync::ledger::Ledger;

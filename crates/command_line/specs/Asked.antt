@@ -134,6 +134,11 @@ abbrev pub HasSearch : Option (List ℕ) → Option (List ℕ) → Option (List 
 HasSearch once outcome states (ScriptTask.Explore search) = IsFlag once search.once × IsSearch outcome states search
 HasSearch once outcome states task = ⊤
 
+-- whether it must be known that no outcome is missing
+abbrev pub HasCertificate : Option (List ℕ) → ScriptTask → Type 0
+HasCertificate text (ScriptTask.Explore search) = IsFlag text search.certifies
+HasCertificate text task = ⊤
+
 -- how many clients vanish at most, if this number is asked for
 abbrev pub most_asked : Option ℕ → ℕ
 most_asked (Some most) = most

@@ -47,6 +47,8 @@ pub(crate) const OUTCOME: &str = "outcome";
 
 pub(crate) const STATES: &str = "states";
 
+pub(crate) const CERTIFY: &str = "certify";
+
 pub(crate) const VANISH: &str = "vanish";
 
 pub(crate) const MOST: &str = "most";
@@ -188,6 +190,14 @@ fn states_word<'a>(alloc: Global) -> Arg<'a> {
         .default_value("1000000")
 }
 
+// The option `--certify`.
+fn certify_word<'a>(alloc: Global) -> Arg<'a> {
+    Arg::new(alloc, CERTIFY)
+        .long(CERTIFY)
+        .action(ArgAction::SetTrue)
+        .help("Plays every state again, and says `certified` if surely no outcome is missing")
+}
+
 // The option `--vanish CLIENTS`.
 fn vanish_word<'a>(alloc: Global) -> Arg<'a> {
     option(
@@ -262,6 +272,7 @@ enum Word {
     Most,
     Outcome,
     States,
+    Certify,
 }
 
 // A command: its name, what its help says, and what it takes.
@@ -337,6 +348,7 @@ const COMMANDS: &[CommandRow] = &[
             Word::Most,
             Word::Outcome,
             Word::States,
+            Word::Certify,
         ],
     },
 ];
@@ -361,6 +373,7 @@ fn argument<'a>(alloc: Global, word: Word) -> Result<Arg<'a>, AllocError> {
         Word::Most => Ok(most_word(alloc)),
         Word::Outcome => Ok(outcome_word(alloc)),
         Word::States => Ok(states_word(alloc)),
+        Word::Certify => Ok(certify_word(alloc)),
     }
 }
 

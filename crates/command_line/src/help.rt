@@ -294,6 +294,10 @@ who vanishes. A line of the script says the same, unless --vanish is given:
 With --end each client vanishes once its steps are done. While it runs, a line on
 standard error counts the states, if that is a terminal.
 
+With --certify every state is played again, and each turn from it. If no turn
+leads to what was not met, `certified` stands behind the number of outcomes: then
+for sure none is missing.
+
 A script may have claims, which other commands skip, such as
 
     #! never s fails lost by r
@@ -310,5 +314,5 @@ opened, or read or write fault; 2 the command line was refused, there is no
 such outcome, or a client that is to vanish does not join; 3 a bad line, as for
 `sysmem threads`, or a bad claim; 4 no memory, or history full; 5 a mistake of
 the program; 6 a claim does not hold; 7 not all orders were gone through, since
-there are more states than --states.
+there are more states than --states, or --certify could not certify.
 A fault is one line on standard error; a bad line has its reason.";

@@ -1,11 +1,11 @@
 //! What a command does with a script.
 ghost use Rattle.std.specs.Prelude.{◌≡◌, codes, option_map};
 ghost use Rattle.clap.specs.Matches.{first_value, found_of, one_text, subcommand_name_of};
-ghost use Rattle.command_line.specs.Asked.{HasFailures, HasFormat, HasPatience, HasRecord, HasSearch, HasSummary, HasUntil, HasVanishing, IsFlag, IsFormat, IsSearch, IsTask, IsUntil, IsVanishing, most_asked, states_asked, subcommand_text, until_asked, value_text};
+ghost use Rattle.command_line.specs.Asked.{HasCertificate, HasFailures, HasFormat, HasPatience, HasRecord, HasSearch, HasSummary, HasUntil, HasVanishing, IsFlag, IsFormat, IsSearch, IsTask, IsUntil, IsVanishing, most_asked, states_asked, subcommand_text, until_asked, value_text};
 
 use crate::commands::{
-    AT, CHECK, DOT, DRAW, END, EXPLAIN, EXPLORE, FAILURE, FAILURES, FORMAT, LINE, MOST, ONCE,
-    OUTCOME, PATIENT, RECORD, STATES, SUMMARY, SVG, THREADS, VANISH,
+    AT, CERTIFY, CHECK, DOT, DRAW, END, EXPLAIN, EXPLORE, FAILURE, FAILURES, FORMAT, LINE, MOST,
+    ONCE, OUTCOME, PATIENT, RECORD, STATES, SUMMARY, SVG, THREADS, VANISH,
 };
 use clap::ArgMatches;
 
@@ -57,6 +57,8 @@ pub struct Search<'a> {
     pub outcome: Option<u64>,
     /// How many states are met at most.
     pub states: u64,
+    /// Every state is played again, so that it is known whether an outcome is missing.
+    pub certifies: bool,
 }
 
 /// What a command does with a script.
@@ -97,6 +99,7 @@ pub fn task_of<'a>(matches: &ArgMatches<'a>) -> ScriptTask<'a>
     ensures patience { HasPatience (value_text (codes "patient") matches.now) result }
     ensures search { HasSearch (value_text (codes "once") matches.now)
         (value_text (codes "outcome") matches.now) (value_text (codes "states") matches.now) result }
+    ensures certified { HasCertificate (value_text (codes "certify") matches.now) result }
     ensures vanishing { HasVanishing (subcommand_text (codes "vanish") matches.now)
         (value_text (codes "most") matches.now) (value_text (codes "end") matches.now) result }
 {
@@ -151,6 +154,8 @@ fn search_of<'a>(matches: &ArgMatches<'a>) -> Search<'a>
         result.is_patient }
     ensures search { IsSearch (one_text (found_of matches.now) (codes "outcome"))
         (one_text (found_of matches.now) (codes "states")) result }
+    ensures certified { IsFlag (one_text (found_of matches.now) (codes "certify"))
+        result.certifies }
     ensures end { IsFlag (one_text (found_of matches.now) (codes "end")) result.at_end }
     ensures vanishing { IsVanishing (first_value (found_of matches.now) (codes "vanish"))
         (one_text (found_of matches.now) (codes "most")) result }
@@ -166,6 +171,7 @@ fn search_of<'a>(matches: &ArgMatches<'a>) -> Search<'a>
         most: most_of(most),
         outcome,
         states: states_of(states),
+        certifies: matches.get_flag(CERTIFY),
     }
 }
 

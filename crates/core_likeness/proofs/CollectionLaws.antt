@@ -13,7 +13,7 @@ use Rattle.forest_store.specs.Forest.{Collection, collection_at}
 use Rattle.core_state.specs.Shown.{Shows, collection_after}
 use Rattle.core_state.specs.State.{State}
 use Rattle.core_state.proofs.views.Nodes.{collection_is}
-use Rattle.entry_readings.specs.Told.{roots}
+use Rattle.core_likeness.specs.Told.{roots}
 use Rattle.alike_cores.specs.Renamed.{collection_renamed, held_renamed, node_renamed}
 use Rattle.alike_cores.specs.Cores.{node_undated, undated}
 use Rattle.alike_cores.specs.Mixed.{Mixed}

@@ -15,8 +15,8 @@ use Rattle.buffer_holds.specs.Counts.{Counts, of, total}
 use Rattle.core_state.specs.Shown.{Shows}
 use Rattle.core_state.specs.State.{State}
 use Rattle.core_state.proofs.views.Shown.{open_shown, total_shown}
-use Rattle.entry_readings.specs.Told.{is_opened, opening_by}
-use Rattle.entry_readings.proofs.OpeningLaws.{none_in_all, none_open, touches}
+use Rattle.core_likeness.specs.Told.{is_opened, opening_by}
+use Rattle.core_likeness.proofs.OpeningLaws.{none_in_all, none_open, touches}
 use Rattle.alike_cores.specs.Alike.{KeepsIds}
 use Rattle.alike_cores.specs.Renamed.{buffer_renamed}
 use Rattle.core_likeness.specs.Parts.{AreCounted, IsCounted, SameCounts}

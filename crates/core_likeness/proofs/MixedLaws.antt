@@ -1,6 +1,6 @@
 -- Lists from which one element after another is taken.
-use Rattle.std.proofs.Common.{ℕ, zero, suc, ◌≡◌, ◌+◌, ◌<◌, sym, ◌∙◌, subst}
-use Rattle.std.proofs.Common.{List, [], ◌∷◌, ◌++◌, length, map, drop, get_or, Option, Some, None, arith}
+use Rattle.std.proofs.Common.{ℕ, zero, suc, ◌≡◌, ◌+◌, ◌<◌, sym, subst}
+use Rattle.std.proofs.Common.{List, [], ◌∷◌, length, map, drop, get_or, Option, Some, None, arith}
 use Rattle.std.proofs.lemmas.List.{drop_more}
 use Rattle.std.specs.List.{cons_option, filter_map, remove}
 use Rattle.alike_cores.specs.Mixed.{Keeps, Mixed, Mixes, Nothing, Swaps}

@@ -7,7 +7,7 @@ use Rattle.forest_store.specs.declared.node.Node.{Node}
 use Rattle.sm_names.specs.Elements.{In}
 use Rattle.sm_names.specs.Marks.{Entry}
 use Rattle.alike_cores.specs.Renamed.{buffer_renamed}
-use Rattle.entry_readings.specs.Told.{is_opened, opening_by}
+use Rattle.core_likeness.specs.Told.{is_opened, opening_by}
 
 -- the marks of the nodes are the same
 pub record SameFlags (one other : Node) : Type 0 where

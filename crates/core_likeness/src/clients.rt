@@ -7,8 +7,8 @@ ghost use Rattle.alike_cores.specs.Alike.{client_renamed, parcel_renamed};
 ghost use Rattle.core_likeness.specs.Naming.{new_id, new_key};
 
 use crate::names::Names;
+use crate::readings::clients::{waiting_for, was_shut};
 use crate::sameness::{is_new_key, is_strength};
-use entry_readings::clients::{waiting_for, was_shut};
 use lifetime_core::Core;
 use sm_names::{BufferName, Call, ClientId, NoMemory, Parcel, Reply, Strength};
 use std::alloc::Global;

@@ -1,7 +1,7 @@
 //! Whether collections are others under new names.
 ghost use Rattle.std.specs.Prelude.{◌≡◌, ℕ, true, map, option_map, IfOk, Ok};
 ghost use Rattle.sm_names.specs.Timelines.{timeline};
-ghost use Rattle.entry_readings.specs.Told.{roots};
+ghost use Rattle.core_likeness.specs.Told.{roots};
 ghost use Rattle.forest_store.specs.Forest.{collection_at};
 ghost use Rattle.forest_store.specs.Snapshots.{collection_of};
 ghost use Rattle.core_state.specs.Shown.{Shows};
@@ -13,8 +13,8 @@ ghost use Rattle.core_likeness.specs.Naming.{new_id, new_key};
 use crate::matching::are_mixed;
 use crate::names::Names;
 use crate::nodes::are_new_nodes;
+use crate::readings::roots::roots_in;
 use crate::sameness::is_given;
-use entry_readings::roots::roots_in;
 use forest_store::Snapshot;
 use lifetime_core::Core;
 use sm_names::{Call, ClientId, CollectionId, HeldBuffer, NoMemory, Reply};

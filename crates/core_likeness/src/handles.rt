@@ -5,15 +5,24 @@ ghost use Rattle.sm_names.specs.declared.keys.BufferName.{BufferName as Buffer};
 ghost use Rattle.sm_names.specs.declared.keys.Strength.{Strength as Hold};
 ghost use Rattle.buffer_holds.specs.Counts.{of, total};
 ghost use Rattle.core_state.specs.Shown.{Shows};
-ghost use Rattle.entry_readings.specs.Told.{is_opened};
+ghost use Rattle.core_likeness.specs.Told.{is_opened};
 ghost use Rattle.alike_cores.specs.Renamed.{CountsAlike, buffer_renamed};
 ghost use Rattle.core_likeness.specs.Naming.{new_id};
 ghost use Rattle.core_likeness.specs.Parts.{AreCounted, IsCounted, IsPaired, SameCounts};
 
 use crate::names::Names;
-use entry_readings::openings::{Opening, opening_of};
+use crate::readings::openings::{Opening, opening_of};
 use lifetime_core::Core;
 use sm_names::{BufferName, Call, ClientId, CollectionId, Reply, Strength, has_buffer};
+
+// Two cores, new names, and whether the buffers that are asked for have their old ones.
+#[derive(Clone, Copy)]
+struct Sides<'a> {
+    one: &'a Core,
+    other: &'a Core,
+    names: &'a Names,
+    is_old: bool,
+}
 
 // Whether the client has in the other core as many handles of this strength on the second buffer as in the one on the
 // first, and whether all have.
@@ -69,43 +78,30 @@ fn is_paired(names: &Names, is_old: bool, old: BufferName, buffer: BufferName) -
 }
 
 // Whether the counts of the buffer are the same, which has the old name or the new.
-fn is_counted(
-    one: &Core,
-    other: &Core,
-    names: &Names,
-    is_old: bool,
-    client: ClientId,
-    buffer: BufferName,
-) -> bool
+fn is_counted(sides: &Sides<'_>, client: ClientId, buffer: BufferName) -> bool
     ensures { result ≡ true → (strength : Hold) →
-        IsCounted one.now.holds other.now.holds (new_id names.now) is_old client buffer strength }
+        IsCounted sides.now.one.now.holds sides.now.other.now.holds (new_id sides.now.names.now)
+        sides.now.is_old client buffer strength }
 {
-    let old = old_name(names, is_old, buffer);
-    if !is_paired(names, is_old, old, buffer) {
+    let old = old_name(sides.names, sides.is_old, buffer);
+    if !is_paired(sides.names, sides.is_old, old, buffer) {
         return false;
     }
-    let new = names.buffer(old);
-    has_same_counts(one, other, client, old, new)
+    let new = sides.names.buffer(old);
+    has_same_counts(sides.one, sides.other, client, old, new)
 }
 
 // Whether those of each buffer of the set are.
-fn is_set_counted(
-    one: &Core,
-    other: &Core,
-    names: &Names,
-    is_old: bool,
-    client: ClientId,
-    collection: CollectionId,
-    set: u64,
-) -> bool
+fn is_set_counted(sides: &Sides<'_>, client: ClientId, collection: CollectionId, set: u64) -> bool
     ensures { result ≡ true → (buffer : Buffer) (strength : Hold) →
         (collection == buffer.collection && bit_at set buffer.index == 1) ≡ true →
-        IsCounted one.now.holds other.now.holds (new_id names.now) is_old client buffer strength }
+        IsCounted sides.now.one.now.holds sides.now.other.now.holds (new_id sides.now.names.now)
+        sides.now.is_old client buffer strength }
 {
     'counting: for index in 0..64u8 {
         if has_buffer(set, index) {
             let buffer = BufferName { collection, index };
-            if !is_counted(one, other, names, is_old, client, buffer) {
+            if !is_counted(sides, client, buffer) {
                 return false;
             }
         }
@@ -114,42 +110,28 @@ fn is_set_counted(
 }
 
 // Whether those of each of these buffers are.
-fn is_opening_counted(
-    one: &Core,
-    other: &Core,
-    names: &Names,
-    is_old: bool,
-    client: ClientId,
-    opening: Opening,
-) -> bool
+fn is_opening_counted(sides: &Sides<'_>, client: ClientId, opening: Opening) -> bool
     ensures { result ≡ true → (buffer : Buffer) (strength : Hold) →
         is_opened opening buffer ≡ true →
-        IsCounted one.now.holds other.now.holds (new_id names.now) is_old client buffer strength }
+        IsCounted sides.now.one.now.holds sides.now.other.now.holds (new_id sides.now.names.now)
+        sides.now.is_old client buffer strength }
 {
     match opening {
         Opening::Nothing => true,
-        Opening::Set(collection, set) => {
-            is_set_counted(one, other, names, is_old, client, collection, set)
-        }
-        Opening::Buffer(buffer) => is_counted(one, other, names, is_old, client, buffer),
+        Opening::Set(collection, set) => is_set_counted(sides, client, collection, set),
+        Opening::Buffer(buffer) => is_counted(sides, client, buffer),
     }
 }
 
 // Whether those of each buffer are on which one of these entries brought handles. The entries have the old names or the
 // new.
-fn are_counted(
-    one: &Core,
-    other: &Core,
-    names: &Names,
-    is_old: bool,
-    entries: &[(ClientId, Call, Reply)],
-) -> bool
-    ensures { result ≡ true →
-        AreCounted one.now.holds other.now.holds (new_id names.now) is_old entries.now }
+fn are_counted(sides: &Sides<'_>, entries: &[(ClientId, Call, Reply)]) -> bool
+    ensures { result ≡ true → AreCounted sides.now.one.now.holds sides.now.other.now.holds
+        (new_id sides.now.names.now) sides.now.is_old entries.now }
 {
     for entry in entries {
         let opening = opening_of(entry.1, entry.2);
-        if !is_opening_counted(one, other, names, is_old, entry.0, opening) {
+        if !is_opening_counted(sides, entry.0, opening) {
             return false;
         }
     }
@@ -172,8 +154,20 @@ pub(crate) fn handles_are_alike(
     ensures total { result ≡ true →
         CountsAlike (new_id names.now) (total one.now.holds) (total other.now.holds) }
 {
-    if !are_counted(one, other, names, true, first) {
+    let olds = Sides {
+        one,
+        other,
+        names,
+        is_old: true,
+    };
+    let news = Sides {
+        one,
+        other,
+        names,
+        is_old: false,
+    };
+    if !are_counted(&olds, first) {
         return false;
     }
-    are_counted(one, other, names, false, second)
+    are_counted(&news, second)
 }

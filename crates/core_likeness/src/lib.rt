@@ -1,5 +1,5 @@
 //! Whether a core is another one under other names. The names are swaps one after another, so that no two names become
-//! one whatever the swaps are.
+//! one whatever the swaps are. What no view of a core tells is read from the entries of its history.
 #![tactic(auto)]
 
 mod clients;
@@ -10,6 +10,7 @@ pub mod laws;
 mod matching;
 mod names;
 mod nodes;
+mod readings;
 mod sameness;
 mod tracking;
 

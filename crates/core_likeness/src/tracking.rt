@@ -3,16 +3,16 @@ ghost use Rattle.std.specs.Prelude.{◌≡◌, ◌<◌, true, length, map, slice
 ghost use Rattle.sm_names.specs.declared.tracking.Fired.{Fired as Firing};
 ghost use Rattle.trackers.specs.declared.waiting.Waiting.{Waiting};
 ghost use Rattle.core_state.specs.Shown.{Shows, tracked_as};
-ghost use Rattle.entry_readings.specs.Told.{tracked_of};
-ghost use Rattle.entry_readings.specs.declared.tracking.Attached.{Attached as Tracker};
+ghost use Rattle.core_likeness.specs.Told.{tracked_of};
+ghost use Rattle.core_likeness.specs.declared.readings.tracking.Attached.{Attached as Tracker};
 ghost use Rattle.alike_cores.specs.Cores.{condition_renamed, tracker_renamed};
 ghost use Rattle.alike_cores.specs.Mixed.{Mixed};
 ghost use Rattle.core_likeness.specs.Naming.{new_id, new_key, new_number};
 
 use crate::matching::are_mixed;
 use crate::names::Names;
+use crate::readings::tracking::{Attached, waiting_in};
 use crate::sameness::is_new_key;
-use entry_readings::tracking::{Attached, waiting_in};
 use lifetime_core::Core;
 use sm_names::{Call, ClientId, Condition, Fired, NoMemory, Reply, TrackerId};
 use std::alloc::Global;

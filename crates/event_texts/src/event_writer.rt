@@ -147,6 +147,7 @@ impl EventWriter {
             Recalls self.old lines → facts.old.items ≡ [] → TellsFacts names
             (with_event (number, line.now) event.now lines)
             self.old.session.core event.now facts.new.items) }
+        ensures err { IfErr result (λ stop. stop ≡ LineStop.NoMemory) }
     {
         self.note_event(alloc, number, line, event)?;
         self.push_facts(event, facts)
@@ -217,7 +218,8 @@ impl EventWriter {
     /// Makes the call of a line, and puts its reply in the place of what was there; what its label stands
     /// for is what the call made.
     ///
-    /// `HistoryFull` and `NoMemory` as `take_event` has them, and never `BadLine`. Costs what that costs.
+    /// `HistoryFull` exactly if as many events were made as may be; `NoMemory` as `take_event` has it, and never `BadLine`.
+    /// Costs what that costs.
     pub fn take(
         &mut self,
         alloc: Global,
@@ -242,8 +244,13 @@ impl EventWriter {
         ensures err { IfErr result (λ stop. (stop ≢ LineStop.BadLine)
             × (stop ≡ LineStop.HistoryFull →
             self.old.session.core.limits.events ≤ self.old.session.core.events)) }
+        ensures full { self.old.session.core.limits.events ≤ self.old.session.core.events →
+            result ≡ Err LineStop.HistoryFull }
     {
         reply.clear();
+        if self.session.core.remaining() == 0 {
+            return Err(LineStop::HistoryFull);
+        }
         let event = taken(take_event(alloc, &mut self.session.core, client, call))?;
         let events = self.session.core.events();
         self.failures = failures_with(self.failures, events, &event.moments);

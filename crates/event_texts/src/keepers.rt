@@ -1,5 +1,5 @@
 //! The text of the holders that keep the pages of a buffer.
-ghost use Rattle.std.specs.Prelude.{◌≡◌, ◌++◌, IfOk, OnOk};
+ghost use Rattle.std.specs.Prelude.{◌≡◌, ◌++◌, IfOk, OnOk, IfErr};
 ghost use Rattle.std.specs.List.{flat_map};
 ghost use Rattle.event_facts.specs.Facts.{holders_in};
 ghost use Rattle.script_labels.specs.Names.{Names};
@@ -69,9 +69,10 @@ pub(crate) fn push_kept(
     held: &[HeldBuffer],
     with_nodes: bool,
 ) -> Result<(), LineStop>
-    ensures { OnOk result ((names : Names) → Keeps tables.now names → Calls labels.now names →
+    ensures text { OnOk result ((names : Names) → Keeps tables.now names → Calls labels.now names →
         text.new.items
         ≡ text.old.items ++ kept_text names (who_keeps_with names with_nodes core.now) held.now) }
+    ensures err { IfErr result (λ stop. stop ≡ LineStop.NoMemory) }
 {
     let clients = core.clients()?;
     let register = Register {

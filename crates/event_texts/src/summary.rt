@@ -1,5 +1,5 @@
 //! The text of what all events left: in which nodes failed, who keeps pages, and which trackers wait.
-ghost use Rattle.std.specs.Prelude.{◌≡◌, ◌==◌, if◌then◌else◌, [], ◌∷◌, ◌++◌, IfOk, OnOk, true};
+ghost use Rattle.std.specs.Prelude.{◌≡◌, ◌==◌, if◌then◌else◌, [], ◌∷◌, ◌++◌, IfOk, OnOk, true, IfErr};
 ghost use Rattle.std.specs.List.{flat_map, list_any};
 ghost use Rattle.sm_names.specs.declared.tracking.Fired.{Fired as Firing};
 ghost use Rattle.core_state.specs.Reads.{views_of};
@@ -26,9 +26,10 @@ impl EventWriter {
     /// `NoMemory` where memory is refused. Costs O(e + b (n + c) + t f) for e events, b buffers with pages,
     /// the n nodes of a collection, c clients, and t trackers, of which f fired.
     pub fn push_summary(&self, failing: &[u64], text: &mut Vec<u8>) -> Result<(), LineStop>
-        ensures { OnOk result ((names : Names) → Keeps self.now.session.tables names →
+        ensures text { OnOk result ((names : Names) → Keeps self.now.session.tables names →
             Calls self.now.labels names → text.new.items ≡ text.old.items
             ++ summary_text names self.now.session.core failing.now) }
+        ensures err { IfErr result (λ stop. stop ≡ LineStop.NoMemory) }
     {
         let core = &self.session.core;
         push_events(text, core.events())?;
@@ -40,10 +41,11 @@ impl EventWriter {
 
     // Appends all buffers that have pages, and who keeps them.
     fn push_all_kept(&self, text: &mut Vec<u8>) -> Result<(), LineStop>
-        ensures { OnOk result ((names : Names) → Keeps self.now.session.tables names →
+        ensures text { OnOk result ((names : Names) → Keeps self.now.session.tables names →
             Calls self.now.labels names → text.new.items ≡ text.old.items
             ++ kept_text names (who_keeps_with names true self.now.session.core)
             (views_of self.now.session.core).held) }
+        ensures err { IfErr result (λ stop. stop ≡ LineStop.NoMemory) }
     {
         let session = &self.session;
         let held = session.core.held()?;

@@ -1,5 +1,5 @@
 -- What is told of a search through the orders of a script.
-use Rattle.std.specs.Prelude.{ℕ, ◌≡◌, ◌-◌, ◌==◌, if◌then◌else◌, Bool, true, false, List, [], ◌++◌, vec_len, map, slice_get, Option, Some, None, option_map, Ok, Err, Result, MatchOption, All, ◌⊎◌, ◌≤◌, ⊤}
+use Rattle.std.specs.Prelude.{ℕ, ◌≡◌, ◌-◌, ◌==◌, if◌then◌else◌, Bool, true, false, not, ◌&&◌, ◌||◌, List, [], ◌++◌, vec_len, map, slice_get, Option, Some, None, option_map, Ok, Err, Result, MatchOption, All, ◌⊎◌, ◌≤◌, ⊤}
 use Rattle.actor_scripts.specs.declared.actor_list.ActorList.{ActorList}
 use Rattle.actor_scripts.specs.declared.step.ActorScript.{ActorScript}
 use Rattle.actor_scripts.specs.ActorLists.{actors_of, script_actors}
@@ -10,7 +10,8 @@ use Rattle.play_search.specs.declared.exploring.Found.{Found}
 use Rattle.play_search.specs.declared.fault.ExploreFault.{ExploreFault}
 use Rattle.play_search.specs.declared.replay.Setting.{Setting}
 use Rattle.play_search.specs.declared.vanishing.Vanishing.{Vanishing}
-use Rattle.play_search.specs.Searches.{IsFound}
+use Rattle.play_search.specs.Ends.{NoneIsMissing}
+use Rattle.play_search.specs.Searches.{IsFound, setup_of}
 use Rattle.script_lines.specs.declared.label.Label.{Label}
 use Rattle.sm_names.specs.declared.rules.TheConstants.{MAX_COLLECTIONS, MAX_EVENTS, MAX_HANDLES, MAX_NODES, MAX_TRACKERS}
 use Rattle.report_io.specs.declared.fault.ReportFault.{ReportFault}
@@ -33,10 +34,13 @@ setting_of job seed = record {
   seed = seed;
 }
 
--- each outcome that was found has a play of the actors of these plans that comes to it, and no more states were met than are asked for
+-- each outcome that was found has a play of the actors of these plans that comes to it, no more states were met than are asked for,
+-- and if the search certifies, no outcome is missing
 pub record IsSearch (plans : List Plan) (vanishing : Vanishing) (job : SearchJob) (seed : List ℕ) (found : Exploration) : Type 0 where
   pub real : All (IsFound plans vanishing (setting_of job seed)) found.outcomes.items
   pub states : found.states ≤ job.states
+  pub none_missing : found.certified ≡ true →
+      NoneIsMissing vanishing.at_end (setup_of plans vanishing (setting_of job seed)) found.outcomes.items
 
 -- the clients that are asked to vanish, as they are written
 abbrev pub list_asked : SearchJob → Option (List ℕ)
@@ -62,23 +66,32 @@ abbrev pub judged_ending : Bool → Bool → Ending
 judged_ending true complete = Ending.Broken
 judged_ending false complete = whole_ending complete
 
+-- all orders were gone through, and if it is asked for, no outcome is missing for sure
+abbrev pub is_whole : SearchJob → Exploration → Bool
+is_whole job found = found.complete && (found.certified || not job.certifies)
+
 -- the text is the report, with what is said of the claims
-pub record IsJudged (telling : Telling) (found : Exploration) (claims : List ClaimLine) (text : List ℕ) (ending : Ending) : Type 0 where
+pub record IsJudged (job : SearchJob) (telling : Telling) (found : Exploration) (claims : List ClaimLine) (text : List ℕ)
+    (ending : Ending) : Type 0 where
   pub report : List ℕ
   pub is_report : IsReport telling found report
   pub whole : text ≡ report ++ claims_text telling found claims
-  pub ending_is : ending ≡ judged_ending (has_broken telling found claims) found.complete
+  pub ending_is : ending ≡ judged_ending (has_broken telling found claims) (is_whole job found)
 
 -- the text is the play of the outcome of this number; if there is none, nothing is told
-abbrev pub IsPlayed : Telling → Exploration → ℕ → List ℕ → Ending → Type 0
-IsPlayed telling found number text ending = MatchOption (outcome_at found.outcomes.items number)
+abbrev pub IsPlayed : SearchJob → Telling → Exploration → ℕ → List ℕ → Ending → Type 0
+IsPlayed job telling found number text ending = MatchOption (outcome_at found.outcomes.items number)
     ((text ≡ []) × (ending ≡ Ending.Missing))
-    (λ one. IsPlayText telling one number (vec_len found.outcomes) text × (ending ≡ whole_ending found.complete))
+    (λ one. IsPlayText telling one number (vec_len found.outcomes) text × (ending ≡ whole_ending (is_whole job found)))
+
+-- the text is the report, or the play of the outcome of this number
+abbrev pub IsTextOf : SearchJob → Telling → Exploration → List ClaimLine → Option ℕ → List ℕ → Ending → Type 0
+IsTextOf job telling found claims None text ending = IsJudged job telling found claims text ending
+IsTextOf job telling found claims (Some number) text ending = IsPlayed job telling found number text ending
 
 -- the text is the report, or the play of the outcome that is asked for
-abbrev pub IsText : Telling → Exploration → List ClaimLine → Option ℕ → List ℕ → Ending → Type 0
-IsText telling found claims None text ending = IsJudged telling found claims text ending
-IsText telling found claims (Some number) text ending = IsPlayed telling found number text ending
+abbrev pub IsText : SearchJob → Telling → Exploration → List ClaimLine → List ℕ → Ending → Type 0
+IsText job telling found claims text ending = IsTextOf job telling found claims job.outcome text ending
 
 -- it is told by the lines of the script that are steps of the clients of this list, and by these plans
 pub record IsTelling (script : List ℕ) (list : ActorList) (plans : List Plan) (telling : Telling) : Type 0 where
@@ -91,7 +104,7 @@ pub record HasFound (job : SearchJob) (seed : List ℕ) (telling : Telling) (cla
     (ending : Ending) : Type 0 where
   pub found : Exploration
   pub search : IsSearch telling.plans.now telling.vanishing job seed found
-  pub is_text : IsText telling found claims job.outcome text ending
+  pub is_text : IsText job telling found claims text ending
 
 -- nothing is told, since a play that was made again went on otherwise than before
 pub record IsUnlike (text : List ℕ) (ending : Ending) : Type 0 where

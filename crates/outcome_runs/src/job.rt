@@ -20,6 +20,8 @@ pub struct SearchJob<'a> {
     pub outcome: Option<u64>,
     /// How many states are met at most.
     pub states: u64,
+    /// Every state is played again, so that it is known whether an outcome is missing.
+    pub certifies: bool,
 }
 
 /// Where the memory of a search comes from, and who is told how far it is.
@@ -32,9 +34,9 @@ pub struct SearchHost<'a, P> {
 /// How a search ended.
 #[derive(Clone, Copy)]
 pub enum Ending {
-    /// All orders were gone through.
+    /// All orders were gone through, and if it was asked for, no outcome is missing for sure.
     Whole,
-    /// There are more states than may be met.
+    /// There are more states than may be met, or it is not known for sure whether an outcome is missing.
     Part,
     /// A claim does not hold.
     Broken,

@@ -8,7 +8,7 @@ ghost use Rattle.actor_plays.specs.Plans.{planned, steps_of};
 ghost use Rattle.outcome_texts.specs.ClaimLines.{claims_in, is_good_list, judged, texts_in};
 ghost use Rattle.outcome_texts.specs.Lines.{step_lines_of, steps_in};
 ghost use Rattle.outcome_runs.specs.declared.job.Ending.{Ending as EndingTold};
-ghost use Rattle.outcome_runs.specs.Searches.{HasSearched, IsFoundBy, IsFoundWith, IsJudged, IsPlayed, IsSearch, IsText, IsTold, IsToldBy, IsToldWith, IsUnfound, IsUnheld, IsUnheldBy, IsUnjudged, IsUnlike, IsUnlisted, IsUnsearched, IsUntold, judged_ending, list_asked, outcome_at, stop_told, whole_ending};
+ghost use Rattle.outcome_runs.specs.Searches.{HasSearched, IsFoundBy, IsFoundWith, IsJudged, IsPlayed, IsSearch, IsText, IsTold, IsToldBy, IsToldWith, IsUnfound, IsUnheld, IsUnheldBy, IsUnjudged, IsUnlike, IsUnlisted, IsUnsearched, IsUntold, judged_ending, list_asked, outcome_at, is_whole as whole_search, stop_told, whole_ending};
 
 use crate::job::{Ending, SearchHost, SearchJob};
 use crate::reasons::reason_of;
@@ -19,7 +19,7 @@ use outcome_texts::{
     is_list_of, judged_claims, names_of, push_claims, push_play, push_report, step_lines, who_of,
 };
 use play_search::{
-    Exploration, ExploreFault, Found, Progress, Setting, Vanishing, explore, plans_of,
+    Effort, Exploration, ExploreFault, Found, Progress, Setting, Vanishing, explore, plans_of,
 };
 use report_io::{ReportFault, bad_line};
 use script_lines::{Label, LabelHash};
@@ -84,7 +84,10 @@ fn searched<P: Progress>(
         setting,
         plans,
         vanishing,
-        job.states as usize,
+        Effort {
+            most: job.states as usize,
+            certifies: job.certifies,
+        },
         progress,
     ) {
         Ok(found) => Ok(Some(found)),
@@ -101,6 +104,13 @@ fn ending_of(complete: bool) -> Ending
     } else {
         Ending::Part
     }
+}
+
+// Whether all orders were gone through, and if it is asked for, no outcome is missing for sure.
+fn is_whole(job: SearchJob<'_>, found: &Exploration) -> bool
+    ensures { result ≡ whole_search job.entry found.now }
+{
+    found.complete && (found.certified || !job.certifies)
 }
 
 // The outcome of this number, from 1.
@@ -137,12 +147,13 @@ fn judged_end(broken: bool, complete: bool) -> Ending
 // The report, with what is said of the claims, and how the search ended.
 fn report_of(
     alloc: Global,
+    job: SearchJob<'_>,
     telling: &Telling<'_>,
     found: &Exploration,
     claims: &[ClaimLine<'_>],
 ) -> Result<SearchReport, AllocError>
-    ensures { IfOk result (λ told. IsJudged telling.now found.now claims.now told.text.items
-        told.ending) }
+    ensures { IfOk result (λ told. IsJudged job.entry telling.now found.now claims.now
+        told.text.items told.ending) }
 {
     let mut text = Vec::new(alloc);
     push_report(alloc, &mut text, telling, found)?;
@@ -150,18 +161,19 @@ fn report_of(
     let broken = has_broken(telling, found, claims);
     Ok(SearchReport {
         text,
-        ending: judged_end(broken, found.complete),
+        ending: judged_end(broken, is_whole(job, found)),
     })
 }
 
 // The play of the outcome of this number, and how the search ended.
 fn play_of(
     alloc: Global,
+    job: SearchJob<'_>,
     telling: &Telling<'_>,
     found: &Exploration,
     number: u64,
 ) -> Result<SearchReport, AllocError>
-    ensures { IfOk result (λ told. IsPlayed telling.now found.now number told.text.items
+    ensures { IfOk result (λ told. IsPlayed job.entry telling.now found.now number told.text.items
         told.ending) }
 {
     let mut text = Vec::new(alloc);
@@ -174,24 +186,24 @@ fn play_of(
     push_play(alloc, &mut text, telling, one, number, found.outcomes.len())?;
     Ok(SearchReport {
         text,
-        ending: ending_of(found.complete),
+        ending: ending_of(is_whole(job, found)),
     })
 }
 
 // What is written of what was found, and how the search ended.
 fn told_of(
     alloc: Global,
+    job: SearchJob<'_>,
     telling: &Telling<'_>,
     found: &Exploration,
     claims: &[ClaimLine<'_>],
-    outcome: Option<u64>,
 ) -> Result<SearchReport, AllocError>
-    ensures { IfOk result (λ told. IsText telling.now found.now claims.now outcome
+    ensures { IfOk result (λ told. IsText job.entry telling.now found.now claims.now
         told.text.items told.ending) }
 {
-    match outcome {
-        None => report_of(alloc, telling, found, claims),
-        Some(number) => play_of(alloc, telling, found, number),
+    match job.outcome {
+        None => report_of(alloc, job, telling, found, claims),
+        Some(number) => play_of(alloc, job, telling, found, number),
     }
 }
 
@@ -228,7 +240,7 @@ fn told_found<P: Progress>(
 {
     let alloc = host.alloc;
     match searched(host, seed, job, telling.plans, telling.vanishing) {
-        Ok(Some(found)) => match told_of(alloc, telling, &found, claims, job.outcome) {
+        Ok(Some(found)) => match told_of(alloc, job, telling, &found, claims) {
             Ok(told) => Ok(told),
             Err(_) => Err(ReportFault::NoMemory),
         },

@@ -13,12 +13,17 @@ orders_text complete orders = if complete then orders else []
 abbrev pub extent_text : Bool → List ℕ
 extent_text complete = if complete then codes ", " else codes "not all explored: "
 
+-- what stands behind the number of outcomes, if none is missing for sure
+abbrev pub certificate_text : Bool → List ℕ
+certificate_text certified = if certified then codes ", certified" else []
+
 -- how many clients, steps, orders, states and outcomes there are, with words on who vanishes
 abbrev pub counts_with : ℕ → ℕ → List ℕ → Exploration → List ℕ → List ℕ
 counts_with clients steps how found orders = pieces (counted clients (codes "client") ∷ codes ", "
     ∷ counted steps (codes "step") ∷ codes "; " ∷ how ∷ codes "\n"
     ∷ orders_text found.complete orders ∷ extent_text found.complete ∷ counted found.states (codes "state")
-    ∷ codes ", " ∷ counted (vec_len found.outcomes) (codes "outcome") ∷ codes "\n\n" ∷ [])
+    ∷ codes ", " ∷ counted (vec_len found.outcomes) (codes "outcome") ∷ certificate_text found.certified
+    ∷ codes "\n\n" ∷ [])
 
 -- the same, and who vanishes
 abbrev pub counts_text : Telling → ℕ → Exploration → List ℕ → List ℕ

@@ -1,6 +1,6 @@
 //! The report of all outcomes.
 ghost use Rattle.std.specs.Prelude.{◌≡◌, ◌++◌, OnOk};
-ghost use Rattle.outcome_texts.specs.Reports.{AppendsReport, counts_text, counts_with, extent_text, orders_text};
+ghost use Rattle.outcome_texts.specs.Reports.{AppendsReport, certificate_text, counts_text, counts_with, extent_text, orders_text};
 ghost use Rattle.outcome_texts.specs.Vanishing.{how_text};
 
 use crate::numbers::push_great;
@@ -261,6 +261,13 @@ fn extent(complete: bool) -> &'static str
     if complete { ", " } else { "not all explored: " }
 }
 
+// What stands behind the number of outcomes.
+fn certificate(certified: bool) -> &'static str
+    ensures { result.now ≡ certificate_text certified }
+{
+    if certified { ", certified" } else { "" }
+}
+
 // What a report says first of a search: how many steps its clients have, who may vanish, and how many orders there are.
 #[derive(Clone, Copy)]
 struct ReportHead<'a> {
@@ -294,6 +301,7 @@ fn push_counts<'a>(
             Part::Counted(found.states as u64, "state"),
             Part::Word(", "),
             Part::Counted(found.outcomes.len() as u64, "outcome"),
+            Part::Word(certificate(found.certified)),
             Part::Word("\n\n"),
         ],
     )

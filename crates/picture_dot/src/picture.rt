@@ -1,5 +1,5 @@
 //! A picture in the language of Graphviz.
-ghost use Rattle.std.specs.Prelude.{◌≡◌, ◌++◌, List, OnOk};
+ghost use Rattle.std.specs.Prelude.{◌≡◌, ◌++◌, List, OnOk, IfErr};
 ghost use Rattle.std.specs.List.{flat_map};
 ghost use Rattle.script_labels.specs.Names.{Names};
 ghost use Rattle.script_labels.specs.Tables.{Keeps};
@@ -35,10 +35,11 @@ pub fn push_dot(
     picture: &Picture,
     line: &[u8],
 ) -> Result<(), LineStop>
-    ensures { OnOk result ((names : Names) → Keeps event_writer.now.session.tables names →
+    ensures text { OnOk result ((names : Names) → Keeps event_writer.now.session.tables names →
         Calls event_writer.now.labels names → text.new.items ≡ text.old.items
         ++ dot_text event_writer.now.session.core names line.now
         picture.now.trees.items picture.now.travels.items) }
+    ensures err { IfErr result (λ stop. stop ≡ LineStop.NoMemory) }
 {
     push_head(text, event_writer.session.core.events(), line)?;
     let clients = event_writer.session.core.clients()?;

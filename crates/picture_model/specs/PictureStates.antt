@@ -6,18 +6,23 @@ use Rattle.std.specs.List.{list_any}
 use Rattle.std.specs.Option.{option_map_or}
 use Rattle.std.specs.Ordering.{nat_cmp}
 use Rattle.sm_names.specs.declared.keys.NodeKey.{NodeKey}
+use Rattle.sm_names.specs.declared.messages.Call.{Call}
 use Rattle.sm_names.specs.declared.messages.Reply.{Reply}
 use Rattle.sm_names.specs.declared.outcomes.Fault.{Fault}
+use Rattle.sm_names.specs.Marks.{Entry}
 use Rattle.forest_store.specs.declared.node.End.{End}
 use Rattle.forest_store.specs.declared.node.Node.{Node}
 use Rattle.forest_store.specs.Forest.{node_at}
 use Rattle.forest_store.specs.Nodes.{above_among, is_of, is_spent, node_of}
 use Rattle.forest_store.specs.Questions.{blocks_here, is_below}
+use Rattle.core_state.specs.Shown.{Shows}
 use Rattle.core_state.specs.State.{State}
 use Rattle.forced_marks.specs.declared.decision.Forced.{Forced}
 use Rattle.forced_marks.specs.declared.moment.Moment.{Moment}
 use Rattle.forced_marks.specs.Explanations.{climb}
 use Rattle.event_facts.specs.declared.event.Event.{Event}
+use Rattle.event_texts.specs.Tellings.{IsEventOf}
+use Rattle.picture_model.specs.Seen.{named_in}
 use Rattle.picture_model.specs.declared.picture_state.PictureState.{PictureState}
 
 -- the nodes of this collection, by birth
@@ -103,3 +108,13 @@ known_after s named event id nodes = with_told s event.reply id (refreshed s nam
 -- the picture state knows each node that the core keeps, in the node's collection
 pub record KnowsKept (s : State) (picture_state : PictureState) : Type 0 where
   pub known : (key : NodeKey) (n : Node) → node_at s.forest key ≡ Some n → list_any (is_of key) (known_in picture_state n.collection) ≡ true
+
+-- these nodes are known of each collection once the calls of the history were made: first none, then behind the event of each call
+-- those that `known_after` has
+pub data HasSeen (pool : ℕ) : List Entry → (ℕ → List Node) → Type 0 where
+  NoneSeen : (known : ℕ → List Node) → ((id : ℕ) → known id ≡ []) → HasSeen pool [] known
+  OneSeen : (history : List Entry) (before known : ℕ → List Node) (old new : State) (client : ℕ) (call : Call) (event : Event) →
+      HasSeen pool history before → Shows old history → old.pool ≡ pool → IsEventOf old client call event →
+      Shows new (history ++ (client, call, event.reply) ∷ []) → new.pool ≡ pool →
+      ((id : ℕ) → known id ≡ known_after new (named_in old call) event id (before id)) →
+      HasSeen pool (history ++ (client, call, event.reply) ∷ []) known

@@ -1,5 +1,5 @@
 //! What a picture shows: the trees behind an event, and what that event did.
-ghost use Rattle.std.specs.Prelude.{◌≡◌, ◌++◌, [], ◌∷◌, All, IfOk, List, OnOk, is_some, map, option_map};
+ghost use Rattle.std.specs.Prelude.{◌≡◌, ◌++◌, [], ◌∷◌, All, IfOk, List, OnOk, is_some, map, option_map, IfErr};
 ghost use Rattle.std.specs.List.{filter};
 ghost use Rattle.std.specs.Option.{option_map_or};
 ghost use Rattle.sm_names.specs.Marks.{Entry};
@@ -88,6 +88,7 @@ pub fn picture_of(
     ensures kept { IfOk result (λ picture. (history : List Entry) →
         Shows event_writer.now.session.core history → KnowsKept event_writer.now.session.core picture_state.now →
         ShowsKept event_writer.now.session.core picture.trees.items) }
+    ensures err { IfErr result (λ stop. stop ≡ LineStop.NoMemory) }
 {
     let trees = trees_of(alloc, &event_writer.session.core, picture_state, event)?;
     match event {
@@ -120,6 +121,7 @@ fn trees_of(
     ensures seen { IfOk result (λ trees. All (IsTree core.now) trees.items) }
     ensures trees { IfOk result (λ trees. map lists_of trees.items ≡ trees_in core.now
         (option_map (λ e. e.now) event.entry) picture_state.now.families.entries) }
+    ensures err { IfErr result (λ stop. stop ≡ LineStop.NoMemory) }
 {
     let mut trees = Vec::new(alloc);
     for (id, nodes) in &picture_state.families {
@@ -227,6 +229,7 @@ fn tree_of(
     ensures kept { IfOk result (λ told. told.0 ≡ is_some (collection_at core.now.forest id)) }
     ensures lists { IfOk result (λ told. lists_of told.1 ≡ tree_in core.now
         (option_map (λ e. e.now) event.entry) id known.now.items) }
+    ensures err { IfErr result (λ stop. stop ≡ LineStop.NoMemory) }
 {
     let copied = core.collection(id)?;
     let kept = copied.is_some();

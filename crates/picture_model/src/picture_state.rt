@@ -1,5 +1,5 @@
 //! All nodes that were ever born, as they were last seen, collection by collection.
-ghost use Rattle.std.specs.Prelude.{◌≡◌, ◌==◌, ◌&&◌, ◌++◌, ◌∷◌, [], Bool, IfOk, List, OnOk, Some, if◌then◌else◌, map, ℕ};
+ghost use Rattle.std.specs.Prelude.{◌≡◌, ◌==◌, ◌&&◌, ◌++◌, ◌∷◌, [], Bool, IfOk, List, OnOk, Some, if◌then◌else◌, map, ℕ, IfErr};
 ghost use Rattle.std.specs.List.{list_any};
 ghost use Rattle.std.specs.Option.{option_map};
 ghost use Rattle.sm_names.specs.declared.keys.NodeKey.{NodeKey as Key};
@@ -90,6 +90,7 @@ impl PictureState {
             Shows old history → IsEventOf old client call event.now → core.now.pool ≡ old.pool →
             Shows core.now (history ++ (client, call, event.now.reply) ∷ []) →
             KnowsKept old self.old → KnowsKept core.now self.new) }
+        ensures err { IfErr result (λ stop. stop ≡ LineStop.NoMemory) }
     {
         self.refresh_named(alloc, core, named, &event.moments)?;
         self.add_told(alloc, core, event.reply)?;

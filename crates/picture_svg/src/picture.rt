@@ -1,5 +1,5 @@
 //! A picture as a vector graphic, laid out by the program itself.
-ghost use Rattle.std.specs.Prelude.{◌≡◌, ◌+◌, ◌++◌, codes, false, true, IfOk, OnOk, map};
+ghost use Rattle.std.specs.Prelude.{◌≡◌, ◌+◌, ◌++◌, codes, false, true, IfOk, OnOk, map, IfErr};
 ghost use Rattle.std.specs.List.{flat_map, fold};
 ghost use Rattle.forest_store.specs.Forest.{held_by_page};
 ghost use Rattle.core_state.specs.Reads.{views_of};
@@ -44,9 +44,10 @@ pub fn push_svg(
     picture: &Picture,
     line: &[u8],
 ) -> Result<(), LineStop>
-    ensures { OnOk result ((names : Names) → Keeps event_writer.now.session.tables names →
+    ensures text { OnOk result ((names : Names) → Keeps event_writer.now.session.tables names →
         Calls event_writer.now.labels names → text.new.items ≡ text.old.items
         ++ svg_text event_writer.now.session.core names line.now picture.now) }
+    ensures err { IfErr result (λ stop. stop ≡ LineStop.NoMemory) }
 {
     let mut body = Vec::new(*text.allocator());
     let extent = push_body(&mut body, event_writer, picture, line)?;
@@ -82,6 +83,7 @@ fn push_body(
         Keeps event_writer.now.session.tables names →
         Calls event_writer.now.labels names →
         extent.right ≡ width_of event_writer.now.session.core names picture.now) }
+    ensures err { IfErr result (λ stop. stop ≡ LineStop.NoMemory) }
 {
     push_title(body, event_writer.session.core.events(), line)?;
     let row = push_told(body, event_writer, picture)?;
@@ -127,6 +129,7 @@ fn push_all_trees(
         Calls event_writer.now.labels names →
         row ≡ trees_row event_writer.now.session.core picture.now →
         extent.right ≡ last_column event_writer.now.session.core names picture.now) }
+    ensures err { IfErr result (λ stop. stop ≡ LineStop.NoMemory) }
 {
     let clients = event_writer.session.core.clients()?;
     let travels = travels_by_node(*body.allocator(), &picture.travels)?;
@@ -346,10 +349,11 @@ fn page_width(pages: u32) -> u64
 // Draws the pages of the pool in this row, and which buffers hold them.
 #[tactic(auto, unfolding(crate::specs::SvgPictures::svg_pool))]
 fn push_pool(body: &mut Vec<u8>, event_writer: &EventWriter, y: u64) -> Result<(), LineStop>
-    ensures { OnOk result ((names : Names) → Keeps event_writer.now.session.tables names →
+    ensures text { OnOk result ((names : Names) → Keeps event_writer.now.session.tables names →
         body.new.items ≡ body.old.items ++ svg_pool names y
         (held_by_page event_writer.now.session.core.forest)
         (views_of event_writer.now.session.core).free event_writer.now.session.core.pool) }
+    ensures err { IfErr result (λ stop. stop ≡ LineStop.NoMemory) }
 {
     let core = &event_writer.session.core;
     let held = core.held()?;

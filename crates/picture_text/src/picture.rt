@@ -1,5 +1,5 @@
 //! A picture as text.
-ghost use Rattle.std.specs.Prelude.{◌≡◌, ◌++◌, OnOk, map};
+ghost use Rattle.std.specs.Prelude.{◌≡◌, ◌++◌, OnOk, map, IfErr};
 ghost use Rattle.std.specs.List.{flat_map, list_any};
 ghost use Rattle.script_labels.specs.Names.{Names};
 ghost use Rattle.script_labels.specs.Tables.{Keeps};
@@ -31,9 +31,10 @@ pub fn push_text(
     picture: &Picture,
     line: &[u8],
 ) -> Result<(), LineStop>
-    ensures { OnOk result ((names : Names) → Keeps event_writer.now.session.tables names →
+    ensures text { OnOk result ((names : Names) → Keeps event_writer.now.session.tables names →
         Calls event_writer.now.labels names → text.new.items ≡ text.old.items
         ++ picture_text event_writer.now.session.core names line.now picture.now.trees.items) }
+    ensures err { IfErr result (λ stop. stop ≡ LineStop.NoMemory) }
 {
     let core = &event_writer.session.core;
     push_head(text, core.events(), line)?;
@@ -107,7 +108,8 @@ fn push_grown(
 
 // Appends the pool, behind an empty line: a sign for each page, and how many are free.
 fn push_pool(text: &mut Vec<u8>, core: &Core) -> Result<(), LineStop>
-    ensures { OnOk result (text.new.items ≡ text.old.items ++ pool_text core.now) }
+    ensures text { OnOk result (text.new.items ≡ text.old.items ++ pool_text core.now) }
+    ensures err { IfErr result (λ stop. stop ≡ LineStop.NoMemory) }
 {
     let held = core.held()?;
     push(text, "\npool ")?;

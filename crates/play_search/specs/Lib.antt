@@ -1,4 +1,6 @@
 pub mod Changes
+pub mod Closing
+pub mod Ends
 pub mod Outcomes
 pub mod Searches
 pub mod Vanishings

@@ -7,14 +7,16 @@ use Rattle.actor_plays.specs.declared.play.Play.{Play}
 use Rattle.actor_plays.specs.declared.play.Turn.{Turn}
 use Rattle.actor_plays.specs.declared.play.Turned.{Turned}
 use Rattle.actor_plays.specs.Fates.{AreFalls}
-use Rattle.actor_plays.specs.Plays.{IsPlay, IsTurn, Stage, stages_of}
+use Rattle.actor_plays.specs.Moves.{HasCome, IsOfSetup, TakesTurn, position_of}
+use Rattle.actor_plays.specs.Plays.{IsPlay, IsTurn, first_clients, stages_of}
+use Rattle.actor_plays.specs.Positions.{ReachedBy, Rests, Setup}
 use Rattle.play_search.specs.declared.graph.Graph.{Graph}
 use Rattle.play_search.specs.declared.replay.Setting.{Setting}
 use Rattle.play_search.specs.declared.exploring.Found.{Found}
 use Rattle.play_search.specs.declared.vanishing.Vanishing.{Vanishing}
 use Rattle.play_search.specs.Changes.{changes}
 use Rattle.play_search.specs.Outcomes.{IsOutcome}
-use Rattle.play_search.specs.Vanishings.{is_allowed, must_leave, vanished}
+use Rattle.play_search.specs.Vanishings.{is_allowed, may_leave, must_leave, vanished}
 
 -- a pool can have so many pages
 abbrev pub IsPool : ℕ → Type 0
@@ -24,12 +26,30 @@ IsPool pages = (1 ≤ pages) × (pages ≤ MAX_PAGES)
 abbrev pub IsWithin : Graph → Type 0
 IsWithin graph = vec_len graph.rows ≤ graph.most
 
--- the play is one of the actors of these plans on this core, with these turns
-pub record IsReplay (plans : List Plan) (setting : Setting) (turns : List Turn) (play : Play) : Type 0 where
+-- what is given for the plays of a search: they are of these plans, by the clients that join first, on this core, and actors leave so
+abbrev pub setup_of : List Plan → Vanishing → Setting → Setup
+setup_of plans vanishing setting = record {
+  pool = setting.pages;
+  limits = setting.limits;
+  plans = plans;
+  clients = first_clients (length plans);
+  may_leave = may_leave vanishing plans;
+}
+
+-- a play of the search came to where it is by its turns, one after another
+abbrev pub IsOnWay : List Plan → Vanishing → Setting → Play → Type 0
+IsOnWay plans vanishing setting play = HasCome (setup_of plans vanishing setting) plans play
+
+-- the play is one of the actors of these plans on this core, with these turns, one after another, each of which might be made. Each
+-- actor has passed what it can
+pub record IsReplay (plans : List Plan) (vanishing : Vanishing) (setting : Setting) (turns : List Turn) (play : Play) : Type 0 where
   pub plays : IsPlay plans play
   pub calls : play.turns.items ≡ turns
   pub pages : play.core.pool ≡ setting.pages
   pub limits : play.core.limits ≡ setting.limits
+  pub setup_is : IsOfSetup (setup_of plans vanishing setting) plans play
+  pub reached : ReachedBy (setup_of plans vanishing setting) turns (position_of play)
+  pub rests : (actor : ℕ) → Rests (setup_of plans vanishing setting) (position_of play) actor
 
 -- all nodes that fell in the play are noted
 abbrev pub IsTold : Play → Type 0
@@ -50,8 +70,9 @@ pub record HasNoTurn (plans : List Plan) (vanishing : Vanishing) (setting : Sett
   pub old : Play
   pub new : Play
   pub turned : Turned
-  pub play : IsReplay plans setting turns old
+  pub play : IsReplay plans vanishing setting turns old
   pub turn : IsTurn plans old new actor turned
+  pub takes : TakesTurn plans old new actor turned
   pub none : is_made turned ≡ false
   pub stays : MayStay vanishing plans new actor
 
@@ -64,7 +85,7 @@ HaveNoTurn plans vanishing setting turns actors =
 -- these, and they might. So many times the actor changes
 pub record IsFound (plans : List Plan) (vanishing : Vanishing) (setting : Setting) (found : Found) : Type 0 where
   pub play : Play
-  pub replay : IsReplay plans setting found.turns.items play
+  pub replay : IsReplay plans vanishing setting found.turns.items play
   pub told : IsTold play
   pub outcome : IsOutcome play found.outcome
   pub ended : HaveNoTurn plans vanishing setting found.turns.items (length plans)

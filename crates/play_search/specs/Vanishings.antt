@@ -1,10 +1,12 @@
 -- Which actors may leave, and when.
-use Rattle.std.specs.Prelude.{ℕ, zero, suc, ◌≡◌, ◌≤◌, Bool, true, false, ◌&&◌, not, nat_le, if◌then◌else◌, List, [], ◌∷◌, ◌++◌, length, slice_get, is_some}
+use Rattle.std.specs.Prelude.{ℕ, zero, suc, Bool, true, false, ◌&&◌, ◌||◌, not, nat_le, nat_lt, if◌then◌else◌, List, [], ◌∷◌, ◌++◌, length, slice_get, Option, is_some}
 use Rattle.std.specs.List.{list_all}
-use Rattle.std.specs.Option.{option_map_or}
+use Rattle.std.specs.Option.{option_map, option_map_or}
 use Rattle.actor_plays.specs.declared.plan.Plan.{Plan}
 use Rattle.actor_plays.specs.Plans.{steps_of}
 use Rattle.actor_plays.specs.Plays.{Stage, leaves_by}
+use Rattle.actor_plays.specs.Positions.{left_at}
+use Rattle.alike_plays.specs.Ahead.{count_early}
 use Rattle.play_search.specs.declared.vanishing.Vanishing.{Vanishing}
 
 -- so many steps are all of the plan of this place
@@ -44,3 +46,27 @@ is_allowed vanishing places = nat_le (length places) vanishing.most && list_all 
 abbrev pub must_leave : Bool → List Plan → ℕ → Stage → Bool
 must_leave at_end plans place stage =
     if is_some stage.leaving then is_some (leaves_by stage) else at_end && is_done plans place stage.at
+
+-- an actor of this place that began to leave where so many steps were behind it did so before its end
+abbrev pub began_early : Bool → List Plan → ℕ → ℕ → Bool
+began_early at_end plans place at = not (at_end && is_done plans place at)
+
+-- whether the actor of this place among these began so to leave, if there is one and it leaves
+abbrev pub began_in : Bool → List Plan → List Stage → ℕ → Option (Option Bool)
+began_in at_end plans stages place =
+    option_map (λ (stage : Stage). option_map (began_early at_end plans place) (left_at stage)) (slice_get stages place)
+
+-- the actor of this place, which has so many steps behind it, may begin to leave where so many left before their end
+abbrev pub may_begin : Vanishing → List Plan → ℕ → ℕ → ℕ → Bool
+may_begin vanishing plans early place at =
+    (vanishing.at_end && is_done plans place at) || (may_vanish vanishing.who.now place && nat_lt early vanishing.most)
+
+-- it may do so where these began to leave
+abbrev pub may_leave : Vanishing → List Plan → List (Option ℕ) → ℕ → ℕ → Bool
+may_leave vanishing plans begun place at =
+    may_begin vanishing plans (count_early (began_early vanishing.at_end plans) begun) place at
+
+-- an actor that is so far may leave, or go on to, where these are all actors
+abbrev pub may_go : Vanishing → List Plan → List Stage → ℕ → Stage → Bool
+may_go vanishing plans stages place stage =
+    is_some stage.leaving || may_begin vanishing plans (length (vanished vanishing.at_end plans stages)) place stage.at

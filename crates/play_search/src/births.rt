@@ -26,18 +26,25 @@ pub(crate) fn number_at(bases: &[u32], actor: usize, at: usize) -> u32 {
     }
 }
 
+// The kind of the call that the actor's step at this place makes, if it makes one.
+fn kind_at(plans: &[Plan], actor: usize, at: usize) -> Option<CallKind> {
+    match plans.get(actor)?.steps.get(at)?.step {
+        Step::Ask { request } => Some(request.kind),
+        Step::Poll { .. } => None,
+    }
+}
+
 // Whether the actor's step at this place opens a collection.
 fn opens(plans: &[Plan], actor: usize, at: usize) -> bool {
-    let Some(plan) = plans.get(actor) else {
-        return false;
-    };
-    match plan.steps.get(at) {
-        Some(planned) => match planned.step {
-            Step::Ask { request } => matches!(request.kind, CallKind::OpenRoot),
-            Step::Poll { .. } => false,
-        },
-        None => false,
-    }
+    matches!(kind_at(plans, actor, at), Some(CallKind::OpenRoot))
+}
+
+// Whether the actor's step at this place gives it an object, if the answer is Done.
+pub(crate) fn gains(plans: &[Plan], actor: usize, at: usize) -> bool {
+    matches!(
+        kind_at(plans, actor, at),
+        Some(CallKind::Bind | CallKind::DupHandle)
+    )
 }
 
 // The number of the step that made each node and each collection of a play, and the collections in the order of

@@ -3,12 +3,16 @@ ghost use Rattle.std.specs.Prelude.{◌≡◌, ◌≤◌, All, IfOk, OnOk, lengt
 ghost use Rattle.sm_names.specs.declared.rules.TheConstants.{MAX_PAGES};
 ghost use Rattle.actor_plays.specs.Plays.{stages_of};
 ghost use Rattle.play_search.specs.Changes.{changes};
+ghost use Rattle.play_search.specs.Closing.{AreAllMet};
+ghost use Rattle.play_search.specs.Ends.{NoneIsMissing};
 ghost use Rattle.play_search.specs.Outcomes.{IsOutcome};
-ghost use Rattle.play_search.specs.Searches.{HaveNoTurn, IsFound, IsPool, IsReplay, IsTold};
+ghost use Rattle.play_search.specs.Searches.{HaveNoTurn, IsFound, IsPool, IsReplay, IsTold, setup_of};
 ghost use Rattle.play_search.specs.Vanishings.{is_allowed, vanished};
 
 use crate::births::bases_of;
 use crate::changes::changes_in;
+use crate::effort::Effort;
+use crate::endings::Shown;
 use crate::fault::ExploreFault;
 use crate::graph::{Graph, graph_of};
 use crate::next::Group;
@@ -63,6 +67,8 @@ pub struct Exploration {
     pub complete: bool,
     /// How many orders of turns there are.
     pub orders: f64,
+    /// For sure no outcome is missing. Only a search that is asked to certifies.
+    pub certified: bool,
 }
 
 // An outcome to be shown: the turns of its play, and the other figures.
@@ -71,14 +77,14 @@ struct Goal {
     turns: Vec<Turn>,
     decided: usize,
     share: f64,
+    // The number of its ending.
+    ending: usize,
 }
 
-// What the search met.
+// What a graph says.
 #[derive(Drop)]
-struct Searched {
+struct Read {
     goals: Vec<Goal>,
-    states: usize,
-    complete: bool,
     orders: f64,
 }
 
@@ -132,32 +138,14 @@ fn ranks_of(
     Ok(ranks)
 }
 
-// Searches through all plays.
-fn search<P: Progress>(
-    ground: &Ground<'_>,
-    hash: LabelHash,
-    most: usize,
-    progress: &P,
-) -> Result<Searched, ExploreFault>
-    requires { IsPool ground.now.setting.pages }
-    ensures { IfOk result (λ found. found.states ≤ most) }
-{
-    let (graph, complete) = graph_of(ground, hash, most, progress)?;
-    Ok(read_graph(ground, &graph, complete)?)
-}
-
-// What a graph says, which is whole or not.
-fn read_graph(ground: &Ground<'_>, graph: &Graph, complete: bool) -> Result<Searched, AllocError>
-    ensures { IfOk result (λ found. found.states ≡ vec_len graph.now.rows) }
-{
+// What a graph says.
+fn read_graph(ground: &Ground<'_>, graph: &Graph) -> Result<Read, AllocError> {
     let met = met_of(ground.alloc, graph)?;
     let order = order_of(ground.alloc, graph, &met)?;
     let shares = shares_of(ground.alloc, graph, &order)?;
     let goals = goals_in(ground, graph, &met, &order, &shares.shares)?;
-    Ok(Searched {
+    Ok(Read {
         goals,
-        states: graph.rows.len(),
-        complete,
         orders: shares.orders,
     })
 }
@@ -190,19 +178,21 @@ fn ranked_goals(
     goals_by(alloc, ways, lefts, &places, shares, &ranks)
 }
 
-// The best way to the value, which has this share.
+// The best way to the value, which has this ending.
 fn goal_at(
     alloc: Global,
     ways: &Ways,
     lefts: &[u32],
     at: usize,
-    share: f64,
+    shares: &[f64],
+    ending: usize,
 ) -> Result<Goal, AllocError> {
     let turns = ways.turns_to(alloc, at)?;
     Ok(Goal {
         turns: made_turns(alloc, &turns)?,
         decided: decided_at(lefts, &turns),
-        share,
+        share: number_at(shares, ending),
+        ending,
     })
 }
 
@@ -218,7 +208,7 @@ fn goals_by(
     let mut goals = Vec::new(alloc);
     for (_, (_, ending)) in ranks {
         if let Some(Some(at)) = places.get(*ending) {
-            goals.push(goal_at(alloc, ways, lefts, *at, number_at(shares, *ending))?)?;
+            goals.push(goal_at(alloc, ways, lefts, *at, shares, *ending)?)?;
         }
     }
     Ok(goals)
@@ -280,7 +270,8 @@ fn found_of(
 
 // The outcome of this play with the turns of the goal, behind which no actor has another one.
 fn found_in(ground: &Ground<'_>, goal: &Goal, play: &Play) -> Result<Found, ExploreFault>
-    requires replay { IsReplay ground.now.plans.now ground.now.setting goal.now.turns.items play.now }
+    requires replay { IsReplay ground.now.plans.now ground.now.vanishing ground.now.setting
+        goal.now.turns.items play.now }
     requires told { IsTold play.now }
     requires ended { HaveNoTurn ground.now.plans.now ground.now.vanishing ground.now.setting
         goal.now.turns.items (length ground.now.plans.now) }
@@ -299,7 +290,7 @@ fn found_at(ground: &Ground<'_>, goal: &Goal) -> Result<Found, ExploreFault>
     if !have_no_turn(ground, turns)? {
         return Err(ExploreFault::Unlike);
     }
-    let play = replay(ground, turns, true)?;
+    let play = replay(ground, turns)?;
     found_in(ground, goal, &play)
 }
 
@@ -321,57 +312,112 @@ fn found_all(ground: &Ground<'_>, goals: &[Goal]) -> Result<Vec<Found>, ExploreF
     Ok(all)
 }
 
+// For each ending the place of its outcome among those of these goals.
+fn places_of(
+    alloc: Global,
+    goals: &[Goal],
+    endings: usize,
+) -> Result<Vec<Option<usize>>, AllocError> {
+    let mut places = vec![in alloc; None; endings]?;
+    for place in 0..goals.len() {
+        let ending = goals[place].ending;
+        if ending < places.len() {
+            places[ending] = Some(place);
+        }
+    }
+    Ok(places)
+}
+
+// Whether no play and none of their outcomes is missing, if that is asked for.
+fn certified(
+    ground: &Ground<'_>,
+    graph: &Graph,
+    goals: &[Goal],
+    outcomes: &[Found],
+    certifies: bool,
+) -> Result<bool, ExploreFault>
+    requires { IsPool ground.now.setting.pages }
+    ensures met { IfOk result (λ yes. yes ≡ true → AreAllMet ground.now.plans.now
+        ground.now.vanishing ground.now.setting (vec_len graph.now.rows)) }
+    ensures none { IfOk result (λ yes. yes ≡ true → NoneIsMissing ground.now.vanishing.at_end
+        (setup_of ground.now.plans.now ground.now.vanishing ground.now.setting) outcomes.now) }
+{
+    if !certifies {
+        return Ok(false);
+    }
+    let places = places_of(ground.alloc, goals, graph.endings.len())?;
+    let shown = Shown {
+        outcomes,
+        places: &places,
+    };
+    let certified = graph.is_certified(ground, shown)?;
+    Ok(certified)
+}
+
 // What a search finds, where texts hash so.
 fn explored<P: Progress>(
     ground: &Ground<'_>,
     hash: LabelHash,
-    most: usize,
+    effort: Effort,
     progress: &P,
 ) -> Result<Exploration, ExploreFault>
     requires { IsPool ground.now.setting.pages }
     ensures real { IfOk result
         (λ found. All (IsFound ground.now.plans.now ground.now.vanishing ground.now.setting)
         found.outcomes.items) }
-    ensures states { IfOk result (λ found. found.states ≤ most) }
+    ensures states { IfOk result (λ found. found.states ≤ effort.most) }
+    ensures met { IfOk result (λ found. found.certified ≡ true → AreAllMet ground.now.plans.now
+        ground.now.vanishing ground.now.setting found.states) }
+    ensures none { IfOk result (λ found. found.certified ≡ true →
+        NoneIsMissing ground.now.vanishing.at_end
+        (setup_of ground.now.plans.now ground.now.vanishing ground.now.setting)
+        found.outcomes.items) }
 {
-    let Searched {
-        goals,
-        states,
-        complete,
-        orders,
-    } = search(ground, hash, most, progress)?;
+    let (graph, complete) = graph_of(ground, hash, effort.most, progress)?;
+    let Read { goals, orders } = read_graph(ground, &graph)?;
     let outcomes = found_all(ground, &goals)?;
+    let certifies = complete && effort.certifies;
+    let certified = certified(ground, &graph, &goals, &outcomes, certifies)?;
     Ok(Exploration {
         outcomes,
-        states,
+        states: graph.rows.len(),
         complete,
         orders,
+        certified,
     })
 }
 
 /// The outcomes of all plays of the actors of these plans, on a core with this setting, whose pool has 1 to
 /// 1,048,576 pages. Actors leave as `vanishing` says. Each outcome has a play in which no actor has another turn, unless one
-/// more may leave before its end, and which comes to it. That none is missing if all values were met is not said: it is
-/// tested.
+/// more may leave before its end, and which comes to it. Where the answer is certified, no outcome is missing: each play in
+/// which all actors have passed what they can is like one of as many plays as values were met, and if no actor has another turn
+/// in it, it ends as one of the outcomes says, but for the names of nodes.
 ///
-/// It meets at most this many values of plays, and stops at the first one more, or where the bytes of the values and
+/// It meets at most `effort.most` values of plays, and stops at the first one more, or where the bytes of the values and
 /// the calls of all plays are 1,024 times as many: the answer is then not complete. `NoMemory` where memory is refused,
 /// `HistoryFull` where a play has as many events as may be, `Unlike` where a play that is made again goes on otherwise.
 /// `progress` is told how many values were met, each time that `PROGRESS_STEP` more were, and once that the search is over. The
 /// answer does not depend on it.
-/// Costs O(`most`) look-ups, calls and bytes, and the plays of the outcomes.
+/// If `effort.certifies` is true, a complete answer is certified unless two plays of one value are not seen to be alike, or that is
+/// too costly to tell.
+/// Costs O(`effort.most`) look-ups, calls and bytes, and the plays of the outcomes; with `effort.certifies`, as many calls again.
 pub fn explore<P: Progress>(
     alloc: Global,
     setting: Setting,
     plans: &[Plan],
     vanishing: Vanishing<'_>,
-    most: usize,
+    effort: Effort,
     progress: &P,
 ) -> Result<Exploration, ExploreFault>
     requires { (1 ≤ setting.pages) × (setting.pages ≤ MAX_PAGES) }
     ensures real { IfOk result
         (λ found. All (IsFound plans.now vanishing.entry setting) found.outcomes.items) }
-    ensures states { IfOk result (λ found. found.states ≤ most) }
+    ensures states { IfOk result (λ found. found.states ≤ effort.most) }
+    ensures met { IfOk result (λ found. found.certified ≡ true →
+        AreAllMet plans.now vanishing.entry setting found.states) }
+    ensures none_missing { IfOk result (λ found. found.certified ≡ true →
+        NoneIsMissing vanishing.entry.at_end (setup_of plans.now vanishing.entry setting)
+        found.outcomes.items) }
 {
     let hash = LabelHash::new(setting.seed);
     let bases = bases_of(alloc, plans)?;
@@ -382,7 +428,7 @@ pub fn explore<P: Progress>(
         vanishing,
         bases: &bases,
     };
-    let found = explored(&ground, hash, most, progress);
+    let found = explored(&ground, hash, effort, progress);
     progress.ended();
     found
 }

@@ -51,15 +51,15 @@ fn named_fall(births: &Births, fall: &GoneNode) -> NamedFall {
 }
 
 // A fall with its number and its place among all, as it is sorted.
-type Placed = ((u32, usize), (u32, u32));
+type FallPlace = ((u32, usize), (u32, u32));
 
-fn placed(fall: &NamedFall, place: usize) -> Placed {
+fn placed(fall: &NamedFall, place: usize) -> FallPlace {
     ((fall.name, place), (fall.cause, fall.origin))
 }
 
 // Adds the falls behind the others.
 fn push_placed(
-    all: &mut Vec<Placed>,
+    all: &mut Vec<FallPlace>,
     births: &Births,
     falls: &[GoneNode],
 ) -> Result<(), AllocError> {
@@ -71,7 +71,7 @@ fn push_placed(
 }
 
 // Of these falls, in order, the first of each number.
-fn firsts(alloc: Global, all: &[Placed]) -> Result<Vec<NamedFall>, AllocError> {
+fn firsts(alloc: Global, all: &[FallPlace]) -> Result<Vec<NamedFall>, AllocError> {
     let mut falls = Vec::new(alloc);
     let mut last: Option<u32> = None;
     for ((name, _), (cause, origin)) in all {

@@ -1,6 +1,7 @@
 //! The values of plays that were met, and the turns that lead from one to another.
-ghost use Rattle.std.specs.Prelude.{◌≡◌, ◌≤◌, ◌+◌, is_some, true, IfOk, OnOk, vec_len};
+ghost use Rattle.std.specs.Prelude.{◌≡◌, ◌≤◌, ◌+◌, is_some, reverse, slice_get, true, IfOk, OnOk, vec_len};
 ghost use Rattle.actor_plays.specs.Plays.{IsPlay};
+ghost use Rattle.play_search.specs.Closing.{way_to};
 ghost use Rattle.play_search.specs.Searches.{IsPool, IsWithin};
 
 use crate::falls::NamedFall;
@@ -8,7 +9,7 @@ use crate::fault::ExploreFault;
 use crate::next::{Ended, Group, Met, ended_in, met_in, next_in, nexts_of};
 use crate::numbers::small;
 use crate::progress::{Progress, tell_met};
-use crate::replay::{Ground, replay};
+use crate::replay::{Ground, made_again};
 use crate::turns::{code_of, is_step, turn_of};
 use actor_plays::{Play, Turn};
 use indexmap::IndexSet;
@@ -85,10 +86,14 @@ impl Graph {
         }
     }
 
-    // Whether the search stops: there was no room for a value, or it has cost more than 1,024 bytes and calls for each value
-    // that there is room for.
+    // Whether so much is more than 1,024 bytes and calls for each value that there is room for.
+    pub(crate) fn is_costly(&self, cost: usize) -> bool {
+        self.most.saturating_mul(1024) < cost
+    }
+
+    // Whether the search stops: there was no room for a value, or it was too costly.
     fn stops(&self) -> bool {
-        self.full || self.most.saturating_mul(1024) < self.cost
+        self.full || self.is_costly(self.cost)
     }
 
     fn add_cost(&mut self, more: usize)
@@ -97,7 +102,9 @@ impl Graph {
         self.cost = self.cost.saturating_add(more);
     }
 
-    fn row(&self, at: usize) -> Option<Row> {
+    pub(crate) fn row(&self, at: usize) -> Option<Row>
+        ensures { result ≡ slice_get self.now.rows.items at }
+    {
         self.rows.get(at).copied()
     }
 
@@ -109,19 +116,31 @@ impl Graph {
         }
     }
 
-    // The turns by which the value was met first.
-    pub(crate) fn path_to(&self, alloc: Global, at: usize) -> Result<Vec<Turn>, AllocError> {
+    // The turns by which the value was met first, the last one first.
+    fn path_back(&self, alloc: Global, place: usize) -> Result<Vec<Turn>, AllocError>
+        ensures { IfOk result (λ turns.
+            reverse turns.items ≡ way_to self.now.rows.items place) }
+    {
         let mut turns = Vec::new(alloc);
-        let mut at = at;
-        for _ in 0..self.rows.len() {
+        let mut at = place;
+        'rows: for _ in 0..self.rows.len() {
             if at == 0 {
-                break;
+                return Ok(turns);
             }
-            if let Some(row) = self.row(at) {
-                turns.push(turn_of(row.turn))?;
-                at = row.parent as usize;
-            }
+            let Some(row) = self.row(at) else {
+                return Ok(turns);
+            };
+            turns.push(turn_of(row.turn))?;
+            at = row.parent as usize;
         }
+        Ok(turns)
+    }
+
+    // The turns by which the value was met first.
+    pub(crate) fn path_to(&self, alloc: Global, at: usize) -> Result<Vec<Turn>, AllocError>
+        ensures { IfOk result (λ turns. turns.items ≡ way_to self.now.rows.items at) }
+    {
+        let mut turns = self.path_back(alloc, at)?;
         turns.as_mut_slice().reverse();
         Ok(turns)
     }
@@ -389,7 +408,7 @@ impl Graph {
     {
         let turns = self.path_to(ground.alloc, at)?;
         self.add_cost(turns.len().saturating_add(ground.plans.len()));
-        replay(ground, &turns, false)
+        made_again(ground, &turns, false)
     }
 
     // The same by a play that is made again.

@@ -3,11 +3,16 @@
 
 mod births;
 mod changes;
+mod closing;
+mod effort;
+mod endings;
+mod ends;
 mod exploring;
 mod falls;
 mod fault;
 mod graph;
 mod idle;
+mod likeness;
 mod next;
 mod numbers;
 mod order;
@@ -20,6 +25,7 @@ mod value;
 mod vanishing;
 mod witness;
 
+pub use effort::Effort;
 pub use exploring::{Exploration, Figures, Found, explore};
 pub use fault::ExploreFault;
 pub use outcome::{ActorOutcome, Became, Outcome};

@@ -1,6 +1,7 @@
 //! The values to which turns lead.
 ghost use Rattle.std.specs.Prelude.{◌≡◌, true, IfOk, IfSome};
-ghost use Rattle.actor_plays.specs.Plays.{IsPlay};
+ghost use Rattle.actor_plays.specs.Plays.{IsPlay, stages_of};
+ghost use Rattle.play_search.specs.Ends.{HasToLeave};
 
 use crate::births::Births;
 use crate::falls::{NamedFall, falls_of};
@@ -132,7 +133,10 @@ pub(crate) fn nexts_of(ground: &Ground<'_>, play: &Play) -> Result<Vec<Turn>, Al
 }
 
 // Whether an actor has to leave, or to go on to.
-fn is_left_open(ground: &Ground<'_>, play: &Play) -> Result<bool, AllocError> {
+pub(crate) fn is_left_open(ground: &Ground<'_>, play: &Play) -> Result<bool, AllocError>
+    ensures { IfOk result (λ yes. yes ≡ true →
+        HasToLeave ground.now.vanishing.at_end ground.now.plans.now (stages_of play.now)) }
+{
     let actors = play.actors();
     for actor in 0..actors.len() {
         if must_leave(

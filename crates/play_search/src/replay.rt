@@ -4,10 +4,10 @@ ghost use Rattle.actor_scripts.specs.declared.step.ActorScript.{ActorScript as S
 ghost use Rattle.actor_plays.specs.declared.play.Turn.{Turn as Made};
 ghost use Rattle.actor_plays.specs.Plans.{planned, steps_of};
 ghost use Rattle.actor_plays.specs.Plays.{AreJoining, IsPlay};
-ghost use Rattle.play_search.specs.Searches.{HasNoTurn, HaveNoTurn, IsPool, IsReplay, IsTold, MayStay, is_made as is_made_turn};
+ghost use Rattle.play_search.specs.Searches.{HasNoTurn, HaveNoTurn, IsOnWay, IsPool, IsReplay, IsTold, MayStay, is_made as is_made_turn};
 
 use crate::fault::ExploreFault;
-use crate::vanishing::{Vanishing, must_leave};
+use crate::vanishing::{Vanishing, may_go, must_leave};
 use actor_plays::{Plan, Play, Turn, Turned, Waiting, plan_of};
 use actor_scripts::ActorScript;
 use sm_names::Limits;
@@ -67,7 +67,9 @@ fn join_all(play: &mut Play, alloc: Global, count: usize) -> Result<(), ExploreF
 // A play in which every client has joined, and no turn was made.
 fn start(ground: &Ground<'_>) -> Result<Play, ExploreFault>
     requires { IsPool ground.now.setting.pages }
-    ensures play { IfOk result (IsReplay ground.now.plans.now ground.now.setting []) }
+    ensures way { IfOk result
+        (IsOnWay ground.now.plans.now ground.now.vanishing ground.now.setting) }
+    ensures turns { IfOk result (λ play. play.turns.items ≡ []) }
     ensures told { IfOk result IsTold }
 {
     let setting = ground.setting;
@@ -86,13 +88,15 @@ fn make_step(
     actor: usize,
     tells: bool,
 ) -> Result<(), ExploreFault>
-    requires { IsPlay ground.now.plans.now play.old }
+    requires play { IsPlay ground.now.plans.now play.old }
+    requires way { tells ≡ true →
+        IsOnWay ground.now.plans.now ground.now.vanishing ground.now.setting play.old }
     ensures play { OnOk result (IsPlay ground.now.plans.now play.new) }
+    ensures way { tells ≡ true → OnOk result
+        (IsOnWay ground.now.plans.now ground.now.vanishing ground.now.setting play.new) }
     ensures turns { OnOk result
         (play.new.turns.items ≡ play.old.turns.items ++ Made.Step actor ∷ []) }
     ensures told { tells ≡ true → IsTold play.old → OnOk result (IsTold play.new) }
-    ensures pages { OnOk result (play.new.core.pool ≡ play.old.core.pool) }
-    ensures limits { OnOk result (play.new.core.limits ≡ play.old.core.limits) }
 {
     match play.take_turn(ground.alloc, ground.plans, actor, tells)? {
         Turned::Made => Ok(()),
@@ -101,23 +105,28 @@ fn make_step(
     }
 }
 
-// The actor leaves, or goes on to leave, by its next call. Each actor passes what it can before: an actor at its
-// end leaves there.
+// The actor leaves, or goes on to leave, by its next call, if it may. Each actor passes what it can before: an actor at
+// its end leaves there.
 fn make_leave(
     play: &mut Play,
     ground: &Ground<'_>,
     actor: usize,
     tells: bool,
 ) -> Result<(), ExploreFault>
-    requires { IsPlay ground.now.plans.now play.old }
+    requires play { IsPlay ground.now.plans.now play.old }
+    requires way { tells ≡ true →
+        IsOnWay ground.now.plans.now ground.now.vanishing ground.now.setting play.old }
     ensures play { OnOk result (IsPlay ground.now.plans.now play.new) }
+    ensures way { tells ≡ true → OnOk result
+        (IsOnWay ground.now.plans.now ground.now.vanishing ground.now.setting play.new) }
     ensures turns { OnOk result
         (play.new.turns.items ≡ play.old.turns.items ++ Made.Leave actor ∷ []) }
     ensures told { tells ≡ true → IsTold play.old → OnOk result (IsTold play.new) }
-    ensures pages { OnOk result (play.new.core.pool ≡ play.old.core.pool) }
-    ensures limits { OnOk result (play.new.core.limits ≡ play.old.core.limits) }
 {
     play.pass_all(ground.plans);
+    if !may_go(ground.alloc, ground.vanishing, ground.plans, play, actor)? {
+        return Err(ExploreFault::Unlike);
+    }
     if play.take_leave(ground.alloc, ground.plans, actor, tells)? {
         Ok(())
     } else {
@@ -132,12 +141,14 @@ fn make_turn(
     turn: Turn,
     tells: bool,
 ) -> Result<(), ExploreFault>
-    requires { IsPlay ground.now.plans.now play.old }
+    requires play { IsPlay ground.now.plans.now play.old }
+    requires way { tells ≡ true →
+        IsOnWay ground.now.plans.now ground.now.vanishing ground.now.setting play.old }
     ensures play { OnOk result (IsPlay ground.now.plans.now play.new) }
+    ensures way { tells ≡ true → OnOk result
+        (IsOnWay ground.now.plans.now ground.now.vanishing ground.now.setting play.new) }
     ensures turns { OnOk result (play.new.turns.items ≡ play.old.turns.items ++ turn ∷ []) }
     ensures told { tells ≡ true → IsTold play.old → OnOk result (IsTold play.new) }
-    ensures pages { OnOk result (play.new.core.pool ≡ play.old.core.pool) }
-    ensures limits { OnOk result (play.new.core.limits ≡ play.old.core.limits) }
 {
     match turn {
         Turn::Step(actor) => make_step(play, ground, actor, tells),
@@ -152,12 +163,14 @@ fn make_turns(
     turns: &[Turn],
     tells: bool,
 ) -> Result<(), ExploreFault>
-    requires { IsPlay ground.now.plans.now play.old }
+    requires play { IsPlay ground.now.plans.now play.old }
+    requires way { tells ≡ true →
+        IsOnWay ground.now.plans.now ground.now.vanishing ground.now.setting play.old }
     ensures play { OnOk result (IsPlay ground.now.plans.now play.new) }
+    ensures way { tells ≡ true → OnOk result
+        (IsOnWay ground.now.plans.now ground.now.vanishing ground.now.setting play.new) }
     ensures turns { OnOk result (play.new.turns.items ≡ play.old.turns.items ++ turns.now) }
     ensures told { tells ≡ true → IsTold play.old → OnOk result (IsTold play.new) }
-    ensures pages { OnOk result (play.new.core.pool ≡ play.old.core.pool) }
-    ensures limits { OnOk result (play.new.core.limits ≡ play.old.core.limits) }
 {
     'turns: for turn in turns {
         make_turn(play, ground, *turn, tells)?;
@@ -167,15 +180,31 @@ fn make_turns(
 
 // The play with these turns, in which each actor has passed what it can. If it tells, all nodes that fell
 // are noted.
-pub(crate) fn replay(ground: &Ground<'_>, turns: &[Turn], tells: bool) -> Result<Play, ExploreFault>
+pub(crate) fn made_again(
+    ground: &Ground<'_>,
+    turns: &[Turn],
+    tells: bool,
+) -> Result<Play, ExploreFault>
     requires { IsPool ground.now.setting.pages }
-    ensures play { IfOk result (IsReplay ground.now.plans.now ground.now.setting turns.now) }
+    ensures plays { IfOk result (IsPlay ground.now.plans.now) }
+    ensures play { tells ≡ true → IfOk result
+        (IsReplay ground.now.plans.now ground.now.vanishing ground.now.setting turns.now) }
     ensures told { tells ≡ true → IfOk result IsTold }
 {
     let mut play = start(ground)?;
     make_turns(&mut play, ground, turns, tells)?;
     play.pass_all(ground.plans);
     Ok(play)
+}
+
+// The same, which tells.
+pub(crate) fn replay(ground: &Ground<'_>, turns: &[Turn]) -> Result<Play, ExploreFault>
+    requires { IsPool ground.now.setting.pages }
+    ensures play { IfOk result
+        (IsReplay ground.now.plans.now ground.now.vanishing ground.now.setting turns.now) }
+    ensures told { IfOk result IsTold }
+{
+    made_again(ground, turns, true)
 }
 
 // Whether the actor of this place neither has to go on to leave, nor has to leave since it is at its end.
@@ -194,7 +223,7 @@ fn may_stay(ground: &Ground<'_>, play: &Play, actor: usize) -> Result<bool, Allo
 }
 
 // Whether a turn made a call.
-fn is_made(turned: Turned) -> bool
+pub(crate) fn is_made(turned: Turned) -> bool
     ensures { result ≡ is_made_turn turned }
 {
     matches!(turned, Turned::Made)
@@ -206,8 +235,8 @@ fn has_no_turn(ground: &Ground<'_>, turns: &[Turn], actor: usize) -> Result<bool
     ensures { IfOk result (λ yes. yes ≡ true →
         HasNoTurn ground.now.plans.now ground.now.vanishing ground.now.setting turns.now actor) }
 {
-    let mut play = replay(ground, turns, false)?;
-    let turned = play.take_turn(ground.alloc, ground.plans, actor, false)?;
+    let mut play = replay(ground, turns)?;
+    let turned = play.take_turn(ground.alloc, ground.plans, actor, true)?;
     if is_made(turned) {
         return Ok(false);
     }

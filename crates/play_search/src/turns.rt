@@ -1,4 +1,7 @@
 //! Turns as numbers.
+ghost use Rattle.std.specs.Prelude.{◌≡◌, ◌==◌, ◌%◌};
+ghost use Rattle.play_search.specs.Closing.{turn_numbered};
+
 use crate::numbers::small;
 use actor_plays::Turn;
 
@@ -11,8 +14,10 @@ pub(crate) fn code_of(turn: Turn) -> u32 {
 }
 
 // The turn of this number.
-pub(crate) fn turn_of(code: u32) -> Turn {
-    let actor = (code >> 1) as usize;
+pub(crate) fn turn_of(code: u32) -> Turn
+    ensures { result ≡ turn_numbered code }
+{
+    let actor = (code / 2) as usize;
     if is_step(code) {
         Turn::Step(actor)
     } else {
@@ -26,6 +31,8 @@ pub(crate) fn actor_of(code: u32) -> usize {
 }
 
 // Whether the turn of this number is a step.
-pub(crate) fn is_step(code: u32) -> bool {
-    code & 1 == 0
+pub(crate) fn is_step(code: u32) -> bool
+    ensures { result ≡ (code % 2 == 0) }
+{
+    code % 2 == 0
 }

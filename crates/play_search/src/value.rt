@@ -1,11 +1,11 @@
 //! The value of a play: all that later turns depend on, and what became of nodes, by numbers of steps. Plays
 //! that differ only in the keys, ids and numbers of events have one value.
-use crate::births::{Births, number_at};
+use crate::births::{Births, gains, number_at};
 use crate::falls::{NamedFall, cause_number, has_name};
 use crate::numbers::{small, small_of};
 use crate::replay::Ground;
 use crate::vanishing::is_early;
-use actor_plays::{Actor, Leaving, Play};
+use actor_plays::{Actor, Leaving, Plan, Play};
 use actor_scripts::ActorObject;
 use forest_store::{End, Node, Snapshot};
 use lifetime_core::Core;
@@ -136,16 +136,22 @@ fn put_made(
     }
 }
 
-// Puts what the actor knows and holds by all replies, and 0.
+// Puts what the actor of this place knows and holds by all replies, and 0. Where a call that gives an object is answered Done, its
+// step stands there too: so the value tells in which slot each object lies.
 fn put_running(
     text: &mut Vec<u8>,
+    plans: &[Plan],
     births: &Births,
     core: &Core,
+    place: usize,
     actor: &Actor,
 ) -> Result<(), AllocError> {
     put_place(text, actor.at)?;
     for (at, reply) in &actor.made {
         put_made(text, births, core, actor.client, (*at, *reply))?;
+        if matches!(*reply, Reply::Done) && gains(plans, place, *at) {
+            put_place(text, *at)?;
+        }
     }
     put(text, 0)
 }
@@ -247,7 +253,7 @@ fn put_actor(
             let early = is_early(ground.vanishing.at_end, ground.plans, place, actor);
             put_leaving(text, births, core, actor, leaving, early)
         }
-        None => put_running(text, births, core, actor),
+        None => put_running(text, ground.plans, births, core, place, actor),
     }
 }
 

@@ -1,10 +1,11 @@
 //! Which actors may leave, and when.
-ghost use Rattle.std.specs.Prelude.{◌≡◌, ◌++◌, map, IfOk, OnOk};
+ghost use Rattle.std.specs.Prelude.{◌≡◌, ◌++◌, false, length, map, slice_get, IfOk, OnOk};
 ghost use Rattle.std.specs.List.{list_all};
-ghost use Rattle.actor_plays.specs.Plays.{stage_of};
-ghost use Rattle.play_search.specs.Vanishings.{early_at, early_place, is_allowed, is_done as done_told, is_early as early_told, may_vanish as may_told, must_leave as must_told, vanished as vanished_told};
+ghost use Rattle.std.specs.Option.{option_map_or};
+ghost use Rattle.actor_plays.specs.Plays.{stage_of, stages_of};
+ghost use Rattle.play_search.specs.Vanishings.{early_at, early_place, is_allowed, is_done as done_told, is_early as early_told, may_begin as begin_told, may_go as go_told, may_vanish as may_told, must_leave as must_told, vanished as vanished_told};
 
-use actor_plays::{Actor, Plan};
+use actor_plays::{Actor, Plan, Play};
 use std::alloc::{AllocError, Global};
 
 /// Which actors may leave at any point, how many of them at most, and whether each leaves at its end.
@@ -127,9 +128,33 @@ fn may_begin(
     place: usize,
     at: usize,
     vanished: &[usize],
-) -> bool {
+) -> bool
+    ensures { result ≡ begin_told vanishing.entry plans.now (length vanished.now) place at }
+{
     vanishing.at_end && is_done(plans, place, at)
         || may_vanish(vanishing.who, place) && vanished.len() < vanishing.most
+}
+
+// Whether the actor of this place of the play may leave, or go on to.
+pub(crate) fn may_go(
+    alloc: Global,
+    vanishing: Vanishing<'_>,
+    plans: &[Plan],
+    play: &Play,
+    actor: usize,
+) -> Result<bool, AllocError>
+    ensures { IfOk result (λ may. may
+        ≡ option_map_or (go_told vanishing.entry plans.now (stages_of play.now) actor)
+        (slice_get (stages_of play.now) actor) false) }
+{
+    let Some(one) = play.actor(actor) else {
+        return Ok(false);
+    };
+    if one.leaving.is_some() {
+        return Ok(true);
+    }
+    let vanished = vanished_of(alloc, vanishing.at_end, plans, play.actors())?;
+    Ok(may_begin(vanishing, plans, actor, one.at, &vanished))
 }
 
 // Whether the actor of this place may leave, or go on to, where these have left before their end.

@@ -24,7 +24,7 @@ use Rattle.script_draw.specs.Played.{ComesBefore, IsAhead, LeadsToScene, asked_n
 use Rattle.script_draw.specs.Reached.{PlayEnds, PlayHalted, IsPlayedOn, PlayLinesHalt, Reached, stops_at_line}
 use Rattle.sm_names.specs.Marks.{Entry}
 use Rattle.core_state.specs.Shown.{Shows}
-use Rattle.picture_model.specs.PictureStates.{KnowsKept}
+use Rattle.picture_model.specs.PictureStates.{HasSeen, KnowsKept, known_in}
 use Rattle.script_draw.proofs.Playing.{far-reaches, reached-is}
 
 -- a picture of the core is one of what happened so far
@@ -33,7 +33,8 @@ pub pictures-so-far : (format : Format) (setting : Setting) (until : Until) (scr
     ((names : Names) → KeepsNames scroll.event_writer.session.tables names → Calls scroll.event_writer.labels names → blank ≡ [] →
     (history : List Entry) → Shows scroll.event_writer.session.core history →
     KnowsKept scroll.event_writer.session.core scroll.picture_state →
-    IsPicture format scroll.event_writer.session.core names scroll.line.items scroll.event text) →
+    HasSeen scroll.event_writer.session.core.pool history (known_in scroll.picture_state) →
+    IsPicture format scroll.event_writer.session.core history names scroll.line.items scroll.event text) →
     Pictures format setting far.scene scroll.line.items text
 pictures-so-far format setting until scroll lines far blank text none on = record {
   core = scroll.event_writer.session.core;
@@ -41,7 +42,8 @@ pictures-so-far format setting until scroll lines far blank text none on = recor
   pool = far.pool;
   event = scroll.event;
   behind = far.last;
-  picture = on far.scene.names far.knows.is_at.keeps far.knows.calls none far.scene.history far.knows.is_at.shows far.kept;
+  picture = on far.scene.names far.knows.is_at.keeps far.knows.calls none far.scene.history far.knows.is_at.shows far.kept
+      (subst (λ (p : ℕ). HasSeen p far.scene.history (known_in scroll.picture_state)) (sym far.pool) far.seen);
 }
 
 -- what was written of the lines that were played, and why it was not

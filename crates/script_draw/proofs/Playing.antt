@@ -3,6 +3,7 @@ use Rattle.std.proofs.Common.{◌≡◌, ◌≢◌, ℕ, ◌+◌, ◌<◌, ◌�
 use Rattle.std.proofs.Common.{length-append, refl, sym, ap, ◌∙◌, subst, Option, Some, None, inl, arith}
 use Rattle.std.proofs.lemmas.Bool.Decides.{nat_tests}
 use Rattle.std.specs.Prelude.{Ok, Err, Result, IfErr, codes, nat_le}
+use Rattle.std.specs.Option.{IfSome}
 use Rattle.sm_names.specs.declared.messages.Call.{Call}
 use Rattle.sm_names.specs.Bounds.{Bound}
 use Rattle.sm_names.specs.Marks.{events}
@@ -19,15 +20,17 @@ use Rattle.script_labels.specs.Names.{act_in}
 use Rattle.sm_script.specs.Scenes.{Answers, Plays, Rests, Scene, Setting, as_line, first_scene, next_scene}
 use Rattle.script_labels.specs.Texts.{reply_text, view_text}
 use Rattle.sm_script.proofs.Playing.{plays-more}
+use Rattle.event_facts.specs.declared.event.Event.{Event}
 use Rattle.event_texts.specs.Called.{Knows}
 use Rattle.event_texts.specs.Failing.{failures}
+use Rattle.picture_model.specs.PictureStates.{HasSeen, NoneSeen, OneSeen, known_in}
 use Rattle.picture_model.proofs.Showing.{knows-none}
 use Rattle.script_draw.specs.Draws.{IsLast}
 use Rattle.script_draw.specs.declared.draw.Scroll.{Scroll}
 use Rattle.script_draw.specs.declared.draw.Until.{Until}
 use Rattle.script_draw.specs.Played.{ComesBefore, IsAhead, IsWithin, Played, Begins, Passes, Looks, Makes}
 use Rattle.script_draw.specs.Played.{LeadsToScene, WasAhead, asked_number, found, is_call, is_reached}
-use Rattle.script_draw.specs.Reached.{AsksFor, PlayHalts, PlayHalted, IsHeldUp, LineMakesCall, Reached}
+use Rattle.script_draw.specs.Reached.{AsksFor, PlayHalts, PlayHalted, IsHeldUp, LineMakesCall, Reached, TakesIn}
 
 -- a line that makes no event gives some text, and changes nothing
 looked : (pool : ℕ) (scene : Scene) (line : List ℕ) (act : Act) → act_in scene.names line ≡ Some act → is_call act ≡ false →
@@ -146,8 +149,8 @@ PlayedAhead until pool lines scene last = (played : Played lines scene last) × 
 -- no line was played
 pub far-none : (setting : Setting) (until : Until) (scroll : Scroll) → scroll.event_writer.session.core.pool ≡ setting.pool →
     scroll.event_writer.session.core.limits ≡ setting.limits → scroll.limits ≡ setting.limits → Knows scroll.event_writer first_scene →
-    scroll.line.items ≡ [] → scroll.event ≡ None → Reached setting until scroll []
-far-none setting until scroll pool limits bound knows none quiet =
+    scroll.line.items ≡ [] → scroll.event ≡ None → ((id : ℕ) → known_in scroll.picture_state id ≡ []) → Reached setting until scroll []
+far-none setting until scroll pool limits bound knows none quiet blank =
     let so_far : PlayedAhead until setting.pool [] first_scene scroll.line.items =
     subst (PlayedAhead until setting.pool [] first_scene) (sym none) (Begins, tt) in
     record {
@@ -158,6 +161,7 @@ far-none setting until scroll pool limits bound knows none quiet =
       played = so_far.0;
       knows = knows;
       kept = knows-none scroll.event_writer.session.core scroll.picture_state knows.is_at.shows;
+      seen = NoneSeen (known_in scroll.picture_state) blank;
       last = subst (IsLast setting.pool []) (sym quiet) refl;
       within = within-none until setting.pool;
       ahead = so_far.1;
@@ -186,6 +190,7 @@ module _ (setting : Setting) (until : Until) (scroll : Scroll) (lines : List (Li
       played = Passes lines line scroll.line.items far.scene far.played skip;
       knows = far.knows;
       kept = far.kept;
+      seen = far.seen;
       last = far.last;
       within = within-more until setting.pool lines line far.scene far.scene (no-more _) (no-more _) before;
       ahead = before;
@@ -202,6 +207,7 @@ module _ (setting : Setting) (until : Until) (scroll : Scroll) (lines : List (Li
       played = Looks lines line scroll.line.items far.scene act far.played whole good is;
       knows = far.knows;
       kept = far.kept;
+      seen = far.seen;
       last = far.last;
       within = within-more until setting.pool lines line far.scene far.scene (no-more _) (no-more _) before;
       ahead = before;
@@ -232,6 +238,10 @@ module _ (setting : Setting) (until : Until) (scroll : Scroll) (lines : List (Li
           played = so_far.0;
           knows = knows;
           kept = made.kept far.scene far.knows far.kept;
+          seen = OneSeen far.scene.history (known_in scroll.picture_state) (known_in next.picture_state)
+              scroll.event_writer.session.core next.event_writer.session.core client call event far.seen far.knows.is_at.shows far.pool
+              made.made.is knows.is_at.shows pool_is
+              (subst (λ (last : Option Event). IfSome last (TakesIn scroll next call)) made.made.kept made.seen);
           last = subst (IsLast setting.pool scene.history) (sym made.made.kept) (record {
             before = scroll.event_writer.session.core;
             pool_is = far.pool;

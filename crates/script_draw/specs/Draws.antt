@@ -20,7 +20,7 @@ use Rattle.sm_script.specs.Scenes.{Scene, Setting}
 use Rattle.event_texts.specs.Tellings.{IsEventOf}
 use Rattle.picture_model.specs.declared.picture_state.PictureState.{PictureState}
 use Rattle.picture_model.specs.declared.picture.Picture.{Picture}
-use Rattle.picture_model.specs.PictureStates.{KnowsKept}
+use Rattle.picture_model.specs.PictureStates.{HasSeen, KnowsKept, known_in}
 use Rattle.picture_model.specs.Shown.{ShowsEvent, ShowsKept}
 use Rattle.script_draw.specs.declared.draw.Format.{Format}
 use Rattle.script_draw.specs.declared.draw.View.{View}
@@ -36,10 +36,13 @@ picture_in Format.Text s names last p = picture_text s names last p.trees.items
 picture_in Format.Dot s names last p = dot_text s names last p.trees.items p.travels.items
 picture_in Format.Svg s names last p = svg_text s names last p
 
--- the text is the picture, in this format, of a core in this state behind this event, where labels stand for this: it shows what
--- some picture state knows, which knows each node that the core keeps, so that none of these is missing
-pub record IsPicture (format : Format) (s : State) (names : Names) (last : List ℕ) (event : Option Event) (text : List ℕ) : Type 0 where
+-- the text is the picture, in this format, of a core in this state behind the last event of this history, which is this one, where
+-- labels stand for this: it shows what the picture state knows that has seen the history. That knows each node that the core
+-- keeps, so that none of these is missing
+pub record IsPicture (format : Format) (s : State) (history : List Entry) (names : Names) (last : List ℕ) (event : Option Event)
+    (text : List ℕ) : Type 0 where
   pub picture_state : PictureState
+  pub seen : HasSeen s.pool history (known_in picture_state)
   pub knows : KnowsKept s picture_state
   pub picture : Picture
   pub shows : ShowsEvent s names picture_state event picture
@@ -69,7 +72,7 @@ pub record Pictures (format : Format) (setting : Setting) (scene : Scene) (last 
   pub pool : core.pool ≡ setting.pool
   pub event : Option Event
   pub behind : IsLast setting.pool scene.history event
-  pub picture : IsPicture format core scene.names last event text
+  pub picture : IsPicture format core scene.history scene.names last event text
 
 -- a picture of what happened so far was written
 pub record IsPictured (format : Format) (setting : Setting) (scene : Scene) (last : List ℕ) (old new : Option (List ℕ)) : Type 0 where

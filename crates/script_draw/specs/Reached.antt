@@ -1,5 +1,6 @@
 -- How far a script is played that is drawn. No public clause cites this module.
 use Rattle.std.specs.Prelude.{ℕ, ◌≡◌, ◌≢◌, ◌⊎◌, ◌+◌, ◌≤◌, Bool, true, false, List, [], ◌∷◌, ◌++◌, length, Some, None, Option}
+use Rattle.std.specs.Option.{IfSome}
 use Rattle.script_lines.specs.Pieces.{whole_lines, last_part}
 use Rattle.report_io.specs.declared.fault.ReportFault.{ReportFault}
 use Rattle.report_io.specs.IndentedLines.{is_indented}
@@ -16,7 +17,8 @@ use Rattle.event_facts.specs.declared.event.Event.{Event}
 use Rattle.event_texts.specs.declared.event_writer.EventWriter.{EventWriter}
 use Rattle.event_texts.specs.Called.{Knows}
 use Rattle.event_texts.specs.Tellings.{IsEventOf}
-use Rattle.picture_model.specs.PictureStates.{KnowsKept}
+use Rattle.picture_model.specs.PictureStates.{HasSeen, KnowsKept, known_after, known_in}
+use Rattle.picture_model.specs.Seen.{named_in}
 use Rattle.script_draw.specs.declared.draw.Scroll.{Scroll}
 use Rattle.script_draw.specs.Draws.{IsLast, PictureFault}
 use Rattle.script_draw.specs.declared.draw.Until.{Until}
@@ -31,6 +33,7 @@ pub record Reached (setting : Setting) (until : Until) (scroll : Scroll) (lines 
   pub played : Played lines scene scroll.line.items
   pub knows : Knows scroll.event_writer scene
   pub kept : KnowsKept scroll.event_writer.session.core scroll.picture_state
+  pub seen : HasSeen setting.pool scene.history (known_in scroll.picture_state)
   pub last : IsLast setting.pool scene.history scroll.event
   pub within : IsWithin (asked_number until) (found until setting.pool lines scene)
   pub ahead : WasAhead until setting.pool lines scene scroll.line.items played
@@ -39,6 +42,11 @@ pub record Reached (setting : Setting) (until : Until) (scroll : Scroll) (lines 
 abbrev pub PlaysLine : Scroll → Scroll → List ℕ → Type 0
 PlaysLine old new line = (setting : Setting) (until : Until) (lines : List (List ℕ)) (far : Reached setting until old lines) →
     IsAhead until setting.pool lines far.scene → Reached setting until new (lines ++ line ∷ [])
+
+-- the picture state took in the event of this call between the two moments
+abbrev pub TakesIn : Scroll → Scroll → Call → Event → Type 0
+TakesIn old new call event = (id : ℕ) → known_in new.picture_state id ≡ known_after new.event_writer.session.core
+    (named_in old.event_writer.session.core call) event id (known_in old.picture_state id)
 
 -- the call was made between the two moments, and its event is the last
 pub record MakesEvent (old new : EventWriter) (last : Option Event) (client : ℕ) (call : Call) (binds : Binds) : Type 0 where
@@ -54,6 +62,7 @@ pub record LineMakesCall (old new : Scroll) (client : ℕ) (call : Call) (binds 
   pub failures : new.event_writer.failures ≤ old.event_writer.failures + 1
   pub line_is : new.line.items ≡ line
   pub made : MakesEvent old.event_writer new.event_writer new.event client call binds
+  pub seen : IfSome new.event (TakesIn old new call)
   pub kept : (scene : Scene) → Knows old.event_writer scene → KnowsKept old.event_writer.session.core old.picture_state →
       KnowsKept new.event_writer.session.core new.picture_state
 

@@ -1,5 +1,6 @@
 //! The trees of a script behind an event, drawn.
 ghost use Rattle.std.specs.Prelude.{◌≡◌, ◌≢◌, ◌≤◌, ◌+◌, [], ◌∷◌, ◌++◌, List, ℕ, Option, None, true, IfErr, IfOk, OnOk, length, nat_le};
+ghost use Rattle.std.specs.Option.{IfSome};
 ghost use Rattle.sm_names.specs.declared.messages.Call.{Call as CallMade};
 ghost use Rattle.sm_names.specs.Marks.{Entry};
 ghost use Rattle.core_state.specs.Shown.{Shows};
@@ -11,10 +12,10 @@ ghost use Rattle.sm_script.specs.Sessions.{IsAt, IsSameSetting};
 ghost use Rattle.script_labels.specs.Tables.{Keeps};
 ghost use Rattle.event_texts.specs.Called.{Calls, Knows};
 ghost use Rattle.event_texts.specs.Tellings.{IsEventOf};
-ghost use Rattle.picture_model.specs.PictureStates.{KnowsKept};
+ghost use Rattle.picture_model.specs.PictureStates.{HasSeen, KnowsKept, known_after, known_in};
 ghost use Rattle.script_draw.specs.Draws.{Draws, IsPicture, IsPictured, IsUnwritten, LinesDrawn, picture_in};
 ghost use Rattle.script_draw.specs.Played.{IsAhead, asked_number, found, is_reached, wanted};
-ghost use Rattle.script_draw.specs.Reached.{AsksFor, PlaysLine, PlayHalts, IsHeldUp, IsPlayedOn, PlayLinesHalt, LineMakesCall, MakesEvent, Reached, stops_at_line};
+ghost use Rattle.script_draw.specs.Reached.{AsksFor, PlaysLine, PlayHalts, IsHeldUp, IsPlayedOn, PlayLinesHalt, LineMakesCall, MakesEvent, Reached, TakesIn, stops_at_line};
 
 use event_facts::Event;
 use event_texts::EventWriter;
@@ -278,7 +279,8 @@ fn push_picture(
         Calls scroll.now.event_writer.labels names → text.old.items ≡ [] →
         (history : List Entry) → Shows scroll.now.event_writer.session.core history →
         KnowsKept scroll.now.event_writer.session.core scroll.now.picture_state →
-        IsPicture format scroll.now.event_writer.session.core names scroll.now.line.items
+        HasSeen scroll.now.event_writer.session.core.pool history (known_in scroll.now.picture_state) →
+        IsPicture format scroll.now.event_writer.session.core history names scroll.now.line.items
         scroll.now.event text.new.items) }
 {
     let event = scroll.event.as_ref();
@@ -349,10 +351,11 @@ impl Scroll {
             Reached (record { pool = pages; limits = limits }) until scroll []) }
     {
         let event_writer = EventWriter::new(alloc, seed, pages, limits)?;
+        let picture_state = PictureState::new(alloc);
         let line = Vec::new(alloc);
         Ok(Scroll {
             event_writer,
-            picture_state: PictureState::new(alloc),
+            picture_state,
             limits,
             event: None,
             line,
@@ -484,6 +487,7 @@ impl Scroll {
         ensures limits { OnOk result (self.new.limits ≡ self.old.limits) }
         ensures made { OnOk result
             (MakesEvent self.old.event_writer self.new.event_writer self.new.event client call binds) }
+        ensures seen { OnOk result (IfSome self.new.event (TakesIn self.old self.new call)) }
         ensures kept { OnOk result ((scene : Scene) → Knows self.old.event_writer scene →
             KnowsKept self.old.event_writer.session.core self.old.picture_state →
             KnowsKept self.new.event_writer.session.core self.new.picture_state) }
@@ -516,6 +520,8 @@ fn keep(
     event: Event,
 ) -> Result<(), LineStop>
     ensures last { OnOk result (last.new ≡ Some event) }
+    ensures known { OnOk result ((id : ℕ) → known_in picture_state.new id ≡ known_after
+        event_writer.now.session.core named event id (known_in picture_state.old id)) }
     ensures kept { OnOk result ((old : State) (client : ℕ) (call : CallMade)
         (history : List Entry) →
         Shows old history → IsEventOf old client call event →

@@ -1,3 +1,4 @@
 pub mod MarkLaws
 pub mod MoveLaws
 pub mod SoundLaws
+pub mod UnitLaws

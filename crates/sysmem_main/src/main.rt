@@ -354,6 +354,7 @@ fn job_of<'a>(pages: Pages, search: Search<'a>) -> outcome_runs::SearchJob<'a>
         most: search.most,
         outcome: search.outcome,
         states: search.states,
+        certifies: search.certifies,
     }
 }
 

@@ -100,6 +100,7 @@ fn explore(
         most: u64::from(setting.most),
         outcome,
         states: u64::from(setting.states),
+        certifies: false,
     };
     let host = SearchHost {
         alloc,

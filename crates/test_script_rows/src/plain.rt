@@ -7,7 +7,7 @@ ghost use Rattle.actor_plays.specs.Plays.{AreJoining, IsPlay};
 use crate::setting::Setting;
 use actor_plays::{Actor, Fate, Plan, Play, Turn, Turned, Waiting};
 use actor_scripts::{ActorList, read_actors};
-use play_search::{Exploration, Silent, Vanishing, explore, plans_of};
+use play_search::{Effort, Exploration, Silent, Vanishing, explore, plans_of};
 use script_lines::LabelHash;
 use sm_names::{Cause, Failure, Fault, Fired, NodeKey, Reply, TrackerId};
 use std::alloc::{AllocError, Global};
@@ -399,7 +399,11 @@ fn push_plays(
         plans: &plans,
         vanishing,
     };
-    match explore(alloc, core, &plans, vanishing, 1_000_000, &Silent) {
+    let effort = Effort {
+        most: 1_000_000,
+        certifies: false,
+    };
+    match explore(alloc, core, &plans, vanishing, effort, &Silent) {
         Ok(found) => push_told(out, &table, &found),
         Err(_) => out.extend_from_slice(b"! no search\n"),
     }

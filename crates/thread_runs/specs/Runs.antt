@@ -15,7 +15,7 @@ use Rattle.actor_scripts.specs.ActorLists.{Actors, script_actors}
 use Rattle.actor_scripts.specs.Reads.{IsBad, ReadsPart, ReadsWhole}
 use Rattle.client_actors.specs.ActorSteps.{HasFinished}
 use Rattle.thread_runs.specs.Reports.{report_text}
-use Rattle.record_texts.specs.Records.{record_text}
+use Rattle.script_labels.specs.Records.{record_text}
 use Rattle.script_lines.specs.declared.label.Label.{Label}
 use Rattle.script_lines.specs.Written.{WritesPart}
 use Rattle.thread_runs.specs.declared.fault.ThreadsFault.{ThreadsFault}

@@ -16,7 +16,7 @@ use actor_scripts::ActorList;
 use client_actors::{Gate, run_actors};
 use client_vanish::{GatherFault, Holding, Report, compare, end_service};
 use event_laws::ClientLine;
-use record_texts::push_record;
+use script_labels::push_record;
 use script_lines::{Label, LabelHash};
 use service_lock::{BlankBooks, MAX_SHARES, Service, Setup, State, entries};
 use sm_names::{Call, ClientId, Reply};

@@ -1,5 +1,5 @@
 //! The facts of an event, in lines of text.
-ghost use Rattle.std.specs.Prelude.{◌≡◌, ◌++◌, [], OnOk, option_map};
+ghost use Rattle.std.specs.Prelude.{◌≡◌, ◌++◌, [], OnOk, option_map, IfErr};
 ghost use Rattle.std.specs.List.{find};
 ghost use Rattle.std.specs.Option.{option_map_or};
 ghost use Rattle.core_state.specs.Reads.{views_of};
@@ -32,10 +32,11 @@ use std::alloc::AllocError;
 impl EventWriter {
     // Appends the facts of the event.
     pub(crate) fn push_facts(&self, event: &Event, facts: &mut Vec<u8>) -> Result<(), LineStop>
-        ensures { OnOk result ((names : Names) (lines : KeptLines) →
+        ensures text { OnOk result ((names : Names) (lines : KeptLines) →
             Keeps self.now.session.tables names → Calls self.now.labels names →
             Recalls self.now lines → facts.old.items ≡ [] →
             TellsFacts names lines self.now.session.core event.now facts.new.items) }
+        ensures err { IfErr result (λ stop. stop ≡ LineStop.NoMemory) }
     {
         let doomed = event.newly_doomed(&self.session.core);
         self.push_each_fact(event, doomed, facts)
@@ -48,10 +49,11 @@ impl EventWriter {
         doomed: u64,
         facts: &mut Vec<u8>,
     ) -> Result<(), LineStop>
-        ensures { OnOk result ((names : Names) (lines : KeptLines) →
+        ensures text { OnOk result ((names : Names) (lines : KeptLines) →
             Keeps self.now.session.tables names → Calls self.now.labels names →
             Recalls self.now lines → facts.new.items ≡ facts.old.items
             ++ facts_text names lines self.now.session.core doomed event.now) }
+        ensures err { IfErr result (λ stop. stop ≡ LineStop.NoMemory) }
     {
         self.push_marks(event, facts)?;
         self.push_reasons(event, facts)?;
@@ -148,10 +150,11 @@ impl EventWriter {
 
     // Appends why the call was answered so.
     fn push_reasons(&self, event: &Event, facts: &mut Vec<u8>) -> Result<(), LineStop>
-        ensures { OnOk result ((names : Names) (lines : KeptLines) →
+        ensures text { OnOk result ((names : Names) (lines : KeptLines) →
             Keeps self.now.session.tables names → Calls self.now.labels names →
             Recalls self.now lines → facts.new.items ≡ facts.old.items ++ reasons_text names lines
             self.now.session.core event.now.call event.now.reply) }
+        ensures err { IfErr result (λ stop. stop ≡ LineStop.NoMemory) }
     {
         match event.reply {
             Reply::Pending => self.push_pending(event.call, facts),
@@ -164,9 +167,10 @@ impl EventWriter {
 
     // Appends for whom the node waits that the call is made on.
     fn push_pending(&self, call: Call, facts: &mut Vec<u8>) -> Result<(), LineStop>
-        ensures { OnOk result ((names : Names) → Keeps self.now.session.tables names →
+        ensures text { OnOk result ((names : Names) → Keeps self.now.session.tables names →
             Calls self.now.labels names → facts.new.items
             ≡ facts.old.items ++ pending_text names self.now.session.core call) }
+        ensures err { IfErr result (λ stop. stop ≡ LineStop.NoMemory) }
     {
         match object_key(parts_of(call).object) {
             Some(key) => self.push_waiting(key, facts),
@@ -176,9 +180,10 @@ impl EventWriter {
 
     // Appends for whom the node with this key waits.
     fn push_waiting(&self, key: NodeKey, facts: &mut Vec<u8>) -> Result<(), LineStop>
-        ensures { OnOk result ((names : Names) → Keeps self.now.session.tables names →
+        ensures text { OnOk result ((names : Names) → Keeps self.now.session.tables names →
             Calls self.now.labels names → facts.new.items
             ≡ facts.old.items ++ node_waits names self.now.session.core key) }
+        ensures err { IfErr result (λ stop. stop ≡ LineStop.NoMemory) }
     {
         match self.session.core.node(key) {
             Some(node) => {
@@ -225,9 +230,10 @@ impl EventWriter {
 
     // Appends the holders of pages that were not given back, where a handle was dropped or a live node left.
     fn push_keepers(&self, event: &Event, facts: &mut Vec<u8>) -> Result<(), LineStop>
-        ensures { OnOk result ((names : Names) → Keeps self.now.session.tables names →
+        ensures text { OnOk result ((names : Names) → Keeps self.now.session.tables names →
             Calls self.now.labels names → facts.new.items
             ≡ facts.old.items ++ keepers_text names self.now.session.core event.now) }
+        ensures err { IfErr result (λ stop. stop ≡ LineStop.NoMemory) }
     {
         match &event.after {
             Some(after) => match buffer_dropped(event.call, event.reply) {
@@ -245,9 +251,10 @@ impl EventWriter {
         after: &Snapshot,
         facts: &mut Vec<u8>,
     ) -> Result<(), LineStop>
-        ensures { OnOk result ((names : Names) → Keeps self.now.session.tables names →
+        ensures text { OnOk result ((names : Names) → Keeps self.now.session.tables names →
             Calls self.now.labels names → facts.new.items ≡ facts.old.items
             ++ kept_left_text names self.now.session.core event.now.before after.now) }
+        ensures err { IfErr result (λ stop. stop ≡ LineStop.NoMemory) }
     {
         if !event.some_left(&self.session.core) {
             return Ok(());
@@ -267,9 +274,10 @@ impl EventWriter {
         buffer: BufferName,
         facts: &mut Vec<u8>,
     ) -> Result<(), LineStop>
-        ensures { OnOk result ((names : Names) → Keeps self.now.session.tables names →
+        ensures text { OnOk result ((names : Names) → Keeps self.now.session.tables names →
             Calls self.now.labels names → facts.new.items ≡ facts.old.items
             ++ kept_dropped_text names self.now.session.core after.now buffer) }
+        ensures err { IfErr result (λ stop. stop ≡ LineStop.NoMemory) }
     {
         match named(&after.held, buffer) {
             Some(held) => self.push_kept_by(after, held, facts),
@@ -284,9 +292,10 @@ impl EventWriter {
         held: HeldBuffer,
         facts: &mut Vec<u8>,
     ) -> Result<(), LineStop>
-        ensures { OnOk result ((names : Names) → Keeps self.now.session.tables names →
+        ensures text { OnOk result ((names : Names) → Keeps self.now.session.tables names →
             Calls self.now.labels names → facts.new.items ≡ facts.old.items
             ++ kept_one_text names self.now.session.core after.now held) }
+        ensures err { IfErr result (λ stop. stop ≡ LineStop.NoMemory) }
     {
         let strong = strong_live(&after.nodes)?;
         if strong.is_empty() {
@@ -297,9 +306,10 @@ impl EventWriter {
 
     // Appends the holders of handles on the buffers.
     fn push_kept_all(&self, held: &[HeldBuffer], facts: &mut Vec<u8>) -> Result<(), LineStop>
-        ensures { OnOk result ((names : Names) → Keeps self.now.session.tables names →
+        ensures text { OnOk result ((names : Names) → Keeps self.now.session.tables names →
             Calls self.now.labels names → facts.new.items ≡ facts.old.items
             ++ kept_text names (who_keeps names self.now.session.core) held.now) }
+        ensures err { IfErr result (λ stop. stop ≡ LineStop.NoMemory) }
     {
         let session = &self.session;
         push_kept(

@@ -1,5 +1,5 @@
 //! Why a call was refused, or was a misuse.
-ghost use Rattle.std.specs.Prelude.{◌≡◌, ◌++◌, OnOk};
+ghost use Rattle.std.specs.Prelude.{◌≡◌, ◌++◌, OnOk, IfErr};
 ghost use Rattle.script_labels.specs.Names.{Names};
 ghost use Rattle.script_labels.specs.Tables.{Keeps};
 ghost use Rattle.sm_names.specs.Answers.{receiver_of as receiver_told};
@@ -29,10 +29,11 @@ impl EventWriter {
         refusal: Refusal,
         facts: &mut Vec<u8>,
     ) -> Result<(), LineStop>
-        ensures { OnOk result ((names : Names) (lines : KeptLines) →
+        ensures text { OnOk result ((names : Names) (lines : KeptLines) →
             Keeps self.now.session.tables names → Calls self.now.labels names →
             Recalls self.now lines → facts.new.items ≡ facts.old.items
             ++ refusal_text names lines.deeds self.now.session.core call refusal) }
+        ensures err { IfErr result (λ stop. stop ≡ LineStop.NoMemory) }
     {
         match refusal {
             Refusal::NoSuchClient => {
@@ -256,9 +257,10 @@ impl EventWriter {
 
     // Appends that the caller has no handle on which the call is made, and who has some.
     fn push_lacked(&self, call: Call, facts: &mut Vec<u8>) -> Result<(), LineStop>
-        ensures { OnOk result ((names : Names) → Keeps self.now.session.tables names →
+        ensures text { OnOk result ((names : Names) → Keeps self.now.session.tables names →
             Calls self.now.labels names → facts.new.items
             ≡ facts.old.items ++ lacked_text names self.now.session.core call) }
+        ensures err { IfErr result (λ stop. stop ≡ LineStop.NoMemory) }
     {
         match call {
             Call::DupHandle(buffer, strength) => self.push_no_handle(strength, buffer, facts),
@@ -276,9 +278,10 @@ impl EventWriter {
         buffer: BufferName,
         facts: &mut Vec<u8>,
     ) -> Result<(), LineStop>
-        ensures { OnOk result ((names : Names) → Keeps self.now.session.tables names →
+        ensures text { OnOk result ((names : Names) → Keeps self.now.session.tables names →
             Calls self.now.labels names → facts.new.items ≡ facts.old.items
             ++ no_handle_text names self.now.session.core strength buffer) }
+        ensures err { IfErr result (λ stop. stop ≡ LineStop.NoMemory) }
     {
         self.push_lacking(strength, buffer, facts)?;
         self.push_open(buffer, facts)
@@ -286,8 +289,9 @@ impl EventWriter {
 
     // Appends who has handles on the buffer, if somebody has, and ends the line.
     fn push_open(&self, buffer: BufferName, facts: &mut Vec<u8>) -> Result<(), LineStop>
-        ensures { OnOk result ((names : Names) → Calls self.now.labels names → facts.new.items
+        ensures text { OnOk result ((names : Names) → Calls self.now.labels names → facts.new.items
             ≡ facts.old.items ++ open_text names self.now.session.core buffer) }
+        ensures err { IfErr result (λ stop. stop ≡ LineStop.NoMemory) }
     {
         let clients = self.session.core.clients()?;
         push_holders(

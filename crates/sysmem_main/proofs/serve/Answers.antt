@@ -16,6 +16,7 @@ returns-in-Some g c =
         record_asked = c.in-Some.ensures.«record»;
         patience = c.in-Some.ensures.patience;
         search = c.in-Some.ensures.search;
+        certified = c.in-Some.ensures.certified;
         vanishing = c.in-Some.ensures.vanishing;
         file = c.in-Some.ensures.file;
       };

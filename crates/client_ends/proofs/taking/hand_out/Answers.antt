@@ -6,7 +6,7 @@ use Rattle.client_ends.specs.Taking.{grips_at}
 use Rattle.event_laws.specs.HandleSums.{indices_in}
 use Rattle.client_ends.proofs.TakeLaws.{grips_all, grips_first, grips_with, grips_without, none_left}
 use Rattle.client_ends.proofs.TakeLaws.{unit_there, units_behind, units_first, units_stay}
-use Rattle.client_accounts.proofs.UnitLaws.{same_events}
+use Rattle.service_lock.proofs.UnitLaws.{same_events}
 use Rattle.client_ends.proofs.taking.hand_out.Goals as goal
 use Rattle.client_ends.proofs.taking.hand_out.Goals.{then-has_buffer, else-has_buffer}
 

@@ -2,8 +2,8 @@ use Rattle.std.proofs.Common.{◌≡◌, ◌≤◌, ◌+◌, ◌-◌, ◌++◌, 
 use Rattle.std.specs.Prelude.{vec_capacity}
 use Rattle.sm_names.specs.declared.rules.TheConstants.{MAX_BUFFERS}
 use Rattle.event_laws.specs.HandleSums.{indices_in}
-use Rattle.client_accounts.specs.Accounts.{SameHandles}
-use Rattle.client_accounts.specs.Takes.{handful}
+use Rattle.service_lock.specs.Accounts.{SameHandles}
+use Rattle.service_lock.specs.Takes.{handful}
 use Rattle.client_ends.specs.Taking.{grips_at}
 use Rattle.client_ends.proofs.TakeLaws.{indices_from}
 use Rattle.client_ends.proofs.taking.hand_out.Given as goal

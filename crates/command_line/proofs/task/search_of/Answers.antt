@@ -38,6 +38,13 @@ returns-clause-end c = record {
   unset = c.get_flag-3.ensures.other;
 }
 
+pub returns-clause-certified : goal.returns-clause-certified
+returns-clause-certified c = record {
+  none = c.get_flag-4.ensures.none;
+  set = c.get_flag-4.ensures.value;
+  unset = c.get_flag-4.ensures.other;
+}
+
 pub returns-clause-vanishing : goal.returns-clause-vanishing
 returns-clause-vanishing c =
     let text : List ℕ → _ = λ id. one_text (found_of c.args.matches.now) id in

@@ -75,6 +75,12 @@ returns-then-eq-4-clause-patience c =
     (sym (its_text (codes "patient") c.args.matches.now c.in-Some.inner.now _ c.in-Some.ensures.rows refl))
     c.search_of.ensures.patience
 
+pub returns-then-eq-4-clause-certified : goal.returns-then-eq-4-clause-certified
+returns-then-eq-4-clause-certified c =
+    subst (λ (text : Option (List ℕ)). IsFlag text c.search_of.result.certifies)
+    (sym (its_text (codes "certify") c.args.matches.now c.in-Some.inner.now _ c.in-Some.ensures.rows refl))
+    c.search_of.ensures.certified
+
 pub returns-then-eq-4-clause-vanishing : goal.returns-then-eq-4-clause-vanishing
 returns-then-eq-4-clause-vanishing c = (
   subst (λ (text : Option (List ℕ)). IsFlag text c.search_of.result.at_end)

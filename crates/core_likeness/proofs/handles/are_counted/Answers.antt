@@ -2,8 +2,8 @@ use Rattle.std.proofs.Common.{◌≡◌, ◌<◌, ◌≤◌, arith, length, refl
 use Rattle.sm_names.specs.declared.keys.BufferName.{BufferName}
 use Rattle.sm_names.specs.declared.keys.Strength.{Strength}
 use Rattle.sm_names.specs.Marks.{Entry}
-use Rattle.entry_readings.specs.Told.{is_opened, opening_by}
-use Rattle.entry_readings.specs.declared.openings.Opening.{Opening}
+use Rattle.core_likeness.specs.Told.{is_opened, opening_by}
+use Rattle.core_likeness.specs.declared.readings.openings.Opening.{Opening}
 use Rattle.core_likeness.specs.Naming.{new_id}
 use Rattle.core_likeness.specs.Parts.{IsCounted}
 use Rattle.core_likeness.proofs.HandleLaws.{counted-all, counted-more}
@@ -13,10 +13,10 @@ use Rattle.core_likeness.proofs.handles.are_counted.Goals as goal
 pub loop-entry-preserved : goal.loop-entry-preserved
 loop-entry-preserved c =
     let within : c.loop-entry.entry-index < length c.args.entries.now = omega arith in
-    counted-more c.args.one.now.holds c.args.other.now.holds (new_id c.args.names.now) c.args.is_old c.args.entries.now
+    counted-more c.args.sides.now.one.now.holds c.args.sides.now.other.now.holds (new_id c.args.sides.now.names.now) c.args.sides.now.is_old c.args.entries.now
     c.loop-entry.entry-index c.entry-item.result within c.loop-entry.invariant
     (subst (λ (x : Entry). (buffer : BufferName) (strength : Strength) → is_opened (opening_by x.1 x.2) buffer ≡ true →
-    IsCounted c.args.one.now.holds c.args.other.now.holds (new_id c.args.names.now) c.args.is_old x.0 buffer strength) c.entry-item.is
+    IsCounted c.args.sides.now.one.now.holds c.args.sides.now.other.now.holds (new_id c.args.sides.now.names.now) c.args.sides.now.is_old x.0 buffer strength) c.entry-item.is
     (λ buffer strength h. c.if-not-is_opening_counted.ensures refl buffer strength
     (subst (λ (o : Opening). is_opened o buffer ≡ true) (sym c.opening_of-opening.ensures) h)))
 
@@ -24,6 +24,6 @@ loop-entry-preserved c =
 pub returns : goal.returns
 returns c = λ _.
     let all : length c.args.entries.now ≤ c.loop-entry.entry-index = omega arith in
-    counted-all c.args.one.now.holds c.args.other.now.holds (new_id c.args.names.now) c.args.is_old c.args.entries.now
+    counted-all c.args.sides.now.one.now.holds c.args.sides.now.other.now.holds (new_id c.args.sides.now.names.now) c.args.sides.now.is_old c.args.entries.now
     c.loop-entry.entry-index all
     c.loop-entry.invariant

@@ -4,8 +4,8 @@ use Rattle.std.proofs.lemmas.List.{drop_all, nil_from_length}
 use Rattle.std.specs.List.{remove}
 use Rattle.sm_names.specs.declared.tracking.Condition.{Condition}
 use Rattle.sm_names.specs.Trackers.{Tracked}
-use Rattle.entry_readings.specs.declared.tracking.Attached.{Attached}
-use Rattle.entry_readings.specs.Told.{tracked_of}
+use Rattle.core_likeness.specs.declared.readings.tracking.Attached.{Attached}
+use Rattle.core_likeness.specs.Told.{tracked_of}
 use Rattle.alike_cores.specs.Cores.{tracker_renamed}
 use Rattle.alike_cores.specs.Mixed.{Mixed, Nothing}
 use Rattle.core_likeness.specs.Naming.{new_id, new_key, new_number}

@@ -1,5 +1,5 @@
 use Rattle.std.proofs.Common.{drop, map}
-use Rattle.entry_readings.specs.Told.{tracked_of}
+use Rattle.core_likeness.specs.Told.{tracked_of}
 use Rattle.alike_cores.specs.Cores.{tracker_renamed}
 use Rattle.alike_cores.specs.Mixed.{Mixed}
 use Rattle.core_likeness.specs.Naming.{new_id, new_key, new_number}

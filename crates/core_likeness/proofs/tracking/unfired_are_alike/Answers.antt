@@ -2,7 +2,7 @@ use Rattle.std.proofs.Common.{◌≡◌, ◌∙◌, List, ap, map, subst, sym, t
 use Rattle.sm_names.specs.Trackers.{Tracked}
 use Rattle.sm_names.proofs.ListLaws.{map-map}
 use Rattle.core_state.specs.Shown.{tracked_as}
-use Rattle.entry_readings.specs.Told.{tracked_of}
+use Rattle.core_likeness.specs.Told.{tracked_of}
 use Rattle.alike_cores.specs.Cores.{tracker_renamed}
 use Rattle.alike_cores.specs.Mixed.{Mixed}
 use Rattle.core_likeness.specs.Naming.{new_id, new_key, new_number}

@@ -14,7 +14,7 @@ returns c =
     let shown = c.in_ok-found_of.ensures in
     record {
       play = play;
-      replay = subst (λ turns. IsReplay plans setting turns play) (sym shown.turns) c.requires.replay;
+      replay = subst (λ turns. IsReplay plans vanishing setting turns play) (sym shown.turns) c.requires.replay;
       told = c.requires.told;
       outcome = shown.outcome;
       ended = subst (λ turns. HaveNoTurn plans vanishing setting turns (length plans)) (sym shown.turns) c.requires.ended;

@@ -1,4 +1,4 @@
-use Rattle.std.proofs.Common.{◌∙◌, sym}
+use Rattle.std.proofs.Common.{◌∙◌, refl, sym}
 use Rattle.play_search.proofs.replay.has_no_turn.Goals as goal
 
 pub returns : goal.returns
@@ -8,6 +8,7 @@ returns c = λ yes. record {
   turned = c.in_ok-turned.turned;
   play = c.in_ok-play.ensures.play;
   turn = c.in_ok-turned.ensures.turn;
+  takes = c.in_ok-turned.ensures.takes refl;
   none = sym c.is_made.ensures ∙ c.if-is_made.false;
   stays = c.in_ok-stays.ensures yes;
 }

@@ -8,8 +8,9 @@ use Rattle.script_draw.proofs.draw.push_picture.Goals as goal
 -- the picture shows what the picture state knows
 pub returns : goal.returns
 returns c = on_ok_weaker c.push_format.result
-    (λ put names keeps calls blank history shows knows. record {
+    (λ put names keeps calls blank history shows knows seen. record {
       picture_state = c.args.scroll.now.picture_state;
+      seen = seen;
       knows = knows;
       picture = c.in_ok-picture.picture;
       shows = subst (λ (event : Option Event). ShowsEvent c.args.scroll.now.event_writer.session.core

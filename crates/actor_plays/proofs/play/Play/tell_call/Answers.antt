@@ -1,5 +1,7 @@
 use Rattle.std.proofs.Common.{refl}
 use Rattle.std.specs.Prelude.{Ok}
+use Rattle.actor_plays.specs.Moves.{position_at, position_of}
+use Rattle.actor_plays.proofs.FallLaws.{fell_told}
 use Rattle.actor_plays.proofs.MoveLaws.{call_makes}
 use Rattle.actor_plays.proofs.PlayLaws.{told_by}
 use Rattle.actor_plays.proofs.play.Play.tell_call.Goals as goal
@@ -15,3 +17,9 @@ pub returns-in-Ok-clause-makes : goal.returns-in-Ok-clause-makes
 returns-in-Ok-clause-makes c =
     call_makes c.args.self.now.core c.step_with_marks.new.core c.args.client c.args.call c.in_ok-told.told.reply
     (Ok c.in_ok-told.told.reply) refl c.in_ok-told.ensures.stepped.answer c.in_ok-told.ensures.stepped.after c.in_ok-told.ensures.stepped.full
+
+pub returns-in-Ok-clause-fell : goal.returns-in-Ok-clause-fell
+returns-in-Ok-clause-fell c =
+    fell_told (position_of c.args.self.now)
+    (record (position_at c.note_falls.new.falls.items c.args.self.now) { core = c.step_with_marks.new.core }) c.args.client c.args.call
+    c.in_ok-told.told.reply c.in_ok-told.told.moments c.in_ok-told.ensures.stages c.in_ok-note_falls.ensures.told

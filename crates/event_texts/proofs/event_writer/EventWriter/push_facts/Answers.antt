@@ -4,8 +4,8 @@ use Rattle.event_texts.specs.Tellings.{facts_text}
 use Rattle.event_texts.proofs.event_writer.EventWriter.push_facts.Goals as goal
 
 -- they are told where no text was
-pub returns : goal.returns
-returns c = on_ok_weaker c.push_each_fact.result
+pub returns-clause-text : goal.returns-clause-text
+returns-clause-text c = on_ok_weaker c.push_each_fact.result
     (λ put names lines keeps calls recalls empty. record {
       doomed = c.newly_doomed-doomed.result;
       are_doomed = c.newly_doomed-doomed.ensures;
@@ -14,4 +14,4 @@ returns c = on_ok_weaker c.push_each_fact.result
           ∙ ap (λ (t : List ℕ). t ++ facts_text names lines c.args.self.now.session.core c.newly_doomed-doomed.result c.args.event.now)
           empty;
     })
-    c.push_each_fact.ensures
+    c.push_each_fact.ensures.text

@@ -12,7 +12,7 @@ use Rattle.event_texts.proofs.event_writer.EventWriter.tell.Goals as goal
 pub returns-clause-recalls : goal.returns-clause-recalls
 returns-clause-recalls c = on_ok_weaker c.push_facts.result
     (λ put lines recalls. c.in_ok-note_event.ensures.recalls lines recalls)
-    c.push_facts.ensures
+    c.push_facts.ensures.text
 
 -- and then the facts told, for which session and labels are the same
 pub returns-clause-facts : goal.returns-clause-facts
@@ -23,4 +23,4 @@ returns-clause-facts c = on_ok_weaker c.push_facts.result
     (put names later (subst (λ (s : Session). Keeps s.tables names) (sym c.note_event.ensures.session) keeps)
     (subst (λ (l : Labels). Calls l names) (sym c.note_event.ensures.labels) calls)
     (c.in_ok-note_event.ensures.recalls lines recalls) empty))
-    c.push_facts.ensures
+    c.push_facts.ensures.text

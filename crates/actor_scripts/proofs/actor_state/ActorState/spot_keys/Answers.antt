@@ -1,0 +1,14 @@
+use Rattle.std.proofs.Common.{◌≡◌, ◌==◌, ◌++◌, ◌∙◌, ap, false, subst, sym}
+use Rattle.std.proofs.lemmas.List.{append-nil}
+use Rattle.std.specs.List.{list_any}
+use Rattle.std.specs.Map.{keys_of}
+use Rattle.sm_names.specs.Sameness.{same_key}
+use Rattle.actor_scripts.proofs.ListedLaws.{not_listed}
+use Rattle.actor_scripts.proofs.actor_state.ActorState.spot_keys.Goals as goal
+
+-- all keys are listed
+pub returns : goal.returns
+returns c = λ key none.
+    let all : c.loop-key.keys.items ≡ keys_of c.args.self.now.spots.entries =
+    sym (append-nil c.loop-key.keys.items) ∙ (ap (λ l. c.loop-key.keys.items ++ l) (sym c.in-None.ensures.steps.0) ∙ c.loop-key.invariant) in
+    not_listed (same_key key) c.args.self.now.spots.entries (subst (λ l. list_any (same_key key) l ≡ false) all none)

@@ -1,0 +1,7 @@
+use Rattle.std.proofs.Common.{◌≡◌, ◌++◌}
+use Rattle.std.specs.Map.{keys_of}
+use Rattle.actor_scripts.proofs.actor_state.ActorState.tracker_labels.Given as goal
+
+-- those so far and those to come are all
+abbrev pub invariant-loop-label : goal.invariant-loop-label
+invariant-loop-label l = l.labels.items ++ l.label-iterator ≡ keys_of l.self.trackers.entries

@@ -1,5 +1,0 @@
-pub mod Calls
-pub mod ClientLaws
-pub mod RootLaws
-pub mod OpeningLaws
-pub mod TrackerLaws

@@ -1,7 +1,0 @@
-use Rattle.std.proofs.Common.{sym, ◌∙◌}
-use Rattle.entry_readings.proofs.ClientLaws.{parcels-told}
-use Rattle.entry_readings.proofs.clients.waiting_for.Goals as goal
-
--- by the entries alone
-pub returns : goal.returns
-returns c = λ pool. c.in_ok-waiting.ensures ∙ sym (parcels-told c.args.client pool c.args.entries.now)

@@ -1,7 +1,0 @@
-use Rattle.std.proofs.Common.{sym, ◌∙◌}
-use Rattle.entry_readings.proofs.ClientLaws.{shut-told}
-use Rattle.entry_readings.proofs.clients.was_shut.Goals as goal
-
--- by the entries alone
-pub returns : goal.returns
-returns c = λ pool. c.is_any_shut-shut.ensures ∙ sym (shut-told c.args.client pool c.args.entries.now)

@@ -1,9 +1,0 @@
-use Rattle.std.proofs.Common.{ℕ, ◌≡◌, map, reverse, take}
-use Rattle.sm_names.specs.Timelines.{timeline}
-use Rattle.sm_names.specs.Trackers.{tracked}
-use Rattle.entry_readings.specs.Told.{tracked_of}
-use Rattle.entry_readings.proofs.tracking.attached_in.Given as goal
-
--- so far those of these entries
-abbrev pub invariant-loop-at : goal.invariant-loop-at
-invariant-loop-at l = (pool : ℕ) → map tracked_of l.all.items ≡ reverse (tracked (timeline pool (take l.at l.entries)))

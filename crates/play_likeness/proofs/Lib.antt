@@ -1,0 +1,3 @@
+pub mod Listed
+pub mod KnownLaws
+pub mod StageLaws

@@ -1,0 +1,10 @@
+use Rattle.std.proofs.Common.{◌≡◌, take}
+use Rattle.sm_names.specs.Elements.{In}
+use Rattle.actor_plays.specs.declared.falls.GoneNode.{GoneNode}
+use Rattle.core_likeness.specs.Naming.{new_key}
+use Rattle.play_likeness.proofs.falls.are_fallen.Given as goal
+
+-- so far each is one of the ones
+abbrev pub invariant-loop-gone : goal.invariant-loop-gone
+invariant-loop-gone l = (h : GoneNode) → In h (take l.gone-index l.other) → (g : GoneNode) × In g l.one × (new_key l.names g.key
+    ≡ h.key)

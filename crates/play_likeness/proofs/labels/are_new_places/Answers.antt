@@ -1,0 +1,24 @@
+use Rattle.std.proofs.Common.{ℕ, ◌≡◌, ◌<◌, ◌≤◌, ◌∙◌, ap, arith, length, option_map, refl, sym}
+use Rattle.actor_scripts.specs.Tables.{known}
+use Rattle.alike_plays.specs.Actors.{place_renamed}
+use Rattle.core_likeness.specs.Naming.{new_id, new_key}
+use Rattle.play_likeness.proofs.Listed.{each-all, each-more}
+use Rattle.play_likeness.proofs.labels.are_new_places.Goals as goal
+
+-- one label more stands for the same
+pub loop-label-preserved : goal.loop-label-preserved
+loop-label-preserved c =
+    let within : c.loop-label.label-index < length c.args.labels.now = omega arith in
+    each-more (λ (l : ℕ). (known c.args.other.now).nodes l ≡ option_map (place_renamed (new_key c.args.names.now)
+    (new_id c.args.names.now)) ((known c.args.one.now).nodes l))
+    c.args.labels.now c.loop-label.label-index 0 within c.loop-label.invariant
+    (sym c.node-in-loop-label.ensures ∙ (c.if-not-is_new_place.ensures refl
+    ∙ ap (option_map (place_renamed (new_key c.args.names.now) (new_id c.args.names.now))) c.node.ensures))
+
+-- all do
+pub returns : goal.returns
+returns c = λ _.
+    let all : length c.args.labels.now ≤ c.loop-label.label-index = omega arith in
+    each-all (λ (l : ℕ). (known c.args.other.now).nodes l ≡ option_map (place_renamed (new_key c.args.names.now)
+    (new_id c.args.names.now)) ((known c.args.one.now).nodes l))
+    c.args.labels.now c.loop-label.label-index all c.loop-label.invariant

@@ -1,0 +1,11 @@
+use Rattle.std.proofs.Common.{ℕ, ◌≡◌, option_map, take}
+use Rattle.sm_names.specs.Elements.{In}
+use Rattle.actor_scripts.specs.Tables.{known}
+use Rattle.alike_plays.specs.Actors.{place_renamed}
+use Rattle.core_likeness.specs.Naming.{new_id, new_key}
+use Rattle.play_likeness.proofs.labels.are_new_places.Given as goal
+
+-- so far each label stands for the same
+abbrev pub invariant-loop-label : goal.invariant-loop-label
+invariant-loop-label l = (label : ℕ) → In label (take l.label-index l.labels) →
+    (known l.other).nodes label ≡ option_map (place_renamed (new_key l.names) (new_id l.names)) ((known l.one).nodes label)

@@ -1,0 +1,10 @@
+use Rattle.std.proofs.Common.{ℕ, ◌≡◌, option_map, take}
+use Rattle.sm_names.specs.Elements.{In}
+use Rattle.actor_scripts.specs.Tables.{known}
+use Rattle.core_likeness.specs.Naming.{new_number}
+use Rattle.play_likeness.proofs.labels.are_new_trackers.Given as goal
+
+-- so far each label stands for the same
+abbrev pub invariant-loop-label : goal.invariant-loop-label
+invariant-loop-label l = (label : ℕ) → In label (take l.label-index l.labels) →
+    (known l.other).trackers label ≡ option_map (new_number l.names) ((known l.one).trackers label)

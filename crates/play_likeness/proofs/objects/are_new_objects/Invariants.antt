@@ -1,0 +1,8 @@
+use Rattle.std.proofs.Common.{◌≡◌, map, take}
+use Rattle.alike_plays.specs.Actors.{object_renamed}
+use Rattle.core_likeness.specs.Naming.{new_id, new_key}
+use Rattle.play_likeness.proofs.objects.are_new_objects.Given as goal
+
+-- so far the objects are the ones
+abbrev pub invariant-loop-at : goal.invariant-loop-at
+invariant-loop-at l = take l.at l.other ≡ map (object_renamed (new_key l.names) (new_id l.names)) (take l.at l.one)

@@ -1,0 +1,12 @@
+use Rattle.std.proofs.Common.{map, take}
+use Rattle.actor_plays.specs.declared.actor.Actor.{Actor}
+use Rattle.actor_plays.specs.Plays.{stage_of}
+use Rattle.alike_plays.specs.Ahead.{ahead_of}
+use Rattle.alike_plays.specs.AlikePlays.{AreAlikeAll}
+use Rattle.core_likeness.specs.Naming.{new_id, new_key, new_number}
+use Rattle.play_likeness.proofs.plays.are_alike_ahead.Given as goal
+
+-- so far the actors have the same ahead
+abbrev pub invariant-loop-at : goal.invariant-loop-at
+invariant-loop-at l = AreAlikeAll (new_key l.names) (new_id l.names) (new_number l.names)
+    (map (λ (a : Actor). ahead_of (stage_of a)) (take l.at l.one)) (map (λ (a : Actor). ahead_of (stage_of a)) (take l.at l.other))

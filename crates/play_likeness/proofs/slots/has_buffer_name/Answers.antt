@@ -1,0 +1,14 @@
+use Rattle.std.proofs.Common.{◌<◌, arith, get_or, length, refl, sym}
+use Rattle.sm_names.specs.declared.keys.BufferName.{BufferName}
+use Rattle.sm_names.proofs.ListLaws.{In-get_or}
+use Rattle.play_likeness.proofs.slots.has_buffer_name.Goals as goal
+
+-- this one has the name
+pub returns-then-is_new_buffer : goal.returns-then-is_new_buffer
+returns-then-is_new_buffer c = λ _.
+    let nothing : BufferName = record { collection = 0; index = 0 } in
+    let within : c.loop-buffer.buffer-index < length c.args.buffers.now = omega arith in (
+      get_or c.args.buffers.now c.loop-buffer.buffer-index nothing,
+      In-get_or c.args.buffers.now c.loop-buffer.buffer-index nothing within,
+      sym (c.if-is_new_buffer.ensures refl),
+    )

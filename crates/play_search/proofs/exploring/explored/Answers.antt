@@ -1,0 +1,12 @@
+use Rattle.std.proofs.Common.{List, subst}
+use Rattle.play_search.specs.declared.exploring.Found.{Found}
+use Rattle.play_search.specs.Ends.{NoneIsMissing}
+use Rattle.play_search.specs.Searches.{setup_of}
+use Rattle.play_search.proofs.exploring.explored.Goals as goal
+
+-- of the outcomes that were found
+pub returns-clause-none : goal.returns-clause-none
+returns-clause-none g c = λ yes.
+    subst (λ (outcomes : List Found). NoneIsMissing c.args.ground.now.vanishing.at_end
+    (setup_of c.args.ground.now.plans.now c.args.ground.now.vanishing c.args.ground.now.setting) outcomes)
+    c.deref-3.ensures.value (c.in_ok-certified.ensures.none yes)

@@ -1,0 +1,6 @@
+use Rattle.play_search.specs.Ends.{AreRowsEnded}
+use Rattle.play_search.proofs.graph.Graph.are_rows_ended.Given as goal
+
+-- so far the plays end so
+abbrev pub invariant-values : goal.invariant-values
+invariant-values l = AreRowsEnded l.ground.plans.now l.ground.vanishing l.ground.setting l.self.rows.items l.shown.outcomes.now l.at

@@ -1,0 +1,139 @@
+//! Whether the plays that a search met end as outcomes say, where they are over.
+ghost use Rattle.std.specs.Prelude.{◌≡◌, ℕ, length, true, IfOk, Ok};
+ghost use Rattle.actor_plays.specs.Moves.{position_of};
+ghost use Rattle.actor_plays.specs.Positions.{Rests};
+ghost use Rattle.play_search.specs.Closing.{AreClosedIn};
+ghost use Rattle.play_search.specs.Ends.{AreRowsEnded, EndsAsOne, IsOver, IsRowEnded, NoneIsMissing};
+ghost use Rattle.play_search.specs.Searches.{IsOnWay, IsPool, setup_of};
+
+use crate::ends::ends_as;
+use crate::exploring::Found;
+use crate::fault::ExploreFault;
+use crate::graph::Graph;
+use crate::next::is_left_open;
+use crate::replay::{Ground, is_made, replay};
+use crate::turns::{actor_of, is_step};
+use actor_plays::Play;
+use std::alloc::AllocError;
+
+// The outcomes that were found, and for each ending its place among them.
+#[derive(Clone, Copy)]
+pub(crate) struct Shown<'a> {
+    pub(crate) outcomes: &'a [Found],
+    pub(crate) places: &'a [Option<usize>],
+}
+
+// Whether the play ends as the outcome of this ending says.
+fn ends_as_shown(
+    ground: &Ground<'_>,
+    play: &Play,
+    shown: Shown<'_>,
+    ending: u32,
+) -> Result<bool, AllocError>
+    ensures { result ≡ Ok true → EndsAsOne ground.now.vanishing.at_end ground.now.plans.now
+        shown.entry.outcomes.now (position_of play.now) }
+{
+    let Some(Some(place)) = shown.places.get(ending as usize) else {
+        return Ok(false);
+    };
+    match shown.outcomes.get(*place) {
+        Some(found) => ends_as(ground, play, found),
+        None => Ok(false),
+    }
+}
+
+impl Graph {
+    // The first actor that makes a step in the value at this place.
+    fn mover_at(&self, at: usize) -> Option<usize> {
+        for edge in self.edges_of(at) {
+            if is_step(edge.turn) {
+                return Some(actor_of(edge.turn));
+            }
+        }
+        None
+    }
+
+    // Whether an actor has another turn, where all have passed what they can: one must leave, or the first that made a step in
+    // the value at this place makes it.
+    fn goes_on(&self, ground: &Ground<'_>, play: &mut Play, at: usize) -> Result<bool, ExploreFault>
+        requires way { IsOnWay ground.now.plans.now ground.now.vanishing ground.now.setting play.old }
+        requires rests { (actor : ℕ) →
+            Rests (setup_of ground.now.plans.now ground.now.vanishing ground.now.setting)
+            (position_of play.old) actor }
+        ensures { IfOk result (λ yes. yes ≡ true → IsOver ground.now.vanishing.at_end
+            (setup_of ground.now.plans.now ground.now.vanishing ground.now.setting)
+            (position_of play.old) → ⊥) }
+    {
+        if is_left_open(ground, play)? {
+            return Ok(true);
+        }
+        let Some(actor) = self.mover_at(at) else {
+            return Ok(false);
+        };
+        let turned = play.take_turn(ground.alloc, ground.plans, actor, true)?;
+        Ok(is_made(turned))
+    }
+
+    // Whether the play of the way to the value at this place ends as the outcome of its ending says, or is not over.
+    fn is_row_ended(
+        &self,
+        ground: &Ground<'_>,
+        shown: Shown<'_>,
+        at: usize,
+    ) -> Result<bool, ExploreFault>
+        requires { IsPool ground.now.setting.pages }
+        ensures { IfOk result (λ yes. yes ≡ true →
+            IsRowEnded ground.now.plans.now ground.now.vanishing ground.now.setting
+            self.now.rows.items shown.entry.outcomes.now at) }
+    {
+        let turns = self.path_to(ground.alloc, at)?;
+        let mut play = replay(ground, &turns)?;
+        if let Some(ending) = self.ending_at(at) {
+            let ends = ends_as_shown(ground, &play, shown, ending)?;
+            return Ok(ends);
+        }
+        let goes = self.goes_on(ground, &mut play, at)?;
+        Ok(goes)
+    }
+
+    // The same of all values that were met. Costs one play for each, and one turn more for one that has no ending.
+    pub(crate) fn are_rows_ended(
+        &self,
+        ground: &Ground<'_>,
+        shown: Shown<'_>,
+    ) -> Result<bool, ExploreFault>
+        requires { IsPool ground.now.setting.pages }
+        ensures { IfOk result (λ yes. yes ≡ true →
+            AreRowsEnded ground.now.plans.now ground.now.vanishing ground.now.setting
+            self.now.rows.items shown.entry.outcomes.now (length self.now.rows.items)) }
+    {
+        'values: for at in 0..self.rows.len() {
+            if !self.is_row_ended(ground, shown, at)? {
+                return Ok(false);
+            }
+        }
+        Ok(true)
+    }
+
+    // Whether each play that is over ends as one of the outcomes says: no turn leads out of the values that were met, and the plays
+    // of these that are over do.
+    pub(crate) fn is_certified(
+        &self,
+        ground: &Ground<'_>,
+        shown: Shown<'_>,
+    ) -> Result<bool, ExploreFault>
+        requires { IsPool ground.now.setting.pages }
+        ensures closed { IfOk result (λ yes. yes ≡ true →
+            AreClosedIn ground.now.plans.now ground.now.vanishing ground.now.setting
+            self.now.rows.items) }
+        ensures none { IfOk result (λ yes. yes ≡ true → NoneIsMissing ground.now.vanishing.at_end
+            (setup_of ground.now.plans.now ground.now.vanishing ground.now.setting)
+            shown.entry.outcomes.now) }
+    {
+        if !self.is_closed(ground)? {
+            return Ok(false);
+        }
+        let ended = self.are_rows_ended(ground, shown)?;
+        Ok(ended)
+    }
+}
