@@ -189,6 +189,21 @@ too_few_states() {
     [ $? = 7 ] && grep -q "^not all explored: $most states*, " "$room/out" && hears '' || return 1
   done
 }
+# A report is certified where it is asked for: those of the examples, which are the same but for this word, and that of a pair.
+# Where not all states were met, it is not, and the status is 7.
+certifies() {
+  local told
+  for told in examples/*.outcomes; do
+    "$program" explore --certify "${told%.outcomes}.actors" >"$room/out" 2>"$room/told"
+    [[ $(sed -n 2p "$room/out") == *', certified' ]] && hears '' || return 1
+    sed '2s/, certified$//' "$room/out" | cmp -s - "$told" || return 1
+  done
+  printf "$pair" | "$program" explore --certify >"$room/out" 2>"$room/told" && grep -q ' outcomes, certified$' "$room/out" || return 1
+  printf "$pair" | "$program" explore --certify --vanish all --end >"$room/out" 2>"$room/told" &&
+    grep -q ' outcomes, certified$' "$room/out" || return 1
+  printf "$pair" | "$program" explore --certify --states 3 >"$room/out" 2>"$room/told"
+  [ $? = 7 ] && ! grep -q certified "$room/out"
+}
 # On a terminal, and there alone, a line counts the states. It is gone at the end, and the report is the same.
 counts_states() {
   set -- explore --most 2 examples/camera.actors
@@ -296,6 +311,7 @@ for script in examples/*.outcomes; do
   count has_plays "${script%.outcomes}.actors"
 done
 count too_few_states
+count certifies
 count waits_patiently
 count counts_states
 count says_who 'none vanishes' "$pair"
