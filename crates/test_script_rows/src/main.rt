@@ -7,12 +7,15 @@
 //!     = explore WORDS, = explore K      begins a script of actors that is explored; one of which outcome K is played
 //!     = once WORDS, = once K            the same, where no line waits
 //!     = plain WAYS                      begins one whose orders are all played one by one, as these words say: `once`, `patient`,
-//!                                       `end` where actors leave at their end, and a number of those that leave at any point
+//!                                       `end` where actors leave at their end, a number of those that leave at any point, and
+//!                                       `certify` where the search has to
 //!     = text EVENT, = dot EVENT, = svg EVENT
 //!                                       begins a script whose trees are drawn after this event, or after its last line
 //!     = text line N, = text failure K   begins one whose trees are drawn after this line, or this failure
 //!     @ pages N                         sets the pages of its pool, 16 by default
 //!     @ states N                        sets how many states a search meets at most, 1,000 by default
+//!     @ most N, @ end                   sets how many clients vanish at most where a line lets them; each vanishes at its end
+//!     @ certify                         lets a search certify its report
 //!     @ limits EVENTS NODES COLLECTIONS TRACKERS HANDLES
 //!                                       sets its limits, the greatest by default
 #![tactic(auto)]
@@ -100,7 +103,7 @@ fn explore(
         most: u64::from(setting.most),
         outcome,
         states: u64::from(setting.states),
-        certifies: false,
+        certifies: setting.certifies,
     };
     let host = SearchHost {
         alloc,

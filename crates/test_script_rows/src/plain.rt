@@ -15,13 +15,14 @@ use std::alloc::{AllocError, Global};
 // So many turns are made of a script at most, those of all plays together.
 const MOST_TURNS: usize = 100_000;
 
-/// How a script is played: which lines wait, whether each actor leaves at its end, and how many leave at any
-/// point.
+/// How a script is played: which lines wait, whether each actor leaves at its end, how many leave at any point, and whether
+/// the search has to certify that no outcome is missing.
 #[derive(Clone, Copy)]
 pub struct Manner {
     pub waiting: Waiting,
     pub at_end: bool,
     pub most: usize,
+    pub certifies: bool,
 }
 
 // What plays are made with.
@@ -354,8 +355,13 @@ fn are_found(
     Ok(seen.len() == outcomes.len())
 }
 
-// Adds what is told of these plays, where the search found this.
-fn push_told(out: &mut Vec<u8>, table: &Table<'_>, found: &Exploration) -> Result<(), AllocError> {
+// Adds what is told of these plays, where the search, which had to certify or not, found this.
+fn push_told(
+    out: &mut Vec<u8>,
+    table: &Table<'_>,
+    found: &Exploration,
+    certifies: bool,
+) -> Result<(), AllocError> {
     let Some((plays, outcomes)) = outcomes_of_all(table)? else {
         return out.extend_from_slice(b"! too many turns\n");
     };
@@ -363,6 +369,9 @@ fn push_told(out: &mut Vec<u8>, table: &Table<'_>, found: &Exploration) -> Resul
     let count = outcomes.len();
     let told = format!(in alloc; "{plays} plays, {count} outcomes\n")?;
     out.extend_from_slice(told.as_bytes())?;
+    if found.certified != certifies {
+        return out.extend_from_slice(b"! certified otherwise\n");
+    }
     if found.complete && are_found(table, found, &outcomes)? {
         return Ok(());
     }
@@ -401,15 +410,16 @@ fn push_plays(
     };
     let effort = Effort {
         most: 1_000_000,
-        certifies: false,
+        certifies: manner.certifies,
     };
     match explore(alloc, core, &plans, vanishing, effort, &Silent) {
-        Ok(found) => push_told(out, &table, &found),
+        Ok(found) => push_told(out, &table, &found, manner.certifies),
         Err(_) => out.extend_from_slice(b"! no search\n"),
     }
 }
 
-/// Adds how many plays the script has, and how many outcomes these come to, and whether a search finds others.
+/// Adds how many plays the script has, and how many outcomes these come to, and whether a search finds others, or does not
+/// certify where it has to.
 ///
 /// Costs O(n²) for each play of n turns, and O(m) comparisons of outcomes for each, where there are m.
 pub fn push_plain(

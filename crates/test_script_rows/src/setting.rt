@@ -1,10 +1,11 @@
-//! With how many pages a script is played, within which limits and how many states, and which clients vanish.
+//! With how many pages a script is played, within which limits and how many states, which clients vanish, and whether a search
+//! certifies.
 use script_lines::Pages;
 use sm_names::Limits;
 use test_streams::decimal;
 
 /// Pages of a pool, limits, how many states a search meets at most, how many clients vanish at most where a line lets them,
-/// and whether each vanishes at its end.
+/// whether each vanishes at its end, and whether a search certifies.
 #[derive(Clone, Copy)]
 pub struct Setting {
     pub pages: Pages,
@@ -12,6 +13,7 @@ pub struct Setting {
     pub states: u32,
     pub most: u32,
     pub at_end: bool,
+    pub certifies: bool,
 }
 
 // The five numbers of a text.
@@ -31,7 +33,7 @@ fn limits_of(text: &str) -> Option<Limits> {
 }
 
 impl Setting {
-    /// 16 pages, the greatest limits and 1,000 states. At most one client vanishes, and none at its end.
+    /// 16 pages, the greatest limits and 1,000 states. At most one client vanishes, and none at its end. No search certifies.
     pub fn full() -> Option<Setting> {
         let pages = Pages::new(16)?;
         Some(Setting {
@@ -40,6 +42,7 @@ impl Setting {
             states: 1000,
             most: 1,
             at_end: false,
+            certifies: false,
         })
     }
 
@@ -54,6 +57,8 @@ impl Setting {
             setting.most = decimal(count)?;
         } else if line == "@ end" {
             setting.at_end = true;
+        } else if line == "@ certify" {
+            setting.certifies = true;
         } else {
             setting.limits = limits_of(line.strip_prefix("@ limits ")?)?;
         }

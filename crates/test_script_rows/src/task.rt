@@ -56,18 +56,20 @@ fn explored(once: bool, number: &str) -> Task {
     Task::Explore { once, outcome }
 }
 
-// The manner of these words: `once`, `patient`, `end`, and how many leave at any point.
+// The manner of these words: `once`, `patient`, `end`, `certify`, and how many leave at any point.
 fn manner_of(words: &str) -> Manner {
     let mut manner = Manner {
         waiting: Waiting::Repeated,
         at_end: false,
         most: 0,
+        certifies: false,
     };
     for word in words.split_whitespace() {
         match word {
             "once" => manner.waiting = Waiting::Never,
             "patient" => manner.waiting = Waiting::Always,
             "end" => manner.at_end = true,
+            "certify" => manner.certifies = true,
             _ => manner.most = decimal(word).unwrap_or(0) as usize,
         }
     }
