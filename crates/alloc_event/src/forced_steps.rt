@@ -48,7 +48,7 @@ pub(crate) fn settle_loss(
         (Changed.Loss fault.origin fault.cause) }
 {
     reserve(store, room)?;
-    let entry = &mut store.entries[at];
+    let entry = store.entries[at].get_mut();
     apply_loss(&mut store.nodes, entry, holds, fault, room);
     finish_event(store, at, pool, holds, &mut room.removed);
     Ok(())
@@ -95,7 +95,7 @@ fn settle_applied(
     ensures { OutcomeAt true (total holds.now) pool.old pool.new store.old store.new at
         (Changed.Effect made.now.key made.now.effect) }
 {
-    let entry = &mut store.entries[at];
+    let entry = store.entries[at].get_mut();
     apply_effect(&mut store.nodes, entry, holds, made, room);
     finish_event(store, at, pool, holds, &mut room.removed);
 }
@@ -163,7 +163,7 @@ fn settle_worked_out(
     ensures { OutcomeAt (is_ok result) (total holds.now) pool.old pool.new store.old store.new at
         (Changed.Effect made.now.key made.now.effect) }
 {
-    let entry = &store.entries[at];
+    let entry = store.entries[at].get();
     if is_unforced(&store.nodes.table, entry, holds, made) {
         apply_unforced(store, at, pool, holds, made);
         return Ok(());
@@ -212,7 +212,7 @@ fn settle_counted(
     ensures { OutcomeAt (is_ok result) (total holds.now) pool.old pool.new store.old store.new at
         (Changed.Effect key effect) }
 {
-    let made = work_out(&store.nodes, &store.entries[at], key, effect);
+    let made = work_out(&store.nodes, store.entries[at].get(), key, effect);
     settle_worked_out(store, at, pool, holds, &made, room)
 }
 

@@ -20,6 +20,7 @@ use crate::settle::{settle_birth, settle_change, settle_dropped};
 use buffer_holds::Holds;
 use buffer_pool::Pool;
 use forest_steps::scratch::Scratch;
+use forest_store::boxed_entry::BoxedEntry;
 use forest_store::change::Change;
 use forest_store::entry::{entry_of, place_of};
 use forest_store::insertion::Birth;
@@ -53,8 +54,8 @@ pub struct Forest {
     store: Store,
     // The lists that an event works with, reserved before it.
     room: Scratch,
-    // Room for the keys of the next collection: that of the one which was forgotten last.
-    spare: KeyList,
+    // Memory for the next collection: that of the one which was forgotten last.
+    spare: Option<BoxedEntry>,
 }
 
 impl Model for Forest {
@@ -85,7 +86,7 @@ impl Forest {
                 entries: Vec::new(alloc),
             },
             room: Scratch::new(alloc),
-            spare: KeyList::new(alloc),
+            spare: None,
         }
     }
 
@@ -94,9 +95,11 @@ impl Forest {
     /// key of the new node, which no node had before.
     ///
     /// `NoMemory` if a growth is refused, or no slot has a number left. The forest and the pool are
-    /// then as they were. Only a birth and the initial allocation take memory: a birth for its
-    /// node, the counts of its unit, and the lists of removed nodes, of pending units and of
-    /// unkept; the initial allocation for the list of held buffers.
+    /// then as they were. Only a birth and an initial allocation take memory: a birth for its node,
+    /// its collection, the counts of its unit, and the lists of removed nodes, of pending units and
+    /// of unkept nodes; an initial allocation for the list of held buffers and in the pool. So any
+    /// other change takes memory only if it forces an initial allocation: the lists that a loss
+    /// fills have room since the births of their nodes.
     ///
     /// Costs O(log c) for c collections, and in the changed collection, with n kept nodes:
     ///
@@ -165,7 +168,9 @@ impl Forest {
     /// the pages of the buffer, if it is home. No other buffer of its collection may be home before
     /// the call: `settle` and `settle_drop` leave none, and opening a handle makes none home.
     ///
-    /// `NoMemory` if a growth is refused. The forest and the pool are then as they were.
+    /// `NoMemory` if a growth is refused. The forest and the pool are then as they were. A drop forces
+    /// no initial allocation, and so takes no memory: as in `settle`, the births made room for what
+    /// the loss of the root removes.
     ///
     /// Costs O(log c) for c collections, if a strong node of the collection is live. If none is, it
     /// also costs:
@@ -175,8 +180,6 @@ impl Forest {
     /// - if the root has its buffers: a look-up of handles for each buffer up to the first that has
     ///   an open strong handle. If no buffer has one, the root is lost, which costs what `settle`
     ///   costs for a loss of each node of the collection.
-    ///
-    /// Only the loss of the root takes memory.
     pub fn settle_drop(
         &mut self,
         pool: &mut Pool,
@@ -360,7 +363,7 @@ impl Forest {
         };
         drop_key(
             &self.store.nodes.table,
-            &mut self.store.entries[at].keys,
+            &mut self.store.entries[at].get_mut().keys,
             key,
         );
         take_out(&mut self.store.nodes.table, key);

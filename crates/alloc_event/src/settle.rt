@@ -19,10 +19,10 @@ use buffer_pool::Pool;
 use forest_steps::dropped::drop_without_strong;
 use forest_steps::event_end::{finish_event, is_finished};
 use forest_steps::scratch::Scratch;
+use forest_store::boxed_entry::BoxedEntry;
 use forest_store::change::Change;
 use forest_store::entry::place_of;
 use forest_store::insertion::{Birth, insert_counted};
-use forest_store::key_list::KeyList;
 use forest_store::store::Store;
 use forest_store::unit_counts::{bound, reach};
 use sm_names::{BufferName, CollectionId, Fault, NoMemory, NodeKey};
@@ -70,7 +70,7 @@ pub(crate) fn settle_birth(
     id: CollectionId,
     birth: Birth,
     keys: &mut Vec<NodeKey>,
-    spare: &mut KeyList,
+    spare: &mut Option<BoxedEntry>,
 ) -> Result<NodeKey, NoMemory>
     requires forest { IsResting store.old }
     requires change { MayChange (forest_in store.old) id (birth_change birth) }
@@ -142,7 +142,7 @@ pub(crate) fn settle_dropped(
     let Some(at) = place_of(&store.entries, buffer.collection) else {
         unreachable!();
     };
-    let entry = &store.entries[at];
+    let entry = store.entries[at].get();
     if entry.strong > 0 {
         return Ok(());
     }

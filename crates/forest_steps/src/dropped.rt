@@ -22,6 +22,7 @@ use crate::placement::assert_disjoint;
 use crate::returns::look_at;
 use buffer_holds::Holds;
 use buffer_pool::Pool;
+use forest_store::boxed_entry::BoxedEntry;
 use forest_store::entry::Entry;
 use forest_store::node::Node;
 use node_table::NodeTable;
@@ -109,7 +110,7 @@ fn free_if_home(held: &mut Vec<HeldBuffer>, pool: &mut Pool, holds: &Holds, buff
 #[inline(always)]
 pub fn drop_without_strong(
     table: &NodeTable<Node>,
-    entries: &mut Vec<Entry>,
+    entries: &mut Vec<BoxedEntry>,
     at: usize,
     pool: &mut Pool,
     holds: &Holds,
@@ -131,11 +132,11 @@ pub fn drop_without_strong(
         not (has_given_root table.now e.keys.items
         && not (is_held_strongly (total holds.now) e.id e.buffers)) ≡ true → result ≡ true }
 {
-    if is_abandoned(table, &entries[at], holds) {
+    if is_abandoned(table, entries[at].get(), holds) {
         return false;
     }
     assert_disjoint(pool);
-    free_if_home(&mut entries[at].held, pool, holds, buffer);
+    free_if_home(&mut entries[at].get_mut().held, pool, holds, buffer);
     assert_disjoint(pool);
     true
 }

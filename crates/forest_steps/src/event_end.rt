@@ -37,7 +37,7 @@ pub fn is_finished(store: &Store, at: usize, pool: &Pool, holds: &Holds) -> bool
         FinishedOf (total holds.now) pool.now pool.now store.now store.now id }
 {
     assert_disjoint(pool);
-    let entry = &store.entries[at];
+    let entry = store.entries[at].get();
     is_kept_by(&store.nodes.table, entry, holds, entry.strong)
 }
 
@@ -60,7 +60,7 @@ pub fn finish_event(
         FinishedOf (total holds.now) pool.old pool.new store.old store.new id }
     ensures size { pool.new.size ≡ pool.old.size }
 {
-    let entry = &mut store.entries[at];
+    let entry = store.entries[at].get_mut();
     if entry.strong > 0 {
         assert_disjoint(pool);
         return;

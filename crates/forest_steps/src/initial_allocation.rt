@@ -408,14 +408,14 @@ pub fn allocate_root(
     let Some(counts) = &made.counts else {
         return Ok(false);
     };
-    let entry = &store.entries[at];
+    let entry = store.entries[at].get();
     let Some(plan) = planned(&store.nodes, entry, made, counts, &mut room.unit) else {
         return Ok(false);
     };
     assert_disjoint(pool);
     let verdict = place_wanted(pool, entry.id, plan.wants, &entry.held)?;
     assert_disjoint(pool);
-    let entry = &mut store.entries[at];
+    let entry = store.entries[at].get_mut();
     make_effect(&mut store.nodes, entry, made);
     settle_first(&mut store.nodes, entry, holds, &plan, verdict, room);
     finish_event(store, at, pool, holds, &mut room.removed);

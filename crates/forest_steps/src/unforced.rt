@@ -51,5 +51,5 @@ pub fn apply_unforced(store: &mut Store, at: usize, pool: &Pool, holds: &Holds, 
         (Changed.Effect made.now.key made.now.effect) }
 {
     assert_disjoint(pool);
-    make_effect(&mut store.nodes, &mut store.entries[at], made);
+    make_effect(&mut store.nodes, store.entries[at].get_mut(), made);
 }

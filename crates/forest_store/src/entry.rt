@@ -3,14 +3,14 @@ ghost use Rattle.std.specs.Prelude.{◌≡◌, ◌==◌, ◌<◌, ◌≤◌, nat
 ghost use Rattle.std.specs.List.{prefix_len, find, insert, remove};
 ghost use Rattle.forest_store.specs.CollectionRows.{AreRising, place_in, rows_of};
 
+use crate::boxed_entry::BoxedEntry;
 use crate::key_list::KeyList;
 use sm_names::{Buffers, CollectionId, HeldBuffer, NodeKey};
 use std::cell::Cell;
 
 /// A collection, with the keys of its nodes.
 ///
-/// The order of the fields makes it 128 bytes long: the collections behind one that is removed
-/// move.
+/// The order of the fields makes it 128 bytes long.
 #[derive(Drop)]
 pub struct Entry {
     /// How many buffers its nodes camp on that are not gone and whose units are allocated.
@@ -36,14 +36,15 @@ pub struct Entry {
 
 /// How many collections have a smaller id, if the last one has this id or a smaller one.
 #[inline(always)]
-fn before_last(entries: &[Entry], id: CollectionId) -> Option<usize>
+fn before_last(entries: &[BoxedEntry], id: CollectionId) -> Option<usize>
     requires { AreRising (rows_of entries.now) }
     ensures { IfSome result (λ at. at ≡ prefix_len (λ e. nat_lt e.id id) entries.now) }
 {
     let last = entries.len().checked_sub(1)?;
-    if entries[last].id < id {
+    let greatest = entries[last].get().id;
+    if greatest < id {
         Some(entries.len())
-    } else if entries[last].id == id {
+    } else if greatest == id {
         Some(last)
     } else {
         None
@@ -52,13 +53,13 @@ fn before_last(entries: &[Entry], id: CollectionId) -> Option<usize>
 
 /// The index that is guessed, if the collection with this id is there.
 #[inline(always)]
-fn guessed(entries: &[Entry], id: CollectionId) -> Option<usize>
+fn guessed(entries: &[BoxedEntry], id: CollectionId) -> Option<usize>
     requires { AreRising (rows_of entries.now) }
     ensures before { IfSome result (λ at. at ≡ prefix_len (λ e. nat_lt e.id id) entries.now) }
     ensures place { IfSome result (λ at. place_in id entries.now ≡ Some at) }
 {
-    let at = entries.first()?.guess.get() as usize;
-    if at < entries.len() && entries[at].id == id {
+    let at = entries.first()?.get().guess.get() as usize;
+    if at < entries.len() && entries[at].get().id == id {
         Some(at)
     } else {
         None
@@ -67,20 +68,20 @@ fn guessed(entries: &[Entry], id: CollectionId) -> Option<usize>
 
 /// Keeps the index as the next guess, if it fits in 16 bits.
 #[inline(always)]
-fn keep_guess(entries: &[Entry], at: usize) {
+fn keep_guess(entries: &[BoxedEntry], at: usize) {
     if let Some(first) = entries.first() {
         if at <= u16::MAX as usize {
-            first.guess.set(at as u16);
+            first.get().guess.set(at as u16);
         }
     }
 }
 
 /// How many collections have a smaller id, by a binary search, which is the next guess.
-fn searched(entries: &[Entry], id: CollectionId) -> usize
+fn searched(entries: &[BoxedEntry], id: CollectionId) -> usize
     requires { AreRising (rows_of entries.now) }
     ensures { result ≡ prefix_len (λ e. nat_lt e.id id) entries.now }
 {
-    let at = entries.partition_point(|entry| entry.id < id);
+    let at = entries.partition_point(|entry| entry.get().id < id);
     keep_guess(entries, at);
     at
 }
@@ -88,7 +89,7 @@ fn searched(entries: &[Entry], id: CollectionId) -> usize
 /// How many collections have a smaller id. Looks at the last one, then at the one that was found
 /// last, then makes a binary search.
 #[inline(always)]
-pub(crate) fn entries_before(entries: &[Entry], id: CollectionId) -> usize
+pub(crate) fn entries_before(entries: &[BoxedEntry], id: CollectionId) -> usize
     requires { AreRising (rows_of entries.now) }
     ensures { result ≡ prefix_len (λ e. nat_lt e.id id) entries.now }
 {
@@ -103,12 +104,12 @@ pub(crate) fn entries_before(entries: &[Entry], id: CollectionId) -> usize
 
 /// The index of the collection with this id, by a binary search.
 #[inline(never)]
-fn searched_place(entries: &[Entry], id: CollectionId) -> Option<usize>
+fn searched_place(entries: &[BoxedEntry], id: CollectionId) -> Option<usize>
     requires { AreRising (rows_of entries.now) }
     ensures { result ≡ place_in id entries.now }
 {
     let at = searched(entries, id);
-    if at < entries.len() && entries[at].id == id {
+    if at < entries.len() && entries[at].get().id == id {
         Some(at)
     } else {
         None
@@ -118,15 +119,16 @@ fn searched_place(entries: &[Entry], id: CollectionId) -> Option<usize>
 /// The index of the collection with this id. Looks at the last one, then at the one that was found
 /// last, then makes a binary search.
 #[inline(always)]
-pub fn place_of(entries: &[Entry], id: CollectionId) -> Option<usize>
+pub fn place_of(entries: &[BoxedEntry], id: CollectionId) -> Option<usize>
     requires { AreRising (rows_of entries.now) }
     ensures { result ≡ place_in id entries.now }
 {
     let last = entries.len().checked_sub(1)?;
-    if entries[last].id == id {
+    let greatest = entries[last].get().id;
+    if greatest == id {
         return Some(last);
     }
-    if entries[last].id < id {
+    if greatest < id {
         return None;
     }
     if let Some(at) = guessed(entries, id) {
@@ -136,19 +138,19 @@ pub fn place_of(entries: &[Entry], id: CollectionId) -> Option<usize>
 }
 
 /// The collection with this id.
-pub fn entry_of(entries: &[Entry], id: CollectionId) -> Option<&Entry>
+pub fn entry_of(entries: &[BoxedEntry], id: CollectionId) -> Option<&Entry>
     requires { AreRising (rows_of entries.now) }
     ensures { option_copied result ≡ find (λ e. e.id == id) entries.now }
 {
     match place_of(entries, id) {
-        Some(at) => entries.get(at),
+        Some(at) => Some(entries[at].get()),
         None => None,
     }
 }
 
 /// Puts the entry at this index, into a list that has room. At the end no other moves.
 #[inline(always)]
-pub(crate) fn insert_at(entries: &mut Vec<Entry>, at: usize, entry: Entry)
+pub(crate) fn insert_at(entries: &mut Vec<BoxedEntry>, at: usize, entry: BoxedEntry)
     requires within { at ≤ vec_len entries.old }
     requires room { vec_len entries.old < vec_capacity entries.old }
     ensures { entries.new.items ≡ insert entries.old.items at entry }
@@ -160,15 +162,15 @@ pub(crate) fn insert_at(entries: &mut Vec<Entry>, at: usize, entry: Entry)
     }
 }
 
-/// Removes the entry at this index. At the end no other moves.
+/// Removes the entry at this index, and answers it. At the end no other moves.
 #[inline(always)]
-pub(crate) fn remove_at(entries: &mut Vec<Entry>, at: usize)
+pub(crate) fn remove_at(entries: &mut Vec<BoxedEntry>, at: usize) -> BoxedEntry
     requires { at < vec_len entries.old }
     ensures { entries.new.items ≡ remove entries.old.items at }
 {
     if at + 1 == entries.len() {
-        entries.pop();
+        entries.pop().unwrap()
     } else {
-        entries.remove(at);
+        entries.remove(at)
     }
 }

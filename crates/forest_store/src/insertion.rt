@@ -15,6 +15,7 @@ ghost use Rattle.forest_store.specs.Still.{no_row, row_with};
 ghost use Rattle.forest_store.specs.Stores.{InsertedIn, IsResting, RefusedIn, forest_in};
 
 use crate::births::{new_child, new_root};
+use crate::boxed_entry::BoxedEntry;
 use crate::entry::{Entry, place_of};
 use crate::key_list::KeyList;
 use crate::node::Node;
@@ -23,6 +24,7 @@ use crate::unit_counts::{bound, count_born, no_unit, put_unit};
 use crate::unkept::reserve_notes;
 use node_table::NodeTable;
 use sm_names::{ClientId, CollectionId, NoMemory, NodeKey};
+use std::alloc::Global;
 use std::cell::Cell;
 use std::mem;
 
@@ -149,14 +151,74 @@ fn insert_child(
     Ok(key)
 }
 
-/// The first node of a collection that is not there yet. The list of its keys is the spare one, of which
-/// only the room is taken. `NoMemory` leaves the table and the entries as they were.
+/// Makes the entry that of a collection without a node. Its lists keep their room.
+fn clear(entry: &mut Entry, id: CollectionId)
+    ensures row { row_of entry.new ≡ no_row id }
+    ensures strong { entry.new.strong ≡ 0 }
+    ensures reserved { entry.new.reserved ≡ 0 }
+{
+    entry.id = id;
+    entry.keys.clear();
+    entry.buffers = None;
+    entry.held.clear();
+    entry.strong = 0;
+    entry.reserved = 0;
+    entry.unkept_known = true;
+    entry.unkept.clear();
+}
+
+/// The entry of a collection without a node. Takes the spare one, if there is one.
+#[inline(always)]
+fn blank(
+    alloc: Global,
+    spare: &mut Option<BoxedEntry>,
+    id: CollectionId,
+) -> Result<BoxedEntry, NoMemory>
+    ensures row { IfOk result (λ e. row_of e ≡ no_row id) }
+    ensures strong { IfOk result (λ e. e.strong ≡ 0) }
+    ensures reserved { IfOk result (λ e. e.reserved ≡ 0) }
+{
+    if let Some(mut entry) = mem::replace(spare, None) {
+        clear(entry.get_mut(), id);
+        return Ok(entry);
+    }
+    BoxedEntry::new(
+        alloc,
+        Entry {
+            id,
+            keys: KeyList::new(alloc),
+            buffers: None,
+            held: Vec::new(alloc),
+            strong: 0,
+            reserved: 0,
+            unkept_known: true,
+            unkept: Vec::new(alloc),
+            guess: Cell::new(0),
+        },
+    )
+}
+
+/// The collection's first node.
+#[inline(always)]
+fn put_first(entry: &mut Entry, key: NodeKey, draft: &Node)
+    requires room { length entry.old.keys.items < entry.old.keys.capacity }
+    requires none { row_of entry.old ≡ no_row entry.old.id }
+    ensures row { row_of entry.new ≡ row_with (no_row entry.old.id) key }
+    ensures strong { entry.new.strong ≡ (if draft.now.weak then 0 else 1) }
+    ensures reserved { entry.new.reserved ≡ entry.old.reserved }
+{
+    entry.keys.push(key);
+    entry.strong = strong_with(draft);
+}
+
+/// The first node of a collection that is not there yet. Takes the spare entry, if there is one.
+/// `NoMemory` leaves the table and the entries as they were.
 fn insert_root(
     table: &mut NodeTable<Node>,
-    entries: &mut Vec<Entry>,
+    entries: &mut Vec<BoxedEntry>,
     id: CollectionId,
     draft: &Node,
-    spare: &mut KeyList,
+    spare: &mut Option<BoxedEntry>,
 ) -> Result<NodeKey, NoMemory>
     requires rising { AreRising (rows_of entries.old.items) }
     requires first { table.old.first ≡ 0 }
@@ -170,29 +232,13 @@ fn insert_root(
         × (e.reserved ≡ 0)) }
     ensures err_entries { OnErr result (entries.new.items ≡ entries.old.items) }
 {
-    let alloc = *entries.allocator();
-    spare.clear();
-    if spare.reserve_one().is_err() || entries.reserve(1).is_err() {
+    let mut entry = blank(*entries.allocator(), spare, id)?;
+    if entry.get_mut().keys.reserve_one().is_err() || entries.reserve(1).is_err() {
         return Err(NoMemory);
     }
-    let strong = strong_with(draft);
     let key = insert_node(table, draft)?;
-    let mut keys = mem::replace(spare, KeyList::new(alloc));
-    keys.push(key);
-    put_entry(
-        entries,
-        Entry {
-            id,
-            keys,
-            buffers: None,
-            held: Vec::new(alloc),
-            strong,
-            reserved: 0,
-            unkept_known: true,
-            unkept: Vec::new(alloc),
-            guess: Cell::new(0),
-        },
-    );
+    put_first(entry.get_mut(), key, draft);
+    put_entry(entries, entry);
     Ok(key)
 }
 
@@ -204,7 +250,7 @@ fn insert_uncounted(
     id: CollectionId,
     birth: Birth,
     draft: &Node,
-    spare: &mut KeyList,
+    spare: &mut Option<BoxedEntry>,
 ) -> Result<NodeKey, NoMemory>
     requires forest { IsResting store.old }
     requires change { MayChange (forest_in store.old) id (birth_change birth) }
@@ -214,21 +260,21 @@ fn insert_uncounted(
     ensures units { store.new.nodes.units.items ≡ store.old.nodes.units.items }
 {
     match place_of(&store.entries, id) {
-        Some(at) => insert_child(&mut store.nodes.table, &mut store.entries[at], draft),
+        Some(at) => insert_child(&mut store.nodes.table, store.entries[at].get_mut(), draft),
         None => insert_root(&mut store.nodes.table, &mut store.entries, id, draft, spare),
     }
 }
 
 /// The birth of a node, where nothing else changes with it, counted for its unit, whose slot the list
 /// of units reaches. `NoMemory` leaves the table and the units as they were, and of the entries all
-/// but their room. A new collection takes the room of the spare list for its keys. Costs O(1) and a
+/// but their room. A new collection takes the spare entry, if there is one. Costs O(1) and a
 /// binary search, growth spread over the births, and for a root the shift of the entries behind it.
 #[inline(always)]
 pub fn insert_counted(
     store: &mut Store,
     id: CollectionId,
     birth: Birth,
-    spare: &mut KeyList,
+    spare: &mut Option<BoxedEntry>,
 ) -> Result<NodeKey, NoMemory>
     requires forest { IsResting store.old }
     requires reached { store.old.nodes.table.vacant < length store.old.nodes.units.items }

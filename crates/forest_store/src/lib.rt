@@ -3,6 +3,7 @@
 #![tactic(auto)]
 
 pub mod births;
+pub mod boxed_entry;
 pub mod change;
 pub mod effects;
 pub mod entry;

@@ -9,6 +9,7 @@ ghost use Rattle.forest_store.specs.Questions.{is_live_node};
 ghost use Rattle.forest_store.specs.Scenes.{pages_held};
 ghost use Rattle.forest_store.specs.Snapshots.{collection_of};
 
+use crate::boxed_entry::BoxedEntry;
 use crate::entry::Entry;
 use crate::node::{End, Node};
 use crate::snapshot::Snapshot;
@@ -70,14 +71,14 @@ fn add_kept(
 pub fn kept_nodes(
     alloc: Global,
     table: &NodeTable<Node>,
-    entries: &[Entry],
+    entries: &[BoxedEntry],
 ) -> Result<Vec<Node>, AllocError>
     ensures { IfOk result (λ nodes. nodes.items
         ≡ nodes_with table.now (all_keys (rows_of entries.now))) }
 {
     let mut nodes = Vec::with_capacity(alloc, table.len())?;
     for entry in entries {
-        add_kept(&mut nodes, table, entry.keys.as_slice())?;
+        add_kept(&mut nodes, table, entry.get().keys.as_slice())?;
     }
     Ok(nodes)
 }
@@ -86,7 +87,7 @@ pub fn kept_nodes(
 pub fn live_by_birth(
     alloc: Global,
     table: &NodeTable<Node>,
-    entries: &[Entry],
+    entries: &[BoxedEntry],
 ) -> Result<Vec<NodeKey>, AllocError>
     ensures { IfOk result (λ keys. keys.items
         ≡ map (λ n. n.key) (sorted_by (λ n.
@@ -95,7 +96,7 @@ pub fn live_by_birth(
 {
     let mut nodes = Vec::new(alloc);
     for entry in entries {
-        add_live(&mut nodes, table, entry.keys.as_slice())?;
+        add_live(&mut nodes, table, entry.get().keys.as_slice())?;
     }
     nodes.sort_by_key(|node| node.event)?;
     let mut keys = Vec::with_capacity(alloc, nodes.len())?;
@@ -106,14 +107,14 @@ pub fn live_by_birth(
 }
 
 /// The buffers of all collections, by page.
-pub fn held_by_page(alloc: Global, entries: &[Entry]) -> Result<Vec<HeldBuffer>, AllocError>
+pub fn held_by_page(alloc: Global, entries: &[BoxedEntry]) -> Result<Vec<HeldBuffer>, AllocError>
     ensures { IfOk result (λ held. held.items
         ≡ sorted_by (λ h. h.pages.start)
         (flat_map (λ (e : EntryValue). e.held.items) entries.now)) }
 {
     let mut held = Vec::new(alloc);
     for entry in entries {
-        held.extend_from_slice(&entry.held)?;
+        held.extend_from_slice(&entry.get().held)?;
     }
     held.sort_by_key(|buffer| buffer.pages.start)?;
     Ok(held)
@@ -132,7 +133,7 @@ fn add_pages(pages: &mut Vec<Interval>, held: &[HeldBuffer]) -> Result<(), Alloc
 /// The pages of the buffers of all entries but the one with this id, entry by entry.
 pub fn pages_beside(
     alloc: Global,
-    entries: &[Entry],
+    entries: &[BoxedEntry],
     id: CollectionId,
 ) -> Result<Vec<Interval>, AllocError>
     ensures { IfOk result (λ pages. pages.items
@@ -141,8 +142,8 @@ pub fn pages_beside(
 {
     let mut pages = Vec::new(alloc);
     for entry in entries {
-        if entry.id != id {
-            add_pages(&mut pages, &entry.held)?;
+        if entry.get().id != id {
+            add_pages(&mut pages, &entry.get().held)?;
         }
     }
     Ok(pages)

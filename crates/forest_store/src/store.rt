@@ -8,7 +8,8 @@ ghost use Rattle.forest_store.specs.Calm.{put_in};
 ghost use Rattle.forest_store.specs.CollectionRows.{row_of, rows_of, put_row, AreRising};
 ghost use Rattle.forest_store.specs.Nodes.{is_unkept};
 
-use crate::entry::{Entry, entries_before, insert_at, place_of};
+use crate::boxed_entry::BoxedEntry;
+use crate::entry::{entries_before, insert_at, place_of};
 use crate::lookup::is_unkept;
 use crate::node::{End, Node};
 use crate::unit_counts::Unit;
@@ -30,7 +31,7 @@ pub struct Store {
     /// The nodes of all collections.
     pub nodes: NodeStore,
     /// The collections, by rising id.
-    pub entries: Vec<Entry>,
+    pub entries: Vec<BoxedEntry>,
 }
 
 /// Sets the end of the node with this key. Answers the node's collection, and whether the node is
@@ -54,17 +55,18 @@ pub fn put_end(table: &mut NodeTable<Node>, key: NodeKey, end: End) -> Option<(C
 }
 
 /// Replaces the entry with the same id by this one, or inserts it in the order of the ids.
-pub(crate) fn put_entry(entries: &mut Vec<Entry>, entry: Entry)
+pub(crate) fn put_entry(entries: &mut Vec<BoxedEntry>, entry: BoxedEntry)
     requires rising { AreRising (rows_of entries.old.items) }
     requires room { vec_len entries.old < vec_capacity entries.old }
     ensures rows { rows_of entries.new.items
         ≡ put_row (row_of entry) (rows_of entries.old.items) }
     ensures items { entries.new.items ≡ put_in entry entries.old.items }
 {
-    match place_of(entries, entry.id) {
+    let id = entry.get().id;
+    match place_of(entries, id) {
         Some(at) => entries[at] = entry,
         None => {
-            let at = entries_before(entries, entry.id);
+            let at = entries_before(entries, id);
             insert_at(entries, at, entry);
         }
     }

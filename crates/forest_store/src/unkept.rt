@@ -16,6 +16,7 @@ ghost use Rattle.forest_store.specs.CollectionRows.{AreRising, IsStored, Collect
 ghost use Rattle.forest_store.specs.Nodes.{is_unkept};
 ghost use Rattle.forest_store.specs.Stores.{AreNamed};
 
+use crate::boxed_entry::BoxedEntry;
 use crate::entry::{Entry, place_of, remove_at};
 use crate::key_list::KeyList;
 use crate::lookup::is_unkept;
@@ -23,7 +24,6 @@ use crate::node::Node;
 use node_table::NodeTable;
 use sm_names::{CollectionId, NodeKey};
 use std::alloc::AllocError;
-use std::mem;
 
 /// For collections of at most this many nodes, a pass over all nodes costs no more than a list of
 /// the unkept ones.
@@ -265,10 +265,14 @@ fn is_bare(entry: &Entry) -> bool
     entry.keys.len() == 0 && entry.held.is_empty()
 }
 
-/// Removes the collection, if it has no node and no page. The room for its keys is then spare. Allocates
+/// Removes the collection, if it has no node and no page. Its entry is then the spare one. Allocates
 /// nothing.
 #[inline(always)]
-pub(crate) fn drop_bare(entries: &mut Vec<Entry>, id: CollectionId, spare: &mut KeyList)
+pub(crate) fn drop_bare(
+    entries: &mut Vec<BoxedEntry>,
+    id: CollectionId,
+    spare: &mut Option<BoxedEntry>,
+)
     requires { AreRising (rows_of entries.old.items) }
     ensures rows { rows_of entries.new.items
         ≡ without_bare id (rows_of entries.old.items) }
@@ -276,9 +280,8 @@ pub(crate) fn drop_bare(entries: &mut Vec<Entry>, id: CollectionId, spare: &mut 
         AreCounted t entries.new.items }
 {
     if let Some(at) = place_of(entries, id) {
-        if is_bare(&entries[at]) {
-            mem::swap(&mut entries[at].keys, spare);
-            remove_at(entries, at);
+        if is_bare(entries[at].get()) {
+            *spare = Some(remove_at(entries, at));
         }
     }
 }
@@ -288,7 +291,11 @@ pub(crate) fn drop_bare(entries: &mut Vec<Entry>, id: CollectionId, spare: &mut 
 /// the unkept nodes are listed, each takes a binary search among the collection's nodes and a move of
 /// the keys on its shorter side. Otherwise this takes O(n) in the number of the collection's nodes.
 #[inline(always)]
-fn forget_nodes(table: &mut NodeTable<Node>, entries: &mut Vec<Entry>, id: CollectionId) -> bool
+fn forget_nodes(
+    table: &mut NodeTable<Node>,
+    entries: &mut Vec<BoxedEntry>,
+    id: CollectionId,
+) -> bool
     requires kept { IsStored table.old (rows_of entries.old.items) }
     requires counted { AreCounted table.old entries.old.items }
     ensures rows { rows_of entries.new.items
@@ -303,22 +310,22 @@ fn forget_nodes(table: &mut NodeTable<Node>, entries: &mut Vec<Entry>, id: Colle
     let Some(at) = place_of(entries, id) else {
         return false;
     };
-    if is_unkept_known(&entries[at]) {
-        return is_bare(&entries[at]);
+    if is_unkept_known(entries[at].get()) {
+        return is_bare(entries[at].get());
     }
-    let entry = &mut entries[at];
+    let entry = entries[at].get_mut();
     forget_of(table, entry);
     is_bare(entry)
 }
 
-/// Removes the unkept nodes of the collection, and the collection if it has no node and no page then. The
-/// room for its keys is then spare. Allocates nothing.
+/// Removes the unkept nodes of the collection, and the collection if it has no node and no page then. Its
+/// entry is then the spare one. Allocates nothing.
 #[inline(always)]
 pub fn forget_unkept(
     table: &mut NodeTable<Node>,
-    entries: &mut Vec<Entry>,
+    entries: &mut Vec<BoxedEntry>,
     id: CollectionId,
-    spare: &mut KeyList,
+    spare: &mut Option<BoxedEntry>,
 )
     requires kept { IsStored table.old (rows_of entries.old.items) }
     requires counted { AreCounted table.old entries.old.items }
@@ -347,7 +354,7 @@ fn note_key(entry: &mut Entry, key: NodeKey)
 }
 
 /// Lists the collection's node with this key, if it is unkept now. Allocates nothing.
-pub fn list_unkept(entries: &mut Vec<Entry>, id: CollectionId, key: NodeKey, over: bool)
+pub fn list_unkept(entries: &mut Vec<BoxedEntry>, id: CollectionId, key: NodeKey, over: bool)
     requires { AreRising (rows_of entries.old.items) }
     ensures rows { rows_of entries.new.items ≡ rows_of entries.old.items }
     ensures counted { (t : Table NodeValue) → AreCounted t entries.old.items →
@@ -359,7 +366,7 @@ pub fn list_unkept(entries: &mut Vec<Entry>, id: CollectionId, key: NodeKey, ove
         return;
     }
     if let Some(at) = place_of(entries, id) {
-        note_key(&mut entries[at], key);
+        note_key(entries[at].get_mut(), key);
     }
 }
 

@@ -1,5 +1,5 @@
 -- Entries of which one loses keys, or is removed.
-use Rattle.forest_store.proofs.Common.{◌≡◌, ℕ, zero, suc, refl, ◌==◌, true, false, List, [], ◌∷◌, get_or, set, Some, None}
+use Rattle.forest_store.proofs.Common.{◌≡◌, ℕ, ◌==◌, true, false, List, [], ◌∷◌, get_or, set, Some, None}
 use Rattle.forest_store.proofs.Common.{option_map, sym, ap, ◌∙◌, eq-eqb, find, Table, Entry, Node, CollectionRow, AreRising}
 use Rattle.forest_store.proofs.Common.{place_in, row_of, rows_of, is_bare, thin_in, thinned, without_bare, remove}
 use Rattle.forest_store.proofs.leaving.Tidying.{above_other, bare_others, none_others, thin_others}
@@ -22,13 +22,6 @@ set_thin t id (x ∷ es) at e rising told is =
     rows_of (set (x ∷ es) at e) ≡ thin_in t id (rows_of (x ∷ es))) told
     (λ same is. rw (same, thin_others t _ _ (above_other _ _ _ rising.0 same)) (ap (λ s. s ∷ rows_of es) is))
     (λ n other told is. rw other (ap (λ l. row_of x ∷ l) (set_thin t id es n e rising.1 told is))) is
-
--- an entry that is removed may have been changed before
-pub remove_changed : (es : List Entry) (at : ℕ) (e : Entry) → remove (set es at e) at ≡ remove es at
-remove_changed [] zero e = refl
-remove_changed [] (suc n) e = refl
-remove_changed (x ∷ es) zero e = refl
-remove_changed (x ∷ es) (suc n) e = ap (λ rest. x ∷ rest) (remove_changed es n e)
 
 -- the entry at the place of the id is removed, if it is bare
 pub remove_bare : (id : ℕ) (es : List Entry) (at : ℕ) (d : Entry) → AreRising (rows_of es) → place_in id es ≡ Some at →

@@ -146,6 +146,10 @@ stands_nowhere id es last d rising end less =
     let all : length es ≡ before id es = before_greater id es last d rising end less in
     place_none id es rising (λ other within same. absurd (omega (arith, all, within)))
 
+-- an entry that is read in its own memory stands at the place at which that was read
+pub read_through : (es : List Entry) (at : ℕ) {boxed read : Entry} → read ≡ boxed → boxed ≡ get_or es at boxed → read ≡ get_or es at read
+read_through es at same is = rw same is
+
 -- the entry at the place that is told is found
 pub placed : (id : ℕ) (es : List Entry) (at : ℕ) → place_in id es ≡ Some at → slice_get es at ≡ find (λ (e : Entry). e.id == id) es
 placed id [] at told = absurd (cc)

@@ -1,5 +1,6 @@
 -- The effect is worked out of the entry at this place.
 use Rattle.alloc_event.proofs.Common.{arith, place_is, one_entry, row_there}
+use Rattle.forest_store.proofs.rows.Entries.{read_through}
 use Rattle.alloc_event.proofs.forced_steps.settle_counted.Goals as goal
 
 pub index-requires : goal.index-requires
@@ -14,7 +15,8 @@ settle_worked_out-requires-clause-ready c = rw (c.work_out-made.ensures.key, c.w
 
 pub settle_worked_out-requires-clause-worked : goal.settle_worked_out-requires-clause-worked
 settle_worked_out-requires-clause-worked c e is =
-    rw (one_entry _ _ _ e c.requires.ready.place c.index.ensures is) at c.work_out-made.ensures.worked
+    let stands = read_through c.args.store.now.entries.items c.args.at c.get.ensures c.index.ensures in
+    rw (one_entry _ _ _ e c.requires.ready.place stands is) at c.work_out-made.ensures.worked
 
 pub returns : goal.returns
 returns c = rw (c.work_out-made.ensures.key, c.work_out-made.ensures.effect) at c.settle_worked_out.ensures

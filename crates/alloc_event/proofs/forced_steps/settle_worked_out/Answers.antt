@@ -1,17 +1,20 @@
 -- Nothing is forced by the effect, or what is forced is made.
 use Rattle.alloc_event.proofs.Common.{◌∙◌, sym, refl, arith, total, place_is, one_entry, few_there}
+use Rattle.forest_store.proofs.rows.Entries.{read_through}
 use Rattle.alloc_event.proofs.forced_steps.settle_worked_out.Goals as goal
 
-pub index-entry-requires : goal.index-entry-requires
-index-entry-requires c =
+pub index-requires : goal.index-requires
+index-requires c =
     omega (arith, (place_is c.requires.ready.id c.args.store.now.entries.items c.args.at c.requires.ready.place).within)
 
 pub is_unforced-requires : goal.is_unforced-requires
 is_unforced-requires c =
-    few_there (total c.args.holds.now) _ c.requires.ready.place c.index-entry.ensures c.requires.ready.ready refl
+    let is = read_through c.args.store.now.entries.items c.args.at c.get-entry.ensures c.index.ensures in
+    few_there (total c.args.holds.now) _ c.requires.ready.place is c.requires.ready.ready refl
 
 pub apply_unforced-requires-clause-unforced : goal.apply_unforced-requires-clause-unforced
 apply_unforced-requires-clause-unforced c e is =
+    let stands = read_through c.args.store.now.entries.items c.args.at c.get-entry.ensures c.index.ensures in
     rw
-    (one_entry _ _ _ e c.requires.ready.place c.index-entry.ensures
+    (one_entry _ _ _ e c.requires.ready.place stands
     is) at (sym c.is_unforced.ensures ∙ c.if-is_unforced.true)

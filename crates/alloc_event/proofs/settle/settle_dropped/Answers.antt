@@ -4,6 +4,7 @@ use Rattle.alloc_event.proofs.Common.{collection_none, none_in, one_entry, place
 use Rattle.forest_steps.proofs.Common.{lt-ltb}
 use Rattle.forest_steps.proofs.changes.Dropped.{stays_strong}
 use Rattle.forest_store.specs.Dropped.{are_others_out}
+use Rattle.forest_store.proofs.rows.Entries.{read_through}
 use Rattle.alloc_event.proofs.settle.settle_dropped.Goals as goal
 
 pub unreachable-requires : goal.unreachable-requires
@@ -15,8 +16,8 @@ unreachable-requires c =
     let out = ap (λ o. option_map_or (are_others_out (total c.args.holds.now) c.args.buffer) o false) (sym gone) ∙ c.requires.others in
     absurd (false≢true out)
 
-pub index-entry-requires : goal.index-entry-requires
-index-entry-requires c =
+pub index-requires : goal.index-requires
+index-requires c =
     omega (
       arith,
       (place_is c.args.buffer.collection c.args.store.now.entries.items c.in-Some.at
@@ -24,17 +25,21 @@ index-entry-requires c =
     )
 
 pub returns-then-entry-gt0 : goal.returns-then-entry-gt0
-returns-then-entry-gt0 c = record {
-  outcome = stays_strong (total c.args.holds.now) _ _ _ (sym (rw c.deref.ensures.value at c.place_of.ensures) ∙ c.in-Some.is)
-      c.index-entry.ensures c.requires.forest.kept c.requires.forest.counted (lt-ltb 0 _ c.if-entry-gt0.true) _ c.requires.pool;
-  units = c.requires.forest.units;
-}
+returns-then-entry-gt0 c =
+    let stands = read_through c.args.store.now.entries.items c.in-Some.at c.get-entry.ensures c.index.ensures in
+    record {
+      outcome = stays_strong (total c.args.holds.now) _ _ _ (sym (rw c.deref.ensures.value at c.place_of.ensures) ∙ c.in-Some.is)
+          stands c.requires.forest.kept c.requires.forest.counted
+          (lt-ltb 0 _ c.if-entry-gt0.true) _ c.requires.pool;
+      units = c.requires.forest.units;
+    }
 
 pub settle_without_strong-requires-clause-place : goal.settle_without_strong-requires-clause-place
 settle_without_strong-requires-clause-place c = sym (rw c.deref.ensures.value at c.place_of.ensures) ∙ c.in-Some.is
 
 pub settle_without_strong-requires-clause-strong : goal.settle_without_strong-requires-clause-strong
 settle_without_strong-requires-clause-strong c e is =
+    let stands = read_through c.args.store.now.entries.items c.in-Some.at c.get-entry.ensures c.index.ensures in
     let told = sym (rw c.deref.ensures.value at c.place_of.ensures) ∙ c.in-Some.is in
-    let same = one_entry _ _ _ e told c.index-entry.ensures is in
+    let same = one_entry _ _ _ e told stands is in
     omega (arith, c.if-entry-gt0.false, ap (λ (x : Entry). x.strong) same)

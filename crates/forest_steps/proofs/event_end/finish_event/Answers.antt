@@ -2,20 +2,22 @@
 use Rattle.forest_steps.proofs.Common.{◌≡◌, refl, arith, set, total, Entry, forest_of, rows_of, beside, place_is, IsClosed}
 use Rattle.forest_steps.proofs.mid_event.Closing.{closes_strong, closes_weak, out_is, pages_mid, under_is}
 use Rattle.forest_steps.proofs.mid_event.Ready.{whole_under}
+use Rattle.forest_store.proofs.rows.Entries.{read_through}
 use Rattle.forest_steps.proofs.event_end.finish_event.Goals as goal
 
-pub index_mut-entry-requires : goal.index_mut-entry-requires
-index_mut-entry-requires c =
+pub index_mut-requires : goal.index_mut-requires
+index_mut-requires c =
     omega (arith, (place_is c.requires.may.entry.id c.args.store.now.entries.items c.args.at c.requires.may.place).within)
 
 pub returns-then-entry-gt0-clause-closes : goal.returns-then-entry-gt0-clause-closes
 returns-then-entry-gt0-clause-closes c id told =
-    closes_strong c.requires.may id told
-    _ c.index_mut-entry.ensures.value c.if-entry-gt0.true _ c.assert_disjoint.ensures c.requires.pool
+    let is = read_through c.args.store.now.entries.items c.args.at c.get_mut-entry.ensures.value c.index_mut.ensures.value in
+    closes_strong c.requires.may id told _ is c.if-entry-gt0.true _ c.assert_disjoint.ensures c.requires.pool
 
 pub fail_if_abandoned-requires-clause-few : goal.fail_if_abandoned-requires-clause-few
 fail_if_abandoned-requires-clause-few c =
-    let under = under_is c.requires.may _ c.requires.may.place _ c.index_mut-entry.ensures.value in
+    let is = read_through c.args.store.now.entries.items c.args.at c.get_mut-entry.ensures.value c.index_mut.ensures.value in
+    let under = under_is c.requires.may _ c.requires.may.place _ is in
     (whole_under under).sound.few
 
 pub free_home_buffers-requires : goal.free_home_buffers-requires
@@ -23,8 +25,8 @@ free_home_buffers-requires c =
     let es = c.args.store.now.entries.items in
     let handles = total c.args.holds.now in
     let t = c.args.store.now.nodes.table in
-    let old = c.index_mut-entry.result.now in
-    let is = c.index_mut-entry.ensures.value in
+    let old = c.get_mut-entry.result.now in
+    let is = read_through c.args.store.now.entries.items c.args.at c.get_mut-entry.ensures.value c.index_mut.ensures.value in
     let id = c.requires.may.entry.id in
     let place = c.requires.may.place in
     let closed : IsClosed handles t c.fail_if_abandoned.new.nodes.table c.fail_if_abandoned.new.nodes.units.items (rows_of es) old
@@ -42,8 +44,8 @@ returns-clause-closes c id told =
     let es = c.args.store.now.entries.items in
     let handles = total c.args.holds.now in
     let t = c.args.store.now.nodes.table in
-    let old = c.index_mut-entry.result.now in
-    let is = c.index_mut-entry.ensures.value in
+    let old = c.get_mut-entry.result.now in
+    let is = read_through c.args.store.now.entries.items c.args.at c.get_mut-entry.ensures.value c.index_mut.ensures.value in
     let weak : old.strong ≡ 0 = omega (arith, c.if-entry-gt0.false) in
     let closed : IsClosed handles t c.fail_if_abandoned.new.nodes.table c.fail_if_abandoned.new.nodes.units.items (rows_of es) old
     c.fail_if_abandoned.new.entry =

@@ -10,15 +10,16 @@ use Rattle.forest_steps.proofs.mid_event.RootOutcome.{may_close, pool_then, wait
 use Rattle.forest_steps.proofs.initial_allocation.allocate_root.Answers.Points.{affects, comes, found, outcome_then}
 use Rattle.forest_steps.proofs.initial_allocation.allocate_root.Answers.Points.{planned, rooted, told_then, under}
 use Rattle.std.proofs.Common.{rules}
+use Rattle.forest_store.proofs.rows.Entries.{read_through}
 use Rattle.forest_steps.proofs.initial_allocation.allocate_root.Goals as goal
 mod Points
 
-pub index-entry-requires : goal.index-entry-requires
-index-entry-requires c =
+pub index-requires : goal.index-requires
+index-requires c =
     omega (arith, (place_is c.requires.ready.id c.args.store.now.entries.items c.args.at c.requires.ready.place).within)
 
-pub index_mut-entry-requires : goal.index_mut-entry-requires
-index_mut-entry-requires c =
+pub index_mut-requires : goal.index_mut-requires
+index_mut-requires c =
     omega (arith, (place_is c.requires.ready.id c.args.store.now.entries.items c.args.at c.requires.ready.place).within)
 
 pub planned-requires-clause-tracked : goal.planned-requires-clause-tracked
@@ -29,11 +30,14 @@ planned-requires-clause-tracked c at n found =
 
 pub make_effect-requires-clause-may : goal.make_effect-requires-clause-may
 make_effect-requires-clause-may c =
+    let stands = read_through c.args.store.now.entries.items c.args.at c.get_mut-entry.ensures.value c.index_mut.ensures.value in
     may_make _ _ _ c.requires.ready
-    (c.requires.worked c.index_mut-entry.result.now c.index_mut-entry.ensures.value)
+    (c.requires.worked c.get_mut-entry.result.now stands)
 
 pub planned-requires-clause-worked : goal.planned-requires-clause-worked
-planned-requires-clause-worked c = rw c.in-Some.is at (c.requires.worked c.index-entry.result.now c.index-entry.ensures)
+planned-requires-clause-worked c =
+    let stands = read_through c.args.store.now.entries.items c.args.at c.get-entry.ensures c.index.ensures in
+    rw c.in-Some.is at (c.requires.worked c.get-entry.result.now stands)
 
 -- an effect that changes no count makes no unit ready
 pub returns-in_default-clause-waits : goal.returns-in_default-clause-waits
@@ -79,13 +83,16 @@ settle_first-requires-clause-listed c =
 
 pub finish_event-requires-clause-may : goal.finish_event-requires-clause-may
 finish_event-requires-clause-may c =
-    may_close (total c.args.holds.now) c.requires.ready.place c.index-entry.ensures c.requires.ready.ready (under c) (planned c)
-    (comes c) (affects c) _ _ _ (found c) c.assert_disjoint.ensures c.requires.pool (rooted c)
+    let stands = read_through c.args.store.now.entries.items c.args.at c.get-entry.ensures c.index.ensures in
+    may_close (total c.args.holds.now) c.requires.ready.place stands
+    c.requires.ready.ready (under c) (planned c) (comes c) (affects c) _ _ _ (found c) c.assert_disjoint.ensures c.requires.pool (rooted c)
 
 pub finish_event-requires-clause-pool : goal.finish_event-requires-clause-pool
 finish_event-requires-clause-pool c =
-    pool_then (total c.args.holds.now) c.requires.ready.place c.index-entry.ensures c.requires.ready.ready (under c) (planned c)
-    (comes c) (affects c) _ _ _ (found c) c.assert_disjoint.ensures c.requires.pool (rooted c) c.assert_disjoint-2.ensures
+    let stands = read_through c.args.store.now.entries.items c.args.at c.get-entry.ensures c.index.ensures in
+    pool_then (total c.args.holds.now) c.requires.ready.place stands
+    c.requires.ready.ready (under c) (planned c) (comes c) (affects c) _ _ _ (found c) c.assert_disjoint.ensures c.requires.pool (rooted c)
+    c.assert_disjoint-2.ensures
 
 -- what came last was made, and so all was
 pub returns-clause-outcome : goal.returns-clause-outcome

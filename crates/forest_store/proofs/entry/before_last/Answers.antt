@@ -1,10 +1,18 @@
 -- The ids rise, so all smaller ones stand before the last.
-use Rattle.forest_store.proofs.Common.{arith}
-use Rattle.forest_store.proofs.rows.Entries.{before_equal, before_greater}
+use Rattle.forest_store.proofs.Common.{◌≡◌, ◌<◌, Entry, subst, arith}
+use Rattle.forest_store.proofs.rows.Entries.{before_equal, before_greater, read_through}
 use Rattle.forest_store.proofs.entry.before_last.Goals as goal
 
-pub returns-then-entries-last : goal.returns-then-entries-last
-returns-then-entries-last c = before_greater _ _ _ _ c.requires (omega arith) c.if-entries-last.true
+pub returns-then-greatest-id : goal.returns-then-greatest-id
+returns-then-greatest-id c =
+    let es = c.args.entries.now in
+    let at = c.in_ok-last.last in
+    before_greater c.args.id es at c.get.result.now c.requires (omega arith)
+    (subst (λ (e : Entry). e.id < c.args.id) (read_through es at c.get.ensures c.index-entries-last.is) c.if-greatest-id.true)
 
-pub returns-then-entries-last-2 : goal.returns-then-entries-last-2
-returns-then-entries-last-2 c = before_equal _ _ _ _ c.requires (omega arith) c.if-entries-last-2.true
+pub returns-then-greatest-id-2 : goal.returns-then-greatest-id-2
+returns-then-greatest-id-2 c =
+    let es = c.args.entries.now in
+    let at = c.in_ok-last.last in
+    before_equal c.args.id es at c.get.result.now c.requires (omega arith)
+    (subst (λ (e : Entry). e.id ≡ c.args.id) (read_through es at c.get.ensures c.index-entries-last.is) c.if-greatest-id-2.true)

@@ -4,6 +4,7 @@ use Rattle.forest_store.proofs.leaving.EntryAt.{place_told}
 use Rattle.forest_store.proofs.newborns.Entries.{refused_two}
 use Rattle.forest_store.proofs.newborns.Inserted.{few, inserted, inserted_first, parent_there, refused}
 use Rattle.forest_store.proofs.Basics.{place_within}
+use Rattle.forest_store.proofs.rows.Entries.{read_through}
 use Rattle.forest_store.proofs.insertion.insert_uncounted.Goals as goal
 
 pub index_mut-requires : goal.index_mut-requires
@@ -16,7 +17,8 @@ insert_child-requires-clause-parent c =
 pub insert_child-requires-clause-few : goal.insert_child-requires-clause-few
 insert_child-requires-clause-few c =
     few c.args.store.now.entries.items c.requires.forest.kept c.args.id c.args.birth c.requires.change c.requires.draft
-    c.requires.forest.counted (place_told _ _ _ _ _ c.deref.ensures.value c.place_of.ensures c.in-Some.is) c.index_mut.ensures.value
+    c.requires.forest.counted (place_told _ _ _ _ _ c.deref.ensures.value c.place_of.ensures c.in-Some.is)
+    (read_through c.args.store.now.entries.items c.in-Some.at c.get_mut.ensures.value c.index_mut.ensures.value)
 
 pub insert_root-requires-clause-parent : goal.insert_root-requires-clause-parent
 insert_root-requires-clause-parent c =
@@ -26,7 +28,8 @@ insert_root-requires-clause-parent c =
 pub returns-in-Some-clause-ok : goal.returns-in-Some-clause-ok
 returns-in-Some-clause-ok c =
     inserted c.args.store.now.entries.items c.requires.forest.kept c.args.id c.args.birth c.requires.change c.requires.draft
-    c.requires.forest.counted (place_told _ _ _ _ _ c.deref.ensures.value c.place_of.ensures c.in-Some.is) c.index_mut.ensures.value
+    c.requires.forest.counted (place_told _ _ _ _ _ c.deref.ensures.value c.place_of.ensures c.in-Some.is)
+    (read_through c.args.store.now.entries.items c.in-Some.at c.get_mut.ensures.value c.index_mut.ensures.value)
     c.insert_child.new.table c.insert_child.new.entry c.insert_child.result c.insert_child.ensures.bears c.insert_child.ensures.entry
     c.insert_child.ensures.notes
 
@@ -34,7 +37,8 @@ returns-in-Some-clause-ok c =
 pub returns-in-Some-clause-err : goal.returns-in-Some-clause-err
 returns-in-Some-clause-err c =
     refused c.args.store.now.entries.items c.requires.forest.kept c.args.id c.args.birth c.requires.change c.requires.draft
-    c.requires.forest.counted (place_told _ _ _ _ _ c.deref.ensures.value c.place_of.ensures c.in-Some.is) c.index_mut.ensures.value
+    c.requires.forest.counted (place_told _ _ _ _ _ c.deref.ensures.value c.place_of.ensures c.in-Some.is)
+    (read_through c.args.store.now.entries.items c.in-Some.at c.get_mut.ensures.value c.index_mut.ensures.value)
     c.insert_child.new.table c.insert_child.new.entry c.insert_child.result c.insert_child.ensures.err_table
     c.insert_child.ensures.err_entry c.insert_child.ensures.notes
 

@@ -5,6 +5,7 @@ use Rattle.forest_store.proofs.leaving.EntryAt.{place_told, rows_then, stays, st
 use Rattle.forest_store.proofs.leaving.Forgotten.{thin_filed}
 use Rattle.forest_store.proofs.leaving.Thinning.{all_thinned-same}
 use Rattle.forest_store.proofs.rows.Dropping.{bare_none, no_row}
+use Rattle.forest_store.proofs.rows.Entries.{read_through}
 use Rattle.forest_store.proofs.Basics.{place_within}
 use Rattle.forest_store.proofs.unkept.forget_nodes.Goals as goal
 
@@ -36,8 +37,8 @@ returns-in_default-clause-kept c =
 pub index-requires : goal.index-requires
 index-requires c = omega (arith, place_within _ _ _ _ _ c.deref.ensures.value c.place_of.ensures c.in-Some.is)
 
-pub index_mut-entry-requires : goal.index_mut-entry-requires
-index_mut-entry-requires c = omega (arith, place_within _ _ _ _ _ c.deref.ensures.value c.place_of.ensures c.in-Some.is)
+pub index_mut-requires : goal.index_mut-requires
+index_mut-requires c = omega (arith, place_within _ _ _ _ _ c.deref.ensures.value c.place_of.ensures c.in-Some.is)
 
 pub index-requires-then-is_unkept_known : goal.index-requires-then-is_unkept_known
 index-requires-then-is_unkept_known c = omega (arith, place_within _ _ _ _ _ c.deref.ensures.value c.place_of.ensures c.in-Some.is)
@@ -50,13 +51,15 @@ returns-then-is_unkept_known-clause-rows c = sym (thin_filed c.args.table.now _ 
 pub returns-then-is_unkept_known-clause-left : goal.returns-then-is_unkept_known-clause-left
 returns-then-is_unkept_known-clause-left c =
     left_known c.args.entries.now.items c.requires.kept c.requires.counted c.args.id
-    (place_told _ _ _ _ _ c.deref.ensures.value c.place_of.ensures c.in-Some.is) c.index.ensures
+    (place_told _ _ _ _ _ c.deref.ensures.value c.place_of.ensures c.in-Some.is)
+    (read_through c.args.entries.now.items c.in-Some.at c.get.ensures c.index.ensures)
     (c.is_unkept_known.ensures c.if-is_unkept_known.true)
 
 pub returns-then-is_unkept_known-clause-full : goal.returns-then-is_unkept_known-clause-full
 returns-then-is_unkept_known-clause-full c left =
     stays c.args.entries.now.items c.requires.kept c.requires.counted c.args.id
-    (place_told _ _ _ _ _ c.deref.ensures.value c.place_of.ensures c.in-Some.is) c.index-then-is_unkept_known.ensures
+    (place_told _ _ _ _ _ c.deref.ensures.value c.place_of.ensures c.in-Some.is)
+    (read_through c.args.entries.now.items c.in-Some.at c.get-then-is_unkept_known.ensures c.index-then-is_unkept_known.ensures)
     (sym c.is_bare.ensures ∙ left)
 
 pub returns-then-is_unkept_known-clause-kept : goal.returns-then-is_unkept_known-clause-kept
@@ -73,20 +76,25 @@ told c = place_told _ _ _ _ _ c.deref.ensures.value c.place_of.ensures c.in-Some
 pub forget_of-requires : goal.forget_of-requires
 forget_of-requires c =
     forgettable c.args.entries.now.items c.requires.kept c.requires.counted c.args.id
-    (place_told _ _ _ _ _ c.deref.ensures.value c.place_of.ensures c.in-Some.is) c.index_mut-entry.ensures.value
+    (place_told _ _ _ _ _ c.deref.ensures.value c.place_of.ensures c.in-Some.is)
+    (read_through c.args.entries.now.items c.in-Some.at c.get_mut-entry.ensures.value c.index_mut.ensures.value)
 
 pub returns-clause-rows : goal.returns-clause-rows
-returns-clause-rows c = rows_then _ c.requires.kept c.requires.counted _ (told c) c.index_mut-entry.ensures.value
+returns-clause-rows c = rows_then _ c.requires.kept c.requires.counted _ (told c)
+    (read_through c.args.entries.now.items c.in-Some.at c.get_mut-entry.ensures.value c.index_mut.ensures.value)
     c.forget_of.ensures.entry c.forget_of.ensures.look
 
 pub returns-clause-left : goal.returns-clause-left
-returns-clause-left c = left_then _ c.requires.kept c.requires.counted _ (told c) c.index_mut-entry.ensures.value
+returns-clause-left c = left_then _ c.requires.kept c.requires.counted _ (told c)
+    (read_through c.args.entries.now.items c.in-Some.at c.get_mut-entry.ensures.value c.index_mut.ensures.value)
     c.forget_of.ensures.entry c.forget_of.ensures.look
 
 pub returns-clause-counted : goal.returns-clause-counted
-returns-clause-counted c = counted_then _ c.requires.kept c.requires.counted _ (told c) c.index_mut-entry.ensures.value
+returns-clause-counted c = counted_then _ c.requires.kept c.requires.counted _ (told c)
+    (read_through c.args.entries.now.items c.in-Some.at c.get_mut-entry.ensures.value c.index_mut.ensures.value)
     c.forget_of.ensures.entry c.forget_of.ensures.look
 
 pub returns-clause-full : goal.returns-clause-full
-returns-clause-full c left = stays_then _ c.requires.kept c.requires.counted _ (told c) c.index_mut-entry.ensures.value
+returns-clause-full c left = stays_then _ c.requires.kept c.requires.counted _ (told c)
+    (read_through c.args.entries.now.items c.in-Some.at c.get_mut-entry.ensures.value c.index_mut.ensures.value)
     c.forget_of.ensures.entry c.forget_of.ensures.look (sym c.is_bare-2.ensures ∙ left)

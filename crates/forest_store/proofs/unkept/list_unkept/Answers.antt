@@ -1,7 +1,7 @@
 -- Only the entry of the collection is noted.
-use Rattle.forest_store.proofs.Common.{sym, ◌∙◌, ap, arith, Entry, row_of, get_or_default}
+use Rattle.forest_store.proofs.Common.{sym, ◌∙◌, ap, arith, subst, Entry, IsNoting, row_of, get_or_default}
 use Rattle.forest_store.proofs.rows.Counted.{unkept, noted_none, noted_set, set_rows}
-use Rattle.forest_store.proofs.rows.Entries.{place_within}
+use Rattle.forest_store.proofs.rows.Entries.{place_within, read_through}
 use Rattle.forest_store.proofs.unkept.list_unkept.Goals as goal
 
 pub index_mut-requires : goal.index_mut-requires
@@ -9,17 +9,21 @@ index_mut-requires c = omega (arith, place_within _ _ _ _ _ c.deref.ensures.valu
 
 pub returns-in-Some-clause-rows : goal.returns-in-Some-clause-rows
 returns-in-Some-clause-rows c =
-    let old : Entry = c.index_mut.result.now in
+    let old : Entry = c.get_mut.result.now in
     let new : Entry = c.note_key.new.entry in
     set_rows _ _ _
-    (λ within. c.note_key.ensures.entry.row ∙ ap row_of (c.index_mut.ensures.value ∙ get_or_default _ _ old new within))
+    (λ within. c.note_key.ensures.entry.row
+    ∙ ap row_of (read_through c.args.entries.now.items c.in-Some.at c.get_mut.ensures.value c.index_mut.ensures.value
+    ∙ get_or_default c.args.entries.now.items c.in-Some.at old new within))
 
 pub returns-in-Some-clause-counted : goal.returns-in-Some-clause-counted
 returns-in-Some-clause-counted c t all =
-    let old : Entry = c.index_mut.result.now in
+    let old : Entry = c.get_mut.result.now in
     let new : Entry = c.note_key.new.entry in
     unkept t _ _ _
-    (λ within. rw (← (c.index_mut.ensures.value ∙ get_or_default _ _ old new within)) c.note_key.ensures.entry) all
+    (λ within. subst (λ (e : Entry). IsNoting e new)
+    (read_through c.args.entries.now.items c.in-Some.at c.get_mut.ensures.value c.index_mut.ensures.value
+    ∙ get_or_default c.args.entries.now.items c.in-Some.at old new within) c.note_key.ensures.entry) all
 
 pub returns-in-Some-clause-unkept : goal.returns-in-Some-clause-unkept
 returns-in-Some-clause-unkept c over =

@@ -15,6 +15,7 @@ use Rattle.alloc_event.proofs.leaving.Spending.{spent_same}
 use Rattle.forest_store.proofs.tallies.Slots.{units_without}
 use Rattle.forest_store.proofs.tables.TakingOut.{taken}
 use Rattle.forest_steps.proofs.mid_event.GivenKept.{given_filtered}
+use Rattle.forest_store.proofs.rows.Entries.{read_through}
 use Rattle.alloc_event.proofs.forest.Forest.forget_gone.Goals as goal
 
 pub take_out-requires : goal.take_out-requires
@@ -32,7 +33,7 @@ pub drop_key-requires : goal.drop_key-requires
 drop_key-requires c =
     let told = sym (rw c.deref.ensures.value at c.place_of.ensures) ∙ c.in-Some.is in
     (forgettable c.self.inside.store.entries.items c.self.invariant.kept c.self.invariant.counted c.args.id told
-    c.index_mut.ensures.value).apart
+    (read_through c.self.inside.store.entries.items c.in-Some.at c.get_mut.ensures.value c.index_mut.ensures.value)).apart
 
 module _ (c : goal.After-take_out) where
   -- the place of the collection
@@ -63,15 +64,16 @@ module _ (c : goal.After-take_out) where
 
   -- the entry without the key
   abbrev e : Entry
-  e = record (c.index_mut.result.now) { keys = c.drop_key.new.keys }
+  e = record (c.get_mut.result.now) { keys = c.drop_key.new.keys }
 
   -- the rows are those without the key
   same : rows_of (set c.self.inside.store.entries.items c.in-Some.at e)
       ≡ map (row_without c.args.key) (rows_of c.self.inside.store.entries.items)
-  same = set_forgotten c.self.inside.store.nodes.table c.args.key c.index_mut.result.now e c.self.inside.store.entries.items
+  same = set_forgotten c.self.inside.store.nodes.table c.args.key c.get_mut.result.now e c.self.inside.store.entries.items
       c.take_out.ensures.was c.self.invariant.kept
-      (subst (λ i. place_in i c.self.inside.store.entries.items ≡ Some c.in-Some.at) (sym own) told) c.index_mut.ensures.value
-      (λ i. record (row_of c.index_mut.result.now) { keys = c.drop_key.ensures i })
+      (subst (λ i. place_in i c.self.inside.store.entries.items ≡ Some c.in-Some.at) (sym own) told)
+      (read_through c.self.inside.store.entries.items c.in-Some.at c.get_mut.ensures.value c.index_mut.ensures.value)
+      (λ i. record (row_of c.get_mut.result.now) { keys = c.drop_key.ensures i })
 
   -- the collections are those without the node
   nodes : map (collection_in c.take_out.new.table) (rows_of (set c.self.inside.store.entries.items c.in-Some.at e))
@@ -83,10 +85,10 @@ module _ (c : goal.After-take_out) where
   none = c.take_out.ensures.out.look c.args.key ∙ (rw (same_key-refl c.args.key) refl)
 
   -- the entry shows the same with the key and without
-  shown : collection_in c.take_out.new.table (row_of e) ≡ collection_in c.take_out.new.table (row_of c.index_mut.result.now)
-  shown = λ i. record (collection_in c.take_out.new.table (row_of c.index_mut.result.now)) {
+  shown : collection_in c.take_out.new.table (row_of e) ≡ collection_in c.take_out.new.table (row_of c.get_mut.result.now)
+  shown = λ i. record (collection_in c.take_out.new.table (row_of c.get_mut.result.now)) {
     nodes = (ap (nodes_with c.take_out.new.table) c.drop_key.ensures
-        ∙ looked-kept c.args.key (node_at c.take_out.new.table) none c.index_mut.result.now.keys.items) i;
+        ∙ looked-kept c.args.key (node_at c.take_out.new.table) none c.get_mut.result.now.keys.items) i;
   }
 
 -- the node of a key that is kept has a collection
@@ -106,14 +108,16 @@ pub invariant_of-self : goal.invariant_of-self
 invariant_of-self c =
     let t = c.self.inside.store.nodes.table in
     let ss = rows_of c.self.inside.store.entries.items in
-    let old : Entry = c.index_mut.result.now in
+    let old : Entry = c.get_mut.result.now in
+    let stands = read_through c.self.inside.store.entries.items c.in-Some.at c.get_mut.ensures.value c.index_mut.ensures.value in
     let drops = drops_one t c.take_out.new.table c.args.key c.take_out.result c.take_out.ensures.was (gone c) c.take_out.ensures.out.look in
     let without = collections-without (out c) c.self.invariant.kept.named ss in
     record {
       kept = rw (same c) (kept-without (out c) (gone c) c.self.invariant.kept);
       counted = counted_set c.take_out.new.table c.self.inside.store.entries.items c.in-Some.at (e c)
           (λ there counted. let own : IsCounted c.take_out.new.table old =
-          subst (IsCounted c.take_out.new.table) (get_or_default _ _ (e c) old there ∙ sym c.index_mut.ensures.value) counted in
+          subst (IsCounted c.take_out.new.table)
+          (get_or_default _ _ (e c) old there ∙ sym stands) counted in
           recounted c.take_out.new.table old (e c) (shown c) refl refl own.unkept_known own)
           (dropped_all t c.take_out.new.table c.self.invariant.kept.named drops c.self.inside.store.entries.items
           c.self.invariant.kept.whole c.self.invariant.counted);

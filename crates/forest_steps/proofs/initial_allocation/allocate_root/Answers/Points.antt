@@ -1,12 +1,13 @@
 -- What the last goals of `allocate_root` have in common: the collection with the effect, and then with its root's unit allocated or lost.
 use Rattle.forest_steps.proofs.Common.{◌≡◌, ◌∙◌, true, List, [], Some, refl, set, sym, ap, subst, total, Handles, NodeKey}
-use Rattle.forest_steps.proofs.Common.{Table, Change, Effect, Entry, Node, Unit, place_in, rows_of, get_or_default}
+use Rattle.forest_steps.proofs.Common.{Table, Change, Effect, Entry, Node, Unit, place_in, rows_of, get_or, get_or_default}
 use Rattle.forest_steps.proofs.Common.{Holdings, IsOutcomeIn, StoreAgrees, IsPlace, place_is, Closes, IsPlanned, IsRooted}
 use Rattle.forest_steps.proofs.Common.{IsAllocationOutcome, comes_first, EffectMade, AfterEffect, MidEvent}
 use Rattle.forest_steps.specs.declared.initial_allocation.Plan.{Plan}
 use Rattle.forest_steps.proofs.mid_event.Changing.{affected_on}
 use Rattle.forest_steps.proofs.mid_event.Stepping.{begins_at, node_there}
 use Rattle.forest_steps.proofs.mid_event.RootOutcome.{coming_mid, outcome_root, reserved_mid, told_new, under_mid}
+use Rattle.forest_store.proofs.rows.Entries.{read_through}
 use Rattle.forest_steps.proofs.initial_allocation.allocate_root.Goals.{After-finish_event-arg-3-1}
 
 module _ (c : After-finish_event-arg-3-1) where
@@ -28,7 +29,11 @@ module _ (c : After-finish_event-arg-3-1) where
 
   -- the entry before the effect, with the effect, and then
   abbrev old : Entry
-  old = c.index-entry.result.now
+  old = c.get-entry.result.now
+
+  -- it stands at the place
+  pub read : old ≡ get_or es c.args.at old
+  read = read_through es c.args.at c.get-entry.ensures c.index.ensures
 
   -- the collection with the effect made
   abbrev mid : Entry
@@ -55,13 +60,13 @@ module _ (c : After-finish_event-arg-3-1) where
   place = place_is _ _ _ c.requires.ready.place
 
   -- the entry that is lent is the one that was read
-  again : c.index_mut-entry.result.now ≡ old
-  again = c.index_mut-entry.ensures.value ∙ get_or_default es c.args.at c.index_mut-entry.result.now old place.within
-      ∙ sym c.index-entry.ensures
+  again : c.get_mut-entry.result.now ≡ old
+  again = read_through es c.args.at c.get_mut-entry.ensures.value c.index_mut.ensures.value
+      ∙ get_or_default es c.args.at c.get_mut-entry.result.now old place.within ∙ sym read
 
   -- the collection is under way, with nothing loose and nothing due
   pub under : MidEvent t us (rows_of es) old [] []
-  under = begins_at handles old c.index-entry.ensures c.requires.ready refl
+  under = begins_at handles old read c.requires.ready refl
 
   -- the contract of the plan: whose unit it is
   pub planned : IsPlanned t us old key effect plan
@@ -79,7 +84,7 @@ module _ (c : After-finish_event-arg-3-1) where
       let both : Some planned.node ≡ Some x.0 = sym planned.was ∙ x.1 in
       let one : planned.node ≡ x.0 = cc in
       let own : planned.node.collection ≡ old.id =
-      ap (λ (m : Node). m.collection) one ∙ (x.3 ∙ sym (ap (λ (e : Entry). e.id) c.index-entry.ensures ∙ place.id_is old)) in
+      ap (λ (m : Node). m.collection) one ∙ (x.3 ∙ sym (ap (λ (e : Entry). e.id) read ∙ place.id_is old)) in
       affected_on planned.was own under
       (subst (λ e. EffectMade t c.make_effect.new.nodes.table c.make_effect.new.nodes.units.items (rows_of es) e mid key effect
       planned.node.head) again
@@ -90,7 +95,7 @@ module _ (c : After-finish_event-arg-3-1) where
   -- the contract of the placing
   pub found : IsAllocationOutcome c.args.pool.now c.place_wanted.new.pool c.requires.ready.id old.held.items plan.wants
       c.in_ok-verdict.verdict
-  found = rw (ap (λ (e : Entry). e.id) c.index-entry.ensures ∙ place.id_is old) at c.in_ok-verdict.ensures.verdict
+  found = rw (ap (λ (e : Entry). e.id) read ∙ place.id_is old) at c.in_ok-verdict.ensures.verdict
 
   -- the contract of the allocation, from the collection with the effect
   pub rooted : IsRooted handles c.make_effect.new.nodes.table c.settle_first.new.nodes.table c.settle_first.new.nodes.units.items
@@ -99,14 +104,14 @@ module _ (c : After-finish_event-arg-3-1) where
       let told = c.requires.ready.place in
       let r = c.requires.ready.ready in
       c.settle_first.ensures.rooted (rows_of es)
-      (under_mid handles told c.index-entry.ensures r under planned comes affects)
-      (coming_mid handles told c.index-entry.ensures r under planned comes affects)
-      (reserved_mid handles told c.index-entry.ensures r under planned comes affects)
+      (under_mid handles told read r under planned comes affects)
+      (coming_mid handles told read r under planned comes affects)
+      (reserved_mid handles told read r under planned comes affects)
 
   -- the collection is found at the same place then
   pub told_then : place_in c.requires.ready.id (set es c.args.at new) ≡ Some c.args.at
   told_then =
-      told_new handles c.requires.ready.place c.index-entry.ensures c.requires.ready.ready under planned comes affects
+      told_new handles c.requires.ready.place read c.requires.ready.ready under planned comes affects
       c.args.pool.now c.place_wanted.new.pool c.in_ok-verdict.verdict found c.assert_disjoint.ensures c.requires.pool rooted
 
   -- once what comes last is made, all is; the type has no abbreviation, since the id is rewritten in it
@@ -117,6 +122,6 @@ module _ (c : After-finish_event-arg-3-1) where
       IsOutcomeIn true (total c.args.holds.now) c.args.pool.now pool c.args.store.now.nodes.table last c.args.store.now.entries.items
       behind c.requires.ready.id (Change.Effect c.args.made.now.key c.args.made.now.effect)
   outcome_then closes size =
-      outcome_root handles c.requires.ready.place c.index-entry.ensures c.requires.ready.ready under planned comes affects
+      outcome_root handles c.requires.ready.place read c.requires.ready.ready under planned comes affects
       c.args.pool.now c.place_wanted.new.pool c.in_ok-verdict.verdict found c.assert_disjoint.ensures c.requires.pool rooted closes
       c.in_ok-verdict.ensures.size size
