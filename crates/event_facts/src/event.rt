@@ -1,5 +1,5 @@
 //! One event: a call, its reply, and its marks.
-ghost use Rattle.std.specs.Prelude.{◌≡◌, ◌≤◌, IfErr, IfOk, IfSome, Ok, drop, length, map};
+ghost use Rattle.std.specs.Prelude.{◌≡◌, ◌≤◌, Err, IfErr, IfOk, IfSome, Ok, drop, length, map};
 ghost use Rattle.std.specs.List.{list_any};
 ghost use Rattle.std.specs.Option.{option_and_then, option_map};
 ghost use Rattle.sm_names.specs.Answers.{IsAnswer};
@@ -38,7 +38,7 @@ pub struct Event {
 /// Makes the call, as `Core::step` does, and answers its event: the reply, the marks, and the
 /// collection before and after.
 ///
-/// `HistoryFull` where as many events were made as may be: nothing was done. `NoMemory` where memory was
+/// `HistoryFull` exactly if as many events were made as may be: nothing was done. `NoMemory` where memory was
 /// refused: then the call may have been made. Costs what `step_with_marks` costs, and two copies of the
 /// collection.
 pub fn take_event(
@@ -59,9 +59,15 @@ pub fn take_event(
         (is_doomed_in core.old.holds b.copied.id b.copied.nodes.items b.copied.buffers) b.doomed)) }
     ensures after { IfOk result (λ event. IsCopiedAfter core.new event.before event.after) }
     ensures fired { IfOk result (λ event. event.fired ≡ length core.old.trackers.fired) }
-    ensures full { IfErr result (λ fault. fault ≡ StepFault.HistoryFull →
+    ensures err { IfErr result (λ fault. fault ≡ StepFault.HistoryFull →
         core.old.limits.events ≤ core.old.events) }
+    ensures full { core.old.limits.events ≤ core.old.events →
+        result ≡ Err StepFault.HistoryFull }
+    ensures same { result ≡ Err StepFault.HistoryFull → core.new ≡ core.old }
 {
+    if core.remaining() == 0 {
+        return Err(StepFault::HistoryFull);
+    }
     let fired = core.fired().len();
     let before = before_of(core, client, &call)?;
     let told = step_with_marks(core, alloc, client, call)?;

@@ -218,8 +218,7 @@ impl EventWriter {
     /// Makes the call of a line, and puts its reply in the place of what was there; what its label stands
     /// for is what the call made.
     ///
-    /// `HistoryFull` exactly if as many events were made as may be; `NoMemory` as `take_event` has it, and never `BadLine`.
-    /// Costs what that costs.
+    /// `HistoryFull` and `NoMemory` as `take_event` has them, and never `BadLine`. Costs what that costs.
     pub fn take(
         &mut self,
         alloc: Global,
@@ -248,9 +247,6 @@ impl EventWriter {
             result ≡ Err LineStop.HistoryFull }
     {
         reply.clear();
-        if self.session.core.remaining() == 0 {
-            return Err(LineStop::HistoryFull);
-        }
         let event = taken(take_event(alloc, &mut self.session.core, client, call))?;
         let events = self.session.core.events();
         self.failures = failures_with(self.failures, events, &event.moments);
@@ -450,6 +446,7 @@ fn taken(event: Result<Event, StepFault>) -> Result<Event, LineStop>
     ensures ok { IfOk result (λ made. event ≡ Ok made) }
     ensures err { IfErr result (λ stop. (stop ≢ LineStop.BadLine)
         × (stop ≡ LineStop.HistoryFull → event ≡ Err StepFault.HistoryFull)) }
+    ensures full { event ≡ Err StepFault.HistoryFull → result ≡ Err LineStop.HistoryFull }
 {
     match event {
         Ok(event) => Ok(event),
