@@ -44,19 +44,24 @@ impl Play {
         }
     }
 
+    // The actor's client.
+    fn client_of(&self, actor: usize) -> Option<ClientId>
+        ensures { result ≡ slice_get self.now.clients.items actor }
+    {
+        self.clients.get(actor).copied()
+    }
+
     // The actor's client makes this call, by which the actor leaves, or goes on to leave.
     fn make_leave(
         &mut self,
         alloc: Global,
         plans: &[Plan],
         actor: usize,
-        client: ClientId,
         call: Call,
         tells: bool,
     ) -> Result<(), StepFault>
         requires play { IsPlay plans.now self.old }
         requires call { option_and_then leaves_by (slice_get (stages_of self.old) actor) ≡ Some call }
-        requires caller { slice_get self.old.clients.items actor ≡ Some client }
         ensures leave { OnOk result (IsLeave plans.now self.old self.new actor true) }
         ensures takes { tells ≡ true → OnOk result (TakesLeave plans.now self.old self.new actor true) }
         ensures untold { OnOk result (TakesLeaveUntold plans.now self.old self.new actor true) }
@@ -67,6 +72,9 @@ impl Play {
         ensures pool { OnOk result (self.new.core.pool ≡ self.old.core.pool) }
         ensures limits { OnOk result (self.new.core.limits ≡ self.old.core.limits) }
     {
+        let Some(client) = self.client_of(actor) else {
+            return Err(StepFault::NoMemory);
+        };
         let reply = self.call(alloc, client, call, tells)?;
         self.note_leave(alloc, actor, reply)?;
         Ok(())
@@ -101,10 +109,7 @@ impl Play {
             Ok(None) => return Ok(false),
             Err(_) => return Err(StepFault::NoMemory),
         };
-        let Some(client) = self.clients.get(actor).copied() else {
-            return Err(StepFault::NoMemory);
-        };
-        self.make_leave(alloc, plans, actor, client, call, tells)?;
+        self.make_leave(alloc, plans, actor, call, tells)?;
         Ok(true)
     }
 }

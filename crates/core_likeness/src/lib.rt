@@ -16,3 +16,4 @@ mod tracking;
 
 pub use cores::cores_are_alike;
 pub use names::Names;
+pub use sameness::{is_new_failure, is_new_fault, is_new_key, is_strength};

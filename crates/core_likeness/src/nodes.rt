@@ -6,7 +6,7 @@ ghost use Rattle.core_likeness.specs.Naming.{new_id, new_key};
 ghost use Rattle.core_likeness.specs.Parts.{SameFlags};
 
 use crate::names::Names;
-use crate::sameness::{is_end, is_new_fault, is_new_key, is_new_option, is_same_demand};
+use crate::sameness::{is_end, is_new_failure, is_new_key, is_new_option, is_same_demand};
 use forest_store::Node;
 
 // Whether all marks of the nodes are the same.
@@ -46,7 +46,7 @@ fn has_same_rest(one: &Node, other: &Node, names: &Names) -> bool
     ensures trackers { result ≡ true → other.now.trackers ≡ one.now.trackers }
     ensures end { result ≡ true → other.now.end ≡ one.now.end }
 {
-    is_new_fault(one.fault, other.fault, names)
+    is_new_failure(one.fault, other.fault, names)
         && is_same_demand(&one.constraints, &other.constraints)
         && one.trackers == other.trackers
         && is_end(one.end, other.end)

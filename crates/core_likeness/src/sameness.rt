@@ -6,18 +6,12 @@ ghost use Rattle.alike_cores.specs.Renamed.{fault_renamed};
 
 use crate::names::Names;
 use forest_store::End;
-use sm_names::{Buffers, Cause, Constraints, Fault, NodeKey, Strength};
+use sm_names::{Buffers, Constraints, Fault, NodeKey, Strength};
 
-// Whether the causes are one.
-pub(crate) fn is_cause(one: Cause, other: Cause) -> bool
-    ensures { result ≡ true → other ≡ one }
-{
-    one == other
-}
-
-// Whether the strengths are one.
-pub(crate) fn is_strength(one: Strength, other: Strength) -> bool
-    ensures { result ≡ true → other ≡ one }
+/// Whether the strengths are one. Costs O(1).
+pub fn is_strength(one: Strength, other: Strength) -> bool
+    ensures same { result ≡ true → other ≡ one }
+    ensures all { other ≡ one → result ≡ true }
 {
     match one {
         Strength::Strong => matches!(other, Strength::Strong),
@@ -25,18 +19,12 @@ pub(crate) fn is_strength(one: Strength, other: Strength) -> bool
     }
 }
 
-// Whether the keys are one.
-pub(crate) fn is_key(one: NodeKey, other: NodeKey) -> bool
-    ensures { result ≡ true → other ≡ one }
+/// Whether the other key is the one under its new name. Costs O(k) for k new names.
+pub fn is_new_key(one: NodeKey, other: NodeKey, names: &Names) -> bool
+    ensures same { result ≡ true → other ≡ new_key names.now one }
+    ensures all { other ≡ new_key names.now one → result ≡ true }
 {
-    one.slot == other.slot && one.generation == other.generation
-}
-
-// Whether the other key is the one under its new name.
-pub(crate) fn is_new_key(one: NodeKey, other: NodeKey, names: &Names) -> bool
-    ensures { result ≡ true → other ≡ new_key names.now one }
-{
-    is_key(names.key(one), other)
+    names.key(one) == other
 }
 
 // Whether the other key is the one under its new name, or neither is there.
@@ -52,15 +40,22 @@ pub(crate) fn is_new_option(one: Option<NodeKey>, other: Option<NodeKey>, names:
     }
 }
 
-// Whether the faults are one, but for the new name of their origin, or neither is there.
-pub(crate) fn is_new_fault(one: Option<Fault>, other: Option<Fault>, names: &Names) -> bool
-    ensures { result ≡ true → other ≡ option_map (fault_renamed (new_key names.now)) one }
+/// Whether the faults are one, but for the new name of their origin. Costs O(k) for k new names.
+pub fn is_new_fault(one: Fault, other: Fault, names: &Names) -> bool
+    ensures same { result ≡ true → other ≡ fault_renamed (new_key names.now) one }
+    ensures all { other ≡ fault_renamed (new_key names.now) one → result ≡ true }
+{
+    one.cause == other.cause && is_new_key(one.origin, other.origin, names)
+}
+
+/// Whether `is_new_fault` holds of the faults, or neither is there. Costs O(k) for k new names.
+pub fn is_new_failure(one: Option<Fault>, other: Option<Fault>, names: &Names) -> bool
+    ensures same { result ≡ true → other ≡ option_map (fault_renamed (new_key names.now)) one }
+    ensures all { other ≡ option_map (fault_renamed (new_key names.now)) one → result ≡ true }
 {
     match one {
         Some(fault) => match other {
-            Some(new) => {
-                is_cause(fault.cause, new.cause) && is_new_key(fault.origin, new.origin, names)
-            }
+            Some(new) => is_new_fault(fault, new, names),
             None => false,
         },
         None => other.is_none(),

@@ -5,36 +5,12 @@ ghost use Rattle.sm_names.specs.Elements.{In};
 ghost use Rattle.sm_names.specs.Sameness.{same_key};
 ghost use Rattle.actor_plays.specs.declared.falls.GoneNode.{GoneNode as Gone};
 ghost use Rattle.actor_plays.specs.Fates.{fate_fallen, fate_gone};
-ghost use Rattle.alike_cores.specs.Renamed.{fault_renamed};
 ghost use Rattle.alike_plays.specs.Outcomes.{FellAlike, fate_renamed};
 ghost use Rattle.core_likeness.specs.Naming.{new_key};
 
-use crate::objects::is_new_key;
 use actor_plays::GoneNode;
-use core_likeness::Names;
-use sm_names::{Cause, Fault, NodeKey};
-
-// Whether the causes are one.
-fn is_cause(one: Cause, other: Cause) -> bool
-    ensures { result ≡ true → other ≡ one }
-{
-    one == other
-}
-
-// Whether the faults are one, but for the new name of their origin, or neither is there.
-fn is_new_fault(one: Option<Fault>, other: Option<Fault>, names: &Names) -> bool
-    ensures { result ≡ true → other ≡ option_map (fault_renamed (new_key names.now)) one }
-{
-    match one {
-        Some(fault) => match other {
-            Some(new) => {
-                is_cause(fault.cause, new.cause) && is_new_key(fault.origin, new.origin, names)
-            }
-            None => false,
-        },
-        None => other.is_none(),
-    }
-}
+use core_likeness::{Names, is_new_failure, is_new_key};
+use sm_names::NodeKey;
 
 // How the node fell first, if it did.
 fn fall_of(falls: &[GoneNode], key: NodeKey) -> Option<GoneNode>
@@ -51,7 +27,7 @@ fn is_new_fall(one: Option<GoneNode>, other: Option<GoneNode>, names: &Names) ->
 {
     match one {
         Some(fall) => match other {
-            Some(new) => is_new_fault(fall.fault, new.fault, names),
+            Some(new) => is_new_failure(fall.fault, new.fault, names),
             None => false,
         },
         None => other.is_none(),

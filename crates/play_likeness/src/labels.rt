@@ -5,9 +5,8 @@ ghost use Rattle.actor_scripts.specs.Tables.{known};
 ghost use Rattle.alike_plays.specs.Actors.{place_renamed};
 ghost use Rattle.core_likeness.specs.Naming.{new_id, new_key, new_number};
 
-use crate::objects::is_new_key;
 use actor_scripts::ActorState;
-use core_likeness::Names;
+use core_likeness::{Names, is_new_key};
 use sm_names::{CollectionId, NodeKey, TrackerId};
 use std::alloc::{AllocError, Global};
 

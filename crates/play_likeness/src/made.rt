@@ -5,8 +5,7 @@ ghost use Rattle.alike_cores.specs.Alike.{reply_renamed};
 ghost use Rattle.alike_plays.specs.Actors.{made_of, made_renamed, tells_made};
 ghost use Rattle.core_likeness.specs.Naming.{new_id, new_key, new_number};
 
-use crate::objects::is_new_key;
-use core_likeness::Names;
+use core_likeness::{Names, is_new_key};
 use sm_names::Reply;
 use std::alloc::{AllocError, Global};
 

@@ -4,26 +4,8 @@ ghost use Rattle.alike_plays.specs.Actors.{object_renamed};
 ghost use Rattle.core_likeness.specs.Naming.{new_id, new_key};
 
 use actor_scripts::ActorObject;
-use core_likeness::Names;
-use sm_names::{BufferName, NodeKey, Strength};
-
-// Whether the other key is the one under its new name.
-pub(crate) fn is_new_key(one: NodeKey, other: NodeKey, names: &Names) -> bool
-    ensures { result ≡ true → other ≡ new_key names.now one }
-{
-    let key = names.key(one);
-    key.slot == other.slot && key.generation == other.generation
-}
-
-// Whether the strengths are one.
-fn is_strength(one: Strength, other: Strength) -> bool
-    ensures { result ≡ true → other ≡ one }
-{
-    match one {
-        Strength::Strong => matches!(other, Strength::Strong),
-        Strength::Weak => matches!(other, Strength::Weak),
-    }
-}
+use core_likeness::{Names, is_new_key, is_strength};
+use sm_names::BufferName;
 
 // Whether the buffers have one index, and the other is of the collection under its new number.
 pub(crate) fn is_new_buffer(one: BufferName, other: BufferName, names: &Names) -> bool

@@ -7,9 +7,9 @@ ghost use Rattle.actor_scripts.specs.Tables.{known};
 ghost use Rattle.alike_cores.specs.Renamed.{buffer_renamed};
 ghost use Rattle.core_likeness.specs.Naming.{new_id, new_key};
 
-use crate::objects::{is_new_buffer, is_new_key};
+use crate::objects::is_new_buffer;
 use actor_scripts::ActorState;
-use core_likeness::Names;
+use core_likeness::{Names, is_new_key};
 use sm_names::{BufferName, NodeKey, Strength};
 use std::alloc::{AllocError, Global};
 

@@ -1,6 +1,5 @@
 //! Whether a play ends as an outcome says.
 ghost use Rattle.std.specs.Prelude.{◌≡◌, map, option_map, true, IfOk, Ok};
-ghost use Rattle.alike_cores.specs.Renamed.{fault_renamed};
 ghost use Rattle.alike_plays.specs.Outcomes.{fate_renamed};
 ghost use Rattle.actor_plays.specs.Moves.{position_of};
 ghost use Rattle.core_likeness.specs.Naming.{new_key};
@@ -11,23 +10,8 @@ use crate::outcome::{ActorOutcome, Became, Outcome, outcome_of};
 use crate::replay::Ground;
 use crate::vanishing::vanished_of;
 use actor_plays::{Fate, Play};
-use core_likeness::Names;
-use sm_names::{Fault, NodeKey};
+use core_likeness::{Names, is_new_fault, is_new_key};
 use std::alloc::{AllocError, Global};
-
-// Whether the other key is the one under its new name.
-fn is_new_key(one: NodeKey, other: NodeKey, names: &Names) -> bool
-    ensures { result ≡ true → other ≡ new_key names.now one }
-{
-    names.key(one) == other
-}
-
-// Whether the other fault is the one, with the new name of its origin.
-fn is_new_fault(one: Fault, other: Fault, names: &Names) -> bool
-    ensures { result ≡ true → other ≡ fault_renamed (new_key names.now) one }
-{
-    one.cause == other.cause && is_new_key(one.origin, other.origin, names)
-}
 
 // Whether the other fate is the one, under new names.
 fn is_new_fate(one: Fate, other: Fate, names: &Names) -> bool

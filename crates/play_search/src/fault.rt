@@ -36,9 +36,10 @@ impl From<NoMemory> for ExploreFault {
 }
 
 impl From<StepFault> for ExploreFault {
-    ghost use Rattle.std.specs.Prelude.{⊤};
+    ghost use Rattle.std.specs.Prelude.{◌≡◌};
+    ghost use Rattle.play_search.specs.Faults.{step_told};
 
-    ghost from_gives = { λ fault told. ⊤ };
+    ghost from_gives = { λ fault told. told ≡ step_told fault };
 
     fn from(fault: StepFault) -> ExploreFault {
         match fault {

@@ -4,6 +4,7 @@
 mod births;
 mod changes;
 mod closing;
+mod core_value;
 mod effort;
 mod endings;
 mod ends;

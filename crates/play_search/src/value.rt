@@ -1,17 +1,16 @@
 //! The value of a play: all that later turns depend on, and what became of nodes, by numbers of steps. Plays
 //! that differ only in the keys, ids and numbers of events have one value.
 use crate::births::{Births, gains, number_at};
-use crate::falls::{NamedFall, cause_number, has_name};
+use crate::core_value::{bit, put_core};
+use crate::falls::{NamedFall, has_name};
 use crate::numbers::{small, small_of};
 use crate::replay::Ground;
 use crate::vanishing::is_early;
 use actor_plays::{Actor, Leaving, Plan, Play};
 use actor_scripts::ActorObject;
-use forest_store::{End, Node, Snapshot};
 use lifetime_core::Core;
 use sm_names::{
-    BufferName, Call, ClientId, CollectionId, Constraints, Fault, Fired, HeldBuffer, NodeKey,
-    Parcel, Reply, Strength, TrackerId,
+    BufferName, Call, ClientId, CollectionId, Fired, NodeKey, Parcel, Reply, Strength, TrackerId,
 };
 use std::alloc::{AllocError, Global};
 
@@ -19,7 +18,7 @@ use std::alloc::{AllocError, Global};
 const LEFT: u64 = 1 << 40;
 
 // Puts a number behind the text: one byte, or five.
-fn put(text: &mut Vec<u8>, number: u32) -> Result<(), AllocError> {
+pub(crate) fn put(text: &mut Vec<u8>, number: u32) -> Result<(), AllocError> {
     if number < 255 {
         text.push(number as u8)?;
         return Ok(());
@@ -29,7 +28,7 @@ fn put(text: &mut Vec<u8>, number: u32) -> Result<(), AllocError> {
 }
 
 // Puts two numbers.
-fn put_two(text: &mut Vec<u8>, one: u32, other: u32) -> Result<(), AllocError> {
+pub(crate) fn put_two(text: &mut Vec<u8>, one: u32, other: u32) -> Result<(), AllocError> {
     put(text, one)?;
     put(text, other)
 }
@@ -369,104 +368,6 @@ fn put_parcels(
     if collected <= parcels.len() {
         for parcel in &parcels[collected..] {
             put_parcel(text, births, *parcel)?;
-        }
-    }
-    put(text, 0)
-}
-
-fn bit(flag: bool, value: u32) -> u32 {
-    if flag { value } else { 0 }
-}
-
-fn flags_of(node: &Node) -> u32 {
-    let marks = bit(node.attached, 1) | bit(node.allocated, 2) | bit(node.gone, 4);
-    let said = bit(node.released, 8) | bit(node.dispensable, 16) | bit(node.took, 32);
-    let weak = bit(node.weak, 64) | bit(node.weak_ok, 128) | bit(node.covers, 256);
-    marks | said | weak | bit(node.bound, 512)
-}
-
-fn put_parent(
-    text: &mut Vec<u8>,
-    births: &Births,
-    parent: Option<NodeKey>,
-) -> Result<(), AllocError> {
-    match parent {
-        Some(parent) => put(text, births.node(parent)),
-        None => put(text, u32::MAX),
-    }
-}
-
-fn put_fault(text: &mut Vec<u8>, births: &Births, fault: Option<Fault>) -> Result<(), AllocError> {
-    match fault {
-        Some(fault) => put_two(text, cause_number(fault.cause), births.node(fault.origin)),
-        None => put(text, 0),
-    }
-}
-
-fn put_constraints(text: &mut Vec<u8>, constraints: Option<Constraints>) -> Result<(), AllocError> {
-    match constraints {
-        Some(said) => {
-            put_two(text, 1, said.camping() as u32)?;
-            put_two(text, said.at_least() as u32, said.size())
-        }
-        None => put(text, 0),
-    }
-}
-
-fn put_end(text: &mut Vec<u8>, end: End) -> Result<(), AllocError> {
-    match end {
-        End::Held(client) => put_two(text, 1, small_of(client)),
-        End::InTransit(client) => put_two(text, 2, small_of(client)),
-        End::Spent => put(text, 0),
-    }
-}
-
-fn put_node(text: &mut Vec<u8>, births: &Births, node: &Node) -> Result<(), AllocError> {
-    put_two(text, births.node(node.key), flags_of(node))?;
-    put_parent(text, births, node.parent)?;
-    put_fault(text, births, node.fault)?;
-    put_constraints(text, node.constraints)?;
-    put(text, node.trackers)?;
-    put_end(text, node.end)
-}
-
-fn put_nodes(text: &mut Vec<u8>, births: &Births, nodes: &[Node]) -> Result<(), AllocError> {
-    put(text, small(nodes.len()))?;
-    for node in nodes {
-        put_node(text, births, node)?;
-    }
-    Ok(())
-}
-
-fn put_held(text: &mut Vec<u8>, held: &[HeldBuffer]) -> Result<(), AllocError> {
-    put(text, small(held.len()))?;
-    for one in held {
-        put_two(text, one.buffer.index as u32, one.pages.start)?;
-    }
-    Ok(())
-}
-
-fn put_collection(
-    text: &mut Vec<u8>,
-    births: &Births,
-    copied: &Snapshot,
-) -> Result<(), AllocError> {
-    put_two(text, 1, births.collection(copied.id))?;
-    match copied.buffers {
-        Some(buffers) => put_two(text, buffers.count, buffers.size)?,
-        None => put(text, 0)?,
-    }
-    put_nodes(text, births, &copied.nodes)?;
-    put_held(text, &copied.held)
-}
-
-// Puts the collections that are kept, and 0.
-fn put_core(text: &mut Vec<u8>, births: &Births, core: &Core) -> Result<(), AllocError> {
-    for id in &births.opened {
-        match core.collection(*id) {
-            Ok(Some(copied)) => put_collection(text, births, &copied)?,
-            Ok(None) => {}
-            Err(_) => return Err(AllocError),
         }
     }
     put(text, 0)

@@ -10,5 +10,5 @@ returns-then-is_new_key c = λ _.
     let within : c.loop-gone.gone-index < length c.args.falls.now = omega arith in (
       get_or c.args.falls.now c.loop-gone.gone-index nothing,
       In-get_or c.args.falls.now c.loop-gone.gone-index nothing within,
-      sym (c.if-is_new_key.ensures refl),
+      sym (c.if-is_new_key.ensures.same refl),
     )

@@ -10,5 +10,5 @@ returns-then-is_new_key c = λ _.
     let within : c.loop-key.key-index < length c.args.keys.now = omega arith in (
       get_or c.args.keys.now c.loop-key.key-index nothing,
       In-get_or c.args.keys.now c.loop-key.key-index nothing within,
-      sym (c.if-is_new_key.ensures refl),
+      sym (c.if-is_new_key.ensures.same refl),
     )
