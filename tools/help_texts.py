@@ -58,15 +58,17 @@ class Source:
         return self.text(found[1]) if found else None
 
     def option(self, body):
-        """The option that a function makes: its name and itself."""
+        """The option that a function makes: its name and itself, without a value if that may be left out."""
         word = r'(\w+|"[^"]*")'
-        made = re.search(rf"\boption\(\s*alloc,\s*{word},\s*{word}", body)
+        made = re.search(rf"\b(?:option|number)\(\s*alloc,\s*{word},\s*{word}", body)
+        if made and ".num_args(0" in body:
+            return "--" + self.text(made[1]), Option()
         listed = re.search(r"\.value_parser\((\w+)\)", body)
         values = self.lists[listed[1]] if listed else ()
         default = self.one(rf"\.default_value\({word}\)", body)
         if made:
             return "--" + self.text(made[1]), Option(self.text(made[2]), values, default)
-        return "--" + self.one(rf"\.long\({word}\)", body), Option()
+        return "--" + self.one(rf"\bflag\(\s*alloc,\s*{word}", body), Option()
 
     def command(self, row):
         """The command of a row of the table."""
@@ -74,7 +76,7 @@ class Source:
         makers = dict(re.findall(r"Word::(\w+) => (?:Ok\()?(\w+)\(alloc\)", self.functions["argument"]))
         for word in re.findall(r"Word::(\w+)", row):
             made = self.functions[makers[word]]
-            if "option(" in made or ".long(" in made:
+            if re.search(r"\b(?:option|number|flag)\(", made):
                 title, option = self.option(made)
                 options[title] = option
             else:

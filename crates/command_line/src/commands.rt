@@ -78,6 +78,19 @@ fn option<'a>(alloc: Global, name: &'a str, value: &'a str, help: &'a str) -> Ar
         .help(help)
 }
 
+// An option of this name without a value.
+fn flag<'a>(alloc: Global, name: &'a str, help: &'a str) -> Arg<'a> {
+    Arg::new(alloc, name)
+        .long(name)
+        .action(ArgAction::SetTrue)
+        .help(help)
+}
+
+// An option of this name whose value is a number.
+fn number<'a>(alloc: Global, name: &'a str, value: &'a str, help: &'a str) -> Arg<'a> {
+    option(alloc, name, value, help).value_parser(value_parser!(u64))
+}
+
 // A parser of how many pages a pool may have.
 fn page_counts<'a>() -> ValueParser<'a> {
     value_parser!(u32).range(1..=i64::from(MAX_PAGES))
@@ -104,98 +117,100 @@ fn format_word<'a>(alloc: Global) -> Arg<'a> {
 
 // The option `--at EVENT`.
 fn at_word<'a>(alloc: Global) -> Arg<'a> {
-    option(
+    number(
         alloc,
         AT,
         "EVENT",
         "The trees after this event, and what it did; events are numbered from 1, one for each \
          line that is a call",
     )
-    .value_parser(value_parser!(u64))
 }
 
 // The option `--line N`.
-fn line_word<'a>(alloc: Global) -> Arg<'a> {
-    option(
+fn line_word<'a>(alloc: Global) -> Result<Arg<'a>, AllocError> {
+    number(
         alloc,
         LINE,
         "N",
         "The trees after this line, and what the last event up to it did",
     )
-    .value_parser(value_parser!(u64))
+    .conflicts_with(AT)
 }
 
 // The option `--failure[=K]`. Behind a space K would be the FILE.
-fn failure_word<'a>(alloc: Global) -> Arg<'a> {
-    Arg::new(alloc, FAILURE)
-        .long(FAILURE)
-        .action(ArgAction::Set)
-        .value_name("K")
-        .num_args(0..=1)
-        .require_equals(true)
-        .default_missing_value("1")
-        .value_parser(value_parser!(u64))
-        .help("The trees after the first event in which a node failed, or after the Kth such event")
+fn failure_word<'a>(alloc: Global) -> Result<Arg<'a>, AllocError> {
+    number(
+        alloc,
+        FAILURE,
+        "K",
+        "The trees after the first event in which a node failed, or after the Kth such event",
+    )
+    .num_args(0..=1)
+    .require_equals(true)
+    .default_missing_value("1")
+    .conflicts_with(AT)?
+    .conflicts_with(LINE)
 }
 
 // The option `--failures`.
 fn failures_word<'a>(alloc: Global) -> Arg<'a> {
-    Arg::new(alloc, FAILURES)
-        .long(FAILURES)
-        .action(ArgAction::SetTrue)
-        .help("Tells only the lines whose event made a node fail")
+    flag(
+        alloc,
+        FAILURES,
+        "Tells only the lines whose event made a node fail",
+    )
 }
 
 // The option `--summary`.
 fn summary_word<'a>(alloc: Global) -> Arg<'a> {
-    Arg::new(alloc, SUMMARY)
-        .long(SUMMARY)
-        .action(ArgAction::SetTrue)
-        .help(
-            "Tells at the end in which events nodes failed, who keeps pages, and which trackers wait",
-        )
+    flag(
+        alloc,
+        SUMMARY,
+        "Tells at the end in which events nodes failed, who keeps pages, and which trackers wait",
+    )
 }
 
 // The option `--once`.
 fn once_word<'a>(alloc: Global) -> Arg<'a> {
-    Arg::new(alloc, ONCE)
-        .long(ONCE)
-        .action(ArgAction::SetTrue)
-        .help("No line waits: each step is made once, as in sysmem threads")
+    flag(
+        alloc,
+        ONCE,
+        "No line waits: each step is made once, as in sysmem threads",
+    )
 }
 
 // The option `--patient` of a search.
-fn patience_word<'a>(alloc: Global) -> Arg<'a> {
-    Arg::new(alloc, PATIENT)
-        .long(PATIENT)
-        .action(ArgAction::SetTrue)
-        .help("Each collect, check, take and poll waits, as in sysmem threads --patient")
+fn patience_word<'a>(alloc: Global) -> Result<Arg<'a>, AllocError> {
+    flag(
+        alloc,
+        PATIENT,
+        "Each collect, check, take and poll waits, as in sysmem threads --patient",
+    )
+    .conflicts_with(ONCE)
 }
 
 // The option `--outcome K`.
 fn outcome_word<'a>(alloc: Global) -> Arg<'a> {
-    option(
+    number(
         alloc,
         OUTCOME,
         "K",
         "Writes a shortest play of outcome K as a script, instead of the report",
     )
-    .value_parser(value_parser!(u64))
 }
 
 // The option `--states N`.
 fn states_word<'a>(alloc: Global) -> Arg<'a> {
-    option(alloc, STATES, "N", "How many states are met at most")
-        .value_parser(value_parser!(u64))
-        .default_value("1000000")
+    number(alloc, STATES, "N", "How many states are met at most").default_value("1000000")
 }
 
 // The option `--certify`.
 fn certify_word<'a>(alloc: Global) -> Arg<'a> {
-    Arg::new(alloc, CERTIFY)
-        .long(CERTIFY)
-        .action(ArgAction::SetTrue)
-        .help("Plays every state again, and says `certified` if surely no outcome is missing")
+    flag(
+        alloc,
+        CERTIFY,
+        "Plays every state again, and says `certified` if surely no outcome is missing",
+    )
 }
 
 // The option `--vanish CLIENTS`.
@@ -210,38 +225,40 @@ fn vanish_word<'a>(alloc: Global) -> Arg<'a> {
 
 // The option `--most N`.
 fn most_word<'a>(alloc: Global) -> Arg<'a> {
-    option(
+    number(
         alloc,
         MOST,
         "N",
         "How many clients vanish in a run at most, before they are done",
     )
-    .value_parser(value_parser!(u64))
     .default_value("1")
 }
 
 // The option `--end`.
 fn end_word<'a>(alloc: Global) -> Arg<'a> {
-    Arg::new(alloc, END)
-        .long(END)
-        .action(ArgAction::SetTrue)
-        .help("Each client vanishes once its steps are done, as in sysmem threads")
+    flag(
+        alloc,
+        END,
+        "Each client vanishes once its steps are done, as in sysmem threads",
+    )
 }
 
 // The option `--record`.
 fn record_word<'a>(alloc: Global) -> Arg<'a> {
-    Arg::new(alloc, RECORD)
-        .long(RECORD)
-        .action(ArgAction::SetTrue)
-        .help("Writes all events as a transcript, and below it the report, each line after #")
+    flag(
+        alloc,
+        RECORD,
+        "Writes all events as a transcript, and below it the report, each line after #",
+    )
 }
 
 // The option `--patient`.
 fn patient_word<'a>(alloc: Global) -> Arg<'a> {
-    Arg::new(alloc, PATIENT)
-        .long(PATIENT)
-        .action(ArgAction::SetTrue)
-        .help("Makes a collect, check, take or poll again until it is answered otherwise")
+    flag(
+        alloc,
+        PATIENT,
+        "Makes a collect, check, take or poll again until it is answered otherwise",
+    )
 }
 
 // The name of a file that is read instead of standard input.
@@ -362,12 +379,12 @@ fn argument<'a>(alloc: Global, word: Word) -> Result<Arg<'a>, AllocError> {
         Word::Patient => Ok(patient_word(alloc)),
         Word::Format => Ok(format_word(alloc)),
         Word::At => Ok(at_word(alloc)),
-        Word::Line => line_word(alloc).conflicts_with(AT),
-        Word::Failure => failure_word(alloc).conflicts_with(AT)?.conflicts_with(LINE),
+        Word::Line => line_word(alloc),
+        Word::Failure => failure_word(alloc),
         Word::Failures => Ok(failures_word(alloc)),
         Word::Summary => Ok(summary_word(alloc)),
         Word::Once => Ok(once_word(alloc)),
-        Word::Patience => patience_word(alloc).conflicts_with(ONCE),
+        Word::Patience => patience_word(alloc),
         Word::End => Ok(end_word(alloc)),
         Word::Vanish => Ok(vanish_word(alloc)),
         Word::Most => Ok(most_word(alloc)),

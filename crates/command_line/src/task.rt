@@ -1,5 +1,5 @@
 //! What a command does with a script.
-ghost use Rattle.std.specs.Prelude.{◌≡◌, codes, option_map};
+ghost use Rattle.std.specs.Prelude.{◌≡◌, Some, codes, option_map};
 ghost use Rattle.clap.specs.Matches.{first_value, found_of, one_text, subcommand_name_of};
 ghost use Rattle.command_line.specs.Asked.{HasCertificate, HasFailures, HasFormat, HasPatience, HasRecord, HasSearch, HasSummary, HasUntil, HasVanishing, IsFlag, IsFormat, IsSearch, IsTask, IsUntil, IsVanishing, most_asked, states_asked, subcommand_text, until_asked, value_text};
 
@@ -212,8 +212,20 @@ fn format_of(name: Option<&str>) -> Format
     ensures { IsFormat (option_map (λ text. text.now) name.entry) result }
 {
     match name {
-        Some(text) if text == DOT => Format::Dot,
-        Some(text) if text == SVG => Format::Svg,
-        _ => Format::Text,
+        Some(text) => format_named(text),
+        None => Format::Text,
+    }
+}
+
+// The same, where there is a name.
+fn format_named(name: &str) -> Format
+    ensures { IsFormat (Some name.now) result }
+{
+    if name == DOT {
+        Format::Dot
+    } else if name == SVG {
+        Format::Svg
+    } else {
+        Format::Text
     }
 }

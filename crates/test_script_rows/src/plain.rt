@@ -8,7 +8,7 @@ use crate::setting::Setting;
 use actor_plays::{Actor, Fate, Plan, Play, Turn, Turned, Waiting};
 use actor_scripts::{ActorList, read_actors};
 use play_search::{Effort, Exploration, Silent, Vanishing, explore, plans_of};
-use script_lines::LabelHash;
+use script_lines::{LabelHash, Part, push_parts};
 use sm_names::{Cause, Failure, Fault, Fired, NodeKey, Reply, TrackerId};
 use std::alloc::{AllocError, Global};
 
@@ -315,25 +315,96 @@ fn add_outcome(outcomes: &mut Vec<Vec<u8>>, outcome: Vec<u8>) -> Result<bool, Al
     Ok(true)
 }
 
-// What all plays come to, and how many there are; `None` where there are too many turns, or one can't be made again.
-fn outcomes_of_all(table: &Table<'_>) -> Result<Option<(usize, Vec<Vec<u8>>)>, AllocError> {
-    let mut outcomes = Vec::new(table.alloc);
-    let mut plays: usize = 0;
-    let mut rest = Vec::new(table.alloc);
-    rest.push(Vec::new(table.alloc))?;
-    for _ in 0..MOST_TURNS {
-        let Some(turns) = rest.pop() else {
-            return Ok(Some((plays, outcomes)));
-        };
-        let Some(play) = played(table, &turns) else {
-            return Ok(None);
-        };
-        if !go_on(table, &mut rest, &turns, play.actors())? {
-            plays = plays.saturating_add(1);
-            add_outcome(&mut outcomes, outcome_of(table, &play)?)?;
-        }
+// What all plays come to, and how many there are.
+#[derive(Drop)]
+struct Plays {
+    count: usize,
+    outcomes: Vec<Vec<u8>>,
+}
+
+impl Plays {
+    // Counts the play.
+    fn add(&mut self, table: &Table<'_>, play: &Play) -> Result<(), AllocError> {
+        self.count = self.count.saturating_add(1);
+        add_outcome(&mut self.outcomes, outcome_of(table, play)?)?;
+        Ok(())
     }
-    Ok(None)
+
+    // Makes these turns, and adds to the rest those that go on from there; counts the play if it is at its end. Whether
+    // the turns can be made.
+    fn go_through(
+        &mut self,
+        table: &Table<'_>,
+        rest: &mut Vec<Vec<Turn>>,
+        turns: &[Turn],
+    ) -> Result<bool, AllocError> {
+        let Some(play) = played(table, turns) else {
+            return Ok(false);
+        };
+        if !go_on(table, rest, turns, play.actors())? {
+            self.add(table, &play)?;
+        }
+        Ok(true)
+    }
+
+    // Adds all plays that begin with the turns of the rest. Whether these are all: there are not too many turns, and each
+    // can be made again.
+    fn go_through_all(
+        &mut self,
+        table: &Table<'_>,
+        rest: &mut Vec<Vec<Turn>>,
+    ) -> Result<bool, AllocError> {
+        for _ in 0..MOST_TURNS {
+            let Some(turns) = rest.pop() else {
+                return Ok(true);
+            };
+            if !self.go_through(table, rest, &turns)? {
+                return Ok(false);
+            }
+        }
+        Ok(false)
+    }
+
+    // Adds all plays. Whether these are all.
+    fn add_all(&mut self, table: &Table<'_>) -> Result<bool, AllocError> {
+        let mut rest = Vec::new(table.alloc);
+        rest.push(Vec::new(table.alloc))?;
+        self.go_through_all(table, &mut rest)
+    }
+}
+
+// What the play with these turns comes to, if they can be made.
+fn outcome_after(table: &Table<'_>, turns: &[Turn]) -> Result<Option<Vec<u8>>, AllocError> {
+    match played(table, turns) {
+        Some(play) => Ok(Some(outcome_of(table, &play)?)),
+        None => Ok(None),
+    }
+}
+
+// Adds the outcome, if it is one of these. Whether it is, and new.
+fn add_known(
+    seen: &mut Vec<Vec<u8>>,
+    outcomes: &[Vec<u8>],
+    outcome: Vec<u8>,
+) -> Result<bool, AllocError> {
+    if outcomes.iter().any(|other| *other == outcome) {
+        add_outcome(seen, outcome)
+    } else {
+        Ok(false)
+    }
+}
+
+// Adds what the play with these turns comes to. Whether that is one of these outcomes, and new.
+fn is_found(
+    table: &Table<'_>,
+    seen: &mut Vec<Vec<u8>>,
+    turns: &[Turn],
+    outcomes: &[Vec<u8>],
+) -> Result<bool, AllocError> {
+    match outcome_after(table, turns)? {
+        Some(outcome) => add_known(seen, outcomes, outcome),
+        None => Ok(false),
+    }
 }
 
 // Whether each outcome of the search is one of these, and no two are the same.
@@ -344,38 +415,66 @@ fn are_found(
 ) -> Result<bool, AllocError> {
     let mut seen = Vec::new(table.alloc);
     for one in &found.outcomes {
-        let Some(play) = played(table, &one.turns) else {
-            return Ok(false);
-        };
-        let outcome = outcome_of(table, &play)?;
-        if !outcomes.iter().any(|other| *other == outcome) || !add_outcome(&mut seen, outcome)? {
+        if !is_found(table, &mut seen, &one.turns, outcomes)? {
             return Ok(false);
         }
     }
     Ok(seen.len() == outcomes.len())
 }
 
-// Adds what is told of these plays, where the search, which had to certify or not, found this.
+// Whether the search met all values, certified if it had to, and found these outcomes.
+fn has_found(
+    table: &Table<'_>,
+    found: &Exploration,
+    outcomes: &[Vec<u8>],
+    certifies: bool,
+) -> Result<bool, AllocError> {
+    if found.complete && found.certified == certifies {
+        are_found(table, found, outcomes)
+    } else {
+        Ok(false)
+    }
+}
+
+// Adds what is told of all plays, where the search, which had to certify or not, found this.
+fn push_plays_told(
+    out: &mut Vec<u8>,
+    table: &Table<'_>,
+    plays: &Plays,
+    found: &Exploration,
+    certifies: bool,
+) -> Result<(), AllocError> {
+    push_parts(
+        out,
+        &[
+            Part::Number(plays.count as u64),
+            Part::Word(" plays, "),
+            Part::Number(plays.outcomes.len() as u64),
+            Part::Word(" outcomes\n"),
+        ],
+    )?;
+    if has_found(table, found, &plays.outcomes, certifies)? {
+        return Ok(());
+    }
+    out.extend_from_slice(b"! the search told otherwise\n")
+}
+
+// The same, where all plays are still to be made.
 fn push_told(
     out: &mut Vec<u8>,
     table: &Table<'_>,
     found: &Exploration,
     certifies: bool,
 ) -> Result<(), AllocError> {
-    let Some((plays, outcomes)) = outcomes_of_all(table)? else {
-        return out.extend_from_slice(b"! too many turns\n");
+    let mut plays = Plays {
+        count: 0,
+        outcomes: Vec::new(table.alloc),
     };
-    let alloc = table.alloc;
-    let count = outcomes.len();
-    let told = format!(in alloc; "{plays} plays, {count} outcomes\n")?;
-    out.extend_from_slice(told.as_bytes())?;
-    if found.certified != certifies {
-        return out.extend_from_slice(b"! certified otherwise\n");
+    if plays.add_all(table)? {
+        push_plays_told(out, table, &plays, found, certifies)
+    } else {
+        out.extend_from_slice(b"! too many turns\n")
     }
-    if found.complete && are_found(table, found, &outcomes)? {
-        return Ok(());
-    }
-    out.extend_from_slice(b"! the search found others\n")
 }
 
 // Adds what is told of the plays of these actors.

@@ -20,22 +20,29 @@ pub enum Task {
 /// `text`, `dot` or `svg`, and an event, or `line` or `failure` and its number.
 pub fn task_of(title: &str) -> Task {
     let (verb, rest) = title.split_once(' ').unwrap_or((title, ""));
-    let format = match verb {
-        "run" => return Task::Run,
-        "explain" => return explained(false, false),
-        "failures" => return explained(true, false),
-        "summary" => return explained(false, true),
-        "check" => return Task::Check,
-        "explore" => return explored(false, rest),
-        "once" => return explored(true, rest),
-        "plain" => return Task::Plain(manner_of(rest)),
+    match verb {
+        "run" => Task::Run,
+        "explain" => explained(false, false),
+        "failures" => explained(true, false),
+        "summary" => explained(false, true),
+        "check" => Task::Check,
+        "explore" => explored(false, rest),
+        "once" => explored(true, rest),
+        "plain" => Task::Plain(manner_of(rest)),
+        _ => drawn(verb, rest),
+    }
+}
+
+// Trees in the format of this name, text for any other name, behind what these words say.
+fn drawn(name: &str, words: &str) -> Task {
+    let format = match name {
         "dot" => Format::Dot,
         "svg" => Format::Svg,
         _ => Format::Text,
     };
     Task::Draw(View {
         format,
-        until: until_of(rest),
+        until: until_of(words),
     })
 }
 
