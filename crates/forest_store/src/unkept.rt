@@ -266,8 +266,8 @@ fn is_bare(entry: &Entry) -> bool
 }
 
 /// Removes the collection, if it has no node and no page. Its entry is then the spare one. Allocates
-/// nothing.
-#[inline(always)]
+/// nothing. Out of line, so that the function which makes an event stays small enough to be inlined.
+#[inline(never)]
 pub(crate) fn drop_bare(
     entries: &mut Vec<BoxedEntry>,
     id: CollectionId,
