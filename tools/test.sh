@@ -71,7 +71,7 @@ try_program() {
       add_case "$(basename "$script" .outcomes)_outcomes" "${script%.outcomes}.actors" explore "$script"
     done
   fi
-  (cd "$crate" && rt try --seconds 600 --cases "$room/$item.cases")
+  (cd "$crate" && rt try --seconds 1500 --cases "$room/$item.cases")
 }
 
 # Whether the actors of examples/shared.actors, whose number of events is open, have all come to their end.
