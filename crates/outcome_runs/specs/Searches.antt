@@ -5,11 +5,11 @@ use Rattle.actor_scripts.specs.declared.step.ActorScript.{ActorScript}
 use Rattle.actor_scripts.specs.ActorLists.{actors_of, script_actors}
 use Rattle.actor_plays.specs.declared.plan.Plan.{Plan}
 use Rattle.actor_plays.specs.Plans.{planned, steps_of}
-use Rattle.play_search.specs.declared.exploring.Exploration.{Exploration}
-use Rattle.play_search.specs.declared.exploring.Found.{Found}
+use Rattle.actor_plays.specs.declared.found.Exploration.{Exploration}
+use Rattle.actor_plays.specs.declared.found.Found.{Found}
 use Rattle.play_search.specs.declared.fault.ExploreFault.{ExploreFault}
 use Rattle.play_search.specs.declared.replay.Setting.{Setting}
-use Rattle.play_search.specs.declared.vanishing.Vanishing.{Vanishing}
+use Rattle.actor_plays.specs.declared.found.Vanishing.{Vanishing}
 use Rattle.play_search.specs.Ends.{NoneIsMissing}
 use Rattle.play_search.specs.Searches.{IsFound, setup_of}
 use Rattle.script_lines.specs.declared.label.Label.{Label}

@@ -12,15 +12,13 @@ ghost use Rattle.outcome_runs.specs.Searches.{HasSearched, IsFoundBy, IsFoundWit
 
 use crate::job::{Ending, SearchHost, SearchJob};
 use crate::reasons::reason_of;
-use actor_plays::Plan;
+use actor_plays::{Exploration, Found, Plan, Vanishing};
 use actor_scripts::{ActorList, ActorScriptFault, read_actors};
 use outcome_texts::{
     BadClaim, ClaimLine, ClaimText, LabelNames, StepLine, Telling, claim_texts, has_broken,
     is_list_of, judged_claims, names_of, push_claims, push_play, push_report, step_lines, who_of,
 };
-use play_search::{
-    Effort, Exploration, ExploreFault, Found, Progress, Setting, Vanishing, explore, plans_of,
-};
+use play_search::{Effort, ExploreFault, Progress, Setting, explore, plans_of};
 use report_io::{ReportFault, bad_line};
 use script_lines::{Label, LabelHash};
 use sm_names::Limits;

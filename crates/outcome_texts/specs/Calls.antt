@@ -2,10 +2,10 @@
 use Rattle.std.specs.Prelude.{ℕ, ◌+◌, ◌-◌, ◌==◌, Bool, false, List, [], ◌∷◌, ◌++◌, count_by, length, slice_get, take, Option, Some}
 use Rattle.std.specs.Option.{option_and_then, option_map, option_map_or}
 use Rattle.actor_plays.specs.declared.play.Turn.{Turn}
-use Rattle.play_search.specs.declared.exploring.Found.{Found}
-use Rattle.play_search.specs.declared.outcome.ActorOutcome.{ActorOutcome}
-use Rattle.play_search.specs.declared.outcome.Became.{Became}
-use Rattle.play_search.specs.declared.outcome.Outcome.{Outcome}
+use Rattle.actor_plays.specs.declared.found.Found.{Found}
+use Rattle.actor_plays.specs.declared.found.ActorOutcome.{ActorOutcome}
+use Rattle.actor_plays.specs.declared.found.Became.{Became}
+use Rattle.actor_plays.specs.declared.found.Outcome.{Outcome}
 use Rattle.outcome_texts.specs.declared.calls.PlayCall.{PlayCall}
 
 -- the turn is a step of the actor

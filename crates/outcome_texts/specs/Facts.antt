@@ -23,9 +23,9 @@ use Rattle.actor_plays.specs.declared.ending.Fate.{Fate}
 use Rattle.actor_plays.specs.declared.plan.Plan.{Plan}
 use Rattle.actor_plays.specs.declared.plan.Planned.{Planned}
 use Rattle.actor_plays.specs.Plans.{steps_of}
-use Rattle.play_search.specs.declared.outcome.ActorOutcome.{ActorOutcome}
-use Rattle.play_search.specs.declared.outcome.Became.{Became}
-use Rattle.play_search.specs.declared.outcome.Outcome.{Outcome}
+use Rattle.actor_plays.specs.declared.found.ActorOutcome.{ActorOutcome}
+use Rattle.actor_plays.specs.declared.found.Became.{Became}
+use Rattle.actor_plays.specs.declared.found.Outcome.{Outcome}
 use Rattle.outcome_texts.specs.Plays.{line_told}
 use Rattle.outcome_texts.specs.declared.lines.StepLine.{StepLine}
 use Rattle.outcome_texts.specs.declared.telling.Telling.{Telling}

@@ -1,6 +1,6 @@
 -- The report of all outcomes.
 use Rattle.std.specs.Prelude.{ℕ, ◌≡◌, Bool, if◌then◌else◌, List, [], ◌∷◌, ◌++◌, codes, length, vec_len}
-use Rattle.play_search.specs.declared.exploring.Exploration.{Exploration}
+use Rattle.actor_plays.specs.declared.found.Exploration.{Exploration}
 use Rattle.outcome_texts.specs.declared.telling.Telling.{Telling}
 use Rattle.outcome_texts.specs.Plays.{counted, pieces}
 use Rattle.outcome_texts.specs.Vanishing.{how_text}

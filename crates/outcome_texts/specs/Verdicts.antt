@@ -6,8 +6,8 @@ use Rattle.std.specs.Option.{option_map_or}
 use Rattle.script_lines.specs.declared.claim.Claim.{Claim}
 use Rattle.script_lines.specs.declared.claim.Fact.{Fact}
 use Rattle.script_lines.specs.declared.claim.Often.{Often}
-use Rattle.play_search.specs.declared.exploring.Exploration.{Exploration}
-use Rattle.play_search.specs.declared.exploring.Found.{Found}
+use Rattle.actor_plays.specs.declared.found.Exploration.{Exploration}
+use Rattle.actor_plays.specs.declared.found.Found.{Found}
 use Rattle.outcome_texts.specs.Calls.{calls_told}
 use Rattle.outcome_texts.specs.Facts.{has_fact}
 use Rattle.outcome_texts.specs.Plays.{counted, pieces}

@@ -2,8 +2,7 @@
 ghost use Rattle.std.specs.Prelude.{◌≡◌, ◌++◌, ◌+◌, [], IfOk, OnOk, count_by};
 ghost use Rattle.outcome_texts.specs.Calls.{at_most_one, call_told, calls_from, calls_told, entry_call, is_step_of, number_told, place_told, step_told};
 
-use actor_plays::Turn;
-use play_search::{Found, Outcome};
+use actor_plays::{Found, Outcome, Turn};
 use std::alloc::{AllocError, Global};
 
 /// A call of a play, with its actor.

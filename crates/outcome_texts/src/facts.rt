@@ -4,13 +4,12 @@ ghost use Rattle.std.specs.Option.{option_map_or};
 ghost use Rattle.std.specs.List.{list_any};
 ghost use Rattle.actor_plays.specs.declared.plan.Plan.{Plan as PlanTold};
 ghost use Rattle.actor_plays.specs.Plans.{steps_of};
-ghost use Rattle.play_search.specs.declared.outcome.Became.{Became as BecameTold};
+ghost use Rattle.actor_plays.specs.declared.found.Became.{Became as BecameTold};
 ghost use Rattle.outcome_texts.specs.Facts.{any_below, became_so as so_told, binds as binds_told, has_fact as fact_told, has_fired as fired_told, has_node as node_told, is_caused as caused_told, is_ended as ended_told, is_failed as failed_told, is_failure as failure_told, is_fate as fate_told, is_fired as fires_told, is_left as left_told, is_live as live_told, is_misuse as misuse_told, is_node as is_node_told, is_origin as origin_told, is_pending as pending_told, is_so_caused as so_caused_told, made_key as key_told, same_failure as same_told, waits as waits_told};
 
 use crate::makers::{binds, is_meant};
 use crate::telling::Telling;
-use actor_plays::Fate;
-use play_search::{Became, Outcome};
+use actor_plays::{Became, Fate, Outcome};
 use script_lines::{Fact, Label, NodeFact, NodeName, SaidCause};
 use sm_names::{Cause, Failure, Misuse, NodeKey};
 

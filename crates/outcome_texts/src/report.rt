@@ -8,9 +8,8 @@ use crate::rows::{Among, Occurrences, ReportRow, push_rows};
 use crate::telling::{Makers, Subject, Telling, subject_at};
 use crate::vanishing::{can_vanish, has_vanished, how_words, is_alike, push_gone};
 use crate::words::MadeOutcome;
-use actor_plays::Plan;
+use actor_plays::{Exploration, Found, Plan};
 use indexmap::IndexSet;
-use play_search::{Exploration, Found};
 use script_lines::{Label, LabelHash, Part, push, push_parts};
 use std::alloc::{AllocError, Global};
 

@@ -4,9 +4,8 @@ ghost use Rattle.outcome_texts.specs.Plays.{bound_at, line_told, step_told};
 
 use crate::labels::LabelNames;
 use crate::lines::{StepLine, line_at};
-use actor_plays::Plan;
+use actor_plays::{ActorOutcome, Became, Found, Plan, Vanishing};
 use actor_scripts::Step;
-use play_search::{ActorOutcome, Became, Found, Vanishing};
 use script_lines::{Label, LabelHash};
 use sm_names::{NodeKey, Product, row_of};
 use std::alloc::{AllocError, Global};

@@ -4,7 +4,7 @@ ghost use Rattle.std.specs.List.{list_any};
 ghost use Rattle.outcome_texts.specs.Facts.{count_below};
 ghost use Rattle.outcome_texts.specs.Vanishing.{all_may as all_told, can_vanish as can_told, end_text, how_text, may_vanish as may_told, most_text, none_text, of_text, one_text, whom_below};
 
-use play_search::{Found, Vanishing};
+use actor_plays::{Found, Vanishing};
 use script_lines::{Label, Part, push, push_label, push_parts};
 use std::alloc::{AllocError, Global};
 

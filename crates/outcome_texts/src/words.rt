@@ -1,7 +1,6 @@
 //! What is said of nodes, trackers and clients.
 use crate::telling::{Makers, Subject, Telling, became_at};
-use actor_plays::Fate;
-use play_search::{Became, Found};
+use actor_plays::{Became, Fate, Found};
 use script_labels::push_cause;
 use script_lines::{push, push_label, push_number};
 use sm_names::Fault;

@@ -25,7 +25,7 @@ use Rattle.alike_plays.proofs.AheadTurns.{ahead_simulates}
 use Rattle.alike_plays.proofs.SameTurns.{last_none, same_turns, way_met}
 use Rattle.play_search.specs.declared.graph.Row.{Row}
 use Rattle.play_search.specs.declared.replay.Setting.{Setting}
-use Rattle.play_search.specs.declared.vanishing.Vanishing.{Vanishing}
+use Rattle.actor_plays.specs.declared.found.Vanishing.{Vanishing}
 use Rattle.play_search.specs.Closing.{AlikeIn, AreAllMet, AreClosedIn, IsBack, IsBackIn, IsRowTriedIn, way_to, ways_first, ways_of}
 use Rattle.play_search.specs.Searches.{IsReplay, is_made, setup_of}
 use Rattle.play_search.specs.Vanishings.{began_early, may_begin}

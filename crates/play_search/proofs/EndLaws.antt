@@ -23,7 +23,7 @@ use Rattle.alike_plays.proofs.AheadActors.{at_ahead, both_at, both_leave, same_a
 use Rattle.alike_plays.proofs.Places.{all_back}
 use Rattle.alike_plays.proofs.Reaching.{reached_seen}
 use Rattle.alike_plays.proofs.TurnsLeft.{asks_behind, leaves_left, waits_ahead}
-use Rattle.play_search.specs.declared.outcome.Became.{Became}
+use Rattle.actor_plays.specs.declared.found.Became.{Became}
 use Rattle.play_search.specs.Ends.{IsOver, became_of, became_renamed, end_in, told_of, unless_left}
 use Rattle.play_search.specs.Vanishings.{began_early, early_at, is_done, is_early, must_leave, vanished, vanished_first}
 

@@ -17,11 +17,11 @@ use Rattle.alike_plays.specs.Ways.{IsAt}
 use Rattle.alike_plays.proofs.Ending.{became_alike}
 use Rattle.alike_plays.proofs.Reaching.{reached_seen}
 use Rattle.alike_plays.proofs.SameTurns.{same_turns, way_met}
-use Rattle.play_search.specs.declared.exploring.Found.{Found}
+use Rattle.actor_plays.specs.declared.found.Found.{Found}
 use Rattle.play_search.specs.declared.graph.Row.{Row}
-use Rattle.play_search.specs.declared.outcome.Outcome.{Outcome}
+use Rattle.actor_plays.specs.declared.found.Outcome.{Outcome}
 use Rattle.play_search.specs.declared.replay.Setting.{Setting}
-use Rattle.play_search.specs.declared.vanishing.Vanishing.{Vanishing}
+use Rattle.actor_plays.specs.declared.found.Vanishing.{Vanishing}
 use Rattle.play_search.specs.Closing.{AlikeIn, AreClosedIn, way_to, ways_of}
 use Rattle.play_search.specs.Ends.{AreRowsEnded, EndsAsOne, EndsUnderNames, HasToLeave, IsOver, NoneIsMissing, end_in}
 use Rattle.play_search.specs.Searches.{IsOnWay, is_made, setup_of}

@@ -11,8 +11,8 @@ use Rattle.actor_plays.specs.Leaves.{leaving_of}
 use Rattle.actor_plays.specs.Moves.{position_of}
 use Rattle.actor_plays.specs.Plays.{stage_of}
 use Rattle.alike_plays.specs.Actors.{made_of, tells_made}
-use Rattle.play_search.specs.declared.outcome.Became.{Became}
-use Rattle.play_search.specs.declared.outcome.Outcome.{Outcome}
+use Rattle.actor_plays.specs.declared.found.Became.{Became}
+use Rattle.actor_plays.specs.declared.found.Outcome.{Outcome}
 use Rattle.play_search.specs.Ends.{End, EndsSo, IsNewOutcome, does_tell, end_in, end_renamed, telling_of, told_of, told_renamed, unless_left}
 use Rattle.play_search.specs.Outcomes.{IsOutcome, Told, became_in, made_in, told, told_in}
 

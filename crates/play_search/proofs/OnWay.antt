@@ -14,7 +14,7 @@ use Rattle.actor_plays.specs.Positions.{Begins, ReachedBy, Setup, left_at, may_g
 use Rattle.actor_plays.proofs.MoveLaws.{come_leave, come_on, come_start}
 use Rattle.alike_plays.specs.Ahead.{count_early, early_first, early_in, is_early_in}
 use Rattle.play_search.specs.declared.replay.Setting.{Setting}
-use Rattle.play_search.specs.declared.vanishing.Vanishing.{Vanishing}
+use Rattle.actor_plays.specs.declared.found.Vanishing.{Vanishing}
 use Rattle.play_search.specs.Searches.{IsOnWay, IsReplay, setup_of}
 use Rattle.play_search.specs.Vanishings.{began_early, began_in, early_at, early_place, is_done, is_early, may_begin, may_go, vanished}
 use Rattle.play_search.specs.Vanishings.{vanished_first}

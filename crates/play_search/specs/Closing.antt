@@ -9,7 +9,7 @@ use Rattle.alike_plays.specs.Ahead.{AreAlikeAhead}
 use Rattle.alike_plays.specs.Ways.{AreClosedWays, IsAt, IsCallTried, IsLeaveTried}
 use Rattle.play_search.specs.declared.graph.Row.{Row}
 use Rattle.play_search.specs.declared.replay.Setting.{Setting}
-use Rattle.play_search.specs.declared.vanishing.Vanishing.{Vanishing}
+use Rattle.actor_plays.specs.declared.found.Vanishing.{Vanishing}
 use Rattle.play_search.specs.Searches.{setup_of}
 use Rattle.play_search.specs.Vanishings.{began_early}
 

@@ -16,13 +16,13 @@ use Rattle.alike_cores.specs.Renamed.{KeepsKeys}
 use Rattle.alike_plays.specs.Actors.{made_of}
 use Rattle.alike_plays.specs.Outcomes.{fate_renamed}
 use Rattle.alike_plays.specs.Ways.{IsAt}
-use Rattle.play_search.specs.declared.exploring.Found.{Found}
+use Rattle.actor_plays.specs.declared.found.Found.{Found}
 use Rattle.play_search.specs.declared.graph.Row.{Row}
-use Rattle.play_search.specs.declared.outcome.ActorOutcome.{ActorOutcome}
-use Rattle.play_search.specs.declared.outcome.Became.{Became}
-use Rattle.play_search.specs.declared.outcome.Outcome.{Outcome}
+use Rattle.actor_plays.specs.declared.found.ActorOutcome.{ActorOutcome}
+use Rattle.actor_plays.specs.declared.found.Became.{Became}
+use Rattle.actor_plays.specs.declared.found.Outcome.{Outcome}
 use Rattle.play_search.specs.declared.replay.Setting.{Setting}
-use Rattle.play_search.specs.declared.vanishing.Vanishing.{Vanishing}
+use Rattle.actor_plays.specs.declared.found.Vanishing.{Vanishing}
 use Rattle.play_search.specs.Closing.{way_to}
 use Rattle.play_search.specs.Searches.{setup_of}
 use Rattle.play_search.specs.Vanishings.{must_leave, vanished}

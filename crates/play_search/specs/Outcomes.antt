@@ -7,9 +7,9 @@ use Rattle.actor_plays.specs.declared.actor.Actor.{Actor}
 use Rattle.actor_plays.specs.declared.play.Play.{Play}
 use Rattle.actor_plays.specs.Fates.{fate_in}
 use Rattle.actor_plays.specs.Plays.{has_fired}
-use Rattle.play_search.specs.declared.outcome.ActorOutcome.{ActorOutcome}
-use Rattle.play_search.specs.declared.outcome.Became.{Became}
-use Rattle.play_search.specs.declared.outcome.Outcome.{Outcome}
+use Rattle.actor_plays.specs.declared.found.ActorOutcome.{ActorOutcome}
+use Rattle.actor_plays.specs.declared.found.Became.{Became}
+use Rattle.actor_plays.specs.declared.found.Outcome.{Outcome}
 
 -- what became of what a call with this reply made: a node, or a tracker
 abbrev pub became_in : Play → Reply → Became

@@ -12,8 +12,8 @@ use Rattle.actor_plays.specs.Plays.{IsPlay, IsTurn, first_clients, stages_of}
 use Rattle.actor_plays.specs.Positions.{ReachedBy, Rests, Setup}
 use Rattle.play_search.specs.declared.graph.Graph.{Graph}
 use Rattle.play_search.specs.declared.replay.Setting.{Setting}
-use Rattle.play_search.specs.declared.exploring.Found.{Found}
-use Rattle.play_search.specs.declared.vanishing.Vanishing.{Vanishing}
+use Rattle.actor_plays.specs.declared.found.Found.{Found}
+use Rattle.actor_plays.specs.declared.found.Vanishing.{Vanishing}
 use Rattle.play_search.specs.Changes.{changes}
 use Rattle.play_search.specs.Outcomes.{IsOutcome}
 use Rattle.play_search.specs.Vanishings.{is_allowed, may_leave, must_leave, vanished}

@@ -7,7 +7,7 @@ use Rattle.actor_plays.specs.Plans.{steps_of}
 use Rattle.actor_plays.specs.Plays.{Stage, leaves_by}
 use Rattle.actor_plays.specs.Positions.{left_at}
 use Rattle.alike_plays.specs.Ahead.{count_early}
-use Rattle.play_search.specs.declared.vanishing.Vanishing.{Vanishing}
+use Rattle.actor_plays.specs.declared.found.Vanishing.{Vanishing}
 
 -- so many steps are all of the plan of this place
 abbrev pub is_done : List Plan → ℕ → ℕ → Bool

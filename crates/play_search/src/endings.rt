@@ -7,13 +7,12 @@ ghost use Rattle.play_search.specs.Ends.{AreRowsEnded, EndsAsOne, IsOver, IsRowE
 ghost use Rattle.play_search.specs.Searches.{IsOnWay, IsPool, setup_of};
 
 use crate::ends::ends_as;
-use crate::exploring::Found;
 use crate::fault::ExploreFault;
 use crate::graph::Graph;
 use crate::next::is_left_open;
 use crate::replay::{Ground, is_made, replay};
 use crate::turns::{actor_of, is_step};
-use actor_plays::Play;
+use actor_plays::{Found, Play};
 use std::alloc::AllocError;
 
 // The outcomes that were found, and for each ending its place among them.

@@ -5,11 +5,10 @@ ghost use Rattle.actor_plays.specs.Moves.{position_of};
 ghost use Rattle.core_likeness.specs.Naming.{new_key};
 ghost use Rattle.play_search.specs.Ends.{EndsAs, EndsUnderNames, IsNewOutcome, became_renamed, does_tell, end_of, end_renamed, telling_of, told_renamed};
 
-use crate::exploring::Found;
-use crate::outcome::{ActorOutcome, Became, Outcome, outcome_of};
+use crate::outcome::outcome_of;
 use crate::replay::Ground;
 use crate::vanishing::vanished_of;
-use actor_plays::{Fate, Play};
+use actor_plays::{ActorOutcome, Became, Fate, Found, Outcome, Play};
 use core_likeness::{Names, is_new_fault, is_new_key};
 use std::alloc::{AllocError, Global};
 

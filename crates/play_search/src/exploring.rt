@@ -17,59 +17,17 @@ use crate::fault::ExploreFault;
 use crate::graph::{Graph, graph_of};
 use crate::next::Group;
 use crate::order::{Ordered, endings_of, met_of, order_of};
-use crate::outcome::{Outcome, outcome_of};
+use crate::outcome::outcome_of;
 use crate::progress::Progress;
 use crate::replay::{Ground, Setting, have_no_turn, replay};
 use crate::shares::{left_at, lefts_of, number_at, shares_of};
-use crate::vanishing::{Vanishing, are_allowed, vanished_of};
+use crate::vanishing::{are_allowed, vanished_of};
 use crate::witness::{WayTurn, Ways, goals_of, ways_of};
-use actor_plays::{Plan, Play, Turn};
+use actor_plays::{Exploration, Figures, Found, Outcome, Plan, Play, Turn, Vanishing};
 use script_lines::LabelHash;
 use sm_names::{Call, ClientId, Reply};
 use std::alloc::{AllocError, Global};
 use std::num::saturating_f64_to_u64;
-
-/// An outcome, with a play of it: of the fewest calls, and of these with the fewest changes of the actor.
-#[derive(Drop)]
-pub struct Found {
-    /// The turns of the play, each of one call.
-    pub turns: Vec<Turn>,
-    /// The calls of the play with their replies: the joins of all clients, then one call for each turn.
-    pub entries: Vec<(ClientId, Call, Reply)>,
-    /// The places of the actors that left before their end.
-    pub vanished: Vec<usize>,
-    pub outcome: Outcome,
-    pub figures: Figures,
-}
-
-/// What is known of an outcome beside its play.
-#[derive(Clone, Copy)]
-pub struct Figures {
-    /// How many times the actor changes, the first turn among them.
-    pub changes: usize,
-    /// The number of the first call, from 1, behind which no other outcome is possible; 0 if there never is another, or
-    /// another is possible to the end.
-    pub decided: usize,
-    /// The share of runs that come to it, where each turn is drawn evenly among the actors that have one. It says nothing
-    /// where an actor may leave before its end.
-    pub share: f64,
-}
-
-/// What a search found.
-#[derive(Drop)]
-pub struct Exploration {
-    /// The outcomes: by how many actors left before their end, by who they are, and then those of the greatest share first.
-    pub outcomes: Vec<Found>,
-    /// How many values of plays were met, that of the play without a turn among them: at most as many as
-    /// were asked for.
-    pub states: usize,
-    /// All values were met.
-    pub complete: bool,
-    /// How many orders of turns there are.
-    pub orders: f64,
-    /// For sure no outcome is missing. Only a search that is asked to certifies.
-    pub certified: bool,
-}
 
 // An outcome to be shown: the turns of its play, and the other figures.
 #[derive(Drop)]

@@ -27,9 +27,7 @@ mod vanishing;
 mod witness;
 
 pub use effort::Effort;
-pub use exploring::{Exploration, Figures, Found, explore};
+pub use exploring::explore;
 pub use fault::ExploreFault;
-pub use outcome::{ActorOutcome, Became, Outcome};
 pub use progress::{PROGRESS_STEP, Progress, Silent};
 pub use replay::{Setting, plans_of};
-pub use vanishing::Vanishing;

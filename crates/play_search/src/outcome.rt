@@ -3,36 +3,9 @@ ghost use Rattle.std.specs.Prelude.{◌≡◌, map, IfOk};
 ghost use Rattle.actor_plays.specs.Plays.{has_fired as has_fired_among};
 ghost use Rattle.play_search.specs.Outcomes.{IsOutcome, became_in, made_in, told, told_in};
 
-use actor_plays::{Actor, Fate, Play};
+use actor_plays::{Actor, ActorOutcome, Became, Fate, Outcome, Play};
 use sm_names::{Fired, NodeKey, Reply, TrackerId};
 use std::alloc::{AllocError, Global};
-
-/// What became of what a call made.
-#[derive(Clone, Copy)]
-pub enum Became {
-    /// It made no node and no tracker.
-    Nothing,
-    /// The node's fate; `None` if it is neither kept nor fell.
-    Node(NodeKey, Option<Fate>),
-    /// Whether the tracker fired.
-    Tracker(bool),
-}
-
-/// What came of an actor: how many steps of its plan are behind it, whether it left, and what became of what the call
-/// of each of its steps made, with the place of the step in the plan.
-#[derive(Drop)]
-pub struct ActorOutcome {
-    pub at: usize,
-    pub left: bool,
-    pub made: Vec<(usize, Became)>,
-}
-
-/// What a play comes to: what came of each actor, in the order of their plans, and the free pages.
-#[derive(Drop)]
-pub struct Outcome {
-    pub actors: Vec<ActorOutcome>,
-    pub free: u32,
-}
 
 // Whether the tracker fired.
 fn has_fired(fired: &[Fired], tracker: TrackerId) -> bool

@@ -7,8 +7,8 @@ ghost use Rattle.actor_plays.specs.Plays.{AreJoining, IsPlay};
 ghost use Rattle.play_search.specs.Searches.{HasNoTurn, HaveNoTurn, IsOnWay, IsPool, IsReplay, IsTold, MayStay, is_made as is_made_turn};
 
 use crate::fault::ExploreFault;
-use crate::vanishing::{Vanishing, may_go, must_leave};
-use actor_plays::{Plan, Play, Turn, Turned, Waiting, plan_of};
+use crate::vanishing::{may_go, must_leave};
+use actor_plays::{Plan, Play, Turn, Turned, Vanishing, Waiting, plan_of};
 use actor_scripts::ActorScript;
 use sm_names::Limits;
 use std::alloc::{AllocError, Global};

@@ -5,20 +5,8 @@ ghost use Rattle.std.specs.Option.{option_map_or};
 ghost use Rattle.actor_plays.specs.Plays.{stage_of, stages_of};
 ghost use Rattle.play_search.specs.Vanishings.{early_at, early_place, is_allowed, is_done as done_told, is_early as early_told, may_begin as begin_told, may_go as go_told, may_vanish as may_told, must_leave as must_told, vanished as vanished_told};
 
-use actor_plays::{Actor, Plan, Play};
+use actor_plays::{Actor, Plan, Play, Vanishing};
 use std::alloc::{AllocError, Global};
-
-/// Which actors may leave at any point, how many of them at most, and whether each leaves at its end.
-#[derive(Clone, Copy)]
-pub struct Vanishing<'a> {
-    /// For each plan, whether its actor may leave before its end; one for which nothing is said may not.
-    pub who: &'a [bool],
-    /// So many at most leave before their end.
-    pub most: usize,
-    /// Each actor leaves once all its steps are behind it. That is its end; if it is not so, an actor has no end at which it
-    /// leaves, and whoever leaves does so before it.
-    pub at_end: bool,
-}
 
 // Whether so many steps are all of the plan of this place.
 pub(crate) fn is_done(plans: &[Plan], place: usize, at: usize) -> bool

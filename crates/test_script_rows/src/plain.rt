@@ -5,9 +5,9 @@ ghost use Rattle.sm_names.specs.declared.rules.TheConstants.{MAX_PAGES};
 ghost use Rattle.actor_plays.specs.Plays.{AreJoining, IsPlay};
 
 use crate::setting::Setting;
-use actor_plays::{Actor, Fate, Plan, Play, Turn, Turned, Waiting};
+use actor_plays::{Actor, Exploration, Fate, Plan, Play, Turn, Turned, Vanishing, Waiting};
 use actor_scripts::{ActorList, read_actors};
-use play_search::{Effort, Exploration, Silent, Vanishing, explore, plans_of};
+use play_search::{Effort, Silent, explore, plans_of};
 use script_lines::{LabelHash, Part, push_parts};
 use sm_names::{Cause, Failure, Fault, Fired, NodeKey, Reply, TrackerId};
 use std::alloc::{AllocError, Global};

@@ -1,0 +1,85 @@
+//! What plays come to, and what a search through all plays found.
+use crate::ending::Fate;
+use crate::play::Turn;
+use sm_names::{Call, ClientId, NodeKey, Reply};
+
+/// What became of what a call made.
+#[derive(Clone, Copy)]
+pub enum Became {
+    /// It made no node and no tracker.
+    Nothing,
+    /// The node's fate; `None` if it is neither kept nor fell.
+    Node(NodeKey, Option<Fate>),
+    /// Whether the tracker fired.
+    Tracker(bool),
+}
+
+/// What came of an actor: how many steps of its plan are behind it, whether it left, and what became of what the call
+/// of each of its steps made, with the place of the step in the plan.
+#[derive(Drop)]
+pub struct ActorOutcome {
+    pub at: usize,
+    pub left: bool,
+    pub made: Vec<(usize, Became)>,
+}
+
+/// What a play comes to: what came of each actor, in the order of their plans, and the free pages.
+#[derive(Drop)]
+pub struct Outcome {
+    pub actors: Vec<ActorOutcome>,
+    pub free: u32,
+}
+
+/// An outcome, with a play of it: of the fewest calls, and of these with the fewest changes of the actor.
+#[derive(Drop)]
+pub struct Found {
+    /// The turns of the play, each of one call.
+    pub turns: Vec<Turn>,
+    /// The calls of the play with their replies: the joins of all clients, then one call for each turn.
+    pub entries: Vec<(ClientId, Call, Reply)>,
+    /// The places of the actors that left before their end.
+    pub vanished: Vec<usize>,
+    pub outcome: Outcome,
+    pub figures: Figures,
+}
+
+/// What is known of an outcome beside its play.
+#[derive(Clone, Copy)]
+pub struct Figures {
+    /// How many times the actor changes, the first turn among them.
+    pub changes: usize,
+    /// The number of the first call, from 1, behind which no other outcome is possible; 0 if there never is another, or
+    /// another is possible to the end.
+    pub decided: usize,
+    /// The share of runs that come to it, where each turn is drawn evenly among the actors that have one. It says nothing
+    /// where an actor may leave before its end.
+    pub share: f64,
+}
+
+/// What a search found.
+#[derive(Drop)]
+pub struct Exploration {
+    /// The outcomes: by how many actors left before their end, by who they are, and then those of the greatest share first.
+    pub outcomes: Vec<Found>,
+    /// How many values of plays were met, that of the play without a turn among them: at most as many as
+    /// were asked for.
+    pub states: usize,
+    /// All values were met.
+    pub complete: bool,
+    /// How many orders of turns there are.
+    pub orders: f64,
+    /// For sure no outcome is missing. Only a search that is asked to certifies.
+    pub certified: bool,
+}
+
+/// Which actors may leave at any point, how many of them at most, and whether each leaves at its end.
+#[derive(Clone, Copy)]
+pub struct Vanishing<'a> {
+    /// For each plan, whether its actor may leave before its end; one for which nothing is said may not.
+    pub who: &'a [bool],
+    /// So many at most leave before their end.
+    pub most: usize,
+    /// Each actor leaves once all its steps are behind it. That is its end; if it is not so, an actor has no end at which it
+    /// leaves, and whoever leaves does so before it.
+    pub at_end: bool,
+}
