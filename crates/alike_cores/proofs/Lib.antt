@@ -21,7 +21,7 @@ pub mod Composing
 pub mod Known
 pub mod Moving
 pub mod Agreeing
-pub mod Going
+pub mod Progress
 pub mod Views
 pub mod Told
 pub mod Learning

@@ -1,2 +1,2 @@
 -- A change to a collection, and how it is put back.
-pub mod Tellings
+pub mod SettledChanges

@@ -24,7 +24,7 @@ use forest_store::change::Change;
 use forest_store::entry::place_of;
 use forest_store::insertion::{Birth, insert_counted};
 use forest_store::store::Store;
-use forest_store::unit_counts::{bound, reach};
+use forest_store::unit_counts::{assert_bounded, grow_to};
 use sm_names::{BufferName, CollectionId, Fault, NoMemory, NodeKey};
 
 /// Makes a change other than a birth to a collection that is there, and all that it forces. `NoMemory`
@@ -81,9 +81,9 @@ pub(crate) fn settle_birth(
         birth) }
     ensures err { OnErr result (UnbornIn pool.old pool.new store.old store.new) }
 {
-    reach(&mut store.nodes.units, store.nodes.table.next_slot())?;
+    grow_to(&mut store.nodes.units, store.nodes.table.next_slot())?;
     let key = insert_counted(store, id, birth, spare)?;
-    bound(&store.nodes.table);
+    assert_bounded(&store.nodes.table);
     let Some(at) = place_of(&store.entries, id) else {
         unreachable!();
     };

@@ -1,5 +1,6 @@
 -- Handles that are counted in the cells of two pages, as handles on the buffers of a set.
-use Rattle.std.proofs.Common.{ℕ, ◌≡◌, ◌+◌, ◌*◌, ◌-◌, ◌/◌, ◌%◌, ◌^◌, ◌<◌, ◌∙◌, refl, sym, ap, subst, Bool, true, false, if◌then◌else◌, List, Option, Some, is_some, length, sum_by, unwrap_or, max, arith}
+use Rattle.std.proofs.Common.{ℕ, ◌≡◌, ◌+◌, ◌*◌, ◌-◌, ◌/◌, ◌%◌, ◌^◌, ◌<◌, ◌∙◌, refl, sym, ap}
+use Rattle.std.proofs.Common.{subst, Bool, true, false, if◌then◌else◌, List, Option, Some, is_some, length, sum_by, unwrap_or, max, arith}
 use Rattle.std.proofs.lemmas.Nat.{field_of, mod-pow-add, shr-shr}
 use Rattle.std.specs.Int.{bit_at}
 use Rattle.std.specs.Map.{lookup}
@@ -21,7 +22,8 @@ use Rattle.buffer_holds.specs.Sound.{no_tally, one_of, tally_at, tally_row}
 use Rattle.buffer_holds.specs.Stored.{OpensOne, one_more}
 use Rattle.buffer_holds.proofs.PagedLemmas.{longer_by, row_found, rows_reset}
 use Rattle.buffer_holds.proofs.PageNames.{same_owner-refl, same_part-refl}
-use Rattle.buffer_holds.proofs.RunLemmas.{Runs, below_next, below_same, older_next, room_behind, room_here, room_next, runs_next, sound_next, with_index}
+use Rattle.buffer_holds.proofs.RunLemmas.{Runs, below_next, below_same, older_next, room_behind}
+use Rattle.buffer_holds.proofs.RunLemmas.{room_here, room_next, runs_next, sound_next, with_index}
 use Rattle.buffer_holds.proofs.SoundLemmas.{count_at-le-total, one_row-IsSome, one_row-le-clients, total_is}
 use Rattle.buffer_holds.proofs.TallyLemmas.{tallies_reset, tally_found}
 
@@ -123,7 +125,8 @@ module _ (limit : ℕ) (rows : PagedRows) (tallies : PagedTallies) (first : Hold
     (row_written : (p : List (Option ℕ)) → Resets same_owner row_base (write_row p) (owner_of first) (Some page) (Some p))
     (tally_base : List (Part × List (Option Tally))) (write_tally : List (Option Tally) → List (Part × List (Option Tally)))
     (sums : List (Option Tally))
-    (tally_written : (t : List (Option Tally)) → Resets same_part tally_base (write_tally t) (part_of first.kind) (Some sums) (Some t)) where
+    (tally_written : (t : List (Option Tally)) → Resets same_part tally_base (write_tally t) (part_of first.kind) (Some sums) (Some
+        t)) where
   -- the rows with this page
   abbrev pub rows_with : List (Option ℕ) → PagedRows
   rows_with p = record { entries = rows_in (write_row p); room = rows.room }
@@ -197,7 +200,7 @@ module _ (limit : ℕ) (rows : PagedRows) (tallies : PagedTallies) (first : Hold
       (tally_is sums n within) (record {
         count = omega (arith, less, fits, count_at-le-total limit (rows_in (write_row page)) (tallies_in (write_tally sums)) sound.0 hold);
         total = omega (arith, less, fits);
-        few = omega (arith, few hold.kind, (sound.0.tallied hold.kind).clients);
+        few = omega (arith, few hold.kind, (sound.0.counted_by_kind hold.kind).clients);
         some = λ row. omega (
           arith,
           one_row-IsSome (row_at (rows_in (write_row page)) hold) row,
@@ -267,7 +270,8 @@ module _ (limit : ℕ) (rows : PagedRows) (tallies : PagedTallies) (first : Hold
       GoneThrough most p t (n + 1)
   skipped_on most p t n lacks runs =
       one_on most p t n (runs_next (rows_with p) (tallies_with t) runs
-      (below_same limit (rows_with p) (tallies_with t) (with_index first (index + n)) (rest / 2 ^ n) lacks) (λ newest within none. none) most
+      (below_same limit (rows_with p) (tallies_with t) (with_index first (index + n)) (rest / 2 ^ n) lacks) (λ newest within none.
+          none) most
       runs.sound (room_behind limit (rows_with p) (tallies_with t) first.kind.buffer.collection first.kind.strength (index + n)
       (rest / 2 ^ n) runs.room))
 
@@ -287,7 +291,8 @@ module _ (limit : ℕ) (rows : PagedRows) (tallies : PagedTallies) (first : Hold
   begun most sound room =
       let here : index ≡ index + 0 = omega arith in
       let whole : rest ≡ rest / 2 ^ 0 = omega arith in
-      subst (λ i. Runs limit (rows_with page) (rows_with page) (tallies_with sums) (tallies_with sums) most first rest i (rest / 2 ^ 0)) here
+      subst (λ i. Runs limit (rows_with page) (rows_with page) (tallies_with sums) (tallies_with sums) most first rest i (rest / 2 ^
+          0)) here
       (subst (Runs limit (rows_with page) (rows_with page) (tallies_with sums) (tallies_with sums) most first rest index) whole (record {
         sound = sound;
         room = room;

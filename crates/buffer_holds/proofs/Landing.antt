@@ -43,7 +43,7 @@ module _ (limit : ℕ) (rows : List (Hold × ℕ)) (tallies : List (HandleKind �
         arith,
         lies,
         count_at-le-total limit rows tallies sound (hold_of client buffer strength),
-        (sound.tallied (kind_of buffer strength)).within,
+        (sound.counted_by_kind (kind_of buffer strength)).within,
       )
 
   -- one row and one tally change
@@ -59,5 +59,5 @@ module _ (limit : ℕ) (rows : List (Hold × ℕ)) (tallies : List (HandleKind �
       let total = ap (λ (t : Tally). t.total) kept in
       let moving = ap (λ (t : Tally). t.moving) kept in
       Step-raised limit rows rows' tallies tallies' sound hold (landed tally more) resets raises
-      (omega (arith, longer, ap (λ (t : Tally). t.clients) kept)) (omega (arith, (sound.tallied hold.kind).within, total))
+      (omega (arith, longer, ap (λ (t : Tally). t.clients) kept)) (omega (arith, (sound.counted_by_kind hold.kind).within, total))
       (omega (arith, lies, total, moving))

@@ -18,4 +18,4 @@ module _ (limit : ℕ) (rows rows' : List (Hold × ℕ)) (tallies tallies' : Lis
       (Some (one_more (tally_at tallies hold.kind) (length rows' - length rows)))
   Step-opened =
       Step-raised limit rows rows' tallies tallies' sound hold (one_more (tally_at tallies hold.kind) (length rows' - length rows)) opens
-      raises (omega arith) (omega (arith, room, (sound.tallied hold.kind).within)) (omega arith)
+      raises (omega arith) (omega (arith, room, (sound.counted_by_kind hold.kind).within)) (omega arith)

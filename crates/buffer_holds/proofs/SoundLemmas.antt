@@ -63,7 +63,7 @@ pub total_is : (limit : ℕ) (rows : List (Hold × ℕ)) (tallies : List (Handle
     → total (counts_of limit rows tallies) buffer strength ≡ (tally_at tallies (kind_of buffer strength)).total
 total_is limit rows tallies sound buffer strength =
     ap (λ n. sum_by (share (kind_of buffer strength)) rows + n) (moving_is limit rows tallies buffer strength)
-    ∙ sym (sound.tallied (kind_of buffer strength)).total
+    ∙ sym (sound.counted_by_kind (kind_of buffer strength)).total
 
 -- a row with a count is one row
 pub one_row-some : (row : Option ℕ) → 0 < unwrap_or row 0 → one_row row ≡ 1
@@ -124,7 +124,7 @@ module _ (limit : ℕ) (rows : List (Hold × ℕ)) (tallies : List (HandleKind �
   count_at-le-total =
       omega (
         arith,
-        (sound.tallied hold.kind).total,
+        (sound.counted_by_kind hold.kind).total,
         weight_at-le-sum_by (share hold.kind) (same_hold hold) hold (same_hold-one hold) rows,
         weight_at-share hold.kind hold (row_at rows hold) true (same_kind-refl hold.kind),
       )
@@ -134,14 +134,14 @@ module _ (limit : ℕ) (rows : List (Hold × ℕ)) (tallies : List (HandleKind �
   one_row-le-clients =
       omega (
         arith,
-        (sound.tallied hold.kind).clients,
+        (sound.counted_by_kind hold.kind).clients,
         weight_at-le-sum_by (one_of hold.kind) (same_hold hold) hold (same_hold-one hold) rows,
         weight_at-one_of hold.kind hold (row_at rows hold) true (same_kind-refl hold.kind),
       )
 
   -- no more clients are counted than there are rows
   pub clients-le-length : (tally_at tallies hold.kind).clients ≤ length rows
-  clients-le-length = omega (arith, (sound.tallied hold.kind).clients, sum_by-one_of-le-length hold.kind rows)
+  clients-le-length = omega (arith, (sound.counted_by_kind hold.kind).clients, sum_by-one_of-le-length hold.kind rows)
 
 -- a buffer with no open handle is home where no strong node is live
 pub home_unopened : (strong_live : Bool) → not strong_live ≡ is_home 0 0 strong_live

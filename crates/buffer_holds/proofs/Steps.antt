@@ -49,7 +49,7 @@ module _ (limit : ℕ) (rows rows' : List (Hold × ℕ)) (tallies tallies' : Lis
     keeps = record {
       total = omega (arith, had, equation);
       clients = omega (arith, same_clients, one_row-some (row_at rows hold) had);
-      within = omega (arith, within, (sound.tallied hold.kind).within);
+      within = omega (arith, within, (sound.counted_by_kind hold.kind).within);
     };
     needed = λ some. omega (arith, same_clients, one_row-some (row_at rows hold) had, one_row-le-clients limit rows tallies sound hold);
   }
@@ -115,14 +115,14 @@ module _ (limit : ℕ) (rows rows' : List (Hold × ℕ)) (tallies tallies' : Lis
   nothing_left : is_idle left ≡ true → ((tally_at tallies hold.kind).total ≡ 0) × ((tally_at tallies hold.kind).moving ≡ 0) ×
       ((tally_at tallies hold.kind).clients ≡ 1)
   nothing_left is =
-      let tallied = sound.tallied hold.kind in
+      let counted_by_kind = sound.counted_by_kind hold.kind in
       let both = and_parts (left.clients == 0) (left.moving == 0) is in
       let clients : (tally_at tallies hold.kind).clients - 1 ≡ 0 = eqb-true left.clients 0 both.0 in
       let moving : (tally_at tallies hold.kind).moving ≡ 0 = eqb-true left.moving 0 both.1 in
-      let nobody : sum_by (one_of hold.kind) rows' ≡ 0 = omega (arith, others, tallied.clients, clients) in (
-        omega (arith, tallied.total, same_share, sum_by-share-none hold.kind rows' nobody, moving),
+      let nobody : sum_by (one_of hold.kind) rows' ≡ 0 = omega (arith, others, counted_by_kind.clients, clients) in (
+        omega (arith, counted_by_kind.total, same_share, sum_by-share-none hold.kind rows' nobody, moving),
         moving,
-        omega (arith, others, tallied.clients, clients),
+        omega (arith, others, counted_by_kind.clients, clients),
       )
 
   -- a tally that says something
@@ -159,8 +159,8 @@ module _ (limit : ℕ) (rows rows' : List (Hold × ℕ)) (tallies tallies' : Lis
           retallies = changed;
           keeps = record {
             total = omega (arith, ap (λ o. unwrap_or o 0) idle);
-            clients = omega (arith, others, (sound.tallied hold.kind).clients, ap one_row idle);
-            within = (sound.tallied hold.kind).within;
+            clients = omega (arith, others, (sound.counted_by_kind hold.kind).clients, ap one_row idle);
+            within = (sound.counted_by_kind hold.kind).within;
           };
           needed = λ some. something_left e;
         }
@@ -201,7 +201,7 @@ module _ {limit : ℕ} {rows rows' : List (Hold × ℕ)} {tallies tallies' : Lis
   tallied_here : Tallies limit rows' hold.kind (unwrap_or tally' no_tally)
   tallied_here =
       let kind = hold.kind in
-      let was = step.sound.tallied kind in
+      let was = step.sound.counted_by_kind kind in
       let row = row_at rows hold in
       record {
         total = omega (
@@ -226,7 +226,7 @@ module _ {limit : ℕ} {rows rows' : List (Hold × ℕ)} {tallies tallies' : Lis
   -- a tally of another kind counts the new rows too, since no row of that kind changes
   tallied_there : (kind : HandleKind) → same_handle_kind hold.kind kind ≡ false → Tallies limit rows' kind (tally_at tallies kind)
   tallied_there kind e =
-      let was = step.sound.tallied kind in
+      let was = step.sound.counted_by_kind kind in
       let row = row_at rows hold in
       record {
         total = omega (
@@ -270,7 +270,7 @@ module _ {limit : ℕ} {rows rows' : List (Hold × ℕ)} {tallies tallies' : Lis
 
   -- the fields stay sound
   pub sound_after : CountsInvariant limit rows' tallies'
-  sound_after = record { distinct = step.resets.distinct; tallied = tallied_after; needed = needed_after }
+  sound_after = record { distinct = step.resets.distinct; counted_by_kind = tallied_after; needed = needed_after }
 
   -- what each client has open
   pub of_after : (c : ℕ) (b : BufferName) (s : Strength)

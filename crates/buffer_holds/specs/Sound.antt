@@ -1,5 +1,6 @@
 -- What holds of the running counts beside the rows.
-use Rattle.std.specs.Prelude.{◌≡◌, ◌≤◌, ◌<◌, ◌+◌, ◌-◌, ◌==◌, ◌&&◌, ℕ, Bool, true, not, get_or, Option, Some, None, if◌then◌else◌, IsSome, List, map, sum_by, unwrap_or}
+use Rattle.std.specs.Prelude.{◌≡◌, ◌≤◌, ◌<◌, ◌+◌, ◌-◌, ◌==◌, ◌&&◌, ℕ, Bool, true}
+use Rattle.std.specs.Prelude.{not, get_or, Option, Some, None, if◌then◌else◌, IsSome, List, map, sum_by, unwrap_or}
 use Rattle.std.specs.List.{IsDistinct}
 use Rattle.std.specs.Map.{lookup, keys_of}
 use Rattle.buffer_holds.specs.declared.kinds.HandleKind.{HandleKind}
@@ -59,7 +60,7 @@ pub record Tallies (limit : ℕ) (rows : List (Hold × ℕ)) (kind : HandleKind)
 -- no hold has two rows, each tally is that of the rows, and none stands for nothing
 pub record CountsInvariant (limit : ℕ) (rows : List (Hold × ℕ)) (tallies : List (HandleKind × Tally)) : Type 0 where
   pub distinct : IsDistinct same_hold (keys_of rows)
-  pub tallied : (kind : HandleKind) → Tallies limit rows kind (tally_at tallies kind)
+  pub counted_by_kind : (kind : HandleKind) → Tallies limit rows kind (tally_at tallies kind)
   pub needed : (kind : HandleKind) → IsSome (lookup (same_handle_kind kind) tallies) →
       0 < (tally_at tallies kind).clients + (tally_at tallies kind).moving
 

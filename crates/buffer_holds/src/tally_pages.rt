@@ -1,5 +1,6 @@
 //! The tallies of kinds of handles, in pages.
-ghost use Rattle.std.specs.Prelude.{ℕ, ◌≡◌, ◌==◌, ◌&&◌, ◌+◌, ◌-◌, ◌^◌, ◌<◌, ◌≤◌, ◌↔◌, true, [], min, sum_by, All, length, Some, None, IfSome, IfNone, OnOk, OnErr, IsErrOf, IsOk, IsOkUnless, IsSome};
+ghost use Rattle.std.specs.Prelude.{ℕ, ◌≡◌, ◌==◌, ◌&&◌, ◌+◌, ◌-◌, ◌^◌, ◌<◌, ◌≤◌, ◌↔◌, true, [], min};
+ghost use Rattle.std.specs.Prelude.{sum_by, All, length, Some, None, IfSome, IfNone, OnOk, OnErr, IsErrOf, IsOk, IsOkUnless, IsSome};
 ghost use Rattle.std.specs.Bool.{OnTrue, OnFalse};
 ghost use Rattle.std.specs.List.{IsDistinct};
 ghost use Rattle.std.specs.Map.{keys_of, lookup};
@@ -354,7 +355,7 @@ pub(crate) fn open(
         ≡ sum_by (one_of hold.kind) rows.old.entries }
     requires bounded { most.old ≤ limit }
     ensures raised { OnOk result (Raises rows.old.entries rows.new.entries hold) }
-    ensures tallied { OnOk result
+    ensures counted_by_kind { OnOk result
         (OpensOne rows.old.entries rows.new.entries
         tallies.old.entries tallies.new.entries hold.kind) }
     ensures too_many { IsErrOf result HoldFault.TooMany
@@ -428,7 +429,7 @@ pub(crate) fn open_there(
         ≡ sum_by (one_of hold.kind) rows.old.entries }
     requires bounded { most.old ≤ limit }
     ensures raised { OnTrue result (Raises rows.old.entries rows.new.entries hold) }
-    ensures tallied { OnTrue result
+    ensures counted_by_kind { OnTrue result
         (OpensOne rows.old.entries rows.new.entries
         tallies.old.entries tallies.new.entries hold.kind) }
     ensures fewer { result ≡ true → (tally_at tallies.old.entries hold.kind).total < limit }

@@ -33,36 +33,36 @@ token_told client _ = []
 
 -- the client made one event for each of these calls, in this order: these are the replies, and the ends of those
 -- that tell of a token, in order
-pub record Went (old new : Seen) (calls : List Call) (replies : List Reply) (ends : List Tag) : Type 0 where
+pub record DraftSynced (old new : Seen) (calls : List Call) (replies : List Reply) (ends : List Tag) : Type 0 where
   pub made : MadeAll old new calls replies
   pub tokens : ends ≡ flat_map (token_told old.id) replies
 
 -- it made one event of this call, whose reply and end came behind those before
-pub record WentOn (old new : Seen) (call : Call) (before after : List Reply) (ends further : List Tag) : Type 0 where
+pub record DraftSyncedNext (old new : Seen) (call : Call) (before after : List Reply) (ends further : List Tag) : Type 0 where
   pub reply : Reply
   pub made : Made old new call reply
   pub replies : after ≡ before ++ reply ∷ []
   pub tokens : further ≡ ends ++ token_told old.id reply
 
 -- it made the first of the drafted calls so, and that one is no longer among them
-pub record WentFirst (old new : Seen) (key : NodeKey) (drafted left : List Drafted) (before after : List Reply)
+pub record DraftSyncedFirst (old new : Seen) (key : NodeKey) (drafted left : List Drafted) (before after : List Reply)
     (ends further : List Tag) : Type 0 where
   pub first : Drafted
   pub more : drafted ≡ first ∷ left
-  pub went : WentOn old new (drafted_call key first) before after ends further
+  pub synced : DraftSyncedNext old new (drafted_call key first) before after ends further
 
 -- it made the first of all calls so, and these are left
-pub record WentFar (old new : Seen) (all left : List Call) (replies : List Reply) (ends : List Tag) : Type 0 where
+pub record DraftSyncedPart (old new : Seen) (all left : List Call) (replies : List Reply) (ends : List Tag) : Type 0 where
   pub calls : List Call
   pub first : calls ++ left ≡ all
-  pub went : Went old new calls replies ends
+  pub synced : DraftSynced old new calls replies ends
 
 -- the draft was made whole, and then one Sync; its token came back
 pub record IsSynced (old new : Seen) (draft : Sketch) (back : Tag) (replies : List Reply) (ends : List Tag) : Type 0 where
   pub token : back ≡ draft.token
-  pub went : Went old new (draft.calls ++ Call.Sync draft.token.key ∷ []) replies ends
+  pub synced : DraftSynced old new (draft.calls ++ Call.Sync draft.token.key ∷ []) replies ends
 
 -- the first calls of the draft were made, and the draft that came back has the others
 pub record DraftStopped (old new : Seen) (draft rest : Sketch) (replies : List Reply) (ends : List Tag) : Type 0 where
   pub token : rest.token ≡ draft.token
-  pub far : WentFar old new draft.calls rest.calls replies ends
+  pub far : DraftSyncedPart old new draft.calls rest.calls replies ends

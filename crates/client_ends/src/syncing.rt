@@ -4,7 +4,8 @@ ghost use Rattle.std.specs.VecDeque.{deque_len};
 ghost use Rattle.sm_names.specs.declared.messages.Call.{Call as Asked};
 ghost use Rattle.sm_names.specs.declared.outcomes.StepFault.{StepFault as Fault};
 ghost use Rattle.client_ends.specs.Clients.{moves_no_handle};
-ghost use Rattle.client_ends.specs.Drafts.{Went, WentFar, WentFirst, WentOn, drafted_call, drafted_calls, token_told};
+ghost use Rattle.client_ends.specs.Drafts.{DraftSynced, DraftSyncedPart, DraftSyncedFirst};
+ghost use Rattle.client_ends.specs.Drafts.{DraftSyncedNext, drafted_call, drafted_calls, token_told};
 
 use crate::client::Client;
 use crate::draft::{DraftPart, Drafted};
@@ -70,7 +71,7 @@ fn make_next<E: Setup, S: Ledger, W: Ledger>(
     requires plain { moves_no_handle call ≡ true }
     requires replies_room { vec_len part.old.replies < vec_capacity part.old.replies }
     requires made_room { vec_len part.old.made < vec_capacity part.old.made }
-    ensures went { OnOk result (WentOn client.old client.new call
+    ensures synced { OnOk result (DraftSyncedNext client.old client.new call
         part.old.replies.items part.new.replies.items part.old.made.items part.new.made.items) }
     ensures kept { OnErr result ((client.new ≡ client.old) × (part.new ≡ part.old)) }
     ensures full { IfErr result (λ f. (f ≡ Fault.HistoryFull)
@@ -97,7 +98,7 @@ fn make_first<E: Setup, S: Ledger, W: Ledger>(
     requires replies_room { vec_len part.old.replies + deque_len calls.old
         < vec_capacity part.old.replies }
     requires made_room { vec_len part.old.made + deque_len calls.old < vec_capacity part.old.made }
-    ensures went { OnOk result (WentFirst client.old client.new key calls.old.items calls.new.items
+    ensures synced { OnOk result (DraftSyncedFirst client.old client.new key calls.old.items calls.new.items
         part.old.replies.items part.new.replies.items part.old.made.items part.new.made.items) }
     ensures fewer { OnOk result (deque_len calls.new + 1 ≡ deque_len calls.old) }
     ensures kept { OnErr result ((client.new ≡ client.old) × (calls.new.items ≡ calls.old.items)
@@ -127,7 +128,7 @@ fn make_drafted<E: Setup, S: Ledger, W: Ledger>(
     requires replies_room { vec_len part.old.replies + deque_len calls.old
         < vec_capacity part.old.replies }
     requires made_room { vec_len part.old.made + deque_len calls.old < vec_capacity part.old.made }
-    ensures far { WentFar client.old client.new (drafted_calls key calls.old.items)
+    ensures far { DraftSyncedPart client.old client.new (drafted_calls key calls.old.items)
         (drafted_calls key calls.new.items) part.new.replies.items part.new.made.items }
     ensures none { OnOk result (calls.new.items ≡ []) }
     ensures full { IfErr result (λ f. (f ≡ Fault.HistoryFull)
@@ -154,10 +155,10 @@ pub(crate) fn make_all<E: Setup, S: Ledger, W: Ledger>(
     requires replies_room { vec_len part.old.replies + deque_len calls.old
         < vec_capacity part.old.replies }
     requires made_room { vec_len part.old.made + deque_len calls.old < vec_capacity part.old.made }
-    ensures all { OnOk result (Went client.old client.new
+    ensures all { OnOk result (DraftSynced client.old client.new
         (drafted_calls key calls.old.items ++ Asked.Sync key ∷ [])
         part.new.replies.items part.new.made.items) }
-    ensures far { OnErr result (WentFar client.old client.new (drafted_calls key calls.old.items)
+    ensures far { OnErr result (DraftSyncedPart client.old client.new (drafted_calls key calls.old.items)
         (drafted_calls key calls.new.items) part.new.replies.items part.new.made.items) }
     ensures full { IfErr result (λ f. (f ≡ Fault.HistoryFull)
         ↔ (state.new.limits.events ≤ length state.new.history)) }

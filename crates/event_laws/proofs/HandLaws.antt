@@ -12,9 +12,9 @@ use Rattle.history_laws.proofs.HistoryLaws.{AreAnswers-last, timeline-push}
 use Rattle.history_laws.proofs.KeptLaws.{kept-after}
 
 -- such a mark leaves them
-pub same_hands : (marks : Timeline) (mark : Mark) → is_event mark ≡ false → SameHands marks (mark ∷ marks)
-same_hands marks (Called client reply call) h = cc
-same_hands marks (Loss origin cause) h =
+pub same_handle_moves : (marks : Timeline) (mark : Mark) → is_event mark ≡ false → SameHands marks (mark ∷ marks)
+same_handle_moves marks (Called client reply call) h = cc
+same_handle_moves marks (Loss origin cause) h =
     record {
       born = refl;
       joined = refl;
@@ -28,7 +28,7 @@ same_hands marks (Loss origin cause) h =
       holders = refl;
       kinds = refl;
     }
-same_hands marks (Allocated head) h =
+same_handle_moves marks (Allocated head) h =
     record {
       born = refl;
       joined = refl;
@@ -42,7 +42,7 @@ same_hands marks (Allocated head) h =
       holders = refl;
       kinds = refl;
     }
-same_hands marks (Ended top) h =
+same_handle_moves marks (Ended top) h =
     record {
       born = refl;
       joined = refl;
@@ -75,7 +75,7 @@ then_same first mid last s on = record {
 
 -- so any number of such marks leave them
 still_same : (first marks : Timeline) (mark : Mark) → is_event mark ≡ false → SameHands first marks → SameHands first (mark ∷ marks)
-still_same first marks mark h s = then_same first marks (mark ∷ marks) s (same_hands marks mark h)
+still_same first marks mark h s = then_same first marks (mark ∷ marks) s (same_handle_moves marks mark h)
 
 -- so all marks that an event forces leave them as its own mark does
 pub same_after : (pool : ℕ) (marks : Timeline) (entry : Entry) → SameHands (entry_mark entry ∷ marks) (after pool marks entry)

@@ -16,7 +16,7 @@ use Rattle.event_texts.specs.declared.event_writer.EventWriter.{EventWriter}
 use Rattle.event_texts.specs.Called.{Calls, Knows}
 use Rattle.event_texts.specs.Failing.{failures}
 use Rattle.event_texts.specs.Deeds.{KeptLines, Recalls, with_event}
-use Rattle.event_texts.specs.Tellings.{IsEventOf, TellsAct, TellsFacts, TellsLine}
+use Rattle.event_texts.specs.EventLines.{IsEventOf, TellsAct, TellsFacts, TellsLine}
 use Rattle.event_texts.proofs.Losing.{recalls-same}
 
 module _ (old new : EventWriter) (number : ℕ) (line reply facts : List ℕ) (scene : Scene) (lines : KeptLines) (knows : Knows old scene)

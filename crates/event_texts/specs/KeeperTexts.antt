@@ -10,7 +10,7 @@ use Rattle.event_facts.specs.Facts.{holders_in}
 use Rattle.script_labels.specs.Names.{Names}
 use Rattle.script_labels.specs.Texts.{node_text}
 use Rattle.event_texts.specs.FactTexts.{holders_text}
-use Rattle.event_texts.specs.Tellings.{strong_among}
+use Rattle.event_texts.specs.EventLines.{strong_among}
 
 -- the live strong nodes of the collection
 abbrev pub strong_in : State → ℕ → List NodeKey

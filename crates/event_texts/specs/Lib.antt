@@ -10,4 +10,4 @@ pub mod LostLines
 pub mod MarkTexts
 pub mod RefusalTexts
 pub mod SummaryTexts
-pub mod Tellings
+pub mod EventLines

@@ -10,7 +10,7 @@ ghost use Rattle.event_texts.specs.Deeds.{DeedLines, KeptLines, Recalls, Recalls
 ghost use Rattle.event_texts.specs.FactTexts.{buffer_name};
 ghost use Rattle.event_texts.specs.Failing.{failures_with, has_failure, is_failure};
 ghost use Rattle.event_texts.specs.LostLines.{LossLines, RecallsLosses, kept_line, with_loss, with_losses};
-ghost use Rattle.event_texts.specs.Tellings.{IsEventOf, TellsFacts, TellsLine};
+ghost use Rattle.event_texts.specs.EventLines.{IsEventOf, TellsFacts, TellsLine};
 
 mod facts;
 mod reasons;

@@ -5,8 +5,9 @@ ghost use Rattle.std.specs.Option.{option_map_or};
 ghost use Rattle.script_labels.specs.Names.{Names};
 ghost use Rattle.script_labels.specs.Tables.{Keeps};
 ghost use Rattle.event_texts.specs.Called.{Calls};
-ghost use Rattle.event_texts.specs.EventTexts.{doomed_text, end_holder, fires_text, freed_text, listed_text, next_waited, some_doomed, tracker_text, unit_text, waited_text, waits_text, want_text};
-ghost use Rattle.event_texts.specs.Tellings.{awaited_text, head_above as head_over, waiting_text};
+ghost use Rattle.event_texts.specs.EventTexts.{doomed_text, end_holder, fires_text, freed_text, listed_text, next_waited};
+ghost use Rattle.event_texts.specs.EventTexts.{some_doomed, tracker_text, unit_text, waited_text, waits_text, want_text};
+ghost use Rattle.event_texts.specs.EventLines.{awaited_text, head_above as head_over, waiting_text};
 
 use crate::allocations::push_each_held;
 use crate::labels::Labels;

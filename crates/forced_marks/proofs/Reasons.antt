@@ -37,7 +37,7 @@ reason_below marks sound below highest node p takes here on =
   where
     -- by cases: where the parent is gone, so is the node
     alive : (gone marks p ≡ true) ⊎ (gone marks p ≡ false) → gone marks p ≡ false
-    alive (inl dead) = absurd (both_ways (gone marks node) (below node p on dead) here)
+    alive (inl not_kept) = absurd (both_ways (gone marks node) (below node p on not_kept) here)
     alive (inr living) = living
 
 -- so a node that a loss takes is the top, or hangs on one that is taken too

@@ -77,7 +77,7 @@ pub use Rattle.forest_store.proofs.tallies.Reserved.{amount_map, amount_within, 
 pub use Rattle.forest_store.proofs.tallies.Slots.{all_at, one_row}
 pub use Rattle.forest_store.specs.Dropped.{are_rest_out, has_given_root}
 pub use Rattle.forest_store.specs.Falls.{AreGrown, Hangs, Roots, given_all}
-pub use Rattle.forest_store.specs.LossMarks.{IsTaken, gone_by, unreckoned}
+pub use Rattle.forest_store.specs.LossMarks.{IsTaken, gone_by, uncounted_both}
 pub use Rattle.forest_store.specs.Outcomes.{IsOutcomeIn, IsReady, IsSettledIn, changed_in}
 pub use Rattle.forest_store.specs.Resting.{is_kept_by}
 pub use Rattle.forest_store.specs.Starts.{starts_differ}
@@ -85,7 +85,7 @@ pub use Rattle.forest_store.specs.Stores.{StoreAgrees}
 pub use Rattle.forest_store.specs.Unforced.{IsOpen, bit, is_plain}
 pub use Rattle.forest_store.specs.UnitAllocation.{AreHeads, IsGathered, IsGivenAt, asked_with, given_at, hangs_below}
 pub use Rattle.forest_store.specs.UnitAllocation.{has_turn_at, is_head_at, is_in_some, is_ready_head, is_waiting_head}
-pub use Rattle.forest_store.specs.declared.loss_marks.Going.{Going}
+pub use Rattle.forest_store.specs.declared.loss_marks.RemovalKind.{RemovalKind}
 pub use Rattle.node_table.specs.Changes.{Writes}
 pub use Rattle.node_table.specs.Forest.{IsForest}
 pub use Rattle.node_table.specs.Lending.{table_with_node}
@@ -128,7 +128,7 @@ pub use Rattle.forest_store.proofs.lists.ByPage.{any_sorted}
 pub use Rattle.forest_store.proofs.lists.Lookups.{looked-map}
 pub use Rattle.forest_store.proofs.quiescence.Keeping.{below_held, either_holds, lives_held}
 pub use Rattle.forest_store.proofs.tables.Chains.{one_line}
-pub use Rattle.forest_store.proofs.tallies.Hung.{below_mapped, hangs_mapped}
+pub use Rattle.forest_store.proofs.tallies.CountedAbove.{below_mapped, hangs_mapped}
 pub use Rattle.forest_store.specs.Given.{IsServedByGiven}
 pub use Rattle.sm_names.specs.Timelines.{laid_out}
 pub use Rattle.sm_names.specs.declared.rules.TheConstants.{MAX_CAMPING}

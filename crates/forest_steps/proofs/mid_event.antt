@@ -6,8 +6,8 @@ pub mod Counted
 pub mod Crossed
 pub mod EndAbove
 pub mod Ending
-pub mod Fallen
-pub mod Felled
+pub mod InRemoval
+pub mod AfterLosses
 pub mod Fewer
 pub mod GivenKept
 pub mod Inside
@@ -29,4 +29,4 @@ pub mod Stepping
 pub mod Tops
 pub mod Turns
 pub mod UnitGiven
-pub mod Went
+pub mod AfterRemovals

@@ -19,7 +19,7 @@ ghost use Rattle.forest_store.specs.Outcomes.{IsOutcomeIn};
 ghost use Rattle.forest_store.specs.Scenes.{by_page, given_few, is_held_strongly, is_out, name_of, pages_held};
 
 use crate::placement::assert_disjoint;
-use crate::returns::look_at;
+use crate::returns::assert_sound;
 use buffer_holds::Holds;
 use buffer_pool::Pool;
 use forest_store::boxed_entry::BoxedEntry;
@@ -73,7 +73,7 @@ fn free_buffer(held: &mut Vec<HeldBuffer>, pool: &mut Pool, holds: &Holds, buffe
         pool.new.held ≡ by_page (pages_held held.new.items ++ others) }
     ensures size { pool.new.size ≡ pool.old.size }
 {
-    look_at(pool);
+    assert_sound(pool);
     let mut at = 0;
     while at < held.len() {
         let one = held[at];

@@ -10,7 +10,7 @@ ghost use Rattle.forest_steps.specs.StoreSteps.{AfterRemovalIn, MidEventIn};
 
 use failure_domains::fall_into;
 use forest_store::entry::Entry;
-use forest_store::loss_marks::Going;
+use forest_store::loss_marks::RemovalKind;
 use forest_store::node::Node;
 use forest_store::removed_nodes::remove_all;
 use forest_store::reserved::without;
@@ -40,7 +40,7 @@ fn remove_taken(
     nodes: &mut NodeStore,
     entry: &mut Entry,
     origin: NodeKey,
-    going: &Going,
+    going: &RemovalKind,
     keys: &mut Vec<NodeKey>,
 ) -> Option<NodeKey>
     requires room { table_len nodes.old.table ≤ vec_capacity keys.old }
@@ -89,7 +89,7 @@ pub(crate) fn remove_subtree(
     ensures room { vec_capacity keys.old ≤ vec_capacity keys.new }
 {
     match fault {
-        Some(fault) => remove_taken(nodes, entry, origin, &Going::Fails(fault), keys),
-        None => remove_taken(nodes, entry, origin, &Going::Leaves, keys),
+        Some(fault) => remove_taken(nodes, entry, origin, &RemovalKind::Fails(fault), keys),
+        None => remove_taken(nodes, entry, origin, &RemovalKind::Leaves, keys),
     }
 }

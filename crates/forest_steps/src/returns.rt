@@ -45,7 +45,7 @@ fn return_pages(held: &[HeldBuffer], pool: &mut Pool, holds: &Holds, strong_live
     ensures size { pool.new.size ≡ pool.old.size }
     ensures out { result ≡ length (filter (is_out (total holds.now) strong_live) held.now) }
 {
-    look_at(pool);
+    assert_sound(pool);
     let mut run = PageRange::new();
     let mut out = 0;
     for buffer in held {
@@ -83,7 +83,7 @@ fn return_one(
 }
 
 /// The pool's intervals lie apart.
-pub(crate) fn look_at(pool: &Pool)
+pub(crate) fn assert_sound(pool: &Pool)
     ensures { IsSoundPool pool.now }
 {
     let _free = pool.free_pages();

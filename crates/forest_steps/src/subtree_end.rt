@@ -96,7 +96,7 @@ pub(crate) fn fall_by(
     requires named { AreNamed nodes.old.table }
     requires room { table_len nodes.old.table ≤ vec_capacity keys.old }
     requires there { IsSome (row_at nodes.old.table fault.origin) }
-    ensures felled { (handles : Handles) (ss : List CollectionRow) (pending : List Key) →
+    ensures after_fall { (handles : Handles) (ss : List CollectionRow) (pending : List Key) →
         MidEventIn nodes.old ss entry.old [] pending →
         is_left_of (nodes_in nodes.old entry.old) fault.origin ≡ true →
         AfterLossIn handles nodes.old nodes.new ss entry.old entry.new fault pending }

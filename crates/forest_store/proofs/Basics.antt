@@ -29,9 +29,10 @@ pub use Rattle.forest_store.proofs.tables.TakingOut.{same_first}
 pub use Rattle.forest_store.proofs.tables.Writing.{IsSameNode, kept-map, look-changed, parents-written}
 pub use Rattle.forest_store.proofs.tallies.Amounts.{amount_of, first_once, rest_once, times_changed, times_filter}
 pub use Rattle.forest_store.proofs.tallies.Holding.{head_there}
-pub use Rattle.forest_store.proofs.tallies.Hung.{above_node, below_mapped, hung_by, hung_hangs, hung_is, is_hung}
+pub use Rattle.forest_store.proofs.tallies.CountedAbove.{above_node, below_mapped, counted_above_by}
+pub use Rattle.forest_store.proofs.tallies.CountedAbove.{counted_above_hangs, counts_above_is, counts_above}
 pub use Rattle.forest_store.proofs.tallies.InTurn.{is_above, other_slots, same_long}
-pub use Rattle.forest_store.proofs.tallies.Reckoning.{lives_gone, lives_other, lives_own, own_is, own_unit}
-pub use Rattle.forest_store.proofs.tallies.Reckoning.{tallied_adds, tallied_by, waits_gone, waits_other, waits_own}
+pub use Rattle.forest_store.proofs.tallies.Counting.{lives_gone, lives_other, lives_own, own_is, own_unit}
+pub use Rattle.forest_store.proofs.tallies.Counting.{counted_own_adds, counted_own_by, waits_gone, waits_other, waits_own}
 pub use Rattle.forest_store.proofs.tallies.Reserved.{reserved_append, reserved_filter, reserved_is, reserved_map, reserved_one}
 pub use Rattle.forest_store.proofs.tallies.Untold.{times_same}

@@ -30,8 +30,8 @@ pub use Rattle.node_table.specs.Table.{Row, Table, children_at, next_at, node_at
 pub use Rattle.node_table.specs.Table.{parent_in, row_at, table_len, was_given, children_in}
 pub use Rattle.forest_store.specs.Calm.{AreCounted, IsCounted, IsQuiescent, unkept_except, put_in, strong_count, AreCountedExcept}
 pub use Rattle.forest_store.specs.Counts.{AreUnits, AreUnitsExcept, HasUnit, HasUnits, cleared, hangs_in, head_above, heads_below}
-pub use Rattle.forest_store.specs.Counts.{is_unready, lives_in, no_unit, reckoned, tallied, unit_at, unit_of, waits_in, Extends}
-pub use Rattle.forest_store.specs.Counts.{HaveUnits, decrement_if, raised, head_of, hung, with_below, HaveSlots}
+pub use Rattle.forest_store.specs.Counts.{is_unready, lives_in, no_unit, counted_both, counted_own, unit_at, unit_of, waits_in, Extends}
+pub use Rattle.forest_store.specs.Counts.{HaveUnits, decrement_if, increment_if, head_of, counted_above, with_below, HaveSlots}
 pub use Rattle.forest_store.specs.Decisions.{Allocates, Decision, Ends, Loses, Places, decided, early_failure}
 pub use Rattle.forest_store.specs.Decisions.{first_step, has_strong, is_left_of, late_failure, later_step}
 pub use Rattle.forest_store.specs.Decisions.{waiting, wanted_by, decisions, mark_of, IsStep, has_waiting}
@@ -62,10 +62,10 @@ pub use Rattle.forest_store.specs.Unkept.{AreMore, IsForgettable, IsLeftIn, IsNo
 pub use Rattle.forest_store.specs.Unkept.{TakesOut, is_bare, is_found, is_left_by, is_own_if_unkept, left_at}
 pub use Rattle.forest_store.specs.Unkept.{thin_in, thinned, unless_unkept, without_bare, IsChild, Unlinks, IsPlace}
 pub use Rattle.forest_store.specs.Keys.{Listed}
-pub use Rattle.forest_store.specs.LossMarks.{gone_by, lowered, unhung, unreckoned, untallied, without_below, without_node}
+pub use Rattle.forest_store.specs.LossMarks.{gone_by, lowered, uncounted_above, uncounted_both, uncounted_own, without_below, without_node}
 pub use Rattle.forest_store.specs.Still.{no_row, row_before, row_with}
 pub use Rattle.forest_store.specs.Unforced.{bit, IsOpen, MayAffect, is_plain}
-pub use Rattle.forest_store.specs.declared.loss_marks.Going.{Going}
+pub use Rattle.forest_store.specs.declared.loss_marks.RemovalKind.{RemovalKind}
 pub use Rattle.node_table.proofs.Keys.{key_cases, same_key-apart, same_key-equal, false-same_key}
 pub use Rattle.node_table.specs.Changes.{SameKeys, Writes, at_parent, with_node, Cuts, Removes}
 pub use Rattle.node_table.specs.Changes.{without_child, without_parent, Births, with_child}

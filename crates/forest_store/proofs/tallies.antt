@@ -2,9 +2,9 @@
 pub mod Amounts
 pub mod AtOnce
 pub mod Holding
-pub mod Hung
+pub mod CountedAbove
 pub mod InTurn
-pub mod Reckoning
+pub mod Counting
 pub mod Reserved
 pub mod Slots
 pub mod Untold

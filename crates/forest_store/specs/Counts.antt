@@ -1,5 +1,6 @@
 -- What is counted of units. No public clause of `alloc_event` cites this module.
-use Rattle.std.specs.Prelude.{◌≡◌, ◌≢◌, ℕ, ◌+◌, ◌<◌, ◌≤◌, Bool, ◌&&◌, ◌||◌, not, nat_lt, if◌then◌else◌, slice_index_or, List, [], ◌∷◌, map, length, set, is_some, true, false, Option, Some, None, option_map, ◌-◌}
+use Rattle.std.specs.Prelude.{◌≡◌, ◌≢◌, ℕ, ◌+◌, ◌<◌, ◌≤◌, Bool, ◌&&◌, ◌||◌, not, nat_lt, if◌then◌else◌, slice_index_or}
+use Rattle.std.specs.Prelude.{List, [], ◌∷◌, map, length, set, is_some, true, false, Option, Some, None, option_map, ◌-◌}
 use Rattle.std.specs.List.{AllByRecursion, list_any}
 use Rattle.std.specs.Option.{option_map_or}
 use Rattle.sm_names.specs.declared.keys.NodeKey.{NodeKey}
@@ -104,8 +105,8 @@ unit_then us n after = record {
 -- ---- counting anew
 
 -- one more, if it counts and there is room for it
-abbrev pub raised : Bool → ℕ → ℕ
-raised is count = if is && nat_lt count 18446744073709551615 then count + 1 else count
+abbrev pub increment_if : Bool → ℕ → ℕ
+increment_if is count = if is && nat_lt count 18446744073709551615 then count + 1 else count
 
 -- the slots of these keys are counted from nothing on
 abbrev pub cleared : List NodeKey → List Unit → List Unit
@@ -115,15 +116,15 @@ cleared (key ∷ keys) units = cleared keys (set units key.slot no_unit)
 -- the node is counted for its unit
 abbrev pub with_node : Node → List Unit → List Unit
 with_node n units = set units n.head.slot (record {
-  live = raised (is_live_node n) (unit_at units n.head.slot).live;
-  unready = raised (is_unready n) (unit_at units n.head.slot).unready;
+  live = increment_if (is_live_node n) (unit_at units n.head.slot).live;
+  unready = increment_if (is_unready n) (unit_at units n.head.slot).unready;
   below = (unit_at units n.head.slot).below;
 })
 
 -- each node is, if it is not gone
-abbrev pub tallied : List Node → List Unit → List Unit
-tallied [] units = units
-tallied (n ∷ ns) units = tallied ns (if n.gone then units else with_node n units)
+abbrev pub counted_own : List Node → List Unit → List Unit
+counted_own [] units = units
+counted_own (n ∷ ns) units = counted_own ns (if n.gone then units else with_node n units)
 
 -- the head of the unit of the node with this key
 abbrev pub head_of : Table Node → NodeKey → Option NodeKey
@@ -139,14 +140,14 @@ with_below None units = units
 with_below (Some head) units = set units head.slot (record {
   live = (unit_at units head.slot).live;
   unready = (unit_at units head.slot).unready;
-  below = raised true (unit_at units head.slot).below;
+  below = increment_if true (unit_at units head.slot).below;
 })
 
 -- each node is counted for the unit right above the one that it heads
-abbrev pub hung : Table Node → List Node → List Unit → List Unit
-hung t [] units = units
-hung t (n ∷ ns) units = hung t ns (with_below (head_above t n) units)
+abbrev pub counted_above : Table Node → List Node → List Unit → List Unit
+counted_above t [] units = units
+counted_above t (n ∷ ns) units = counted_above t ns (with_below (head_above t n) units)
 
 -- each node is counted, for its unit and for the one right above that
-abbrev pub reckoned : Table Node → List Node → List Unit → List Unit
-reckoned t ns units = hung t ns (tallied ns units)
+abbrev pub counted_both : Table Node → List Node → List Unit → List Unit
+counted_both t ns units = counted_above t ns (counted_own ns units)

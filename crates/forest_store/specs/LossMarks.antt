@@ -6,7 +6,7 @@ use Rattle.std.specs.declared.cmp.Ordering.{Ordering}
 use Rattle.sm_names.specs.declared.keys.NodeKey.{NodeKey}
 use Rattle.node_table.specs.Table.{Table, children_at}
 use Rattle.failure_domains.specs.Falls.{IsByLayers}
-use Rattle.forest_store.specs.declared.loss_marks.Going.{Going}
+use Rattle.forest_store.specs.declared.loss_marks.RemovalKind.{RemovalKind}
 use Rattle.forest_store.specs.declared.node.Node.{Node}
 use Rattle.forest_store.specs.declared.unit_counts.Unit.{Unit}
 use Rattle.forest_store.specs.Counts.{head_above, is_unready, unit_at}
@@ -31,9 +31,9 @@ without_node n units = set units n.head.slot (record {
 })
 
 -- each node is counted no longer, if it is not gone
-abbrev pub untallied : List Node → List Unit → List Unit
-untallied [] units = units
-untallied (n ∷ ns) units = untallied ns (if n.gone then units else without_node n units)
+abbrev pub uncounted_own : List Node → List Unit → List Unit
+uncounted_own [] units = units
+uncounted_own (n ∷ ns) units = uncounted_own ns (if n.gone then units else without_node n units)
 
 -- one unit less hangs right below the one with this head
 abbrev pub without_below : Option NodeKey → List Unit → List Unit
@@ -45,13 +45,13 @@ without_below (Some head) units = set units head.slot (record {
 })
 
 -- each node is counted no longer for the unit right above the one that it heads
-abbrev pub unhung : Table Node → List Node → List Unit → List Unit
-unhung t [] units = units
-unhung t (n ∷ ns) units = unhung t ns (without_below (head_above t n) units)
+abbrev pub uncounted_above : Table Node → List Node → List Unit → List Unit
+uncounted_above t [] units = units
+uncounted_above t (n ∷ ns) units = uncounted_above t ns (without_below (head_above t n) units)
 
 -- each node is counted no longer, for its unit and for the one right above that
-abbrev pub unreckoned : Table Node → List Node → List Unit → List Unit
-unreckoned t ns units = unhung t ns (untallied ns units)
+abbrev pub uncounted_both : Table Node → List Node → List Unit → List Unit
+uncounted_both t ns units = uncounted_above t ns (uncounted_own ns units)
 
 -- what a failure takes of the table: each key once, layer by layer
 pub record IsTaken (t : Table Node) (origin : NodeKey) (keys : List NodeKey) : Type 0 where
@@ -62,6 +62,6 @@ pub record IsTaken (t : Table Node) (origin : NodeKey) (keys : List NodeKey) : T
 -- ---- how nodes go
 
 -- the node, gone so
-abbrev pub gone_by : Going → Node → Node
-gone_by (Going.Fails fault) n = lost (λ _. true) fault n
-gone_by Going.Leaves n = record n { gone = true }
+abbrev pub gone_by : RemovalKind → Node → Node
+gone_by (RemovalKind.Fails fault) n = lost (λ _. true) fault n
+gone_by RemovalKind.Leaves n = record n { gone = true }

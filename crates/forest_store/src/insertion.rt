@@ -20,7 +20,7 @@ use crate::entry::{Entry, place_of};
 use crate::key_list::KeyList;
 use crate::node::Node;
 use crate::store::{Store, put_entry};
-use crate::unit_counts::{bound, count_born, no_unit, put_unit};
+use crate::unit_counts::{assert_bounded, count_born, no_unit, put_unit};
 use crate::unkept::reserve_notes;
 use node_table::NodeTable;
 use sm_names::{ClientId, CollectionId, NoMemory, NodeKey};
@@ -287,7 +287,7 @@ pub fn insert_counted(
     let mut draft = drafted(&store.nodes.table, id, birth);
     let key = insert_uncounted(store, id, birth, &draft, spare)?;
     name(&mut draft, key);
-    bound(&store.nodes.table);
+    assert_bounded(&store.nodes.table);
     put_unit(&mut store.nodes.units, key.slot as usize, no_unit());
     count_born(&mut store.nodes.units, &store.nodes.table, &draft);
     Ok(key)

@@ -47,7 +47,7 @@ pub(crate) fn uncount_below(units: &mut Vec<Unit>, head: Option<NodeKey>)
 
 /// Why nodes are marked gone.
 #[derive(Clone, Copy)]
-pub enum Going {
+pub enum RemovalKind {
     /// They fail.
     Fails(Fault),
     /// Their subtree ends: they have no fault.
@@ -55,12 +55,12 @@ pub enum Going {
 }
 
 /// Marks the node gone. A node that is gone already keeps its fault.
-pub(crate) fn go(node: &mut Node, going: &Going)
+pub(crate) fn remove_node(node: &mut Node, going: &RemovalKind)
     ensures { node.new ≡ gone_by going.now node.old }
 {
     match going {
-        Going::Fails(fault) => fail(node, true, *fault),
-        Going::Leaves => node.gone = true,
+        RemovalKind::Fails(fault) => fail(node, true, *fault),
+        RemovalKind::Leaves => node.gone = true,
     }
 }
 

@@ -8,14 +8,14 @@ ghost use Rattle.node_table.specs.Lending.{table_with_node};
 ghost use Rattle.node_table.specs.Table.{node_at, row_at};
 ghost use Rattle.forest_store.specs.declared.node.Node.{Node as NodeValue};
 ghost use Rattle.forest_store.specs.Calm.{strong_count};
-ghost use Rattle.forest_store.specs.LossMarks.{gone_by, unreckoned};
+ghost use Rattle.forest_store.specs.LossMarks.{gone_by, uncounted_both};
 ghost use Rattle.forest_store.specs.CollectionRows.{Stores, nodes_with};
 ghost use Rattle.forest_store.specs.Nodes.{is_unkept};
 ghost use Rattle.forest_store.specs.Reserved.{reserved_count};
 ghost use Rattle.forest_store.specs.Stores.{AreNamed};
 
 use crate::lookup::{is_strong, is_unkept};
-use crate::loss_marks::{Going, go, uncount, uncount_below};
+use crate::loss_marks::{RemovalKind, remove_node, uncount, uncount_below};
 use crate::node::Node;
 use crate::reserved::camped;
 use crate::unit_counts::{Unit, head_above};
@@ -64,7 +64,7 @@ pub struct Removed {
 /// those of the unit right above.
 #[inline(always)]
 fn decrement(table: &NodeTable<Node>, units: &mut Vec<Unit>, node: &Node)
-    ensures { units.new.items ≡ unreckoned table.now (node.now ∷ []) units.old.items }
+    ensures { units.new.items ≡ uncounted_both table.now (node.now ∷ []) units.old.items }
 {
     if !node.gone {
         uncount(units, node);
@@ -74,7 +74,7 @@ fn decrement(table: &NodeTable<Node>, units: &mut Vec<Unit>, node: &Node)
 
 /// Marks the node with this key gone. Answers whether it is unkept then.
 #[inline(always)]
-fn mark_gone(table: &mut NodeTable<Node>, key: NodeKey, going: &Going) -> bool
+fn mark_gone(table: &mut NodeTable<Node>, key: NodeKey, going: &RemovalKind) -> bool
     requires { IsSome (row_at table.old key) }
     ensures becomes { (n : NodeValue) → node_at table.old key ≡ Some n →
         table.new ≡ table_with_node table.old key (gone_by going.now n) }
@@ -84,7 +84,7 @@ fn mark_gone(table: &mut NodeTable<Node>, key: NodeKey, going: &Going) -> bool
         result ≡ is_unkept (gone_by going.now n) }
 {
     let node = table.kept_mut(key);
-    go(node, going);
+    remove_node(node, going);
     is_unkept(node)
 }
 
@@ -95,7 +95,7 @@ fn remove(
     table: &mut NodeTable<Node>,
     units: &mut Vec<Unit>,
     key: NodeKey,
-    going: &Going,
+    going: &RemovalKind,
 ) -> Removed
     requires { IsSome (row_at table.old key) }
     ensures strong { result.strong ≡ strong_count (nodes_with table.old (key ∷ [])) }
@@ -103,7 +103,7 @@ fn remove(
     ensures reserved { result.reserved ≡ reserved_count (nodes_with table.old (key ∷ [])) }
     ensures few { result.reserved ≤ 255 }
     ensures units { units.new.items
-        ≡ unreckoned table.old (nodes_with table.old (key ∷ [])) units.old.items }
+        ≡ uncounted_both table.old (nodes_with table.old (key ∷ [])) units.old.items }
     ensures becomes { (n : NodeValue) → node_at table.old key ≡ Some n →
         table.new ≡ table_with_node table.old key (gone_by going.now n) }
     ensures writes { (n : NodeValue) → node_at table.old key ≡ Some n →
@@ -131,7 +131,7 @@ pub fn remove_all(
     table: &mut NodeTable<Node>,
     units: &mut Vec<Unit>,
     keys: &[NodeKey],
-    going: &Going,
+    going: &RemovalKind,
 ) -> Removed
     requires named { AreNamed table.old }
     requires once { AllPairs (λ (a b : Key). a ≢ b) keys.now }
@@ -139,7 +139,7 @@ pub fn remove_all(
     ensures strong { result.strong ≡ strong_count (nodes_with table.old keys.now) }
     ensures reserved { result.reserved ≡ reserved_count (nodes_with table.old keys.now) }
     ensures units { units.new.items
-        ≡ unreckoned table.old (nodes_with table.old keys.now) units.old.items }
+        ≡ uncounted_both table.old (nodes_with table.old keys.now) units.old.items }
     ensures stores { Stores table.old table.new (map (gone_by going.now)
         (nodes_with table.old keys.now)) }
     ensures over { result.over

@@ -3,7 +3,8 @@
 ghost use Rattle.std.specs.Prelude.{◌≡◌, ◌<◌, ◌≤◌, [], ◌∷◌, set, true, length, Some, OnOk};
 ghost use Rattle.node_table.specs.Table.{node_at, table_len};
 ghost use Rattle.forest_store.specs.declared.node.Node.{Node as NodeValue};
-ghost use Rattle.forest_store.specs.Counts.{Extends, decrement_if, head_above, head_of, hung, is_held_by, is_unready, no_unit, raised, reckoned, tallied, unit_at, with_below, with_node};
+ghost use Rattle.forest_store.specs.Counts.{Extends, decrement_if, head_above, head_of, counted_above, is_held_by, is_unready};
+ghost use Rattle.forest_store.specs.Counts.{no_unit, increment_if, counted_both, counted_own, unit_at, with_below, with_node};
 ghost use Rattle.forest_store.specs.CollectionRows.{nodes_with};
 ghost use Rattle.forest_store.specs.Questions.{is_live_node};
 
@@ -80,7 +81,7 @@ pub fn put_unit(units: &mut Vec<Unit>, slot: usize, unit: Unit)
 /// Makes the list reach to this slot. The slots that this adds count nothing. `NoMemory` comes where
 /// that was refused room; the counts are then what they were. Costs what is added, growth spread
 /// over the calls.
-pub fn reach(units: &mut Vec<Unit>, slot: usize) -> Result<(), NoMemory>
+pub fn grow_to(units: &mut Vec<Unit>, slot: usize) -> Result<(), NoMemory>
     ensures ok { OnOk result (slot < length units.new.items) }
     ensures extends { Extends units.old.items units.new.items }
 {
@@ -93,8 +94,8 @@ pub fn reach(units: &mut Vec<Unit>, slot: usize) -> Result<(), NoMemory>
 }
 
 /// One more, if it counts and there is room for it.
-fn raised(count: usize, is: bool) -> usize
-    ensures { result ≡ raised is count }
+fn increment_if(count: usize, is: bool) -> usize
+    ensures { result ≡ increment_if is count }
 {
     if is && count < usize::MAX {
         count + 1
@@ -112,8 +113,8 @@ fn count_unready(units: &mut Vec<Unit>, head: NodeKey)
     let slot = head.slot as usize;
     let unit = unit_in(units, slot);
     let more = Unit {
-        live: raised(unit.live, true),
-        unready: raised(unit.unready, true),
+        live: increment_if(unit.live, true),
+        unready: increment_if(unit.unready, true),
         below: unit.below,
     };
     put_unit(units, slot, more);
@@ -142,7 +143,7 @@ fn count_below(units: &mut Vec<Unit>, head: Option<NodeKey>)
         let more = Unit {
             live: unit.live,
             unready: unit.unready,
-            below: raised(unit.below, true),
+            below: increment_if(unit.below, true),
         };
         put_unit(units, slot, more);
     }
@@ -155,14 +156,14 @@ pub(crate) fn count_born(units: &mut Vec<Unit>, table: &NodeTable<Node>, node: &
     requires unready { is_unready node.now ≡ true }
     requires there { node_at table.now node.now.key ≡ Some node.now }
     ensures { units.new.items
-        ≡ reckoned table.now (nodes_with table.now (node.now.key ∷ [])) units.old.items }
+        ≡ counted_both table.now (nodes_with table.now (node.now.key ∷ [])) units.old.items }
 {
     count_unready(units, node.head);
     count_below(units, head_above(table, node));
 }
 
 /// No table has more nodes than a number can tell.
-pub fn bound(table: &NodeTable<Node>)
+pub fn assert_bounded(table: &NodeTable<Node>)
     ensures { table_len table.now ≤ 18446744073709551615 }
 {
     let _ = table.len();

@@ -282,8 +282,8 @@ module _ (pool : ℕ) (limits : Bound) (history : List Entry) (legal : IsLegal p
       let given : is_some (buffers_of now h.buffer.collection) ≡ true = placed_given pool now h on in
       let strong : open_total now h.buffer Strength.Strong ≡ 0 = none h.buffer Strength.Strong in
       let weak : open_total now h.buffer Strength.Weak ≡ 0 = none h.buffer Strength.Weak in
-      let dead : some_strong_live (members now h.buffer.collection) ≡ false = none_strong h.buffer.collection in
-      λ i. (given i && (strong i == 0 && not (dead i))) && weak i == 0
+      let not_kept : some_strong_live (members now h.buffer.collection) ≡ false = none_strong h.buffer.collection in
+      λ i. (given i && (strong i == 0 && not (not_kept i))) && weak i == 0
 
   -- so none is held
   pub none_held : ((buffer : BufferName) (strength : Strength) → open_total now buffer strength ≡ 0) → held pool now ≡ []

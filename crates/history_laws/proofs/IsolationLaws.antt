@@ -55,14 +55,14 @@ head_in (b ∷ older) sound together node born =
           let up : head (b ∷ older) node ≡ head older node = rw e refl in
           let here : collection_in (b ∷ older) node ≡ collection_in older node = rw e refl in
           let r = head_in older sound.2 together.1 node old in (
-            ap (was_born (b ∷ older)) up ∙ raised (head older node) r.0,
+            ap (was_born (b ∷ older)) up ∙ or_born (head older node) r.0,
             ap (collection_in (b ∷ older)) up ∙ (older_in b older (head older node) r.0 sound.0 ∙ (r.1 ∙ sym here)),
           )
     ]
   where
     -- an older birth stays among the births
-    raised : (k : NodeKey) → was_born older k ≡ true → was_born (b ∷ older) k ≡ true
-    raised k h = or_right (same_key b.node k) _ h
+    or_born : (k : NodeKey) → was_born older k ≡ true → was_born (b ∷ older) k ≡ true
+    or_born k h = or_right (same_key b.node k) _ h
 
     -- by cases: a head of its own is in its collection, and another node has its parent's head, which the older births know
     from : (a : Bool) (o : Option NodeKey) → IfSome o (λ p. was_born older p ≡ true) →
@@ -75,7 +75,7 @@ head_in (b ∷ older) sound together node born =
     from false None old there e next = rw e (refl, refl)
     from false (Some p) old there e next =
         let r = next p old in
-        (raised (head older p) r.0, older_in b older (head older p) r.0 sound.0 ∙ (r.1 ∙ there))
+        (or_born (head older p) r.0, older_in b older (head older p) r.0 sound.0 ∙ (r.1 ∙ there))
 
 -- a birth of the collection
 pub birth_of_collection : (marks : Timeline) (collection : ℕ) (b : Birth) → In b (births_in marks collection) → In b (births marks) ×

@@ -185,10 +185,10 @@ why_leaves pool collection marks w _ (No_live b on ours here none) = λ node bel
     (let s = stands marks collection w b on ours node below in
     let under : is_under b.node (member marks s.0) ≡ true =
     subst (λ (k : NodeKey). is_at_or_below (births marks) b.node k ≡ true) (sym s.2) below in
-    let dead : is_live (member marks s.0) ≡ false =
+    let not_kept : is_live (member marks s.0) ≡ false =
     none-In (is_under b.node) is_live (members marks collection) (member marks s.0) none s.1 under in
     let free' : gone marks s.0.node ≡ false = ap (gone marks) s.2 ∙ free in
-    released_spent marks node (ap (released marks) (sym s.2) ∙ not_live (gone marks s.0.node) (released marks s.0.node) dead free'))
+    released_spent marks node (ap (released marks) (sym s.2) ∙ not_live (gone marks s.0.node) (released marks s.0.node) not_kept free'))
 why_leaves pool collection marks w _ (Fails b cause on ours here) = tt
 why_leaves pool collection marks w _ (Initial b on ours root here waits found fits) = tt
 why_leaves pool collection marks w _ (Logical b on ours child here waits attached) = tt

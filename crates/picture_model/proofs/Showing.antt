@@ -31,7 +31,7 @@ use Rattle.forced_marks.specs.declared.moment.Moment.{Moment}
 use Rattle.forced_marks.specs.Marks.{laid_on}
 use Rattle.forced_marks.specs.Steps.{mark_told}
 use Rattle.event_facts.specs.declared.event.Event.{Event}
-use Rattle.event_texts.specs.Tellings.{IsEventOf}
+use Rattle.event_texts.specs.EventLines.{IsEventOf}
 use Rattle.picture_model.specs.declared.picture_state.PictureState.{PictureState}
 use Rattle.picture_model.specs.PictureStates.{KnowsKept, known_after, known_in}
 use Rattle.picture_model.specs.declared.picture.Tree.{Tree}

@@ -1,5 +1,6 @@
 -- All nodes that were ever born, as they were last seen, collection by collection.
-use Rattle.std.specs.Prelude.{ℕ, ◌≡◌, ◌==◌, ◌&&◌, not, Bool, true, false, if◌then◌else◌, List, [], ◌∷◌, ◌++◌, map, reverse, Option, Some, None, Vec}
+use Rattle.std.specs.Prelude.{ℕ, ◌≡◌, ◌==◌, ◌&&◌, not, Bool, true, false, if◌then◌else◌}
+use Rattle.std.specs.Prelude.{List, [], ◌∷◌, ◌++◌, map, reverse, Option, Some, None, Vec}
 use Rattle.std.specs.declared.alloc.Global.{Global}
 use Rattle.std.specs.BTreeMap.{get}
 use Rattle.std.specs.List.{list_any}
@@ -21,7 +22,7 @@ use Rattle.forced_marks.specs.declared.decision.Forced.{Forced}
 use Rattle.forced_marks.specs.declared.moment.Moment.{Moment}
 use Rattle.forced_marks.specs.Explanations.{climb}
 use Rattle.event_facts.specs.declared.event.Event.{Event}
-use Rattle.event_texts.specs.Tellings.{IsEventOf}
+use Rattle.event_texts.specs.EventLines.{IsEventOf}
 use Rattle.picture_model.specs.Seen.{named_in}
 use Rattle.picture_model.specs.declared.picture_state.PictureState.{PictureState}
 

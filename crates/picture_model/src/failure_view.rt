@@ -2,9 +2,10 @@
 ghost use Rattle.std.specs.Prelude.{◌≡◌, ◌++◌, [], IfOk, List, OnOk, map};
 ghost use Rattle.std.specs.List.{filter, fold};
 ghost use Rattle.forced_marks.specs.KeySets.{has};
-ghost use Rattle.picture_model.specs.declared.failure_view.Reached.{Reached as Fallen};
+ghost use Rattle.picture_model.specs.declared.failure_view.Reached.{Reached as Lost};
 ghost use Rattle.picture_model.specs.declared.failure_view.Travel.{Travel as Link};
-ghost use Rattle.picture_model.specs.Travels.{FindsReached, FindsTravels, climbed, failed, fallen, fallen_to, followed, generation_below as generation_under, generations_of as generations_in, has_parent as hangs, is_past, link_down, number_at as number_in, ones_of as ones_in, stopped, summed, sums_of, trace_in, travels_of, way_in, with_one};
+ghost use Rattle.picture_model.specs.Travels.{FindsReached, FindsTravels, climbed, failed, fallen, fallen_to, followed, generation_below as generation_under, generations_of as generations_in, has_parent as hangs};
+ghost use Rattle.picture_model.specs.Travels.{is_past, link_down, number_at as number_in, ones_of as ones_in, stopped, summed, sums_of, trace_in, travels_of, way_in, with_one};
 
 use crate::picture_state::last_key;
 use event_facts::failure_path::{find, way_up};
@@ -234,7 +235,7 @@ fn generations_of(taken: &Vec<Node>) -> Result<Vec<Reached>, AllocError>
 
 // The generation of a node whose parent is among these, and 0 for the top one.
 fn generation_below(above: &KeyMap<usize>, node: &Node) -> usize
-    ensures { (known : List Fallen) → FindsReached above.now known →
+    ensures { (known : List Lost) → FindsReached above.now known →
         result ≡ generation_under known node.now }
 {
     let Some(parent) = node.parent else {

@@ -12,8 +12,9 @@ ghost use Rattle.forest_store.specs.Forest.{node_at};
 ghost use Rattle.forest_store.specs.Nodes.{is_of, is_spent};
 ghost use Rattle.forced_marks.specs.declared.decision.Forced.{Forced};
 ghost use Rattle.forced_marks.specs.KeySets.{has};
-ghost use Rattle.event_texts.specs.Tellings.{IsEventOf};
-ghost use Rattle.picture_model.specs.PictureStates.{KnowsKept, after_mark, forgotten, known_after, known_in, left_below, left_if as left_as, marked, refreshed, seen_again, seen_for, top_of, walked, with_named, with_seen, with_told};
+ghost use Rattle.event_texts.specs.EventLines.{IsEventOf};
+ghost use Rattle.picture_model.specs.PictureStates.{KnowsKept, after_mark, forgotten, known_after, known_in, left_below, left_if as left_as, marked};
+ghost use Rattle.picture_model.specs.PictureStates.{refreshed, seen_again, seen_for, top_of, walked, with_named, with_seen, with_told};
 ghost use Rattle.picture_model.specs.Kin.{FindsNodes};
 ghost use Rattle.picture_model.specs.Seen.{named_in};
 

@@ -1,3 +1,3 @@
-pub mod Going
+pub mod Continuing
 pub mod Outcomes
 pub mod Playing

@@ -1,5 +1,6 @@
 -- What comes of drawing a script.
-use Rattle.std.specs.Prelude.{ℕ, ◌≡◌, ◌≢◌, ◌⊎◌, ◌+◌, ◌<◌, ◌≤◌, false, List, [], ◌∷◌, ◌++◌, length, Option, Some, None, Result, Ok, Err, MatchResult}
+use Rattle.std.specs.Prelude.{ℕ, ◌≡◌, ◌≢◌, ◌⊎◌, ◌+◌, ◌<◌, ◌≤◌, false, List, []}
+use Rattle.std.specs.Prelude.{◌∷◌, ◌++◌, length, Option, Some, None, Result, Ok, Err, MatchResult}
 use Rattle.std.specs.Io.KnownBytes.{Appends, Consumes, IsAtEnd, Keeps}
 use Rattle.sm_names.specs.declared.messages.Call.{Call}
 use Rattle.sm_names.specs.Marks.{Entry}
@@ -17,7 +18,7 @@ use Rattle.report_io.specs.Reasons.{IsReason, unended_reason}
 use Rattle.script_labels.specs.Names.{Names, act_in}
 use Rattle.sm_script.specs.Runs.{IsUnkept}
 use Rattle.sm_script.specs.Scenes.{Scene, Setting}
-use Rattle.event_texts.specs.Tellings.{IsEventOf}
+use Rattle.event_texts.specs.EventLines.{IsEventOf}
 use Rattle.picture_model.specs.declared.picture_state.PictureState.{PictureState}
 use Rattle.picture_model.specs.declared.picture.Picture.{Picture}
 use Rattle.picture_model.specs.PictureStates.{HasSeen, KnowsKept, known_in}

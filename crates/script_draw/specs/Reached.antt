@@ -16,7 +16,7 @@ use Rattle.sm_script.specs.Sessions.{IsAt, IsSameSetting}
 use Rattle.event_facts.specs.declared.event.Event.{Event}
 use Rattle.event_texts.specs.declared.event_writer.EventWriter.{EventWriter}
 use Rattle.event_texts.specs.Called.{Knows}
-use Rattle.event_texts.specs.Tellings.{IsEventOf}
+use Rattle.event_texts.specs.EventLines.{IsEventOf}
 use Rattle.picture_model.specs.PictureStates.{HasSeen, KnowsKept, known_after, known_in}
 use Rattle.picture_model.specs.Seen.{named_in}
 use Rattle.script_draw.specs.declared.draw.Scroll.{Scroll}
@@ -107,7 +107,8 @@ pub record PlayUnended (setting : Setting) (until : Until) (scroll : Scroll) (sc
 -- why a script was not played to its end, or to what is asked for
 abbrev pub PlayLinesHalt : Setting → Until → Scroll → List ℕ → ReportFault → Type 0
 PlayLinesHalt setting until scroll script (ReportFault.BadLine n reason) =
-    PlayHalts setting until scroll (whole_lines script) (ReportFault.BadLine n reason) ⊎ PlayUnended setting until scroll script n reason.items
+    PlayHalts setting until scroll (whole_lines script) (ReportFault.BadLine n reason) ⊎ PlayUnended setting until scroll script n
+        reason.items
 PlayLinesHalt setting until scroll script fault = PlayHalts setting until scroll (whole_lines script) fault
 
 -- what is asked for was reached; or it was not, and these are all lines

@@ -11,11 +11,12 @@ ghost use Rattle.sm_script.specs.Scenes.{Scene, Setting};
 ghost use Rattle.sm_script.specs.Sessions.{IsAt, IsSameSetting};
 ghost use Rattle.script_labels.specs.Tables.{Keeps};
 ghost use Rattle.event_texts.specs.Called.{Calls, Knows};
-ghost use Rattle.event_texts.specs.Tellings.{IsEventOf};
+ghost use Rattle.event_texts.specs.EventLines.{IsEventOf};
 ghost use Rattle.picture_model.specs.PictureStates.{HasSeen, KnowsKept, known_after, known_in};
 ghost use Rattle.script_draw.specs.Draws.{Draws, IsPicture, IsPictured, IsUnwritten, LinesDrawn, picture_in};
 ghost use Rattle.script_draw.specs.Played.{IsAhead, asked_number, found, is_reached, wanted};
-ghost use Rattle.script_draw.specs.Reached.{AsksFor, PlaysLine, PlayHalts, IsHeldUp, IsPlayedOn, PlayLinesHalt, LineMakesCall, MakesEvent, Reached, TakesIn, stops_at_line};
+ghost use Rattle.script_draw.specs.Reached.{AsksFor, PlaysLine, PlayHalts, IsHeldUp, IsPlayedOn};
+ghost use Rattle.script_draw.specs.Reached.{PlayLinesHalt, LineMakesCall, MakesEvent, Reached, TakesIn, stops_at_line};
 
 use event_facts::Event;
 use event_texts::EventWriter;

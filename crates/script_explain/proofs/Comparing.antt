@@ -18,13 +18,14 @@ use Rattle.sm_script.specs.Sessions.{IsAt, IsStopped}
 use Rattle.event_texts.specs.declared.event_writer.EventWriter.{EventWriter}
 use Rattle.event_texts.specs.Called.{Knows}
 use Rattle.event_texts.specs.Deeds.{KeptLines, Recalls, no_lines}
-use Rattle.event_texts.specs.Tellings.{TellsLine}
+use Rattle.event_texts.specs.EventLines.{TellsLine}
 use Rattle.script_explain.proofs.LineTold.{answers-in, tells-in}
 use Rattle.sm_script.proofs.Playing.{plays-more}
 use Rattle.script_explain.specs.declared.check.Comparison.{Comparison}
 use Rattle.script_explain.specs.declared.check.LineResult.{LineResult}
 use Rattle.script_explain.specs.declared.check.CheckResult.{CheckResult}
-use Rattle.script_explain.specs.Comparisons.{Agreement, Agrees, Begins, Checks, Difference, EndsChecked, Plays, Remarks, Replies, early_reason}
+use Rattle.script_explain.specs.Comparisons.{Agreement, Agrees, Begins, Checks, Difference}
+use Rattle.script_explain.specs.Comparisons.{EndsChecked, Plays, Remarks, Replies, early_reason}
 use Rattle.script_explain.specs.Comparisons.{FullAgreement, IsJudged, IsRemark, IsSaid, IsUnchecked, IsVerdict, ComparisonLinesStop}
 use Rattle.script_explain.specs.Comparisons.{TranscriptPlace, Records, ComparisonStopped, checking_status, lines_with, told_difference}
 use Rattle.script_explain.specs.Progress.{CheckHalted, Compared, Ended, comparison_place, lines_counted}

@@ -2,7 +2,7 @@ pub mod Answering
 pub mod CleanLabels
 pub mod CleanScenes
 pub mod Comparing
-pub mod Going
+pub mod Continuing
 pub mod LineTold
 pub mod Outcomes
 pub mod Seeing

@@ -4,7 +4,7 @@ use Rattle.sm_script.specs.Scenes.{ActGives, Answers, Scene}
 use Rattle.sm_script.specs.Sessions.{Advances, IsAt}
 use Rattle.event_texts.specs.declared.event_writer.EventWriter.{EventWriter}
 use Rattle.event_texts.specs.Deeds.{KeptLines}
-use Rattle.event_texts.specs.Tellings.{Tells, TellsAct, TellsLine}
+use Rattle.event_texts.specs.EventLines.{Tells, TellsAct, TellsLine}
 
 module _ (pool : ℕ) (event_writer next : EventWriter) where
   -- the line was answered, since the pool is that of the core

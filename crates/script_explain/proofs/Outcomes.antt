@@ -17,7 +17,7 @@ use Rattle.script_explain.specs.declared.seen.Seen.{Seen}
 use Rattle.script_explain.specs.Explanations.{EndsExplained, Explains, ExplanationCutOff, IsExplained, IsUnexplained}
 use Rattle.script_explain.specs.Explanations.{ExplanationLinesStop, LinesTold, WholeTold, explaining_status}
 use Rattle.script_explain.specs.Progress.{Halted, IsHalted, LinesHalted, ExplainedSoFar}
-use Rattle.script_explain.specs.Tales.{Begins}
+use Rattle.script_explain.specs.ExplainedLines.{Begins}
 use Rattle.script_explain.proofs.Telling.{far-pending, pending-cut, pending-told}
 use Rattle.report_io.specs.Reasons.{unended_reason}
 

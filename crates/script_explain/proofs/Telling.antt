@@ -18,14 +18,14 @@ use Rattle.event_texts.specs.declared.event_writer.EventWriter.{EventWriter}
 use Rattle.event_texts.specs.Called.{Knows}
 use Rattle.event_texts.specs.Failing.{failures}
 use Rattle.event_texts.specs.Deeds.{KeptLines, Recalls, no_lines}
-use Rattle.event_texts.specs.Tellings.{TellsLine}
+use Rattle.event_texts.specs.EventLines.{TellsLine}
 use Rattle.script_explain.proofs.LineTold.{answers-in, tells-in}
 use Rattle.sm_script.proofs.Playing.{plays-more}
 use Rattle.script_explain.proofs.Seeing.{failing-more}
 use Rattle.script_explain.specs.Explanations.{ExplanationCutOff, IsExplained}
 use Rattle.script_explain.specs.declared.seen.Seen.{Seen}
 use Rattle.script_explain.specs.Progress.{Halted, IsPending, ExplainedSoFar, failing_since, told_between}
-use Rattle.script_explain.specs.Tales.{ExplainsLines, Begins, Passes, Goes, if_told, is_told, numbered_facts, told_line}
+use Rattle.script_explain.specs.ExplainedLines.{ExplainsLines, Begins, Passes, Goes, if_told, is_told, numbered_facts, told_line}
 use Rattle.script_labels.specs.Names.{act_in}
 
 -- the lines that are not indented are played, one after another

@@ -14,7 +14,7 @@ use Rattle.event_texts.specs.Deeds.{KeptLines}
 use Rattle.event_texts.specs.Failing.{failing_events}
 use Rattle.event_texts.specs.SummaryTexts.{summary_text}
 use Rattle.script_explain.specs.Explanations.{IsSummaryIf}
-use Rattle.script_explain.specs.Tales.{ExplainsLines, Begins, Passes, Goes, indent, numbered_facts, replies_in, told_line}
+use Rattle.script_explain.specs.ExplainedLines.{ExplainsLines, Begins, Passes, Goes, indent, numbered_facts, replies_in, told_line}
 use Rattle.script_explain.proofs.CleanLabels.{and-left, and-right, inner-append, is_inner}
 use Rattle.script_explain.proofs.CleanScenes.{AreClean, IsReply, NoReply, OneReply, answers-clean}
 use Rattle.report_io.proofs.Unindented.{unindented-more, unindented-skip}

@@ -1,5 +1,6 @@
 -- What comes of comparing a transcript.
-use Rattle.std.specs.Prelude.{◌≡◌, ◌≢◌, ◌⊎◌, ℕ, ◌+◌, ◌<◌, ◌≤◌, ◌==◌, if◌then◌else◌, true, false, List, [], ◌∷◌, ◌++◌, codes, decimal, drop, length, None, Ok, Err, Option, Result, MatchResult}
+use Rattle.std.specs.Prelude.{◌≡◌, ◌≢◌, ◌⊎◌, ℕ, ◌+◌, ◌<◌, ◌≤◌, ◌==◌, if◌then◌else◌, true, false, List}
+use Rattle.std.specs.Prelude.{[], ◌∷◌, ◌++◌, codes, decimal, drop, length, None, Ok, Err, Option, Result, MatchResult}
 use Rattle.std.specs.Io.KnownBytes.{Appends, Consumes, IsAtEnd, Keeps}
 use Rattle.script_lines.specs.declared.TheConstants.{MOST_BYTES}
 use Rattle.script_lines.specs.Pieces.{whole_lines, last_part}
@@ -13,7 +14,7 @@ use Rattle.script_labels.specs.Names.{act_in}
 use Rattle.sm_script.specs.Runs.{IsUnkept}
 use Rattle.sm_script.specs.Scenes.{Answers, LeadsTo, Scene, Setting, as_line, first_scene}
 use Rattle.event_texts.specs.Deeds.{KeptLines, no_lines}
-use Rattle.event_texts.specs.Tellings.{Tells}
+use Rattle.event_texts.specs.EventLines.{Tells}
 use Rattle.script_explain.specs.declared.check.CheckResult.{CheckResult}
 
 -- the line says nothing: it begins with four spaces

@@ -1,5 +1,6 @@
 -- What an explanation of a script leaves.
-use Rattle.std.specs.Prelude.{◌≡◌, ◌≢◌, ◌⊎◌, ℕ, ◌+◌, ◌<◌, ◌≤◌, Bool, true, false, List, [], ◌∷◌, ◌++◌, length, None, Ok, Err, Option, Result, MatchResult}
+use Rattle.std.specs.Prelude.{◌≡◌, ◌≢◌, ◌⊎◌, ℕ, ◌+◌, ◌<◌, ◌≤◌, Bool, true, false}
+use Rattle.std.specs.Prelude.{List, [], ◌∷◌, ◌++◌, length, None, Ok, Err, Option, Result, MatchResult}
 use Rattle.std.specs.Io.KnownBytes.{Appends, Consumes, IsAtEnd, Keeps}
 use Rattle.script_lines.specs.declared.TheConstants.{MOST_BYTES}
 use Rattle.script_lines.specs.Pieces.{whole_lines, last_part}
@@ -17,7 +18,7 @@ use Rattle.event_texts.specs.Deeds.{KeptLines}
 use Rattle.event_texts.specs.Failing.{failing_events}
 use Rattle.event_texts.specs.SummaryTexts.{summary_text}
 use Rattle.script_explain.specs.declared.explain.Scope.{Scope}
-use Rattle.script_explain.specs.Tales.{ExplainsLines}
+use Rattle.script_explain.specs.ExplainedLines.{ExplainsLines}
 
 -- the text explains these lines: their replies are those of a legal history whose calls are those of the lines that are not
 -- indented, and their facts those of its events

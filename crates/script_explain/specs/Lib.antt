@@ -1,4 +1,4 @@
 pub mod Comparisons
 pub mod Explanations
 pub mod Progress
-pub mod Tales
+pub mod ExplainedLines

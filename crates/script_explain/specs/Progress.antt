@@ -1,5 +1,6 @@
 -- How far an explanation and a comparison have come. No public clause cites this module.
-use Rattle.std.specs.Prelude.{◌≡◌, ◌≢◌, ◌⊎◌, ℕ, ◌+◌, ◌-◌, ◌^◌, min, ◌==◌, ◌||◌, not, if◌then◌else◌, Bool, false, List, [], ◌∷◌, ◌++◌, length, Option}
+use Rattle.std.specs.Prelude.{◌≡◌, ◌≢◌, ◌⊎◌, ℕ, ◌+◌, ◌-◌, ◌^◌, min, ◌==◌, ◌||◌}
+use Rattle.std.specs.Prelude.{not, if◌then◌else◌, Bool, false, List, [], ◌∷◌, ◌++◌, length, Option}
 use Rattle.std.specs.Io.KnownBytes.{Appends}
 use Rattle.script_lines.specs.Pieces.{whole_lines, last_part}
 use Rattle.script_lines.specs.Written.{WritesPart}
@@ -17,7 +18,7 @@ use Rattle.script_explain.specs.declared.check.LineResult.{LineResult}
 use Rattle.script_explain.specs.declared.seen.Seen.{Seen}
 use Rattle.script_explain.specs.Comparisons.{Agrees, Difference, IsUnchecked, TranscriptPlace}
 use Rattle.script_explain.specs.Explanations.{Explanation, ExplanationCutOff, ExplanationFault}
-use Rattle.script_explain.specs.Tales.{ExplainsLines, if_told, numbered_facts, told_line}
+use Rattle.script_explain.specs.ExplainedLines.{ExplainsLines, if_told, numbered_facts, told_line}
 
 -- ---- explanations
 

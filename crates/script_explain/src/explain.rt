@@ -1,7 +1,8 @@
 //! Each line of a script with its reply, and indented the facts of its event. A line is explained
 //! in a buffer of its own, which is then appended to the text: if memory is refused, the text still
 //! ends with a whole line.
-ghost use Rattle.std.specs.Prelude.{◌≡◌, ◌==◌, ◌||◌, not, ◌^◌, ◌<◌, ◌≤◌, ◌+◌, [], ◌∷◌, ◌++◌, Bool, List, ℕ, Option, IfErr, IfOk, OnErr, OnOk, length};
+ghost use Rattle.std.specs.Prelude.{◌≡◌, ◌==◌, ◌||◌, not, ◌^◌, ◌<◌, ◌≤◌, ◌+◌, [], ◌∷◌};
+ghost use Rattle.std.specs.Prelude.{◌++◌, Bool, List, ℕ, Option, IfErr, IfOk, OnErr, OnOk, length};
 ghost use Rattle.std.specs.Io.KnownBytes.{Appends};
 ghost use Rattle.script_lines.specs.Pieces.{last_part, whole_lines};
 ghost use Rattle.script_lines.specs.Written.{WritesPart};
@@ -9,10 +10,10 @@ ghost use Rattle.sm_script.specs.Scenes.{Scene, Setting, first_scene};
 ghost use Rattle.sm_script.specs.Sessions.{IsAt, IsStopped};
 ghost use Rattle.event_texts.specs.Called.{Knows};
 ghost use Rattle.event_texts.specs.Deeds.{KeptLines, Recalls};
-ghost use Rattle.event_texts.specs.Tellings.{TellsLine};
+ghost use Rattle.event_texts.specs.EventLines.{TellsLine};
 ghost use Rattle.script_explain.specs.Explanations.{Explains, LinesTold, WholeTold};
 ghost use Rattle.script_explain.specs.Progress.{Explained, Halted, LinesHalted, ExplainedSoFar, failing_since, told_between};
-ghost use Rattle.script_explain.specs.Tales.{indent, line_with_reply, numbered_facts, told_line};
+ghost use Rattle.script_explain.specs.ExplainedLines.{indent, line_with_reply, numbered_facts, told_line};
 
 use crate::seen::Seen;
 use crate::summary::put_summary;

@@ -5,7 +5,7 @@ ghost use Rattle.script_lines.specs.Pieces.{last_part, whole_lines};
 ghost use Rattle.sm_script.specs.Scenes.{Setting};
 ghost use Rattle.script_explain.specs.declared.explain.Scope.{Scope};
 ghost use Rattle.script_explain.specs.Explanations.{Explanation, Whole};
-ghost use Rattle.script_explain.specs.Tales.{replies_in};
+ghost use Rattle.script_explain.specs.ExplainedLines.{replies_in};
 
 /// The text that explains each line of a script consists of whole lines. Those that are not indented are the script's
 /// own that are not indented; those that begin with two spaces and no more, without these, are what

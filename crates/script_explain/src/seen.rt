@@ -4,7 +4,7 @@ ghost use Rattle.sm_script.specs.Scenes.{Scene, first_scene};
 ghost use Rattle.sm_script.specs.Sessions.{IsAt, IsStopped};
 ghost use Rattle.event_texts.specs.Called.{Knows};
 ghost use Rattle.event_texts.specs.Deeds.{KeptLines, Recalls, no_lines};
-ghost use Rattle.event_texts.specs.Tellings.{TellsLine};
+ghost use Rattle.event_texts.specs.EventLines.{TellsLine};
 ghost use Rattle.script_explain.specs.Progress.{failing_since};
 
 use event_texts::EventWriter;

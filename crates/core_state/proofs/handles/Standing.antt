@@ -65,35 +65,35 @@ module _ (call : Call) (asked : Reply) (task : Option EventTask) (tracking : Opt
 
 -- a Shut and a Collect open and give nothing, make no tracker, change no collection and admit no client
 record IsQuiet (s : State) (client : ℕ) (call : Call) (asked : Reply) : Type 0 where
-  hands : takes_handle_room call asked ≡ false
+  handle_moves : takes_handle_room call asked ≡ false
   tracks : tracker_by s.forest call asked ≡ None
   work : work_of s client call asked ≡ None
   room : takes_room call asked ≡ false
 
 -- a Shut needs no room, attaches no tracker and changes no collection, whatever its reply is
 shut_is_quiet : (s : State) (client : ℕ) (asked : Reply) → IsQuiet s client Call.Shut asked
-shut_is_quiet s client Reply.Done = record { hands = refl; tracks = refl; work = refl; room = refl }
-shut_is_quiet s client (Reply.Token key collection) = record { hands = refl; tracks = refl; work = refl; room = refl }
-shut_is_quiet s client (Reply.Misused misuse) = record { hands = refl; tracks = refl; work = refl; room = refl }
-shut_is_quiet s client (Reply.Taken collection strength set) = record { hands = refl; tracks = refl; work = refl; room = refl }
-shut_is_quiet s client (Reply.Tracker id) = record { hands = refl; tracks = refl; work = refl; room = refl }
-shut_is_quiet s client _ = record { hands = refl; tracks = refl; work = refl; room = refl }
+shut_is_quiet s client Reply.Done = record { handle_moves = refl; tracks = refl; work = refl; room = refl }
+shut_is_quiet s client (Reply.Token key collection) = record { handle_moves = refl; tracks = refl; work = refl; room = refl }
+shut_is_quiet s client (Reply.Misused misuse) = record { handle_moves = refl; tracks = refl; work = refl; room = refl }
+shut_is_quiet s client (Reply.Taken collection strength set) = record { handle_moves = refl; tracks = refl; work = refl; room = refl }
+shut_is_quiet s client (Reply.Tracker id) = record { handle_moves = refl; tracks = refl; work = refl; room = refl }
+shut_is_quiet s client _ = record { handle_moves = refl; tracks = refl; work = refl; room = refl }
 
 -- a Collect needs no room, attaches no tracker and changes no collection, whatever its reply is
 collect_is_quiet : (s : State) (client : ℕ) (asked : Reply) → IsQuiet s client Call.Collect asked
-collect_is_quiet s client Reply.Done = record { hands = refl; tracks = refl; work = refl; room = refl }
-collect_is_quiet s client (Reply.Token key collection) = record { hands = refl; tracks = refl; work = refl; room = refl }
-collect_is_quiet s client (Reply.Misused misuse) = record { hands = refl; tracks = refl; work = refl; room = refl }
-collect_is_quiet s client (Reply.Taken collection strength set) = record { hands = refl; tracks = refl; work = refl; room = refl }
-collect_is_quiet s client (Reply.Tracker id) = record { hands = refl; tracks = refl; work = refl; room = refl }
-collect_is_quiet s client _ = record { hands = refl; tracks = refl; work = refl; room = refl }
+collect_is_quiet s client Reply.Done = record { handle_moves = refl; tracks = refl; work = refl; room = refl }
+collect_is_quiet s client (Reply.Token key collection) = record { handle_moves = refl; tracks = refl; work = refl; room = refl }
+collect_is_quiet s client (Reply.Misused misuse) = record { handle_moves = refl; tracks = refl; work = refl; room = refl }
+collect_is_quiet s client (Reply.Taken collection strength set) = record { handle_moves = refl; tracks = refl; work = refl; room = refl }
+collect_is_quiet s client (Reply.Tracker id) = record { handle_moves = refl; tracks = refl; work = refl; room = refl }
+collect_is_quiet s client _ = record { handle_moves = refl; tracks = refl; work = refl; room = refl }
 
 -- a quiet event takes no memory, since none of the four reasons to take some applies
 quiet_takes_none : (s : State) (client : ℕ) (call : Call) (asked : Reply) (task : Option EventTask) (tracking : Option Waiting) →
     IsQuiet s client call asked → work_in task ≡ work_of s client call asked → tracking ≡ tracker_by s.forest call asked →
     may_take_memory call asked task tracking ≡ false
 quiet_takes_none s client call asked task tracking quiet work tracks =
-    rw (quiet.hands, tracks ∙ quiet.tracks, work ∙ quiet.work, quiet.room) refl
+    rw (quiet.handle_moves, tracks ∙ quiet.tracks, work ∙ quiet.work, quiet.room) refl
 
 -- they take no memory
 pub takes_none : (s : State) (client : ℕ) (call : Call) (asked : Reply) (task : Option EventTask) (tracking : Option Waiting) →

@@ -50,12 +50,12 @@ strong_members nodes =
 -- so the nodes that are over tell nothing of it
 strong_kept : (nodes : List Node) → list_any is_strong_live (filter (λ n. not (is_unkept n)) nodes) ≡ list_any is_strong_live nodes
 strong_kept nodes = any-left is_strong_live (λ n. not (is_unkept n)) nodes
-    (λ n on over. dead n.gone n.released n.weak (is_spent n.end) over)
+    (λ n on over. not_kept n.gone n.released n.weak (is_spent n.end) over)
   where
     -- by cases: a strong node that is over is gone
-    dead : (g r w s : Bool) → not (g && s) ≡ false → ((not g && not r) && not w) ≡ false
-    dead true r w s over = refl
-    dead false r w s over = cc
+    not_kept : (g r w s : Bool) → not (g && s) ≡ false → ((not g && not r) && not w) ≡ false
+    not_kept true r w s over = refl
+    not_kept false r w s over = cc
 
 -- the kept nodes of a collection tell whether some node of it is live and strong
 pub strong_live_is : (pool : ℕ) (marks : Timeline) (collection : ℕ) →

@@ -12,7 +12,8 @@ ghost use Rattle.event_texts.specs.Deeds.{KeptLines, Recalls};
 ghost use Rattle.event_texts.specs.EventTexts.{kept_text, since_text};
 ghost use Rattle.event_texts.specs.LostLines.{since_line};
 ghost use Rattle.event_texts.specs.MarkTexts.{allocated_text, mark_text, marks_text};
-ghost use Rattle.event_texts.specs.Tellings.{TellsFacts, buffer_if_done, buffers_text, changed_text, dropped_buffer, facts_text, keepers_text, kept_dropped_text, kept_left_text, kept_one_text, node_waits, pending_text, reasons_text, waiting_text, who_keeps};
+ghost use Rattle.event_texts.specs.EventLines.{TellsFacts, buffer_if_done, buffers_text, changed_text, dropped_buffer, facts_text, keepers_text};
+ghost use Rattle.event_texts.specs.EventLines.{kept_dropped_text, kept_left_text, kept_one_text, node_waits, pending_text, reasons_text, waiting_text, who_keeps};
 
 use super::{EventWriter, KeptLine};
 use crate::allocations::{push_initial, push_logical};

@@ -51,11 +51,11 @@ module _ {c : Collection} {falls : NodeKey → Bool} {top above : Node} (way : A
       ])
 
   -- so is the unit below whose node it hangs
-  hung_above : (x : Node) → In x nodes → x.gone ≡ false → falls x.key ≡ true → (h : NodeKey) → falls h ≡ false → (o : Option NodeKey) →
+  counts_above_it : (x : Node) → In x nodes → x.gone ≡ false → falls x.key ≡ true → (h : NodeKey) → falls h ≡ false → (o : Option NodeKey) →
       x.parent ≡ o →
       option_map_or (λ p. list_any (λ (q : Node). is_of p q && same_key q.head h) nodes) o false ≡ true → h ≡ above.head
-  hung_above x on here f h out None is hangs = cc
-  hung_above x on here f h out (Some p) is hangs =
+  counts_above_it x on here f h out None is hangs = cc
+  counts_above_it x on here f h out (Some p) is hangs =
       let y = In-list_any (λ (q : Node). is_of p q && same_key q.head h) nodes hangs in
       let key : y.0.key ≡ p = same_key-true y.0.key p (and_left (is_of p y.0) _ y.2) in
       let unit : y.0.head ≡ h = same_key-true y.0.head h (and_right (is_of p y.0) _ y.2) in
@@ -101,7 +101,7 @@ module _ {c : Collection} {falls : NodeKey → Bool} {top above : Node} (way : A
           | inl own ↦
               (crossed x on here e _
               (same_key-true _ _ (and_left (same_key x.head m.key) _ own)) out).0
-          | inr under ↦ hung_above x on here e _ out _ refl (and_right x.attached _ under)
+          | inr under ↦ counts_above_it x on here e _ out _ refl (and_right x.attached _ under)
         ])
 
     -- what held the unit is left, unless it hung on the unit above

@@ -161,8 +161,8 @@ module _ {t : Table Node} {us : List Unit} {ss : List CollectionRow} {e : Entry}
     where
       from : (o : Option NodeKey) → h.parent ≡ o → option_and_then (λ p. unkept_at (node_at t p)) o ≡ Some over → IsAbove nodes h over
       from None none h = cc
-      from (Some p) hung h =
-          let x = left_node _ p (left_parent _ (whole_under ok).rooted _ p on here hung) in
+      from (Some p) counted_above h =
+          let x = left_node _ p (left_parent _ (whole_under ok).rooted _ p on here counted_above) in
           let w = when-Some _ _ _ (sym (ap unkept_at (ap (node_at t) (sym x.is) ∙ at _ x.on)) ∙ h) in
           let once = and_right _ _ w.0 in
           let r = head_there (whole_under ok) _ x.on x.here in
@@ -170,7 +170,7 @@ module _ {t : Table Node} {us : List Unit} {ss : List CollectionRow} {e : Entry}
           record {
             above = x.node;
             above_on = x.on;
-            up = hung ∙ ap Some (sym x.is);
+            up = counted_above ∙ ap Some (sym x.is);
             above_here = x.here;
             node = r.0;
             on = r.1;
@@ -187,7 +187,7 @@ module _ {t : Table Node} {us : List Unit} {ss : List CollectionRow} {e : Entry}
   -- and ends there only where something else holds the unit above
   closed : (top : Node) → In top nodes → top.gone ≡ false → unit_over t us top.key ≡ None → (y q : Node) → In y nodes → In q nodes →
       top.parent ≡ Some q.key → q.head ≡ y.key → times (lives_in y.key) nodes ≡ 0 → times (heads_below nodes y.key) nodes ≡ 1 → ⊥
-  closed top on here last y q y_on q_on hung unit live below =
+  closed top on here last y q y_on q_on counted_above unit live below =
       let there : is_some (node_at t q.head) ≡ true = ap is_some (ap (node_at t) unit ∙ at y y_on) in
       let counts : unit_at us q.head.slot ≡ unit_of nodes y.key = ap (λ (k : NodeKey). unit_at us k.slot) unit ∙ unit_told ok y y_on in
       let none_live : ((unit_at us q.head.slot).live == 0) ≡ true =
@@ -196,7 +196,7 @@ module _ {t : Table Node} {us : List Unit} {ss : List CollectionRow} {e : Entry}
       eq-eqb _ 1 (ap (λ (u : Unit). u.below) counts ∙ below) in
       let once : is_held_once t us q ≡ true = and_both _ _ there (and_both _ _ none_live one_below) in
       let some : unit_over t us top.key ≡ Some q.head =
-      over_by top on here ∙ ap (option_and_then (λ p. unkept_at (node_at t p))) hung ∙ ap unkept_at (at q q_on)
+      over_by top on here ∙ ap (option_and_then (λ p. unkept_at (node_at t p))) counted_above ∙ ap unkept_at (at q q_on)
       ∙ ap (λ b. when b q.head) once in
       let no : Some q.head ≡ None = sym some ∙ last in
       cc

@@ -14,7 +14,7 @@ use Rattle.forest_steps.proofs.tables.Upward.{line, step, shorter, in_unit_below
 use Rattle.forest_steps.proofs.tables.Upward.{below_self, below_parent, still_here, up, chain}
 use Rattle.sm_names.proofs.ListLaws.{times-zero}
 use Rattle.forest_store.specs.Questions.{lives_below}
-use Rattle.forest_store.proofs.tallies.Holding.{dead_deserted}
+use Rattle.forest_store.proofs.tallies.Holding.{not_kept_deserted}
 use Rattle.sm_names.specs.Words.{last_match}
 use Rattle.forest_store.proofs.tables.Rooted.{line_among}
 
@@ -218,9 +218,9 @@ module _ {c : Collection} (whole : IsWhole c) where
       and_both _ _ (ap not here) (and_both _ _ attached (hangs k x q above on is unit))
 
   -- by cases on the parent: one is found
-  hung : (k : NodeKey) (x : Node) → hangs_in nodes k x ≡ true →
+  counted_above : (k : NodeKey) (x : Node) → hangs_in nodes k x ≡ true →
       (p : NodeKey) × (x.parent ≡ Some p) × (q : Node) × In q nodes × (q.key ≡ p) × (q.head ≡ k)
-  hung k x h = from x.parent refl h
+  counted_above k x h = from x.parent refl h
     where
       from : (o : Option NodeKey) → x.parent ≡ o →
           option_map_or (λ p. list_any (λ (q : Node). is_of p q && same_key q.head k) nodes) o false ≡ true →
@@ -325,7 +325,7 @@ module _ {c : Collection} (whole : IsWhole c) where
     -- below the highest, what hangs in a unit hangs in one of these
     inner : (k : NodeKey) → is_one keys k ≡ false → (x : Node) → In x nodes → is_one keys x.key ≡ true → same_key x.key top.key ≡ false →
         hangs_in nodes k x ≡ true → ⊥
-    inner k alive x there unkept lower h = grind (arith, hung)
+    inner k alive x there unkept lower h = grind (arith, counted_above)
 
     -- so something else holds each unit but these
     at_top : (y : Node) → In y nodes → is_one keys y.key ≡ false → top.attached ≡ true → hangs_in nodes y.key top ≡ true →
@@ -344,7 +344,7 @@ module _ {c : Collection} (whole : IsWhole c) where
             );
           }
       | inr e ↦
-          let u = hung _ top h in
+          let u = counted_above _ top h in
           let x = other_counts (heads_below nodes y.key) nodes whole.sound.distinct top unheld.on
           (counts _ top u.2 unheld.here attached u.1 u.3 u.4 u.5)
           (λ is. out y u.2 on u.3 (u.1 ∙ ap Some (sym u.4)) u.5 (none_counts (lives_in y.key) nodes e) is) in
@@ -417,7 +417,7 @@ module _ {c : Collection} (whole : IsWhole c) where
               In-any (lives_below nodes y.key) _ x.node x.on (and_both _ _ (and_both _ _ (ap not x.here) (ap not l.1))
               (subst (λ k. is_below nodes k x.node.key ≡ true) l.0 (in_unit_below whole x.node x.on x.here)))
           | inr b ↦
-              let u = hung y.key x.node b.2 in
+              let u = counted_above y.key x.node b.2 in
               let p : NodeKey = u.0 in
               let q : Node = u.2 in
               let left : is_left_of nodes p ≡ true = left_parent _ whole.rooted x.node p x.on x.here u.1 in
@@ -445,7 +445,7 @@ module _ {c : Collection} (whole : IsWhole c) where
     -- the highest is the first that is deserted
     deserted : is_deserted_node nodes top ≡ true
     deserted =
-        dead_deserted _ whole.sound.distinct whole.sound.heads whole.rooted whole.united _ unheld.still unheld.under top
+        not_kept_deserted _ whole.sound.distinct whole.sound.heads whole.rooted whole.united _ unheld.still unheld.under top
         unheld.on unheld.here unheld.head unheld.own
 
     -- the top is deserted

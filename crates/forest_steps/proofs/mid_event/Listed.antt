@@ -4,7 +4,7 @@ use Rattle.forest_steps.proofs.Common.{Some, None, arith, not-true, find, list_a
 use Rattle.forest_steps.proofs.Common.{same_key, In, and_left, and_right, both_ways, either_way, false_if, same_key-true, Table}
 use Rattle.forest_steps.proofs.Common.{node_at, parent_at, Effect, Node, affected, IsStored, CollectionRow, nodes_with, reserved_count}
 use Rattle.forest_steps.proofs.Common.{same_key-equal, Contains-from_any, list_any-from_Contains, filter_map, greatest, Writes}
-use Rattle.forest_steps.proofs.Common.{Below, Top, Within, stopped_at, Going, late_failure, demands_of, is_in_unit, same_affected}
+use Rattle.forest_steps.proofs.Common.{Below, Top, Within, stopped_at, RemovalKind, late_failure, demands_of, is_in_unit, same_affected}
 use Rattle.forest_steps.proofs.Common.{in_looked, IsBareHead, key_listed, head_own, in_all, looked_there, in_row, camped_sum}
 use Rattle.forest_steps.proofs.Common.{and-false, ◌↔◌, Contains, refusal, IsUnitListed, asked_there, parents-written, amount_within}
 use Rattle.forest_steps.proofs.tables.Upward.{own_head, by_unit}
@@ -88,7 +88,7 @@ module _ {t : Table Node} {ss : List CollectionRow} (kept : IsStored t ss) {s : 
 
   -- the same, said of a key
   pub key_within : {n : Node} → node_at t n.key ≡ Some n → list_any (same_key n.key) ks ≡ true → In n nodes
-  key_within {n} is h = within n (in_looked t kept.named Going.Leaves ks n is h)
+  key_within {n} is h = within n (in_looked t kept.named RemovalKind.Leaves ks n is h)
 
   -- ---- what they ask for
 
@@ -112,7 +112,7 @@ module _ {t : Table Node} {ss : List CollectionRow} (kept : IsStored t ss) {s : 
         | inl e ↦ e
         | inr e ↦ both_ways _ (asks_passes _ _ x.2) (outside x.0 x.1 e)
       ] in
-      rw below_asks (asked_back _ _ x.0 (in_looked t kept.named Going.Leaves ks x.0 (at_key kept found x.0 x.1) listed_there) x.2)
+      rw below_asks (asked_back _ _ x.0 (in_looked t kept.named RemovalKind.Leaves ks x.0 (at_key kept found x.0 x.1) listed_there) x.2)
 
   -- each listed demand is that of a node of the unit
   more : (d : Demand) → In d asked → In d (demands_of (is_in_unit k) nodes)

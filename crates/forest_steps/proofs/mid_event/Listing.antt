@@ -4,7 +4,7 @@ use Rattle.forest_steps.proofs.Common.{inr, get_or, length, List, [], ◌∷◌,
 use Rattle.forest_steps.proofs.Common.{find, list_any, option_map_or, NodeKey, same_key, In-list_any, In-map, In-map-back, and_both}
 use Rattle.forest_steps.proofs.Common.{and_left, and_right, both_ways, either_way, false_if, or_cases, or_right, same_key-refl}
 use Rattle.forest_steps.proofs.Common.{same_key-true, some-injective, In-any, Table, node_at, parent_at, Entry, Node, Unit, AreUnits}
-use Rattle.forest_steps.proofs.Common.{unit_at, IsStored, CollectionRow, collection_in, nodes_with, row_of, Below, Top, Within, Going}
+use Rattle.forest_steps.proofs.Common.{unit_at, IsStored, CollectionRow, collection_in, nodes_with, row_of, Below, Top, Within, RemovalKind}
 use Rattle.forest_steps.proofs.Common.{HasUnits, Hangs, Roots, is_head_at, is_waiting_head, in_looked, key_listed, node_there, in_row}
 use Rattle.forest_steps.proofs.Common.{slice_get, In-get_or, PendingUnit, AreHeads, IsGathered, hangs_below, is_ready_head, AreClosed}
 use Rattle.forest_steps.proofs.Common.{ArePlacedIfThere, AreTurns, MidEvent, is_head_left, turn_heads, eq-eqb}
@@ -140,7 +140,7 @@ module _ {t : Table Node} {ss : List CollectionRow} (kept : IsStored t ss) {s : 
         let m = node_there _ _ x.2 in
         let key : m.0.key ≡ x.0 = kept.named x.0 m.0 m.1 in
         let is : node_at t m.0.key ≡ Some m.0 = ap (node_at t) key ∙ m.1 in
-        let on : In m.0 nodes = in_looked t kept.named Going.Leaves _ m.0 is
+        let on : In m.0 nodes = in_looked t kept.named RemovalKind.Leaves _ m.0 is
         (In-any _ _ x.0 x.1 (subst (λ j. same_key m.0.key j ≡ true) key (same_key-refl m.0.key))) in
         let hangs : hangs_below t us hs m.0 ≡ true = and_left _ _ m.2 in
         let ready : is_ready_head us s.id m.0 ≡ true = and_both _ _ (eq-eqb _ _ (of_it kept found m.0 on))

@@ -2,7 +2,8 @@
 use Rattle.forest_steps.proofs.Common.{◌≡◌, refl, ap, sym, ◌∙◌, subst, Bool, true, false, not, ◌&&◌, ◌||◌, ◌⊎◌, inl, inr, List, [], ◌∷◌}
 use Rattle.forest_steps.proofs.Common.{Option, Some, None, not-true, list_any, option_map_or, NodeKey, same_key, In, In-list_any}
 use Rattle.forest_steps.proofs.Common.{In-map, In-map-back, and_both, and_left, and_right, either_way, same_key-true, all_on, In-any}
-use Rattle.forest_steps.proofs.Common.{Table, Effect, Entry, Node, Unit, waiting, Collection, IsWhole, CollectionRow, collection_in, nodes_with}
+use Rattle.forest_steps.proofs.Common.{Table, Effect, Entry, Node, Unit}
+use Rattle.forest_steps.proofs.Common.{waiting, Collection, IsWhole, CollectionRow, collection_in, nodes_with}
 use Rattle.forest_steps.proofs.Common.{row_of, is_of, Handles, Settles, is_head, arith, Fault, or_none_right, after_end, after_loss}
 use Rattle.forest_steps.proofs.Common.{ended, all-In, found_whole, distinct_one, IsSameNode, or_first, after_effect, AreOrEnd}
 use Rattle.forest_steps.proofs.Common.{AfterEffect, IsBeside, AfterLoss, AfterSteps, PropagatedFrom, AfterPropagation, MidEvent}
@@ -18,12 +19,12 @@ use Rattle.forest_steps.proofs.mid_event.RootLost.{ready_root}
 pub played_lost : {handles : Handles} {t now : Table Node} {us : List Unit} {ss : List CollectionRow} {old new : Entry} {fault : Fault} →
     AfterLoss handles t now us ss old new fault [] →
     PropagatedFrom handles (after_loss fault (nodes_with t old.keys.items)) t now us ss old new
-played_lost felled = record {
+played_lost after_fall = record {
   pending = [];
-  under = felled.under;
-  row = felled.row;
-  leads = felled.leads;
-  beside = felled.beside;
+  under = after_fall.under;
+  row = after_fall.row;
+  leads = after_fall.leads;
+  beside = after_fall.beside;
   out = inl refl;
 }
 

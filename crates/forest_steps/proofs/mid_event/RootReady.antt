@@ -10,7 +10,7 @@ use Rattle.forest_steps.proofs.Common.{is_unready, unit_of, IsOpen, is_strong, c
 use Rattle.forest_steps.proofs.Common.{remains_affected, IsSameNode, all_at, or-true, unit_then, bit, IsComing, comes_first, is_bare_root}
 use Rattle.forest_steps.proofs.Common.{is_held_ready, are_held_except, holds_unit, decremented, live_before, strong_before, unready_before}
 use Rattle.forest_steps.proofs.Common.{below_mapped, subst, if◌then◌else◌, sum_by, Demand, false_if, reserved_count, greatest, map-In}
-use Rattle.forest_steps.proofs.Common.{Going, wanted_by, after_allocation, demands_of, is_in_unit, asked_with, is_in_some, in_looked}
+use Rattle.forest_steps.proofs.Common.{RemovalKind, wanted_by, after_allocation, demands_of, is_in_unit, asked_with, is_in_some, in_looked}
 use Rattle.forest_steps.proofs.Common.{IsBareHead, key_listed, in_all, looked_there, camped_sum, or_false, IsUnitListed, amount_map}
 use Rattle.forest_steps.proofs.Common.{amount_within, Cause, written, given_buffers, has_buffers, IsSound, allocated_with, In-find}
 use Rattle.forest_steps.proofs.Common.{with_nodes, IsWhole, IsLeft, distinct_one, left_node, alone_affected, IsSound-map}
@@ -21,7 +21,7 @@ use Rattle.forest_store.specs.Counts.{decrement_if}
 use Rattle.forest_store.proofs.quiescence.Calming.{count_some}
 use Rattle.forest_steps.proofs.allocation.RootUnit.{root_found}
 use Rattle.forest_store.proofs.tallies.Amounts.{times_changed}
-use Rattle.forest_store.proofs.tallies.Reckoning.{lives_own, waits_own}
+use Rattle.forest_store.proofs.tallies.Counting.{lives_own, waits_own}
 use Rattle.forest_steps.proofs.mid_event.RootLost.{IsReadyRoot, ready_root, waits_was}
 use Rattle.forest_steps.specs.First.{wanted_of}
 use Rattle.forest_steps.proofs.allocation.Sums.{reserved_all, asked_back, asked_is, asked_of, asks_passes}
@@ -319,7 +319,8 @@ module _ {t : Table Node} {us : List Unit} (key : NodeKey) (effect : Effect) {n 
           let x = asked_of _ _ d there in
           let y = In-map f _ x.0 x.1 in
           let own : test y.0 ≡ true = sym (test_same y.0) ∙ (ap test (sym y.2) ∙ asks_passes _ _ x.2) in
-          let found : In y.0 (nodes_with t ks) = in_looked t opens.kept.named Going.Leaves ks y.0 (at_key y.0 y.1) (inside y.0 y.1 own) in
+          let found : In y.0 (nodes_with t ks) = in_looked t opens.kept.named RemovalKind.Leaves ks y.0 (at_key y.0 y.1) (inside y.0
+              y.1 own) in
           asked_back _ _ x.0 (subst (λ m. In m (map f (nodes_with t ks))) (sym y.2) (In-map-back f _ y.0 found)) x.2
 
       -- each list has what the other has

@@ -314,7 +314,8 @@ module _ {t : Table Node} {us : List Unit} {ss : List CollectionRow} {e : Entry}
         -- ---- it is refused
 
         module _ {now : Table Node} {new : List Unit} {after : Entry} {why : Failure}
-            (felled : AfterLoss handles t now new ss e after (record { cause = Cause.Failed why; origin = k }) (k ∷ turn_heads ws)) where
+            (after_fall : AfterLoss handles t now new ss e after (record { cause = Cause.Failed why; origin = k }) (k ∷ turn_heads
+                ws)) where
           -- the fault that begins at the head of the refused unit
           abbrev fault : Fault
           fault = record { cause = Cause.Failed why; origin = k }
@@ -325,7 +326,8 @@ module _ {t : Table Node} {us : List Unit} {ss : List CollectionRow} {e : Entry}
 
           -- a fault, or a fault and an end, make nodes gone
           gone : HaveGone fault nodes ns
-          gone = subst (λ (x : CollectionRow). HaveGone fault nodes (nodes_with now x.keys)) (sym felled.row) (have_gone _ _ _ felled.nodes)
+          gone = subst (λ (x : CollectionRow). HaveGone fault nodes (nodes_with now x.keys)) (sym after_fall.row) (have_gone _ _ _
+              after_fall.nodes)
 
           -- the fault takes the node where it began
           head_gone : (gone.f head).gone ≡ true
@@ -344,7 +346,7 @@ module _ {t : Table Node} {us : List Unit} {ss : List CollectionRow} {e : Entry}
 
           -- the nodes of a unit go together in a (whole_under u) collection
           together_now : GoTogether (map gone.f nodes)
-          together_now = subst GoTogether gone.is (whole_under felled.under).together
+          together_now = subst GoTogether gone.is (whole_under after_fall.under).together
 
           -- no root waited before, and going makes none wait
           waits_now : waiting ns ≡ None
@@ -365,23 +367,23 @@ module _ {t : Table Node} {us : List Unit} {ss : List CollectionRow} {e : Entry}
               × (AreTurns now e.keys.items ws × (waits_among [] (nodes_with now e.keys.items) ≡ true))
           refused_by short = (
             record {
-              under = under_with felled.under felled.under.held
-                  (next_fewer ns (k ∷ turn_heads ws) (turn_heads ws) felled.under.next (λ n on is h. rw (other n on is) at h))
+              under = under_with after_fall.under after_fall.under.held
+                  (next_fewer ns (k ∷ turn_heads ws) (turn_heads ws) after_fall.under.next (λ n on is h. rw (other n on is) at h))
                   (wait_among ns (turn_heads ws) waits_now);
-              row = felled.row;
+              row = after_fall.row;
               leads = λ pool others end settles. Forces c0 end _ (forced_is (Some why) short pool others)
-                  (felled.leads pool others end settles);
-              beside = felled.beside;
+                  (after_fall.leads pool others end settles);
+              beside = after_fall.beside;
             },
             (
               record {
                 placed = turns_behind.placed;
                 in_turn = turns_behind.in_turn;
-                closed = subst (λ (x : CollectionRow). AreClosed (nodes_with now x.keys) (turn_heads ws)) felled.row
+                closed = subst (λ (x : CollectionRow). AreClosed (nodes_with now x.keys) (turn_heads ws)) after_fall.row
                     (subst (λ xs. AreClosed xs (turn_heads ws)) (sym gone.is)
                     (closed_on (whole_under u).sound gone.only together_now (turn_heads ws) turns_behind.closed));
               },
-              subst (λ (x : CollectionRow). waits_among [] (nodes_with now x.keys) ≡ true) felled.row (wait_among ns [] waits_now),
+              subst (λ (x : CollectionRow). waits_among [] (nodes_with now x.keys) ≡ true) after_fall.row (wait_among ns [] waits_now),
             ),
           )
 

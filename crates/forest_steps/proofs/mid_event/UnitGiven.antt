@@ -125,7 +125,7 @@ pub next_then : (k : NodeKey) (nodes : List Node) (hs : List NodeKey) →
     ((n : Node) → In n nodes → is_coming (served k nodes) (f k n) ≡ true → is_next_node nodes n ≡ true →
     list_any (same_key n.key) hs ≡ true) →
     list_any (is_next_except hs (served k nodes)) (served k nodes) ≡ false
-next_then k nodes hs hung was = false_if (list_any (is_next_except hs (served k nodes)) (served k nodes)) (λ h.
+next_then k nodes hs counted_above was = false_if (list_any (is_next_except hs (served k nodes)) (served k nodes)) (λ h.
     let x = In-list_any (is_next_except hs (served k nodes)) (served k nodes) h in
     let y = In-map (f k) nodes x.0 x.1 in
     let is : is_next_except hs (served k nodes) (f k y.0) ≡ true = ap (is_next_except hs (served k nodes)) (sym y.2) ∙ x.2 in

@@ -2,7 +2,7 @@
 use Rattle.forest_steps.proofs.Common.{◌≡◌, ◌==◌, false, List, Some, find, In, Table, node_at, parent_at, Node}
 use Rattle.forest_steps.proofs.Common.{IsStored, IsWhole, CollectionRow, collection_in, nodes_with, IsTied, found_whole, in_all}
 use Rattle.forest_steps.proofs.Common.{looked_there, list_all, is_filed, found_filed, eqb-true, all-In, looked-of, true}
-use Rattle.forest_store.proofs.tables.Hanging.{looked_hung, looked_tied}
+use Rattle.forest_store.proofs.tables.Hanging.{looked_above, looked_tied}
 
 module _ {t : Table Node} {ss : List CollectionRow} {s : CollectionRow} (kept : IsStored t ss)
     (found : find (λ (x : CollectionRow). x.id == s.id) ss ≡ Some s) where
@@ -20,7 +20,7 @@ module _ {t : Table Node} {ss : List CollectionRow} {s : CollectionRow} (kept : 
 
   -- the nodes are linked as the table links them
   pub tied : IsTied t nodes
-  tied = looked_tied t kept.named _ (looked_hung t kept.named kept.linked _ whole.rooted)
+  tied = looked_tied t kept.named _ (looked_above t kept.named kept.linked _ whole.rooted)
 
   -- each node stands in the table under its key
   pub at_key : (n : Node) → In n nodes → node_at t n.key ≡ Some n

@@ -2,13 +2,13 @@
 use Rattle.forest_store.proofs.Common.{In-map, all_on, ◌≡◌, ℕ, ◌==◌, refl, ap, sym, ◌∙◌, Bool, true, false, ◌||◌, ◌⊎◌, inl}
 use Rattle.forest_store.proofs.Common.{inr, if◌then◌else◌, List, [], ◌∷◌, map, Option, Some, None, cons_option, list_all}
 use Rattle.forest_store.proofs.Common.{list_any, NodeKey, same_key, In, either_way, same_key-refl, same_key-true, Table}
-use Rattle.forest_store.proofs.Common.{node_at, Node, lives_in, waits_in, is_filed, nodes_with, and-false, Going, gone_by}
+use Rattle.forest_store.proofs.Common.{node_at, Node, lives_in, waits_in, is_filed, nodes_with, and-false, RemovalKind, gone_by}
 use Rattle.forest_store.proofs.Common.{all_of, is_strong, stored, written, camped, and-true, arith}
 use Rattle.forest_store.proofs.changes.Finishing.{keys_in}
 use Rattle.forest_store.proofs.lists.Lookups.{in_nodes, same_key-swap}
 use Rattle.forest_store.proofs.lists.Elements.{In-made}
 use Rattle.forest_store.proofs.quiescence.Steps.{all-In}
-use Rattle.forest_store.proofs.tallies.Reckoning.{lives_gone, waits_gone}
+use Rattle.forest_store.proofs.tallies.Counting.{lives_gone, waits_gone}
 use Rattle.forest_store.proofs.tallies.Reserved.{camped_but, camped_gone}
 use Rattle.forest_store.proofs.tallies.Untold.{but}
 use Rattle.forest_store.proofs.tables.Writing.{IsSameNode}
@@ -16,42 +16,43 @@ use Rattle.forest_store.proofs.tables.Writing.{IsSameNode}
 -- ---- one node that is removed
 
 -- going changes only the mark and the fault
-pub gone_same : (going : Going) (n : Node) → IsSameNode (gone_by going n) n
-gone_same (Going.Fails fault) n = record { key = refl; parent = refl; attached = refl; collection = refl; head = refl }
-gone_same Going.Leaves n = record { key = refl; parent = refl; attached = refl; collection = refl; head = refl }
+pub gone_same : (going : RemovalKind) (n : Node) → IsSameNode (gone_by going n) n
+gone_same (RemovalKind.Fails fault) n = record { key = refl; parent = refl; attached = refl; collection = refl; head = refl }
+gone_same RemovalKind.Leaves n = record { key = refl; parent = refl; attached = refl; collection = refl; head = refl }
 
 -- the nodes with these keys go
-abbrev pub goes_of : Going → List NodeKey → Node → Node
+abbrev pub goes_of : RemovalKind → List NodeKey → Node → Node
 goes_of going keys n = if list_any (same_key n.key) keys then gone_by going n else n
 
 -- its key is among those that go
-pub goes_in : (going : Going) (keys : List NodeKey) (n : Node) → list_any (same_key n.key) keys ≡ true →
+pub goes_in : (going : RemovalKind) (keys : List NodeKey) (n : Node) → list_any (same_key n.key) keys ≡ true →
     goes_of going keys n ≡ gone_by going n
 goes_in going keys n e = λ i. if e i then gone_by going n else n
 
 -- its key is not
-pub goes_not : (going : Going) (keys : List NodeKey) (n : Node) → list_any (same_key n.key) keys ≡ false → goes_of going keys n ≡ n
+pub goes_not : (going : RemovalKind) (keys : List NodeKey) (n : Node) → list_any (same_key n.key) keys ≡ false → goes_of going keys n ≡ n
 goes_not going keys n e = λ i. if e i then gone_by going n else n
 
 -- either it is removed, which keeps the place, or it stays
-pub same_of : (going : Going) (keys : List NodeKey) (n : Node) → IsSameNode (goes_of going keys n) n
+pub same_of : (going : RemovalKind) (keys : List NodeKey) (n : Node) → IsSameNode (goes_of going keys n) n
 same_of going keys n = elim (list_any (same_key n.key) keys) as (λ (b : Bool). IsSameNode (if b then gone_by going n else n) n) [
   | true ↦ gone_same going n
   | false ↦ record { key = refl; parent = refl; attached = refl; collection = refl; head = refl }
 ]
 
 -- either it is removed, which keeps the allocation, or it stays
-pub given_of : (going : Going) (keys : List NodeKey) (n : Node) → (goes_of going keys n).allocated ≡ n.allocated
+pub given_of : (going : RemovalKind) (keys : List NodeKey) (n : Node) → (goes_of going keys n).allocated ≡ n.allocated
 given_of going keys n = grind arith
 
 -- either it is removed now, or it is as before
-pub gone_of : (going : Going) (keys : List NodeKey) (n : Node) → (goes_of going keys n).gone ≡ (list_any (same_key n.key) keys || n.gone)
+pub gone_of : (going : RemovalKind) (keys : List NodeKey) (n : Node) →
+    (goes_of going keys n).gone ≡ (list_any (same_key n.key) keys || n.gone)
 gone_of going keys n = grind arith
 
 -- ---- what is counted of nodes that go
 
 -- a test that no node that is gone passes
-but_is : (test : Node → Bool) → ((m : Node) → m.gone ≡ true → test m ≡ false) → (going : Going) (keys : List NodeKey) (n : Node) →
+but_is : (test : Node → Bool) → ((m : Node) → m.gone ≡ true → test m ≡ false) → (going : RemovalKind) (keys : List NodeKey) (n : Node) →
     test (goes_of going keys n) ≡ but test keys n
 but_is test none going keys n = grind (arith, and-false, and-true)
 
@@ -60,24 +61,26 @@ pub strong_gone : (m : Node) → m.gone ≡ true → is_strong m ≡ false
 strong_gone m e = rw e refl
 
 -- a node that is removed is not counted any more, and one that stays is counted as before
-pub strong_but : (keys : List NodeKey) (going : Going) (n : Node) → is_strong (goes_of going keys n) ≡ but is_strong keys n
+pub strong_but : (keys : List NodeKey) (going : RemovalKind) (n : Node) → is_strong (goes_of going keys n) ≡ but is_strong keys n
 strong_but keys going n = but_is _ strong_gone _ keys n
 
 -- the same for the live nodes of a unit
-pub lives_but : (k : NodeKey) (keys : List NodeKey) (going : Going) (n : Node) → lives_in k (goes_of going keys n) ≡ but (lives_in k) keys n
+pub lives_but : (k : NodeKey) (keys : List NodeKey) (going : RemovalKind) (n : Node) →
+    lives_in k (goes_of going keys n) ≡ but (lives_in k) keys n
 lives_but k keys going n = but_is _ (lives_gone k) going keys n
 
 -- the same for the nodes that a unit waits for
-pub waits_but : (k : NodeKey) (keys : List NodeKey) (going : Going) (n : Node) → waits_in k (goes_of going keys n) ≡ but (waits_in k) keys n
+pub waits_but : (k : NodeKey) (keys : List NodeKey) (going : RemovalKind) (n : Node) →
+    waits_in k (goes_of going keys n) ≡ but (waits_in k) keys n
 waits_but k keys going n = but_is _ (waits_gone k) going keys n
 
 -- a gone node camps on nothing
-pub camped_of : (keys : List NodeKey) (going : Going) (n : Node) → camped (goes_of going keys n) ≡ camped_but keys n
+pub camped_of : (keys : List NodeKey) (going : RemovalKind) (n : Node) → camped (goes_of going keys n) ≡ camped_but keys n
 camped_of keys going n = grind (arith, camped_gone)
 
 -- ---- nodes that are written as they go
 
-module _ (t : Table Node) (named : (key : NodeKey) (n : Node) → node_at t key ≡ Some n → n.key ≡ key) (going : Going) where
+module _ (t : Table Node) (named : (key : NodeKey) (n : Node) → node_at t key ≡ Some n → n.key ≡ key) (going : RemovalKind) where
   -- a node whose key is among these is found by them
   pub in_looked : (ks : List NodeKey) (n : Node) → node_at t n.key ≡ Some n → list_any (same_key n.key) ks ≡ true → In n (nodes_with t ks)
   in_looked ks n is h = in_nodes t ks n.key n is h

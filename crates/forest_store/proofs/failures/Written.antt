@@ -1,10 +1,10 @@
 -- Nodes that are written as they go, one after another.
 use Rattle.forest_store.proofs.Common.{◌≡◌, ◌≢◌, ℕ, zero, suc, ◌<◌, Bool, true, false, ◌||◌, inl, if◌then◌else◌, List, [], ◌∷◌, ◌++◌}
 use Rattle.forest_store.proofs.Common.{length, map, take, get_or, Option, Some, None, option_map, refl, ap, sym, ◌∙◌, subst, arith}
-use Rattle.forest_store.proofs.Common.{cons_option, list_any, option_map_or, NodeKey, Unit, head_above, head_of, unreckoned}
-use Rattle.forest_store.proofs.Common.{untallied, without_below, not, same_key, or_right, same_key-refl, Table, node_at, Node}
+use Rattle.forest_store.proofs.Common.{cons_option, list_any, option_map_or, NodeKey, Unit, head_above, head_of, uncounted_both}
+use Rattle.forest_store.proofs.Common.{uncounted_own, without_below, not, same_key, or_right, same_key-refl, Table, node_at, Node}
 use Rattle.forest_store.proofs.Common.{nodes_with, is_unkept, map-append, filter_map-append, AllPairs, or_none_left, or_none_right}
-use Rattle.forest_store.proofs.Common.{IsSome, is_some, row_at, Writes, table_with_node, Going, gone_by, Stores, stored, common_steps}
+use Rattle.forest_store.proofs.Common.{IsSome, is_some, row_at, Writes, table_with_node, RemovalKind, gone_by, Stores, stored, common_steps}
 use Rattle.forest_store.proofs.failures.GoneNodes.{same_of}
 use Rattle.forest_store.proofs.tables.Storing.{node_there, row_there}
 use Rattle.forest_store.proofs.Basics.{gone_same, stored_goes, same_key-swap, Stores-more, first_once, rest_once}
@@ -24,7 +24,7 @@ once_before (k ∷ ks) zero d once within = refl
 once_before (k ∷ ks) (suc i) d once within =
     grind (arith, once_before ks i d (rest_once k _ once), same_key-swap, none_at, first_once, rest_once)
 
-module _ (t : Table Node) (named : (key : NodeKey) (n : Node) → node_at t key ≡ Some n → n.key ≡ key) (going : Going)
+module _ (t : Table Node) (named : (key : NodeKey) (n : Node) → node_at t key ≡ Some n → n.key ≡ key) (going : RemovalKind)
     (done : List NodeKey) (k : NodeKey) (apart : list_any (same_key k) done ≡ false) (u : Table Node)
     (stores : Stores t u (map (gone_by going) (nodes_with t done))) where
   -- the nodes of the keys that are done, each marked as gone
@@ -64,12 +64,12 @@ module _ (t : Table Node) (named : (key : NodeKey) (n : Node) → node_at t key 
       by (Some p) = head_still p
 
   -- and the counts lose as much with the node of this key
-  pub counts_still : (us : List Unit) → unreckoned u (nodes_with u (k ∷ [])) us ≡ unreckoned t (nodes_with t (k ∷ [])) us
-  counts_still us = ap (λ (o : Option Node). unreckoned u (cons_option o []) us) still_there ∙ by (node_at t k)
+  pub counts_still : (us : List Unit) → uncounted_both u (nodes_with u (k ∷ [])) us ≡ uncounted_both t (nodes_with t (k ∷ [])) us
+  counts_still us = ap (λ (o : Option Node). uncounted_both u (cons_option o []) us) still_there ∙ by (node_at t k)
     where
-      by : (o : Option Node) → unreckoned u (cons_option o []) us ≡ unreckoned t (cons_option o []) us
+      by : (o : Option Node) → uncounted_both u (cons_option o []) us ≡ uncounted_both t (cons_option o []) us
       by None = refl
-      by (Some n) = ap (λ (h : Option NodeKey). without_below h (untallied (n ∷ []) us)) (above_still n)
+      by (Some n) = ap (λ (h : Option NodeKey). without_below h (uncounted_own (n ∷ []) us)) (above_still n)
 
   -- with the node of one key more
   with_more : nodes_with t (done ++ k ∷ []) ≡ nodes_with t done ++ cons_option (node_at t k) []
@@ -103,7 +103,7 @@ module _ (t : Table Node) (named : (key : NodeKey) (n : Node) → node_at t key 
   over_more over one was is = grind (arith, common_steps, still_there, with_more)
 
 -- the keys of nodes that went find them as they are then
-pub went_now : (t : Table Node) → ((key : NodeKey) (n : Node) → node_at t key ≡ Some n → n.key ≡ key) → (going : Going)
+pub went_now : (t : Table Node) → ((key : NodeKey) (n : Node) → node_at t key ≡ Some n → n.key ≡ key) → (going : RemovalKind)
     (keys : List NodeKey) (now : Table Node) → Stores t now (map (gone_by going) (nodes_with t keys)) →
     nodes_with now keys ≡ map (gone_by going) (nodes_with t keys)
 went_now t named going keys now stores = among _ (λ k on. on)

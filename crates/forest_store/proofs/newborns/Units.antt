@@ -7,13 +7,15 @@ use Rattle.forest_store.proofs.Common.{waits_in, Collection, IsStored, IsWhole, 
 use Rattle.forest_store.proofs.Common.{nodes_with, put_row, is_of, are_distinct, collection_or_new, put, are_rooted, get_or-set_other}
 use Rattle.forest_store.proofs.Common.{get_or-set_same, length-append, length-set, unwrap_or, In-append, times-append, times-le-length}
 use Rattle.forest_store.proofs.Common.{times-zero, table_len, AreUnitsExcept, HasUnit, HasUnits, head_above, heads_below, no_unit}
-use Rattle.forest_store.proofs.Common.{reckoned, tallied, unit_of, collection_at, Bears, born, row_before, row_with}
+use Rattle.forest_store.proofs.Common.{counted_both, counted_own, unit_of, collection_at, Bears, born, row_before, row_with}
 use Rattle.forest_store.proofs.newborns.Newborn.{Above, IsBefore, before_is, born_collection, born_fresh, born_here, born_shown, key_is}
 use Rattle.forest_store.proofs.newborns.Quiet.{behind_is, behind_shown, quiet_kept}
 use Rattle.forest_store.proofs.tallies.Slots.{Stays, all_at, but_put, one_slot, units_own}
-use Rattle.forest_store.proofs.Basics.{looked-of, row_by, all_in, in_all, looked_there, head_there, above_node, hung_by, hung_hangs}
-use Rattle.forest_store.proofs.Basics.{hung_is, is_above, is_hung, other_slots, own_is, own_unit, same_long, tallied_by, lives_gone}
-use Rattle.forest_store.proofs.Basics.{lives_other, tallied_adds, waits_gone, waits_other, filed-length, times_same, all-In}
+use Rattle.forest_store.proofs.Basics.{looked-of, row_by, all_in, in_all}
+use Rattle.forest_store.proofs.Basics.{looked_there, head_there, above_node, counted_above_by, counted_above_hangs}
+use Rattle.forest_store.proofs.Basics.{counts_above_is, is_above, counts_above, other_slots}
+use Rattle.forest_store.proofs.Basics.{own_is, own_unit, same_long, counted_own_by, lives_gone}
+use Rattle.forest_store.proofs.Basics.{lives_other, counted_own_adds, waits_gone, waits_other, filed-length, times_same, all-In}
 
 -- the table has the old nodes and the one that was born, and the others have their counts
 module _ (t : Table Node) (ss : List CollectionRow) (kept : IsStored t ss) (id : ℕ) (s : CollectionRow) (on : In s ss) (own : s.id ≡ id)
@@ -40,11 +42,11 @@ module _ (t : Table Node) (ss : List CollectionRow) (kept : IsStored t ss) (id :
 
   -- the counts once the new node is counted for its own unit
   abbrev own_new : List Unit
-  own_new = tallied (node ∷ []) us1
+  own_new = counted_own (node ∷ []) us1
 
   -- the counts once the new node is counted for its unit and for the unit right above that
   abbrev new : List Unit
-  new = reckoned t (node ∷ []) us1
+  new = counted_both t (node ∷ []) us1
 
   -- each collection is whole
   whole : IsWhole (collection_in t s)
@@ -75,8 +77,8 @@ module _ (t : Table Node) (ss : List CollectionRow) (kept : IsStored t ss) (id :
   none_counted n there = grind (arith, lives_gone, waits_gone, In-any, lives_other, waits_other)
 
   -- nor does one hang right below that
-  none_hung : (n : Node) → In n old → is_hung t node.key n ≡ false
-  none_hung n there = from _ refl
+  none_counted_above : (n : Node) → In n old → counts_above t node.key n ≡ false
+  none_counted_above n there = from _ refl
     where
       from : (o : Option NodeKey) → head_above t n ≡ o → is_above node.key o ≡ false
       from None is = refl
@@ -90,8 +92,8 @@ module _ (t : Table Node) (ss : List CollectionRow) (kept : IsStored t ss) (id :
           ]
 
   -- how many hang right below a unit of the old nodes
-  below_old : (k : NodeKey) → times (is_hung t k) old ≡ times (heads_below old k) old
-  below_old k = times_same _ _ _ (hung_is t _ distinct rooted (λ m on. at m (was_old m on)) k)
+  below_old : (k : NodeKey) → times (counts_above t k) old ≡ times (heads_below old k) old
+  below_old k = times_same _ _ _ (counts_above_is t _ distinct rooted (λ m on. at m (was_old m on)) k)
 
   -- the head of the unit right above the one that the node heads
   above_of : (m : Node) → In m nodes → (h : NodeKey) → head_above t m ≡ Some h → (a : Node) × In a nodes × (a.key ≡ h)
@@ -109,7 +111,7 @@ module _ (t : Table Node) (ss : List CollectionRow) (kept : IsStored t ss) (id :
 
   -- counting keeps the length
   long : length new ≡ length us1
-  long = same_long (hung_by t) (node ∷ []) own_new ∙ same_long tallied_by (node ∷ []) us1
+  long = same_long (counted_above_by t) (node ∷ []) own_new ∙ same_long counted_own_by (node ∷ []) us1
 
   -- the slot of each node's key is in the list
   slot_in : (n : Node) → In n nodes → n.key.slot < length us1
@@ -130,7 +132,7 @@ module _ (t : Table Node) (ss : List CollectionRow) (kept : IsStored t ss) (id :
       last (inl is) =
           let l : times (lives_in node.key) old ≡ 0 = times-zero _ _ (λ m o. (none_counted m o).0) in
           let w : times (waits_in node.key) old ≡ 0 = times-zero _ _ (λ m o. (none_counted m o).1) in
-          let b : times (heads_below old node.key) old ≡ 0 = sym (below_old _) ∙ times-zero _ _ none_hung in
+          let b : times (heads_below old node.key) old ≡ 0 = sym (below_old _) ∙ times-zero _ _ none_counted_above in
           rw is (get_or-set_same us node.key.slot no_unit no_unit own_inside
           ∙ (λ i. record { live = sym l i; unready = sym w i; below = sym b i }))
       last (inr none) = absurd none
@@ -143,20 +145,21 @@ module _ (t : Table Node) (ss : List CollectionRow) (kept : IsStored t ss) (id :
       let l0 : (unit_at us1 n.key.slot).live ≡ times (lives_in n.key) old = ap (λ (u : Unit). u.live) was in
       let w0 : (unit_at us1 n.key.slot).unready ≡ times (waits_in n.key) old = ap (λ (u : Unit). u.unready) was in
       let b0 : (unit_at us1 n.key.slot).below ≡ times (heads_below old n.key) old = ap (λ (u : Unit). u.below) was in
-      let own_long = same_long tallied_by (node ∷ []) us1 in
+      let own_long = same_long counted_own_by (node ∷ []) us1 in
       let l1 = times-le-length (lives_in n.key) old in
       let b1 = times-le-length (heads_below old n.key) old in
       let w1 = times-le-length (waits_in n.key) old in
       let count : length nodes ≡ length old + 1 = ap length grown ∙ length-append old (node ∷ []) in
-      let adds = tallied_adds (node ∷ []) us1 n.key inside (head_of n there) (omega arith) (omega arith) in
-      let hangs = hung_hangs t (node ∷ []) own_new n.key (omega arith) (above_at n there) (omega arith) in
+      let adds = counted_own_adds (node ∷ []) us1 n.key inside (head_of n there) (omega arith) (omega arith) in
+      let hangs = counted_above_hangs t (node ∷ []) own_new n.key (omega arith) (above_at n there) (omega arith) in
       let e = hangs.live in
       let f = hangs.unready in
       let g = hangs.below in
-      let told : times (is_hung t n.key) nodes ≡ times (heads_below nodes n.key) nodes =
-      times_same (is_hung t n.key) (heads_below nodes n.key) nodes (hung_is t nodes whole.sound.distinct whole.rooted at n.key) in
+      let told : times (counts_above t n.key) nodes ≡ times (heads_below nodes n.key) nodes =
+      times_same (counts_above t n.key) (heads_below nodes n.key) nodes (counts_above_is t nodes whole.sound.distinct whole.rooted at
+          n.key) in
       let before_told = below_old n.key in
-      let h2 = ap (times (is_hung t n.key)) grown ∙ times-append (is_hung t n.key) old (node ∷ []) in
+      let h2 = ap (times (counts_above t n.key)) grown ∙ times-append (counts_above t n.key) old (node ∷ []) in
       let l2 = ap (times (lives_in n.key)) grown ∙ times-append (lives_in n.key) old (node ∷ []) in
       let w2 = ap (times (waits_in n.key)) grown ∙ times-append (waits_in n.key) old (node ∷ []) in
       let l : (unit_at new n.key.slot).live ≡ times (lives_in n.key) nodes = omega arith in
@@ -183,7 +186,7 @@ module _ (t : Table Node) (ss : List CollectionRow) (kept : IsStored t ss) (id :
   stays_new k n is differ within =
       let long_too : length us ≡ length new = sym (long ∙ long1) in (
         rw (← long_too) within,
-        other_slots (hung_by t) (node ∷ []) own_new _ aboves ∙ other_slots tallied_by (node ∷ []) us1 _ heads
+        other_slots (counted_above_by t) (node ∷ []) own_new _ aboves ∙ other_slots counted_own_by (node ∷ []) us1 _ heads
             ∙ get_or-set_other us node.key.slot k.slot no_unit no_unit (apart _ _ (at _ born_on) (of node born_on)),
       )
     where
@@ -270,7 +273,7 @@ module _ (t now : Table Node) (ss : List CollectionRow) (ok : IsStored t ss) (id
   -- all have their counts, once the slot of the node is started and the node counted
   pub newborn_units : (us : List Unit) → AreUnits us (map (collection_in t) ss) → key.slot < length us →
       table_len now ≤ 18446744073709551615 →
-      AreUnits (reckoned now (nodes_with now (key ∷ [])) (set us key.slot no_unit)) (map (collection_in now) behind)
+      AreUnits (counted_both now (nodes_with now (key ∷ [])) (set us key.slot no_unit)) (map (collection_in now) behind)
   newborn_units us all inside few =
       let own : c0.id ≡ id = before_it.id_is in
       let named : child.key ≡ key = key_is t now ss ok id parent _ client event above up key bears in
@@ -284,7 +287,7 @@ module _ (t now : Table Node) (ss : List CollectionRow) (ok : IsStored t ss) (id
       subst (AreUnitsExcept us id) (sym (behind_shown t now _ ok _ parent _ client event above up _ bears _ placed))
       (subst (λ (i : ℕ). AreUnitsExcept us i (put with_it (map (collection_in t) ss))) own (but_put _ with_it _
       all)) in
-      let made : AreUnits (reckoned now (child ∷ []) (set us child.key.slot no_unit)) (map (collection_in now) behind) =
+      let made : AreUnits (counted_both now (child ∷ []) (set us child.key.slot no_unit)) (map (collection_in now) behind) =
       born_units _ _ kept_now _ _ row_on own _ _
       (ap (λ (c : Collection). c.nodes) (born_shown t now ss ok id parent _ client event above up key bears))
       (born_here above _ id event client key)
@@ -295,5 +298,5 @@ module _ (t now : Table Node) (ss : List CollectionRow) (ok : IsStored t ss) (id
       (λ n on. eqb-true n.collection (row_by with_it).id (all-In _
       _ n on (looked-of now (row_by with_it).id (row_by with_it).keys filed_keys)) ∙ own)
       us (rw named inside) (had _ all) but short in
-      rw one (subst (λ (k : NodeKey). AreUnits (reckoned now (child ∷ []) (set us k.slot no_unit))
+      rw one (subst (λ (k : NodeKey). AreUnits (counted_both now (child ∷ []) (set us k.slot no_unit))
       (map (collection_in now) behind)) named made)

@@ -25,9 +25,9 @@ module _ (t : Table Node) where
     looked_there = looked_each _ (λ key n is. ap (node_at t) (named key n is) ∙ is)
 
     -- and hangs in the table, where all do
-    pub looked_hung : ((key : NodeKey) (n : Node) → node_at t key ≡ Some n → n.gone ≡ false → parent_at t key ≡ n.parent) →
+    pub looked_above : ((key : NodeKey) (n : Node) → node_at t key ≡ Some n → n.gone ≡ false → parent_at t key ≡ n.parent) →
         (keys : List NodeKey) → are_rooted (reverse (nodes_with t keys)) ≡ true → IsHung t (nodes_with t keys)
-    looked_hung linked keys rooted = record {
+    looked_above linked keys rooted = record {
       linked = looked_each (λ (n : Node). n.gone ≡ false → parent_at t n.key ≡ n.parent) (λ key n is here. ap (parent_at t) (named key n is)
           ∙ linked key n is here) keys;
       rooted = rooted;
@@ -35,7 +35,7 @@ module _ (t : Table Node) where
 
     -- so they are tied to it
     pub looked_tied : (keys : List NodeKey) → IsHung t (nodes_with t keys) → IsTied t (nodes_with t keys)
-    looked_tied keys hung = record { there = looked_there keys; linked = hung.linked; rooted = hung.rooted }
+    looked_tied keys counted_above = record { there = looked_there keys; linked = counted_above.linked; rooted = counted_above.rooted }
 
     -- where the node of a key is gone, so is each of them that has the key
     pub looked_gone : (key : NodeKey) → ((m : Node) → node_at t key ≡ Some m → m.gone ≡ true) → (keys : List NodeKey) (n : Node) →

@@ -1,7 +1,7 @@
 -- Nodes are taken from the counts one after another, each from those of both units at once.
 use Rattle.forest_store.proofs.Common.{◌≡◌, ℕ, zero, suc, refl, ap, ◌∙◌, Bool, true, false, List, [], ◌∷◌, set, Option, Some, None}
 use Rattle.forest_store.proofs.Common.{if◌then◌else◌, cons_option, NodeKey, Table, Node, Unit, unit_at, nodes_with, is_live_node}
-use Rattle.forest_store.proofs.Common.{is_unready, lowered, unhung, unreckoned, untallied, without_below, without_node}
+use Rattle.forest_store.proofs.Common.{is_unready, lowered, uncounted_above, uncounted_both, uncounted_own, without_below, without_node}
 
 -- two changes of counts that commute do so at any two slots
 changed_both : (A B : Unit → Unit) → ((u : Unit) → A (B u) ≡ B (A u)) → (us : List Unit) (i j : ℕ) →
@@ -30,17 +30,18 @@ less_both n (Some h) us = elim n.gone as (λ (b : Bool). (if b then without_belo
     ]
 
 -- by induction: one node after another
-all_both : (ns : List Node) (o : Option NodeKey) (us : List Unit) → untallied ns (without_below o us) ≡ without_below o (untallied ns us)
+all_both : (ns : List Node) (o : Option NodeKey) (us : List Unit) →
+    uncounted_own ns (without_below o us) ≡ without_below o (uncounted_own ns us)
 all_both [] o us = refl
-all_both (n ∷ ns) o us = ap (untallied ns) (less_both n o us) ∙ all_both ns o (one_less n us)
+all_both (n ∷ ns) o us = ap (uncounted_own ns) (less_both n o us) ∙ all_both ns o (one_less n us)
 
 -- the first one at once, and then the others
 pub unreckoned_on : (t : Table Node) (key : NodeKey) (keys : List NodeKey) (us : List Unit) →
-    unreckoned t (nodes_with t keys) (unreckoned t (nodes_with t (key ∷ [])) us) ≡ unreckoned t (nodes_with t (key ∷ keys)) us
+    uncounted_both t (nodes_with t keys) (uncounted_both t (nodes_with t (key ∷ [])) us) ≡ uncounted_both t (nodes_with t (key ∷ keys)) us
 unreckoned_on t key keys us = from _
   where
     -- by cases: a key that finds no node unhangs nothing
-    from : (o : Option Node) → unreckoned t (nodes_with t keys) (unreckoned t (cons_option o []) us)
-        ≡ unreckoned t (cons_option o (nodes_with t keys)) us
+    from : (o : Option Node) → uncounted_both t (nodes_with t keys) (uncounted_both t (cons_option o []) us)
+        ≡ uncounted_both t (cons_option o (nodes_with t keys)) us
     from None = refl
-    from (Some n) = ap (unhung t (nodes_with t keys)) (all_both (nodes_with t keys) _ _)
+    from (Some n) = ap (uncounted_above t (nodes_with t keys)) (all_both (nodes_with t keys) _ _)

@@ -279,13 +279,14 @@ module _ (nodes : List Node) (distinct : are_distinct nodes ≡ true) (heads : l
     no_line n on here is = one_line _ _ _ _ (chain _ (left_in _ n on here)) (linked n on here ∙ is)
 
     -- all below such a head is of such units
-    dead_below : (fuel : ℕ) (y : Node) → In y nodes → y.gone ≡ false → (h : Node) → In h nodes → is_head h ≡ true → unkept h.key ≡ true →
+    not_kept_below : (fuel : ℕ) (y : Node) → In y nodes → y.gone ≡ false → (h : Node) → In h nodes → is_head h ≡ true →
+        unkept h.key ≡ true →
         is_below nodes h.key y.key ≡ true → length (line y.key) < fuel → unkept y.head ≡ true
-    dead_below zero y on here h there head is_dead b few = absurd (omega arith)
-    dead_below (suc fuel) y on here h there head is_dead b few =
+    not_kept_below zero y on here h there head is_not_kept b few = absurd (omega arith)
+    not_kept_below (suc fuel) y on here h there head is_not_kept b few =
         elim (or_cases _ _ b) [
-          | inl e ↦ rw (one y h on there (sym (same_key-true _ _ e))) (ap unkept (own_head h there head) ∙ is_dead)
-          | inr e ↦ from (λ q on' here' b' few'. dead_below fuel q on' here' h there head is_dead b' few') y.parent refl e
+          | inl e ↦ rw (one y h on there (sym (same_key-true _ _ e))) (ap unkept (own_head h there head) ∙ is_not_kept)
+          | inr e ↦ from (λ q on' here' b' few'. not_kept_below fuel q on' here' h there head is_not_kept b' few') y.parent refl e
         ]
       where
         from : ((q : Node) → In q nodes → q.gone ≡ false → is_below nodes h.key q.key ≡ true → length (line q.key) < fuel →
@@ -312,8 +313,9 @@ module _ (nodes : List Node) (distinct : are_distinct nodes ≡ true) (heads : l
             ]
 
     -- nothing that holds it lives, so no node below it does
-    pub dead_deserted : (h : Node) → In h nodes → h.gone ≡ false → is_head h ≡ true → unkept h.key ≡ true → is_deserted_node nodes h ≡ true
-    dead_deserted h on here head is_dead = grind (arith, In-list_any, dead_below)
+    pub not_kept_deserted : (h : Node) → In h nodes → h.gone ≡ false → is_head h ≡ true → unkept h.key ≡ true →
+        is_deserted_node nodes h ≡ true
+    not_kept_deserted h on here head is_not_kept = grind (arith, In-list_any, not_kept_below)
 
   -- ---- what holds the units
 
@@ -326,7 +328,7 @@ module _ (nodes : List Node) (distinct : are_distinct nodes ≡ true) (heads : l
         let b : list_any (holds_unit nodes h.key) nodes ≡ false = or_none_right (not (is_head h)) _ (or_none_right h.gone _ e) in
         both_ways _
         (In-any _ _ h on
-        (dead_deserted _
+        (not_kept_deserted _
         (λ x there here unkept. elim (either_way x.released) [
           | inl r ↦ r
           | inr r ↦ both_ways _ (In-any _ _ x there (rw (here, unkept, r) refl)) b

@@ -2,9 +2,9 @@
 use Rattle.forest_store.proofs.Common.{◌≡◌, ◌≢◌, ℕ, ◌+◌, ◌<◌, ◌≤◌, nat_lt, refl, ap, sym, ◌∙◌, Bool, true, false, not, ◌&&◌}
 use Rattle.forest_store.proofs.Common.{if◌then◌else◌, List, [], ◌∷◌, length, Some, None, arith, lt-ltb, list_any, NodeKey}
 use Rattle.forest_store.proofs.Common.{same_key, times, In, Table, node_at, Node, Unit, lives_in, unit_at, waits_in, nodes_with}
-use Rattle.forest_store.proofs.Common.{is_live_node, are_distinct, AllPairs, is_unready, lowered, untallied, without_node, bit}
+use Rattle.forest_store.proofs.Common.{is_live_node, are_distinct, AllPairs, is_unready, lowered, uncounted_own, without_node, bit}
 use Rattle.forest_store.proofs.tallies.Amounts.{amount_but, amount_same, taken_amount, times_is, times_more}
-use Rattle.forest_store.proofs.tallies.Reckoning.{counts_own, own_is, own_unit}
+use Rattle.forest_store.proofs.tallies.Counting.{counts_own, own_is, own_unit}
 use Rattle.forest_store.proofs.tallies.InTurn.{Changes, in_turn, is_above, other_slots, own_slot, put_at, same_long}
 
 -- ---- one node
@@ -35,10 +35,10 @@ counts_less n u false l w = record { live = omega arith; unready = omega arith; 
 -- ---- all nodes
 
 -- each node changes the slot of its unit
-untallied_by : Changes untallied own_unit one_less
+untallied_by : Changes uncounted_own own_unit one_less
 untallied_by = record {
   none = λ us. refl;
-  next = λ n ns us. ap (untallied ns)
+  next = λ n ns us. ap (uncounted_own ns)
       (elim n.gone as (λ (b : Bool). (if b then us else without_node n us) ≡ put_at (if b then None else Some n.head) (one_less n) us) [
         | true ↦ refl
         | false ↦ refl
@@ -46,8 +46,8 @@ untallied_by = record {
 }
 
 -- setting elements keeps the length
-pub untallied_long : (ns : List Node) (us : List Unit) → length (untallied ns us) ≡ length us
-untallied_long = same_long untallied_by
+pub uncounted_own_long : (ns : List Node) (us : List Unit) → length (uncounted_own ns us) ≡ length us
+uncounted_own_long = same_long untallied_by
 
 -- what the counts of this unit are without these nodes
 abbrev pub TakesAll : Unit → Unit → NodeKey → List Node → Type 0
@@ -66,18 +66,18 @@ takes_all k (n ∷ ns) u live unready =
     record { live = omega arith; unready = omega arith; below = rest.below ∙ first.below }
 
 -- so in the slot of the unit
-pub untallied_takes : (ns : List Node) (us : List Unit) (k : NodeKey) → k.slot < length us → ((n : Node) → In n ns → n.gone ≡ false →
+pub uncounted_own_takes : (ns : List Node) (us : List Unit) (k : NodeKey) → k.slot < length us → ((n : Node) → In n ns → n.gone ≡ false →
     n.head.slot ≡ k.slot → n.head ≡ k) →
     times (lives_in k) ns ≤ (unit_at us k.slot).live → times (waits_in k) ns ≤ (unit_at us k.slot).unready →
-    TakesAll (unit_at us k.slot) (unit_at (untallied ns us) k.slot) k ns
-untallied_takes ns us k within one live unready =
+    TakesAll (unit_at us k.slot) (unit_at (uncounted_own ns us) k.slot) k ns
+uncounted_own_takes ns us k within one live unready =
     rw (own_slot untallied_by ns us k within (λ n on h is. let x = own_is n h is in rw x.1 at (one n on x.0)))
     (takes_all k ns _ live unready)
 
 -- none of them is of that unit
-pub untallied_other : (ns : List Node) (us : List Unit) (slot : ℕ) → ((n : Node) → In n ns → n.gone ≡ false → n.head.slot ≢ slot) →
-    unit_at (untallied ns us) slot ≡ unit_at us slot
-untallied_other ns us slot differ =
+pub uncounted_own_other : (ns : List Node) (us : List Unit) (slot : ℕ) → ((n : Node) → In n ns → n.gone ≡ false → n.head.slot ≢ slot) →
+    unit_at (uncounted_own ns us) slot ≡ unit_at us slot
+uncounted_own_other ns us slot differ =
     other_slots untallied_by ns us slot (λ n on h is. let x = own_is n h is in rw x.1 at (differ n on x.0))
 
 -- ---- counts of nodes with and without those of some keys

@@ -70,7 +70,7 @@ fn allocate<E: Setup, S: Ledger, W: Ledger, R: Wait + Abort>(
 }
 
 // The one handle that the collection gives: an event.
-fn take_one<E: Setup, S: Ledger, W: Ledger, R: Wait + Abort>(
+fn take_handle<E: Setup, S: Ledger, W: Ledger, R: Wait + Abort>(
     rt: &R,
     alloc: Global,
     service: &Service<E, S, W>,
@@ -102,8 +102,8 @@ fn handles<E: Setup, S: Ledger, W: Ledger, R: Wait + Abort>(
     requires child { child.now.client ≡ client.old.id }
     ensures id { client.new.id ≡ client.old.id }
 {
-    let strong = take_one(rt, alloc, service, client, root, Strength::Strong);
-    let weak = take_one(rt, alloc, service, client, child, Strength::Weak);
+    let strong = take_handle(rt, alloc, service, client, root, Strength::Strong);
+    let weak = take_handle(rt, alloc, service, client, child, Strength::Weak);
     let twin = double_again(rt, service, client, &strong);
     let mut tracker = track_weak_again(rt, service, client, &weak);
     assert!(rt; tracker.poll().is_none());

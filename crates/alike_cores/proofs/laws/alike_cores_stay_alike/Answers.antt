@@ -1,4 +1,4 @@
-use Rattle.alike_cores.proofs.Going.{goes_on_alike}
+use Rattle.alike_cores.proofs.Progress.{goes_on_alike}
 use Rattle.alike_cores.proofs.Shown.{events_alike}
 use Rattle.alike_cores.proofs.laws.alike_cores_stay_alike.Goals as goal
 

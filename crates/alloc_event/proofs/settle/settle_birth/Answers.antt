@@ -11,19 +11,19 @@ at_fault : {T E : Type 0} (r : Result T E) (P : Type 0) → P → OnErr r P
 at_fault (Ok x) P p = tt
 at_fault (Err e) P p = p
 
-pub returns-in_err-reach-clause-err : goal.returns-in_err-reach-clause-err
-returns-in_err-reach-clause-err c =
+pub returns-in_err-grow_to-clause-err : goal.returns-in_err-grow_to-clause-err
+returns-in_err-grow_to-clause-err c =
     let t = c.args.store.now.nodes.table in
     let es : List Entry = c.args.store.now.entries.items in
-    at_fault c.from_residual.result (IsUnborn c.args.pool.now c.args.pool.now t t es es c.reach.new.units.items) (record {
+    at_fault c.from_residual.result (IsUnborn c.args.pool.now c.args.pool.now t t es es c.grow_to.new.units.items) (record {
       table = refl;
       entries = refl;
-      forest = forest_longer t es c.args.store.now.nodes.units.items c.reach.new.units.items c.requires.forest c.reach.ensures.extends;
+      forest = forest_longer t es c.args.store.now.nodes.units.items c.grow_to.new.units.items c.requires.forest c.grow_to.ensures.extends;
       same_pool = refl;
     })
 
 pub insert_counted-requires-clause-forest : goal.insert_counted-requires-clause-forest
-insert_counted-requires-clause-forest c = forest_longer _ _ _ _ c.requires.forest c.reach.ensures.extends
+insert_counted-requires-clause-forest c = forest_longer _ _ _ _ c.requires.forest c.grow_to.ensures.extends
 
 pub returns-in_err-key-clause-err : goal.returns-in_err-key-clause-err
 returns-in_err-key-clause-err c =

@@ -10,7 +10,8 @@ use Rattle.buffer_holds.specs.Pages.{cell_at}
 use Rattle.buffer_holds.specs.Stored.{one_more}
 use Rattle.buffer_holds.proofs.RowLemmas.{IsSome-lent_at}
 use Rattle.buffer_holds.proofs.TallyCells.{one_fresh, says_something, someone}
-use Rattle.buffer_holds.proofs.TallyLemmas.{distinct_tallies, newest_tallies, tallies_reset, tally_absent, tally_read, tally_there, tally_written}
+use Rattle.buffer_holds.proofs.TallyLemmas.{distinct_tallies, newest_tallies, tallies_reset}
+use Rattle.buffer_holds.proofs.TallyLemmas.{tally_absent, tally_read, tally_there, tally_written}
 use Rattle.buffer_holds.proofs.tally_pages.open.Goals.{After-get-tally, After-reserve_page, After-unwrap-page, In_default}
 use Rattle.buffer_holds.proofs.tally_pages.open.Goals as goal
 
@@ -79,9 +80,9 @@ add_page-requires-clause-some c =
     omega (arith, some, nobody (goal.at.add_page-requires-clause-some c).In_default)
 
 -- the new page has the tally alone
-pub returns-in_default-clause-tallied : goal.returns-in_default-clause-tallied
-returns-in_default-clause-tallied c =
-    let d = (goal.at.returns-in_default-clause-tallied c).In_default in
+pub returns-in_default-clause-counted_by_kind : goal.returns-in_default-clause-counted_by_kind
+returns-in_default-clause-counted_by_kind c =
+    let d = (goal.at.returns-in_default-clause-counted_by_kind c).In_default in
     let kind = c.args.hold.kind in
     let entries = c.args.tallies.now.entries in
     let old = c.tallies.inside.pages.entries in
@@ -133,16 +134,19 @@ returns-in_default-raise-2-clause-too_many c =
 pub unwrap-page-requires : goal.unwrap-page-requires
 unwrap-page-requires c =
     let found = c.in-Some.ensures.found in
-    IsSome-lent_at c.tallies.inside.pages c.in-Some.place c.part_of.result found.0 found.1 c.get_index_mut.result c.get_index_mut.ensures.value
+    IsSome-lent_at c.tallies.inside.pages c.in-Some.place c.part_of.result found.0 found.1 c.get_index_mut.result
+        c.get_index_mut.ensures.value
 
 pub invariant_of-tallies-2 : goal.invariant_of-tallies-2
 invariant_of-tallies-2 c = (
   distinct_tallies c.tallies.inside.pages c.args.hold.kind c.in-Some.place c.part_of.result c.part_of.ensures c.slot_of-slot.result
-      c.slot_of-slot.ensures.value c.in-Some.ensures.found c.get_index_mut.result c.get_index_mut.ensures.value c.get_index_mut.ensures.unique
+      c.slot_of-slot.ensures.value c.in-Some.ensures.found c.get_index_mut.result c.get_index_mut.ensures.value
+          c.get_index_mut.ensures.unique
       c.unwrap-page.result c.unwrap-page.ensures c.count.new.self,
   c.tallies.invariant.1,
   newest_tallies c.tallies.inside.pages c.args.hold.kind c.in-Some.place c.part_of.result c.part_of.ensures c.slot_of-slot.result
-      c.slot_of-slot.ensures.value c.in-Some.ensures.found c.get_index_mut.result c.get_index_mut.ensures.value c.get_index_mut.ensures.unique
+      c.slot_of-slot.ensures.value c.in-Some.ensures.found c.get_index_mut.result c.get_index_mut.ensures.value
+          c.get_index_mut.ensures.unique
       c.unwrap-page.result c.unwrap-page.ensures c.tallies.inside.newest c.tallies.invariant.2 c.count.new.self,
 )
 
@@ -191,9 +195,9 @@ returns-clause-too_many c =
     let d = (goal.at.returns-clause-too_many c).After-get-tally in
     (λ e. cc, λ full. absurd (c.if-tally-limit.false (ap (λ (t : Tally). t.total) (was d) ∙ full)))
 
-pub returns-clause-tallied : goal.returns-clause-tallied
-returns-clause-tallied c =
-    let d = (goal.at.returns-clause-tallied c).After-unwrap-page in
+pub returns-clause-counted_by_kind : goal.returns-clause-counted_by_kind
+returns-clause-counted_by_kind c =
+    let d = (goal.at.returns-clause-counted_by_kind c).After-unwrap-page in
     let kind = c.args.hold.kind in
     let old = c.args.tallies.now.entries in
     let new = tallies_in (set_value_at c.tallies.inside.pages.entries c.in-Some.place c.count.new.self) in
@@ -204,7 +208,8 @@ returns-clause-tallied c =
     subst (λ t. Resets same_handle_kind old new kind (tally_row old kind) (Some t)) now
     (tally_written c.tallies.inside.pages kind c.in-Some.place c.part_of.result c.part_of.ensures c.slot_of-slot.result
     c.slot_of-slot.ensures.value c.in-Some.ensures.found c.get_index_mut.result c.get_index_mut.ensures.value c.get_index_mut.ensures.unique
-    c.unwrap-page.result c.unwrap-page.ensures old (ap (λ (r : PagedTallies). r.entries) c.tallies.view_is) c.count.new.self _ c.count.ensures)
+    c.unwrap-page.result c.unwrap-page.ensures old (ap (λ (r : PagedTallies). r.entries) c.tallies.view_is) c.count.new.self _
+        c.count.ensures)
 
 -- one more than were open
 pub returns-clause-most : goal.returns-clause-most

@@ -9,7 +9,7 @@ making-preserved g c =
     record {
       far = far_on c.args.client.now now.client new.client c.args.key (drafted_calls c.args.key c.args.calls.now.items)
           now.calls.items new.calls.items now.part.replies.items new.part.replies.items now.part.made.items new.part.made.items
-          now.invariant.far c.in_ok-make_first.ensures.went;
+          now.invariant.far c.in_ok-make_first.ensures.synced;
       replies_room = c.make_first.ensures.replies_room;
       made_room = c.make_first.ensures.made_room;
     }

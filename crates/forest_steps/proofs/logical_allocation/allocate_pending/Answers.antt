@@ -39,7 +39,7 @@ returns-in-Some-clause-taken c handles ss place ws u turns no_wait has stays =
     let next = next_by t k _ _ _ _ c.is_next.ensures c.deref.ensures.value c.if-not-is_next.false in
     refused_by _ ws u turns next no_wait c.list_unit.ensures.listed
     (asked_by t k _ ks _ c.deref-2.ensures.value (record { camping = told.camping; at_least = told.at_least; size = told.size }))
-    _ has stays (c.fall_by.ensures.felled handles ss _ u (left _ ws u turns next))
+    _ has stays (c.fall_by.ensures.after_fall handles ss _ u (left _ ws u turns next))
     (sym c.refusal.ensures ∙ c.in-Some.is)
 
 pub fall_by-requires-clause-named : goal.fall_by-requires-clause-named

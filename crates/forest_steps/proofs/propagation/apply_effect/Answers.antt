@@ -3,7 +3,7 @@ use Rattle.forest_steps.proofs.Common.{◌≡◌, ◌∙◌, sym, ap, subst, not
 use Rattle.forest_steps.proofs.Common.{NodeKey, total, Table, node_at, Effect, Entry, Node, Unit, CollectionRow}
 use Rattle.forest_steps.proofs.Common.{EffectCounts, AfterEffect, EffectMade, MidEvent, AreCountsThen, KeepsCounts}
 use Rattle.forest_steps.proofs.mid_event.Changing.{affected_on, still_played}
-use Rattle.forest_steps.proofs.mid_event.Felled.{head_row, lent_there}
+use Rattle.forest_steps.proofs.mid_event.AfterLosses.{head_row, lent_there}
 use Rattle.forest_steps.proofs.mid_event.NextThere.{none_bare}
 use Rattle.forest_steps.proofs.mid_event.Playing.{played_affected, played_none, still_left}
 use Rattle.std.proofs.Common.{rules}

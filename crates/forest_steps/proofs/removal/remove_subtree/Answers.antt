@@ -1,6 +1,6 @@
 -- The nodes that are removed are those that are lost or end.
 use Rattle.forest_steps.proofs.Common.{Some, None, refl, nodes_with, Fault, MayGo}
-use Rattle.forest_steps.proofs.mid_event.Went.{went_ended, went_lost}
+use Rattle.forest_steps.proofs.mid_event.AfterRemovals.{went_ended, went_lost}
 use Rattle.forest_steps.proofs.tables.Rows.{still_named}
 use Rattle.std.proofs.Common.{rules}
 use Rattle.forest_steps.proofs.removal.remove_subtree.Goals as goal

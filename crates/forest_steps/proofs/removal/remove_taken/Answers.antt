@@ -1,6 +1,6 @@
 -- The nodes that a failure takes are written as gone, and neither the units nor the entry count them any more.
 use Rattle.forest_steps.proofs.Common.{List, NodeKey, IsSome, row_at, get_or, subst, ◌+◌, sym, ◌∙◌, ap, list_any, unkept_except}
-use Rattle.forest_steps.proofs.Common.{strong_count, nodes_with, reserved_count, arith, ◌-◌, rules, unreckoned, head_over, went_now}
+use Rattle.forest_steps.proofs.Common.{strong_count, nodes_with, reserved_count, arith, ◌-◌, rules, uncounted_both, head_over, went_now}
 use Rattle.std.proofs.Common.{All}
 use Rattle.std.proofs.lemmas.List.Elements.{Contains-get_or}
 use Rattle.node_table.specs.Forest.{IsForest}
@@ -35,7 +35,7 @@ returns-clause-gone c =
       stores = rw c.deref-2.ensures.value at
           c.remove_all-removed.ensures.stores;
       units = c.remove_all-removed.ensures.units
-          ∙ ap (λ ks. unreckoned t (nodes_with t ks) c.args.nodes.now.units.items) c.deref-2.ensures.value;
+          ∙ ap (λ ks. uncounted_both t (nodes_with t ks) c.args.nodes.now.units.items) c.deref-2.ensures.value;
       row = c.note_gone.ensures.entry.row;
       strong = c.note_gone.ensures.entry.strong ∙ (c.saturating_sub-entry.ensures
           ∙ ap (λ k. c.args.entry.now.strong - k) (c.remove_all-removed.ensures.strong

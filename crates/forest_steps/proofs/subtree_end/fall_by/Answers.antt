@@ -1,24 +1,24 @@
 -- What fell is gone, and what nothing holds then ended.
 use Rattle.forest_steps.proofs.Common.{◌≡◌, refl, sym, ◌∙◌, subst, true, CollectionRow, nodes_with, is_head_left}
-use Rattle.forest_steps.proofs.mid_event.Felled.{felled_alone, felled_on, head_row, lent_there}
+use Rattle.forest_steps.proofs.mid_event.AfterLosses.{after_fall_alone, after_fall_on, head_row, lent_there}
 use Rattle.std.proofs.Common.{rules}
 use Rattle.forest_steps.proofs.subtree_end.fall_by.Goals as goal
 
-pub returns-in_default-clause-felled : goal.returns-in_default-clause-felled
-returns-in_default-clause-felled c handles ss pending u left =
-    felled_alone _ (c.in_default.ensures.went ss _ pending u (left, refl))
+pub returns-in_default-clause-after_fall : goal.returns-in_default-clause-after_fall
+returns-in_default-clause-after_fall c handles ss pending u left =
+    after_fall_alone _ (c.in_default.ensures.went ss _ pending u (left, refl))
 
-pub returns-then-is_some-clause-felled : goal.returns-then-is_some-clause-felled
-returns-then-is_some-clause-felled c handles ss pending u left =
+pub returns-then-is_some-clause-after_fall : goal.returns-then-is_some-clause-after_fall
+returns-then-is_some-clause-after_fall c handles ss pending u left =
     let went = c.in-Some.ensures.went ss _ pending u (left, refl) in
     let still : is_head_left (nodes_with c.remove_subtree.new.nodes.table c.remove_subtree.new.entry.keys.items) c.in-Some.above ≡ true =
     subst (λ (s : CollectionRow). is_head_left (nodes_with c.remove_subtree.new.nodes.table s.keys) c.in-Some.above
     ≡ true) (sym went.row) went.left in
-    felled_on _ went (c.end_above.ensures.led handles ss pending went.under still)
+    after_fall_on _ went (c.end_above.ensures.led handles ss pending went.under still)
     (c.end_above.ensures.ended ss pending went.under still)
 
-pub returns-else-is_some-clause-felled : goal.returns-else-is_some-clause-felled
-returns-else-is_some-clause-felled c handles ss pending u left =
+pub returns-else-is_some-clause-after_fall : goal.returns-else-is_some-clause-after_fall
+returns-else-is_some-clause-after_fall c handles ss pending u left =
     let went = c.in-Some.ensures.went ss _ pending u (left, refl) in
     let row = head_row c.remove_subtree.new.nodes.table c.remove_subtree.ensures.named
     c.args.entry.now.keys.items c.in-Some.above went.left in

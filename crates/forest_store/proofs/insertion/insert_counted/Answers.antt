@@ -31,7 +31,7 @@ returns-clause-units c =
     rw (c.count_born.ensures, c.name.ensures, c.put_unit.ensures, c.no_unit.ensures, c.insert_uncounted.ensures.units)
     (newborn_units _ _ _ c.requires.forest.kept _ _ _ _ _ _ at c.in_ok-key.key c.in_ok-key.ensures.ok.bears
     (rows_of c.insert_uncounted.new.store.entries.items) c.in_ok-key.ensures.ok.entries c.args.store.now.nodes.units.items
-    c.requires.forest.units inside c.bound.ensures)
+    c.requires.forest.units inside c.assert_bounded.ensures)
 
 -- where memory was refused, nothing that is counted changed
 pub returns-in_err-key-clause-units : goal.returns-in_err-key-clause-units

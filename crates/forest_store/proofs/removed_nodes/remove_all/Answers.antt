@@ -1,7 +1,7 @@
 -- One node after another.
 use Rattle.forest_store.proofs.Common.{◌≡◌, ◌+◌, ◌||◌, Bool, [], ◌∷◌, List, drop, get_or, Option, ap, ◌∙◌, sym}
 use Rattle.forest_store.proofs.Common.{arith, cons_option, NodeKey, node_at, Node, nodes_with, strong_count}
-use Rattle.forest_store.proofs.Common.{camped, is_strong, unreckoned, take_more, drop_more, drop_all}
+use Rattle.forest_store.proofs.Common.{camped, is_strong, uncounted_both, take_more, drop_more, drop_all}
 use Rattle.forest_store.proofs.failures.Written.{counts_still, once_before, over_more, row_still, still_there, went_more}
 use Rattle.forest_store.proofs.tallies.Amounts.{amount_first, times_first}
 use Rattle.forest_store.proofs.tallies.AtOnce.{unreckoned_on}
@@ -61,10 +61,10 @@ loop-key-preserved c =
         c.loop-key.invariant.reserved,
       );
       little = omega (arith, c.remove-one.ensures.few, c.loop-key.invariant.little);
-      units = ap (unreckoned t (nodes_with t later))
+      units = ap (uncounted_both t (nodes_with t later))
           (c.remove-one.ensures.units ∙ counts_still t c.requires.named g _ k apart u stores us)
           ∙ unreckoned_on t k later us
-          ∙ ap (λ (ks : List NodeKey). unreckoned t (nodes_with t ks) us) (sym less)
+          ∙ ap (λ (ks : List NodeKey). uncounted_both t (nodes_with t ks) us) (sym less)
           ∙ c.loop-key.invariant.units;
       stores = rw more (went_more t c.requires.named g _ _ apart u stores _ (c.requires.there i none c.loop-key-test.true)
           c.remove-one.ensures.becomes c.remove-one.ensures.writes);

@@ -1,5 +1,5 @@
 use Rattle.forest_store.proofs.Common.{◌≡◌, ◌≤◌, ◌+◌, ◌*◌, drop, take, map, list_any, strong_count}
-use Rattle.forest_store.proofs.Common.{nodes_with, camped, is_unkept, gone_by, unreckoned, Stores}
+use Rattle.forest_store.proofs.Common.{nodes_with, camped, is_unkept, gone_by, uncounted_both, Stores}
 use Rattle.forest_store.proofs.tallies.Amounts.{amount_of}
 use Rattle.forest_store.proofs.removed_nodes.remove_all.Given as goal
 
@@ -12,8 +12,8 @@ invariant-loop-key l = record {
   reserved : l.reserved + amount_of camped (nodes_with l.initial.table (drop l.key-index l.keys))
       ≡ amount_of camped (nodes_with l.initial.table l.keys);
   little : l.reserved ≤ 255 * l.key-index;
-  units : unreckoned l.initial.table (nodes_with l.initial.table (drop l.key-index l.keys)) l.units.items
-      ≡ unreckoned l.initial.table (nodes_with l.initial.table l.keys) l.initial.units.items;
+  units : uncounted_both l.initial.table (nodes_with l.initial.table (drop l.key-index l.keys)) l.units.items
+      ≡ uncounted_both l.initial.table (nodes_with l.initial.table l.keys) l.initial.units.items;
   stores : Stores l.initial.table l.table (map (gone_by l.going) (nodes_with l.initial.table (take l.key-index l.keys)));
   over : l.over ≡ list_any is_unkept (map (gone_by l.going) (nodes_with l.initial.table (take l.key-index l.keys)));
 }

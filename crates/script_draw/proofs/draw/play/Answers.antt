@@ -1,5 +1,5 @@
 use Rattle.std.proofs.Common.{◌∙◌, sym}
-use Rattle.script_draw.proofs.Going.{along-all, along-at, along-more, along-none, along-stop, along-unended}
+use Rattle.script_draw.proofs.Continuing.{along-all, along-at, along-more, along-none, along-stop, along-unended}
 use Rattle.script_draw.proofs.draw.play.Goals as goal
 
 pub lines-init : goal.lines-init

@@ -1,5 +1,5 @@
 use Rattle.std.proofs.Common.{length}
-use Rattle.script_draw.proofs.Going.{Along}
+use Rattle.script_draw.proofs.Continuing.{Along}
 use Rattle.script_draw.proofs.draw.play.Given as goal
 
 -- the lines so far were played

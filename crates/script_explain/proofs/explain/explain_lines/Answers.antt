@@ -1,5 +1,5 @@
 use Rattle.std.proofs.Common.{◌∙◌, sym}
-use Rattle.script_explain.proofs.Going.{along-all, along-empty, along-more, along-none, along-stop, along-unended}
+use Rattle.script_explain.proofs.Continuing.{along-all, along-empty, along-more, along-none, along-stop, along-unended}
 use Rattle.script_explain.proofs.explain.explain_lines.Goals as goal
 
 pub lines-init : goal.lines-init

@@ -1,5 +1,5 @@
 use Rattle.std.proofs.Common.{length}
-use Rattle.script_explain.proofs.Going.{Along}
+use Rattle.script_explain.proofs.Continuing.{Along}
 use Rattle.script_explain.proofs.explain.explain_lines.Given as goal
 
 -- the lines so far were explained

@@ -1,7 +1,7 @@
 use Rattle.std.proofs.Common.{◌∙◌, Bool, subst}
 use Rattle.script_lines.specs.Pieces.{whole_lines}
 use Rattle.sm_script.specs.Scenes.{first_scene}
-use Rattle.script_explain.specs.Tales.{ExplainsLines}
+use Rattle.script_explain.specs.ExplainedLines.{ExplainsLines}
 use Rattle.script_explain.proofs.ToldLines.{replies-told, script-told, summed-script, text-whole}
 use Rattle.script_explain.proofs.laws.explanations_hold_their_script.Goals as goal
 

@@ -1,6 +1,6 @@
 -- What was finished is told of the forest.
 use Rattle.alloc_event.proofs.Common.{Some, refl, sym, subst, total, forest_of, rows_of, Settled, forest_after}
-use Rattle.alloc_event.proofs.changes.Tellings.{settled_birth, settled_change, no_birth}
+use Rattle.alloc_event.proofs.changes.SettledChanges.{settled_birth, settled_change, no_birth}
 use Rattle.alloc_event.proofs.forest.Forest.settle.Goals as goal
 
 pub returns-in-Birth-clause-ok : goal.returns-in-Birth-clause-ok

@@ -17,7 +17,7 @@ use Rattle.buffer_holds.proofs.holds.Holds.add_by_search.Goals as goal
 pub open-requires-clause-within : goal.open-requires-clause-within
 open-requires-clause-within c =
     let kind = kind_of c.args.buffer c.args.strength in
-    omega (arith, (c.self.invariant.0.tallied kind).within)
+    omega (arith, (c.self.invariant.0.counted_by_kind kind).within)
 
 pub open-requires-clause-counted : goal.open-requires-clause-counted
 open-requires-clause-counted c =
@@ -37,7 +37,7 @@ open-requires-clause-some c = λ row.
     )
 
 pub open-requires-clause-listed : goal.open-requires-clause-listed
-open-requires-clause-listed c = (c.self.invariant.0.tallied (kind_of c.args.buffer c.args.strength)).clients
+open-requires-clause-listed c = (c.self.invariant.0.counted_by_kind (kind_of c.args.buffer c.args.strength)).clients
 
 pub open-requires-clause-bounded : goal.open-requires-clause-bounded
 open-requires-clause-bounded c = c.self.invariant.4
@@ -55,7 +55,8 @@ step c ok =
     let tallies = c.self.inside.tallies.entries in
     Step-opened c.self.inside.limit rows c.open.new.rows.entries tallies c.open.new.tallies.entries c.self.invariant.0 hold
     (at_ok (Raises rows c.open.new.rows.entries hold) c.open.result ok c.open.ensures.raised)
-    (at_ok (OpensOne rows c.open.new.rows.entries tallies c.open.new.tallies.entries hold.kind) c.open.result ok c.open.ensures.tallied)
+    (at_ok (OpensOne rows c.open.new.rows.entries tallies c.open.new.tallies.entries hold.kind) c.open.result ok
+        c.open.ensures.counted_by_kind)
     (λ full. ok-not-err c.open.result TooMany ok (c.open.ensures.too_many.1 full))
 
 pub invariant_of-self : goal.invariant_of-self

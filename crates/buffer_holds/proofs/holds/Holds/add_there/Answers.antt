@@ -54,7 +54,7 @@ pub open_there-requires-clause-bounded : goal.open_there-requires-clause-bounded
 open_there-requires-clause-bounded c = c.self.invariant.4
 
 pub open_there-requires-clause-listed : goal.open_there-requires-clause-listed
-open_there-requires-clause-listed c = (c.self.invariant.0.tallied (kind_of c.args.buffer c.args.strength)).clients
+open_there-requires-clause-listed c = (c.self.invariant.0.counted_by_kind (kind_of c.args.buffer c.args.strength)).clients
 
 -- a handle that is opened changes one row and one tally
 step : (c : After-open_there) → c.open_there.result ≡ true →
@@ -70,7 +70,7 @@ step c ok =
     Step-opened c.self.inside.limit rows c.open_there.new.rows.entries tallies c.open_there.new.tallies.entries c.self.invariant.0 hold
     (at_true (Raises rows c.open_there.new.rows.entries hold) c.open_there.result ok c.open_there.ensures.raised)
     (at_true (OpensOne rows c.open_there.new.rows.entries tallies c.open_there.new.tallies.entries hold.kind) c.open_there.result ok
-    c.open_there.ensures.tallied)
+    c.open_there.ensures.counted_by_kind)
     (λ full. omega (arith, full, c.open_there.ensures.fewer ok))
 
 pub invariant_of-self : goal.invariant_of-self
@@ -95,7 +95,8 @@ invariant_of-self c =
 
 pub returns-clause-opened : goal.returns-clause-opened
 returns-clause-opened c = on_true _ c.open_there.result (λ ok. sets_by c.args.client c.args.buffer c.args.strength
-    (step (goal.at.returns-clause-opened c).After-open_there ok) c.args.self.now c.self.view_is (λ n. n + 1) (λ n. n) (λ n. n + 1) refl refl refl)
+    (step (goal.at.returns-clause-opened c).After-open_there ok) c.args.self.now c.self.view_is (λ n. n + 1) (λ n. n) (λ n. n + 1)
+        refl refl refl)
 
 -- the tally has what is open
 pub returns-clause-fewer : goal.returns-clause-fewer

@@ -46,7 +46,7 @@ land-requires-clause-few c =
       c.in-Ok.ensures.fresh,
       one_row-added (row_at c.self.inside.rows.entries hold),
       c.few_rows.ensures kind,
-      (c.self.invariant.0.tallied kind).clients,
+      (c.self.invariant.0.counted_by_kind kind).clients,
     )
 
 pub invariant_of-self-2 : goal.invariant_of-self-2

@@ -28,7 +28,7 @@ lift-requires-clause-fits c =
       arith,
       c.if-not-lower.ensures.had.0 refl,
       count_at-le-total inside.limit inside.rows.entries inside.tallies.entries c.self.invariant.0 hold,
-      (c.self.invariant.0.tallied hold.kind).within,
+      (c.self.invariant.0.counted_by_kind hold.kind).within,
     )
 
 pub invariant_of-self-2 : goal.invariant_of-self-2

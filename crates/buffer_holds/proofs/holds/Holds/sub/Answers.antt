@@ -82,7 +82,7 @@ returns-clause-within c =
       sets.limit,
       c.if-not-lower.ensures.had.0 refl,
       count_at-le-total inside.limit inside.rows.entries inside.tallies.entries c.self.invariant.0 hold,
-      (c.self.invariant.0.tallied hold.kind).within,
+      (c.self.invariant.0.counted_by_kind hold.kind).within,
       total_is inside.limit inside.rows.entries inside.tallies.entries c.self.invariant.0 c.args.buffer c.args.strength,
       ap (λ counts. total counts c.args.buffer c.args.strength) c.self.view_is,
       ap (λ counts. counts.limit) c.self.view_is,

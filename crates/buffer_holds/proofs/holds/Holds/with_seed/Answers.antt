@@ -10,7 +10,7 @@ nothing : (limit : ℕ) → CountsInvariant limit [] []
 unfolding IsDistinct
 nothing limit = record {
   distinct = tt;
-  tallied = λ kind. record { total = omega arith; clients = refl; within = omega arith };
+  counted_by_kind = λ kind. record { total = omega arith; clients = refl; within = omega arith };
   needed = λ kind some. cc;
 }
 

@@ -5,7 +5,7 @@ use Rattle.script_labels.specs.Tables.{Keeps}
 use Rattle.event_texts.specs.declared.labels.Labels.{Labels}
 use Rattle.event_texts.specs.Called.{Calls}
 use Rattle.event_texts.specs.Deeds.{with_event}
-use Rattle.event_texts.specs.Tellings.{TellsFacts}
+use Rattle.event_texts.specs.EventLines.{TellsFacts}
 use Rattle.event_texts.proofs.event_writer.EventWriter.tell.Goals as goal
 
 -- the line was noted

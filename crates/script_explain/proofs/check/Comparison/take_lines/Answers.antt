@@ -1,6 +1,6 @@
 use Rattle.std.proofs.Common.{◌∙◌, sym}
-use Rattle.script_explain.proofs.Going.{agreeing-differs, agreeing-ended, agreeing-more, agreeing-none}
-use Rattle.script_explain.proofs.Going.{agreeing-small, agreeing-stop, agreeing-unended}
+use Rattle.script_explain.proofs.Continuing.{agreeing-differs, agreeing-ended, agreeing-more, agreeing-none}
+use Rattle.script_explain.proofs.Continuing.{agreeing-small, agreeing-stop, agreeing-unended}
 use Rattle.script_explain.proofs.check.Comparison.take_lines.Goals as goal
 
 pub lines-init : goal.lines-init

@@ -1,5 +1,5 @@
 use Rattle.std.proofs.Common.{length}
-use Rattle.script_explain.proofs.Going.{Agreeing}
+use Rattle.script_explain.proofs.Continuing.{Agreeing}
 use Rattle.script_explain.proofs.check.Comparison.take_lines.Given as goal
 
 -- the lines so far were compared, and agree

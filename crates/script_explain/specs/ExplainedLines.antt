@@ -1,12 +1,13 @@
 -- The text of a script that is explained.
-use Rattle.std.specs.Prelude.{◌≡◌, ℕ, ◌+◌, ◌==◌, Bool, true, false, ◌&&◌, ◌||◌, not, if◌then◌else◌, List, [], ◌∷◌, ◌++◌, codes, decimal, drop, length}
+use Rattle.std.specs.Prelude.{◌≡◌, ℕ, ◌+◌, ◌==◌, Bool, true, false, ◌&&◌, ◌||◌}
+use Rattle.std.specs.Prelude.{not, if◌then◌else◌, List, [], ◌∷◌, ◌++◌, codes, decimal, drop, length}
 use Rattle.std.specs.List.{flat_map}
 use Rattle.sm_names.specs.Timelines.{timeline}
 use Rattle.report_io.specs.IndentedLines.{indented, is_indented}
 use Rattle.sm_script.specs.Scenes.{Answers, Scene, as_line}
 use Rattle.event_texts.specs.Failing.{failures}
 use Rattle.event_texts.specs.Deeds.{KeptLines, no_lines}
-use Rattle.event_texts.specs.Tellings.{Tells}
+use Rattle.event_texts.specs.EventLines.{Tells}
 
 -- what stands before a reply: two spaces, if there is one
 abbrev pub indent : List ℕ → List ℕ
@@ -53,5 +54,6 @@ pub data ExplainsLines (pool : ℕ) (only : Bool) (first : Scene) : List (List �
       (answers : Answers pool scene line reply next) →
       Tells pool scene next (length lines + 1) line answers.act kept later facts →
       ExplainsLines pool only first (lines ++ line ∷ [])
-      (text ++ if_told (is_told only pool scene next) (told_line line reply (numbered_facts (length next.history) (length lines + 1) facts)))
+      (text ++ if_told (is_told only pool scene next) (told_line line reply (numbered_facts (length next.history) (length lines + 1)
+          facts)))
       (replies ++ reply) next later

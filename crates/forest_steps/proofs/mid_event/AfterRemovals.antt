@@ -4,7 +4,7 @@ use Rattle.forest_steps.proofs.Common.{List, map, reverse, Option, Some, None, o
 use Rattle.forest_steps.proofs.Common.{same_key, In, In-list_any, In-map, In-map-back, and_both, both_ways, either_way, false_if}
 use Rattle.forest_steps.proofs.Common.{or_cases, or_left, or_right, In-any, Table, node_at, parent_at, Entry, Node, Unit, is_left_of}
 use Rattle.forest_steps.proofs.Common.{CollectionRow, collection_in, nodes_with, row_of, is_of, are_rooted, is_head, arith, same_key-equal}
-use Rattle.forest_steps.proofs.Common.{Fault, map-In, Going, gone_by, all_of, after_end, after_loss, ended, lost, is_below}
+use Rattle.forest_steps.proofs.Common.{Fault, map-In, RemovalKind, gone_by, all_of, after_end, after_loss, ended, lost, is_below}
 use Rattle.forest_steps.proofs.Common.{has_buffers, is_blocking, found_filed, looked-of, all-In, IsLeft, distinct_one, left_node}
 use Rattle.forest_steps.proofs.Common.{IsGoneSo, head_over, IsBeside, MidEvent, AfterRemoval, are_held_except, is_head_left}
 use Rattle.forest_steps.proofs.Common.{is_next_except, waits_among, given_of, goes_in, goes_not, goes_of, gone_of, same_of, none_if}
@@ -16,7 +16,7 @@ use Rattle.forest_steps.proofs.failures.AllGone.{AreGone, held_gone, next_gone, 
 use Rattle.forest_steps.proofs.mid_event.Crossed.{AreFalling, IsMarked, held_but, next_but, root_but}
 use Rattle.forest_steps.proofs.failures.Ties.{fall_below, fall_root, losses_by_fall}
 use Rattle.forest_store.proofs.tables.KeptRoots.{rooted_end, rooted_loss}
-use Rattle.forest_steps.proofs.mid_event.Fallen.{beside_same, nodes_then, store_now}
+use Rattle.forest_steps.proofs.mid_event.InRemoval.{beside_same, nodes_then, store_now}
 use Rattle.forest_steps.proofs.mid_event.Owned.{own_taken}
 use Rattle.forest_steps.proofs.mid_event.Tops.{blocks, head_out, parent, stands_first, top, top_here, top_on, up_falls, takes_below}
 use Rattle.forest_steps.proofs.tables.OfRow.{at_key, linked, tied}
@@ -24,7 +24,7 @@ use Rattle.forest_steps.proofs.mid_event.Roots.{below_root}
 use Rattle.forest_steps.proofs.mid_event.Ready.{whole_under}
 
 module _ {t : Table Node} {us : List Unit} {ss : List CollectionRow} {old : Entry} {unheld pending : List NodeKey}
-    (opens : MidEvent t us ss old unheld pending) {now : Table Node} {after : List Unit} {new : Entry} {going : Going}
+    (opens : MidEvent t us ss old unheld pending) {now : Table Node} {after : List Unit} {new : Entry} {going : RemovalKind}
     {origin : NodeKey} {keys : List NodeKey} (gone : IsGoneSo t now us after old new going origin keys)
     (left : is_left_of (nodes_with t old.keys.items) origin ≡ true) where
   -- the collection's nodes before the removal
@@ -231,7 +231,7 @@ module _ {t : Table Node} {us : List Unit} {ss : List CollectionRow} {old : Entr
     (opens : MidEvent t us ss old unheld pending) (now : Table Node) (after : List Unit) (new : Entry) (origin : NodeKey)
     (keys : List NodeKey) where
   -- the failure of the node takes exactly these keys
-  pub went_lost : (fault : Fault) → IsGoneSo t now us after old new (Going.Fails fault) origin keys →
+  pub went_lost : (fault : Fault) → IsGoneSo t now us after old new (RemovalKind.Fails fault) origin keys →
       is_left_of (nodes_with t old.keys.items) origin ≡ true → fault.origin ≡ origin →
       AfterRemoval t now after ss old new origin (Some fault) (head_over t keys) unheld pending
   went_lost fault gone left is =
@@ -243,10 +243,10 @@ module _ {t : Table Node} {us : List Unit} {ss : List CollectionRow} {old : Entr
       nodes_were : List Node
       nodes_were = nodes_with t old.keys.items
 
-      one_fails : (n : Node) → goes_of (Going.Fails fault) keys n ≡ lost (λ m. list_any (same_key m.key) keys) fault n
+      one_fails : (n : Node) → goes_of (RemovalKind.Fails fault) keys n ≡ lost (λ m. list_any (same_key m.key) keys) fault n
       one_fails n = grind (arith, goes_in, goes_not)
 
-      becomes : map (goes_of (Going.Fails fault) keys) nodes_were ≡ after_loss fault nodes_were
+      becomes : map (goes_of (RemovalKind.Fails fault) keys) nodes_were ≡ after_loss fault nodes_were
       becomes =
           map-In _ _ _ (λ n on. one_fails n)
           ∙ losses_by_fall (tied opens.store.kept opens.store.found) _
@@ -255,7 +255,7 @@ module _ {t : Table Node} {us : List Unit} {ss : List CollectionRow} {old : Entr
   -- ---- without one
 
   -- they leave
-  pub went_ended : {going : Going} → ((n : Node) → gone_by going n ≡ record n { gone = true }) →
+  pub went_ended : {going : RemovalKind} → ((n : Node) → gone_by going n ≡ record n { gone = true }) →
       IsGoneSo t now us after old new going origin keys →
       is_left_of (nodes_with t old.keys.items) origin ≡ true →
       ((n : Node) → In n (nodes_with t old.keys.items) → n.key ≡ origin → is_head n ≡ true) →

@@ -3,8 +3,9 @@ use Rattle.forest_store.proofs.Common.{◌≡◌, ◌≢◌, ℕ, ◌+◌, ◌<�
 use Rattle.forest_store.proofs.Common.{inr, if◌then◌else◌, List, [], ◌∷◌, map, reverse, length, Option, Some, None, option_map}
 use Rattle.forest_store.proofs.Common.{arith, lt-ltb, list_any, option_map_or, NodeKey, same_key, times, In, In-list_any}
 use Rattle.forest_store.proofs.Common.{either_way, same_key-refl, same_key-true, some-injective, In-any, Table, node_at, Node, Unit}
-use Rattle.forest_store.proofs.Common.{unit_at, is_of, are_distinct, are_rooted, hangs_in, head_above, heads_below, lowered, unhung}
-use Rattle.forest_store.proofs.Common.{without_below, bit, list_any-map, head_of, hung, raised, with_below}
+use Rattle.forest_store.proofs.Common.{unit_at, is_of, are_distinct, are_rooted}
+use Rattle.forest_store.proofs.Common.{hangs_in, head_above, heads_below, lowered, uncounted_above}
+use Rattle.forest_store.proofs.Common.{without_below, bit, list_any-map, head_of, counted_above, increment_if, with_below}
 use Rattle.forest_store.proofs.lists.Elements.{times_map}
 use Rattle.forest_store.proofs.tables.Rooted.{distinct_one, left_node, left_parent}
 use Rattle.forest_store.proofs.tables.Writing.{IsSameNode}
@@ -14,8 +15,8 @@ use Rattle.forest_store.proofs.tallies.Amounts.{bit_few, times_more}
 -- ---- one node
 
 -- the node heads a unit right below the one with this head, by the table
-abbrev pub is_hung : Table Node → NodeKey → Node → Bool
-is_hung t k n = is_above k (head_above t n)
+abbrev pub counts_above : Table Node → NodeKey → Node → Bool
+counts_above t k n = is_above k (head_above t n)
 
 -- this many units more hang right below, and the other counts are the same
 pub record Hangs (old new : Unit) (more : ℕ) : Type 0 where
@@ -31,7 +32,7 @@ pub record Drops (old new : Unit) (less : ℕ) : Type 0 where
 
 -- one unit more hangs right below
 abbrev one_more : Node → Unit → Unit
-one_more n u = record { live = u.live; unready = u.unready; below = raised true u.below }
+one_more n u = record { live = u.live; unready = u.unready; below = increment_if true u.below }
 
 -- one unit less does
 abbrev one_less : Node → Unit → Unit
@@ -49,66 +50,67 @@ hangs_less n u b some = grind (arith, lt-ltb)
 
 module _ (t : Table Node) where
   -- each node changes the slot of the unit right above
-  pub hung_by : Changes (hung t) (head_above t) one_more
-  hung_by = record {
+  pub counted_above_by : Changes (counted_above t) (head_above t) one_more
+  counted_above_by = record {
     none = λ us. refl;
-    next = λ n ns us. ap (hung t ns)
+    next = λ n ns us. ap (counted_above t ns)
         (elim (head_above t n) as (λ o. with_below o us ≡ put_at o (one_more n) us) [ None ↦ refl | Some h ↦ refl ]);
   }
 
   -- so where it hangs there no longer
-  pub unhung_by : Changes (unhung t) (head_above t) one_less
-  unhung_by = record {
+  pub uncounted_above_by : Changes (uncounted_above t) (head_above t) one_less
+  uncounted_above_by = record {
     none = λ us. refl;
-    next = λ n ns us. ap (unhung t ns)
+    next = λ n ns us. ap (uncounted_above t ns)
         (elim (head_above t n) as (λ o. without_below o us ≡ put_at o (one_less n) us) [ None ↦ refl | Some h ↦ refl ]);
   }
 
   -- setting elements keeps the length
-  pub unhung_long : (ns : List Node) (us : List Unit) → length (unhung t ns us) ≡ length us
-  unhung_long = same_long unhung_by
+  pub uncounted_above_long : (ns : List Node) (us : List Unit) → length (uncounted_above t ns us) ≡ length us
+  uncounted_above_long = same_long uncounted_above_by
 
   -- none of them hangs below that unit
-  pub unhung_other : (ns : List Node) (us : List Unit) (slot : ℕ) →
-      ((n : Node) → In n ns → (h : NodeKey) → head_above t n ≡ Some h → h.slot ≢ slot) → unit_at (unhung t ns us) slot ≡ unit_at us slot
-  unhung_other = other_slots unhung_by
+  pub uncounted_above_other : (ns : List Node) (us : List Unit) (slot : ℕ) →
+      ((n : Node) → In n ns → (h : NodeKey) → head_above t n ≡ Some h → h.slot ≢ slot) →
+          unit_at (uncounted_above t ns us) slot ≡ unit_at us slot
+  uncounted_above_other = other_slots uncounted_above_by
 
   -- by induction: each head right below adds one
   hangs_all : (k : NodeKey) (ns : List Node) (u : Unit) → u.below + length ns ≤ 18446744073709551615 →
-      Hangs u (in_turn (head_above t) one_more k ns u) (times (is_hung t k) ns)
+      Hangs u (in_turn (head_above t) one_more k ns u) (times (counts_above t k) ns)
   hangs_all k [] u few = record { live = refl; unready = refl; below = omega arith }
   hangs_all k (n ∷ ns) u few =
-      let first = hangs_more n u (is_hung t k n) (omega arith) in
+      let first = hangs_more n u (counts_above t k n) (omega arith) in
       let a = first.below in
-      let w = bit_few (is_hung t k n) in
-      let rest = hangs_all k ns (if is_hung t k n then one_more n u else u) (omega arith) in
+      let w = bit_few (counts_above t k n) in
+      let rest = hangs_all k ns (if counts_above t k n then one_more n u else u) (omega arith) in
       let b = rest.below in
-      let more = times_more (is_hung t k) n ns in
+      let more = times_more (counts_above t k) n ns in
       record { live = rest.live ∙ first.live; unready = rest.unready ∙ first.unready; below = omega arith }
 
   -- so in the slot of the unit
-  pub hung_hangs : (ns : List Node) (us : List Unit) (k : NodeKey) → k.slot < length us →
+  pub counted_above_hangs : (ns : List Node) (us : List Unit) (k : NodeKey) → k.slot < length us →
       ((n : Node) → In n ns → (h : NodeKey) → head_above t n ≡ Some h → h.slot ≡ k.slot → h ≡ k) →
       (unit_at us k.slot).below + length ns ≤ 18446744073709551615 →
-      Hangs (unit_at us k.slot) (unit_at (hung t ns us) k.slot) (times (is_hung t k) ns)
-  hung_hangs ns us k within one few = rw (own_slot hung_by ns us k within one) (hangs_all k ns _ few)
+      Hangs (unit_at us k.slot) (unit_at (counted_above t ns us) k.slot) (times (counts_above t k) ns)
+  counted_above_hangs ns us k within one few = rw (own_slot counted_above_by ns us k within one) (hangs_all k ns _ few)
 
   -- by induction: each head right below takes one
-  drops_all : (k : NodeKey) (ns : List Node) (u : Unit) → times (is_hung t k) ns ≤ u.below →
-      Drops u (in_turn (head_above t) one_less k ns u) (times (is_hung t k) ns)
+  drops_all : (k : NodeKey) (ns : List Node) (u : Unit) → times (counts_above t k) ns ≤ u.below →
+      Drops u (in_turn (head_above t) one_less k ns u) (times (counts_above t k) ns)
   drops_all k [] u some = record { live = refl; unready = refl; below = omega arith }
   drops_all k (n ∷ ns) u some =
-      let more = times_more (is_hung t k) n ns in
-      let first = hangs_less n u (is_hung t k n) (omega arith) in
-      let rest = drops_all k ns (if is_hung t k n then one_less n u else u) (omega arith) in
+      let more = times_more (counts_above t k) n ns in
+      let first = hangs_less n u (counts_above t k n) (omega arith) in
+      let rest = drops_all k ns (if counts_above t k n then one_less n u else u) (omega arith) in
       record { live = rest.live ∙ first.live; unready = rest.unready ∙ first.unready; below = omega arith }
 
   -- so in the slot of the unit
-  pub unhung_drops : (ns : List Node) (us : List Unit) (k : NodeKey) → k.slot < length us →
+  pub uncounted_above_drops : (ns : List Node) (us : List Unit) (k : NodeKey) → k.slot < length us →
       ((n : Node) → In n ns → (h : NodeKey) → head_above t n ≡ Some h → h.slot ≡ k.slot → h ≡ k) →
-      times (is_hung t k) ns ≤ (unit_at us k.slot).below →
-      Drops (unit_at us k.slot) (unit_at (unhung t ns us) k.slot) (times (is_hung t k) ns)
-  unhung_drops ns us k within one some = rw (own_slot unhung_by ns us k within one) (drops_all k ns _ some)
+      times (counts_above t k) ns ≤ (unit_at us k.slot).below →
+      Drops (unit_at us k.slot) (unit_at (uncounted_above t ns us) k.slot) (times (counts_above t k) ns)
+  uncounted_above_drops ns us k within one some = rw (own_slot uncounted_above_by ns us k within one) (drops_all k ns _ some)
 
 -- ---- as it is said of the nodes
 
@@ -149,11 +151,11 @@ module _ (t : Table Node) (nodes : List Node) (distinct : are_distinct nodes ≡
           (x.0, x.1, x.3, some-injective _ h both)
 
   -- by cases on the node's flags and parent: the table has the parent that the list has
-  pub hung_is : (k : NodeKey) (n : Node) → In n nodes → is_hung t k n ≡ heads_below nodes k n
-  hung_is k n on = by (either_way n.gone) (either_way n.attached) _ refl
+  pub counts_above_is : (k : NodeKey) (n : Node) → In n nodes → counts_above t k n ≡ heads_below nodes k n
+  counts_above_is k n on = by (either_way n.gone) (either_way n.attached) _ refl
     where
       by : (n.gone ≡ true) ⊎ (n.gone ≡ false) → (n.attached ≡ true) ⊎ (n.attached ≡ false) → (o : Option NodeKey) → n.parent ≡ o →
-          is_hung t k n ≡ heads_below nodes k n
+          counts_above t k n ≡ heads_below nodes k n
       by (inl g) a o up = grind (arith, is_above)
       by (inr g) (inr a) o up = grind (arith, is_above)
       by (inr g) (inl a) None up = grind (arith, is_above)

@@ -19,7 +19,8 @@ pub lent_there : (o : Option (Bor Node)) {n : Node} → option_copied o ≡ Some
 lent_there None h out = cc
 lent_there (Some b) h out = cc
 
-module _ (handles : Handles) {t mid : Table Node} {us : List Unit} {ss : List CollectionRow} {e e1 : Entry} {fault : Fault} {pending : List NodeKey}
+module _ (handles : Handles) {t mid : Table Node} {us : List Unit} {ss : List CollectionRow} {e e1 : Entry} {fault : Fault} {pending
+    : List NodeKey}
     {above : Option NodeKey} (went : AfterRemoval t mid us ss e e1 fault.origin (Some fault) above [] pending) where
   -- the row of the entry before the loss
   abbrev s : CollectionRow
@@ -30,9 +31,9 @@ module _ (handles : Handles) {t mid : Table Node} {us : List Unit} {ss : List Co
   lost_is = λ i. record (collection_in t s) { nodes = went.nodes i }
 
   -- nothing is above what fell, or else that ends too
-  pub felled_on : {now : Table Node} {new : List Unit} {e2 : Entry} → AfterSteps handles mid now new ss e1 e2 [] pending →
+  pub after_fall_on : {now : Table Node} {new : List Unit} {e2 : Entry} → AfterSteps handles mid now new ss e1 e2 [] pending →
       AreOrEnd (nodes_with mid e1.keys.items) (nodes_with now e1.keys.items) → AfterLoss handles t now new ss e e2 fault pending
-  felled_on {now} led ends = record {
+  after_fall_on {now} led ends = record {
     under = led.under;
     row = led.row ∙ went.row;
     leads = λ pool others after on. rw lost_is at
@@ -48,10 +49,10 @@ module _ (handles : Handles) {t mid : Table Node} {us : List Unit} {ss : List Co
   }
 
 -- nothing hung on what fell, so no unit lost what held it
-pub felled_alone : (handles : Handles) {t now : Table Node} {us : List Unit} {ss : List CollectionRow} {e new : Entry} {fault : Fault}
+pub after_fall_alone : (handles : Handles) {t now : Table Node} {us : List Unit} {ss : List CollectionRow} {e new : Entry} {fault : Fault}
     {pending : List NodeKey} → AfterRemoval t now us ss e new fault.origin (Some fault) None [] pending →
     AfterLoss handles t now us ss e new fault pending
-felled_alone handles {t} {e} went = record {
+after_fall_alone handles {t} {e} went = record {
   under = went.under;
   row = went.row;
   leads = λ pool others after on. subst (λ c. Settles pool handles others c after)

@@ -25,7 +25,8 @@ use Rattle.forced_marks.specs.Moments.{stage_of}
 use Rattle.forced_marks.specs.Steps.{mark_told}
 use Rattle.event_facts.specs.declared.before.Before.{Before}
 use Rattle.event_facts.specs.declared.event.Event.{Event}
-use Rattle.event_facts.specs.Events.{IsCopiedAfter, IsSetOf, IsSnapshot, concerned_by, is_doomed_in, is_newly_doomed, snapshot_held, some_left_in}
+use Rattle.event_facts.specs.Events.{IsCopiedAfter, IsSetOf, IsSnapshot, concerned_by}
+use Rattle.event_facts.specs.Events.{is_doomed_in, is_newly_doomed, snapshot_held, some_left_in}
 use Rattle.event_facts.specs.Facts.{holders_in, is_awaited, is_back, is_keeper, is_on_buffer}
 use Rattle.script_labels.specs.declared.act.Act.{Act}
 use Rattle.script_labels.specs.Names.{Names}

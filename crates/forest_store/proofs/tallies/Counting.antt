@@ -2,7 +2,7 @@
 use Rattle.forest_store.proofs.Common.{Option, Some, None, some-injective, ◌≡◌, ℕ, ◌+◌, ◌<◌, ◌≤◌, nat_lt, refl, ap, ◌∙◌}
 use Rattle.forest_store.proofs.Common.{Bool, true, false, not, ◌&&◌, ◌||◌, if◌then◌else◌, List, [], ◌∷◌, length, is_some}
 use Rattle.forest_store.proofs.Common.{arith, lt-ltb, NodeKey, same_key, times, In, Node, Unit, is_live_node, lives_in}
-use Rattle.forest_store.proofs.Common.{unit_at, waits_in, bit, is_unready, tallied, and-false, and-true, or-true, raised}
+use Rattle.forest_store.proofs.Common.{unit_at, waits_in, bit, is_unready, counted_own, and-false, and-true, or-true, increment_if}
 use Rattle.forest_store.specs.Counts.{with_node}
 use Rattle.forest_store.proofs.tallies.Amounts.{bit_few, times_more}
 use Rattle.forest_store.proofs.tallies.InTurn.{Changes, in_turn, is_above, own_slot, put_at}
@@ -73,13 +73,13 @@ counts_own k n = rw told (lives n.gone (same_key n.head k) n.released, waits n.g
 
 -- the node is counted
 abbrev one_more : Node → Unit → Unit
-one_more n u = record { live = raised (is_live_node n) u.live; unready = raised (is_unready n) u.unready; below = u.below }
+one_more n u = record { live = increment_if (is_live_node n) u.live; unready = increment_if (is_unready n) u.unready; below = u.below }
 
 -- each node changes the slot of its unit
-pub tallied_by : Changes tallied own_unit one_more
-tallied_by = record {
+pub counted_own_by : Changes counted_own own_unit one_more
+counted_own_by = record {
   none = λ us. refl;
-  next = λ n ns us. ap (tallied ns)
+  next = λ n ns us. ap (counted_own ns)
       (elim n.gone as (λ (b : Bool). (if b then us else with_node n us) ≡ put_at (if b then None else Some n.head) (one_more n) us) [
         | true ↦ refl
         | false ↦ refl
@@ -87,15 +87,16 @@ tallied_by = record {
 }
 
 -- by cases: it counts, or not
-raised_is : (is : Bool) (count : ℕ) → count < 18446744073709551615 → raised is count ≡ count + bit is
-raised_is true count less = let room : nat_lt count 18446744073709551615 ≡ true = lt-ltb count 18446744073709551615 less in rw room refl
-raised_is false count less = omega arith
+increment_if_is : (is : Bool) (count : ℕ) → count < 18446744073709551615 → increment_if is count ≡ count + bit is
+increment_if_is true count less = let room : nat_lt count 18446744073709551615 ≡ true = lt-ltb count 18446744073709551615 less in rw
+    room refl
+increment_if_is false count less = omega arith
 
 -- by cases: it is counted, or not
 counts_more : (n : Node) (u : Unit) (b : Bool) → u.live < 18446744073709551615 → u.unready < 18446744073709551615 →
     Gains u (if b then one_more n u else u) (if b then bit (is_live_node n) else 0) (if b then bit (is_unready n) else 0)
 counts_more n u true l w =
-    record { live = raised_is (is_live_node n) u.live l; unready = raised_is (is_unready n) u.unready w; below = refl }
+    record { live = increment_if_is (is_live_node n) u.live l; unready = increment_if_is (is_unready n) u.unready w; below = refl }
 counts_more n u false l w = record { live = omega arith; unready = omega arith; below = refl }
 
 -- by induction: one node after another
@@ -118,9 +119,10 @@ adds_all k (n ∷ ns) u live unready =
     record { live = omega arith; unready = omega arith; below = rest.below ∙ first.below }
 
 -- so in the slot of the unit
-pub tallied_adds : (ns : List Node) (us : List Unit) (k : NodeKey) → k.slot < length us →
+pub counted_own_adds : (ns : List Node) (us : List Unit) (k : NodeKey) → k.slot < length us →
     ((n : Node) → In n ns → n.gone ≡ false → n.head.slot ≡ k.slot → n.head ≡ k) →
     (unit_at us k.slot).live + length ns ≤ 18446744073709551615 → (unit_at us k.slot).unready + length ns ≤ 18446744073709551615 →
-    Gains (unit_at us k.slot) (unit_at (tallied ns us) k.slot) (times (lives_in k) ns) (times (waits_in k) ns)
-tallied_adds ns us k within one live unready =
-    rw (own_slot tallied_by ns us k within (λ n on h is. let x = own_is n h is in rw x.1 at (one n on x.0))) (adds_all k ns _ live unready)
+    Gains (unit_at us k.slot) (unit_at (counted_own ns us) k.slot) (times (lives_in k) ns) (times (waits_in k) ns)
+counted_own_adds ns us k within one live unready =
+    rw (own_slot counted_own_by ns us k within (λ n on h is. let x = own_is n h is in rw x.1 at (one n on x.0))) (adds_all k ns _
+        live unready)

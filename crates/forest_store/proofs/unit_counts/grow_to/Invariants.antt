@@ -1,5 +1,5 @@
 use Rattle.forest_store.proofs.Common.{◌+◌, ◌-◌, vec_len, Extends}
-use Rattle.forest_store.proofs.unit_counts.reach.Given as goal
+use Rattle.forest_store.proofs.unit_counts.grow_to.Given as goal
 
 -- the list is as long at least, and counts what it did
 abbrev pub invariant-on : goal.invariant-on

@@ -1,7 +1,7 @@
 -- Each goal that is proved at once by the tactic that is named.
 use Rattle.std.proofs.Common.{arith, rules}
 use Rattle.std.proofs.lemmas.Grind.{common_steps}
-use Rattle.forest_store.proofs.unit_counts.reach.Goals as goal
+use Rattle.forest_store.proofs.unit_counts.grow_to.Goals as goal
 
 pub returns-then-is_err-clause-ok : goal.returns-then-is_err-clause-ok
 returns-then-is_err-clause-ok c = search rules

@@ -6,23 +6,24 @@ use Rattle.forest_steps.proofs.Common.{In-list_any, In-map, In-map-back, both_wa
 use Rattle.forest_steps.proofs.Common.{Table, node_at, parent_at, Node, Unit, unkept_except, strong_count, AreUnits, lives_in, unit_at}
 use Rattle.forest_steps.proofs.Common.{waits_in, Collection, with_nodes, IsStored, IsWhole, CollectionRow, collection_in, is_filed}
 use Rattle.forest_steps.proofs.Common.{nodes_with, row_of, reserved_count, are_rooted, is_head, Entry, Contains-from_any}
-use Rattle.forest_steps.proofs.Common.{list_any-from_Contains, and-false, blocked_at, Going, HasUnits, hangs_in, heads_below, unit_of}
+use Rattle.forest_steps.proofs.Common.{list_any-from_Contains, and-false, blocked_at, RemovalKind, HasUnits, hangs_in, heads_below, unit_of}
 use Rattle.forest_steps.proofs.Common.{IsTaken, gone_by, Stores, all_of, stored, is_blocking, GoTogether, found_whole, times_map}
 use Rattle.forest_steps.proofs.Common.{in_looked, in_all, looked_there, in_row, all_at, all-In, IsSameNode, Up, StoreAgrees}
-use Rattle.forest_steps.proofs.Common.{or_none_right, unreckoned, given_of, goes_in, goes_not, goes_of, gone_of, same_of, all_in}
+use Rattle.forest_steps.proofs.Common.{or_none_right, uncounted_both, given_of, goes_in, goes_not, goes_of, gone_of, same_of, all_in}
 use Rattle.forest_steps.proofs.Common.{hangs_mapped, looked-map, one_row, IsSound-map, kept-with, IsGoneSo, went_now}
 use Rattle.forest_store.specs.Counts.{HasUnit, AreUnitsExcept, head_above}
 use Rattle.forest_steps.proofs.tables.Upward.{head_there}
-use Rattle.forest_store.specs.LossMarks.{untallied}
+use Rattle.forest_store.specs.LossMarks.{uncounted_own}
 use Rattle.forest_steps.proofs.failures.Ties.{key_equivalence}
 use Rattle.forest_store.proofs.changes.Finishing.{collection-beside, keys_in}
 use Rattle.forest_store.proofs.failures.GoneNodes.{camped_of, filed_fallen, lives_but, stored_goes, strong_but, waits_but}
-use Rattle.forest_store.proofs.tallies.Hung.{above_node, hung_is, is_hung, unhung_drops, unhung_long, unhung_other}
+use Rattle.forest_store.proofs.tallies.CountedAbove.{above_node, counts_above_is, counts_above}
+use Rattle.forest_store.proofs.tallies.CountedAbove.{uncounted_above_drops, uncounted_above_long, uncounted_above_other}
 use Rattle.forest_store.proofs.tallies.Reserved.{reserved_left}
 use Rattle.forest_store.proofs.tallies.Slots.{Stays, but_all, but_join, but_moved, but_stays, one_slot}
 use Rattle.forest_store.proofs.quiescence.Together.{StepsUp, goes_up, together_taken, AreFormed}
 use Rattle.forest_store.proofs.quiescence.United.{united_mapped}
-use Rattle.forest_store.proofs.tallies.Untold.{but, taken_count, times_same, untallied_long, untallied_other, untallied_takes}
+use Rattle.forest_store.proofs.tallies.Untold.{but, taken_count, times_same, uncounted_own_long, uncounted_own_other, uncounted_own_takes}
 use Rattle.forest_store.proofs.leaving.Noted.{more_noted}
 use Rattle.forest_steps.proofs.tables.OfRow.{of_it, linked}
 
@@ -42,7 +43,7 @@ one_option n e = cc
 
 -- ---- the change
 
-module _ {t : Table Node} {us : List Unit} {ss : List CollectionRow} {old : Entry} (store : StoreAgrees t us ss old) (going : Going)
+module _ {t : Table Node} {us : List Unit} {ss : List CollectionRow} {old : Entry} (store : StoreAgrees t us ss old) (going : RemovalKind)
     {origin : NodeKey} {keys : List NodeKey} (taken : IsTaken t origin keys) (own : all_of old.id (nodes_with t keys) ≡ true) where
   -- the row of the entry as it was
   abbrev pub s : CollectionRow
@@ -66,7 +67,7 @@ module _ {t : Table Node} {us : List Unit} {ss : List CollectionRow} {old : Entr
 
   -- the unit counts, which leave out the removed nodes
   abbrev pub new : List Unit
-  new = unreckoned t fallen us
+  new = uncounted_both t fallen us
 
   -- a removed node keeps its place
   same : (n : Node) → IsSameNode (f n) n
@@ -129,10 +130,10 @@ module _ {t : Table Node} {us : List Unit} {ss : List CollectionRow} {old : Entr
 
   -- the heads that fell are taken from those right below
   below_is : (k : NodeKey) →
-      times (heads_below (map f nodes) k) (map f nodes) + times (is_hung t k) fallen ≡ times (heads_below nodes k) nodes
+      times (heads_below (map f nodes) k) (map f nodes) + times (counts_above t k) fallen ≡ times (heads_below nodes k) nodes
   below_is k =
       (λ i. times_map (heads_below (map f nodes) k) (but (heads_below nodes k) keys) f nodes (below_but k) i
-      + times_same (is_hung t k) (heads_below nodes k) fallen (λ n on. hung_is t _ whole.sound.distinct whole.rooted at_key k n
+      + times_same (counts_above t k) (heads_below nodes k) fallen (λ n on. counts_above_is t _ whole.sound.distinct whole.rooted at_key k n
       (within n on)) i) ∙ taken_count t _ whole.sound.distinct at_key store.kept.named _ _ taken.once within
 
   -- the slot of each head has the counts of its unit
@@ -147,7 +148,7 @@ module _ {t : Table Node} {us : List Unit} {ss : List CollectionRow} {old : Entr
       let b : (unit_at us n.key.slot).unready ≡ times (waits_in n.key) nodes = ap (λ (u : Unit). u.unready) was in
       let c = count_is (lives_in n.key) (lives_but n.key keys going) in
       let d = count_is (waits_in n.key) (waits_but n.key keys going) in
-      let takes = untallied_takes fallen us _ inside
+      let takes = uncounted_own_takes fallen us _ inside
       (λ m there here slots. let h = head_of m there here in
       one_slot t m.head n.key h.0 n (ap (node_at t) (sym h.2) ∙ at_key h.0 h.1) (at_key n on) slots)
       (omega arith) (omega arith) in
@@ -156,8 +157,8 @@ module _ {t : Table Node} {us : List Unit} {ss : List CollectionRow} {old : Entr
       let h = takes.below in
       let hangs : (unit_at us n.key.slot).below ≡ times (heads_below nodes n.key) nodes = ap (λ (u : Unit). u.below) was in
       let left = below_is n.key in
-      let own_long = untallied_long fallen us in
-      let drops = unhung_drops t fallen (untallied fallen us) n.key (omega arith)
+      let own_long = uncounted_own_long fallen us in
+      let drops = uncounted_above_drops t fallen (uncounted_own fallen us) n.key (omega arith)
       (λ m there j is slots. let x = above_of m there is in
       one_slot t j n.key x.0 n (ap (node_at t) (sym x.2) ∙ at_key x.0 x.1) (at_key n on) slots) (omega arith) in
       let dl = drops.live in
@@ -170,7 +171,7 @@ module _ {t : Table Node} {us : List Unit} {ss : List CollectionRow} {old : Entr
 
   -- counting keeps the length
   long : length new ≡ length us
-  long = unhung_long t fallen (untallied fallen us) ∙ untallied_long fallen us
+  long = uncounted_above_long t fallen (uncounted_own fallen us) ∙ uncounted_own_long fallen us
 
   -- each slot of a node of the collection has the counts of what is left
   pub has_now : HasUnits new (map f nodes)
@@ -185,13 +186,13 @@ module _ {t : Table Node} {us : List Unit} {ss : List CollectionRow} {old : Entr
   stays : Stays t s.id us new
   stays k n is differ inside = (
     rw long inside,
-    unhung_other t _ _ _ (λ m there j above slots.
+    uncounted_above_other t _ _ _ (λ m there j above slots.
         let h = above_of m there above in
         let at : node_at t j ≡ Some h.0 = ap (node_at t) (sym h.2) ∙ at_key h.0 h.1 in
         let one : j ≡ k = one_slot t j k h.0 n at is slots in
         let node : n ≡ h.0 = one_option n (sym is ∙ (ap (node_at t) (sym one) ∙ at)) in
         differ (ap (λ (x : Node). x.collection) node ∙ of_it store.kept store.found h.0 h.1))
-        ∙ untallied_other _ us _ (λ m there here slots.
+        ∙ uncounted_own_other _ us _ (λ m there here slots.
         let h = head_of m there here in
         let at : node_at t m.head ≡ Some h.0 = ap (node_at t) (sym h.2) ∙ at_key h.0 h.1 in
         let one : m.head ≡ k = one_slot t _ k h.0 n at is slots in
