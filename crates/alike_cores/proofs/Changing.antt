@@ -17,7 +17,8 @@ use Rattle.forest_store.specs.declared.node.Node.{Node}
 use Rattle.forest_store.specs.Forest.{Collection, tidied, with_nodes}
 use Rattle.forest_store.specs.Nodes.{affected, after_effect, is_unkept, members_of, new_child, new_root, node_of, with_end}
 use Rattle.forest_store.specs.Settling.{Handles, changed, given_back, is_home_in, with_birth}
-use Rattle.alike_cores.specs.Renamed.{CountsAlike, KeepsKeys, buffer_renamed, change_renamed, collection_renamed, held_renamed, node_renamed}
+use Rattle.alike_cores.specs.Renamed.{CountsAlike, KeepsKeys, buffer_renamed}
+use Rattle.alike_cores.specs.Renamed.{change_renamed, collection_renamed, held_renamed, node_renamed}
 use Rattle.alike_cores.proofs.Renamings.{loss-renamed, members-renamed, node_of-renamed}
 use Rattle.alike_cores.proofs.Forcings.{filter_alike, strong-renamed}
 use Rattle.alike_cores.proofs.Settlings.{map_alike}

@@ -68,7 +68,8 @@ pub record AreAlike (to : NodeKey → NodeKey) (id : ℕ → ℕ) (r s : Reading
   pub shut : (client : ℕ) → s.is_shut client ≡ r.is_shut client
   pub ends : (key : NodeKey) → s.end_of (to key) ≡ option_map (end_renamed to id) (r.end_of key)
   pub waiting : (client : ℕ) → s.waiting client ≡ map (parcel_renamed to id) (r.waiting client)
-  pub open_of : (client : ℕ) (buffer : BufferName) (strength : Strength) → s.open_of client (buffer_renamed id buffer) strength ≡ r.open_of client buffer strength
+  pub open_of : (client : ℕ) (buffer : BufferName) (strength : Strength) →
+      s.open_of client (buffer_renamed id buffer) strength ≡ r.open_of client buffer strength
   pub total : (buffer : BufferName) (strength : Strength) → s.open_total (buffer_renamed id buffer) strength ≡ r.open_total buffer strength
   pub nodes : s.kept_nodes ≡ r.kept_nodes
   pub collections : s.kept_collections ≡ r.kept_collections
@@ -86,6 +87,7 @@ client_renamed to id c = record c { waiting = map (parcel_renamed to id) c.waiti
 pub record IsRenamed (to : NodeKey → NodeKey) (id : ℕ → ℕ) (s t : State) : Type 0 where
   pub clients : t.clients ≡ map (client_renamed to id) s.clients
   pub collections : t.forest.collections ≡ map (collection_renamed to id) s.forest.collections
-  pub open_of : (client : ℕ) (b : BufferName) (strength : Strength) → of t.holds client (buffer_renamed id b) strength ≡ of s.holds client b strength
+  pub open_of : (client : ℕ) (b : BufferName) (strength : Strength) →
+      of t.holds client (buffer_renamed id b) strength ≡ of s.holds client b strength
   pub total : CountsAlike id (total s.holds) (total t.holds)
   pub unfired : length t.trackers.unfired ≡ length s.trackers.unfired

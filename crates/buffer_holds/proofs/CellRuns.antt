@@ -126,7 +126,7 @@ module _ (limit : ℕ) (rows : PagedRows) (tallies : PagedTallies) (first : Hold
     (tally_base : List (Part × List (Option Tally))) (write_tally : List (Option Tally) → List (Part × List (Option Tally)))
     (sums : List (Option Tally))
     (tally_written : (t : List (Option Tally)) → Resets same_part tally_base (write_tally t) (part_of first.kind) (Some sums) (Some
-        t)) where
+    t)) where
   -- the rows with this page
   abbrev pub rows_with : List (Option ℕ) → PagedRows
   rows_with p = record { entries = rows_in (write_row p); room = rows.room }
@@ -271,7 +271,7 @@ module _ (limit : ℕ) (rows : PagedRows) (tallies : PagedTallies) (first : Hold
   skipped_on most p t n lacks runs =
       one_on most p t n (runs_next (rows_with p) (tallies_with t) runs
       (below_same limit (rows_with p) (tallies_with t) (with_index first (index + n)) (rest / 2 ^ n) lacks) (λ newest within none.
-          none) most
+      none) most
       runs.sound (room_behind limit (rows_with p) (tallies_with t) first.kind.buffer.collection first.kind.strength (index + n)
       (rest / 2 ^ n) runs.room))
 
@@ -292,7 +292,7 @@ module _ (limit : ℕ) (rows : PagedRows) (tallies : PagedTallies) (first : Hold
       let here : index ≡ index + 0 = omega arith in
       let whole : rest ≡ rest / 2 ^ 0 = omega arith in
       subst (λ i. Runs limit (rows_with page) (rows_with page) (tallies_with sums) (tallies_with sums) most first rest i (rest / 2 ^
-          0)) here
+      0)) here
       (subst (Runs limit (rows_with page) (rows_with page) (tallies_with sums) (tallies_with sums) most first rest index) whole (record {
         sound = sound;
         room = room;

@@ -1,5 +1,6 @@
 -- What a change of a page does to the rows.
-use Rattle.std.proofs.Common.{ℕ, ◌∷◌, ◌≡◌, ◌+◌, ◌==◌, refl, sym, ap, subst, ◌∙◌, Bool, true, false, if◌then◌else◌, List, [], Option, Some, None, sum_by, arith}
+use Rattle.std.proofs.Common.{ℕ, ◌∷◌, ◌≡◌, ◌+◌, ◌==◌, refl, sym, ap, subst, ◌∙◌}
+use Rattle.std.proofs.Common.{Bool, true, false, if◌then◌else◌, List, [], Option, Some, None, sum_by, arith}
 use Rattle.std.proofs.Common.{All, MutBor, is_some, length, slice_get, slice_index_or, unwrap_or, ◌-◌, ◌<◌, ◌≤◌, ◌&&◌}
 use Rattle.std.proofs.lemmas.List.Sums.{sum_by-cons}
 use Rattle.std.specs.Bool.{OnTrue, OnFalse}
@@ -14,10 +15,12 @@ use Rattle.buffer_holds.specs.declared.kinds.Hold.{Hold}
 use Rattle.buffer_holds.specs.declared.names.Owner.{Owner}
 use Rattle.buffer_holds.specs.Kinds.{same_handle_kind, same_hold}
 use Rattle.buffer_holds.specs.Sound.{one_of}
-use Rattle.buffer_holds.specs.Pages.{cell_at, flat, hold_at, kind_at, owner_of, page_of, page_size, part_of, rows_in, same_owner, same_part, slot_of, IsBlank, IsNewest, SetsCell, StandsBlank, TakesPage}
+use Rattle.buffer_holds.specs.Pages.{cell_at, flat, hold_at, kind_at, owner_of, page_of, page_size, part_of}
+use Rattle.buffer_holds.specs.Pages.{rows_in, same_owner, same_part, slot_of, IsBlank, IsNewest, SetsCell, StandsBlank, TakesPage}
 use Rattle.buffer_holds.specs.Rows.{row_at, weight_at, Keeps, Resets, StandsAt}
 use Rattle.buffer_holds.proofs.PageLemmas.{distinct_flat, flat_keeps, flat_resets, found, sum_few, weighed_once}
-use Rattle.buffer_holds.proofs.PageNames.{derived_owner, hold_law, hold_whole, kind_law, kind_whole, same_owner-one, same_owner-refl, slot_within}
+use Rattle.buffer_holds.proofs.PageNames.{derived_owner, hold_law, hold_whole, kind_law}
+use Rattle.buffer_holds.proofs.PageNames.{kind_whole, same_owner-one, same_owner-refl, slot_within}
 use Rattle.buffer_holds.proofs.RowLemmas.{lookup_placed, resets_placed, set_value_at-same, value_lent_at}
 
 -- without pages there are no rows

@@ -1,5 +1,6 @@
 -- Handles on the buffers of a set, opened one after the other in the same two pages.
-use Rattle.std.proofs.Common.{ℕ, ◌≡◌, ◌==◌, ◌≢◌, ◌+◌, ◌-◌, ◌/◌, ◌%◌, ◌^◌, ◌<◌, ◌≤◌, ◌∙◌, refl, sym, ap, subst, Bool, true, false, length, Some, arith}
+use Rattle.std.proofs.Common.{ℕ, ◌≡◌, ◌==◌, ◌≢◌, ◌+◌, ◌-◌, ◌/◌, ◌%◌, ◌^◌, ◌<◌, ◌≤◌}
+use Rattle.std.proofs.Common.{◌∙◌, refl, sym, ap, subst, Bool, true, false, length, Some, arith}
 use Rattle.std.proofs.lemmas.Nat.{shr-shr}
 use Rattle.std.specs.Int.{bit_at}
 use Rattle.sm_names.specs.declared.keys.BufferName.{BufferName}
@@ -35,7 +36,8 @@ other_kind collection strength m n differ = by (same_handle_kind (kind_of (at m)
     at index = record { collection = collection; index = index }
 
     by : (b : Bool) → same_handle_kind (kind_of (at m) strength) (kind_of (at n) strength) ≡ b → b ≡ false
-    by true e = absurd (differ (ap (λ (k : HandleKind). k.buffer.index) (same_kind-one (kind_of (at m) strength) (kind_of (at n) strength) e)))
+    by true e = absurd (differ (ap (λ (k : HandleKind). k.buffer.index) (same_kind-one (kind_of (at m) strength) (kind_of (at n)
+        strength) e)))
     by false e = refl
 
 module _ (limit : ℕ) (rows : PagedRows) (tallies : PagedTallies) (collection : ℕ) (strength : Strength) (index rest : ℕ)
@@ -65,7 +67,8 @@ module _ (old : Counts) (collection : ℕ) (strength : Strength) (index rest : �
   fewer_here odd =
       let none : index + 0 ≡ index = omega arith in
       let whole : rest / 2 ^ 0 ≡ rest = omega arith in
-      subst (λ i. total old (record { collection = collection; index = i }) strength < old.limit) none (room 0 (ap (λ m. m % 2) whole ∙ odd))
+      subst (λ i. total old (record { collection = collection; index = i }) strength < old.limit) none (room 0 (ap (λ m. m % 2) whole
+      ∙ odd))
 
   -- and on those behind it, as before
   pub fewer_behind : {new : Counts} {client held in_parcels in_all : ℕ} →
@@ -145,7 +148,8 @@ module _ (limit most : ℕ) (rows rows' : PagedRows) (tallies tallies' : PagedTa
       (λ later. absurd (omega (arith, later, within))) none
 
 -- the buffers from that of the hold on, below this index, were gone through: this is left of the set
-pub record Runs (limit : ℕ) (old_rows rows : PagedRows) (old_tallies tallies : PagedTallies) (most : ℕ) (first : Hold) (rest index left : ℕ) : Type 0 where
+pub record Runs (limit : ℕ) (old_rows rows : PagedRows) (old_tallies tallies : PagedTallies) (most : ℕ) (first : Hold) (rest index
+    left : ℕ) : Type 0 where
   pub sound : IsSound limit most rows tallies
   pub room : HasRoomFor limit rows tallies first.kind.buffer.collection first.kind.strength index left
   pub opened : (places : ℕ) (before : Counts) (set : ℕ) → set / 2 ^ first.kind.buffer.index ≡ rest →
@@ -167,7 +171,8 @@ with_index first index = record {
 
 -- one buffer more is gone through
 module _ {limit : ℕ} {old_rows rows : PagedRows} {old_tallies tallies : PagedTallies} {most : ℕ} {first : Hold}
-    {rest index left : ℕ} (rows' : PagedRows) (tallies' : PagedTallies) (runs : Runs limit old_rows rows old_tallies tallies most first rest index left)
+    {rest index left : ℕ} (rows' : PagedRows) (tallies' : PagedTallies) (runs : Runs limit old_rows rows old_tallies tallies most
+    first rest index left)
     (opens : OpensBelow limit rows rows' tallies tallies' (with_index first index) left (index + 1))
     (keeps : KeepsOlder first.kind.buffer.collection tallies tallies') where
   -- those of the set below the next index are open

@@ -1,5 +1,6 @@
 -- The cells of a page of tallies.
-use Rattle.std.proofs.Common.{ℕ, zero, suc, ◌≡◌, ◌+◌, ◌<◌, ◌≤◌, ◌==◌, refl, sym, ap, subst, ◌∙◌, Bool, true, false, not, cond, if◌then◌else◌, List, [], ◌∷◌}
+use Rattle.std.proofs.Common.{ℕ, zero, suc, ◌≡◌, ◌+◌, ◌<◌, ◌≤◌, ◌==◌, refl, sym, ap}
+use Rattle.std.proofs.Common.{subst, ◌∙◌, Bool, true, false, not, cond, if◌then◌else◌, List, [], ◌∷◌}
 use Rattle.std.proofs.Common.{Option, Some, None, IsSome, is_some, arith, count_by, get_or, length, map, set, sum_by, unwrap_or}
 use Rattle.std.proofs.lemmas.Bool.{and_parts, eqb-false, eqb-true}
 use Rattle.std.proofs.lemmas.List.{get_or-set_same, get_or-set_other}
@@ -42,11 +43,13 @@ cells_set_busy ts at v within busy =
     subst (λ o. SetsCell (map kept ts) (map kept (set ts at v)) at o) (ap (λ b. if b then None else Some v) busy) (cells_set ts at v within)
 
 -- tallies stay plain
-pub plain_set : (ts : List Tally) (at : ℕ) (v : Tally) → at < length ts → (is_idle v ≡ true → v ≡ no_tally) → IsPlain ts → IsPlain (set ts at v)
+pub plain_set : (ts : List Tally) (at : ℕ) (v : Tally) → at < length ts → (is_idle v ≡ true → v ≡ no_tally) → IsPlain ts →
+    IsPlain (set ts at v)
 plain_set ts at v within idle plain = λ other.
     subst (λ t. is_idle t ≡ true → t ≡ no_tally) (sym (read_set ts at v other within)) (by other (at == other))
   where
-    by : (other : ℕ) (b : Bool) → is_idle (if b then v else get_or ts other no_tally) ≡ true → (if b then v else get_or ts other no_tally) ≡ no_tally
+    by : (other : ℕ) (b : Bool) → is_idle (if b then v else get_or ts other no_tally) ≡ true →
+        (if b then v else get_or ts other no_tally) ≡ no_tally
     by other true = idle
     by other false = plain other
 

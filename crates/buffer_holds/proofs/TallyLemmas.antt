@@ -1,5 +1,6 @@
 -- What a change of a page does to the tallies.
-use Rattle.std.proofs.Common.{ℕ, ◌≡◌, ◌==◌, refl, sym, ap, subst, ◌∙◌, Bool, true, false, if◌then◌else◌, List, [], Option, Some, None, arith}
+use Rattle.std.proofs.Common.{ℕ, ◌≡◌, ◌==◌, refl, sym, ap, subst, ◌∙◌, Bool}
+use Rattle.std.proofs.Common.{true, false, if◌then◌else◌, List, [], Option, Some, None, arith}
 use Rattle.std.proofs.Common.{All, Bor, IfSome, MutBor, length, slice_get, slice_index_or, unwrap_or, ◌-◌, ◌<◌, ◌≤◌}
 use Rattle.std.specs.HashMap.{HashMap, get, values, IsUnique}
 use Rattle.std.specs.List.{IsDistinct}
@@ -30,18 +31,22 @@ no_tallies_in = refl
 pub tally_found : (kind : HandleKind) (pages : List (Part × List (Option Tally))) → IsDistinct same_part (keys_of pages) →
     tally_row (tallies_in pages) kind ≡ cell_at (page_of (lookup (same_part (part_of kind)) pages)) (slot_of kind)
 tally_found kind pages distinct =
-    found kind_at page_size same_part same_handle_kind kind_law same_part-one same_part-refl part_of slot_of kind_whole slot_within kind pages distinct
+    found kind_at page_size same_part same_handle_kind kind_law same_part-one same_part-refl part_of slot_of kind_whole slot_within
+    kind pages distinct
 
 -- a page that changed in one cell changes one row
-pub tallies_cell_reset : (kind : HandleKind) (old new : List (Part × List (Option Tally))) (was now : Option (List (Option Tally))) (count : Option Tally) →
+pub tallies_cell_reset : (kind : HandleKind) (old new : List (Part × List (Option Tally))) (was now : Option (List (Option Tally)))
+    (count : Option Tally) →
     IsDistinct same_part (keys_of old) → Resets same_part old new (part_of kind) was now
     → SetsCell (page_of was) (page_of now) (slot_of kind) count →
     Resets same_handle_kind (tallies_in old) (tallies_in new) kind (cell_at (page_of was) (slot_of kind)) count
 tallies_cell_reset kind old new was now count distinct resets sets =
-    flat_resets kind_at page_size same_part same_handle_kind kind_law same_part-one same_part-refl part_of slot_of kind_whole slot_within kind old new was now count distinct resets sets
+    flat_resets kind_at page_size same_part same_handle_kind kind_law same_part-one same_part-refl part_of slot_of kind_whole
+    slot_within kind old new was now count distinct resets sets
 
 -- the same, told of the row
-pub tallies_reset : (kind : HandleKind) (old new : List (Part × List (Option Tally))) (was now : Option (List (Option Tally))) (count : Option Tally) →
+pub tallies_reset : (kind : HandleKind) (old new : List (Part × List (Option Tally))) (was now : Option (List (Option Tally))) (count
+    : Option Tally) →
     IsDistinct same_part (keys_of old) → Resets same_part old new (part_of kind) was now
     → SetsCell (page_of was) (page_of now) (slot_of kind) count →
     Resets same_handle_kind (tallies_in old) (tallies_in new) kind (tally_row (tallies_in old) kind) count
@@ -67,8 +72,10 @@ newest_bare newest old new part was resets none other later =
     by false = none other later
 
 -- nor does a page that is new, where the newest one becomes so new
-pub newest_made : (newest newest' : ℕ) (old new : List (Part × List (Option Tally))) (part : Part) (was now : Option (List (Option Tally))) →
-    Resets same_part old new part was now → newest ≤ newest' → part.collection ≤ newest' → IsNewestPart newest old → IsNewestPart newest' new
+pub newest_made : (newest newest' : ℕ) (old new : List (Part × List (Option Tally))) (part : Part) (was now : Option (List (Option
+    Tally))) →
+    Resets same_part old new part was now → newest ≤ newest' → part.collection ≤ newest' → IsNewestPart newest old →
+    IsNewestPart newest' new
 newest_made newest newest' old new part was now resets grows within none other later =
     resets.finds other ∙ by (same_part part other) refl
   where
@@ -93,7 +100,8 @@ tallies_without old new place distinct stands takes =
       λ newest. newest_bare newest old new part (Some page) resets,
     )
 
-module _ (kind : HandleKind) (pages : List (Part × List (Option Tally))) (entries : List (HandleKind × Tally)) (is : tallies_in pages ≡ entries)
+module _ (kind : HandleKind) (pages : List (Part × List (Option Tally))) (entries : List (HandleKind × Tally)) (is : tallies_in pages
+    ≡ entries)
     (distinct : IsDistinct same_part (keys_of pages)) (part : Part) (part_is : part ≡ part_of kind) where
   -- a cell that was read is the row
   pub cell_tally : (slot : ℕ) → slot ≡ slot_of kind → (cell : Option Tally) →
@@ -110,7 +118,8 @@ module _ (kind : HandleKind) (pages : List (Part × List (Option Tally))) (entri
       ∙ ap (λ o. cell_at (page_of o) (slot_of kind)) none)
 
 -- a page that was read at its place has the tally
-pub tally_read : {S : Type 0} (m : HashMap Part (List (Option Tally)) S) (kind : HandleKind) (place : ℕ) (part : Part) (part_is : part ≡ part_of kind)
+pub tally_read : {S : Type 0} (m : HashMap Part (List (Option Tally)) S) (kind : HandleKind) (place : ℕ) (part : Part) (part_is :
+    part ≡ part_of kind)
     (slot : ℕ) (slot_is : slot ≡ slot_of kind) (found : StandsAt m.entries place part) (distinct : IsDistinct same_part (keys_of m.entries))
     (lent : Option (Bor Part × Bor (List (Option Tally)))) → option_map deref_pair lent ≡ slice_get m.entries place →
     IfSome lent (λ p. get derived.it m p.0.now ≡ Some p.1.now) → (read : Bor Part × Bor (List (Option Tally))) → lent ≡ Some read →
@@ -122,7 +131,8 @@ tally_read m kind place part part_is slot slot_is found distinct lent entry valu
     (ap (λ o. cell_at (page_of o) slot) (sym row))
 
 -- a page that is lent at the place where it stands
-module _ {S : Type 0} (m : HashMap Part (List (Option Tally)) S) (kind : HandleKind) (place : ℕ) (part : Part) (part_is : part ≡ part_of kind)
+module _ {S : Type 0} (m : HashMap Part (List (Option Tally)) S) (kind : HandleKind) (place : ℕ) (part : Part) (part_is : part ≡
+    part_of kind)
     (slot : ℕ) (slot_is : slot ≡ slot_of kind) (found : StandsAt m.entries place part) (lent : Option (MutBor (List (Option Tally))))
     (value : option_copied_mut lent ≡ slice_get (values m) place) (unique : IsUnique derived.it m) (page : MutBor (List (Option Tally)))
     (page_is : lent ≡ Some page) where
@@ -153,7 +163,8 @@ module _ {S : Type 0} (m : HashMap Part (List (Option Tally)) S) (kind : HandleK
   distinct_tallies w = (page_written w).distinct
 
   -- and none is newer than before
-  pub newest_tallies : (newest : ℕ) → IsNewestPart newest m.entries → (w : List (Option Tally)) → IsNewestPart newest (set_value_at m.entries place w)
+  pub newest_tallies : (newest : ℕ) → IsNewestPart newest m.entries → (w : List (Option Tally)) →
+      IsNewestPart newest (set_value_at m.entries place w)
   newest_tallies newest none w other later = (page_written w).finds other ∙ by (same_part (part_of kind) other) refl
     where
       by : (b : Bool) → same_part (part_of kind) other ≡ b → (if b then Some w else lookup (same_part other) m.entries) ≡ None

@@ -38,7 +38,8 @@ pub data CountsCells (page : List (Option ℕ)) (tallies : List (Option Tally)) 
 -- where so many cells were gone through, this one is gone through next: a set whose rest is this from there on may have its bit
 abbrev pub CountsNext : (page page' : List (Option ℕ)) (tallies tallies' : List (Option Tally)) (most most' at rest : ℕ) → Type 0
 CountsNext page page' tallies tallies' most most' at rest =
-    (page0 : List (Option ℕ)) (tallies0 : List (Option Tally)) (most0 first size set n : ℕ) → at ≡ first + n → rest ≡ set / 2 ^ n → n < size →
+    (page0 : List (Option ℕ)) (tallies0 : List (Option Tally)) (most0 first size set n : ℕ) → at ≡ first + n → rest ≡ set / 2 ^ n →
+    n < size →
     CountsCells page0 tallies0 most0 first size set page tallies most n →
     CountsCells page0 tallies0 most0 first size set page' tallies' most' (n + 1)
 

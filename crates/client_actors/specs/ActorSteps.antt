@@ -1,5 +1,6 @@
 -- What an actor has, and the steps that it made.
-use Rattle.std.specs.Prelude.{ℕ, ◌≡◌, ◌≤◌, ◌+◌, ◌⊎◌, if◌then◌else◌, List, [], ◌∷◌, ◌++◌, map, reverse, flat_map, Option, Some, None, vec_len, vec_capacity}
+use Rattle.std.specs.Prelude.{ℕ, ◌≡◌, ◌≤◌, ◌+◌, ◌⊎◌, if◌then◌else◌, List, [], ◌∷◌}
+use Rattle.std.specs.Prelude.{◌++◌, map, reverse, flat_map, Option, Some, None, vec_len, vec_capacity}
 use Rattle.std.specs.List.{All}
 use Rattle.sm_names.specs.declared.messages.Call.{Call}
 use Rattle.sm_names.specs.declared.messages.Reply.{Reply}
@@ -7,7 +8,8 @@ use Rattle.event_laws.specs.declared.own.Own.{Own}
 use Rattle.client_ends.specs.declared.held.ParcelContent.{ParcelContent}
 use Rattle.client_ends.specs.declared.held.Held.{Held}
 use Rattle.client_ends.specs.Clients.{Made, Seen}
-use Rattle.client_vanish.specs.Vanishings.{AllHeldBy, Holds, IsBroken, IsGone, Remains, HeldObject, Token, Collection, Handle, held_in, sorted}
+use Rattle.client_vanish.specs.Vanishings.{AllHeldBy, Holds, IsBroken, IsGone, Remains}
+use Rattle.client_vanish.specs.Vanishings.{HeldObject, Token, Collection, Handle, held_in, sorted}
 use Rattle.client_vanish.specs.Stacks.{kept_objects}
 use Rattle.actor_scripts.specs.declared.step.Step.{Step}
 use Rattle.actor_scripts.specs.declared.object.StepCall.{StepCall}

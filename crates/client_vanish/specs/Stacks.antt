@@ -5,7 +5,8 @@ use Rattle.sm_names.specs.declared.messages.Reply.{Reply}
 use Rattle.client_ends.specs.declared.held.ParcelContent.{ParcelContent}
 use Rattle.client_ends.specs.declared.held.Held.{Held}
 use Rattle.client_ends.specs.Clients.{Made, MadeAll, Seen}
-use Rattle.client_vanish.specs.Vanishings.{Holds, HeldObject, collections_among, end_told, handles_among, handle_told, kept_of, vanishing_call, sorted, object_of, tokens_among}
+use Rattle.client_vanish.specs.Vanishings.{Holds, HeldObject, collections_among, end_told, handles_among}
+use Rattle.client_vanish.specs.Vanishings.{handle_told, kept_of, vanishing_call, sorted, object_of, tokens_among}
 use Rattle.client_vanish.specs.declared.vanishing.Room.{Room}
 use Rattle.std.specs.Prelude.{replicate, Option, None, Some, Bool, true, ◌⊎◌}
 

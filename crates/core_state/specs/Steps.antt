@@ -1,5 +1,6 @@
 -- What an event makes of a core's state.
-use Rattle.std.specs.Prelude.{ℕ, ◌+◌, ◌-◌, Bool, true, false, ◌||◌, not, nat_le, if◌then◌else◌, List, [], ◌++◌, map, drop, Option, Some, None, ◌≡◌}
+use Rattle.std.specs.Prelude.{ℕ, ◌+◌, ◌-◌, Bool, true, false, ◌||◌, not, nat_le}
+use Rattle.std.specs.Prelude.{if◌then◌else◌, List, [], ◌++◌, map, drop, Option, Some, None, ◌≡◌}
 use Rattle.std.specs.List.{filter, cons_option, list_all}
 use Rattle.std.specs.Option.{option_map, option_and_then}
 use Rattle.sm_names.specs.declared.keys.BufferName.{BufferName}

@@ -11,7 +11,8 @@ use Rattle.sm_names.specs.declared.keys.NodeKey.{NodeKey}
 use Rattle.sm_names.specs.declared.keys.Strength.{Strength}
 use Rattle.sm_names.specs.declared.messages.Call.{Call}
 use Rattle.sm_names.specs.declared.messages.Reply.{Reply}
-use Rattle.sm_names.specs.Answers.{Readings, acquires, has_none, is_at_limit, kind_for, makes_collection, makes_node, makes_tracker, no_handle, receiver_of, strength_of, too_many_handles}
+use Rattle.sm_names.specs.Answers.{Readings, acquires, has_none, is_at_limit, kind_for, makes_collection}
+use Rattle.sm_names.specs.Answers.{makes_node, makes_tracker, no_handle, receiver_of, strength_of, too_many_handles}
 use Rattle.sm_names.specs.Bounds.{Bound}
 use Rattle.sm_names.specs.CallRows.{argument_client, is_acquired, is_collection, is_node, is_tracker, parts_of, row_for, target_kind}
 use Rattle.sm_names.specs.Timelines.{key_of}

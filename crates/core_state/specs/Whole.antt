@@ -67,7 +67,8 @@ pub record IsAmid (f : Forest) (id : ℕ) (leaving : Option NodeKey) : Type 0 wh
   pub alone : (key : NodeKey) → leaving ≡ Some key → (c : Collection) → In c f.collections → (c.id == id) ≡ false → (n : Node) →
       In n c.nodes → n.key ≡ key → ⊥
 
--- the event can be finished: the forest is sound, except for nodes of the task's collection that may be forgotten, and the end that the task spends
+-- the event can be finished: the forest is sound, except for nodes of the task's collection that may be forgotten, and the end
+-- that the task spends
 abbrev pub CanFinish : Forest → Option EventTask → Type 0
 CanFinish f None = IsSound f
 CanFinish f (Some t) = IsAmid f t.collection t.spends

@@ -25,7 +25,8 @@ use Rattle.event_facts.specs.Facts.{is_keeper}
 
 -- the collection of the handle that the call drops, if the client has such a handle open
 abbrev pub dropped_on : Counts → ℕ → Call → Option ℕ
-dropped_on holds client (Call.DropHandle buffer strength) = if nat_lt 0 (of holds client buffer strength) then Some buffer.collection else None
+dropped_on holds client (Call.DropHandle buffer strength) = if nat_lt 0 (of holds client buffer strength) then Some buffer.collection
+    else None
 dropped_on holds client _ = None
 
 -- the collection of which a call with this reply changes a node

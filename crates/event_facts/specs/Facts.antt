@@ -58,7 +58,8 @@ client_holds holds buffer client =
 abbrev pub holders_in : Counts → List ℕ → BufferName → List Holder
 holders_in holds clients buffer =
     flat_map (client_holds holds buffer) clients
-    ++ (holders_with None Strength.Strong (moving_count holds buffer Strength.Strong) ++ holders_with None Strength.Weak (moving_count holds buffer Strength.Weak))
+    ++ (holders_with None Strength.Strong (moving_count holds buffer Strength.Strong) ++ holders_with None Strength.Weak
+    (moving_count holds buffer Strength.Weak))
 
 -- ---- buffers
 

@@ -3,7 +3,8 @@ use Rattle.std.specs.Prelude.{ℕ, ◌&&◌, nat_le, Option}
 use Rattle.sm_names.specs.declared.messages.Call.{Call}
 use Rattle.sm_names.specs.declared.messages.Reply.{Reply}
 use Rattle.sm_names.specs.declared.outcomes.Refusal.{Refusal}
-use Rattle.sm_names.specs.Answers.{Readings, end_in_transit, makes_collection, makes_node, makes_tracker, no_end, no_handle, refused_if, shut_client, too_many_handles, unknown_client, wrong_kind}
+use Rattle.sm_names.specs.Answers.{Readings, end_in_transit, makes_collection, makes_node, makes_tracker, no_end}
+use Rattle.sm_names.specs.Answers.{no_handle, refused_if, shut_client, too_many_handles, unknown_client, wrong_kind}
 use Rattle.sm_names.specs.Bounds.{Bound}
 
 -- the test that gives this refusal: no other gives it

@@ -1,5 +1,6 @@
 -- The text of a summary: in which events nodes failed, who keeps the pages that are held, and which trackers wait.
-use Rattle.std.specs.Prelude.{ℕ, ◌+◌, ◌-◌, ◌==◌, Bool, true, ◌&&◌, not, if◌then◌else◌, List, [], ◌∷◌, ◌++◌, codes, decimal, length, map, is_some}
+use Rattle.std.specs.Prelude.{ℕ, ◌+◌, ◌-◌, ◌==◌, Bool, true, ◌&&◌, not, if◌then◌else◌}
+use Rattle.std.specs.Prelude.{List, [], ◌∷◌, ◌++◌, codes, decimal, length, map, is_some}
 use Rattle.std.specs.List.{filter, flat_map, list_any, range_with_len}
 use Rattle.sm_names.specs.declared.tracking.Fired.{Fired}
 use Rattle.core_state.specs.Reads.{views_of}

@@ -1,5 +1,6 @@
 -- The initial allocation of a collection, and its outcome. No public clause of `alloc_event` cites this module.
-use Rattle.std.specs.Prelude.{◌≡◌, ℕ, ◌≤◌, ◌⊎◌, Bool, true, false, ◌||◌, ◌&&◌, ◌==◌, not, nat_lt, if◌then◌else◌, List, [], ◌∷◌, Option, Some, None, Result, Ok, Err, IfOk}
+use Rattle.std.specs.Prelude.{◌≡◌, ℕ, ◌≤◌, ◌⊎◌, Bool, true, false, ◌||◌, ◌&&◌, ◌==◌, not}
+use Rattle.std.specs.Prelude.{nat_lt, if◌then◌else◌, List, [], ◌∷◌, Option, Some, None, Result, Ok, Err, IfOk}
 use Rattle.std.specs.List.{filter_map, sum_by}
 use Rattle.std.specs.Option.{option_and_then, option_map_or}
 use Rattle.sm_names.specs.declared.keys.HeldBuffer.{HeldBuffer}
@@ -77,7 +78,8 @@ allocated_at t head after key = option_and_then
 abbrev pub allocated_with : Table Node → List NodeKey → NodeKey → Node → List Demand
 allocated_with t keys head after = filter_map (allocated_at t head after) keys
 
--- this many buffers are reserved once the unit with this head is allocated, which camps on this many, where this node is in the place of the
+-- this many buffers are reserved once the unit with this head is allocated, which camps on this many, where this node is in the
+-- place of the
 -- one with its key
 abbrev pub IsReservedThen : Table Node → Entry → NodeKey → Node → ℕ → ℕ → Type 0
 IsReservedThen t e head after camping result =

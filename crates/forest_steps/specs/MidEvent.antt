@@ -1,4 +1,5 @@
--- A collection in which forced steps are being made in their places, one after another. No public clause of `alloc_event` cites this module.
+-- A collection in which forced steps are being made in their places, one after another. No public clause of `alloc_event` cites
+-- this module.
 use Rattle.std.specs.Prelude.{◌≡◌, ◌≢◌, ⊤, ℕ, ◌≤◌, Bool, true, false, ◌&&◌, ◌||◌, ◌==◌, ◌⊎◌, not, List, [], ◌∷◌, map, Option, Some, None}
 use Rattle.std.specs.List.{list_all, list_any}
 use Rattle.std.specs.Option.{option_map_or}

@@ -19,7 +19,8 @@ use Rattle.forest_store.specs.Decisions.{waiting}
 use Rattle.forest_steps.specs.EventEnd.{Closes, IsClosed, MayClose}
 use Rattle.forest_store.specs.Insertion.{IsBorn, IsUnborn}
 use Rattle.forest_steps.specs.InitialAllocation.{IsRooted}
-use Rattle.forest_steps.specs.MidEvent.{AfterLoss, AfterPropagation, AfterRemoval, AfterSteps, EffectMade, MidEvent, PropagatedFrom, are_held_except}
+use Rattle.forest_steps.specs.MidEvent.{AfterLoss, AfterPropagation, AfterRemoval, AfterSteps}
+use Rattle.forest_steps.specs.MidEvent.{EffectMade, MidEvent, PropagatedFrom, are_held_except}
 use Rattle.forest_store.specs.Nodes.{after_effect}
 use Rattle.forest_store.specs.Outcomes.{IsOutcomeIn, IsReady}
 use Rattle.forest_store.specs.Settling.{Handles}

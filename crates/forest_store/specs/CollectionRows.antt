@@ -1,5 +1,6 @@
 -- How a forest lies in its table of nodes and its entries. No public clause of `alloc_event` cites this module.
-use Rattle.std.specs.Prelude.{◌≡◌, ◌≢◌, ℕ, ◌+◌, ◌<◌, Bool, true, false, ◌==◌, ◌&&◌, ◌||◌, not, nat_lt, ⊤, if◌then◌else◌, List, [], ◌∷◌, map, length, reverse, Option, Some, None, option_map, is_none}
+use Rattle.std.specs.Prelude.{◌≡◌, ◌≢◌, ℕ, ◌+◌, ◌<◌, Bool, true, false, ◌==◌, ◌&&◌, ◌||◌, not, nat_lt}
+use Rattle.std.specs.Prelude.{⊤, if◌then◌else◌, List, [], ◌∷◌, map, length, reverse, Option, Some, None, option_map, is_none}
 use Rattle.std.specs.List.{list_any, list_all, filter_map, flat_map, AllByRecursion}
 use Rattle.std.specs.Option.{option_map_or}
 use Rattle.sm_names.specs.declared.keys.NodeKey.{NodeKey}

@@ -18,7 +18,8 @@ use Rattle.sm_names.specs.declared.rules.TheConstants.{MAX_BUFFERS}
 use Rattle.forest_store.specs.declared.node.Node.{Node}
 use Rattle.forest_store.specs.Forest.{Collection}
 use Rattle.forest_store.specs.Nodes.{is_of, members_of}
-use Rattle.forest_store.specs.Questions.{demands_of, is_deserted_node, is_in_unit, is_live_node, is_next_node, is_ready_node, is_root_left, has_buffers}
+use Rattle.forest_store.specs.Questions.{demands_of, is_deserted_node, is_in_unit, is_live_node}
+use Rattle.forest_store.specs.Questions.{is_next_node, is_ready_node, is_root_left, has_buffers}
 use Rattle.forest_store.specs.Settling.{is_root_of}
 
 -- a forced step that is to be made, before the pool was asked for places: the node leaves, and all below it; or it fails; or the root

@@ -1,5 +1,6 @@
 -- One change to a collection, and the forced steps that follow it, read over its nodes as they stand.
-use Rattle.std.specs.Prelude.{ℕ, ◌<◌, Bool, true, false, ◌||◌, ◌&&◌, ◌==◌, not, nat_lt, if◌then◌else◌, List, [], ◌∷◌, ◌++◌, Option, Some, None, ◌≡◌, is_none, is_some, IfSome}
+use Rattle.std.specs.Prelude.{ℕ, ◌<◌, Bool, true, false, ◌||◌, ◌&&◌, ◌==◌, not, nat_lt, if◌then◌else◌}
+use Rattle.std.specs.Prelude.{List, [], ◌∷◌, ◌++◌, Option, Some, None, ◌≡◌, is_none, is_some, IfSome}
 use Rattle.std.specs.List.{list_any, filter}
 use Rattle.std.specs.Option.{option_map_or, unwrap_or}
 use Rattle.sm_names.specs.declared.keys.BufferName.{BufferName}
@@ -130,7 +131,8 @@ pub record MayChange (f : Forest) (id : ℕ) (change : Change) : Type 0 where
   pub room : is_birth change ≡ true → node_count f < f.limit
   pub heads : is_attached_root change ≡ false
   -- a tracker is made only on a node on which fewer than `MAX_NODE_TRACKERS` were made
-  pub trackers : (key : NodeKey) (n : Node) → change ≡ Change.Effect key Effect.Tracked → node_at f key ≡ Some n → n.trackers < MAX_NODE_TRACKERS
+  pub trackers : (key : NodeKey) (n : Node) → change ≡ Change.Effect key Effect.Tracked → node_at f key ≡ Some n →
+      n.trackers < MAX_NODE_TRACKERS
 
 -- the collection with this id, or an empty one
 abbrev pub collection_or_new : Forest → ℕ → Collection

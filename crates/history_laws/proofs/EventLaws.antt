@@ -279,7 +279,8 @@ module _ (pool : ℕ) (limits : Bound) (before : Timeline) (client theirs : ℕ)
       head_old new (births before) n (In-was_born (births before) b on) (λ c e.
       (comes limits before client (events before + 1) reply call c answer e).fresh) in
       let allocates : allocated called n ≡ allocated before n = ap (λ (k : NodeKey). list_any (is_allocation k) before) heads in
-      let free : (test : Bool) → (test ≡ true → Names call reply n) → test ≡ false = λ test names. untouched b on h test (λ t. (names t).0) in
+      let free : (test : Bool) → (test ≡ true → Names call reply n) →
+      test ≡ false = λ test names. untouched b on h test (λ t. (names t).0) in
       let releases : released called n ≡ released before n =
       ap (λ (r : Bool). r || released before n) (free (is_release n mark) (releases_it n client reply call)) in
       let dispenses : list_any (is_dispensable n) called ≡ list_any (is_dispensable n) before =
@@ -309,7 +310,8 @@ module _ (pool : ℕ) (limits : Bound) (before : Timeline) (client theirs : ℕ)
   end_same : (b : Birth) → In b (births before) → b.collection == theirs ≡ true → end_state called b.node ≡ end_state before b.node
   end_same b on h =
       let n : NodeKey = b.node in
-      let free : (test : Bool) → (test ≡ true → Names call reply n) → test ≡ false = λ test names. untouched b on h test (λ t. (names t).0) in
+      let free : (test : Bool) → (test ≡ true → Names call reply n) →
+      test ≡ false = λ test names. untouched b on h test (λ t. (names t).0) in
       let born : born_to n mark ≡ None = not_born_now b on (birth_at 0 mark) refl in
       let found : birth_of called n ≡ birth_of before n =
       find_birth (births called) b ord.sound (In_old new (births before) b on) ∙ sym (find_birth (births before) b old.sound on) in

@@ -1,6 +1,7 @@
 -- The text of a picture in the language of Graphviz, as a function of a core, of what labels stand for, of the trees that are shown, and
 -- of the links along which failures went.
-use Rattle.std.specs.Prelude.{ℕ, ◌==◌, ◌/◌, if◌then◌else◌, Bool, not, ◌||◌, List, [], ◌∷◌, codes, decimal, length, map, slice_get, Option, Some, None}
+use Rattle.std.specs.Prelude.{ℕ, ◌==◌, ◌/◌, if◌then◌else◌, Bool, not, ◌||◌, List, []}
+use Rattle.std.specs.Prelude.{◌∷◌, codes, decimal, length, map, slice_get, Option, Some, None}
 use Rattle.std.specs.List.{filter, flat_map, list_any}
 use Rattle.std.specs.Option.{option_and_then, option_map_or}
 use Rattle.sm_names.specs.declared.keys.HeldBuffer.{HeldBuffer}

@@ -1,5 +1,6 @@
 -- Where the boxes of a tree are drawn: a column for each leaf, and a parent over the middle of its children.
-use Rattle.std.specs.Prelude.{ℕ, zero, suc, ◌≡◌, ◌+◌, ◌-◌, ◌/◌, max, nat_lt, if◌then◌else◌, List, [], ◌∷◌, ◌++◌, length, map, replicate, set, Option, Some, None}
+use Rattle.std.specs.Prelude.{ℕ, zero, suc, ◌≡◌, ◌+◌, ◌-◌, ◌/◌, max, nat_lt, if◌then◌else◌}
+use Rattle.std.specs.Prelude.{List, [], ◌∷◌, ◌++◌, length, map, replicate, set, Option, Some, None}
 use Rattle.std.specs.List.{fold, list_any, range_with_len, slice_get}
 use Rattle.std.specs.Option.{option_and_then, option_map, option_map_or}
 use Rattle.sm_names.specs.declared.keys.NodeKey.{NodeKey}
@@ -120,7 +121,8 @@ corner_at start pitch widths columns depths at =
 unfoldable pub corners_of : List (Option ℕ) → Corner → ℕ → List Corner
 corners_of parents start width =
     let widths = widths_of parents in
-    map (corner_at start (capped_sum width COLUMN_GAP) widths (columns_of parents widths) (depths_of parents)) (range_with_len 0 (length parents))
+    map (corner_at start (capped_sum width COLUMN_GAP) widths (columns_of parents widths) (depths_of parents)) (range_with_len 0
+    (length parents))
 
 -- one of these corners, or that where they begin
 abbrev pub corner_or : Corner → List Corner → ℕ → Corner

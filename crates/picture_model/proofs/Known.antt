@@ -27,7 +27,8 @@ use Rattle.forced_marks.specs.Marks.{laid_on}
 use Rattle.forced_marks.specs.Steps.{mark_told}
 use Rattle.event_facts.specs.declared.event.Event.{Event}
 use Rattle.picture_model.specs.Seen.{seen_in}
-use Rattle.picture_model.specs.PictureStates.{forgotten, known_after, refreshed, seen_again, seen_for, walked, with_named, with_seen, with_told}
+use Rattle.picture_model.specs.PictureStates.{forgotten, known_after, refreshed, seen_again}
+use Rattle.picture_model.specs.PictureStates.{seen_for, walked, with_named, with_seen, with_told}
 
 -- ---- which nodes are kept
 

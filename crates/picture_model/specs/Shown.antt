@@ -1,5 +1,6 @@
 -- What a picture shows behind an event: its trees, and the marks of the event in words.
-use Rattle.std.specs.Prelude.{ℕ, ◌≡◌, Bool, true, false, ◌&&◌, ◌||◌, ◌==◌, not, nat_lt, All, if◌then◌else◌, List, [], ◌∷◌, length, map, take, Option, Some, None, Vec, is_some}
+use Rattle.std.specs.Prelude.{ℕ, ◌≡◌, Bool, true, false, ◌&&◌, ◌||◌, ◌==◌, not, nat_lt, All}
+use Rattle.std.specs.Prelude.{if◌then◌else◌, List, [], ◌∷◌, length, map, take, Option, Some, None, Vec, is_some}
 use Rattle.std.specs.declared.alloc.Global.{Global}
 use Rattle.std.specs.List.{filter, list_any, position}
 use Rattle.std.specs.Option.{option_and_then, option_map_or}

@@ -1,5 +1,6 @@
 -- A picture as a vector graphic, as a function of a core, of what labels stand for, and of what is shown.
-use Rattle.std.specs.Prelude.{ℕ, ◌+◌, ◌*◌, ◌/◌, ◌-◌, ◌==◌, min, max, nat_lt, true, false, if◌then◌else◌, List, [], ◌∷◌, ◌++◌, codes, decimal, drop, length, map}
+use Rattle.std.specs.Prelude.{ℕ, ◌+◌, ◌*◌, ◌/◌, ◌-◌, ◌==◌, min, max, nat_lt, true}
+use Rattle.std.specs.Prelude.{false, if◌then◌else◌, List, [], ◌∷◌, ◌++◌, codes, decimal, drop, length, map}
 use Rattle.std.specs.List.{flat_map, fold}
 use Rattle.sm_names.specs.declared.keys.HeldBuffer.{HeldBuffer}
 use Rattle.sm_names.specs.declared.keys.NodeKey.{NodeKey}

@@ -96,6 +96,7 @@ widest_lines names rows = from rows 0
     from (r ∷ rs) width = from rs (max width (row_width names (line_of_row r)))
 
 -- texts of rows are texts of their lines
-pub texts_of_lines : (f : Line → List ℕ) (rows : List OutlineRow) → flat_map (λ r. f (line_of_row r)) rows ≡ flat_map f (map line_of_row rows)
+pub texts_of_lines : (f : Line → List ℕ) (rows : List OutlineRow) →
+    flat_map (λ r. f (line_of_row r)) rows ≡ flat_map f (map line_of_row rows)
 texts_of_lines f [] = refl
 texts_of_lines f (r ∷ rs) = ap (λ (t : List ℕ). f (line_of_row r) ++ t) (texts_of_lines f rs)

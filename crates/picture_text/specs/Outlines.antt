@@ -1,5 +1,6 @@
 -- The outline of a tree: which nodes it has, in which order, and the lines that lead to each.
-use Rattle.std.specs.Prelude.{ℕ, zero, suc, ◌+◌, ◌*◌, ◌-◌, ◌^◌, min, Bool, true, false, ◌==◌, ◌&&◌, if◌then◌else◌, List, [], ◌∷◌, ◌++◌, codes, length}
+use Rattle.std.specs.Prelude.{ℕ, zero, suc, ◌+◌, ◌*◌, ◌-◌, ◌^◌, min, Bool, true}
+use Rattle.std.specs.Prelude.{false, ◌==◌, ◌&&◌, if◌then◌else◌, List, [], ◌∷◌, ◌++◌, codes, length}
 use Rattle.std.specs.List.{filter}
 use Rattle.forest_store.specs.declared.node.Node.{Node}
 use Rattle.picture_model.specs.declared.features.LinkStyle.{LinkStyle}

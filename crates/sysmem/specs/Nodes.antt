@@ -47,7 +47,8 @@ holder_number End.Spent = 0
 -- the properties of the node, one bit each
 abbrev pub flags_of : Node → ℕ
 flags_of n =
-    ((((((flag n.attached 1 + flag n.allocated 2) + flag n.gone 4) + flag (is_some n.fault) 8) + flag n.released 16) + flag n.dispensable 32)
+    ((((((flag n.attached 1 + flag n.allocated 2) + flag n.gone 4) + flag (is_some n.fault) 8) + flag n.released 16) + flag
+    n.dispensable 32)
     + (((((flag n.weak 64 + flag n.weak_ok 128) + flag (is_some n.constraints) 256) + flag n.bound 512) + flag (is_in_transit n.end) 1024)
     + flag (is_end_spent n.end) 2048))
 

@@ -2,7 +2,8 @@
 use Rattle.std.specs.Prelude.{◌≡◌, ◌⊎◌, ℕ, Bool, true, false, List, Option, Some, None, codes, option_map}
 use Rattle.clap.specs.Matches.{subcommand_name_of}
 use Rattle.clap.specs.declared.parser.matches.ArgMatches.{ArgMatches}
-use Rattle.command_line.specs.Asked.{AreAsked, HasCertificate, HasFailures, HasFormat, HasPatience, HasRecord, HasSearch, HasSummary, HasUntil, HasVanishing, IsFile, IsTask, subcommand_text, value_text}
+use Rattle.command_line.specs.Asked.{AreAsked, HasCertificate, HasFailures, HasFormat, HasPatience, HasRecord, HasSearch}
+use Rattle.command_line.specs.Asked.{HasSummary, HasUntil, HasVanishing, IsFile, IsTask, subcommand_text, value_text}
 use Rattle.command_line.specs.declared.request.CommandLine.{CommandLine}
 use Rattle.command_line.specs.declared.task.Format.{Format as AskedFormat}
 use Rattle.command_line.specs.declared.task.Search.{Search}
@@ -83,9 +84,11 @@ abbrev pub IsPlayed : ScriptTask → ℕ → Streams → Streams → ℕ → Typ
 IsPlayed ScriptTask.Run pages before after status =
     Ends (setting_of pages) before.left after.left before.written after.written before.told after.told status
 IsPlayed (ScriptTask.Threads has_record is_patient) pages before after status =
-    EndsThreads (output_for has_record) (repeats_for is_patient) pages before.left after.left before.written after.written before.told after.told status
+    EndsThreads (output_for has_record) (repeats_for is_patient) pages before.left after.left before.written after.written
+    before.told after.told status
 IsPlayed (ScriptTask.Explain only_failures has_summary) pages before after status =
-    EndsExplained (setting_of pages) (record { only_failures = only_failures; has_summary = has_summary }) before.left after.left before.written after.written before.told after.told status
+    EndsExplained (setting_of pages) (record { only_failures = only_failures; has_summary = has_summary }) before.left after.left
+    before.written after.written before.told after.told status
 IsPlayed (ScriptTask.Draw view) pages before after status =
     EndsDrawn (setting_of pages) (record { format = format_for view.format; until = until_for view.until })
     before.left after.left before.written after.written before.told after.told status

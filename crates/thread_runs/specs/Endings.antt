@@ -20,10 +20,18 @@ outcome_line (Err fault) = threads_fault_text fault ++ 10 ∷ []
 
 -- the limits that a program sets: the greatest
 abbrev pub program_limits : Bound
-program_limits = record { events = MAX_EVENTS; nodes = MAX_NODES; collections = MAX_COLLECTIONS; trackers = MAX_TRACKERS; handles = MAX_HANDLES }
+program_limits = record {
+  events = MAX_EVENTS;
+  nodes = MAX_NODES;
+  collections = MAX_COLLECTIONS;
+  trackers = MAX_TRACKERS;
+  handles =
+      MAX_HANDLES;
+}
 
 -- actors were run with a pool of this many pages: the outcome is that of the status, and was told as far as it could be
-pub record EndsThreads (output : Output) (repeats pages : ℕ) (left_before left old new faults_before faults : Option (List ℕ)) (status : ℕ) : Type 0 where
+pub record EndsThreads (output : Output) (repeats pages : ℕ) (left_before left old new faults_before faults : Option (List ℕ))
+    (status : ℕ) : Type 0 where
   pub outcome : Result (Unit {0}) ThreadsFault
   pub runs : RunsThreads output repeats pages program_limits left_before left old new outcome
   pub status_is : status ≡ outcome_status outcome

@@ -53,7 +53,8 @@ pub record IsRead (before after : Option (List ℕ)) (company : Actors) : Type 0
   pub is_list : script_actors script ≡ Ok company
 
 -- all of a script was read, its actors ran, and what was written is said of what is told of them
-pub record HasRunActors (output : Output) (repeats pages : ℕ) (limits : Bound) (before after : Option (List ℕ)) (Written : List ℕ → Type 0) : Type 0 where
+pub record HasRunActors (output : Output) (repeats pages : ℕ) (limits : Bound) (before after : Option (List ℕ)) (Written : List ℕ →
+    Type 0) : Type 0 where
   pub company : Actors
   pub read : IsRead before after company
   pub text : List ℕ
@@ -69,7 +70,8 @@ pub record HasNoReport (before after old new : Option (List ℕ)) : Type 0 where
 -- why there was no run, or nothing was told of it, or not all of that was written
 abbrev pub RunFails : Output → ℕ → ℕ → Bound → Option (List ℕ) → Option (List ℕ) → Option (List ℕ) → Option (List ℕ) → ThreadsFault → Type 0
 RunFails output repeats pages limits before after old new ThreadsFault.ReadFault = ReadsPart before after × (new ≡ old)
-RunFails output repeats pages limits before after old new ThreadsFault.WriteFault = HasRunActors output repeats pages limits before after (WritesPart old new)
+RunFails output repeats pages limits before after old new ThreadsFault.WriteFault = HasRunActors output repeats pages limits before
+    after (WritesPart old new)
 RunFails output repeats pages limits before after old new (ThreadsFault.BadLine number) = IsBad before after number × (new ≡ old)
 RunFails output repeats pages limits before after old new ThreadsFault.HistoryFull = HasNoReport before after old new
 RunFails output repeats pages limits before after old new ThreadsFault.NoMemory = ReadsPart before after × (new ≡ old)
@@ -79,6 +81,8 @@ RunFails output repeats pages limits before after old new (ThreadsFault.Gather f
 
 -- a run of actors: what is to be told of them was written, or there is a fault. Where the script could not be read or has a bad line, that
 -- is the fault, unless memory was refused before
-abbrev pub RunsThreads : Output → ℕ → ℕ → Bound → Option (List ℕ) → Option (List ℕ) → Option (List ℕ) → Option (List ℕ) → Result (Unit {0}) ThreadsFault → Type 0
+abbrev pub RunsThreads : Output → ℕ → ℕ → Bound → Option (List ℕ) → Option (List ℕ) → Option (List ℕ) → Option (List ℕ) →
+    Result (Unit {0}) ThreadsFault → Type 0
 RunsThreads output repeats pages limits before after old new result =
-    MatchResult result (λ _. HasRunActors output repeats pages limits before after (Appends old new)) (RunFails output repeats pages limits before after old new)
+    MatchResult result (λ _. HasRunActors output repeats pages limits before after (Appends old new)) (RunFails output repeats pages
+    limits before after old new)

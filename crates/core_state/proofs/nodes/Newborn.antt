@@ -46,7 +46,8 @@ old_node marks client (Reply.Token key collection) call b x h other =
     let first : birth_at 0 mark ≡ Some (record b { event = 0 }) =
     birth_at_any (events marks + 1) mark ∙ ap (option_map (λ (c : Birth). record c { event = 0 })) h in
     let heads : head (births (mark ∷ marks)) x.node ≡ head (births marks) x.node = rw (h, other) refl in
-    let allocates : allocated (mark ∷ marks) x.node ≡ allocated marks x.node = ap (λ (k : NodeKey). list_any (is_allocation k) marks) heads in
+    let allocates : allocated (mark ∷ marks) x.node ≡ allocated marks x.node = ap (λ (k : NodeKey). list_any (is_allocation k) marks)
+    heads in
     rw (h, first, other) (λ i. record (node_after marks x) { allocated = allocates i })
 old_node marks client reply call b x h other = cc
 
@@ -67,7 +68,8 @@ module _ (pool : ℕ) (limits : Bound) (marks : Timeline) (grown : Grows pool li
   newborn parent attached =
       record { node = key; parent = parent; attached = attached; collection = collection; event = events marks + 1; client = client }
 
-  -- it stands blank, but for what comes from its parent: its head and whether that is allocated, whether it is weak, and whether it is covered
+  -- it stands blank, but for what comes from its parent: its head and whether that is allocated, whether it is weak, and whether
+  -- it is covered
   stands : (call : Call) (parent : Option NodeKey) (attached : Bool) →
       birth_at (events marks + 1) (Called client (Reply.Token key collection) call) ≡ Some (newborn parent attached) →
       (id : ℕ) → collection ≡ id → (top : NodeKey) → head (births (Called client (Reply.Token key collection) call ∷ marks)) key ≡ top →

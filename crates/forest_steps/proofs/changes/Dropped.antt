@@ -260,7 +260,8 @@ module _ (handles : Handles) {t : Table Node} (es : List Entry) (id : ℕ) {at :
       } in
       record {
         settled = λ made. record {
-          finishes = subst (λ xs. Finishes pool.size handles t (rows_of es) t (rows_of xs) (collection_or_new (forest_of t (rows_of es)) id))
+          finishes = subst (λ xs. Finishes pool.size handles t (rows_of es) t (rows_of xs) (collection_or_new (forest_of t (rows_of
+              es)) id))
               (ap (set es at) is ∙ set-get_or es at old) (finishes_so as_was (decides_none (inl lives)) pool.size);
           kept = kept;
           counted = all;

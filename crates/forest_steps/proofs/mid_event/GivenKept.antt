@@ -3,7 +3,8 @@ use Rattle.forest_steps.proofs.Common.{◌≡◌, ◌==◌, if◌then◌else◌,
 use Rattle.forest_steps.proofs.Common.{inr, List, [], ◌∷◌, ◌++◌, map, Option, Some, None, option_map, is_none, filter, find, list_any}
 use Rattle.forest_steps.proofs.Common.{option_map_or, Interval, NodeKey, Cause, forced, when, In, In-find, In-list_any, In-map, both_ways}
 use Rattle.forest_steps.proofs.Common.{either_way, false_if, In-any, Table, Change, Effect, Entry, Node, Unit, has_strong, Collection}
-use Rattle.forest_steps.proofs.Common.{with_nodes, IsStored, CollectionRow, collection_in, forest_of, affected, are_distinct, is_deserted_node}
+use Rattle.forest_steps.proofs.Common.{with_nodes, IsStored, CollectionRow, collection_in}
+use Rattle.forest_steps.proofs.Common.{forest_of, affected, are_distinct, is_deserted_node}
 use Rattle.forest_steps.proofs.Common.{is_root_left, Handles, Settles, collection_or_new, put, standing, list_any-append, unwrap_or}
 use Rattle.forest_steps.proofs.Common.{Failure, Fault, outcome, Mark, Loss, places, pages_of, Holdings, HaveUnits, Decision, Ends, Loses}
 use Rattle.forest_steps.proofs.Common.{Places, decided, first_step, mark_of, wanted_by, collection_at, pages_in, Finishes, IsOutcomeIn}
@@ -190,7 +191,8 @@ given_put new (c ∷ cs) own all =
     (λ other below. rw (other, below) (all.0, given_put new cs own all.1))
 
 -- what is finished keeps it of all
-pub given_finished : {pool : ℕ} {handles : Handles} {old : Table Node} {before : List CollectionRow} {new : Table Node} {behind : List CollectionRow}
+pub given_finished : {pool : ℕ} {handles : Handles} {old : Table Node} {before : List CollectionRow} {new : Table Node} {behind :
+    List CollectionRow}
     {c : Collection} → Finishes pool handles old before new behind c → are_distinct c.nodes ≡ true → IsServedByGiven c →
     AreServedByGiven (map (collection_in old) before) → AreServedByGiven (map (collection_in new) behind)
 given_finished f apart own all =

@@ -2,7 +2,8 @@
 use Rattle.forest_steps.proofs.Common.{◌≡◌, ◌==◌, ap, sym, ◌∙◌, subst, Bool, true, false, not, ◌&&◌, ◌||◌, ◌⊎◌, inl, inr, List, [], ◌∷◌}
 use Rattle.forest_steps.proofs.Common.{Some, arith, not-true, find, list_any, option_map_or, NodeKey, same_key, In, In-list_any, and_left}
 use Rattle.forest_steps.proofs.Common.{and_right, either_way, or_left, same_key-refl, same_key-true, In-any, Table, node_at, parent_at}
-use Rattle.forest_steps.proofs.Common.{Node, Unit, IsStored, CollectionRow, nodes_with, same_key-equal, Contains-from_any, list_any-from_Contains}
+use Rattle.forest_steps.proofs.Common.{Node, Unit, IsStored, CollectionRow}
+use Rattle.forest_steps.proofs.Common.{nodes_with, same_key-equal, Contains-from_any, list_any-from_Contains}
 use Rattle.forest_steps.proofs.Common.{Below, Top, Within, stopped_at, HasUnits, is_head_at, node_there, head_own, left_node, left_parent}
 use Rattle.forest_steps.proofs.Common.{In-filter, In-filter-back, AreHeads, IsGathered, hangs_below, is_ready_head}
 use Rattle.forest_store.specs.UnitAllocation.{is_outside}

@@ -2,7 +2,8 @@
 use Rattle.forest_steps.proofs.Common.{◌≡◌, ℕ, refl, ap, sym, ◌∙◌, subst, Bool, true, false, not, inl, inr, List, [], ◌∷◌, Option}
 use Rattle.forest_steps.proofs.Common.{Some, None, eq-eqb, not-true, list_all, list_any, option_map_or, NodeKey, same_key, times, In}
 use Rattle.forest_steps.proofs.Common.{In-list_any, and_both, and_left, and_right, both_ways, either_way, false_if, same_key-true}
-use Rattle.forest_steps.proofs.Common.{all_on, In-any, Table, node_at, parent_at, Entry, Node, Unit, unit_at, waits_in, waiting, CollectionRow}
+use Rattle.forest_steps.proofs.Common.{all_on, In-any, Table, node_at, parent_at, Entry}
+use Rattle.forest_steps.proofs.Common.{Node, Unit, unit_at, waits_in, waiting, CollectionRow}
 use Rattle.forest_steps.proofs.Common.{nodes_with, is_next_node, is_ready_node, same_key-equal, row_at, unit_of, is_allocated_node}
 use Rattle.forest_steps.proofs.Common.{is_waiting_head, count_none, arith, or_first, IsSome, PendingUnit, has_turn_at, is_next_there}
 use Rattle.forest_steps.proofs.Common.{MidEvent, is_head_left, is_next_except, turn_heads, waits_among, or_left}

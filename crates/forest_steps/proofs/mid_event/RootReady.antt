@@ -320,7 +320,7 @@ module _ {t : Table Node} {us : List Unit} (key : NodeKey) (effect : Effect) {n 
           let y = In-map f _ x.0 x.1 in
           let own : test y.0 ≡ true = sym (test_same y.0) ∙ (ap test (sym y.2) ∙ asks_passes _ _ x.2) in
           let found : In y.0 (nodes_with t ks) = in_looked t opens.kept.named RemovalKind.Leaves ks y.0 (at_key y.0 y.1) (inside y.0
-              y.1 own) in
+          y.1 own) in
           asked_back _ _ x.0 (subst (λ m. In m (map f (nodes_with t ks))) (sym y.2) (In-map-back f _ y.0 found)) x.2
 
       -- each list has what the other has

@@ -315,7 +315,7 @@ module _ {t : Table Node} {us : List Unit} {ss : List CollectionRow} {e : Entry}
 
         module _ {now : Table Node} {new : List Unit} {after : Entry} {why : Failure}
             (after_fall : AfterLoss handles t now new ss e after (record { cause = Cause.Failed why; origin = k }) (k ∷ turn_heads
-                ws)) where
+            ws)) where
           -- the fault that begins at the head of the refused unit
           abbrev fault : Fault
           fault = record { cause = Cause.Failed why; origin = k }

@@ -2,7 +2,8 @@
 use Rattle.forest_store.proofs.Common.{◌≡◌, ◌≢◌, ℕ, ◌==◌, Bool, true, false, List, [], ◌∷◌, map, Option, Some, None, option_map, is_some}
 use Rattle.forest_store.proofs.Common.{cond, refl, sym, ap, ◌∙◌, inl, inr, list_all, AllByRecursion, cons_option, option_map_or, eqb-true}
 use Rattle.forest_store.proofs.Common.{false≢true, NodeKey, same_key, and_left, and_right, same_key-true, Table, node_at, parent_at, Node}
-use Rattle.forest_store.proofs.Common.{Collection, CollectionRow, AreRising, IsStored, IsWhole, put_row, collection_in, nodes_with, all_keys}
+use Rattle.forest_store.proofs.Common.{Collection, CollectionRow, AreRising, IsStored}
+use Rattle.forest_store.proofs.Common.{IsWhole, put_row, collection_in, nodes_with, all_keys}
 use Rattle.forest_store.proofs.Common.{is_filed, put, cases_eq, was_given, Stores, all_of, stored, AreHeadsGiven, arith}
 use Rattle.forest_store.proofs.tables.Kin.{kin_kept}
 use Rattle.forest_store.proofs.tables.Writing.{given-same}

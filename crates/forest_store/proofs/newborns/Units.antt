@@ -157,7 +157,7 @@ module _ (t : Table Node) (ss : List CollectionRow) (kept : IsStored t ss) (id :
       let g = hangs.below in
       let told : times (counts_above t n.key) nodes ≡ times (heads_below nodes n.key) nodes =
       times_same (counts_above t n.key) (heads_below nodes n.key) nodes (counts_above_is t nodes whole.sound.distinct whole.rooted at
-          n.key) in
+      n.key) in
       let before_told = below_old n.key in
       let h2 = ap (times (counts_above t n.key)) grown ∙ times-append (counts_above t n.key) old (node ∷ []) in
       let l2 = ap (times (lives_in n.key)) grown ∙ times-append (lives_in n.key) old (node ∷ []) in

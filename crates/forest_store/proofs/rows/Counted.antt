@@ -3,7 +3,8 @@ use Rattle.forest_store.proofs.Common.{In-map-back, ◌≡◌, ℕ, zero, suc, �
 use Rattle.forest_store.proofs.Common.{◌∷◌, map, length, get_or, set, if◌then◌else◌, Option, Some, None, option_map, is_some, sym, ap}
 use Rattle.forest_store.proofs.Common.{subst, ◌∙◌, refl, arith, AllByRecursion, cons_option, filter, list_all, list_any, eqb-true}
 use Rattle.forest_store.proofs.Common.{eqb-false, NodeKey, same_key, In, In-map, either_way, same_key-refl, same_key-true, In-any, Table}
-use Rattle.forest_store.proofs.Common.{node_at, Entry, Node, strong_count, unkept_except, Collection, AreRising, IsWhole, CollectionRow, are_filed}
+use Rattle.forest_store.proofs.Common.{node_at, Entry, Node, strong_count, unkept_except}
+use Rattle.forest_store.proofs.Common.{Collection, AreRising, IsWhole, CollectionRow, are_filed}
 use Rattle.forest_store.proofs.Common.{collection_in, is_filed, nodes_with, place_in, put_row, row_of, rows_of, is_unkept}
 use Rattle.forest_store.proofs.Common.{reserved_count, remove, ltb-true, times-le-length, AreCounted, IsQuiescent, IsCounted, put_in}
 use Rattle.forest_store.proofs.Common.{IsNotedIn, IsNoting, IsThinned, left_at, is_strong, is_spent, camped, AreCountedExcept, with_end}

@@ -1,7 +1,8 @@
 -- A row that is put in its place among others.
 use Rattle.forest_store.proofs.Common.{◌≡◌, ℕ, ◌<◌, ◌==◌, nat_lt, true, false, not, List, [], ◌∷◌, ◌++◌, map, refl, sym, subst, arith}
 use Rattle.forest_store.proofs.Common.{list_all, filter, AllByRecursion, lt-ltb, eq-eqb, eqb-true, eqb-false, NodeKey, HeldBuffer, Table}
-use Rattle.forest_store.proofs.Common.{Node, Collection, CollectionRow, AreRising, put_row, collection_in, all_keys, are_filed, is_filed, put}
+use Rattle.forest_store.proofs.Common.{Node, Collection, CollectionRow, AreRising, put_row}
+use Rattle.forest_store.proofs.Common.{collection_in, all_keys, are_filed, is_filed, put}
 use Rattle.forest_store.proofs.Common.{flat_map, le-ltb, ne_eqb, cases_lt, cases_eq, ltb-true, ltb-false, map-append, pages_in}
 use Rattle.forest_store.proofs.lists.SameIntervals.{Alike, Alike-refl, Alike-trans, Alike-front, Alike-shift, less_of}
 

@@ -72,7 +72,7 @@ module _ (t : Table Node) where
   -- none of them hangs below that unit
   pub uncounted_above_other : (ns : List Node) (us : List Unit) (slot : ℕ) →
       ((n : Node) → In n ns → (h : NodeKey) → head_above t n ≡ Some h → h.slot ≢ slot) →
-          unit_at (uncounted_above t ns us) slot ≡ unit_at us slot
+      unit_at (uncounted_above t ns us) slot ≡ unit_at us slot
   uncounted_above_other = other_slots uncounted_above_by
 
   -- by induction: each head right below adds one

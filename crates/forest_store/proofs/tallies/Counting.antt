@@ -125,4 +125,4 @@ pub counted_own_adds : (ns : List Node) (us : List Unit) (k : NodeKey) → k.slo
     Gains (unit_at us k.slot) (unit_at (counted_own ns us) k.slot) (times (lives_in k) ns) (times (waits_in k) ns)
 counted_own_adds ns us k within one live unready =
     rw (own_slot counted_own_by ns us k within (λ n on h is. let x = own_is n h is in rw x.1 at (one n on x.0))) (adds_all k ns _
-        live unready)
+    live unready)

@@ -4,7 +4,8 @@ use Rattle.forest_store.proofs.Common.{if◌then◌else◌, List, [], ◌∷◌,
 use Rattle.forest_store.proofs.Common.{eqb-true, AllByRecursion, list_all, list_any, option_map_or, Interval, NodeKey, same_key, times}
 use Rattle.forest_store.proofs.Common.{In, In-find, In-list_any, In-map, In-map-back, and_left, both_ways, either_way, false_if}
 use Rattle.forest_store.proofs.Common.{same_key-true, In-any, Table, node_at, Change, Node, Unit, AreUnits, lives_in, unit_at, waits_in}
-use Rattle.forest_store.proofs.Common.{Collection, with_nodes, AreRising, IsStored, IsWhole, CollectionRow, are_filed, collection_in, is_filed}
+use Rattle.forest_store.proofs.Common.{Collection, with_nodes, AreRising, IsStored}
+use Rattle.forest_store.proofs.Common.{IsWhole, CollectionRow, are_filed, collection_in, is_filed}
 use Rattle.forest_store.proofs.Common.{nodes_with, is_of, are_distinct, Handles, Settles, collection_or_new, put, are_rooted, unwrap_or}
 use Rattle.forest_store.proofs.Common.{Mark, In-filter, In-filter-back, next_at, AreUnitsExcept, HasUnits, hangs_in, heads_below, unit_of}
 use Rattle.forest_store.proofs.Common.{collection_at, tidied, without_unkept_in, Forces, Rests, changed, is_birth, made, filter, Forest}

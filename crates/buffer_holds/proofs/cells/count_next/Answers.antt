@@ -25,8 +25,10 @@ returns-clause-counted c = λ page0 tallies0 most0 first size set n here bits wi
     let most : c.note_most.new.most ≡ max a.most.now ((tally_in a.tallies.now (first + n)).total + 1) = c.note_most.ensures
     ∙ ap (max a.most.now) (done.total ∙ ap (λ i. (tally_in a.tallies.now i).total + 1) here) in
     let cell = subst (CountsCell a.page.now c.count_cell-total.new.page a.tallies.now c.count_cell-total.new.tallies) here done.counted in
-    subst (λ m. CountsCells page0 tallies0 most0 first size set c.count_cell-total.new.page c.count_cell-total.new.tallies m (n + 1)) (sym most)
-    (Counts a.page.now c.count_cell-total.new.page a.tallies.now c.count_cell-total.new.tallies a.most.now n counts within (ap (λ m. m % 2) (sym bits) ∙ odd)
+    subst (λ m. CountsCells page0 tallies0 most0 first size set c.count_cell-total.new.page c.count_cell-total.new.tallies m (n + 1))
+    (sym most)
+    (Counts a.page.now c.count_cell-total.new.page a.tallies.now c.count_cell-total.new.tallies a.most.now n counts within (ap (λ m.
+    m % 2) (sym bits) ∙ odd)
     cell)
 
 pub returns-clause-page : goal.returns-clause-page

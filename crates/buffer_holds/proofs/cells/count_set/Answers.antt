@@ -1,4 +1,5 @@
-use Rattle.std.proofs.Common.{ℕ, ◌≡◌, ◌≢◌, ◌==◌, ◌+◌, ◌-◌, ◌/◌, ◌^◌, ◌%◌, ◌<◌, ◌≤◌, ◌∙◌, refl, ap, sym, subst, Bool, true, false, unwrap_or, arith}
+use Rattle.std.proofs.Common.{ℕ, ◌≡◌, ◌≢◌, ◌==◌, ◌+◌, ◌-◌, ◌/◌, ◌^◌, ◌%◌, ◌<◌}
+use Rattle.std.proofs.Common.{◌≤◌, ◌∙◌, refl, ap, sym, subst, Bool, true, false, unwrap_or, arith}
 use Rattle.std.proofs.lemmas.Bool.{eqb-false, eqb-true}
 use Rattle.std.proofs.lemmas.Nat.{shr-shr, shr_below}
 use Rattle.buffer_holds.specs.Cells.{CanCount, Begins}
@@ -27,7 +28,12 @@ loop-left-init c =
 pub count_next-requires-clause-there : goal.count_next-requires-clause-there
 count_next-requires-clause-there c =
     let inv = c.loop-left.invariant in
-    omega (arith, c.requires.there, goes_on c.args.size c.loop-left.n c.args.set inv.2 c.requires.within (λ none. c.loop-left-test.true (inv.1 ∙ none)))
+    omega (
+      arith,
+      c.requires.there,
+      goes_on c.args.size c.loop-left.n c.args.set inv.2 c.requires.within (λ none.
+          c.loop-left-test.true (inv.1 ∙ none)),
+    )
 
 -- the cell is as it was
 pub count_next-requires-clause-can : goal.count_next-requires-clause-can

@@ -6,7 +6,8 @@ use Rattle.buffer_holds.specs.Kinds.{same_hold}
 use Rattle.buffer_holds.specs.PagedRows.{PagedRows}
 use Rattle.buffer_holds.specs.Pages.{cell_at, rows_in, same_owner, IsNewest, SetsCell}
 use Rattle.buffer_holds.specs.Rows.{row_at, Resets}
-use Rattle.buffer_holds.proofs.PagedLemmas.{distinct_written, newest_written, on_false, on_true, row_absent, row_same, row_there, row_written}
+use Rattle.buffer_holds.proofs.PagedLemmas.{distinct_written, newest_written, on_false, on_true}
+use Rattle.buffer_holds.proofs.PagedLemmas.{row_absent, row_same, row_there, row_written}
 use Rattle.buffer_holds.proofs.RowLemmas.{IsSome-lent_at}
 use Rattle.buffer_holds.proofs.client_rows.lower.Goals.{After-lower, After-slot_of}
 use Rattle.buffer_holds.proofs.client_rows.lower.Goals as goal

@@ -142,7 +142,8 @@ invariant_of-tallies c = (
 )
 
 pub returns-clause-sound : goal.returns-clause-sound
-returns-clause-sound c = (gone (goal.at.returns-clause-sound c).After-unwrap-sums c.count_boxed.new.page c.count_boxed.new.tallies c.count_boxed.new.most c.count_boxed.result c.count_boxed.ensures.counted).sound
+returns-clause-sound c = (gone (goal.at.returns-clause-sound c).After-unwrap-sums c.count_boxed.new.page c.count_boxed.new.tallies
+    c.count_boxed.new.most c.count_boxed.result c.count_boxed.ensures.counted).sound
 
 pub returns-clause-opened : goal.returns-clause-opened
 returns-clause-opened c = λ places before set is adds.
@@ -155,10 +156,12 @@ returns-clause-opened c = λ places before set is adds.
     })) a.first.client a.first.kind.buffer.collection a.first.kind.strength set a.first.kind.buffer.index) (sym (rows_is d))
     (subst (λ ts. AddsSet before (counts_in a.limit places a.rows.now ts) a.first.client a.first.kind.buffer.collection
     a.first.kind.strength set a.first.kind.buffer.index) (sym (tallies_is d)) adds) in
-    ((gone d c.count_boxed.new.page c.count_boxed.new.tallies c.count_boxed.new.most c.count_boxed.result c.count_boxed.ensures.counted).opened places before set is was).1
+    ((gone d c.count_boxed.new.page c.count_boxed.new.tallies c.count_boxed.new.most c.count_boxed.result
+    c.count_boxed.ensures.counted).opened places before set is was).1
 
 pub returns-clause-older : goal.returns-clause-older
 returns-clause-older c = λ newest within none.
     let at = goal.at.returns-clause-older c in
-    (gone at.After-unwrap-sums c.count_boxed.new.page c.count_boxed.new.tallies c.count_boxed.new.most c.count_boxed.result c.count_boxed.ensures.counted).older newest within
+    (gone at.After-unwrap-sums c.count_boxed.new.page c.count_boxed.new.tallies c.count_boxed.new.most c.count_boxed.result
+    c.count_boxed.ensures.counted).older newest within
     (subst (λ (ts : PagedTallies). NoneIsNewer newest ts.entries) (sym (tallies_is at.After-unwrap-sums)) none)

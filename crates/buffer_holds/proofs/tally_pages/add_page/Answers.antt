@@ -27,14 +27,19 @@ blank c =
 
 pub count-requires-clause-fits : goal.count-requires-clause-fits
 count-requires-clause-fits c =
-    omega (arith, ap (λ (o : Option Tally). (unwrap_or o no_tally).total) (blank (goal.at.count-requires-clause-fits c).After-unwrap-page c.slot_of.result))
+    omega (
+      arith,
+      ap (λ (o : Option Tally). (unwrap_or o no_tally).total) (blank (goal.at.count-requires-clause-fits
+          c).After-unwrap-page c.slot_of.result),
+    )
 
 pub count-requires-clause-few : goal.count-requires-clause-few
 count-requires-clause-few c =
     omega (
       arith,
       c.ranges.clients.fits,
-      ap (λ (o : Option Tally). (unwrap_or o no_tally).clients) (blank (goal.at.count-requires-clause-few c).After-unwrap-page c.slot_of.result),
+      ap (λ (o : Option Tally). (unwrap_or o no_tally).clients) (blank (goal.at.count-requires-clause-few c).After-unwrap-page
+          c.slot_of.result),
     )
 
 pub count-requires-clause-some : goal.count-requires-clause-some
@@ -42,11 +47,13 @@ count-requires-clause-some c =
     says_something (one_more (unwrap_or (cell_at c.unwrap-page.result c.slot_of.result) no_tally) c.args.clients) (omega (
       arith,
       c.requires.some,
-      ap (λ (o : Option Tally). (unwrap_or o no_tally).clients) (blank (goal.at.count-requires-clause-some c).After-unwrap-page c.slot_of.result),
+      ap (λ (o : Option Tally). (unwrap_or o no_tally).clients) (blank (goal.at.count-requires-clause-some c).After-unwrap-page
+          c.slot_of.result),
     ))
 
 -- the page is new
-made : (c : After-insert) → Resets same_part c.args.pages.now.entries c.insert.new.self.entries (part_of c.args.kind) None (Some c.count.new.self)
+made : (c : After-insert) → Resets same_part c.args.pages.now.entries c.insert.new.self.entries (part_of c.args.kind) None (Some
+    c.count.new.self)
 made c =
     let pages = c.args.pages.now in
     let new = c.insert.new.self in
@@ -77,7 +84,8 @@ returns-clause-added c =
     let none = blank (goal.at.returns-clause-added c).After-unwrap-page in
     let at = c.slot_of.result in
     let tally = one_more (unwrap_or (cell_at c.unwrap-page.result at) no_tally) c.args.clients in
-    let same : tally ≡ one_more no_tally c.args.clients = ap (λ (o : Option Tally). one_more (unwrap_or o no_tally) c.args.clients) (none at) in
+    let same : tally ≡ one_more no_tally c.args.clients = ap (λ (o : Option Tally). one_more (unwrap_or o no_tally) c.args.clients)
+    (none at) in
     let sets = set_tally c.unwrap-page.result page at tally none c.count.ensures in (
       page,
       made (goal.at.returns-clause-added c).After-insert,

@@ -14,7 +14,8 @@ use Rattle.buffer_holds.proofs.tally_pages.lift.Goals as goal
 pub unreachable-requires : goal.unreachable-requires
 unreachable-requires c =
     let none : tally_row c.args.tallies.now.entries c.args.kind ≡ None =
-    tally_absent c.args.kind c.tallies.inside.pages.entries c.args.tallies.now.entries (ap (λ (r : PagedTallies). r.entries) c.tallies.view_is)
+    tally_absent c.args.kind c.tallies.inside.pages.entries c.args.tallies.now.entries (ap (λ (r : PagedTallies). r.entries)
+    c.tallies.view_is)
     c.tallies.invariant.0 c.part_of.result c.part_of.ensures c.in_default.ensures.none in
     let never = subst IsSome none c.requires.some in cc
 
@@ -22,7 +23,8 @@ unreachable-requires c =
 pub unwrap-page-requires : goal.unwrap-page-requires
 unwrap-page-requires c =
     let found = c.in-Some.ensures.found in
-    IsSome-lent_at c.tallies.inside.pages c.in-Some.place c.part_of.result found.0 found.1 c.get_index_mut.result c.get_index_mut.ensures.value
+    IsSome-lent_at c.tallies.inside.pages c.in-Some.place c.part_of.result found.0 found.1 c.get_index_mut.result
+    c.get_index_mut.ensures.value
 
 pub overflow_add-tally : goal.overflow_add-tally
 overflow_add-tally c =
@@ -33,9 +35,11 @@ overflow_add-tally c =
 
 -- the cell is not empty, and stays so
 pub change-requires-clause-had : goal.change-requires-clause-had
-change-requires-clause-had c = subst IsSome (tally_there c.tallies.inside.pages c.args.kind c.in-Some.place c.part_of.result c.part_of.ensures c.slot_of-slot.result
+change-requires-clause-had c = subst IsSome (tally_there c.tallies.inside.pages c.args.kind c.in-Some.place c.part_of.result
+    c.part_of.ensures c.slot_of-slot.result
     c.slot_of-slot.ensures.value c.in-Some.ensures.found c.get_index_mut.result c.get_index_mut.ensures.value c.get_index_mut.ensures.unique
-    c.unwrap-page.result c.unwrap-page.ensures c.args.tallies.now.entries (ap (λ (r : PagedTallies). r.entries) c.tallies.view_is)) c.requires.some
+    c.unwrap-page.result c.unwrap-page.ensures c.args.tallies.now.entries (ap (λ (r : PagedTallies). r.entries) c.tallies.view_is))
+    c.requires.some
 
 pub change-requires-clause-has : goal.change-requires-clause-has
 change-requires-clause-has c =
@@ -44,11 +48,13 @@ change-requires-clause-has c =
 pub invariant_of-tallies : goal.invariant_of-tallies
 invariant_of-tallies c = (
   distinct_tallies c.tallies.inside.pages c.args.kind c.in-Some.place c.part_of.result c.part_of.ensures c.slot_of-slot.result
-      c.slot_of-slot.ensures.value c.in-Some.ensures.found c.get_index_mut.result c.get_index_mut.ensures.value c.get_index_mut.ensures.unique
+      c.slot_of-slot.ensures.value c.in-Some.ensures.found c.get_index_mut.result c.get_index_mut.ensures.value
+      c.get_index_mut.ensures.unique
       c.unwrap-page.result c.unwrap-page.ensures c.change.new.self,
   c.tallies.invariant.1,
   newest_tallies c.tallies.inside.pages c.args.kind c.in-Some.place c.part_of.result c.part_of.ensures c.slot_of-slot.result
-      c.slot_of-slot.ensures.value c.in-Some.ensures.found c.get_index_mut.result c.get_index_mut.ensures.value c.get_index_mut.ensures.unique
+      c.slot_of-slot.ensures.value c.in-Some.ensures.found c.get_index_mut.result c.get_index_mut.ensures.value
+      c.get_index_mut.ensures.unique
       c.unwrap-page.result c.unwrap-page.ensures c.tallies.inside.newest c.tallies.invariant.2 c.change.new.self,
 )
 
@@ -61,7 +67,11 @@ returns c =
     c.slot_of-slot.ensures.value c.in-Some.ensures.found c.get_index_mut.result c.get_index_mut.ensures.value c.get_index_mut.ensures.unique
     c.unwrap-page.result c.unwrap-page.ensures c.args.tallies.now.entries (ap (λ (r : PagedTallies). r.entries) c.tallies.view_is) in
     let same : c.get-tally.result ≡ tally_at old c.args.kind = c.get-tally.ensures.value ∙ ap (λ o. unwrap_or o no_tally) (sym there) in
-    subst (λ (t : Tally). Resets same_handle_kind old new c.args.kind (tally_row old c.args.kind) (Some (record t { moving = t.moving + 1 }))) same
+    subst (λ (t : Tally). Resets same_handle_kind old new c.args.kind (tally_row old c.args.kind) (Some (record t {
+      moving = t.moving
+          + 1;
+    }))) same
     (tally_written c.tallies.inside.pages c.args.kind c.in-Some.place c.part_of.result c.part_of.ensures c.slot_of-slot.result
     c.slot_of-slot.ensures.value c.in-Some.ensures.found c.get_index_mut.result c.get_index_mut.ensures.value c.get_index_mut.ensures.unique
-    c.unwrap-page.result c.unwrap-page.ensures old (ap (λ (r : PagedTallies). r.entries) c.tallies.view_is) c.change.new.self _ c.change.ensures)
+    c.unwrap-page.result c.unwrap-page.ensures old (ap (λ (r : PagedTallies). r.entries) c.tallies.view_is) c.change.new.self _
+    c.change.ensures)

@@ -10,15 +10,20 @@ use Rattle.buffer_holds.proofs.tally_pages.none_open.Goals.{After-get-weak_tally
 use Rattle.buffer_holds.proofs.tally_pages.none_open.Goals as goal
 
 -- the strong tally is in its cell
-strong : (c : After-get-weak_tally) → c.get-strong_tally.result.total ≡ (tally_at c.args.tallies.now.entries (kind_of c.args.buffer Strong)).total
-strong c = ap (λ (t : Tally). t.total) c.get-strong_tally.ensures.value ∙ ap (λ o. (unwrap_or o no_tally).total) (sym (tally_read c.tallies.inside.pages (kind_of c.args.buffer Strong) c.in-Some.place c.part_of.result c.part_of.ensures c.slot_of-strong_slot.result
-    c.slot_of-strong_slot.ensures.value c.in-Some.ensures.found c.tallies.invariant.0 c.get_index.result c.get_index.ensures.entry c.get_index.ensures.value
+strong : (c : After-get-weak_tally) → c.get-strong_tally.result.total ≡ (tally_at c.args.tallies.now.entries (kind_of c.args.buffer
+    Strong)).total
+strong c = ap (λ (t : Tally). t.total) c.get-strong_tally.ensures.value ∙ ap (λ o. (unwrap_or o no_tally).total) (sym (tally_read
+    c.tallies.inside.pages (kind_of c.args.buffer Strong) c.in-Some.place c.part_of.result c.part_of.ensures c.slot_of-strong_slot.result
+    c.slot_of-strong_slot.ensures.value c.in-Some.ensures.found c.tallies.invariant.0 c.get_index.result c.get_index.ensures.entry
+    c.get_index.ensures.value
     c.unwrap.result c.unwrap.ensures c.args.tallies.now.entries (ap (λ (r : PagedTallies). r.entries) c.tallies.view_is)))
 
 -- and so is the weak one
 weak : (c : After-get-weak_tally) → c.get-weak_tally.result.total ≡ (tally_at c.args.tallies.now.entries (kind_of c.args.buffer Weak)).total
-weak c = ap (λ (t : Tally). t.total) c.get-weak_tally.ensures.value ∙ ap (λ o. (unwrap_or o no_tally).total) (sym (tally_read c.tallies.inside.pages (kind_of c.args.buffer Weak) c.in-Some.place c.part_of.result c.part_of.ensures c.slot_of-weak_slot.result
-    c.slot_of-weak_slot.ensures.value c.in-Some.ensures.found c.tallies.invariant.0 c.get_index.result c.get_index.ensures.entry c.get_index.ensures.value
+weak c = ap (λ (t : Tally). t.total) c.get-weak_tally.ensures.value ∙ ap (λ o. (unwrap_or o no_tally).total) (sym (tally_read
+    c.tallies.inside.pages (kind_of c.args.buffer Weak) c.in-Some.place c.part_of.result c.part_of.ensures c.slot_of-weak_slot.result
+    c.slot_of-weak_slot.ensures.value c.in-Some.ensures.found c.tallies.invariant.0 c.get_index.result c.get_index.ensures.entry
+    c.get_index.ensures.value
     c.unwrap.result c.unwrap.ensures c.args.tallies.now.entries (ap (λ (r : PagedTallies). r.entries) c.tallies.view_is)))
 
 -- none is open where both tallies say so
@@ -47,8 +52,10 @@ returns-else-strong_tally-eq0 c =
 -- no page
 pub returns-in-None : goal.returns-in-None
 returns-in-None c =
-    let strong = tally_absent (kind_of c.args.buffer Strong) c.tallies.inside.pages.entries c.args.tallies.now.entries (ap (λ (r : PagedTallies). r.entries) c.tallies.view_is)
+    let strong = tally_absent (kind_of c.args.buffer Strong) c.tallies.inside.pages.entries c.args.tallies.now.entries (ap (λ (r :
+    PagedTallies). r.entries) c.tallies.view_is)
     c.tallies.invariant.0 c.part_of.result c.part_of.ensures c.in-None.ensures.none in
-    let weak = tally_absent (kind_of c.args.buffer Weak) c.tallies.inside.pages.entries c.args.tallies.now.entries (ap (λ (r : PagedTallies). r.entries) c.tallies.view_is)
+    let weak = tally_absent (kind_of c.args.buffer Weak) c.tallies.inside.pages.entries c.args.tallies.now.entries (ap (λ (r :
+    PagedTallies). r.entries) c.tallies.view_is)
     c.tallies.invariant.0 c.part_of.result c.part_of.ensures c.in-None.ensures.none in
     λ i. ((unwrap_or (sym strong i) no_tally).total == 0) && ((unwrap_or (sym weak i) no_tally).total == 0)

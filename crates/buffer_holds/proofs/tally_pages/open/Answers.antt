@@ -135,18 +135,18 @@ pub unwrap-page-requires : goal.unwrap-page-requires
 unwrap-page-requires c =
     let found = c.in-Some.ensures.found in
     IsSome-lent_at c.tallies.inside.pages c.in-Some.place c.part_of.result found.0 found.1 c.get_index_mut.result
-        c.get_index_mut.ensures.value
+    c.get_index_mut.ensures.value
 
 pub invariant_of-tallies-2 : goal.invariant_of-tallies-2
 invariant_of-tallies-2 c = (
   distinct_tallies c.tallies.inside.pages c.args.hold.kind c.in-Some.place c.part_of.result c.part_of.ensures c.slot_of-slot.result
       c.slot_of-slot.ensures.value c.in-Some.ensures.found c.get_index_mut.result c.get_index_mut.ensures.value
-          c.get_index_mut.ensures.unique
+      c.get_index_mut.ensures.unique
       c.unwrap-page.result c.unwrap-page.ensures c.count.new.self,
   c.tallies.invariant.1,
   newest_tallies c.tallies.inside.pages c.args.hold.kind c.in-Some.place c.part_of.result c.part_of.ensures c.slot_of-slot.result
       c.slot_of-slot.ensures.value c.in-Some.ensures.found c.get_index_mut.result c.get_index_mut.ensures.value
-          c.get_index_mut.ensures.unique
+      c.get_index_mut.ensures.unique
       c.unwrap-page.result c.unwrap-page.ensures c.tallies.inside.newest c.tallies.invariant.2 c.count.new.self,
 )
 
@@ -209,7 +209,7 @@ returns-clause-counted_by_kind c =
     (tally_written c.tallies.inside.pages kind c.in-Some.place c.part_of.result c.part_of.ensures c.slot_of-slot.result
     c.slot_of-slot.ensures.value c.in-Some.ensures.found c.get_index_mut.result c.get_index_mut.ensures.value c.get_index_mut.ensures.unique
     c.unwrap-page.result c.unwrap-page.ensures old (ap (λ (r : PagedTallies). r.entries) c.tallies.view_is) c.count.new.self _
-        c.count.ensures)
+    c.count.ensures)
 
 -- one more than were open
 pub returns-clause-most : goal.returns-clause-most

@@ -49,8 +49,13 @@ returns-in-Ok-parted-clause-gone g c =
     let far = c.collect_all-collected.new.client in
     let collects = subst (λ n. CollectsFor (is_ok c.collect_all-collected.result) n c.shut.new.self far ends handles) c.parcels_told.ensures
     c.collect_all-collected.ensures.made in
-    let none : length c.give_up_if-parted.new.stack.items ≡ 0 = omega (arith, c.in-Ok-parted.ensures.all.0, c.give_up_if-parted.new.stack.ok.0) in
-    let over = gone c.args.client c.shut.new.self far c.give_up_if-parted.new.client c.in-Ok.reply (is_ok c.collect_all-collected.result) ends
+    let none : length c.give_up_if-parted.new.stack.items ≡ 0 = omega (
+      arith,
+      c.in-Ok-parted.ensures.all.0,
+      c.give_up_if-parted.new.stack.ok.0,
+    ) in
+    let over = gone c.args.client c.shut.new.self far c.give_up_if-parted.new.client c.in-Ok.reply (is_ok
+    c.collect_all-collected.result) ends
     handles (top_first c.stack_all-stack.result.items)
     (top_first c.give_up_if-parted.new.stack.items) (held_in c.args.held) (held_in c.give_up_if-parted.new.kept) c.in-Ok.ensures collects
     c.give_up_if-parted.ensures.parts is (top_none c.give_up_if-parted.new.stack.items none)
@@ -67,7 +72,8 @@ returns-in-Err-parted-clause-fault g c =
     c.collect_all-collected.ensures.made in
     inr (goes c.args.client c.shut.new.self far c.give_up_if-parted.new.client c.in-Ok.reply (is_ok c.collect_all-collected.result) ends
     handles (top_first c.stack_all-stack.result.items)
-    (top_first c.give_up_if-parted.new.stack.items) (held_in c.args.held) (held_in c.give_up_if-parted.new.kept) (held_in c.put_all.new.held)
+    (top_first c.give_up_if-parted.new.stack.items) (held_in c.args.held) (held_in c.give_up_if-parted.new.kept) (held_in
+    c.put_all.new.held)
     c.in-Ok.ensures collects c.give_up_if-parted.ensures.parts is c.put_all.ensures)
 
 pub returns-in-Err-parted-clause-own : goal.returns-in-Err-parted-clause-own

@@ -12,7 +12,8 @@ use Rattle.core_likeness.proofs.handles.is_set_counted.Goals.{then-has_buffer+el
 pub counting-preserved : goal.counting-preserved
 counting-preserved c =
     below_more (λ n. bit_at c.args.set n ≡ 1 → (strength : Strength) →
-    IsCounted c.args.sides.now.one.now.holds c.args.sides.now.other.now.holds (new_id c.args.sides.now.names.now) c.args.sides.now.is_old c.args.client
+    IsCounted c.args.sides.now.one.now.holds c.args.sides.now.other.now.holds (new_id c.args.sides.now.names.now)
+    c.args.sides.now.is_old c.args.client
     (record { collection = c.args.collection; index = n }) strength) c.counting.index c.counting.invariant
     (λ bit. elim c.if-has_buffer.branch [
       | then-has_buffer+else-not-is_counted w ↦ w.if-not-is_counted.ensures refl
@@ -25,6 +26,7 @@ counting-preserved c =
 -- no buffer of the set is left
 pub returns : goal.returns
 returns c = λ _.
-    set-counted c.args.sides.now.one.now.holds c.args.sides.now.other.now.holds (new_id c.args.sides.now.names.now) c.args.sides.now.is_old c.args.client c.args.collection
+    set-counted c.args.sides.now.one.now.holds c.args.sides.now.other.now.holds (new_id c.args.sides.now.names.now)
+    c.args.sides.now.is_old c.args.client c.args.collection
     c.args.set
     (omega arith) (λ n less. c.counting.invariant n (omega arith))

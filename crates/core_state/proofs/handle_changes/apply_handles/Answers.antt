@@ -76,30 +76,70 @@ returns-in-Ok-clause-places c =
 pub returns-in_default-reply : goal.returns-in_default-reply
 returns-in_default-reply c =
     let same = take_stays c.args.holds.now c.args.client c.args.reply.now c.in-Take.field-0 c.in_default-reply.not-Taken in
-    record { ok = rw c.in-Take.is same.moves; room = rw c.in-Take.is same.undo; err = tt; why = tt; limit = refl; places = c.requires.places }
+    record {
+      ok = rw c.in-Take.is same.moves;
+      room = rw c.in-Take.is same.undo;
+      err = tt;
+      why = tt;
+      limit = refl;
+      places =
+          c.requires.places;
+    }
 
 pub returns-in_default-reply-2 : goal.returns-in_default-reply-2
 returns-in_default-reply-2 c =
     let same = dup_stays c.args.holds.now c.args.client c.args.reply.now c.in-DupHandle.buffer
     c.in-DupHandle.strength c.in_default-reply-2.not-Done in
-    record { ok = rw c.in-DupHandle.is same.moves; room = rw c.in-DupHandle.is same.undo; err = tt; why = tt; limit = refl; places = c.requires.places }
+    record {
+      ok = rw c.in-DupHandle.is same.moves;
+      room = rw c.in-DupHandle.is same.undo;
+      err = tt;
+      why = tt;
+      limit = refl;
+      places =
+          c.requires.places;
+    }
 
 pub returns-in_default-reply-3 : goal.returns-in_default-reply-3
 returns-in_default-reply-3 c =
     let same = drop_stays c.args.holds.now c.args.client c.args.reply.now c.in-DropHandle.buffer
     c.in-DropHandle.strength c.in_default-reply-3.not-Done in
-    record { ok = rw c.in-DropHandle.is same.moves; room = rw c.in-DropHandle.is same.undo; err = tt; why = tt; limit = refl; places = c.requires.places }
+    record {
+      ok = rw c.in-DropHandle.is same.moves;
+      room = rw c.in-DropHandle.is same.undo;
+      err = tt;
+      why = tt;
+      limit = refl;
+      places
+          = c.requires.places;
+    }
 
 pub returns-in_default-reply-4 : goal.returns-in_default-reply-4
 returns-in_default-reply-4 c =
     let same = give_stays c.args.holds.now c.args.client c.args.reply.now c.in-GiveHandle.buffer c.in-GiveHandle.strength
     c.in-GiveHandle.field-2 c.in_default-reply-4.not-Done in
-    record { ok = rw c.in-GiveHandle.is same.moves; room = rw c.in-GiveHandle.is same.undo; err = tt; why = tt; limit = refl; places = c.requires.places }
+    record {
+      ok = rw c.in-GiveHandle.is same.moves;
+      room = rw c.in-GiveHandle.is same.undo;
+      err = tt;
+      why = tt;
+      limit = refl;
+      places
+          = c.requires.places;
+    }
 
 pub returns-in_default-reply-5 : goal.returns-in_default-reply-5
 returns-in_default-reply-5 c =
     let same = collect_stays c.args.holds.now c.args.client c.args.reply.now c.in_default-reply-5.not-CollectedHandle in
-    record { ok = rw c.in-Collect.is same.moves; room = rw c.in-Collect.is same.undo; err = tt; why = tt; limit = refl; places = c.requires.places }
+    record {
+      ok = rw c.in-Collect.is same.moves;
+      room = rw c.in-Collect.is same.undo;
+      err = tt;
+      why = tt;
+      limit = refl;
+      places =
+          c.requires.places;
+    }
 
 pub returns-in_default : goal.returns-in_default
 returns-in_default c =

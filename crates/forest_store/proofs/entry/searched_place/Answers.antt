@@ -9,7 +9,8 @@ pub returns-then-get-id : goal.returns-then-get-id
 returns-then-get-id c =
     let at = c.searched-at.ensures in
     let same : (get_or c.args.entries.now c.searched-at.result c.get.result.now).id ≡ c.args.id =
-    subst (λ (e : Entry). e.id ≡ c.args.id) (read_through c.args.entries.now c.searched-at.result c.get.ensures c.index-entries-at.is) c.if-get-id.true in
+    subst (λ (e : Entry). e.id ≡ c.args.id) (read_through c.args.entries.now c.searched-at.result c.get.ensures
+    c.index-entries-at.is) c.if-get-id.true in
     rw at (sym (place_found _ _ _ c.requires (rw at at c.if-at-entries.true) (rw at at same)))
 
 pub returns-else-at-entries : goal.returns-else-at-entries

@@ -9,7 +9,12 @@ index_mut-requires c = omega (arith, place_within _ _ _ _ _ c.deref.ensures.valu
 
 pub insert_at-requires : goal.insert_at-requires
 insert_at-requires c =
-    omega (arith, rw c.deref-in-None.ensures.value at c.entries_before-at.ensures, before_within c.get.result.now.id c.args.entries.now.items)
+    omega (
+      arith,
+      rw c.deref-in-None.ensures.value at c.entries_before-at.ensures,
+      before_within c.get.result.now.id
+          c.args.entries.now.items,
+    )
 
 pub returns-in-Some-clause-items : goal.returns-in-Some-clause-items
 returns-in-Some-clause-items c =

@@ -56,7 +56,7 @@ step c ok =
     Step-opened c.self.inside.limit rows c.open.new.rows.entries tallies c.open.new.tallies.entries c.self.invariant.0 hold
     (at_ok (Raises rows c.open.new.rows.entries hold) c.open.result ok c.open.ensures.raised)
     (at_ok (OpensOne rows c.open.new.rows.entries tallies c.open.new.tallies.entries hold.kind) c.open.result ok
-        c.open.ensures.counted_by_kind)
+    c.open.ensures.counted_by_kind)
     (λ full. ok-not-err c.open.result TooMany ok (c.open.ensures.too_many.1 full))
 
 pub invariant_of-self : goal.invariant_of-self

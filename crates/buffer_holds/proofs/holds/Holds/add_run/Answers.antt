@@ -12,7 +12,8 @@ pub open_run-requires-clause-fewer : goal.open_run-requires-clause-fewer
 open_run-requires-clause-fewer c =
     let a = c.args in
     subst (λ (counts : Counts). (n : ℕ) → bit_at a.rest n ≡ 1 →
-    total counts (record { collection = a.collection; index = a.index + n }) a.strength < counts.limit) (sym c.self.view_is) c.requires.fewer
+    total counts (record { collection = a.collection; index = a.index + n }) a.strength < counts.limit) (sym c.self.view_is)
+    c.requires.fewer
 
 pub invariant_of-self : goal.invariant_of-self
 invariant_of-self c =

@@ -96,7 +96,7 @@ invariant_of-self c =
 pub returns-clause-opened : goal.returns-clause-opened
 returns-clause-opened c = on_true _ c.open_there.result (λ ok. sets_by c.args.client c.args.buffer c.args.strength
     (step (goal.at.returns-clause-opened c).After-open_there ok) c.args.self.now c.self.view_is (λ n. n + 1) (λ n. n) (λ n. n + 1)
-        refl refl refl)
+    refl refl refl)
 
 -- the tally has what is open
 pub returns-clause-fewer : goal.returns-clause-fewer

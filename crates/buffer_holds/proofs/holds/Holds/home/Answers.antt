@@ -34,7 +34,8 @@ returns-then-is_unopened c =
 pub returns : goal.returns
 returns c =
     let inside = c.self.inside in
-    let open_here = λ (s : Strength). sym (total_is inside.limit inside.rows.entries inside.tallies.entries c.self.invariant.0 c.args.buffer s)
+    let open_here = λ (s : Strength). sym (total_is inside.limit inside.rows.entries inside.tallies.entries c.self.invariant.0
+    c.args.buffer s)
     ∙ ap (λ counts. total counts c.args.buffer s) c.self.view_is in
     c.none_open.ensures
     ∙ alone ((tally_at inside.tallies.entries (kind_of c.args.buffer Strong)).total == 0)

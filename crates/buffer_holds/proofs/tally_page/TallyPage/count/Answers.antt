@@ -1,4 +1,5 @@
-use Rattle.std.proofs.Common.{rules, ℕ, List, Option, ◌≡◌, ◌∙◌, ◌+◌, ◌<◌, ap, subst, sym, false, cond, not, Some, arith, get_or, length, map, set, unwrap_or}
+use Rattle.std.proofs.Common.{rules, ℕ, List, Option, ◌≡◌, ◌∙◌, ◌+◌, ◌<◌, ap, subst}
+use Rattle.std.proofs.Common.{sym, false, cond, not, Some, arith, get_or, length, map, set, unwrap_or}
 use Rattle.buffer_holds.specs.declared.tally.Tally.{Tally}
 use Rattle.buffer_holds.specs.Pages.{cell_at, SetsCell}
 use Rattle.buffer_holds.specs.Sound.{is_idle, kept, no_tally, IsPlain}
@@ -76,7 +77,8 @@ pub invariant_of-self-then-is_idle : goal.invariant_of-self-then-is_idle
 invariant_of-self-then-is_idle c =
     let d = (goal.at.invariant_of-self-then-is_idle c).After-is_idle in
     let ts = c.self.inside.tallies in
-    let was : one_if (get_or ts c.args.at no_tally) ≡ 0 = ap one_if (sym (read d)) ∙ ap (λ b. cond (not b) 1 0) (sym c.is_idle.ensures ∙ c.if-is_idle.true) in
+    let was : one_if (get_or ts c.args.at no_tally) ≡ 0 = ap one_if (sym (read d)) ∙ ap (λ b. cond (not b) 1 0) (sym
+    c.is_idle.ensures ∙ c.if-is_idle.true) in
     let is : one_if c.one_more-more.result ≡ 1 = ap (λ b. cond (not b) 1 0) (busy d) in (
       omega (arith, c.self.invariant.0, busy_set ts c.args.at c.one_more-more.result (within d), was, is),
       plain_set ts c.args.at c.one_more-more.result (within d) (not_idle c.one_more-more.result (busy d)) c.self.invariant.1,
@@ -86,7 +88,8 @@ pub invariant_of-self-else-is_idle : goal.invariant_of-self-else-is_idle
 invariant_of-self-else-is_idle c =
     let d = (goal.at.invariant_of-self-else-is_idle c).After-is_idle in
     let ts = c.self.inside.tallies in
-    let was : one_if (get_or ts c.args.at no_tally) ≡ 1 = ap one_if (sym (read d)) ∙ ap (λ b. cond (not b) 1 0) (sym c.is_idle.ensures ∙ c.if-is_idle.false) in
+    let was : one_if (get_or ts c.args.at no_tally) ≡ 1 = ap one_if (sym (read d)) ∙ ap (λ b. cond (not b) 1 0) (sym
+    c.is_idle.ensures ∙ c.if-is_idle.false) in
     let is : one_if c.one_more-more.result ≡ 1 = ap (λ b. cond (not b) 1 0) (busy d) in (
       omega (arith, c.self.invariant.0, busy_set ts c.args.at c.one_more-more.result (within d), was, is),
       plain_set ts c.args.at c.one_more-more.result (within d) (not_idle c.one_more-more.result (busy d)) c.self.invariant.1,

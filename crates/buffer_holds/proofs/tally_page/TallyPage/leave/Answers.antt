@@ -1,4 +1,5 @@
-use Rattle.std.proofs.Common.{rules, ◌≡◌, ◌∙◌, ◌-◌, ◌<◌, ap, refl, subst, sym, true, false, cond, not, None, Some, arith, get_or, if◌then◌else◌, length, map, set, unwrap_or}
+use Rattle.std.proofs.Common.{rules, ◌≡◌, ◌∙◌, ◌-◌, ◌<◌, ap, refl, subst, sym, true, false}
+use Rattle.std.proofs.Common.{cond, not, None, Some, arith, get_or, if◌then◌else◌, length, map, set, unwrap_or}
 use Rattle.buffer_holds.specs.declared.tally.Tally.{Tally}
 use Rattle.buffer_holds.specs.Pages.{cell_at, SetsCell}
 use Rattle.buffer_holds.specs.Sound.{is_idle, kept, no_tally, without_client}
@@ -64,11 +65,13 @@ returns-then-is_idle c =
     let d = (goal.at.returns-then-is_idle c).After-is_idle in
     let ts = c.self.inside.tallies in
     let idle : is_idle (left d) ≡ true = sym c.is_idle.ensures ∙ c.if-is_idle.true in
-    let none : None ≡ without_client (unwrap_or (cell_at c.args.self.now c.args.at) no_tally) = ap (λ b. if b then None else Some (left d)) (sym idle)
+    let none : None ≡ without_client (unwrap_or (cell_at c.args.self.now c.args.at) no_tally) = ap (λ b. if b then None else Some
+    (left d)) (sym idle)
     ∙ is_left d in
     subst (λ cells. SetsCell cells (map kept (set ts c.args.at no_tally)) c.args.at
     (without_client (unwrap_or (cell_at c.args.self.now c.args.at) no_tally))) c.self.view_is
-    (subst (λ o. SetsCell (map kept ts) (map kept (set ts c.args.at no_tally)) c.args.at o) none (cells_set ts c.args.at no_tally (within d)))
+    (subst (λ o. SetsCell (map kept ts) (map kept (set ts c.args.at no_tally)) c.args.at o) none (cells_set ts c.args.at no_tally
+    (within d)))
 
 pub returns-else-is_idle : goal.returns-else-is_idle
 returns-else-is_idle c =

@@ -1,7 +1,9 @@
 -- What the last goals of `drop_without_strong` have in common: the entry that was read is the one that is changed, and nothing is forced.
 use Rattle.forest_steps.proofs.Common.{◌≡◌, ◌∙◌, ◌&&◌, ◌++◌, ℕ, List, nat_lt, not, None, Handles, Node, Table, inr, refl, set}
-use Rattle.forest_steps.proofs.Common.{get_or, subst, sym, ap, filter, total, Entry, forest_of, nodes_with, rows_of, get_or_default, AreCounted}
-use Rattle.forest_steps.proofs.Common.{IsCounted, decided, has_given_root, beside, by_page, is_held_strongly, is_out, pages_held, counted_set}
+use Rattle.forest_steps.proofs.Common.{get_or, subst, sym, ap, filter, total}
+use Rattle.forest_steps.proofs.Common.{Entry, forest_of, nodes_with, rows_of, get_or_default, AreCounted}
+use Rattle.forest_steps.proofs.Common.{IsCounted, decided, has_given_root, beside}
+use Rattle.forest_steps.proofs.Common.{by_page, is_held_strongly, is_out, pages_held, counted_set}
 use Rattle.forest_steps.proofs.changes.Dropped.{IsReturned, decides_none, one_entry, pool_at}
 use Rattle.forest_store.proofs.rows.Entries.{read_through}
 use Rattle.forest_steps.proofs.dropped.drop_without_strong.Goals.{After-assert_disjoint-2}
