@@ -1,4 +1,4 @@
--- Once each client has exited, every end is spent and no handle is open.
+-- Once each client has vanished, every end is spent and no handle is open.
 use Rattle.std.proofs.Common.{ℕ, ◌≡◌, ◌+◌, ◌∙◌, refl, ap, sym, subst, Bool, true, false, not, ◌||◌}
 use Rattle.std.proofs.Common.{◌==◌, inl, inr, List, [], ◌∷◌, ◌++◌, Option, Some, None, arith, is_some}
 use Rattle.std.proofs.lemmas.Bool.{eq-eqb, false≢true}
@@ -34,8 +34,8 @@ use Rattle.event_laws.proofs.FreeEndLaws.{FreeEnd, passed}
 use Rattle.event_laws.proofs.HandLaws.{NextEvent, next_event}
 use Rattle.event_laws.proofs.HandleBufferLaws.{still_joined, stranger_has_none}
 use Rattle.event_laws.proofs.ParcelEventLaws.{stranger_waits_for_none}
-use Rattle.core_vanish.specs.Exits.{ExitedIn, HasExited, holds_end}
-use Rattle.core_vanish.proofs.ExitEvents.{exited_on, kept_on}
+use Rattle.core_vanish.specs.Vanishes.{VanishedIn, HasVanished, holds_end}
+use Rattle.core_vanish.proofs.VanishEvents.{vanished_on, kept_on}
 use Rattle.core_vanish.proofs.HeldEnds.{free_holds}
 
 -- ---- a client that holds an end has joined
@@ -136,30 +136,30 @@ holder_joined pool limits history legal =
     kept_on pool limits (HoldersJoined pool) (λ h entry l held key born. holder_next pool limits h entry l held key born) [] history legal
     (λ key born. cc)
 
--- ---- where all have exited
+-- ---- where all have vanished
 
--- each client that joined has exited
-abbrev pub AllExited : ℕ → List Entry → Type 0
-AllExited pool history = (client : ℕ) → has_joined (timeline pool history) client ≡ true → ExitedIn pool history client
+-- each client that joined has vanished
+abbrev pub AllVanished : ℕ → List Entry → Type 0
+AllVanished pool history = (client : ℕ) → has_joined (timeline pool history) client ≡ true → VanishedIn pool history client
 
-module _ (pool : ℕ) (limits : Bound) (history : List Entry) (legal : IsLegal pool limits history) (all : AllExited pool history) where
+module _ (pool : ℕ) (limits : Bound) (history : List Entry) (legal : IsLegal pool limits history) (all : AllVanished pool history) where
   -- the timeline of the whole history
   abbrev now : Timeline
   now = timeline pool history
 
   -- so it has nothing now
-  exited : (client : ℕ) → has_joined (timeline pool history) client ≡ true → HasExited (readings (timeline pool history)) client
-  exited client joined =
-      let e : ExitedIn pool history client = all client joined in
-      subst (λ (h : List Entry). HasExited (readings (timeline pool h)) client) (sym e.2)
-      (exited_on pool limits e.0 e.1 (subst (IsLegal pool limits) e.2 legal) client e.3)
+  vanished : (client : ℕ) → has_joined (timeline pool history) client ≡ true → HasVanished (readings (timeline pool history)) client
+  vanished client joined =
+      let e : VanishedIn pool history client = all client joined in
+      subst (λ (h : List Entry). HasVanished (readings (timeline pool h)) client) (sym e.2)
+      (vanished_on pool limits e.0 e.1 (subst (IsLegal pool limits) e.2 legal) client e.3)
 
   -- no end is in a parcel
   none_moves : (key : NodeKey) → in_transit (timeline pool history) key ≡ true → ⊥
   none_moves key h =
       let c = In-list_any (λ client. list_any (is_end_of key) (parcels now client)) (clients now) h in
       let joined : has_joined now c.0 ≡ true = In-any (λ k. k == c.0) (clients now) c.0 c.1 (eq-eqb c.0 c.0 refl) in
-      let none : parcels now c.0 ≡ [] = (exited c.0 joined).parcels in
+      let none : parcels now c.0 ≡ [] = (vanished c.0 joined).parcels in
       let no : false ≡ true = ap (list_any (is_end_of key)) (sym none) ∙ c.2 in
       cc
 
@@ -170,8 +170,8 @@ module _ (pool : ℕ) (limits : Bound) (history : List Entry) (legal : IsLegal p
     | inr unspent ↦ elim (either_way (in_transit now key)) [
       | inl moves ↦ absurd (none_moves key moves)
       | inr resting ↦
-          let x : HasExited (readings now) (holder now key) =
-          exited (holder now key) (holder_joined pool limits history legal key born) in
+          let x : HasVanished (readings now) (holder now key) =
+          vanished (holder now key) (holder_joined pool limits history legal key born) in
           let f : FreeEnd now (holder now key) key = record { born = born; unspent = unspent; resting = resting; held = refl } in
           both_ways (holds_end (readings now) (holder now key) key) (free_holds now (holder now key) key f) (x.ends key)
     ]
@@ -184,7 +184,7 @@ module _ (pool : ℕ) (limits : Bound) (history : List Entry) (legal : IsLegal p
   -- no client has a handle open
   has_none : (buffer : BufferName) (strength : Strength) (client : ℕ) → open_of (timeline pool history) client buffer strength ≡ 0
   has_none buffer strength client = elim (either_way (has_joined now client)) [
-    | inl joined ↦ (exited client joined).handles buffer strength
+    | inl joined ↦ (vanished client joined).handles buffer strength
     | inr stranger ↦ stranger_has_none pool limits now grown client buffer strength stranger
   ]
 
@@ -192,7 +192,7 @@ module _ (pool : ℕ) (limits : Bound) (history : List Entry) (legal : IsLegal p
   awaits_none : (buffer : BufferName) (strength : Strength) (client : ℕ) →
       times (is_handle_of buffer strength) (parcels (timeline pool history) client) ≡ 0
   awaits_none buffer strength client = elim (either_way (has_joined now client)) [
-    | inl joined ↦ ap (times (is_handle_of buffer strength)) (exited client joined).parcels
+    | inl joined ↦ ap (times (is_handle_of buffer strength)) (vanished client joined).parcels
     | inr stranger ↦ ap (times (is_handle_of buffer strength)) (stranger_waits_for_none pool limits now grown client stranger)
   ]
 

@@ -13,7 +13,7 @@ use Rattle.history_laws.proofs.BirthLaws.{birth_is, birth_was_born}
 use Rattle.sm_names.proofs.ListLaws.{is_some-find}
 use Rattle.sm_names.proofs.SamenessLaws.{and_left, and_right, and_both, some_is}
 use Rattle.event_laws.proofs.FreeEndLaws.{FreeEnd}
-use Rattle.core_vanish.specs.Exits.{holds_end}
+use Rattle.core_vanish.specs.Vanishes.{holds_end}
 
 -- what is not so fails
 pub not_so : (b : Bool) → not b ≡ true → b ≡ false

@@ -1,9 +1,9 @@
 pub mod HeldEnds
-pub mod ExitEvents
-pub mod ExitSteps
+pub mod VanishEvents
+pub mod VanishSteps
 pub mod StepLemmas
 pub mod PhaseLemmas
 pub mod AllGone
 pub mod StateReads
 pub mod PhaseSteps
-pub mod ExitParts
+pub mod VanishParts

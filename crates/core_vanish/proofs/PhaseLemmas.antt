@@ -16,7 +16,7 @@ use Rattle.core_state.specs.State.{State}
 use Rattle.core_vanish.specs.Events.{GetsNothing, Lets}
 use Rattle.core_vanish.specs.Vanishing.{AdvancesBy}
 use Rattle.core_vanish.specs.Phases.{Phase}
-use Rattle.core_vanish.specs.declared.exit.VanishFault.{VanishFault}
+use Rattle.core_vanish.specs.declared.vanishing.VanishFault.{VanishFault}
 
 -- ---- events
 

@@ -1,4 +1,4 @@
--- One step of each phase of an exit.
+-- One step of each phase of a vanishing.
 use Rattle.std.proofs.Common.{ℕ, ◌≡◌, ◌≤◌, ◌<◌, ◌+◌, ◌-◌, ◌∙◌, refl, ap, sym, subst, Bool, true, false}
 use Rattle.std.proofs.Common.{◌||◌, inl, inr, List, [], ◌∷◌, ◌++◌, length, length-append, Err, arith}
 use Rattle.std.proofs.lemmas.List.Elements.{All-append, All-nil, All-push}
@@ -25,12 +25,12 @@ use Rattle.forest_store.specs.Forest.{all_nodes}
 use Rattle.core_state.specs.Reads.{readings_of}
 use Rattle.core_state.specs.Shown.{Shows}
 use Rattle.core_state.specs.State.{State}
-use Rattle.core_vanish.specs.declared.exit.VanishFault.{VanishFault}
+use Rattle.core_vanish.specs.declared.vanishing.VanishFault.{VanishFault}
 use Rattle.core_vanish.specs.Events.{Collecting, Collects, GetsNothing, IsShut, Lets, Whatever}
-use Rattle.core_vanish.specs.Exits.{IsClose, IsCollect, IsDrop, holds_end}
+use Rattle.core_vanish.specs.Vanishes.{IsClose, IsCollect, IsDrop, holds_end}
 use Rattle.core_vanish.specs.Vanishing.{AdvancesBy}
 use Rattle.core_vanish.specs.Phases.{HasAmong, HoldsAmong, IsUnshut, Phase, part_fault, waiting_told}
-use Rattle.core_vanish.proofs.ExitSteps.{close_told, collect_told, drop_told, shut_on, shut_refused, shut_told}
+use Rattle.core_vanish.proofs.VanishSteps.{close_told, collect_told, drop_told, shut_on, shut_refused, shut_told}
 use Rattle.core_vanish.proofs.PhaseLemmas.{gets_then, lets_none, phase_less, phase_lets, phase_none, phase_one, phase_then}
 use Rattle.core_vanish.proofs.StateReads.{has_among, holds_among, holds_read}
 

@@ -33,7 +33,7 @@ use Rattle.core_state.specs.State.{State}
 use Rattle.core_state.proofs.lists.ByNumber.{mixed_sorted}
 use Rattle.core_state.proofs.lists.Reorderings.{In-mixed_back}
 use Rattle.core_state.proofs.views.Readings.{readings_are}
-use Rattle.core_vanish.specs.Exits.{holds_end}
+use Rattle.core_vanish.specs.Vanishes.{holds_end}
 use Rattle.core_vanish.specs.Phases.{HasAmong, HoldsAmong}
 
 module _ (s : State) (history : List Entry) (shows : Shows s history) (client : ℕ) where

@@ -1,4 +1,4 @@
--- What a step makes of a core, as an exit needs it.
+-- What a step makes of a core, as a vanishing needs it.
 use Rattle.std.proofs.Common.{ℕ, ◌≡◌, ◌≤◌, ◌+◌, ◌↔◌, ◌∙◌, refl, ap, sym, subst, true, false}
 use Rattle.std.proofs.Common.{List, [], ◌∷◌, ◌++◌, Option, None, Result, Ok, Err, arith}
 use Rattle.std.proofs.lemmas.List.{append-nil}

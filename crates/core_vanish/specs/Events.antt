@@ -1,4 +1,4 @@
--- What the events of an exit make of a history. No public clause cites this module.
+-- What the events of a vanishing make of a history. No public clause cites this module.
 use Rattle.std.specs.Prelude.{ℕ, ◌+◌, ◌≡◌, ◌≤◌, true, List, [], ◌∷◌, ◌++◌, length}
 use Rattle.std.specs.List.{All}
 use Rattle.sm_names.specs.declared.keys.BufferName.{BufferName}
@@ -10,7 +10,7 @@ use Rattle.sm_names.specs.Ends.{has_joined, is_shut, parcels}
 use Rattle.sm_names.specs.Handles.{open_of}
 use Rattle.sm_names.specs.Marks.{Entry, Timeline}
 use Rattle.sm_names.specs.Reading.{readings}
-use Rattle.core_vanish.specs.Exits.{HasExited, IsClose, IsCollect, IsDrop, holds_end}
+use Rattle.core_vanish.specs.Vanishes.{HasVanished, IsClose, IsCollect, IsDrop, holds_end}
 
 -- the client was shut, and this many parcels wait for it
 pub record IsShut (client waiting : ℕ) (events : List Entry) (later : Timeline) : Type 0 where
@@ -53,7 +53,7 @@ Lets Is client Q marks events later = has_joined marks client ≡ true → LetsG
 abbrev pub Whatever : Timeline → Type 0
 Whatever marks = Unit {0}
 
--- the events of an exit behind its Shut, where this many parcels waited
+-- the events of a vanishing behind its Shut, where this many parcels waited
 pub record IsRest (client waiting : ℕ) (events : List Entry) : Type 0 where
   pub collects : List Entry
   pub closes : List Entry
@@ -68,7 +68,7 @@ pub record IsRest (client waiting : ℕ) (events : List Entry) : Type 0 where
 abbrev pub GivesUpAll : ℕ → ℕ → Timeline → List Entry → Timeline → Type 0
 GivesUpAll client waiting marks events later =
     has_joined marks client ≡ true → is_shut marks client ≡ true → length (parcels marks client) ≡ waiting →
-    IsRest client waiting events × HasExited (readings later) client
+    IsRest client waiting events × HasVanished (readings later) client
 
 -- it collected all, and began to give it up
 abbrev pub Gathered : ℕ → ℕ → Timeline → List Entry → Timeline → Type 0

@@ -1,4 +1,4 @@
 pub mod Events
-pub mod Exits
+pub mod Vanishes
 pub mod Vanishing
 pub mod Phases

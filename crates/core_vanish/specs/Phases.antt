@@ -1,4 +1,4 @@
--- The phases of an exit of a core. No public clause cites this module.
+-- The phases of a vanishing of a core. No public clause cites this module.
 use Rattle.std.specs.Prelude.{ℕ, ◌≡◌, ◌<◌, true, List, [], ◌∷◌, ◌++◌, Result, Ok, Err}
 use Rattle.std.specs.List.{list_any}
 use Rattle.sm_names.specs.declared.keys.BufferName.{BufferName}
@@ -17,8 +17,8 @@ use Rattle.sm_names.specs.Timelines.{timeline}
 use Rattle.forest_store.specs.declared.node.Node.{Node}
 use Rattle.core_state.specs.Shown.{Shows}
 use Rattle.core_state.specs.State.{State}
-use Rattle.core_vanish.specs.declared.exit.VanishFault.{VanishFault}
-use Rattle.core_vanish.specs.Exits.{HasExited, IsExit, holds_end}
+use Rattle.core_vanish.specs.declared.vanishing.VanishFault.{VanishFault}
+use Rattle.core_vanish.specs.Vanishes.{HasVanished, IsVanish, holds_end}
 use Rattle.core_vanish.specs.Vanishing.{AdvancesBy}
 
 -- the core went on by some events, of which this holds for each history that it showed: of its marks, the events, and the marks
@@ -56,7 +56,7 @@ abbrev pub HasAmong : ℕ → List HeldBuffer → Timeline → Type 0
 HasAmong client buffers marks = (buffer : BufferName) (strength : Strength) → 0 < open_of marks client buffer strength →
     list_any (λ (h : HeldBuffer). same_buffer h.buffer buffer) buffers ≡ true
 
--- the client exited
+-- the client vanished
 pub record HasLeft (client : ℕ) (events : List Entry) (later : Timeline) : Type 0 where
-  pub is_exit : IsExit client events
-  pub has_exited : HasExited (readings later) client
+  pub is_vanish : IsVanish client events
+  pub has_vanished : HasVanished (readings later) client

@@ -9,16 +9,16 @@ use Rattle.sm_names.specs.Timelines.{timeline}
 use Rattle.core_state.specs.Shown.{Shows}
 use Rattle.core_state.specs.State.{State}
 use Rattle.core_state.specs.Theorem.{GoesOn}
-use Rattle.core_vanish.specs.declared.exit.VanishFault.{VanishFault}
-use Rattle.core_vanish.specs.Exits.{HasExited, IsExit}
+use Rattle.core_vanish.specs.declared.vanishing.VanishFault.{VanishFault}
+use Rattle.core_vanish.specs.Vanishes.{HasVanished, IsVanish}
 
--- what was made before the fault: the first events of an exit, or a Shut that was refused. Where memory is refused, the Shut and
+-- what was made before the fault: the first events of a vanishing, or a Shut that was refused. Where memory is refused, the Shut and
 -- all Collects were made: they take none
 abbrev pub IsBegun : ℕ → VanishFault → List Entry → Type 0
 IsBegun client VanishFault.NoSuchClient events = events ≡ (client, Call.Shut, Reply.Refused Refusal.NoSuchClient) ∷ []
-IsBegun client VanishFault.HistoryFull events = (rest : List Entry) × IsExit client (events ++ rest)
+IsBegun client VanishFault.HistoryFull events = (rest : List Entry) × IsVanish client (events ++ rest)
 IsBegun client VanishFault.NoMemory events =
-    (rest : List Entry) × (exit : IsExit client (events ++ rest)) × (exit.waiting < length events)
+    (rest : List Entry) × (vanishing : IsVanish client (events ++ rest)) × (vanishing.waiting < length events)
 
 -- the core made these events: each legal history that the old state shows, extended by them, is legal, and the new state shows it;
 -- no tracker was made
@@ -29,17 +29,17 @@ pub record AdvancesBy (old new : State) (events : List Entry) : Type 0 where
   pub untaken : new.trackers.untaken ≡ old.trackers.untaken
   pub goes_on : GoesOn old new events
 
--- the client exited by this many events
-pub record Exits (old new : State) (client count : ℕ) : Type 0 where
+-- the client vanished by this many events
+pub record Vanishes (old new : State) (client count : ℕ) : Type 0 where
   pub events : List Entry
   pub many : count ≡ length events
   pub advances : AdvancesBy old new events
-  pub is_exit : (history : List Entry) → Shows old history → IsExit client events
-  pub has_exited : (history : List Entry) → Shows old history →
-      HasExited (readings (timeline new.pool (history ++ events))) client
+  pub is_vanish : (history : List Entry) → Shows old history → IsVanish client events
+  pub has_vanished : (history : List Entry) → Shows old history →
+      HasVanished (readings (timeline new.pool (history ++ events))) client
 
 -- this many events were made, and then no more for this reason
-pub record ExitStops (old new : State) (client count : ℕ) (fault : VanishFault) : Type 0 where
+pub record VanishStops (old new : State) (client count : ℕ) (fault : VanishFault) : Type 0 where
   pub events : List Entry
   pub many : count ≡ length events
   pub advances : AdvancesBy old new events

@@ -2,7 +2,7 @@
 //! core, and what they bring about.
 #![tactic(auto)]
 
-mod exit;
 pub mod laws;
+mod vanishing;
 
-pub use exit::{VanishFault, Vanished, vanish};
+pub use vanishing::{VanishFault, Vanished, vanish};

@@ -14,6 +14,6 @@ step_codes = 0 ∷ 1 ∷ 4 ∷ 5 ∷ 6 ∷ []
 abbrev pub open_codes : List ℕ
 open_codes = 0 ∷ 2 ∷ 3 ∷ 6 ∷ []
 
--- of an exit: done, not open, history full, no memory, no client
+-- of a vanishing: done, not open, history full, no memory, no client
 abbrev pub vanish_codes : List ℕ
 vanish_codes = 0 ∷ 1 ∷ 5 ∷ 6 ∷ 9 ∷ []

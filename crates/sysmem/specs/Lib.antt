@@ -1,4 +1,4 @@
-pub mod Exits
+pub mod Vanishes
 pub mod Ownership
 pub mod Arrays
 pub mod Codes

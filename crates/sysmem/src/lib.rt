@@ -9,7 +9,6 @@
 mod arrays;
 mod codes;
 mod encode;
-mod exit;
 mod handle;
 mod names;
 mod nodes;
@@ -17,10 +16,10 @@ mod opening;
 mod place;
 mod raw;
 mod stepping;
+mod vanishing;
 mod views;
 mod words;
 
-pub use exit::sysmem_vanish;
 pub use handle::CoreHandle;
 pub use names::{sysmem_name, sysmem_version};
 pub use nodes::{
@@ -29,6 +28,7 @@ pub use nodes::{
 };
 pub use opening::{sysmem_close, sysmem_open, sysmem_open_lasting, sysmem_open_seeded};
 pub use stepping::sysmem_step;
+pub use vanishing::sysmem_vanish;
 pub use views::{
     FiredWords, HeldWords, KeyWords, sysmem_cause, sysmem_events, sysmem_fired, sysmem_fired_from,
     sysmem_forget_fired, sysmem_free_pages, sysmem_held, sysmem_is_live, sysmem_live,

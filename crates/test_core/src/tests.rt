@@ -2,7 +2,6 @@
 mod acts;
 mod cores;
 mod dropping;
-mod exit;
 mod failing;
 mod first;
 mod forgetting;
@@ -20,4 +19,5 @@ mod scripts;
 mod strangers;
 mod tracking;
 mod turns;
+mod vanishing;
 mod views;

@@ -1,12 +1,12 @@
 //! Cores that are lent to what plays on them, and what is often asked of one by client 1.
 use super::dropping::drops;
-use super::exit::come_and_go;
 use super::first::is_told;
 use super::forgetting::{Leaving, leave_beside};
 use super::lasting::{collects, forgets_firings, lasts};
 use super::lending::on_core;
 use super::limits::{has_children, has_collections, has_rounds, has_trackers, stops};
 use super::strangers::knows_nobody;
+use super::vanishing::come_and_go;
 use lifetime_core::Core;
 use sm_names::{Call, NodeKey, Refusal, Reply};
 use std::alloc::Global;

@@ -1,0 +1,12 @@
+use Rattle.std.proofs.Common.{ℕ, ◌≡◌, ◌+◌}
+use Rattle.core_vanish.specs.Events.{Collecting}
+use Rattle.core_vanish.specs.Phases.{Phase}
+use Rattle.core_vanish.proofs.vanishing.collect_all.Given as goal
+
+-- this many were collected so far
+abbrev pub invariant-loop-left : goal.invariant-loop-left
+invariant-loop-left l =
+    (count : ℕ) × (count + l.left ≡ l.waiting) × Phase l.fn.core l.core (Collecting l.client l.waiting count)
+
+abbrev pub decreases-loop-left : goal.decreases-loop-left
+decreases-loop-left l = l.left

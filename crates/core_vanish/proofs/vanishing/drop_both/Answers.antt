@@ -1,0 +1,20 @@
+use Rattle.std.proofs.Common.{◌≡◌}
+use Rattle.std.proofs.lemmas.Result.{on_err_weaker, on_ok_weaker}
+use Rattle.sm_names.specs.declared.keys.Strength.{Strength}
+use Rattle.sm_names.specs.Handles.{open_of}
+use Rattle.core_vanish.specs.Events.{Whatever}
+use Rattle.core_vanish.specs.Vanishes.{IsDrop}
+use Rattle.core_vanish.proofs.PhaseSteps.{drop_strengths, let_on}
+use Rattle.core_vanish.proofs.vanishing.drop_both.Goals as goal
+
+pub returns-clause-ok : goal.returns-clause-ok
+returns-clause-ok c =
+    on_ok_weaker c.drop_each-2.result
+    (λ q. drop_strengths c.args.core.now c.drop_each.new.core c.drop_each-2.new.core c.args.client c.args.buffer
+    c.in_ok-drop_each.ensures.ok q) c.drop_each-2.ensures.ok
+
+pub returns-clause-err : goal.returns-clause-err
+returns-clause-err c =
+    on_err_weaker c.drop_each-2.result
+    (λ q. let_on (IsDrop c.args.client) c.args.core.now c.drop_each.new.core c.drop_each-2.new.core c.args.client (λ later.
+    open_of later c.args.client c.args.buffer Strength.Strong ≡ 0) Whatever c.in_ok-drop_each.ensures.ok q) c.drop_each-2.ensures.err

@@ -1,0 +1,14 @@
+use Rattle.std.proofs.Common.{◌≡◌}
+use Rattle.sm_names.specs.Handles.{open_of}
+use Rattle.core_vanish.specs.Events.{Lets}
+use Rattle.core_vanish.specs.Vanishes.{IsDrop}
+use Rattle.core_vanish.specs.Phases.{Phase}
+use Rattle.core_vanish.proofs.vanishing.drop_each.Given as goal
+
+-- this many are open still
+abbrev pub invariant-loop-left : goal.invariant-loop-left
+invariant-loop-left l =
+    Phase l.fn.core l.core (Lets (IsDrop l.client) l.client (λ later. open_of later l.client l.buffer l.strength ≡ l.left))
+
+abbrev pub decreases-loop-left : goal.decreases-loop-left
+decreases-loop-left l = l.left
