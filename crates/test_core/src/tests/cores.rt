@@ -25,7 +25,7 @@ pub enum Play {
     Forgotten,
     Collected,
     LastDrop,
-    Exit,
+    Vanish,
     /// Units of this many nodes come and go.
     Units(u8, Leaving),
 }
@@ -45,7 +45,7 @@ impl Play {
             Play::Forgotten => forgets_firings(core),
             Play::Collected => collects(core),
             Play::LastDrop => drops(core),
-            Play::Exit => come_and_go(alloc, core),
+            Play::Vanish => come_and_go(alloc, core),
             Play::Units(nodes, leaving) => leave_beside(alloc, core, nodes, leaving),
         }
     }

@@ -83,5 +83,5 @@ pub fn come_and_go(alloc: Global, core: &mut Core) -> bool {
 
 #[test]
 fn nothing_is_left_of_two_clients(rt: HostRuntime) {
-    assert!(rt; goes_well(rt.alloc(), FULL, Play::Exit));
+    assert!(rt; goes_well(rt.alloc(), FULL, Play::Vanish));
 }
