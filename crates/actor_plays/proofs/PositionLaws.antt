@@ -147,7 +147,7 @@ module _ (setup : Setup) where
 -- A stage that has all steps of the plan behind it has no next one: nor has one of no plan.
 pub no_next : (plans : List Plan) (actor : ℕ) (stage : Stage) →
     option_map_or (λ (plan : Plan). length (steps_of plan)) (slice_get plans actor) 0 ≤ stage.at → next_step plans actor stage ≡ None
-no_next plans actor stage = by (slice_get plans actor) (is_some stage.leaving)
+no_next plans actor stage = by (slice_get plans actor) (is_some stage.vanish)
   where
     -- by whether there is a plan, and whether it leaves
     by : (o : Option Plan) (b : Bool) → option_map_or (λ (plan : Plan). length (steps_of plan)) o 0 ≤ stage.at →

@@ -6,8 +6,8 @@ use Rattle.sm_names.specs.declared.messages.Call.{Call}
 use Rattle.sm_names.specs.declared.messages.Reply.{Reply}
 use Rattle.actor_scripts.specs.declared.object.ActorObject.{ActorObject}
 use Rattle.actor_scripts.specs.ActorStates.{new_objects}
-use Rattle.actor_plays.specs.declared.leaving.Leaving.{Leaving}
-use Rattle.actor_plays.specs.declared.leaving.Sort.{Sort}
+use Rattle.actor_plays.specs.declared.vanish.VanishProgress.{VanishProgress}
+use Rattle.actor_plays.specs.declared.vanish.Sort.{Sort}
 
 -- how far an actor is that leaves: how many parcels it has still to collect, what it collected since it was shut, and with how
 -- many of its objects it parted
@@ -40,16 +40,16 @@ all_objects collected slots = flat_map (those Sort.End) collected ++ (flat_map (
     ++ (flat_map (there Sort.Collection) slots ++ (flat_map (those Sort.Handle) collected ++ flat_map (there Sort.Handle) slots)))
 
 -- the call that parts with the object
-abbrev pub parting_call : ActorObject → Call
-parting_call (ActorObject.Token key collection) = Call.Close key
-parting_call (ActorObject.Collection key collection) = Call.Close key
-parting_call (ActorObject.Handle buffer strength) = Call.DropHandle buffer strength
+abbrev pub vanishing_call : ActorObject → Call
+vanishing_call (ActorObject.Token key collection) = Call.Close key
+vanishing_call (ActorObject.Collection key collection) = Call.Close key
+vanishing_call (ActorObject.Handle buffer strength) = Call.DropHandle buffer strength
 
 -- the call of an actor that leaves and has these slots: it collects all that waited for it when it was shut, then it parts with
 -- one object after another
 abbrev pub going_call : List (Option ActorObject) → Leave → Option Call
 going_call slots l =
-    let parts : Option Call = option_map parting_call (slice_get (all_objects l.collected slots) l.parted) in
+    let parts : Option Call = option_map vanishing_call (slice_get (all_objects l.collected slots) l.parted) in
     if l.waiting == 0 then parts else Some Call.Collect
 
 -- the call by which an actor leaves, or goes on to leave, if there is one
@@ -75,5 +75,5 @@ leave_after None reply = record { waiting = waiting_told reply; collected = []; 
 leave_after (Some l) reply = going_after l reply
 
 -- how far it is
-abbrev pub leaving_of : Leaving → Leave
-leaving_of leaving = record { waiting = leaving.waiting; collected = leaving.collected.items; parted = leaving.parted }
+abbrev pub vanish_of : VanishProgress → Leave
+vanish_of vanish = record { waiting = vanish.waiting; collected = vanish.collected.items; parted = vanish.parted }

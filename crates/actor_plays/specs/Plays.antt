@@ -1,5 +1,6 @@
 -- The plays of actors: which calls they can make, one turn after another, and what they know then.
-use Rattle.std.specs.Prelude.{ℕ, zero, suc, ◌+◌, ◌≡◌, Bool, true, false, ◌&&◌, ◌==◌, not, if◌then◌else◌, List, [], ◌∷◌, ◌++◌, length, map, slice_get, slice_set, Option, Some, None, is_some}
+use Rattle.std.specs.Prelude.{ℕ, zero, suc, ◌+◌, ◌≡◌, Bool, true, false, ◌&&◌, ◌==◌, not, if◌then◌else◌}
+use Rattle.std.specs.Prelude.{List, [], ◌∷◌, ◌++◌, length, map, slice_get, slice_set, Option, Some, None, is_some}
 use Rattle.std.specs.List.{list_any}
 use Rattle.std.specs.Option.{option_and_then, option_map, option_map_or}
 use Rattle.sm_names.specs.declared.messages.Call.{Call}
@@ -19,7 +20,7 @@ use Rattle.actor_plays.specs.declared.play.Asked.{Asked}
 use Rattle.actor_plays.specs.declared.play.Play.{Play}
 use Rattle.actor_plays.specs.declared.play.Turn.{Turn}
 use Rattle.actor_plays.specs.declared.play.Turned.{Turned}
-use Rattle.actor_plays.specs.Leaves.{Leave, leave_after, leave_call, leaving_of}
+use Rattle.actor_plays.specs.Leaves.{Leave, leave_after, leave_call, vanish_of}
 use Rattle.actor_plays.specs.Plans.{steps_of}
 
 -- how far an actor is: how many steps of its plan are behind it, what it knows, the replies to the calls of its steps, each with
@@ -28,11 +29,11 @@ pub record Stage : Type 0 where
   pub at : ℕ
   pub known : Known
   pub made : List (ℕ × Reply)
-  pub leaving : Option Leave
+  pub vanish : Option Leave
 
 -- nothing is behind it
 abbrev pub first_stage : Stage
-first_stage = record { at = 0; known = nothing_known; made = []; leaving = None }
+first_stage = record { at = 0; known = nothing_known; made = []; vanish = None }
 
 -- the next step is behind it, without a call
 abbrev pub passed : Stage → Stage
@@ -44,22 +45,22 @@ stage_after stage next asked reply = record {
   at = stage.at + 1;
   known = state_after stage.known next.step asked reply;
   made = stage.made ++ (stage.at, reply) ∷ [];
-  leaving = stage.leaving;
+  vanish = stage.vanish;
 }
 
 -- the call by which it leaves, or goes on to leave, is answered so
 abbrev pub left : Stage → Reply → Stage
-left stage reply = record stage { leaving = Some (leave_after stage.leaving reply) }
+left stage reply = record stage { vanish = Some (leave_after stage.vanish reply) }
 
 -- that call, if there is one
 abbrev pub leaves_by : Stage → Option Call
-leaves_by stage = leave_call stage.known.objects stage.leaving
+leaves_by stage = leave_call stage.known.objects stage.vanish
 
 -- the next step of the actor of this place: one that leaves has none
 abbrev pub next_step : List Plan → ℕ → Stage → Option Planned
 next_step plans actor stage =
     let next : Option Planned = option_and_then (λ (plan : Plan). slice_get (steps_of plan) stage.at) (slice_get plans actor) in
-    if is_some stage.leaving then None else next
+    if is_some stage.vanish then None else next
 
 -- the tracker is among those that fired
 abbrev pub has_fired : List Fired → ℕ → Bool
@@ -114,7 +115,7 @@ stage_of actor = record {
   at = actor.at;
   known = known actor.state;
   made = actor.made.items;
-  leaving = option_map leaving_of actor.leaving;
+  vanish = option_map vanish_of actor.vanish;
 }
 
 -- where each actor of the play is, by the order of the joins

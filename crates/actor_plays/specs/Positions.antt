@@ -40,11 +40,11 @@ pub record Position : Type 0 where
 
 -- how many steps were behind the actor when it began to leave, if it leaves
 abbrev pub left_at : Stage → Option ℕ
-left_at stage = option_map (λ (l : Leave). stage.at) stage.leaving
+left_at stage = option_map (λ (l : Leave). stage.at) stage.vanish
 
 -- the actor may leave, or go on to
 abbrev pub may_go : Setup → Position → ℕ → Stage → Bool
-may_go setup p actor stage = is_some stage.leaving || setup.may_leave (map left_at p.stages) actor stage.at
+may_go setup p actor stage = is_some stage.vanish || setup.may_leave (map left_at p.stages) actor stage.at
 
 -- the actor passes its next step: it makes no call, and does not wait for a tracker to fire
 pub record Passes (setup : Setup) (actor : ℕ) (old new : Position) : Type 0 where

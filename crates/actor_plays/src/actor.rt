@@ -6,8 +6,8 @@ ghost use Rattle.actor_scripts.specs.Tables.{known};
 ghost use Rattle.actor_plays.specs.Plans.{steps_of};
 ghost use Rattle.actor_plays.specs.Plays.{first_stage, leaves_by, left, passed, stage_after, stage_of};
 
-use crate::leaving::{Leaving, leave_call, note_leave};
 use crate::plan::{Plan, Planned};
+use crate::vanish::{VanishProgress, leave_call, note_leave};
 use actor_scripts::{ActorState, Step, StepCall};
 use sm_names::{Call, ClientId, Reply, StepFault};
 use std::alloc::{AllocError, Global};
@@ -20,7 +20,7 @@ pub struct Actor {
     pub at: usize,
     pub state: ActorState,
     pub made: Vec<(usize, Reply)>,
-    pub leaving: Option<Leaving>,
+    pub vanish: Option<VanishProgress>,
 }
 
 impl Actor {
@@ -35,7 +35,7 @@ impl Actor {
             at: 0,
             state,
             made,
-            leaving: None,
+            vanish: None,
         }
     }
 
@@ -92,7 +92,7 @@ impl Actor {
     pub fn leave_call(&self, alloc: Global) -> Result<Option<Call>, AllocError>
         ensures { IfOk result (λ call. call ≡ leaves_by (stage_of self.now)) }
     {
-        leave_call(alloc, &self.leaving, self.state.objects())
+        leave_call(alloc, &self.vanish, self.state.objects())
     }
 
     // Notes the reply to that call.
@@ -100,6 +100,6 @@ impl Actor {
         ensures stage { OnOk result (stage_of self.new ≡ left (stage_of self.old) reply) }
         ensures memory { IfErr result (λ fault. fault ≡ Fault.NoMemory) }
     {
-        note_leave(alloc, &mut self.leaving, &reply)
+        note_leave(alloc, &mut self.vanish, &reply)
     }
 }

@@ -6,15 +6,15 @@ mod departure;
 mod ending;
 mod falls;
 mod found;
-mod leaving;
 mod passing;
 mod plan;
 mod play;
+mod vanish;
 
 pub use actor::Actor;
 pub use ending::Fate;
 pub use falls::GoneNode;
 pub use found::{ActorOutcome, Became, Exploration, Figures, Found, Outcome, Vanishing};
-pub use leaving::Leaving;
 pub use plan::{Plan, Planned, Waiting, plan_of};
 pub use play::{Play, Turn, Turned};
+pub use vanish::VanishProgress;

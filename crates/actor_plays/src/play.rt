@@ -1,5 +1,6 @@
 //! A play on a core, turn by turn.
-ghost use Rattle.std.specs.Prelude.{ℕ, ◌≡◌, ◌+◌, ◌≤◌, ◌&&◌, ◌∷◌, ◌++◌, [], length, option_copied, slice_get, slice_set, true, None, Err, IfErr, IfOk, IfSome, OnOk};
+ghost use Rattle.std.specs.Prelude.{ℕ, ◌≡◌, ◌+◌, ◌≤◌, ◌&&◌, ◌∷◌, ◌++◌, [], length};
+ghost use Rattle.std.specs.Prelude.{option_copied, slice_get, slice_set, true, None, Err, IfErr, IfOk, IfSome, OnOk};
 ghost use Rattle.std.specs.Option.{option_and_then, option_map};
 ghost use Rattle.sm_names.specs.declared.rules.TheConstants.{MAX_PAGES};
 ghost use Rattle.sm_names.specs.declared.outcomes.StepFault.{StepFault as Fault};
@@ -9,7 +10,8 @@ ghost use Rattle.actor_plays.specs.declared.play.Asked.{Asked as AskedFor};
 ghost use Rattle.actor_plays.specs.declared.play.Turn.{Turn as Made};
 ghost use Rattle.actor_plays.specs.Fates.{AreFalls, fate_fallen, fate_in};
 ghost use Rattle.actor_plays.specs.Moves.{IsOfSetup, TakesTurn, TakesTurnUntold, position_of};
-ghost use Rattle.actor_plays.specs.Plays.{AreJoining, Asks, AsksNothing, IsPlay, IsTurn, Stage, first_clients, first_stage, is_wait as is_waiting, next_step, stage_after, stage_of, stages_of};
+ghost use Rattle.actor_plays.specs.Plays.{AreJoining, Asks, AsksNothing, IsPlay, IsTurn, Stage};
+ghost use Rattle.actor_plays.specs.Plays.{first_clients, first_stage, is_wait as is_waiting, next_step, stage_after, stage_of, stages_of};
 ghost use Rattle.actor_plays.specs.Positions.{Begins, Fell, Setup};
 ghost use Rattle.actor_scripts.specs.ActorStates.{step_call};
 
@@ -220,7 +222,7 @@ impl Play {
             ≡ option_and_then (next_step plans.now actor) (slice_get (stages_of self.now) actor) }
     {
         let one = self.actors.get(actor)?;
-        if one.leaving.is_some() {
+        if one.vanish.is_some() {
             return None;
         }
         plans.get(actor)?.steps.get(one.at).copied()

@@ -12,26 +12,26 @@ use Rattle.actor_scripts.specs.declared.object.ActorObject.{ActorObject}
 use Rattle.actor_scripts.specs.ActorStates.{new_objects, nothing_known}
 use Rattle.actor_plays.specs.declared.plan.Plan.{Plan}
 use Rattle.actor_plays.specs.declared.plan.Planned.{Planned}
-use Rattle.actor_plays.specs.Leaves.{Leave, all_objects, leave_after, leave_call, parting_call}
+use Rattle.actor_plays.specs.Leaves.{Leave, all_objects, leave_after, leave_call, vanishing_call}
 use Rattle.actor_plays.specs.Plans.{steps_of}
 use Rattle.actor_plays.specs.Plays.{Stage, leaves_by, left, next_step}
 use Rattle.alike_plays.specs.Actors.{AreAlikeStages, leave_renamed, made_of, made_renamed, object_renamed}
 use Rattle.alike_plays.specs.Ahead.{ahead_by, ahead_of, going_on}
 use Rattle.alike_plays.specs.Names.{KnownActor, KnownObject, KnownStage}
-use Rattle.alike_plays.proofs.Leaving.{all-renamed}
+use Rattle.alike_plays.proofs.VanishLaws.{all-renamed}
 use Rattle.alike_plays.proofs.Ordered.{all-sorted, first-left, left-in_order}
 use Rattle.alike_plays.proofs.Stages.{first_known, parts_known}
 
 -- ---- actors that do not leave
 
 -- An actor that does not leave is where it was.
-pub plain : (stage : Stage) → stage.leaving ≡ None → ahead_of stage ≡ stage
+pub plain : (stage : Stage) → stage.vanish ≡ None → ahead_of stage ≡ stage
 plain stage is = ap (ahead_by stage) is
 
 -- Only an actor that does not leave has a next step.
 pub steps_plain : (plans : List Plan) (actor : ℕ) (stage : Stage) (next : Planned) → next_step plans actor stage ≡ Some next →
-    stage.leaving ≡ None
-steps_plain plans actor stage next = by stage.leaving
+    stage.vanish ≡ None
+steps_plain plans actor stage next = by stage.vanish
   where
     -- by how far it is in leaving
     by : (o : Option Leave) →
@@ -41,36 +41,36 @@ steps_plain plans actor stage next = by stage.leaving
     by (Some l) is = cc
 
 -- By how far it is in leaving.
-pub same_leaving : (stage : Stage) → is_some (ahead_of stage).leaving ≡ is_some stage.leaving
-same_leaving stage = by stage.leaving refl
+pub same_vanish : (stage : Stage) → is_some (ahead_of stage).vanish ≡ is_some stage.vanish
+same_vanish stage = by stage.vanish refl
   where
     -- by whether parcels wait
-    goes : (b : Bool) (l : Leave) → is_some (going_on b stage l).leaving ≡ true
+    goes : (b : Bool) (l : Leave) → is_some (going_on b stage l).vanish ≡ true
     goes true l = refl
     goes false l = refl
 
     -- by how far it is
-    by : (o : Option Leave) → stage.leaving ≡ o → is_some (ahead_by stage o).leaving ≡ is_some o
+    by : (o : Option Leave) → stage.vanish ≡ o → is_some (ahead_by stage o).vanish ≡ is_some o
     by None is = ap is_some is
     by (Some l) is = goes (l.waiting == 0) l
 
 -- So it did not leave if it does not without what lies behind it.
-pub plain_back : (stage ahead : Stage) → ahead_of stage ≡ ahead → ahead.leaving ≡ None → (stage ≡ ahead) × (stage.leaving ≡ None)
+pub plain_back : (stage ahead : Stage) → ahead_of stage ≡ ahead → ahead.vanish ≡ None → (stage ≡ ahead) × (stage.vanish ≡ None)
 plain_back stage ahead is none =
-    let plainly : stage.leaving ≡ None = none_is stage.leaving
-    (sym (same_leaving stage) ∙ (ap (λ (x : Stage). is_some x.leaving) is ∙ ap is_some none)) in
+    let plainly : stage.vanish ≡ None = none_is stage.vanish
+    (sym (same_vanish stage) ∙ (ap (λ (x : Stage). is_some x.vanish) is ∙ ap is_some none)) in
     (sym (plain stage plainly) ∙ is, plainly)
 
 -- ---- the calls by which an actor leaves
 
 -- By whether parcels wait.
 stands : (stage : Stage) (l : Leave) (b : Bool) → (l.waiting == 0) ≡ b →
-    ahead_of (record stage { leaving = Some l }) ≡ going_on b (record stage { leaving = Some l }) l
-stands stage l b is = ap (λ (c : Bool). going_on c (record stage { leaving = Some l }) l) is
+    ahead_of (record stage { vanish = Some l }) ≡ going_on b (record stage { vanish = Some l }) l
+stands stage l b is = ap (λ (c : Bool). going_on c (record stage { vanish = Some l }) l) is
 
 -- It leaves by the same call.
 pub leaves-same : (stage : Stage) → leaves_by (ahead_of stage) ≡ leaves_by stage
-leaves-same stage = by stage.leaving refl
+leaves-same stage = by stage.vanish refl
   where
     -- by whether parcels wait
     goes : (l : Leave) (b : Bool) → (l.waiting == 0) ≡ b →
@@ -78,24 +78,25 @@ leaves-same stage = by stage.leaving refl
     goes l true is =
         let all : List ActorObject = all_objects l.collected stage.known.objects in
         let rest : List ActorObject = drop l.parted all in
-        ap (λ (c : Bool). cond c (option_map parting_call (slice_get (all_objects rest []) 0)) (Some Call.Collect)) is
-        ∙ (ap (λ (xs : List ActorObject). option_map parting_call (slice_get xs 0)) (left-in_order l.parted l.collected stage.known.objects)
-        ∙ (ap (option_map parting_call) (first-left l.parted all)
-        ∙ sym (ap (λ (c : Bool). cond c (option_map parting_call (slice_get all l.parted)) (Some Call.Collect)) is)))
+        ap (λ (c : Bool). cond c (option_map vanishing_call (slice_get (all_objects rest []) 0)) (Some Call.Collect)) is
+        ∙ (ap (λ (xs : List ActorObject). option_map vanishing_call (slice_get xs 0)) (left-in_order l.parted l.collected
+        stage.known.objects)
+        ∙ (ap (option_map vanishing_call) (first-left l.parted all)
+        ∙ sym (ap (λ (c : Bool). cond c (option_map vanishing_call (slice_get all l.parted)) (Some Call.Collect)) is)))
     goes l false is =
         let all : List ActorObject = all_objects l.collected stage.known.objects in
         let again : List ActorObject = all_objects (all_objects l.collected []) (map Some (all_objects [] stage.known.objects)) in
-        ap (λ (c : Bool). cond c (option_map parting_call (slice_get again l.parted)) (Some Call.Collect)) is
-        ∙ sym (ap (λ (c : Bool). cond c (option_map parting_call (slice_get all l.parted)) (Some Call.Collect)) is)
+        ap (λ (c : Bool). cond c (option_map vanishing_call (slice_get again l.parted)) (Some Call.Collect)) is
+        ∙ sym (ap (λ (c : Bool). cond c (option_map vanishing_call (slice_get all l.parted)) (Some Call.Collect)) is)
 
     -- by how far it is
-    by : (o : Option Leave) → stage.leaving ≡ o → leaves_by (ahead_by stage o) ≡ leave_call stage.known.objects o
+    by : (o : Option Leave) → stage.vanish ≡ o → leaves_by (ahead_by stage o) ≡ leave_call stage.known.objects o
     by None is = ap (leave_call stage.known.objects) is
     by (Some l) is = goes l (l.waiting == 0) refl
 
 -- With what lies behind left out twice, no more is left out.
 pub ahead-twice : (stage : Stage) → ahead_of (ahead_of stage) ≡ ahead_of stage
-ahead-twice stage = by stage.leaving refl
+ahead-twice stage = by stage.vanish refl
   where
     -- by whether parcels wait
     goes : (l : Leave) (b : Bool) → (l.waiting == 0) ≡ b → ahead_of (going_on b stage l) ≡ going_on b stage l
@@ -106,7 +107,7 @@ ahead-twice stage = by stage.leaving refl
           at = 0;
           known = nothing_known;
           made = stage.made;
-          leaving = Some (record l { collected = left-in_order l.parted l.collected stage.known.objects i; parted = 0 });
+          vanish = Some (record l { collected = left-in_order l.parted l.collected stage.known.objects i; parted = 0 });
         })
     goes l false is =
         stands (going_on false stage l) (record l { collected = all_objects l.collected [] }) false is
@@ -114,14 +115,14 @@ ahead-twice stage = by stage.leaving refl
           at = 0;
           known = record nothing_known { objects = map Some (all-sorted [] [] stage.known.objects i) };
           made = stage.made;
-          leaving = Some (record l {
+          vanish = Some (record l {
             collected = ((λ j. all_objects (sym (append-nil (all_objects l.collected [])) j) [])
                 ∙ (all-sorted l.collected [] [] ∙ (λ j. all_objects (append-nil l.collected j) []))) i;
           });
         })
 
     -- by how far it is
-    by : (o : Option Leave) → stage.leaving ≡ o → ahead_of (ahead_by stage o) ≡ ahead_by stage o
+    by : (o : Option Leave) → stage.vanish ≡ o → ahead_of (ahead_by stage o) ≡ ahead_by stage o
     by None is = plain stage is
     by (Some l) is = goes l (l.waiting == 0) refl
 
@@ -141,11 +142,11 @@ goes_behind l reply b is = ap (λ (c : Bool). cond c (behind true l reply) (behi
 
 -- the actor is so far in leaving
 abbrev after : Stage → Leave → Stage
-after stage l = record stage { leaving = Some l }
+after stage l = record stage { vanish = Some l }
 
 -- Behind the reply to that call, what lies ahead is told by what lay ahead.
 pub left-same : (stage : Stage) (reply : Reply) → ahead_of (left (ahead_of stage) reply) ≡ ahead_of (left stage reply)
-left-same stage reply = by stage.leaving refl
+left-same stage reply = by stage.vanish refl
   where
     -- the last parcel was collected, or more wait
     more : (l : Leave) (c : Bool) →
@@ -156,7 +157,7 @@ left-same stage reply = by stage.leaving refl
       at = 0;
       known = nothing_known;
       made = stage.made;
-      leaving = Some (record {
+      vanish = Some (record {
         waiting = l.waiting - 1;
         collected = drop l.parted (all-sorted l.collected (new_objects None Call.Collect reply) stage.known.objects i);
         parted = 0;
@@ -166,7 +167,11 @@ left-same stage reply = by stage.leaving refl
       at = 0;
       known = record nothing_known { objects = map Some (all-sorted [] [] stage.known.objects i) };
       made = stage.made;
-      leaving = Some (record { waiting = l.waiting - 1; collected = all-sorted l.collected (new_objects None Call.Collect reply) [] i; parted = l.parted });
+      vanish = Some (record {
+        waiting = l.waiting - 1;
+        collected = all-sorted l.collected (new_objects None Call.Collect reply) [] i;
+        parted = l.parted;
+      });
     }
 
     -- by whether parcels wait
@@ -180,7 +185,7 @@ left-same stage reply = by stage.leaving refl
           at = 0;
           known = nothing_known;
           made = stage.made;
-          leaving = Some (record {
+          vanish = Some (record {
             waiting = l.waiting;
             collected = (ap (drop 1) (left-in_order l.parted l.collected stage.known.objects)
                 ∙ drop-drop 1 l.parted (all_objects l.collected stage.known.objects)) i;
@@ -195,7 +200,7 @@ left-same stage reply = by stage.leaving refl
         ∙ (more l (l.waiting - 1 == 0) ∙ sym (ap (λ (x : Leave). ahead_of (after stage x)) (goes_behind l reply false is)))
 
     -- by how far it is
-    by : (o : Option Leave) → stage.leaving ≡ o →
+    by : (o : Option Leave) → stage.vanish ≡ o →
         ahead_of (left (ahead_by stage o) reply) ≡ ahead_of (after stage (leave_after o reply))
     by None is = ap (λ (x : Option Leave). ahead_of (after stage (leave_after x reply))) is
     by (Some l) is = goes l (l.waiting == 0) refl
@@ -213,7 +218,7 @@ module _ (to : NodeKey → NodeKey) (id number : ℕ → ℕ) where
   pub ahead-alike : (one other : Stage) → AreAlikeStages to id number one other →
       AreAlikeStages to id number (ahead_of one) (ahead_of other)
   ahead-alike one other alike =
-      subst (λ (o : Option Leave). AreAlikeStages to id number (ahead_of one) (ahead_by other o)) (sym alike.leaving) (by one.leaving)
+      subst (λ (o : Option Leave). AreAlikeStages to id number (ahead_of one) (ahead_by other o)) (sym alike.vanish) (by one.vanish)
     where
       -- by whether parcels wait
       goes : (b : Bool) (l : Leave) → AreAlikeStages to id number (going_on b one l) (going_on b other (leave_renamed to id l))
@@ -227,7 +232,7 @@ module _ (to : NodeKey → NodeKey) (id number : ℕ → ℕ) where
           handles = λ strength b. refl;
         };
         made = alike.made;
-        leaving = ap (λ (xs : List ActorObject). Some (record l { collected = xs; parted = 0 }))
+        vanish = ap (λ (xs : List ActorObject). Some (record l { collected = xs; parted = 0 }))
             ((λ i. drop l.parted (all_objects (map (object_renamed to id) l.collected) (alike.known.objects i)))
             ∙ (ap (drop l.parted) (all-renamed to id l.collected one.known.objects)
             ∙ drop-map (object_renamed to id) l.parted (all_objects l.collected one.known.objects)));
@@ -243,7 +248,7 @@ module _ (to : NodeKey → NodeKey) (id number : ℕ → ℕ) where
           handles = λ strength b. refl;
         };
         made = alike.made;
-        leaving = ap (λ (xs : List ActorObject). Some (record l { collected = xs })) (all-renamed to id l.collected []);
+        vanish = ap (λ (xs : List ActorObject). Some (record l { collected = xs })) (all-renamed to id l.collected []);
       }
 
       -- by how far it is in leaving
@@ -254,7 +259,7 @@ module _ (to : NodeKey → NodeKey) (id number : ℕ → ℕ) where
 
   -- Two that leave are alike ahead if as many parcels wait for both, and they part with the same: if none waits with what is left, and
   -- otherwise with each sort of what they collected and of what lies in their slots.
-  pub going-alike : (one other : Stage) (l m : Leave) → one.leaving ≡ Some l → other.leaving ≡ Some m → m.waiting ≡ l.waiting →
+  pub going-alike : (one other : Stage) (l m : Leave) → one.vanish ≡ Some l → other.vanish ≡ Some m → m.waiting ≡ l.waiting →
       made_of other.made ≡ map (made_renamed to id number) (made_of one.made) →
       ((l.waiting == 0) ≡ true → drop m.parted (all_objects m.collected other.known.objects)
       ≡ map (object_renamed to id) (drop l.parted (all_objects l.collected one.known.objects))) →
@@ -280,7 +285,7 @@ module _ (to : NodeKey → NodeKey) (id number : ℕ → ℕ) where
           handles = λ strength b. refl;
         };
         made = made;
-        leaving = λ i. Some (record { waiting = waiting i; collected = rest none i; parted = 0 });
+        vanish = λ i. Some (record { waiting = waiting i; collected = rest none i; parted = 0 });
       }
       goes false some = record {
         at = refl;
@@ -292,7 +297,7 @@ module _ (to : NodeKey → NodeKey) (id number : ℕ → ℕ) where
           handles = λ strength b. refl;
         };
         made = made;
-        leaving = λ i. Some (record { waiting = waiting i; collected = (sorts some).1 i; parted = (sorts some).0 i });
+        vanish = λ i. Some (record { waiting = waiting i; collected = (sorts some).1 i; parted = (sorts some).0 i });
       }
 
 -- By the number.
@@ -304,7 +309,7 @@ In-drop (suc n) (y ∷ ys) x there = inr (In-drop n ys x there)
 module _ (Key : NodeKey → Type 0) (Id Num : ℕ → Type 0) where
   -- It knows no more names.
   pub ahead_known : (stage : Stage) → KnownStage Key Id Num stage → KnownStage Key Id Num (ahead_of stage)
-  ahead_known stage known = by stage.leaving refl
+  ahead_known stage known = by stage.vanish refl
     where
       -- of a list of its objects
       those : (xs : List ActorObject) → ((o : ActorObject) → In o xs → KnownObject Key Id o) →
@@ -324,7 +329,7 @@ module _ (Key : NodeKey → Type 0) (Id Num : ℕ → Type 0) where
       goes true l old = record {
         known = (first_known Key Id Num).known;
         made = known.made;
-        leaving = λ m is o there. parts_known Key Id Num l.collected stage.known.objects old known.known.objects o
+        vanish = λ m is o there. parts_known Key Id Num l.collected stage.known.objects old known.known.objects o
             (In-drop l.parted (all_objects l.collected stage.known.objects) o (subst (λ (x : Leave). In o x.collected)
             (sym (some-injective (record l { collected = drop l.parted (all_objects l.collected stage.known.objects); parted = 0 }) m is))
             there));
@@ -333,11 +338,12 @@ module _ (Key : NodeKey → Type 0) (Id Num : ℕ → Type 0) where
         known = those (all_objects [] stage.known.objects) (λ o there.
             parts_known Key Id Num [] stage.known.objects (λ x none. absurd none) known.known.objects o there);
         made = known.made;
-        leaving = λ m is o there. parts_known Key Id Num l.collected [] old (λ x none. absurd none) o
-            (subst (λ (x : Leave). In o x.collected) (sym (some-injective (record l { collected = all_objects l.collected [] }) m is)) there);
+        vanish = λ m is o there. parts_known Key Id Num l.collected [] old (λ x none. absurd none) o
+            (subst (λ (x : Leave). In o x.collected) (sym (some-injective (record l { collected = all_objects l.collected [] }) m
+            is)) there);
       }
 
       -- by how far it is
-      by : (o : Option Leave) → stage.leaving ≡ o → KnownStage Key Id Num (ahead_by stage o)
+      by : (o : Option Leave) → stage.vanish ≡ o → KnownStage Key Id Num (ahead_by stage o)
       by None is = known
-      by (Some l) is = goes (l.waiting == 0) l (known.leaving l is)
+      by (Some l) is = goes (l.waiting == 0) l (known.vanish l is)

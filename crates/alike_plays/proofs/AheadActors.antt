@@ -17,7 +17,7 @@ use Rattle.alike_plays.specs.Actors.{AreAlikeStages, leave_renamed, made_of, mad
 use Rattle.alike_plays.specs.Ahead.{AreAlikeAhead, GoesByEarly, ahead, ahead_by, ahead_of, count_early, early_first, early_in}
 use Rattle.alike_plays.specs.Ahead.{going_on}
 use Rattle.alike_plays.specs.AlikePlays.{AreAlikeAll, AreAlikePlays}
-use Rattle.alike_plays.proofs.Ahead.{ahead-alike, ahead_known, plain, plain_back, same_leaving}
+use Rattle.alike_plays.proofs.Ahead.{ahead-alike, ahead_known, plain, plain_back, same_vanish}
 use Rattle.alike_plays.proofs.Places.{all_at, all_left}
 use Rattle.alike_plays.proofs.Reaching.{IsKnown, IsSeen}
 
@@ -171,14 +171,14 @@ at_back : (p : Position) (actor : ℕ) (stage : Stage) → slice_get (ahead p).s
 at_back p actor stage at = map-Some ahead_of (slice_get p.stages actor) stage (sym (slice_get-map ahead_of p.stages actor) ∙ at)
 
 -- An actor that does not leave stands where it did.
-pub at_plain : (p : Position) (actor : ℕ) (stage : Stage) → slice_get (ahead p).stages actor ≡ Some stage → stage.leaving ≡ None →
+pub at_plain : (p : Position) (actor : ℕ) (stage : Stage) → slice_get (ahead p).stages actor ≡ Some stage → stage.vanish ≡ None →
     slice_get p.stages actor ≡ Some stage
 at_plain p actor stage at none =
     let old = at_back p actor stage at in
     old.1 ∙ ap Some (plain_back old.0 stage old.2 none).0
 
 -- What an actor that does not leave goes on to is ahead of it.
-pub put_plain : (p : Position) (actor : ℕ) (stage : Stage) → stage.leaving ≡ None →
+pub put_plain : (p : Position) (actor : ℕ) (stage : Stage) → stage.vanish ≡ None →
     map ahead_of (slice_set p.stages actor stage) ≡ slice_set (map ahead_of p.stages) actor stage
 put_plain p actor stage none =
     map-put ahead_of p.stages actor stage ∙ ap (slice_set (map ahead_of p.stages) actor) (plain stage none)
@@ -201,9 +201,9 @@ module _ (early : ℕ → ℕ → Bool) (actor : ℕ) (one other : Position) (li
       )
 
   -- Both leave, or none does.
-  pub both_leave : (stage same : Stage) → Same stage same → is_some same.leaving ≡ is_some stage.leaving
+  pub both_leave : (stage same : Stage) → Same stage same → is_some same.vanish ≡ is_some stage.vanish
   both_leave stage same are =
-      sym (same_leaving same) ∙ (ap is_some are.leaving ∙ (from (ahead_of stage).leaving ∙ same_leaving stage))
+      sym (same_vanish same) ∙ (ap is_some are.vanish ∙ (from (ahead_of stage).vanish ∙ same_vanish stage))
     where
       -- by how far it is
       from : (o : Option Leave) → is_some (option_map (leave_renamed like.alike.to like.alike.id) o) ≡ is_some o
@@ -211,10 +211,10 @@ module _ (early : ℕ → ℕ → Bool) (actor : ℕ) (one other : Position) (li
       from (Some l) = refl
 
   -- If none does, they are at the same step.
-  pub same_step : (stage same : Stage) → Same stage same → is_some stage.leaving ≡ false → same.at ≡ stage.at
+  pub same_step : (stage same : Stage) → Same stage same → is_some stage.vanish ≡ false → same.at ≡ stage.at
   same_step stage same are none =
-      sym (ap (λ (s : Stage). s.at) (plain same (none_is same.leaving (both_leave stage same are ∙ none))))
-      ∙ (are.at ∙ ap (λ (s : Stage). s.at) (plain stage (none_is stage.leaving none)))
+      sym (ap (λ (s : Stage). s.at) (plain same (none_is same.vanish (both_leave stage same are ∙ none))))
+      ∙ (are.at ∙ ap (λ (s : Stage). s.at) (plain stage (none_is stage.vanish none)))
 
   -- Two that stand at one place are alike ahead.
   pub both_at : (stage same : Stage) → slice_get one.stages actor ≡ Some stage → slice_get other.stages actor ≡ Some same → Same stage same
@@ -224,7 +224,7 @@ module _ (early : ℕ → ℕ → Bool) (actor : ℕ) (one other : Position) (li
 
   -- Nothing that was made is left out.
   made_stays : (stage : Stage) → (ahead_of stage).made ≡ stage.made
-  made_stays stage = by stage.leaving
+  made_stays stage = by stage.vanish
     where
       -- by whether parcels wait
       goes : (b : Bool) (l : Leave) → (going_on b stage l).made ≡ stage.made
@@ -253,7 +253,7 @@ module _ (early : ℕ → ℕ → Bool) (actor : ℕ) (one other : Position) (li
   -- Both are at one step, or began alike.
   pub steps_there : (stage same : Stage) → slice_get one.stages actor ≡ Some stage → slice_get other.stages actor ≡ Some same →
       (option_map (early actor) (left_at same) ≡ option_map (early actor) (left_at stage))
-      × (is_some stage.leaving ≡ false → same.at ≡ stage.at)
+      × (is_some stage.vanish ≡ false → same.at ≡ stage.at)
   steps_there stage same at at_too = (
     some-injective (option_map (early actor) (left_at same)) (option_map (early actor) (left_at stage))
         (sym (ap (option_map (option_map (early actor))) (at_left other same at_too))

@@ -14,7 +14,7 @@ use Rattle.alike_plays.proofs.AheadActors.{Same, at_ahead, at_left, at_plain, bo
 use Rattle.alike_plays.proofs.AheadActors.{map-put, map-twice, put_plain, same_at, same_step, seen_ahead, steps_there}
 use Rattle.alike_plays.proofs.Closing.{no_wait, starts_alike}
 use Rattle.alike_plays.proofs.Composing.{plays-composed}
-use Rattle.alike_plays.proofs.Leaving.{leaves-alike}
+use Rattle.alike_plays.proofs.VanishLaws.{leaves-alike}
 use Rattle.alike_plays.proofs.Passing.{map-set_same, same_left}
 use Rattle.alike_plays.proofs.Reaching.{IsSeen, reached_seen}
 use Rattle.alike_plays.proofs.Turning.{calls_alike, leaves_alike, other_asks, pass_alike, pass_back}
@@ -145,7 +145,7 @@ module _ (setup : Setup) where
       (ap (option_map (λ (l : Leave). c.asks.stage.at + 1)) none ∙ sym (ap (option_map (λ (l : Leave). c.asks.stage.at)) none))
     where
       -- it does not
-      none : c.asks.stage.leaving ≡ None
+      none : c.asks.stage.vanish ≡ None
       none = steps_plain setup.plans actor c.asks.stage c.asks.next c.asks.step
 
   -- Where both answer, the plays stay alike.
@@ -172,7 +172,7 @@ module _ (setup : Setup) where
     at = at_ahead p actor g.stage g.at;
     by = leaves-same g.stage ∙ g.by;
     caller = g.caller;
-    may = free (is_some (ahead_of g.stage).leaving);
+    may = free (is_some (ahead_of g.stage).vanish);
     rests = λ q pass.
         let old = pass_from actor p q (record {
           stage = pass.stage;
@@ -237,7 +237,7 @@ module _ (setup : Setup) where
           ∙ (leaves-alike like.alike.to like.alike.id like.alike.number (ahead_of g.stage) (ahead_of there.0) there.2
           ∙ ap (option_map (call_renamed like.alike.to like.alike.id)) (leaves-same g.stage ∙ g.by));
       caller = g.caller;
-      may = may (is_some g.stage.leaving) refl;
+      may = may (is_some g.stage.vanish) refl;
       rests = rests;
     }
       where
@@ -246,7 +246,7 @@ module _ (setup : Setup) where
         there = same_at early actor one other like g.stage g.at
 
         -- by whether it leaves
-        may : (b : Bool) → is_some g.stage.leaving ≡ b → may_go setup other actor there.0 ≡ true
+        may : (b : Bool) → is_some g.stage.vanish ≡ b → may_go setup other actor there.0 ≡ true
         may true leaves = ap (λ (c : Bool). c || setup.may_leave (map left_at other.stages) actor there.0.at)
             (both_leave early actor one other like g.stage there.0 there.2 ∙ leaves)
         may false none =
@@ -267,7 +267,8 @@ module _ (setup : Setup) where
       began = λ place.
           ap (λ (begun : List (Option ℕ)). early_in early begun place) (left_there actor other again m)
           ∙ (early_put early (map left_at one.stages) (map left_at other.stages) actor (Some l.goes.stage.at) (Some m.goes.stage.at)
-          like.began (ap is_some (at_left early actor one other like one l.goes.stage l.goes.at)) (by (is_some l.goes.stage.leaving) refl) place
+          like.began (ap is_some (at_left early actor one other like one l.goes.stage l.goes.at)) (by (is_some l.goes.stage.vanish)
+          refl) place
           ∙ sym (ap (λ (begun : List (Option ℕ)). early_in early begun place) (left_there actor one new l)));
     }
       where
@@ -276,8 +277,8 @@ module _ (setup : Setup) where
         are = both_at early actor one other like l.goes.stage m.goes.stage l.goes.at m.goes.at
 
         -- what is told of one that leaves
-        told : (stage : Stage) → is_some stage.leaving ≡ true → left_at stage ≡ Some stage.at
-        told stage = from stage.leaving
+        told : (stage : Stage) → is_some stage.vanish ≡ true → left_at stage ≡ Some stage.at
+        told stage = from stage.vanish
           where
             -- by how far it is
             from : (o : Option Leave) → is_some o ≡ true → option_map (λ (x : Leave). stage.at) o ≡ Some stage.at
@@ -285,7 +286,7 @@ module _ (setup : Setup) where
             from (Some x) some = refl
 
         -- by whether it leaves already
-        by : (b : Bool) → is_some l.goes.stage.leaving ≡ b → Some (early actor m.goes.stage.at) ≡ Some (early actor l.goes.stage.at)
+        by : (b : Bool) → is_some l.goes.stage.vanish ≡ b → Some (early actor m.goes.stage.at) ≡ Some (early actor l.goes.stage.at)
         by true leaves =
             ap (option_map (early actor)) (sym (told m.goes.stage (both_leave early actor one other like l.goes.stage m.goes.stage are
             ∙ leaves)))

@@ -83,7 +83,7 @@ first_alike to id number (c ∷ cs) = (
       handles = λ strength b. refl;
     };
     made = refl;
-    leaving = refl;
+    vanish = refl;
   },
   first_alike to id number cs,
 )

@@ -90,8 +90,8 @@ module _ (to more : NodeKey → NodeKey) (id on number next : ℕ → ℕ) where
     known = known-composed one.known other.known third.known first.known then.known;
     made = then.made ∙ (ap (map (made_renamed more on next)) first.made
         ∙ twice-map (made_renamed to id number) (made_renamed more on next) (made_renamed keys ids numbers) twice-made (made_of one.made));
-    leaving = then.leaving ∙ (ap (option_map (leave_renamed more on)) first.leaving
-        ∙ twice-option (leave_renamed to id) (leave_renamed more on) (leave_renamed keys ids) twice-leave one.leaving);
+    vanish = then.vanish ∙ (ap (option_map (leave_renamed more on)) first.vanish
+        ∙ twice-option (leave_renamed to id) (leave_renamed more on) (leave_renamed keys ids) twice-leave one.vanish);
   }
 
   -- Actor by actor.

@@ -1,6 +1,6 @@
 pub mod Asking
 pub mod Knowing
-pub mod Leaving
+pub mod VanishLaws
 pub mod Names
 pub mod NamesAfter
 pub mod NamesAgree
@@ -22,6 +22,6 @@ pub mod Falling
 pub mod FallsKnown
 pub mod EventFalls
 pub mod FellAgain
-pub mod Fallen
+pub mod Losses
 pub mod TurnsLeft
 pub mod SameTurns

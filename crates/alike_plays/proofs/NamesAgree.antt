@@ -92,19 +92,19 @@ module _ (to again : NodeKey → NodeKey) (id later number next : ℕ → ℕ) (
           (In-map-back (made_renamed to id number) (made_of one.made) m there))).0)
           i,
     )));
-    leaving = alike.leaving ∙ leaves one.leaving refl;
+    vanish = alike.vanish ∙ leaves one.vanish refl;
   }
     where
       -- by cases on whether it leaves
-      leaves : (o : Option Leave) → one.leaving ≡ o →
-          option_map (leave_renamed to id) one.leaving ≡ option_map (leave_renamed again later) one.leaving
+      leaves : (o : Option Leave) → one.vanish ≡ o →
+          option_map (leave_renamed to id) one.vanish ≡ option_map (leave_renamed again later) one.vanish
       leaves None is = rw is refl
       leaves (Some l) is =
-          let there = alike.leaving ∙ ap (option_map (leave_renamed to id)) is in
+          let there = alike.vanish ∙ ap (option_map (leave_renamed to id)) is in
           rw is (λ i. Some (record l {
             collected = sym (map-In (object_renamed again later) (object_renamed to id) l.collected (λ o o_in.
-                object-agrees o (old.leaving l is o o_in)
-                (new.leaving (leave_renamed to id l) there (object_renamed to id o)
+                object-agrees o (old.vanish l is o o_in)
+                (new.vanish (leave_renamed to id l) there (object_renamed to id o)
                 (In-map-back (object_renamed to id) l.collected o o_in))))
                 i;
           }))

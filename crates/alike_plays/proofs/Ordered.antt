@@ -7,7 +7,7 @@ use Rattle.std.specs.List.{flat_map}
 use Rattle.sm_names.proofs.ListLaws.{In, In-append}
 use Rattle.actor_scripts.specs.declared.object.ActorObject.{ActorObject}
 use Rattle.actor_plays.specs.Leaves.{all_objects}
-use Rattle.alike_plays.proofs.Leaving.{is_collection, is_end, is_handle, is_token, picked, picked_there}
+use Rattle.alike_plays.proofs.VanishLaws.{is_collection, is_end, is_handle, is_token, picked, picked_there}
 
 -- ---- which objects pass a test
 

@@ -187,7 +187,7 @@ module _ (setup : Setup) where
   same_left _ _ (PassOn.Further actor p mid r first on) =
       same_left mid r on
       ∙ (ap (λ (x : Position). map left_at x.stages) first.after
-      ∙ map-set_same left_at p.stages actor first.stage (passed first.stage) first.at (by first.stage.leaving first.step))
+      ∙ map-set_same left_at p.stages actor first.stage (passed first.stage) first.at (by first.stage.vanish first.step))
     where
       -- by whether it leaves
       by : (o : Option Leave) →
@@ -281,7 +281,7 @@ module _ (setup : Setup) where
         at = there.0 ∙ l.goes.at;
         by = l.goes.by;
         caller = l.goes.caller;
-        may = ap (λ (begun : List (Option ℕ)). is_some l.goes.stage.leaving || setup.may_leave begun actor l.goes.stage.at)
+        may = ap (λ (begun : List (Option ℕ)). is_some l.goes.stage.vanish || setup.may_leave begun actor l.goes.stage.at)
             (same_left p r on)
             ∙ l.goes.may;
         rests = there.1;

@@ -55,7 +55,7 @@ module _ (to : NodeKey → NodeKey) (id number : ℕ → ℕ) where
 
       -- both leave, or none does
       same : left_at b ≡ left_at a
-      same = (λ i. option_map (λ (l : Leave). alike.0.at i) (alike.0.leaving i)) ∙ from a.leaving
+      same = (λ i. option_map (λ (l : Leave). alike.0.at i) (alike.0.vanish i)) ∙ from a.vanish
 
 -- Actor by actor, what is alike under some names is so under others.
 pub all_again : (to again : NodeKey → NodeKey) (id later number next : ℕ → ℕ) (ones others : List Stage) →

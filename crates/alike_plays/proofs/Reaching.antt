@@ -23,7 +23,7 @@ use Rattle.alike_plays.specs.Names.{KnownCall, KnownGone, KnownReply, KnownStage
 use Rattle.alike_plays.proofs.EventFalls.{event_known}
 use Rattle.alike_plays.proofs.Names.{at_in, step_known}
 use Rattle.alike_plays.proofs.NamesAfter.{In-set}
-use Rattle.alike_plays.proofs.Stages.{called_known, first_known, leaving_known, left_known, passed_known, stage_later}
+use Rattle.alike_plays.proofs.Stages.{called_known, first_known, vanish_known, left_known, passed_known, stage_later}
 
 -- the names that the actor knows are known to the core
 abbrev pub IsKnown : State → Stage → Type 0
@@ -108,7 +108,7 @@ module _ (setup : Setup) where
   -- and so does the call by which an actor leaves
   pub goes_known : (p : Position) → IsSeen p → (actor : ℕ) (g : Goes setup actor p) →
       KnownCall (λ key. given p.core.forest key ≡ true) (λ i. i ≤ p.core.events) g.call
-  goes_known p seen actor g = leaving_known (λ key. given p.core.forest key ≡ true) (λ i. i ≤ p.core.events) (λ n. n ≤ p.core.events)
+  goes_known p seen actor g = vanish_known (λ key. given p.core.forest key ≡ true) (λ i. i ≤ p.core.events) (λ n. n ≤ p.core.events)
       g.stage (seen.known g.stage (at_in p.stages actor g.stage g.at)) g.call g.by
 
   -- At the start no actor knows a name.

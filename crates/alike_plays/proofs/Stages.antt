@@ -18,11 +18,11 @@ use Rattle.actor_scripts.specs.ActorStates.{Fits, FitsThere, Known, call_at, is_
 use Rattle.actor_scripts.specs.ActorStates.{object_at, step_call, tracker_label}
 use Rattle.actor_scripts.proofs.FitLaws.{fits_step}
 use Rattle.actor_plays.specs.declared.plan.Planned.{Planned}
-use Rattle.actor_plays.specs.Leaves.{Leave, all_objects, leave_after, leave_call, parting_call}
+use Rattle.actor_plays.specs.Leaves.{Leave, all_objects, leave_after, leave_call, vanishing_call}
 use Rattle.actor_plays.specs.Plays.{Stage, first_stage, leaves_by, left, passed, stage_after}
 use Rattle.alike_cores.proofs.Known.{In-flat}
 use Rattle.alike_plays.specs.Names.{KnownActor, KnownCall, KnownObject, KnownReply, KnownStage}
-use Rattle.alike_plays.proofs.Leaving.{is_collection, is_end, is_handle, is_token, parts_with, picked, picked_there}
+use Rattle.alike_plays.proofs.VanishLaws.{is_collection, is_end, is_handle, is_token, parts_with, picked, picked_there}
 use Rattle.alike_plays.proofs.Names.{at_in}
 use Rattle.alike_plays.proofs.NamesAfter.{after_known, gives_known}
 
@@ -62,7 +62,7 @@ module _ (Key Later : NodeKey → Type 0) (Id Next Num Count : ℕ → Type 0) (
   stage_later stage known = record {
     known = actor_later stage.known known.known;
     made = λ m there. reply_later m.1 (known.made m there);
-    leaving = λ l is o there. object_later o (known.leaving l is o there);
+    vanish = λ l is o there. object_later o (known.vanish l is o there);
   }
 
 -- ---- where an actor is
@@ -79,12 +79,12 @@ module _ (Key : NodeKey → Type 0) (Id Num : ℕ → Type 0) where
       handles = λ strength b none. refl;
     };
     made = λ m there. absurd there;
-    leaving = λ l is. cc;
+    vanish = λ l is. cc;
   }
 
   -- A step that is passed tells nothing.
   pub passed_known : (stage : Stage) → KnownStage Key Id Num stage → KnownStage Key Id Num (passed stage)
-  passed_known stage known = record { known = known.known; made = known.made; leaving = known.leaving }
+  passed_known stage known = record { known = known.known; made = known.made; vanish = known.vanish }
 
   -- By the reply.
   pub called_known : (stage : Stage) (next : Planned) (asked : StepCall) (reply : Reply) → KnownStage Key Id Num stage →
@@ -98,7 +98,7 @@ module _ (Key : NodeKey → Type 0) (Id Num : ℕ → Type 0) where
         | inr none ↦ absurd none
       ]
     ];
-    leaving = known.leaving;
+    vanish = known.vanish;
   }
 
   -- By the reply: it collected what that gave.
@@ -107,8 +107,8 @@ module _ (Key : NodeKey → Type 0) (Id Num : ℕ → Type 0) where
   left_known stage reply known told = record {
     known = known.known;
     made = known.made;
-    leaving = λ l is o there. by stage.leaving known.leaving o
-        (subst (λ (x : Leave). In o x.collected) (sym (some-injective (leave_after stage.leaving reply) l is)) there);
+    vanish = λ l is o there. by stage.vanish known.vanish o
+        (subst (λ (x : Leave). In o x.collected) (sym (some-injective (leave_after stage.vanish reply) l is)) there);
   }
     where
       -- by whether it parts with something or collects
@@ -177,31 +177,31 @@ module _ (Key : NodeKey → Type 0) (Id Num : ℕ → Type 0) where
       ]
 
   -- By the object.
-  parting_known : (o : ActorObject) → KnownObject Key Id o → KnownCall Key Id (parting_call o)
-  parting_known (ActorObject.Token key collection) known =
+  vanishing_known : (o : ActorObject) → KnownObject Key Id o → KnownCall Key Id (vanishing_call o)
+  vanishing_known (ActorObject.Token key collection) known =
       (λ k is. subst Key (some-injective key k is) known.0, λ b is. cc)
-  parting_known (ActorObject.Collection key collection) known =
+  vanishing_known (ActorObject.Collection key collection) known =
       (λ k is. subst Key (some-injective key k is) known.0, λ b is. cc)
-  parting_known (ActorObject.Handle buffer strength) known =
+  vanishing_known (ActorObject.Handle buffer strength) known =
       (λ k is. cc, λ b is. subst (λ (x : BufferName). Id x.collection) (some-injective buffer b is) known)
 
   -- The call by which an actor leaves names only what it knows.
-  pub leaving_known : (stage : Stage) → KnownStage Key Id Num stage → (call : Call) → leaves_by stage ≡ Some call →
+  pub vanish_known : (stage : Stage) → KnownStage Key Id Num stage → (call : Call) → leaves_by stage ≡ Some call →
       KnownCall Key Id call
-  leaving_known stage known call = by stage.leaving known.leaving
+  vanish_known stage known call = by stage.vanish known.vanish
     where
       -- by what it parts with next
       parts : (l : Leave) → ((o : ActorObject) → In o l.collected → KnownObject Key Id o) → (o : Option ActorObject) →
-          slice_get (all_objects l.collected stage.known.objects) l.parted ≡ o → option_map parting_call o ≡ Some call →
+          slice_get (all_objects l.collected stage.known.objects) l.parted ≡ o → option_map vanishing_call o ≡ Some call →
           KnownCall Key Id call
       parts l old None at is = cc
-      parts l old (Some o) at is = subst (KnownCall Key Id) (some-injective (parting_call o) call is)
-          (parting_known o (parts_known l.collected stage.known.objects old known.known.objects o
+      parts l old (Some o) at is = subst (KnownCall Key Id) (some-injective (vanishing_call o) call is)
+          (vanishing_known o (parts_known l.collected stage.known.objects old known.known.objects o
           (at_in (all_objects l.collected stage.known.objects) l.parted o at)))
 
       -- by whether it collects
       goes : (l : Leave) → ((o : ActorObject) → In o l.collected → KnownObject Key Id o) → (b : Bool) →
-          cond b (option_map parting_call (slice_get (all_objects l.collected stage.known.objects) l.parted)) (Some Call.Collect)
+          cond b (option_map vanishing_call (slice_get (all_objects l.collected stage.known.objects) l.parted)) (Some Call.Collect)
           ≡ Some call → KnownCall Key Id call
       goes l old true is = parts l old (slice_get (all_objects l.collected stage.known.objects) l.parted) refl is
       goes l old false is = subst (KnownCall Key Id) (some-injective Call.Collect call is) (λ key at. cc, λ b at. cc)
@@ -252,17 +252,17 @@ step_joinless clients k step asked client reply is = joinless client asked.call 
 -- No actor leaves by a Join.
 pub leave_joinless : (stage : Stage) (call : Call) (client : ℕ) (reply : Reply) → leaves_by stage ≡ Some call →
     joined_at (Called client reply call) ≡ None
-leave_joinless stage call client reply is = joinless client call reply (λ join. by stage.leaving (is ∙ ap Some join))
+leave_joinless stage call client reply is = joinless client call reply (λ join. by stage.vanish (is ∙ ap Some join))
   where
     -- by what it parts with
-    parts : (o : Option ActorObject) → option_map parting_call o ≡ Some Call.Join → ⊥
+    parts : (o : Option ActorObject) → option_map vanishing_call o ≡ Some Call.Join → ⊥
     parts None is = cc
     parts (Some (ActorObject.Token key collection)) is = cc
     parts (Some (ActorObject.Collection key collection)) is = cc
     parts (Some (ActorObject.Handle buffer strength)) is = cc
 
     -- by whether it collects
-    goes : (b : Bool) (o : Option ActorObject) → cond b (option_map parting_call o) (Some Call.Collect) ≡ Some Call.Join → ⊥
+    goes : (b : Bool) (o : Option ActorObject) → cond b (option_map vanishing_call o) (Some Call.Collect) ≡ Some Call.Join → ⊥
     goes true o is = parts o is
     goes false o is = cc
 

@@ -30,7 +30,7 @@ use Rattle.alike_cores.specs.Alike.{call_renamed, reply_renamed}
 use Rattle.alike_cores.specs.Renamed.{buffer_renamed}
 use Rattle.alike_cores.proofs.Answering.{key-renamed}
 use Rattle.alike_cores.specs.Cores.{AreAlikeCores, NamesOld}
-use Rattle.alike_cores.proofs.Going.{alike_again, fresh, goes_on_named, same_call}
+use Rattle.alike_cores.proofs.Progress.{alike_again, fresh, goes_on_named, same_call}
 use Rattle.alike_cores.proofs.Moving.{keys_kept, keys_moved, number_kept, number_moved}
 use Rattle.alike_cores.proofs.Shown.{shown_sound}
 use Rattle.alike_cores.proofs.Views.{fired-alike}
@@ -42,7 +42,7 @@ use Rattle.alike_plays.proofs.Asking.{asks-alike}
 use Rattle.alike_plays.proofs.EventFalls.{event_falls}
 use Rattle.alike_plays.proofs.Falling.{both-fell, fallen-renamed}
 use Rattle.alike_plays.proofs.FellAgain.{fell-agrees}
-use Rattle.alike_plays.proofs.Leaving.{after-alike, leaves-alike, left-alike, next-alike, passed-alike, polls-alike}
+use Rattle.alike_plays.proofs.VanishLaws.{after-alike, leaves-alike, left-alike, next-alike, passed-alike, polls-alike}
 use Rattle.alike_plays.proofs.NamesAgree.{stages-agree}
 use Rattle.alike_plays.proofs.Places.{all_again, all_at, all_back, all_left, all_set}
 use Rattle.alike_plays.proofs.Reaching.{IsKnown, IsSeen, asks_known, goes_known}
@@ -219,7 +219,8 @@ module _ (one other : Position) (alike : AreAlikePlays one other) (later again :
       (subst (Follows other.core again client (call_renamed alike.to alike.id call)) cores_again.0 both.made_too.after))
       both.marks both.more both.are
       (subst (λ (c : Call). AreStages other.core again client c (reply_renamed to_new id_new number_new reply) both.more) (sym call_before)
-      (subst (λ (r : Reply). AreStages other.core again client (call_renamed alike.to alike.id call) r both.more) cores_again.0 both.are_too))
+      (subst (λ (r : Reply). AreStages other.core again client (call_renamed alike.to alike.id call) r both.more) cores_again.0
+      both.are_too))
 
   -- And the same fell before, under the new names too.
   fell_again : FellAlike to_new (one.falls ++ flat_map falls_at both.marks) (other.falls ++ flat_map falls_at both.more)
@@ -326,15 +327,15 @@ module _ (setup : Setup) (actor : ℕ) (one other : Position) where
           at = b.1;
           by = leaves-alike alike.to alike.id alike.number g.stage b.0 b.2 ∙ ap (option_map (call_renamed alike.to alike.id)) g.by;
           caller = g.caller;
-          may = (λ i. leaving b.0 b.2 i || setup.may_leave (all_left alike.to alike.id alike.number one.stages other.stages alike.stages i)
+          may = (λ i. vanish b.0 b.2 i || setup.may_leave (all_left alike.to alike.id alike.number one.stages other.stages alike.stages i)
               actor (b.2.at i)) ∙ g.may;
           rests = rests;
         }
       where
         -- both leave, or none does
-        leaving : (again : Stage) → AreAlikeStages alike.to alike.id alike.number g.stage again →
-            is_some again.leaving ≡ is_some g.stage.leaving
-        leaving again same = ap is_some same.leaving ∙ from g.stage.leaving
+        vanish : (again : Stage) → AreAlikeStages alike.to alike.id alike.number g.stage again →
+            is_some again.vanish ≡ is_some g.stage.vanish
+        vanish again same = ap is_some same.vanish ∙ from g.stage.vanish
           where
             -- by how far it is
             from : (o : Option Leave) → is_some (option_map (leave_renamed alike.to alike.id) o) ≡ is_some o

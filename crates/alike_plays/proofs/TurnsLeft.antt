@@ -20,7 +20,7 @@ use Rattle.alike_plays.proofs.Ahead.{leaves-same}
 use Rattle.alike_plays.proofs.AheadActors.{both_at, seen_ahead}
 use Rattle.alike_plays.proofs.AheadTurns.{asks_from, asks_to}
 use Rattle.alike_plays.proofs.Asking.{asks-alike}
-use Rattle.alike_plays.proofs.Leaving.{leaves-alike, next-alike}
+use Rattle.alike_plays.proofs.VanishLaws.{leaves-alike, next-alike}
 use Rattle.alike_plays.proofs.Places.{all_back}
 use Rattle.alike_plays.proofs.Reaching.{IsSeen, asks_known}
 use Rattle.alike_plays.proofs.Turning.{AskAlike, asks_both, names_old}
@@ -82,7 +82,8 @@ module _ (setup : Setup) (actor : ℕ) where
 
 -- Both have a call left by which they leave, or none has.
 pub leaves_left : (early : ℕ → ℕ → Bool) (actor : ℕ) (one other : Position) → AreAlikeAhead early one other → (stage same : Stage) →
-    slice_get one.stages actor ≡ Some stage → slice_get other.stages actor ≡ Some same → is_some (leaves_by same) ≡ is_some (leaves_by stage)
+    slice_get one.stages actor ≡ Some stage → slice_get other.stages actor ≡ Some same →
+    is_some (leaves_by same) ≡ is_some (leaves_by stage)
 leaves_left early actor one other like stage same at at_too =
     ap is_some (sym (leaves-same same)
     ∙ leaves-alike like.alike.to like.alike.id like.alike.number (ahead_of stage) (ahead_of same)

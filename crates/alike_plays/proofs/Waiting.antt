@@ -16,7 +16,7 @@ use Rattle.alike_cores.specs.Alike.{KeepsIds, call_renamed, reply_renamed}
 use Rattle.alike_cores.specs.Renamed.{KeepsKeys}
 use Rattle.alike_cores.specs.Cores.{AreAlikeCores, NamesOld}
 use Rattle.alike_cores.proofs.Agreeing.{agree, ids_agree}
-use Rattle.alike_cores.proofs.Going.{call-agrees}
+use Rattle.alike_cores.proofs.Progress.{call-agrees}
 use Rattle.alike_cores.proofs.Keys.{answer-keyed}
 use Rattle.alike_cores.proofs.Moving.{number_kept, number_moved, number_there}
 use Rattle.alike_cores.proofs.Shown.{answers_alike}

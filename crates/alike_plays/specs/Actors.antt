@@ -59,4 +59,4 @@ pub record AreAlikeStages (to : NodeKey → NodeKey) (id number : ℕ → ℕ) (
   pub at : other.at ≡ one.at
   pub known : AreAlikeKnown to id number one.known other.known
   pub made : made_of other.made ≡ map (made_renamed to id number) (made_of one.made)
-  pub leaving : other.leaving ≡ option_map (leave_renamed to id) one.leaving
+  pub vanish : other.vanish ≡ option_map (leave_renamed to id) one.vanish

@@ -1,5 +1,6 @@
 -- What lies ahead of actors: of one that leaves, only what it has still to do counts.
-use Rattle.std.specs.Prelude.{◌≡◌, ◌==◌, ◌+◌, ℕ, zero, suc, Bool, true, false, if◌then◌else◌, List, [], drop, length, map, slice_get, Option, Some, None}
+use Rattle.std.specs.Prelude.{◌≡◌, ◌==◌, ◌+◌, ℕ, zero, suc, Bool, true, false}
+use Rattle.std.specs.Prelude.{if◌then◌else◌, List, [], drop, length, map, slice_get, Option, Some, None}
 use Rattle.std.specs.Option.{option_map, option_map_or}
 use Rattle.actor_scripts.specs.ActorStates.{nothing_known}
 use Rattle.actor_plays.specs.Leaves.{Leave, all_objects}
@@ -15,13 +16,13 @@ going_on true stage l = record {
   at = 0;
   known = nothing_known;
   made = stage.made;
-  leaving = Some (record l { collected = drop l.parted (all_objects l.collected stage.known.objects); parted = 0 });
+  vanish = Some (record l { collected = drop l.parted (all_objects l.collected stage.known.objects); parted = 0 });
 }
 going_on false stage l = record {
   at = 0;
   known = record nothing_known { objects = map Some (all_objects [] stage.known.objects) };
   made = stage.made;
-  leaving = Some (record l { collected = all_objects l.collected [] });
+  vanish = Some (record l { collected = all_objects l.collected [] });
 }
 
 -- by whether it leaves: all of an actor that does not leave counts
@@ -31,7 +32,7 @@ ahead_by stage (Some l) = going_on (l.waiting == 0) stage l
 
 -- where an actor is, without what lies behind it if it leaves
 abbrev pub ahead_of : Stage → Stage
-ahead_of stage = ahead_by stage stage.leaving
+ahead_of stage = ahead_by stage stage.vanish
 
 -- where a play is, without what lies behind actors that leave
 abbrev pub ahead : Position → Position

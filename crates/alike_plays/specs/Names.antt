@@ -49,7 +49,7 @@ KnownCall Key Id call = ((key : NodeKey) → key_of call ≡ Some key → Key ke
 pub record KnownStage (Key : NodeKey → Type 0) (Id Num : ℕ → Type 0) (stage : Stage) : Type 0 where
   pub known : KnownActor Key Id Num stage.known
   pub made : (m : ℕ × Reply) → In m stage.made → KnownReply Key Id Num m.1
-  pub leaving : (l : Leave) → stage.leaving ≡ Some l → (o : ActorObject) → In o l.collected → KnownObject Key Id o
+  pub vanish : (l : Leave) → stage.vanish ≡ Some l → (o : ActorObject) → In o l.collected → KnownObject Key Id o
 
 -- both names of what is known in both are one, and what neither knows is alike under the new ones too
 pub record NamesAgree (to again : NodeKey → NodeKey) (id later number next : ℕ → ℕ) (Key Other : NodeKey → Type 0)

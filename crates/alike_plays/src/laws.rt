@@ -179,7 +179,7 @@ pub fn plays_alike_ahead_end_alike()
         (actor : ℕ) (stage same : Stage) → slice_get one.stages actor ≡ Some stage →
         slice_get other.stages actor ≡ Some same →
         (option_map (early actor) (left_at same) ≡ option_map (early actor) (left_at stage))
-        × (is_some stage.leaving ≡ false → same.at ≡ stage.at) }
+        × (is_some stage.vanish ≡ false → same.at ≡ stage.at) }
 {}
 
 /// Two plays that are alike but for what lies behind actors that leave have the same turns left: an actor

@@ -5,7 +5,7 @@ ghost use Rattle.alike_plays.specs.Actors.{object_renamed};
 ghost use Rattle.core_likeness.specs.Naming.{new_id, new_key};
 
 use crate::objects::are_new_objects;
-use actor_plays::Leaving;
+use actor_plays::VanishProgress;
 use actor_scripts::ActorObject;
 use core_likeness::Names;
 use std::alloc::{AllocError, Global};
@@ -24,9 +24,9 @@ fn rest(objects: &[ActorObject], first: usize) -> &[ActorObject]
 // Whether the other has still to part with the same as the one. Each has these slots.
 fn parts_alike(
     alloc: Global,
-    one: &Leaving,
+    one: &VanishProgress,
     slots: &[Option<ActorObject>],
-    other: &Leaving,
+    other: &VanishProgress,
     others: &[Option<ActorObject>],
     names: &Names,
 ) -> Result<bool, AllocError>
@@ -44,8 +44,8 @@ fn parts_alike(
 // Whether the other collected the same as the one, each sort in its order.
 fn collected_alike(
     alloc: Global,
-    one: &Leaving,
-    other: &Leaving,
+    one: &VanishProgress,
+    other: &VanishProgress,
     names: &Names,
 ) -> Result<bool, AllocError>
     ensures { result ≡ Ok true → all_objects other.now.collected.items []
@@ -62,7 +62,7 @@ fn collected_alike(
 fn sorted(alloc: Global, slots: &[Option<ActorObject>]) -> Result<Vec<ActorObject>, AllocError>
     ensures { IfOk result (λ all. all.items ≡ all_objects [] slots.now) }
 {
-    let none = Leaving {
+    let none = VanishProgress {
         waiting: 0,
         collected: Vec::new(alloc),
         parted: 0,
@@ -89,9 +89,9 @@ fn slots_alike(
 // Whether the other has the same to do as the one. Each has these slots.
 pub(crate) fn goes_alike(
     alloc: Global,
-    one: &Leaving,
+    one: &VanishProgress,
     slots: &[Option<ActorObject>],
-    other: &Leaving,
+    other: &VanishProgress,
     others: &[Option<ActorObject>],
     names: &Names,
 ) -> Result<bool, AllocError>

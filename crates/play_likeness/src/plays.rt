@@ -13,7 +13,7 @@ use crate::leavers::goes_alike;
 use crate::made::made_alike;
 use crate::pairs::names_of;
 use crate::stages::stays_alike;
-use actor_plays::{Actor, Leaving, Play};
+use actor_plays::{Actor, Play, VanishProgress};
 use core_likeness::{Names, cores_are_alike};
 use std::alloc::{AllocError, Global};
 
@@ -21,13 +21,13 @@ use std::alloc::{AllocError, Global};
 fn leavers_are_alike(
     alloc: Global,
     one: &Actor,
-    leaving: &Leaving,
+    vanish: &VanishProgress,
     other: &Actor,
-    going: &Leaving,
+    going: &VanishProgress,
     names: &Names,
 ) -> Result<bool, AllocError>
-    ensures { result ≡ Ok true → one.now.leaving ≡ Some leaving.now →
-        other.now.leaving ≡ Some going.now → AreAlikeStages (new_key names.now) (new_id names.now)
+    ensures { result ≡ Ok true → one.now.vanish ≡ Some vanish.now →
+        other.now.vanish ≡ Some going.now → AreAlikeStages (new_key names.now) (new_id names.now)
         (new_number names.now) (ahead_of (stage_of one.now)) (ahead_of (stage_of other.now)) }
 {
     if !made_alike(alloc, &one.made, &other.made, names)? {
@@ -35,7 +35,7 @@ fn leavers_are_alike(
     }
     goes_alike(
         alloc,
-        leaving,
+        vanish,
         one.state.objects(),
         going,
         other.state.objects(),
@@ -53,9 +53,9 @@ fn is_alike_ahead(
     ensures { result ≡ Ok true → AreAlikeStages (new_key names.now) (new_id names.now)
         (new_number names.now) (ahead_of (stage_of one.now)) (ahead_of (stage_of other.now)) }
 {
-    match &one.leaving {
-        Some(leaving) => match &other.leaving {
-            Some(going) => leavers_are_alike(alloc, one, leaving, other, going, names),
+    match &one.vanish {
+        Some(vanish) => match &other.vanish {
+            Some(going) => leavers_are_alike(alloc, one, vanish, other, going, names),
             None => Ok(false),
         },
         None => stays_alike(alloc, one, other, names),

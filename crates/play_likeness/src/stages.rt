@@ -62,10 +62,10 @@ fn known_alike(
 
 // Whether neither leaves.
 fn neither_leaves(one: &Actor, other: &Actor) -> bool
-    ensures one { result ≡ true → one.now.leaving ≡ None }
-    ensures other { result ≡ true → other.now.leaving ≡ None }
+    ensures one { result ≡ true → one.now.vanish ≡ None }
+    ensures other { result ≡ true → other.now.vanish ≡ None }
 {
-    one.leaving.is_none() && other.leaving.is_none()
+    one.vanish.is_none() && other.vanish.is_none()
 }
 
 // Whether the other actor is where the one is, and neither leaves.

@@ -68,8 +68,8 @@ module _ (to again : NodeKey → NodeKey) (id number : ℕ → ℕ) (core later 
   told_again (m ∷ made) = λ i. (m.0, became_again m.1 i) ∷ told_again made i
 
   -- The end of one actor.
-  pub end_again : (stage same : Stage) → is_some same.leaving ≡ is_some stage.leaving →
-      (is_some stage.leaving ≡ false → same.at ≡ stage.at) →
+  pub end_again : (stage same : Stage) → is_some same.vanish ≡ is_some stage.vanish →
+      (is_some stage.vanish ≡ false → same.at ≡ stage.at) →
       made_of same.made ≡ map (made_renamed to id number) (made_of stage.made) →
       end_in again later fallen same ≡ end_in (λ key. again (to key)) core falls stage
   end_again stage same leaves steps made =
@@ -81,8 +81,8 @@ module _ (to again : NodeKey → NodeKey) (id number : ℕ → ℕ) (core later 
       by false there = ap Some (there refl)
 
       -- how many steps are behind it
-      at : unless_left (is_some same.leaving) same.at ≡ unless_left (is_some stage.leaving) stage.at
-      at = ap (λ (left : Bool). unless_left left same.at) leaves ∙ by (is_some stage.leaving) steps
+      at : unless_left (is_some same.vanish) same.at ≡ unless_left (is_some stage.vanish) stage.at
+      at = ap (λ (left : Bool). unless_left left same.at) leaves ∙ by (is_some stage.vanish) steps
 
       -- what its calls made
       told : map (told_of again later fallen) (made_of same.made) ≡ map (told_of (λ key. again (to key)) core falls) (made_of stage.made)
@@ -135,10 +135,10 @@ module _ (early : ℕ → ℕ → Bool) (p r : Position) (like : AreAlikeAhead e
 
   -- There are as many.
   as_many : length r.stages ≡ length p.stages
-  as_many = sym (length-map r.stages (λ (s : Stage). is_some s.leaving))
-      ∙ (ap length (all_same (λ (s : Stage). is_some s.leaving) (λ (s : Stage). is_some s.leaving)
+  as_many = sym (length-map r.stages (λ (s : Stage). is_some s.vanish))
+      ∙ (ap length (all_same (λ (s : Stage). is_some s.vanish) (λ (s : Stage). is_some s.vanish)
       (λ place stage same at at_too. both_leave early place p r like stage same (both_at early place p r like stage same at at_too)))
-      ∙ length-map p.stages (λ (s : Stage). is_some s.leaving))
+      ∙ length-map p.stages (λ (s : Stage). is_some s.vanish))
 
   -- ---- who left before the end
 
@@ -149,7 +149,7 @@ module _ (early : ℕ → ℕ → Bool) (p r : Position) (like : AreAlikeAhead e
       let both = both_at early place p r like stage same at at_too in
       ap (λ (left : Bool). cond left (is_some (leaves_by same)) (at_end && is_done plans place same.at))
       (both_leave early place p r like stage same both)
-      ∙ by (is_some stage.leaving) (same_step early place p r like stage same both)
+      ∙ by (is_some stage.vanish) (same_step early place p r like stage same both)
     where
       -- by whether it leaves
       by : (left : Bool) → (left ≡ false → same.at ≡ stage.at) →
@@ -190,7 +190,7 @@ early_told at_end plans stages place =
         (option_map (option_map (began_early at_end plans place)) (option_map left_at o)) false
         ≡ option_map_or (is_early at_end plans place) o false
     by None = refl
-    by (Some stage) = leaves stage.at stage.leaving
+    by (Some stage) = leaves stage.at stage.vanish
 
 module _ (at_end : Bool) (plans : List Plan) (p r : Position) (like : AreAlikeAhead (began_early at_end plans) p r) where
   -- The same ones of the first left before their end: by induction on the places.

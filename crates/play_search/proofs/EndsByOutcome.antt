@@ -5,15 +5,16 @@ use Rattle.std.specs.Option.{option_map}
 use Rattle.sm_names.specs.declared.keys.NodeKey.{NodeKey}
 use Rattle.sm_names.specs.declared.messages.Reply.{Reply}
 use Rattle.actor_plays.specs.declared.actor.Actor.{Actor}
-use Rattle.actor_plays.specs.declared.leaving.Leaving.{Leaving}
+use Rattle.actor_plays.specs.declared.vanish.VanishProgress.{VanishProgress}
 use Rattle.actor_plays.specs.declared.play.Play.{Play}
-use Rattle.actor_plays.specs.Leaves.{leaving_of}
+use Rattle.actor_plays.specs.Leaves.{vanish_of}
 use Rattle.actor_plays.specs.Moves.{position_of}
 use Rattle.actor_plays.specs.Plays.{stage_of}
 use Rattle.alike_plays.specs.Actors.{made_of, tells_made}
 use Rattle.actor_plays.specs.declared.found.Became.{Became}
 use Rattle.actor_plays.specs.declared.found.Outcome.{Outcome}
-use Rattle.play_search.specs.Ends.{End, EndsSo, IsNewOutcome, does_tell, end_in, end_renamed, telling_of, told_of, told_renamed, unless_left}
+use Rattle.play_search.specs.Ends.{End, EndsSo, IsNewOutcome, does_tell, end_in}
+use Rattle.play_search.specs.Ends.{end_renamed, telling_of, told_of, told_renamed, unless_left}
 use Rattle.play_search.specs.Outcomes.{IsOutcome, Told, became_in, made_in, told, told_in}
 
 -- One map after another.
@@ -64,13 +65,13 @@ module _ (to : NodeKey → NodeKey) (play : Play) where
   }
     where
       -- by whether it leaves
-      from : (o : Option Leaving) → is_some o ≡ is_some (option_map leaving_of o)
+      from : (o : Option VanishProgress) → is_some o ≡ is_some (option_map vanish_of o)
       from None = refl
-      from (Some leaving) = refl
+      from (Some vanish) = refl
 
       -- both tell it
-      leaves : is_some actor.leaving ≡ is_some (option_map leaving_of actor.leaving)
-      leaves = from actor.leaving
+      leaves : is_some actor.vanish ≡ is_some (option_map vanish_of actor.vanish)
+      leaves = from actor.vanish
 
   -- The ends of actors.
   all_ends : (actors : List Actor) → map (λ (actor : Actor). end_renamed to (end_by (told_in play actor))) actors

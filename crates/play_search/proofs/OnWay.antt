@@ -37,7 +37,7 @@ module _ (at_end : Bool) (plans : List Plan) (stages : List Stage) where
       by : (o : Option Stage) → option_map_or (λ (b : Option ℕ). option_map_or (began_early at_end plans place) b false)
           (option_map left_at o) false ≡ option_map_or (is_early at_end plans place) o false
       by None = refl
-      by (Some stage) = leaves stage.at stage.leaving
+      by (Some stage) = leaves stage.at stage.vanish
 
   -- So many left before their end: by induction on the places.
   early_counted : (count : ℕ) →
@@ -71,7 +71,7 @@ may_same plans vanishing setting p actor = by (slice_get (stages_of p) actor)
     by : (o : Option Stage) → option_map_or (may_go vanishing plans (stages_of p) actor) o false
         ≡ option_map_or (allowed (setup_of plans vanishing setting) (position_of p) actor) o false
     by None = refl
-    by (Some stage) = ap (λ (n : ℕ). is_some stage.leaving || may_begin vanishing plans n actor stage.at)
+    by (Some stage) = ap (λ (n : ℕ). is_some stage.vanish || may_begin vanishing plans n actor stage.at)
         (count_vanished vanishing.at_end plans (stages_of p))
 
 -- A play in which all clients have joined is one of the search.

@@ -87,8 +87,8 @@ told_of to core falls made = (made.0, became_renamed to (became_of core falls ma
 -- the end of an actor that is so far, under new keys
 abbrev pub end_in : (NodeKey → NodeKey) → State → List GoneNode → Stage → End
 end_in to core falls stage = record {
-  left = is_some stage.leaving;
-  at = unless_left (is_some stage.leaving) stage.at;
+  left = is_some stage.vanish;
+  at = unless_left (is_some stage.vanish) stage.at;
   made = map (told_of to core falls) (made_of stage.made);
 }
 

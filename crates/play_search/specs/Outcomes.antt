@@ -33,7 +33,7 @@ told outcome = record { at = outcome.at; left = outcome.left; made = outcome.mad
 
 -- what is told of an actor in a play
 abbrev pub told_in : Play → Actor → Told
-told_in play actor = record { at = actor.at; left = is_some actor.leaving; made = map (made_in play) actor.made.items }
+told_in play actor = record { at = actor.at; left = is_some actor.vanish; made = map (made_in play) actor.made.items }
 
 -- the outcome is that of the play: of each actor, and the free pages
 pub record IsOutcome (play : Play) (outcome : Outcome) : Type 0 where

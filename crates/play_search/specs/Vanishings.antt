@@ -1,5 +1,6 @@
 -- Which actors may leave, and when.
-use Rattle.std.specs.Prelude.{ℕ, zero, suc, Bool, true, false, ◌&&◌, ◌||◌, not, nat_le, nat_lt, if◌then◌else◌, List, [], ◌∷◌, ◌++◌, length, slice_get, Option, is_some}
+use Rattle.std.specs.Prelude.{ℕ, zero, suc, Bool, true, false, ◌&&◌, ◌||◌, not, nat_le}
+use Rattle.std.specs.Prelude.{nat_lt, if◌then◌else◌, List, [], ◌∷◌, ◌++◌, length, slice_get, Option, is_some}
 use Rattle.std.specs.List.{list_all}
 use Rattle.std.specs.Option.{option_map, option_map_or}
 use Rattle.actor_plays.specs.declared.plan.Plan.{Plan}
@@ -15,7 +16,7 @@ is_done plans place at = option_map_or (λ (plan : Plan). nat_le (length (steps_
 
 -- the actor of this place leaves, and began to before its end
 abbrev pub is_early : Bool → List Plan → ℕ → Stage → Bool
-is_early at_end plans place stage = is_some stage.leaving && not (at_end && is_done plans place stage.at)
+is_early at_end plans place stage = is_some stage.vanish && not (at_end && is_done plans place stage.at)
 
 -- the same of the actor of a place among these
 abbrev pub early_at : Bool → List Plan → List Stage → ℕ → Bool
@@ -45,7 +46,7 @@ is_allowed vanishing places = nat_le (length places) vanishing.most && list_all 
 -- the actor of this place has a call still to make by which it goes on to leave, or must leave since it is at its end
 abbrev pub must_leave : Bool → List Plan → ℕ → Stage → Bool
 must_leave at_end plans place stage =
-    if is_some stage.leaving then is_some (leaves_by stage) else at_end && is_done plans place stage.at
+    if is_some stage.vanish then is_some (leaves_by stage) else at_end && is_done plans place stage.at
 
 -- an actor of this place that began to leave where so many steps were behind it did so before its end
 abbrev pub began_early : Bool → List Plan → ℕ → ℕ → Bool
@@ -69,4 +70,4 @@ may_leave vanishing plans begun place at =
 -- an actor that is so far may leave, or go on to, where these are all actors
 abbrev pub may_go : Vanishing → List Plan → List Stage → ℕ → Stage → Bool
 may_go vanishing plans stages place stage =
-    is_some stage.leaving || may_begin vanishing plans (length (vanished vanishing.at_end plans stages)) place stage.at
+    is_some stage.vanish || may_begin vanishing plans (length (vanished vanishing.at_end plans stages)) place stage.at

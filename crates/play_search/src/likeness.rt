@@ -19,7 +19,7 @@ fn began(ground: &Ground<'_>, place: usize, actor: &Actor) -> Option<bool>
     ensures { result ≡ option_map (began_early ground.now.vanishing.at_end ground.now.plans.now place)
         (left_at (stage_of actor.now)) }
 {
-    match &actor.leaving {
+    match &actor.vanish {
         Some(_) => Some(!(ground.vanishing.at_end && is_done(ground.plans, place, actor.at))),
         None => None,
     }

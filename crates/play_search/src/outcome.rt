@@ -47,7 +47,7 @@ fn actor_outcome(alloc: Global, play: &Play, actor: &Actor) -> Result<ActorOutco
     let made = made_by(alloc, play, &actor.made)?;
     Ok(ActorOutcome {
         at: actor.at,
-        left: actor.leaving.is_some(),
+        left: actor.vanish.is_some(),
         made,
     })
 }

@@ -6,7 +6,7 @@ use crate::falls::{NamedFall, has_name};
 use crate::numbers::{small, small_of};
 use crate::replay::Ground;
 use crate::vanishing::is_early;
-use actor_plays::{Actor, Leaving, Plan, Play};
+use actor_plays::{Actor, Plan, Play, VanishProgress};
 use actor_scripts::ActorObject;
 use lifetime_core::Core;
 use sm_names::{
@@ -204,38 +204,38 @@ fn put_collected(text: &mut Vec<u8>, collected: &[ActorObject]) -> Result<(), Al
 fn put_going(
     text: &mut Vec<u8>,
     births: &Births,
-    leaving: &Leaving,
+    vanish: &VanishProgress,
     left: &[ActorObject],
 ) -> Result<(), AllocError> {
-    put(text, small_of(leaving.waiting))?;
-    if leaving.waiting > 0 {
-        put_collected(text, &leaving.collected)?;
+    put(text, small_of(vanish.waiting))?;
+    if vanish.waiting > 0 {
+        put_collected(text, &vanish.collected)?;
     }
     put_objects(text, births, left)
 }
 
 // Of all objects with which an actor parts those with which it has still to part.
-fn left_of<'a>(leaving: &Leaving, all: &'a [ActorObject]) -> &'a [ActorObject] {
-    if leaving.parted <= all.len() {
-        &all[leaving.parted..]
+fn left_of<'a>(vanish: &VanishProgress, all: &'a [ActorObject]) -> &'a [ActorObject] {
+    if vanish.parted <= all.len() {
+        &all[vanish.parted..]
     } else {
         &[]
     }
 }
 
 // Puts 0, whether an actor that leaves began to before its end, its trackers, and what it has still to do.
-fn put_leaving(
+fn put_vanish(
     text: &mut Vec<u8>,
     births: &Births,
     core: &Core,
     actor: &Actor,
-    leaving: &Leaving,
+    vanish: &VanishProgress,
     early: bool,
 ) -> Result<(), AllocError> {
     put_two(text, 0, early as u32)?;
     put_trackers(text, core, &actor.made)?;
-    let all = leaving.objects(births.alloc, actor.state.objects())?;
-    put_going(text, births, leaving, left_of(leaving, &all))
+    let all = vanish.objects(births.alloc, actor.state.objects())?;
+    put_going(text, births, vanish, left_of(vanish, &all))
 }
 
 // Puts the actor of this place.
@@ -247,10 +247,10 @@ fn put_actor(
     place: usize,
     actor: &Actor,
 ) -> Result<(), AllocError> {
-    match &actor.leaving {
-        Some(leaving) => {
+    match &actor.vanish {
+        Some(vanish) => {
             let early = is_early(ground.vanishing.at_end, ground.plans, place, actor);
-            put_leaving(text, births, core, actor, leaving, early)
+            put_vanish(text, births, core, actor, vanish, early)
         }
         None => put_running(text, ground.plans, births, core, place, actor),
     }
@@ -259,11 +259,11 @@ fn put_actor(
 // How far the actor is: by its steps; if it leaves, further than by steps, and less by what it has still to do. A Collect
 // leaves one parcel less, and one object more.
 fn level_at(alloc: Global, actor: &Actor) -> Result<u64, AllocError> {
-    match &actor.leaving {
-        Some(leaving) => {
-            let all = leaving.objects(alloc, actor.state.objects())?;
-            let objects = left_of(leaving, &all).len() as u64;
-            let rest = leaving.waiting.saturating_mul(2).saturating_add(objects);
+    match &actor.vanish {
+        Some(vanish) => {
+            let all = vanish.objects(alloc, actor.state.objects())?;
+            let objects = left_of(vanish, &all).len() as u64;
+            let rest = vanish.waiting.saturating_mul(2).saturating_add(objects);
             Ok(LEFT.saturating_sub(rest))
         }
         None => Ok(actor.at as u64),
@@ -289,8 +289,8 @@ fn is_collected(reply: &Reply) -> bool {
 
 // How many parcels the actor collected.
 pub(crate) fn collected(actor: &Actor) -> usize {
-    let mut count: usize = match &actor.leaving {
-        Some(leaving) => leaving.collected.len(),
+    let mut count: usize = match &actor.vanish {
+        Some(vanish) => vanish.collected.len(),
         None => 0,
     };
     for (_, reply) in &actor.made {
@@ -466,7 +466,7 @@ fn put_stage(
     place: usize,
     actor: &Actor,
 ) -> Result<(), AllocError> {
-    if actor.leaving.is_none() {
+    if actor.vanish.is_none() {
         return put_place(text, actor.at);
     }
     let early = is_early(ground.vanishing.at_end, ground.plans, place, actor);

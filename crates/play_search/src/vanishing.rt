@@ -3,7 +3,8 @@ ghost use Rattle.std.specs.Prelude.{◌≡◌, ◌++◌, false, length, map, sli
 ghost use Rattle.std.specs.List.{list_all};
 ghost use Rattle.std.specs.Option.{option_map_or};
 ghost use Rattle.actor_plays.specs.Plays.{stage_of, stages_of};
-ghost use Rattle.play_search.specs.Vanishings.{early_at, early_place, is_allowed, is_done as done_told, is_early as early_told, may_begin as begin_told, may_go as go_told, may_vanish as may_told, must_leave as must_told, vanished as vanished_told};
+ghost use Rattle.play_search.specs.Vanishings.{early_at, early_place, is_allowed, is_done as done_told, is_early as early_told};
+ghost use Rattle.play_search.specs.Vanishings.{may_begin as begin_told, may_go as go_told, may_vanish as may_told, must_leave as must_told, vanished as vanished_told};
 
 use actor_plays::{Actor, Plan, Play, Vanishing};
 use std::alloc::{AllocError, Global};
@@ -22,7 +23,7 @@ pub(crate) fn is_done(plans: &[Plan], place: usize, at: usize) -> bool
 pub(crate) fn is_early(at_end: bool, plans: &[Plan], place: usize, actor: &Actor) -> bool
     ensures { result ≡ early_told at_end plans.now place (stage_of actor.now) }
 {
-    actor.leaving.is_some() && !(at_end && is_done(plans, place, actor.at))
+    actor.vanish.is_some() && !(at_end && is_done(plans, place, actor.at))
 }
 
 // The same of the actor of a place among these.
@@ -103,7 +104,7 @@ pub(crate) fn must_leave(
 ) -> Result<bool, AllocError>
     ensures { IfOk result (λ must. must ≡ must_told at_end plans.now place (stage_of actor.now)) }
 {
-    if actor.leaving.is_some() {
+    if actor.vanish.is_some() {
         return Ok(actor.leave_call(alloc)?.is_some());
     }
     Ok(at_end && is_done(plans, place, actor.at))
@@ -138,7 +139,7 @@ pub(crate) fn may_go(
     let Some(one) = play.actor(actor) else {
         return Ok(false);
     };
-    if one.leaving.is_some() {
+    if one.vanish.is_some() {
         return Ok(true);
     }
     let vanished = vanished_of(alloc, vanishing.at_end, plans, play.actors())?;
@@ -154,7 +155,7 @@ pub(crate) fn may_leave(
     actor: &Actor,
     vanished: &[usize],
 ) -> Result<bool, AllocError> {
-    if actor.leaving.is_some() {
+    if actor.vanish.is_some() {
         return Ok(actor.leave_call(alloc)?.is_some());
     }
     Ok(may_begin(vanishing, plans, place, actor.at, vanished))

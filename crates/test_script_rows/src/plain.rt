@@ -128,7 +128,7 @@ fn is_done(table: &Table<'_>, place: usize, actor: &Actor) -> bool {
 
 // Whether the actor of this place left before its end.
 fn is_early(table: &Table<'_>, place: usize, actor: &Actor) -> bool {
-    actor.leaving.is_some() && !(table.vanishing.at_end && is_done(table, place, actor))
+    actor.vanish.is_some() && !(table.vanishing.at_end && is_done(table, place, actor))
 }
 
 // How many left before their end.
@@ -144,7 +144,7 @@ fn count_early(table: &Table<'_>, actors: &[Actor]) -> usize {
 
 // Whether the actor of this place has to leave, or to go on to.
 fn must_leave(table: &Table<'_>, place: usize, actor: &Actor) -> bool {
-    actor.leaving.is_some() || table.vanishing.at_end && is_done(table, place, actor)
+    actor.vanish.is_some() || table.vanishing.at_end && is_done(table, place, actor)
 }
 
 // Whether the actor of this place may leave at any point.
@@ -284,7 +284,7 @@ fn put_actor(
     (place, actor): (usize, &Actor),
 ) -> Result<(), AllocError> {
     text.extend_from_slice(b"actor")?;
-    if actor.leaving.is_some() {
+    if actor.vanish.is_some() {
         put(text, if is_early(table, place, actor) { 1 } else { 2 })?;
     } else {
         put(text, actor.at.saturating_add(10))?;

@@ -1,5 +1,5 @@
 use Rattle.alike_plays.proofs.Asking.{asks-alike}
-use Rattle.alike_plays.proofs.Leaving.{leaves-alike, next-alike, polls-alike}
+use Rattle.alike_plays.proofs.VanishLaws.{leaves-alike, next-alike, polls-alike}
 use Rattle.alike_plays.proofs.laws.alike_actors_ask_alike.Goals as goal
 
 pub returns-clause-step : goal.returns-clause-step

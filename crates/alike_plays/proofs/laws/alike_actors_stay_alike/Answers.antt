@@ -1,5 +1,5 @@
 use Rattle.alike_plays.proofs.Knowing.{knows-alike}
-use Rattle.alike_plays.proofs.Leaving.{after-alike, left-alike, passed-alike}
+use Rattle.alike_plays.proofs.VanishLaws.{after-alike, left-alike, passed-alike}
 use Rattle.alike_plays.proofs.laws.alike_actors_stay_alike.Goals as goal
 
 pub returns-clause-knows : goal.returns-clause-knows

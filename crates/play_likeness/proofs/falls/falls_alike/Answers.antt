@@ -1,7 +1,7 @@
 use Rattle.std.proofs.Common.{refl}
 use Rattle.core_likeness.specs.Naming.{new_key}
 use Rattle.core_likeness.proofs.Swapping.{keys-apart}
-use Rattle.alike_plays.proofs.Fallen.{fell-alike}
+use Rattle.alike_plays.proofs.Losses.{fell-alike}
 use Rattle.play_likeness.proofs.falls.falls_alike.Goals as goal
 
 -- by those of both plays

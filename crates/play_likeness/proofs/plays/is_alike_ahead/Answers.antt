@@ -4,8 +4,8 @@ use Rattle.core_likeness.specs.Naming.{new_id, new_key, new_number}
 use Rattle.play_likeness.proofs.plays.is_alike_ahead.Goals as goal
 
 -- both leave
-pub returns-in-Some-leaving : goal.returns-in-Some-leaving
-returns-in-Some-leaving c = λ h. c.leavers_are_alike.ensures h c.in-Some.is c.in-Some-leaving.is
+pub returns-in-Some-vanish : goal.returns-in-Some-vanish
+returns-in-Some-vanish c = λ h. c.leavers_are_alike.ensures h c.in-Some.is c.in-Some-vanish.is
 
 -- neither leaves
 pub returns-in-None : goal.returns-in-None

@@ -1,5 +1,5 @@
 use Rattle.std.proofs.Common.{[], ◌∙◌, Ok, ap, drop, map, option_map, sym}
-use Rattle.actor_plays.specs.Leaves.{all_objects, leaving_of}
+use Rattle.actor_plays.specs.Leaves.{all_objects, vanish_of}
 use Rattle.actor_plays.specs.Plays.{stage_of}
 use Rattle.alike_plays.specs.Actors.{made_of, made_renamed, object_renamed}
 use Rattle.alike_plays.proofs.Ahead.{going-alike}
@@ -12,14 +12,14 @@ returns c = λ h first second.
     let rename = object_renamed (new_key c.args.names.now) (new_id c.args.names.now) in
     going-alike (new_key c.args.names.now) (new_id c.args.names.now) (new_number c.args.names.now) (stage_of c.args.one.now)
     (stage_of c.args.other.now)
-    (leaving_of c.args.leaving.now) (leaving_of c.args.going.now) (ap (option_map leaving_of) first) (ap (option_map leaving_of) second)
+    (vanish_of c.args.vanish.now) (vanish_of c.args.going.now) (ap (option_map vanish_of) first) (ap (option_map vanish_of) second)
     (c.goes_alike.ensures.waiting h)
     (ap made_of (sym c.deref-2.ensures.value) ∙ (c.in_ok-made_alike.ensures (ap Ok c.if-not-branch.false)
     ∙ ap (λ l. map (made_renamed (new_key c.args.names.now) (new_id c.args.names.now) (new_number c.args.names.now))
     (made_of l)) c.deref.ensures.value))
     (λ none. (λ i. drop c.args.going.now.parted (all_objects c.args.going.now.collected.items (sym c.objects-2.ensures i)))
     ∙ (c.goes_alike.ensures.rest h none
-    ∙ (λ i. map rename (drop c.args.leaving.now.parted (all_objects c.args.leaving.now.collected.items (c.objects.ensures i))))))
+    ∙ (λ i. map rename (drop c.args.vanish.now.parted (all_objects c.args.vanish.now.collected.items (c.objects.ensures i))))))
     (λ some. (
       c.goes_alike.ensures.parted h some,
       c.goes_alike.ensures.collected h some,

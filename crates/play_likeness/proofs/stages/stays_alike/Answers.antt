@@ -1,5 +1,5 @@
 use Rattle.std.proofs.Common.{◌∙◌, Ok, ap, arith, map, option_map, refl, sym}
-use Rattle.actor_plays.specs.Leaves.{leaving_of}
+use Rattle.actor_plays.specs.Leaves.{vanish_of}
 use Rattle.alike_plays.specs.Actors.{leave_renamed, made_of, made_renamed}
 use Rattle.core_likeness.specs.Naming.{new_id, new_key, new_number}
 use Rattle.play_likeness.proofs.stages.stays_alike.Goals as goal
@@ -13,6 +13,6 @@ returns c = λ h.
       at = omega arith;
       known = c.in_ok-known_alike.ensures (ap Ok c.if-not-branch.false);
       made = ap made_of (sym c.deref-2.ensures.value) ∙ (c.made_alike.ensures h ∙ ap (λ l. map made (made_of l)) c.deref.ensures.value);
-      leaving = ap (option_map leaving_of) (c.if-not-neither_leaves.ensures.other refl)
-          ∙ sym (ap (λ o. option_map leave (option_map leaving_of o)) (c.if-not-neither_leaves.ensures.one refl));
+      vanish = ap (option_map vanish_of) (c.if-not-neither_leaves.ensures.other refl)
+          ∙ sym (ap (λ o. option_map leave (option_map vanish_of o)) (c.if-not-neither_leaves.ensures.one refl));
     }

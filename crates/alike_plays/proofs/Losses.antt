@@ -37,7 +37,8 @@ fell-alike to keeps falls later there back key = by (none_or_some (find (λ (f :
     by (inl none) =
         fell_nowhere later (to key) (λ h on is.
         let g = back h on in
-        let same : same_key g.0.key key ≡ true = sym (keeps g.0.key key) ∙ (ap (λ (k : NodeKey). same_key k (to key)) (g.2 ∙ is) ∙ same_key-refl (to key)) in
+        let same : same_key g.0.key key ≡ true = sym (keeps g.0.key key) ∙ (ap (λ (k : NodeKey). same_key k (to key)) (g.2 ∙ is) ∙
+        same_key-refl (to key)) in
         let no : true ≡ false = sym (In-any (λ (f : GoneNode). same_key f.key key) falls g.0 g.1 same)
         ∙ none-find (λ (f : GoneNode). same_key f.key key) falls none in cc)
         ∙ sym (ap (option_map (fate_renamed to)) (ap (option_map (λ (f : GoneNode). fate_gone f.fault)) none))

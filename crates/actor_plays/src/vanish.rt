@@ -5,7 +5,8 @@ ghost use Rattle.std.specs.Option.{option_map};
 ghost use Rattle.sm_names.specs.declared.messages.Call.{Call as Asked};
 ghost use Rattle.sm_names.specs.declared.outcomes.StepFault.{StepFault as Fault};
 ghost use Rattle.actor_scripts.specs.ActorStates.{new_objects};
-ghost use Rattle.actor_plays.specs.Leaves.{all_objects as objects_told, is_of as is_of_sort, leave_after, leave_call as call_told, leaving_of, parting_call as parting_told, there, those, waiting_told};
+ghost use Rattle.actor_plays.specs.Leaves.{all_objects as objects_told, is_of as is_of_sort, leave_after, leave_call as call_told};
+ghost use Rattle.actor_plays.specs.Leaves.{vanish_of, vanishing_call as vanishing_told, there, those, waiting_told};
 
 use actor_scripts::ActorObject;
 use sm_names::{Call, Kind, Reply, StepFault};
@@ -13,7 +14,7 @@ use std::alloc::{AllocError, Global};
 
 /// How far an actor is that leaves.
 #[derive(Drop)]
-pub struct Leaving {
+pub struct VanishProgress {
     /// How many parcels it has still to collect.
     pub waiting: u64,
     /// What it collected since it was shut.
@@ -114,8 +115,8 @@ fn all_objects(
 }
 
 // The call that parts with the object.
-fn parting_call(object: ActorObject) -> Call
-    ensures { result ≡ parting_told object }
+fn vanishing_call(object: ActorObject) -> Call
+    ensures { result ≡ vanishing_told object }
 {
     match object {
         ActorObject::Token { key, .. } => Call::Close(key),
@@ -156,7 +157,7 @@ fn push_collected(collected: &mut Vec<ActorObject>, reply: &Reply) -> Result<(),
     Ok(())
 }
 
-impl Leaving {
+impl VanishProgress {
     /// All objects with which it parts, in order, if these lie in the actor's slots: those that it collected are among them,
     /// and not those that it has still to collect. It parted with the first `parted` of them.
     ///
@@ -173,23 +174,23 @@ impl Leaving {
 
     // The call by which it goes on to leave, if there is one; it has these slots.
     fn call(&self, alloc: Global, slots: &[Option<ActorObject>]) -> Result<Option<Call>, AllocError>
-        ensures { IfOk result (λ call. call ≡ call_told slots.now (Some (leaving_of self.now))) }
+        ensures { IfOk result (λ call. call ≡ call_told slots.now (Some (vanish_of self.now))) }
     {
         if self.waiting > 0 {
             return Ok(Some(Call::Collect));
         }
         let all = all_objects(alloc, &self.collected, slots)?;
         match all.get(self.parted) {
-            Some(object) => Ok(Some(parting_call(*object))),
+            Some(object) => Ok(Some(vanishing_call(*object))),
             None => Ok(None),
         }
     }
 
     // It is shut, and answered so.
-    fn begun(alloc: Global, reply: &Reply) -> Leaving
-        ensures { leaving_of result ≡ leave_after None reply.now }
+    fn begun(alloc: Global, reply: &Reply) -> VanishProgress
+        ensures { vanish_of result ≡ leave_after None reply.now }
     {
-        Leaving {
+        VanishProgress {
             waiting: waiting_in(reply),
             collected: Vec::new(alloc),
             parted: 0,
@@ -199,7 +200,7 @@ impl Leaving {
     // Its next call is answered so.
     fn note(&mut self, reply: &Reply) -> Result<(), StepFault>
         ensures stage { OnOk result
-            (leaving_of self.new ≡ leave_after (Some (leaving_of self.old)) reply.now) }
+            (vanish_of self.new ≡ leave_after (Some (vanish_of self.old)) reply.now) }
         ensures memory { IfErr result (λ fault. fault ≡ Fault.NoMemory) }
     {
         if self.waiting > 0 {
@@ -220,13 +221,13 @@ impl Leaving {
 // The call by which an actor leaves, or goes on to leave, if there is one; it has these slots.
 pub(crate) fn leave_call(
     alloc: Global,
-    leaving: &Option<Leaving>,
+    vanish: &Option<VanishProgress>,
     slots: &[Option<ActorObject>],
 ) -> Result<Option<Call>, AllocError>
-    ensures { IfOk result (λ call. call ≡ call_told slots.now (option_map leaving_of leaving.now)) }
+    ensures { IfOk result (λ call. call ≡ call_told slots.now (option_map vanish_of vanish.now)) }
 {
-    match leaving {
-        Some(leaving) => leaving.call(alloc, slots),
+    match vanish {
+        Some(vanish) => vanish.call(alloc, slots),
         None => Ok(Some(Call::Shut)),
     }
 }
@@ -234,17 +235,17 @@ pub(crate) fn leave_call(
 // That call is answered so.
 pub(crate) fn note_leave(
     alloc: Global,
-    leaving: &mut Option<Leaving>,
+    vanish: &mut Option<VanishProgress>,
     reply: &Reply,
 ) -> Result<(), StepFault>
-    ensures stage { OnOk result (option_map leaving_of leaving.new
-        ≡ Some (leave_after (option_map leaving_of leaving.old) reply.now)) }
+    ensures stage { OnOk result (option_map vanish_of vanish.new
+        ≡ Some (leave_after (option_map vanish_of vanish.old) reply.now)) }
     ensures memory { IfErr result (λ fault. fault ≡ Fault.NoMemory) }
 {
-    match leaving {
-        Some(leaving) => leaving.note(reply),
+    match vanish {
+        Some(vanish) => vanish.note(reply),
         None => {
-            *leaving = Some(Leaving::begun(alloc, reply));
+            *vanish = Some(VanishProgress::begun(alloc, reply));
             Ok(())
         }
     }

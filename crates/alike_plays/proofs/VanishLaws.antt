@@ -16,7 +16,7 @@ use Rattle.actor_scripts.specs.declared.step.Step.{Step}
 use Rattle.actor_scripts.specs.ActorStates.{Known, new_objects}
 use Rattle.actor_plays.specs.declared.plan.Plan.{Plan}
 use Rattle.actor_plays.specs.declared.plan.Planned.{Planned}
-use Rattle.actor_plays.specs.Leaves.{Leave, all_objects, leave_after, leave_call, parting_call, waiting_told}
+use Rattle.actor_plays.specs.Leaves.{Leave, all_objects, leave_after, leave_call, vanishing_call, waiting_told}
 use Rattle.actor_plays.specs.Plans.{steps_of}
 use Rattle.actor_plays.specs.Plays.{Stage, has_fired, is_silent, leaves_by, left, next_step, passed, polls, stage_after}
 use Rattle.alike_cores.specs.Alike.{KeepsIds, call_renamed, reply_renamed}
@@ -158,10 +158,10 @@ module _ (to : NodeKey → NodeKey) (id : ℕ → ℕ) where
       (collected-renamed is_handle blind_handle collected) (slots-renamed is_handle blind_handle slots))))
 
   -- By the object.
-  parting-renamed : (object : ActorObject) → parting_call (object_renamed to id object) ≡ call_renamed to id (parting_call object)
-  parting-renamed (ActorObject.Token key collection) = refl
-  parting-renamed (ActorObject.Collection key collection) = refl
-  parting-renamed (ActorObject.Handle buffer strength) = refl
+  vanish_calls-renamed : (object : ActorObject) → vanishing_call (object_renamed to id object) ≡ call_renamed to id (vanishing_call object)
+  vanish_calls-renamed (ActorObject.Token key collection) = refl
+  vanish_calls-renamed (ActorObject.Collection key collection) = refl
+  vanish_calls-renamed (ActorObject.Handle buffer strength) = refl
 
   -- By how far it is: it is shut, collects, or parts with an object.
   leave-renamed : (slots : List (Option ActorObject)) (o : Option Leave) →
@@ -169,17 +169,17 @@ module _ (to : NodeKey → NodeKey) (id : ℕ → ℕ) where
       ≡ option_map (call_renamed to id) (leave_call slots o)
   leave-renamed slots None = refl
   leave-renamed slots (Some l) =
-      ap (λ (p : Option ActorObject). cond (l.waiting == 0) (option_map parting_call p) (Some Call.Collect))
+      ap (λ (p : Option ActorObject). cond (l.waiting == 0) (option_map vanishing_call p) (Some Call.Collect))
       (ap (λ (objects : List ActorObject). slice_get objects l.parted) (all-renamed l.collected slots)
       ∙ slice_get-map (object_renamed to id) (all_objects l.collected slots) l.parted)
       ∙ from (l.waiting == 0) (slice_get (all_objects l.collected slots) l.parted)
     where
       -- by cases
       from : (b : Bool) (p : Option ActorObject) →
-          cond b (option_map parting_call (option_map (object_renamed to id) p)) (Some Call.Collect)
-          ≡ option_map (call_renamed to id) (cond b (option_map parting_call p) (Some Call.Collect))
+          cond b (option_map vanishing_call (option_map (object_renamed to id) p)) (Some Call.Collect)
+          ≡ option_map (call_renamed to id) (cond b (option_map vanishing_call p) (Some Call.Collect))
       from true None = refl
-      from true (Some object) = ap Some (parting-renamed object)
+      from true (Some object) = ap Some (vanish_calls-renamed object)
       from false p = refl
 
 -- By the reply.
@@ -242,16 +242,16 @@ module _ (to : NodeKey → NodeKey) (id number : ℕ → ℕ) (one other : Stage
       from (Some l) = refl
 
       -- both leave, or none does
-      leaves : is_some other.leaving ≡ is_some one.leaving
-      leaves = ap is_some alike.leaving ∙ from one.leaving
+      leaves : is_some other.vanish ≡ is_some one.vanish
+      leaves = ap is_some alike.vanish ∙ from one.vanish
 
   -- The call by which it leaves is the renamed one.
   pub leaves-alike : leaves_by other ≡ option_map (call_renamed to id) (leaves_by one)
-  leaves-alike = (λ i. leave_call (alike.known.objects i) (alike.leaving i)) ∙ leave-renamed to id one.known.objects one.leaving
+  leaves-alike = (λ i. leave_call (alike.known.objects i) (alike.vanish i)) ∙ leave-renamed to id one.known.objects one.vanish
 
   -- A step is passed.
   pub passed-alike : AreAlikeStages to id number (passed one) (passed other)
-  passed-alike = record { at = ap (λ n. n + 1) alike.at; known = alike.known; made = alike.made; leaving = alike.leaving }
+  passed-alike = record { at = ap (λ n. n + 1) alike.at; known = alike.known; made = alike.made; vanish = alike.vanish }
 
   -- A call is answered.
   pub after-alike : KeepsKeys to → KeepsIds id → (next : Planned) (asked : StepCall) (reply : Reply) →
@@ -261,7 +261,7 @@ module _ (to : NodeKey → NodeKey) (id number : ℕ → ℕ) (one other : Stage
     at = ap (λ n. n + 1) alike.at;
     known = knows-alike to id number keeps kept one.known other.known alike.known next.step asked reply;
     made = made-more to id number one.made other.made alike.made one.at other.at alike.at reply;
-    leaving = alike.leaving;
+    vanish = alike.vanish;
   }
 
   -- A call by which it leaves is answered.
@@ -271,8 +271,8 @@ module _ (to : NodeKey → NodeKey) (id number : ℕ → ℕ) (one other : Stage
     at = alike.at;
     known = alike.known;
     made = alike.made;
-    leaving = ap Some (ap (λ (o : Option Leave). leave_after o (reply_renamed to id number reply)) alike.leaving
-        ∙ left-renamed to id number one.leaving reply);
+    vanish = ap Some (ap (λ (o : Option Leave). leave_after o (reply_renamed to id number reply)) alike.vanish
+        ∙ left-renamed to id number one.vanish reply);
   }
 
 -- By the step: it looks at a tracker that fired in both or in none.

@@ -1,7 +1,7 @@
 use Rattle.std.proofs.Common.{arith, append_assoc}
 use Rattle.std.proofs.lemmas.Grind.{common_steps}
 use Rattle.std.proofs.lemmas.List.{flat_map_more}
-use Rattle.actor_plays.proofs.leaving.push_slots.Goals as goal
+use Rattle.actor_plays.proofs.vanish.push_slots.Goals as goal
 
 -- one more comes last, or is left out
 pub loop-slot-preserved : goal.loop-slot-preserved

@@ -1,7 +1,7 @@
 use Rattle.std.proofs.Common.{◌≡◌, ◌++◌, take}
 use Rattle.std.specs.List.{flat_map}
 use Rattle.actor_plays.specs.Leaves.{there}
-use Rattle.actor_plays.proofs.leaving.push_slots.Given as goal
+use Rattle.actor_plays.proofs.vanish.push_slots.Given as goal
 
 -- so far those in these slots
 abbrev pub invariant-loop-slot : goal.invariant-loop-slot

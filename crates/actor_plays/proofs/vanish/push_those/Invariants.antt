@@ -1,7 +1,7 @@
 use Rattle.std.proofs.Common.{◌≡◌, ◌++◌, take}
 use Rattle.std.specs.List.{flat_map}
 use Rattle.actor_plays.specs.Leaves.{those}
-use Rattle.actor_plays.proofs.leaving.push_those.Given as goal
+use Rattle.actor_plays.proofs.vanish.push_those.Given as goal
 
 -- so far those of these objects
 abbrev pub invariant-loop-object : goal.invariant-loop-object
