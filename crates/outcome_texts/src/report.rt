@@ -169,25 +169,56 @@ struct ReportRows {
 }
 
 impl ReportRows {
-    // Adds the subject.
-    fn add(&mut self, all: &Outcomes<'_>, subject: Subject) -> Result<(), AllocError> {
-        let occurrences = occurrences_of(all, subject)?;
-        let mut signature = Vec::new(all.alloc);
+    // The place of the row of these occurrences, and whether it is new.
+    fn place(
+        &mut self,
+        alloc: Global,
+        occurrences: &Occurrences,
+    ) -> Result<(usize, bool), AllocError> {
+        let mut signature = Vec::new(alloc);
         occurrences.push_signature(&mut signature)?;
-        let (place, is_new) = match self.signatures.insert_full(signature) {
-            Ok(placed) => placed,
-            Err(_) => return Err(AllocError),
-        };
-        if is_new {
-            let mut names = Vec::new(all.alloc);
-            all.telling.push_name(&mut names, subject)?;
-            self.rows.push(ReportRow { names, occurrences })?;
-        } else if place < self.rows.len() {
+        match self.signatures.insert_full(signature) {
+            Ok(placed) => Ok(placed),
+            Err(_) => Err(AllocError),
+        }
+    }
+
+    // Adds a row of the subject.
+    fn add_row(
+        &mut self,
+        all: &Outcomes<'_>,
+        subject: Subject,
+        occurrences: Occurrences,
+    ) -> Result<(), AllocError> {
+        let mut names = Vec::new(all.alloc);
+        all.telling.push_name(&mut names, subject)?;
+        self.rows.push(ReportRow { names, occurrences })
+    }
+
+    // Adds the subject's name to the row at this place.
+    fn add_name(
+        &mut self,
+        all: &Outcomes<'_>,
+        subject: Subject,
+        place: usize,
+    ) -> Result<(), AllocError> {
+        if place < self.rows.len() {
             let names = &mut self.rows[place].names;
             push(names, " ")?;
             all.telling.push_name(names, subject)?;
         }
         Ok(())
+    }
+
+    // Adds the subject.
+    fn add(&mut self, all: &Outcomes<'_>, subject: Subject) -> Result<(), AllocError> {
+        let occurrences = occurrences_of(all, subject)?;
+        let (place, is_new) = self.place(all.alloc, &occurrences)?;
+        if is_new {
+            self.add_row(all, subject, occurrences)
+        } else {
+            self.add_name(all, subject, place)
+        }
     }
 }
 
@@ -216,17 +247,28 @@ fn add_all(
     Ok(())
 }
 
-// All rows: nodes, clients, trackers, free pages.
-fn rows_of(all: &Outcomes<'_>) -> Result<Vec<ReportRow>, AllocError> {
-    let mut rows = Vec::new(all.alloc);
-    let nodes = made_subjects(all.alloc, all.telling, false)?;
-    push_subjects(all, &mut rows, &nodes)?;
+// Appends the rows of the nodes that steps make, or those of the trackers.
+fn push_made(
+    all: &Outcomes<'_>,
+    rows: &mut Vec<ReportRow>,
+    trackers: bool,
+) -> Result<(), AllocError> {
+    let made = made_subjects(all.alloc, all.telling, trackers)?;
+    push_subjects(all, rows, &made)
+}
+
+// Appends the rows of the clients.
+fn push_clients(all: &Outcomes<'_>, rows: &mut Vec<ReportRow>) -> Result<(), AllocError> {
     let clients = client_subjects(all)?;
-    push_subjects(all, &mut rows, &clients)?;
-    let trackers = made_subjects(all.alloc, all.telling, true)?;
-    push_subjects(all, &mut rows, &trackers)?;
-    push_subjects(all, &mut rows, &[Subject::Free])?;
-    Ok(rows)
+    push_subjects(all, rows, &clients)
+}
+
+// Appends all rows: nodes, clients, trackers, free pages.
+fn push_all(all: &Outcomes<'_>, rows: &mut Vec<ReportRow>) -> Result<(), AllocError> {
+    push_made(all, rows, false)?;
+    push_clients(all, rows)?;
+    push_made(all, rows, true)?;
+    push_subjects(all, rows, &[Subject::Free])
 }
 
 // How many steps the plans have.
@@ -357,7 +399,8 @@ fn push_group(
         outcomes,
         makers: &makers,
     };
-    let rows = rows_of(&all)?;
+    let mut rows = Vec::new(alloc);
+    push_all(&all, &mut rows)?;
     let of = Among {
         outcomes: outcomes.len(),
         have_shares,

@@ -1,7 +1,7 @@
 //! The rows of a report: what became of each node, client and tracker, and in which outcomes.
 use crate::numbers::share_words;
 use indexmap::IndexSet;
-use script_lines::{LabelHash, push, push_number};
+use script_lines::{LabelHash, Part, push, push_number, push_parts};
 use std::alloc::{AllocError, Global};
 
 // The share of the runs in which something became of it, and the outcomes, by number.
@@ -40,9 +40,9 @@ fn push_spaces(text: &mut Vec<u8>, count: usize) -> Result<(), AllocError> {
     Ok(())
 }
 
-// Appends the word, and spaces up to this width.
-fn push_left(text: &mut Vec<u8>, word: &[u8], width: usize) -> Result<(), AllocError> {
-    text.extend_from_slice(word)?;
+// Appends two spaces, the word, and spaces up to this width.
+fn push_column(text: &mut Vec<u8>, word: &[u8], width: usize) -> Result<(), AllocError> {
+    push_parts(text, &[Part::Word("  "), Part::Bytes(word)])?;
     push_spaces(text, width.saturating_sub(word.len()))
 }
 
@@ -62,9 +62,14 @@ fn push_ranks(text: &mut Vec<u8>, ranks: &[u64]) -> Result<(), AllocError> {
         return push_numbers(text, ranks);
     }
     push_numbers(text, &ranks[..3])?;
-    push(text, " and ")?;
-    push_number(text, (ranks.len() - 3) as u64)?;
-    push(text, " more")
+    push_parts(
+        text,
+        &[
+            Part::Word(" and "),
+            Part::Number((ranks.len() - 3) as u64),
+            Part::Word(" more"),
+        ],
+    )
 }
 
 // Appends the share, to the right of four letters.
@@ -142,6 +147,24 @@ impl Occurrences {
         Ok(())
     }
 
+    // Appends what became of it at this place, in a column of this width, and in which outcomes.
+    fn push_place(
+        &self,
+        alloc: Global,
+        text: &mut Vec<u8>,
+        at: usize,
+        width: usize,
+        of: Among,
+    ) -> Result<(), AllocError> {
+        let whats = self.whats.as_slice();
+        if at < whats.len() && at < self.each.len() {
+            push_column(text, &whats[at], width)?;
+            push(text, "  ")?;
+            self.each[at].push_which(alloc, text, of)?;
+        }
+        Ok(())
+    }
+
     // The length of the longest of all that became of it.
     fn width(&self) -> usize {
         let mut width: usize = 0;
@@ -175,17 +198,8 @@ impl ReportRow {
     ) -> Result<(), AllocError> {
         let (left, middle) = widths;
         let names: &[u8] = if at == 0 { &self.names } else { &[] };
-        push(text, "  ")?;
-        push_left(text, names, left)?;
-        push(text, "  ")?;
-        let whats = self.occurrences.whats.as_slice();
-        if at < whats.len() {
-            push_left(text, &whats[at], middle)?;
-        }
-        push(text, "  ")?;
-        if at < self.occurrences.each.len() {
-            self.occurrences.each[at].push_which(alloc, text, of)?;
-        }
+        push_column(text, names, left)?;
+        self.occurrences.push_place(alloc, text, at, middle, of)?;
         push(text, "\n")
     }
 

@@ -2,7 +2,7 @@
 use crate::telling::{Makers, Subject, Telling, became_at};
 use actor_plays::{Became, Fate, Found};
 use script_labels::push_cause;
-use script_lines::{push, push_label, push_number};
+use script_lines::{Part, push, push_label, push_number, push_parts};
 use sm_names::Fault;
 use std::alloc::AllocError;
 
@@ -65,15 +65,17 @@ impl<'a> Telling<'a> {
 
     // Appends the line at which the client waits for ever.
     fn push_waits(&self, text: &mut Vec<u8>, actor: usize, at: usize) -> Result<(), AllocError> {
-        push(text, "waits for ever")?;
         match self.line(actor, at) {
-            Some(step) => {
-                push(text, ", line ")?;
-                push_number(text, step.number)?;
-                push(text, ": ")?;
-                text.extend_from_slice(step.line)
-            }
-            None => Ok(()),
+            Some(step) => push_parts(
+                text,
+                &[
+                    Part::Word("waits for ever, line "),
+                    Part::Number(step.number),
+                    Part::Word(": "),
+                    Part::Bytes(step.line),
+                ],
+            ),
+            None => push(text, "waits for ever"),
         }
     }
 
