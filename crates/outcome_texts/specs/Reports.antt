@@ -1,6 +1,9 @@
 -- The report of all outcomes.
-use Rattle.std.specs.Prelude.{ℕ, ◌≡◌, Bool, if◌then◌else◌, List, [], ◌∷◌, ◌++◌, codes, length, vec_len}
+use Rattle.std.specs.Prelude.{ℕ, ◌≡◌, ◌+◌, ◌-◌, ◌^◌, min, Bool, if◌then◌else◌, List, [], ◌∷◌, ◌++◌, codes, length, vec_len}
+use Rattle.std.specs.List.{fold}
 use Rattle.actor_plays.specs.declared.found.Exploration.{Exploration}
+use Rattle.actor_plays.specs.declared.plan.Plan.{Plan}
+use Rattle.actor_plays.specs.Plans.{steps_of}
 use Rattle.outcome_texts.specs.declared.telling.Telling.{Telling}
 use Rattle.outcome_texts.specs.Plays.{counted, pieces}
 use Rattle.outcome_texts.specs.Vanishing.{how_text}
@@ -25,17 +28,24 @@ counts_with clients steps how found orders = pieces (counted clients (codes "cli
     ∷ codes ", " ∷ counted (vec_len found.outcomes) (codes "outcome") ∷ certificate_text found.certified
     ∷ codes "\n\n" ∷ [])
 
--- the same, and who vanishes
-abbrev pub counts_text : Telling → ℕ → Exploration → List ℕ → List ℕ
-counts_text telling steps found orders =
-    counts_with (length telling.labels.now) steps (how_text telling.labels.now telling.vanishing) found orders
+-- so many steps and those of one more plan, or the greatest number that is told
+abbrev pub more_steps : ℕ → Plan → ℕ
+more_steps steps plan = min (steps + length (steps_of plan)) (2 ^ 64 - 1)
 
--- the report came behind the text; no clause says how many steps and orders are told, and what the rows are
+-- how many steps the plans have
+abbrev pub all_steps : List Plan → ℕ
+all_steps plans = fold more_steps 0 plans
+
+-- the counts of a search through the plans that are told of, and who vanishes
+abbrev pub counts_text : Telling → Exploration → List ℕ → List ℕ
+counts_text telling found orders = counts_with (length telling.labels.now) (all_steps telling.plans.now)
+    (how_text telling.labels.now telling.vanishing) found orders
+
+-- the report came behind the text; no clause says how many orders are told, and what the rows are
 pub record AppendsReport (telling : Telling) (found : Exploration) (old new : List ℕ) : Type 0 where
-  pub steps : ℕ
   pub orders : List ℕ
   pub rows : List ℕ
-  pub appended : new ≡ old ++ counts_text telling steps found orders ++ rows
+  pub appended : new ≡ old ++ counts_text telling found orders ++ rows
 
 -- the text is such a report
 abbrev pub IsReport : Telling → Exploration → List ℕ → Type 0

@@ -1,5 +1,5 @@
 -- The text of a play as a script for all clients.
-use Rattle.std.specs.Prelude.{◌≡◌, ℕ, Bool, ◌&&◌, nat_le, nat_lt, if◌then◌else◌, List, [], ◌∷◌, ◌++◌, length, take, drop, vec_len, codes}
+use Rattle.std.specs.Prelude.{◌≡◌, ℕ, Bool, true, ◌&&◌, nat_le, nat_lt, if◌then◌else◌, List, [], ◌∷◌, ◌++◌, length, take, drop, vec_len, codes}
 use Rattle.std.specs.Fmt.{decimal}
 use Rattle.std.specs.List.{flat_map}
 use Rattle.std.specs.Option.{option_map_or}
@@ -7,7 +7,7 @@ use Rattle.actor_plays.specs.declared.found.Found.{Found}
 use Rattle.outcome_texts.specs.Calls.{calls_told}
 use Rattle.outcome_texts.specs.Leaves.{leave_text}
 use Rattle.outcome_texts.specs.Plays.{counted, joins_text, line_told, pieces, step_text}
-use Rattle.outcome_texts.specs.Vanishing.{can_vanish}
+use Rattle.outcome_texts.specs.Vanishing.{can_vanish, gone_text}
 use Rattle.outcome_texts.specs.declared.calls.PlayCall.{PlayCall}
 use Rattle.outcome_texts.specs.declared.lines.StepLine.{StepLine}
 use Rattle.outcome_texts.specs.declared.telling.Telling.{Telling}
@@ -50,9 +50,15 @@ abbrev pub play_text : Telling → Found → ℕ → ℕ → List ℕ → List �
 play_text telling found rank outcomes said = head_text telling found rank outcomes said ++ joins_text telling.labels.now
     ++ marked_text telling found (calls_told found) rank
 
--- the play came behind the text; no clause says which share of the runs its remark tells, or who vanishes by it
+-- who vanishes by the play, as its remark says it
+abbrev pub gone_words : Telling → Found → List ℕ
+gone_words telling found = gone_text telling.labels.now found.vanished.items ++ codes "; "
+
+-- the play came behind the text; its remark tells who vanishes by it, where somebody may at any point; no clause says which share of
+-- the runs it tells elsewhere
 pub record AppendsPlay (telling : Telling) (found : Found) (rank outcomes : ℕ) (old new : List ℕ) : Type 0 where
   pub said : List ℕ
+  pub who : can_vanish telling.vanishing ≡ true → said ≡ gone_words telling found
   pub appended : new ≡ old ++ play_text telling found rank outcomes said
 
 -- the text is such a play

@@ -1,7 +1,7 @@
 -- Who may vanish, in words.
 use Rattle.std.specs.Prelude.{ℕ, zero, suc, ◌==◌, ◌&&◌, Bool, false, not, if◌then◌else◌, List, [], ◌∷◌, ◌++◌, codes, length, slice_get}
 use Rattle.std.specs.Fmt.{decimal}
-use Rattle.std.specs.List.{list_any}
+use Rattle.std.specs.List.{flat_map, list_any}
 use Rattle.std.specs.Option.{option_map_or}
 use Rattle.script_lines.specs.declared.label.Label.{Label}
 use Rattle.script_lines.specs.Labels.{label_text}
@@ -53,3 +53,18 @@ abbrev pub how_text : List Label → Vanishing → List ℕ
 how_text labels vanishing = if can_vanish vanishing
     then most_text vanishing.most (of_text labels vanishing.who.now) ++ end_text vanishing.at_end
     else none_text vanishing.at_end
+
+-- the client of this place, behind another one
+abbrev pub also_text : List Label → ℕ → List ℕ
+also_text labels actor = codes " and " ++ label_text (slice_get labels actor)
+
+-- what stands behind those who vanished: the first one, and these
+abbrev pub gone_end : List ℕ → List ℕ
+gone_end [] = codes " vanishes"
+gone_end (_ ∷ _) = codes " vanish"
+
+-- who vanished: the clients of these places
+abbrev pub gone_text : List Label → List ℕ → List ℕ
+gone_text labels [] = codes "none vanishes"
+gone_text labels (first ∷ others) =
+    label_text (slice_get labels first) ++ flat_map (also_text labels) others ++ gone_end others

@@ -1,6 +1,6 @@
 //! The report of all outcomes.
 ghost use Rattle.std.specs.Prelude.{◌≡◌, ◌++◌, OnOk};
-ghost use Rattle.outcome_texts.specs.Reports.{AppendsReport, certificate_text, counts_text, counts_with, extent_text, orders_text};
+ghost use Rattle.outcome_texts.specs.Reports.{AppendsReport, all_steps, certificate_text, counts_text, counts_with, extent_text, orders_text};
 ghost use Rattle.outcome_texts.specs.Vanishing.{how_text};
 
 use crate::numbers::push_great;
@@ -272,7 +272,9 @@ fn push_all(all: &Outcomes<'_>, rows: &mut Vec<ReportRow>) -> Result<(), AllocEr
 }
 
 // How many steps the plans have.
-fn steps_in(plans: &[Plan]) -> usize {
+fn steps_in(plans: &[Plan]) -> usize
+    ensures { result ≡ all_steps plans.now }
+{
     let mut steps: usize = 0;
     for plan in plans {
         steps = steps.saturating_add(plan.steps.len());
@@ -455,9 +457,10 @@ fn push_told<'a>(
     found: &Exploration,
     rows: &[u8],
 ) -> Result<(), AllocError>
-    requires { head.how.now ≡ how_text telling.now.labels.now telling.now.vanishing }
+    requires how { head.how.now ≡ how_text telling.now.labels.now telling.now.vanishing }
+    requires steps { head.steps ≡ all_steps telling.now.plans.now }
     ensures { OnOk result (text.new.items ≡ text.old.items
-        ++ counts_text telling.now head.entry.steps found.now head.entry.orders.now ++ rows.now) }
+        ++ counts_text telling.now found.now head.entry.orders.now ++ rows.now) }
 {
     push_counts(text, telling.labels.len(), head, found)?;
     text.extend_from_slice(rows)
@@ -465,8 +468,8 @@ fn push_told<'a>(
 
 /// Appends the report: how many clients, steps, orders, states and outcomes there are, who may vanish, and what became of
 /// each node, client and tracker, and of the pages, in which outcomes; if somebody may vanish at any point, apart for
-/// those in which the same clients vanished, and without shares of the runs. No clause says how many steps and orders are
-/// told, and what the rows are.
+/// those in which the same clients vanished, and without shares of the runs. No clause says how many orders are told,
+/// and what the rows are.
 ///
 /// `AllocError` where memory is refused. Costs O(n^2) for n outcomes, for each node, client and tracker.
 pub fn push_report(

@@ -1,9 +1,10 @@
 //! A play as a script for all clients.
-ghost use Rattle.std.specs.Prelude.{◌≡◌, ◌++◌, [], OnOk};
+ghost use Rattle.std.specs.Prelude.{◌≡◌, ◌++◌, [], true, IfOk, OnOk};
 ghost use Rattle.std.specs.Option.{option_map_or};
 ghost use Rattle.outcome_texts.specs.declared.lines.StepLine.{StepLine as StepTold};
 ghost use Rattle.outcome_texts.specs.Plays.{joins_text, line_told, step_text};
-ghost use Rattle.outcome_texts.specs.Scripts.{AppendsPlay, call_text, calls_text, head_text, mark_text, marked_text, play_text, runs_end as runs_told};
+ghost use Rattle.outcome_texts.specs.Vanishing.{can_vanish as can_told};
+ghost use Rattle.outcome_texts.specs.Scripts.{AppendsPlay, call_text, calls_text, gone_words, head_text, mark_text, marked_text, play_text, runs_end as runs_told};
 
 use crate::calls::{PlayCall, calls_of};
 use crate::labels::LabelNames;
@@ -172,13 +173,23 @@ fn push_lines(
     push_marked(text, telling, found, calls, rank)
 }
 
+// Who vanishes by the play of the outcome.
+fn who_words(alloc: Global, telling: &Telling<'_>, found: &Found) -> Result<Vec<u8>, AllocError>
+    ensures { IfOk result (λ words. words.items ≡ gone_words telling.now found.now) }
+{
+    let mut words = Vec::new(alloc);
+    push_gone(&mut words, telling.labels, found)?;
+    push(&mut words, "; ")?;
+    Ok(words)
+}
+
 // What is said of the runs that come to the outcome: how many of 100 they are, or who vanishes.
-fn runs_words(alloc: Global, telling: &Telling<'_>, found: &Found) -> Result<Vec<u8>, AllocError> {
+fn runs_words(alloc: Global, telling: &Telling<'_>, found: &Found) -> Result<Vec<u8>, AllocError>
+    ensures { can_told telling.now.vanishing ≡ true →
+        IfOk result (λ words. words.items ≡ gone_words telling.now found.now) }
+{
     if can_vanish(telling.vanishing) {
-        let mut words = Vec::new(alloc);
-        push_gone(&mut words, telling.labels, found)?;
-        push(&mut words, "; ")?;
-        Ok(words)
+        who_words(alloc, telling, found)
     } else {
         share_words(alloc, found.figures.share)
     }
@@ -188,7 +199,7 @@ fn runs_words(alloc: Global, telling: &Telling<'_>, found: &Found) -> Result<Vec
 /// the joins, and a line for each call in the order of the turns, with a remark behind the one after which no other
 /// outcome is possible. A call by which a client leaves is a `shut`, a `collect`, a `close` or a `droph`: a node is called
 /// as its maker calls it, a buffer by the root of its collection, and what is collected by a label that no client uses. No
-/// clause says which share of runs the first remark tells, or who vanishes by it.
+/// clause says which share of runs the first remark tells where nobody may vanish at any point.
 ///
 /// `AllocError` where memory is refused. Costs O(n^2) for n calls.
 pub fn push_play(

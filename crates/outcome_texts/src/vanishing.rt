@@ -1,8 +1,8 @@
 //! Who may vanish, and who did, in words.
-ghost use Rattle.std.specs.Prelude.{◌≡◌, ◌++◌, Bool, IfOk, OnOk, length};
-ghost use Rattle.std.specs.List.{list_any};
+ghost use Rattle.std.specs.Prelude.{◌≡◌, ◌∷◌, ◌++◌, Bool, IfOk, OnOk, length};
+ghost use Rattle.std.specs.List.{flat_map, list_any};
 ghost use Rattle.outcome_texts.specs.Facts.{count_below};
-ghost use Rattle.outcome_texts.specs.Vanishing.{all_may as all_told, can_vanish as can_told, end_text, how_text, may_vanish as may_told, most_text, none_text, of_text, one_text, whom_below};
+ghost use Rattle.outcome_texts.specs.Vanishing.{all_may as all_told, also_text, can_vanish as can_told, end_text, gone_end, gone_text, how_text, may_vanish as may_told, most_text, none_text, of_text, one_text, whom_below};
 
 use actor_plays::{Found, Vanishing};
 use script_lines::{Label, Part, push, push_label, push_parts};
@@ -165,28 +165,62 @@ pub(crate) fn is_alike(one: &Found, other: &Found) -> bool {
     one.vanished.as_slice() == other.vanished.as_slice()
 }
 
+// What stands behind those who vanished: the first one, and these.
+fn end_of_gone(others: &[usize]) -> &'static str
+    ensures { result.now ≡ gone_end others.now }
+{
+    if others.is_empty() {
+        " vanishes"
+    } else {
+        " vanish"
+    }
+}
+
+// Appends the client of this place, behind another one.
+fn push_also(text: &mut Vec<u8>, labels: &[Label], actor: usize) -> Result<(), AllocError>
+    ensures { OnOk result (text.new.items ≡ text.old.items ++ also_text labels.now actor) }
+{
+    push(text, " and ")?;
+    push_label(text, labels.get(actor).copied())
+}
+
+// Appends the clients of these places, each behind another one.
+fn push_others(text: &mut Vec<u8>, labels: &[Label], others: &[usize]) -> Result<(), AllocError>
+    ensures { OnOk result
+        (text.new.items ≡ text.old.items ++ flat_map (also_text labels.now) others.now) }
+{
+    for actor in others {
+        push_also(text, labels, *actor)?;
+    }
+    Ok(())
+}
+
+// Appends that the clients of these places vanished, the first one and the others.
+fn push_all_gone(
+    text: &mut Vec<u8>,
+    labels: &[Label],
+    first: usize,
+    others: &[usize],
+) -> Result<(), AllocError>
+    ensures { OnOk result
+        (text.new.items ≡ text.old.items ++ gone_text labels.now (first ∷ others.now)) }
+{
+    push_label(text, labels.get(first).copied())?;
+    push_others(text, labels, others)?;
+    push(text, end_of_gone(others))
+}
+
 // Appends who vanished in the outcome.
 pub(crate) fn push_gone(
     text: &mut Vec<u8>,
     labels: &[Label],
     found: &Found,
-) -> Result<(), AllocError> {
-    let places = found.vanished.as_slice();
-    if places.is_empty() {
-        return push(text, "none vanishes");
+) -> Result<(), AllocError>
+    ensures { OnOk result (text.new.items
+        ≡ text.old.items ++ gone_text labels.now found.now.vanished.items) }
+{
+    match found.vanished.as_slice().split_first() {
+        Some((first, others)) => push_all_gone(text, labels, *first, others),
+        None => push(text, "none vanishes"),
     }
-    for at in 0..places.len() {
-        if 0 < at {
-            push(text, " and ")?;
-        }
-        push_label(text, labels.get(places[at]).copied())?;
-    }
-    push(
-        text,
-        if places.len() == 1 {
-            " vanishes"
-        } else {
-            " vanish"
-        },
-    )
 }

@@ -18,6 +18,7 @@ returns c =
     on_ok_weaker c.push_lines.result
     (λ is. record {
       said = said;
+      who = λ may. c.deref.ensures.value ∙ c.in_ok-said.ensures may;
       appended = is
           ∙ ap (λ (front : List ℕ). front ++ joins ++ marked c.deref-2.result.now) c.in_ok-push_head.ensures
           ∙ ap (λ (calls : List PlayCall). c.args.text.now.items ++ head ++ joins ++ marked calls)
