@@ -12,8 +12,8 @@ use script_lines::{LabelHash, Part, push_parts};
 use sm_names::{Cause, Failure, Fault, Fired, NodeKey, Reply, TrackerId};
 use std::alloc::{AllocError, Global};
 
-// So many turns are made of a script at most, those of all plays together.
-const MOST_TURNS: usize = 100_000;
+// So many plays are made of a script at most, and so many turns of each.
+const MOST: usize = 100_000;
 
 /// How a script is played: which lines wait, whether each actor leaves at its end, how many leave at any point, and whether
 /// the search has to certify that no outcome is missing.
@@ -110,12 +110,39 @@ fn played(table: &Table<'_>, turns: &[Turn]) -> Option<Play>
     Some(play)
 }
 
-// Whether one more turn is made after these.
+// Makes one more turn of a play in which each actor has passed what it can; then each has again. Whether the turn is made.
+fn goes_on(play: &mut Play, table: &Table<'_>, turn: Turn) -> bool
+    requires { IsPlay table.now.plans.now play.old }
+    ensures { result ≡ true → IsPlay table.now.plans.now play.new }
+{
+    if !makes_turn(play, table, turn) {
+        return false;
+    }
+    play.pass_all(table.plans);
+    true
+}
+
+// Whether the turn is made in another play, with these turns before it.
 fn has_turn(table: &Table<'_>, turns: &[Turn], turn: Turn) -> bool {
     match played(table, turns) {
         Some(mut play) => makes_turn(&mut play, table, turn),
         None => false,
     }
+}
+
+// Whether the actor of this place can make a step after these turns, which led to the play. A step that waits is tried in
+// another play, since it leaves an event also where it is no turn.
+fn has_step(table: &Table<'_>, turns: &[Turn], play: &Play, place: usize) -> bool {
+    match play.next_call(table.plans, place) {
+        Some((_, true)) => has_turn(table, turns, Turn::Step(place)),
+        Some((_, false)) => true,
+        None => false,
+    }
+}
+
+// Whether the actor can leave, or go on to.
+fn has_leave(table: &Table<'_>, actor: &Actor) -> bool {
+    matches!(actor.leave_call(table.alloc), Ok(Some(_)))
 }
 
 // Whether the actor of this place has all its steps behind it.
@@ -160,41 +187,74 @@ fn with_turn(alloc: Global, turns: &[Turn], turn: Turn) -> Result<Vec<Turn>, All
     Ok(longer)
 }
 
-// Adds the turns with each turn of the actor behind them, where so many left early. Whether one of these has to be made.
-fn go_on_by(
+// Adds each turn that the actor of this place can make after these, which led to the play, where so many left early. Whether
+// one of these has to be made.
+fn push_next_of(
     table: &Table<'_>,
-    rest: &mut Vec<Vec<Turn>>,
+    next: &mut Vec<Turn>,
     turns: &[Turn],
-    (place, actor): (usize, &Actor),
+    play: &Play,
+    place: usize,
     early: usize,
 ) -> Result<bool, AllocError> {
-    let mut goes_on = false;
-    if has_turn(table, turns, Turn::Step(place)) {
-        rest.push(with_turn(table.alloc, turns, Turn::Step(place))?)?;
-        goes_on = true;
+    let Some(actor) = play.actor(place) else {
+        return Ok(false);
+    };
+    let mut is_open = false;
+    if has_step(table, turns, play, place) {
+        next.push(Turn::Step(place))?;
+        is_open = true;
     }
     let must = must_leave(table, place, actor);
-    if (must || may_leave(table, place, early)) && has_turn(table, turns, Turn::Leave(place)) {
-        rest.push(with_turn(table.alloc, turns, Turn::Leave(place))?)?;
-        goes_on = goes_on || must;
+    if (must || may_leave(table, place, early)) && has_leave(table, actor) {
+        next.push(Turn::Leave(place))?;
+        is_open = is_open || must;
     }
-    Ok(goes_on)
+    Ok(is_open)
 }
 
 // The same of all actors.
-fn go_on(
+fn push_next(
+    table: &Table<'_>,
+    next: &mut Vec<Turn>,
+    turns: &[Turn],
+    play: &Play,
+) -> Result<bool, AllocError> {
+    let early = count_early(table, play.actors());
+    let mut is_open = false;
+    for place in 0..play.actors().len() {
+        let one = push_next_of(table, next, turns, play, place, early)?;
+        is_open = is_open || one;
+    }
+    Ok(is_open)
+}
+
+// Adds these turns with each of the next ones behind them.
+fn push_rest(
     table: &Table<'_>,
     rest: &mut Vec<Vec<Turn>>,
     turns: &[Turn],
-    actors: &[Actor],
-) -> Result<bool, AllocError> {
-    let early = count_early(table, actors);
-    let mut goes_on = false;
-    for place in 0..actors.len() {
-        let one = go_on_by(table, rest, turns, (place, &actors[place]), early)?;
-        goes_on = goes_on || one;
+    next: &[Turn],
+) -> Result<(), AllocError> {
+    for turn in next {
+        rest.push(with_turn(table.alloc, turns, *turn)?)?;
     }
-    Ok(goes_on)
+    Ok(())
+}
+
+// The turn by which the play with these turns goes on, `None` where it is at its end; adds to the rest those that go on by
+// another.
+fn next_turn(
+    table: &Table<'_>,
+    rest: &mut Vec<Vec<Turn>>,
+    turns: &[Turn],
+    play: &Play,
+) -> Result<Option<Turn>, AllocError> {
+    let mut next = Vec::new(table.alloc);
+    let is_open = push_next(table, &mut next, turns, play)?;
+    let one = if is_open { next.pop() } else { None };
+    push_rest(table, rest, turns, &next)?;
+    Ok(one)
 }
 
 // Adds a number.
@@ -330,35 +390,42 @@ impl Plays {
         Ok(())
     }
 
-    // Makes these turns, and adds to the rest those that go on from there; counts the play if it is at its end. Whether
-    // the turns can be made.
+    // Makes these turns and then others, to the end of the play, and counts it; adds to the rest the turns at which other
+    // plays part from it. Whether the play comes to its end.
     fn go_through(
         &mut self,
         table: &Table<'_>,
         rest: &mut Vec<Vec<Turn>>,
-        turns: &[Turn],
+        turns: &mut Vec<Turn>,
     ) -> Result<bool, AllocError> {
-        let Some(play) = played(table, turns) else {
+        let Some(mut play) = played(table, turns) else {
             return Ok(false);
         };
-        if !go_on(table, rest, turns, play.actors())? {
-            self.add(table, &play)?;
+        'turns: for _ in 0..MOST {
+            let Some(turn) = next_turn(table, rest, turns, &play)? else {
+                self.add(table, &play)?;
+                return Ok(true);
+            };
+            if !goes_on(&mut play, table, turn) {
+                return Ok(false);
+            }
+            turns.push(turn)?;
         }
-        Ok(true)
+        Ok(false)
     }
 
-    // Adds all plays that begin with the turns of the rest. Whether these are all: there are not too many turns, and each
-    // can be made again.
+    // Adds all plays that begin with the turns of the rest. Whether these are all: there are not too many, and each comes to
+    // its end.
     fn go_through_all(
         &mut self,
         table: &Table<'_>,
         rest: &mut Vec<Vec<Turn>>,
     ) -> Result<bool, AllocError> {
-        for _ in 0..MOST_TURNS {
-            let Some(turns) = rest.pop() else {
+        for _ in 0..MOST {
+            let Some(mut turns) = rest.pop() else {
                 return Ok(true);
             };
-            if !self.go_through(table, rest, &turns)? {
+            if !self.go_through(table, rest, &mut turns)? {
                 return Ok(false);
             }
         }
@@ -473,7 +540,7 @@ fn push_told(
     if plays.add_all(table)? {
         push_plays_told(out, table, &plays, found, certifies)
     } else {
-        out.extend_from_slice(b"! too many turns\n")
+        out.extend_from_slice(b"! not all plays\n")
     }
 }
 
@@ -520,7 +587,8 @@ fn push_plays(
 /// Adds how many plays the script has, and how many outcomes these come to, and whether a search finds others, or does not
 /// certify where it has to.
 ///
-/// Costs O(n²) for each play of n turns, and O(m) comparisons of outcomes for each, where there are m.
+/// Costs O(n) turns, and O(n²) copied ones, for each play of n turns, O(n) turns more for each try of a line that waits, and
+/// O(m) comparisons of outcomes for each play, where there are m.
 pub fn push_plain(
     out: &mut Vec<u8>,
     alloc: Global,
