@@ -192,7 +192,8 @@ impl ReportRows {
     ) -> Result<(), AllocError> {
         let mut names = Vec::new(all.alloc);
         all.telling.push_name(&mut names, subject)?;
-        self.rows.push(ReportRow { names, occurrences })
+        self.rows.push(ReportRow { names, occurrences })?;
+        Ok(())
     }
 
     // Adds the subject's name to the row at this place.
