@@ -3,7 +3,7 @@ use mir.Raw.{raw}
 use base.Shift.{Keyless}
 use denote.Memory.{lone}
 use denote.RawPtr.{Ptr}
-use denote.Struct.Struct.{vanishes_of}
+use denote.Struct.Struct.{exits_of}
 use denote.Struct.Owning.{shape, fields, to}
 use denote.Param.Send.{IsSend, AllSend, owning_send, struct_send, sendable}
 use Rattle.std.specs.Prelude.{Option, Some, None}
@@ -27,4 +27,4 @@ pub send : IsSend the_row
 send =
     let all : AllSend (fields the_type) = (search sendable, (handle.the_field_send, tt)) in
     owning_send the_type all (λ d. keeps_keyless d.alloc d.at d.core)
-    (λ k. quiet (to the_type) (vanishes_of k (fields the_type)) ((struct_send (shape the_type) all).leaving k))
+    (λ k. quiet (to the_type) (exits_of k (fields the_type)) ((struct_send (shape the_type) all).leaving k))
