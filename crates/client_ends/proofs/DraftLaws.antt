@@ -20,7 +20,7 @@ calls_push key ds d = map-append (drafted_call key) ds (d ∷ [])
 -- some, and then one more
 pub went_on : (old mid new : Seen) (calls : List Call) (call : Call) (before after : List Reply) (ends further : List Tag) →
     DraftSynced old mid calls before ends → DraftSyncedNext mid new call before after ends further →
-        DraftSynced old new (calls ++ call ∷ []) after further
+    DraftSynced old new (calls ++ call ∷ []) after further
 went_on old mid new calls call before after ends further synced on =
     let f : ℕ → Reply → List Tag = token_told in
     let id : mid.id ≡ old.id = synced.made.id in
@@ -39,7 +39,7 @@ went_on old mid new calls call before after ends further synced on =
 pub far_on : (old mid new : Seen) (key : NodeKey) (all : List Call) (drafted left : List Drafted) (before after : List Reply)
     (ends further : List Tag) →
     DraftSyncedPart old mid all (drafted_calls key drafted) before ends →
-        DraftSyncedFirst mid new key drafted left before after ends further →
+    DraftSyncedFirst mid new key drafted left before after ends further →
     DraftSyncedPart old new all (drafted_calls key left) after further
 far_on old mid new key all drafted left before after ends further far on = record {
   calls = far.calls ++ drafted_call key on.first ∷ [];

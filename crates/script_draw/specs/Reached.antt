@@ -108,7 +108,7 @@ pub record PlayUnended (setting : Setting) (until : Until) (scroll : Scroll) (sc
 abbrev pub PlayLinesHalt : Setting → Until → Scroll → List ℕ → ReportFault → Type 0
 PlayLinesHalt setting until scroll script (ReportFault.BadLine n reason) =
     PlayHalts setting until scroll (whole_lines script) (ReportFault.BadLine n reason) ⊎ PlayUnended setting until scroll script n
-        reason.items
+    reason.items
 PlayLinesHalt setting until scroll script fault = PlayHalts setting until scroll (whole_lines script) fault
 
 -- what is asked for was reached; or it was not, and these are all lines

@@ -55,5 +55,5 @@ pub data ExplainsLines (pool : ℕ) (only : Bool) (first : Scene) : List (List �
       Tells pool scene next (length lines + 1) line answers.act kept later facts →
       ExplainsLines pool only first (lines ++ line ∷ [])
       (text ++ if_told (is_told only pool scene next) (told_line line reply (numbered_facts (length next.history) (length lines + 1)
-          facts)))
+      facts)))
       (replies ++ reply) next later
