@@ -1,5 +1,5 @@
 //! Who may vanish, and who did, in words.
-ghost use Rattle.std.specs.Prelude.{◌≡◌, ◌∷◌, ◌++◌, Bool, IfOk, OnOk, length};
+ghost use Rattle.std.specs.Prelude.{◌≡◌, ◌∷◌, ◌++◌, Bool, IfOk, OnOk, length, slice_get};
 ghost use Rattle.std.specs.List.{flat_map, list_any};
 ghost use Rattle.outcome_texts.specs.Facts.{count_below};
 ghost use Rattle.outcome_texts.specs.Vanishing.{all_may as all_told, also_text, can_vanish as can_told, end_text, gone_end, gone_text, how_text, may_vanish as may_told, most_text, none_text, of_text, one_text, whom_below};
@@ -176,12 +176,19 @@ fn end_of_gone(others: &[usize]) -> &'static str
     }
 }
 
+// The label of the client of this place.
+fn label_at(labels: &[Label], actor: usize) -> Option<Label>
+    ensures { result ≡ slice_get labels.now actor }
+{
+    labels.get(actor).copied()
+}
+
 // Appends the client of this place, behind another one.
 fn push_also(text: &mut Vec<u8>, labels: &[Label], actor: usize) -> Result<(), AllocError>
     ensures { OnOk result (text.new.items ≡ text.old.items ++ also_text labels.now actor) }
 {
     push(text, " and ")?;
-    push_label(text, labels.get(actor).copied())
+    push_label(text, label_at(labels, actor))
 }
 
 // Appends the clients of these places, each behind another one.
@@ -205,7 +212,7 @@ fn push_all_gone(
     ensures { OnOk result
         (text.new.items ≡ text.old.items ++ gone_text labels.now (first ∷ others.now)) }
 {
-    push_label(text, labels.get(first).copied())?;
+    push_label(text, label_at(labels, first))?;
     push_others(text, labels, others)?;
     push(text, end_of_gone(others))
 }
