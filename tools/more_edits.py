@@ -1,11 +1,12 @@
 #!/usr/bin/env python3
 """Tries the wrong edits that the gate leaves out, crates/NAME/more-edits/*.edit: the prover must refuse each.
 
-  tools/more_edits.py [-j LANES] [NAME | NAME/EDIT.edit ..]
+  tools/more_edits.py [-j LANES] [--built] [NAME | NAME/EDIT.edit ..]
 
 With no NAME it tries those of every crate; NAME/EDIT.edit is one edit, of more-edits/ or of must-fail/. LANES (2) copies
 of the repository take a crate each, in the order of the NAMEs. A crate is proved first, unless out/ has its library,
-built of the same sources. The last line counts; the status is 1 if an edit is not refused.
+built of the same sources. With --built out/ has the libraries that `rt ci` left, and over these only the functions with
+edits are proved first. The last line counts; the status is 1 if an edit is not refused.
 
 One check makes many edits at once, at most one of each function, and proves those functions and what they call, no
 others. No other function's proof sees the body of a function, so an edit is refused if a goal or an answer of its own
@@ -24,6 +25,7 @@ import os
 import pathlib
 import re
 import shutil
+import signal
 import subprocess
 import sys
 import tempfile
@@ -125,16 +127,53 @@ class Answer:
         return found
 
 
+def uses_of(name):
+    """The libraries that this crate uses, and those below them, by crates.txt."""
+    uses = dict(re.findall(r"^(\w+)[^:#\n]*:(.*)$", (ROOT / "crates.txt").read_text(encoding="utf-8"), re.M))
+    found, left = ["std", "core"], [name]
+    while left:
+        new = [it for it in uses.get(left.pop(), "").split() if it not in found]
+        found += new
+        left += new
+    return found
+
+
+def kit_of():
+    """The folder of the toolchain."""
+    return pathlib.Path(os.path.realpath(shutil.which("rt") or sys.exit("there is no command rt"))).parent.parent
+
+
+def library(name):
+    """The library of this name, of the repository or of the toolchain."""
+    return CRATES / name / f"out/rlib/{name}.rlib" if (CRATES / name).is_dir() else kit_of() / f"rlibs/{name}.rlib"
+
+
 class Crate:
     """A crate in the copy of a lane, with its edits."""
 
-    def __init__(self, lane, name, edits):
+    def __init__(self, lane, name, edits, is_built=False):
         self.name, self.edits, self.folder = name, edits, lane / "crates" / name
-        self.checks = 0
+        self.checks, self.is_built = 0, is_built
+        self.top = "src/main.rt" if (CRATES / name / "src/main.rt").is_file() else "src/lib.rt"
+
+    def over_libraries(self):
+        """The command of a check over the libraries as they are."""
+        kit = kit_of()
+        words = [kit / "bin/rattle", "check", "--crate-name", self.name, self.top, "-L", f"dependency={kit}/rlibs"]
+        for name in uses_of(self.name):
+            words += ["--extern", f"{name}={library(name)}"]
+        words += ["--antt-project", kit / "rattle/logic/antt-project.json", "--logic-built", kit / "logic_built"]
+        (self.folder / "out/checked").mkdir(parents=True, exist_ok=True)
+        return [*words, "--incremental", "out/checked"]
 
     def rt(self, *words):
-        ran = subprocess.run([RT, *words], cwd=self.folder, stdin=subprocess.DEVNULL,
-                             stdout=subprocess.PIPE, stderr=subprocess.STDOUT, text=True, errors="replace")
+        command = [*self.over_libraries(), *words[1:]] if self.is_built else [RT, *words]
+        for _ in range(2):
+            ran = subprocess.run(command, cwd=self.folder, stdin=subprocess.DEVNULL,
+                                 stdout=subprocess.PIPE, stderr=subprocess.STDOUT, text=True, errors="replace")
+            # Most likely there was too little memory.
+            if ran.returncode != -signal.SIGKILL:
+                break
         if SAID:
             self.checks += 1
             pathlib.Path(SAID, f"{self.name}-{self.checks}").write_text(" ".join(words) + "\n" + ran.stdout, encoding="utf-8")
@@ -157,8 +196,15 @@ class Crate:
         return self.with_texts(texts, lambda: self.rt("check", "--jobs", "1", *only))
 
     def unproved(self):
-        """Proves the crate, unless its library is there; gives what was said if it is not proved."""
-        status, said = self.rt("lib" if (self.folder / "out/rlib").is_dir() else "check", "--jobs", "2")
+        """Proves the crate, unless its library is there, or the functions with edits over what `rt ci` left; gives what was said
+        if they are not proved."""
+        if self.is_built:
+            lacks = [it for it in uses_of(self.name) if not library(it).is_dir()]
+            if lacks:
+                return f"there is no library {library(lacks[0])}"
+            status, said = self.check({}, set().union(*(self.functions_of(it)[0] for it in self.edits)))
+        else:
+            status, said = self.rt("lib" if (self.folder / "out/rlib").is_dir() else "check", "--jobs", "2")
         return " ".join(said.splitlines()[-3:])[:300] + f" (status {status})" if status else ""
 
     def functions_of(self, edit):
@@ -274,32 +320,38 @@ def write(file, text):
 
 
 def main(words):
-    lanes = 2
-    if words[:1] == ["-j"]:
-        lanes, words = int(words[1]), words[2:]
+    lanes, is_built = 2, False
+    while words[:1] and words[0].startswith("-"):
+        if words[0] == "-j" and words[1:] and words[1].isdigit():
+            lanes, words = int(words[1]), words[1:]
+        elif words[0] == "--built":
+            is_built = True
+        else:
+            sys.exit(f"more_edits.py: {words[0]} is not known; --help tells what it takes")
+        words = words[1:]
     edits = {}
     for what in words or sorted(it.parent.name for it in CRATES.glob("*/more-edits")):
         for edit in named(what):
             if "/" in what or edit.parent.name == "more-edits":
                 edits.setdefault(edit.parent.parent.name, []).append(edit)
     left = list(edits) if words else sorted(edits, key=lambda it: -len(edits[it]))
-    counts, lock = {"refused": 0, "not": 0}, threading.Lock()
+    passed, failed, lock = [], [], threading.Lock()
 
     def say(name, edit, text):
         with lock:
-            counts["refused" if text.startswith("refused") else "not"] += 1
+            (passed if text.startswith("refused") else failed).append(edit)
             print(f"{name}/{edit.name}: {text}", flush=True)
 
     def work(lane):
         shutil.copytree(ROOT, lane, symlinks=True, ignore=shutil.ignore_patterns(".git", "out"))
-        for folder in CRATES.glob("*/out"):
+        for folder in () if is_built else CRATES.glob("*/out"):
             subprocess.run(["cp", "-al", str(folder), str(lane / "crates" / folder.parent.name)], check=True)
         while True:
             with lock:
                 if not left:
                     return
                 name = left.pop(0)
-            Crate(lane, name, edits[name]).run(say)
+            Crate(lane, name, edits[name], is_built).run(say)
 
     with tempfile.TemporaryDirectory(prefix="more-edits-", dir=os.environ.get("EDITS_ROOM")) as room:
         threads = [threading.Thread(target=work, args=(pathlib.Path(room) / str(it),)) for it in range(lanes)]
@@ -307,8 +359,12 @@ def main(words):
             it.start()
         for it in threads:
             it.join()
-    print(f"{counts['refused']} passed, {counts['not']} failed")
-    return 1 if counts["not"] else 0
+    for name, its in edits.items():
+        for edit in its:
+            if edit not in passed + failed:
+                say(name, edit, "NOT TRIED")
+    print(f"{len(passed)} passed, {len(failed)} failed")
+    return 1 if failed else 0
 
 
 if __name__ == "__main__":
