@@ -1,3 +1,4 @@
+pub mod ComingLaws
 pub mod MarkLaws
 pub mod MoveLaws
 pub mod SoundLaws

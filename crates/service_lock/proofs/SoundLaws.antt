@@ -16,6 +16,7 @@ use Rattle.service_lock.specs.declared.moves.HandleMoves.{HandleMoves}
 use Rattle.service_lock.specs.Counting.{moves_by}
 use Rattle.service_lock.specs.States.{CountsHandles, StateInvariant}
 use Rattle.service_lock.specs.Units.{BookSums, Written}
+use Rattle.service_lock.proofs.ComingLaws.{came_first}
 use Rattle.service_lock.proofs.MarkLaws.{dropped_push, got_push, opened_push, sent_push}
 use Rattle.service_lock.proofs.MoveLaws.{got_or_sent, opened_le}
 
@@ -39,6 +40,7 @@ begins pages asked core limits history events strong weak none shows paged as_as
     let start : StateInvariant pages asked core limits [] events strong weak = record {
       asked = (paged, as_asked);
       shown = shows;
+      came = came_first core shows;
       limited = limited;
       counted = no_event;
       cut = (strong_cut, weak_cut);

@@ -12,6 +12,7 @@ use Rattle.event_laws.specs.HandleSums.{all_moving, all_open}
 use Rattle.core_state.specs.Shown.{Shows}
 use Rattle.core_state.specs.State.{State}
 use Rattle.core_state.specs.Theorem.{tracker_told}
+use Rattle.service_lock.specs.Comings.{CameBy}
 use Rattle.service_lock.specs.Units.{BookSums}
 
 -- a pool of this many pages, the limits, the record, the trackers that are still to be taken, and how many units can be handed out
@@ -42,12 +43,13 @@ pub record CountsHandles (marks : Timeline) (strength : Strength) (sums : BookSu
   pub standing : sums.total ≡ all_open marks strength
   pub carried : sums.carried ≡ all_moving marks strength
 
--- what lies under the lock fits together: it is what was asked for, the core shows the record, the books count its events and
--- its handles, and each can hand out as many shares
+-- what lies under the lock fits together: it is what was asked for, the core shows the record and came by its events, the books count
+-- its events and its handles, and each can hand out as many shares
 pub record StateInvariant (asked_pages : ℕ) (asked_limits : Bound) (core : State) (limits : Bound) (history : List Entry)
     (events_book strong_book weak_book : BookSums) : Type 0 where
   pub asked : IsSetUpWith asked_pages asked_limits core.pool limits
   pub shown : Shows core history
+  pub came : CameBy history core
   pub limited : core.limits ≡ limits
   pub counted : events_book.total ≡ length history
   pub cut : (strong_book.left ≡ events_book.left) × (weak_book.left ≡ events_book.left)

@@ -7,6 +7,7 @@ ghost use Rattle.trackers.specs.Table.{firing_of, is_untaken, without_id};
 ghost use Rattle.core_state.specs.Shown.{Shows};
 ghost use Rattle.sm_names.specs.declared.keys.Strength.{Strength};
 ghost use Rattle.event_laws.specs.HandleSums.{all_open};
+ghost use Rattle.service_lock.specs.Comings.{SomeCoreCame};
 ghost use Rattle.service_lock.specs.States.{IsSetUpWith, with_parts};
 ghost use Rattle.service_lock.specs.Units.{AreFor};
 
@@ -152,10 +153,12 @@ pub fn take_back<E: Setup, S: Ledger, W: Ledger>(state: &mut State<E, S, W>, uni
 }
 
 /// The record: each event's client, call and reply, in order. It is a legal history at all times, with
-/// the pool and the limits that the service was asked for. Takes no memory. Costs O(1).
+/// the pool and the limits that the service was asked for, and its events led a core from no event to another core.
+/// Takes no memory. Costs O(1).
 pub fn entries<E: Setup, S: Ledger, W: Ledger>(state: &State<E, S, W>) -> &[(ClientId, Call, Reply)]
     ensures value { result.now ≡ state.now.history }
     ensures legal { IsLegal state.now.pool state.now.limits state.now.history }
+    ensures came { SomeCoreCame state.now.pool state.now.limits state.now.history }
     ensures asked { IsSetUpWith E.pages E.limits state.now.pool state.now.limits }
 {
     state.log.as_slice()
@@ -197,6 +200,7 @@ pub fn is_full<E: Setup, S: Ledger, W: Ledger>(state: &State<E, S, W>) -> bool
 /// Takes the reader of the tracker with this id: `Some` once for each tracker that a reply named,
 /// otherwise `None`. The reader knows the firing if there was one, and sees a later one without the lock.
 /// Takes no memory. Costs O(log t), where t is the number of trackers ever made.
+#[tactic(auto, using(crate::proofs::ComingLaws::came_taken))]
 pub fn take_tracker<E: Setup, S: Ledger, W: Ledger>(
     state: &mut State<E, S, W>,
     id: TrackerId,

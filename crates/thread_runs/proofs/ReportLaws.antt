@@ -1,5 +1,7 @@
 -- What was gathered of actors that all vanished is what is told of them.
-use Rattle.std.proofs.Common.{◌≡◌, ℕ, List, [], ◌∷◌, None, Some, inl, inr, refl, sym, ap, ◌∙◌, subst, map}
+use Rattle.std.proofs.Common.{◌≡◌, ℕ, List, [], ◌∷◌, None, Some, inl, inr, refl, sym, ap, ◌∙◌, subst, length, map}
+use Rattle.std.proofs.lemmas.List.{length-map}
+use Rattle.std.proofs.lemmas.Slice.Zip.{AllZip-long}
 use Rattle.std.specs.List.{AllZip, AllByRecursion}
 use Rattle.std.proofs.lemmas.List.Elements.{recursion_from_All}
 use Rattle.sm_names.specs.Bounds.{Bound}
@@ -8,6 +10,7 @@ use Rattle.sm_names.specs.Marks.{Entry}
 use Rattle.event_laws.specs.Lines.{client_line}
 use Rattle.event_laws.specs.Members.{joined}
 use Rattle.event_laws.specs.Parts.{part}
+use Rattle.service_lock.specs.Comings.{SomeCoreCame}
 use Rattle.service_lock.specs.States.{IsSetUpWith, View}
 use Rattle.client_vanish.specs.declared.gathering.Holding.{Holding}
 use Rattle.client_vanish.specs.declared.gathering.Report.{Report}
@@ -23,9 +26,10 @@ use Rattle.client_actors.specs.ActorSteps.{HasFinished}
 use Rattle.client_actors.specs.ActorEnds.{HaveRun, IsEndOf, end_id}
 use Rattle.thread_runs.specs.declared.fault.ThreadsFault.{ThreadsFault}
 use Rattle.thread_runs.specs.Faults.{gather_fault}
-use Rattle.thread_runs.specs.Gathered.{IsLeft, IsUntold, TellsRecord, first_fault, first_stray, line_client}
+use Rattle.thread_runs.specs.Gathered.{IsLeft, IsUntold, TellsCompany, TellsRecord, first_fault, first_stray, line_client}
 use Rattle.thread_runs.specs.declared.job.Output.{Output}
 use Rattle.thread_runs.specs.Runs.{IsPlayed, IsRunText, told_text}
+use Rattle.thread_runs.specs.RunPlays.{JoinsFirst}
 use Rattle.thread_runs.proofs.EndLaws.{ids-left}
 
 -- each line is that of its client
@@ -50,10 +54,12 @@ module _ {E S W : Type 0} where
   pub tells : (output : Output) (pages : ℕ) (limits : Bound) (s : View) (labels : List Label)
       (parts : List (Holding E S W)) (report : Report)
       (text : List ℕ) → IsSetUpWith pages limits s.pool s.limits → IsGatherReport s parts report →
-      map line_client report.lines.items ≡ ids_of parts → text ≡ told_text output labels s.history →
+      map line_client report.lines.items ≡ ids_of parts → SomeCoreCame s.pool s.limits s.history →
+      text ≡ told_text output labels s.history →
       TellsRecord output pages limits s labels parts text
-  tells output pages limits s labels parts report text asked so ordered told = record {
+  tells output pages limits s labels parts report text asked so ordered came told = record {
     legal = subst (λ (p : ℕ). IsLegal p limits s.history) asked.0 (subst (λ (b : Bound). IsLegal s.pool b s.history) asked.1 so.legal);
+    came = subst (λ (p : ℕ). SomeCoreCame p limits s.history) asked.0 (subst (λ (b : Bound). SomeCoreCame s.pool b s.history) asked.1 came);
     ordered = sym (clients-of s.history (joined s.history)) ∙ ap (map line_client) (sym so.lines) ∙ ordered;
     own_lists = so.own_lists;
     told = told;
@@ -97,16 +103,20 @@ module _ {E S W : Type 0} where
   pub is-told : (output : Output) (repeats pages : ℕ) (limits : Bound) (list : ActorList) (ends : List (ActorEnd E S W))
       (parts : List (Holding E S W)) → HaveRun repeats list.scripts.items ends →
       AllZip IsLeft ends parts → first_fault ends ≡ None → (text : List ℕ) →
-      ((s : View) × TellsRecord output pages limits s list.labels.items parts text) →
+      ((s : View) × TellsCompany output pages limits s list.labels.items parts text) →
       IsRunText output repeats pages limits (actors_of list) text
   is-told output repeats pages limits list ends parts ran left well text (s, so) = record {
     history = s.history;
-    legal = so.legal;
+    legal = so.tells.legal;
+    came = so.tells.came;
+    first = subst (λ (n : ℕ). JoinsFirst n s.history)
+        (AllZip-long IsLeft ends parts left ∙ (AllZip-long _ list.scripts.items ends ran ∙ sym (length-map list.scripts.items steps_of)))
+        so.first;
     played =
-        let their : map end_id ends ≡ joined s.history = ids-left ends parts left ∙ sym so.ordered in
+        let their : map end_id ends ≡ joined s.history = ids-left ends parts left ∙ sym so.tells.ordered in
         let played = were-played s.history (joined s.history) repeats list.scripts.items ends parts
         (subst (λ (ids : List ℕ). AllZip (IsEndOf ids repeats) list.scripts.items ends) their ran) left well
-        (recursion_from_All (Matches s.history) parts so.own_lists) in
-        subst (AllZip (IsPlayed s.history (joined s.history) repeats) (map steps_of list.scripts.items)) (sym so.ordered) played;
-    told = so.told;
+        (recursion_from_All (Matches s.history) parts so.tells.own_lists) in
+        subst (AllZip (IsPlayed s.history (joined s.history) repeats) (map steps_of list.scripts.items)) (sym so.tells.ordered) played;
+    told = so.tells.told;
   }

@@ -1,5 +1,5 @@
 -- From the ends of actors to what is gathered. No public clause cites this module.
-use Rattle.std.specs.Prelude.{◌≡◌, ℕ, ◌==◌, if◌then◌else◌, List, [], ◌∷◌, ◌++◌, reverse, Option, Some, None, ◌⊎◌, ⊤}
+use Rattle.std.specs.Prelude.{◌≡◌, ℕ, ◌==◌, if◌then◌else◌, List, [], ◌∷◌, ◌++◌, length, reverse, Option, Some, None, ◌⊎◌, ⊤}
 use Rattle.std.specs.List.{All, AllZip}
 use Rattle.std.specs.Option.{option_or}
 use Rattle.sm_names.specs.declared.outcomes.StepFault.{StepFault}
@@ -7,6 +7,7 @@ use Rattle.sm_names.specs.Bounds.{Bound}
 use Rattle.sm_names.specs.Legality.{IsLegal}
 use Rattle.event_laws.specs.declared.line.ClientLine.{ClientLine}
 use Rattle.event_laws.specs.Members.{joined}
+use Rattle.service_lock.specs.Comings.{SomeCoreCame}
 use Rattle.service_lock.specs.States.{View}
 use Rattle.script_lines.specs.declared.label.Label.{Label}
 use Rattle.client_vanish.specs.declared.fault.GatherFault.{GatherFault}
@@ -16,6 +17,8 @@ use Rattle.client_vanish.specs.Vanishings.{held_in, sorted}
 use Rattle.client_actors.specs.declared.gate.ActorEnd.{ActorEnd}
 use Rattle.thread_runs.specs.declared.fault.ThreadsFault.{ThreadsFault}
 use Rattle.thread_runs.specs.declared.job.Output.{Output}
+use Rattle.thread_runs.specs.Company.{first_unfit}
+use Rattle.thread_runs.specs.RunPlays.{JoinsFirst}
 use Rattle.thread_runs.specs.Runs.{told_text}
 
 -- why a call was not made, as a fault of the run
@@ -62,18 +65,27 @@ first_stray (line ∷ lines) [] = Some line
 first_stray (line ∷ lines) (part ∷ parts) =
     let later = first_stray lines parts in if line == part then later else Some part
 
--- the record is a legal history with this pool and these limits, the clients that joined are just those of the parts, in order,
--- each own list is its client's part, and the text is what is told of it
+-- the record is a legal history with this pool and these limits, a core came by its events, the clients that joined are just those
+-- of the parts, in order, each own list is its client's part, and the text is what is told of it
 pub record TellsRecord {E S W : Type 0} (output : Output) (pages : ℕ) (limits : Bound) (s : View) (labels : List Label)
     (parts : List (Holding E S W)) (text : List ℕ) : Type 0 where
   pub legal : IsLegal pages limits s.history
+  pub came : SomeCoreCame pages limits s.history
   pub ordered : joined s.history ≡ ids_of parts
   pub own_lists : All (Matches s.history) parts
   pub told : text ≡ told_text output labels s.history
 
--- a client that joined has no part at its place, or a part has another client's line beside it: this is the first such client
+-- the same, where these clients joined before all other events, and these are theirs
+pub record TellsCompany {E S W : Type 0} (output : Output) (pages : ℕ) (limits : Bound) (s : View) (labels : List Label)
+    (parts : List (Holding E S W)) (text : List ℕ) : Type 0 where
+  pub tells : TellsRecord output pages limits s labels parts text
+  pub first : JoinsFirst (length parts) s.history
+
+-- a client that joined has no part at its place, or a part has another client's line beside it: this is the first such client. Or an
+-- event is not what the record of so many actors has there: this is the first such event
 abbrev pub IsStray : {E S W : Type 0} → View → List (Holding E S W) → GatherFault → Type 0
 IsStray s parts (GatherFault.MissingClient client) = first_stray (joined s.history) (ids_of parts) ≡ Some client
+IsStray s parts (GatherFault.RecordMismatch event) = first_unfit (length parts) 0 s.history ≡ Some event
 IsStray s parts _ = ⊥
 
 -- why nothing is told of the record and these parts

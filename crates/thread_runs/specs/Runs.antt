@@ -8,6 +8,7 @@ use Rattle.sm_names.specs.Marks.{Entry}
 use Rattle.event_laws.specs.Lines.{lines_of}
 use Rattle.event_laws.specs.Members.{joined}
 use Rattle.event_laws.specs.Parts.{part}
+use Rattle.service_lock.specs.Comings.{SomeCoreCame}
 use Rattle.client_vanish.specs.declared.fault.GatherFault.{GatherFault}
 use Rattle.client_vanish.specs.Vanishings.{Remains}
 use Rattle.actor_scripts.specs.declared.step.Step.{Step}
@@ -15,6 +16,7 @@ use Rattle.actor_scripts.specs.ActorLists.{Actors, script_actors}
 use Rattle.actor_scripts.specs.Reads.{IsBad, ReadsPart, ReadsWhole}
 use Rattle.client_actors.specs.ActorSteps.{HasFinished}
 use Rattle.thread_runs.specs.Reports.{report_text}
+use Rattle.thread_runs.specs.RunPlays.{JoinsFirst}
 use Rattle.script_labels.specs.Records.{record_text}
 use Rattle.script_lines.specs.declared.label.Label.{Label}
 use Rattle.script_lines.specs.Written.{WritesPart}
@@ -38,11 +40,13 @@ abbrev pub told_text : Output → List Label → List Entry → List ℕ
 told_text Output.Report labels history = report_of [] labels history
 told_text Output.Transcript labels history = record_text labels history ++ report_of (codes "# ") labels history
 
--- the text is what is told of a legal history, with a pool of this many pages and these limits, in which the actors of the company
--- joined in their order, and nobody else, and each of them played its script
+-- the text is what is told of a legal history, with a pool of this many pages and these limits, in which first the actors of the
+-- company joined in their order, and nobody else made an event, and each of them played its script; a core came by its events
 pub record IsRunText (output : Output) (repeats pages : ℕ) (limits : Bound) (company : Actors) (text : List ℕ) : Type 0 where
   pub history : List Entry
   pub legal : IsLegal pages limits history
+  pub came : SomeCoreCame pages limits history
+  pub first : JoinsFirst (length company.scripts) history
   pub played : AllZip (IsPlayed history (joined history) repeats) company.scripts (joined history)
   pub told : text ≡ told_text output company.labels history
 

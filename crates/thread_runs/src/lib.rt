@@ -2,8 +2,10 @@
 #![tactic(auto)]
 
 mod actor_parts;
+mod company;
 mod fault;
 mod job;
+pub mod laws;
 mod program;
 mod report;
 mod report_text;

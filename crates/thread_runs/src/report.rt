@@ -5,10 +5,11 @@ ghost use Rattle.client_vanish.specs.Gatherings.{ids_of};
 ghost use Rattle.event_laws.specs.Lines.{lines_of};
 ghost use Rattle.service_lock.specs.States.{IsSetUpWith, View};
 ghost use Rattle.service_lock.specs.Units.{AreFor};
-ghost use Rattle.thread_runs.specs.Gathered.{IsLate, IsUntold, TellsRecord, first_stray, line_client};
+ghost use Rattle.thread_runs.specs.Gathered.{IsLate, IsUntold, TellsCompany, TellsRecord, first_stray, line_client};
 ghost use Rattle.thread_runs.specs.Runs.{IsRunText, told_text};
 
 use crate::actor_parts::{fault_of, part_all};
+use crate::company::first_unfit;
 use crate::fault::ThreadsFault;
 use crate::job::{Output, RunSetting};
 use crate::report_text::push_report;
@@ -124,6 +125,29 @@ fn text_of<E: Setup, S: Ledger, W: Ledger>(
     }
 }
 
+// The same, if these clients joined before all other events, and these are theirs.
+fn company_text<E: Setup, S: Ledger, W: Ledger>(
+    alloc: Global,
+    style: OutputStyle,
+    labels: &[Label],
+    state: &State<E, S, W>,
+    parts: &[Holding<E, S, W>],
+) -> Result<Vec<u8>, ThreadsFault>
+    ensures ok { IfOk result (λ text. TellsCompany style.output E.pages E.limits state.now labels.now
+        parts.now text.items) }
+    ensures late { IfErr result IsLate }
+    ensures untold { IfErr result (IsUntold state.now parts.now) }
+{
+    let text = match text_of(alloc, style, labels, state, parts) {
+        Ok(text) => text,
+        Err(fault) => return Err(fault),
+    };
+    match first_unfit(parts.len(), entries(state)) {
+        Some(event) => Err(ThreadsFault::Gather(GatherFault::RecordMismatch(event))),
+        None => Ok(text),
+    }
+}
+
 // The report on all parts, which come back. The lock is held all the time, so that all of it is of one
 // record.
 fn tell<E: Setup, S: Ledger, W: Ledger, R: Wait>(
@@ -136,11 +160,11 @@ fn tell<E: Setup, S: Ledger, W: Ledger, R: Wait>(
 ) -> (Vec<Holding<E, S, W>>, Result<Vec<u8>, ThreadsFault>)
     ensures parts { result.0 ≡ parts }
     ensures ok { IfOk result.1 (λ text. (s : View)
-        × TellsRecord style.output E.pages E.limits s labels.now parts.items text.items) }
+        × TellsCompany style.output E.pages E.limits s labels.now parts.items text.items) }
     ensures late { IfErr result.1 IsLate }
 {
     let guard = service.lock(rt);
-    let told = text_of(alloc, style, labels, guard.state(), parts.as_slice());
+    let told = company_text(alloc, style, labels, guard.state(), parts.as_slice());
     (parts, told)
 }
 

@@ -25,10 +25,11 @@ use std::time::Clock;
 /// writer is flushed at the end. In every case the service is ended with all that is left.
 ///
 /// Answered Ok, what was written is the report of a legal history, with this pool and these limits, in
-/// which the clients of the script joined in their order, and nobody else, and in which each of them played
-/// its script. Where the job asks for a transcript, all events of this history stand before it, in their
-/// order, as `push_record` writes them with the actors' labels, and each line of the report begins with `#
-/// `. Else, where nothing was written but for `WriteFault`:
+/// which first the clients of the script joined in their order, and nobody else made an event, and in which
+/// each of them played its script. A core came by the events of this history, one after another. Where the
+/// job asks for a transcript, all events of this history stand before it, in their order, as `push_record`
+/// writes them with the actors' labels, and each line of the report begins with `# `. Else, where nothing was
+/// written but for `WriteFault`:
 /// - `ReadFault`: the reader failed, or the script has more than `MOST_BYTES` bytes.
 /// - `BadLine`: this line is the first bad one.
 /// - `NoMemory`: memory was refused, at any time.
@@ -36,7 +37,8 @@ use std::time::Clock;
 ///   many events were made as may be; or the system gave an actor no thread. It is the fault of the
 ///   first of the actors that did not come to their end, in the order of the joins.
 /// - `Gather`: the actors' parts are not complete, or don't agree with the record; or the clients that
-///   joined are not just the actors in their order, reported as the first client that is elsewhere.
+///   joined are not just the actors in their order, reported as the first client that is elsewhere; or the
+///   record does not begin with their joins, or has an event of nobody, reported as the first such event.
 /// - `WriteFault`: the writer failed, or took nothing, or could not be flushed. The output is a
 ///   first part of that.
 ///

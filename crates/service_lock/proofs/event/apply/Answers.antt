@@ -7,6 +7,8 @@ use Rattle.sm_names.specs.Legality.{IsLegal}
 use Rattle.service_lock.specs.declared.moves.HandleMoves.{HandleMoves}
 use Rattle.service_lock.specs.Counting.{moves_by}
 use Rattle.service_lock.specs.States.{StateInvariant, View, view_after}
+use Rattle.core_state.proofs.theorem.Leads.{makes}
+use Rattle.service_lock.proofs.ComingLaws.{came_on, came_refused}
 use Rattle.service_lock.proofs.SoundLaws.{fits, pushed, there, written}
 use Rattle.std.proofs.Common.{rules}
 use Rattle.service_lock.proofs.event.apply.Goals as goal
@@ -52,6 +54,9 @@ invariant_of-state-2 g c =
     record {
       asked = (c.in_ok-reply.ensures.after.pool ∙ c.state.invariant.asked.0, c.state.invariant.asked.1);
       shown = shown;
+      came = came_on log c.state.inside.core c.step.new.self c.args.client c.args.call c.in_ok-reply.reply c.state.invariant.came
+          (makes c.state.inside.core c.step.new.self c.args.client c.args.call c.in_ok-reply.reply c.step.result c.in_ok-reply.was
+          c.step.ensures.full c.in_ok-reply.ensures.answer c.in_ok-reply.ensures.after);
       limited = c.in_ok-reply.ensures.after.limits ∙ c.state.invariant.limited;
       counted = omega (arith, c.write.ensures.written.total, c.state.invariant.counted, length-append log (e ∷ []));
       cut = (
@@ -109,7 +114,7 @@ pub write-requires-clause-there : goal.write-requires-clause-there
 write-requires-clause-there c = search rules
 
 pub invariant_of-state : goal.invariant_of-state
-invariant_of-state c = search rules
+invariant_of-state c = search (rules, came_refused)
 
 pub invariant_of-units : goal.invariant_of-units
 invariant_of-units c = search rules

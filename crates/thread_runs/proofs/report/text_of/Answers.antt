@@ -26,6 +26,7 @@ returns-in-Ok-push_output-clause-ok g c =
     c.compare.ensures.asked c.in-Ok.ensures.gathered
     (stray_none _ _ (ap (λ (lines : List ClientLine). first_stray (map line_client lines) (ids_of c.args.parts.now))
     (sym c.as_slice.ensures.value) ∙ (sym c.first_stray.ensures ∙ c.in_default.is)))
+    c.entries.ensures.came
     (c.in-Ok-push_output.ensures
     ∙ ap (λ (front : List ℕ). front ++ told_text c.args.style.output c.args.labels.now c.entries.result.now) c.new-text.ensures.items
     ∙ ap (told_text c.args.style.output c.args.labels.now) c.entries.ensures.value)
