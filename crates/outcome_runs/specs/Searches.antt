@@ -35,12 +35,13 @@ setting_of job seed = record {
 }
 
 -- each outcome that was found has a play of the actors of these plans that comes to it, no more states were met than are asked for,
--- and if the search certifies, no outcome is missing
+-- and if the search certifies, no outcome is missing, that was asked for, and all was gone through
 pub record IsSearch (plans : List Plan) (vanishing : Vanishing) (job : SearchJob) (seed : List ℕ) (found : Exploration) : Type 0 where
   pub real : All (IsFound plans vanishing (setting_of job seed)) found.outcomes.items
   pub states : found.states ≤ job.states
   pub none_missing : found.certified ≡ true →
       NoneIsMissing vanishing.at_end (setup_of plans vanishing (setting_of job seed)) found.outcomes.items
+  pub asked : found.certified ≡ true → (job.certifies ≡ true) × (found.complete ≡ true)
 
 -- the clients that are asked to vanish, as they are written
 abbrev pub list_asked : SearchJob → Option (List ℕ)

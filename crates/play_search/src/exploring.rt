@@ -299,6 +299,7 @@ fn certified(
         ground.now.vanishing ground.now.setting (vec_len graph.now.rows)) }
     ensures none { IfOk result (λ yes. yes ≡ true → NoneIsMissing ground.now.vanishing.at_end
         (setup_of ground.now.plans.now ground.now.vanishing ground.now.setting) outcomes.now) }
+    ensures asked { IfOk result (λ yes. yes ≡ true → certifies ≡ true) }
 {
     if !certifies {
         return Ok(false);
@@ -310,6 +311,13 @@ fn certified(
     };
     let certified = graph.is_certified(ground, shown)?;
     Ok(certified)
+}
+
+// Whether a search that was complete, or was not, is to be certified.
+fn is_asked(certifies: bool, complete: bool) -> bool
+    ensures { result ≡ true → (certifies ≡ true) × (complete ≡ true) }
+{
+    certifies && complete
 }
 
 // What a search finds, where texts hash so.
@@ -330,12 +338,19 @@ fn explored<P: Progress>(
         NoneIsMissing ground.now.vanishing.at_end
         (setup_of ground.now.plans.now ground.now.vanishing ground.now.setting)
         found.outcomes.items) }
+    ensures asked { IfOk result (λ found. found.certified ≡ true →
+        (effort.certifies ≡ true) × (found.complete ≡ true)) }
 {
     let (graph, complete) = graph_of(ground, hash, effort.most, progress)?;
     let Read { goals, orders } = read_graph(ground, &graph)?;
     let outcomes = found_all(ground, &goals)?;
-    let certifies = complete && effort.certifies;
-    let certified = certified(ground, &graph, &goals, &outcomes, certifies)?;
+    let certified = certified(
+        ground,
+        &graph,
+        &goals,
+        &outcomes,
+        is_asked(effort.certifies, complete),
+    )?;
     Ok(Exploration {
         outcomes,
         states: graph.rows.len(),
@@ -356,8 +371,8 @@ fn explored<P: Progress>(
 /// `HistoryFull` where a play has as many events as may be, `Unlike` where a play that is made again goes on otherwise.
 /// `progress` is told how many values were met, each time that `PROGRESS_STEP` more were, and once that the search is over. The
 /// answer does not depend on it.
-/// If `effort.certifies` is true, a complete answer is certified unless two plays of one value are not seen to be alike, or that is
-/// too costly to tell.
+/// Only a complete answer is certified, and only if `effort.certifies` is true; then it is, unless two plays of one value are not
+/// seen to be alike, or that is too costly to tell.
 /// Costs O(`effort.most`) look-ups, calls and bytes, and the plays of the outcomes; with `effort.certifies`, as many calls again.
 pub fn explore<P: Progress>(
     alloc: Global,
@@ -376,6 +391,8 @@ pub fn explore<P: Progress>(
     ensures none_missing { IfOk result (λ found. found.certified ≡ true →
         NoneIsMissing vanishing.entry.at_end (setup_of plans.now vanishing.entry setting)
         found.outcomes.items) }
+    ensures asked { IfOk result (λ found. found.certified ≡ true →
+        (effort.certifies ≡ true) × (found.complete ≡ true)) }
 {
     let hash = LabelHash::new(setting.seed);
     let bases = bases_of(alloc, plans)?;

@@ -6,4 +6,5 @@ returns-in-Ok-clause-ok g c = record {
   real = rw c.full.ensures at c.in-Ok.ensures.real;
   states = c.in-Ok.ensures.states;
   none_missing = rw c.full.ensures at c.in-Ok.ensures.none_missing;
+  asked = c.in-Ok.ensures.asked;
 }
