@@ -3,7 +3,7 @@ use sm_names::{Reply, StepFault};
 
 /// Why a call did not succeed: it was made, and has another reply than the caller wants; or it was not
 /// made.
-#[derive(Clone, Copy, Debug, PartialEq, Eq)]
+#[derive(Clone, Copy, PartialEq, Eq)]
 pub enum Why {
     /// The event was made, and this is its reply, which is no success.
     Reply(Reply),

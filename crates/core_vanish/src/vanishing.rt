@@ -18,7 +18,7 @@ use lifetime_core::Core;
 use sm_names::{BufferName, Call, ClientId, NodeKey, Reply, StepFault, Strength};
 
 /// What the vanishing of a client made.
-#[derive(Clone, Copy, Debug, PartialEq, Eq)]
+#[derive(Clone, Copy, PartialEq, Eq)]
 pub struct Vanished {
     /// How many events were made.
     pub events: u64,

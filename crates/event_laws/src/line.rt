@@ -8,7 +8,7 @@ use sm_names::{Call, ClientId, Reply, Strength};
 
 /// A client: how many events it made after its Join, and how many handles of each strength it has
 /// open.
-#[derive(Clone, Copy, Debug, PartialEq, Eq)]
+#[derive(Clone, Copy, PartialEq, Eq)]
 pub struct ClientLine {
     pub client: ClientId,
     pub events: u64,

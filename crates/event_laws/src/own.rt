@@ -5,7 +5,7 @@ use sm_names::{Call, Reply};
 
 /// An event that a client made, as the client has it: its number in the record, from 1, what was
 /// asked, and what was answered.
-#[derive(Clone, Copy, Debug, PartialEq, Eq)]
+#[derive(Clone, Copy, PartialEq, Eq)]
 pub struct Own {
     pub event: u64,
     pub call: Call,

@@ -8,7 +8,7 @@ use crate::words::place_of;
 use sm_names::MAX_BUFFERS;
 
 /// A name of a buffer in a script: a label of a node of its collection, a point, and its index.
-#[derive(Clone, Copy, Debug, PartialEq, Eq)]
+#[derive(Clone, Copy, PartialEq, Eq)]
 pub struct BufferLabel {
     pub node: Label,
     pub index: u8,

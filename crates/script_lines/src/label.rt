@@ -5,7 +5,7 @@ ghost use Rattle.script_lines.specs.Labels.{is_label as is_label_word, is_letter
 
 /// A name of a client, a node or a tracker in a script: a letter from `a` to `z`, then up to
 /// fifteen letters or digits.
-#[derive(Clone, Copy, Debug, PartialEq, Eq, Hash)]
+#[derive(Clone, Copy, PartialEq, Eq, Hash)]
 pub struct Label {
     // The bytes of the text as digits to the base 256.
     code: u128,

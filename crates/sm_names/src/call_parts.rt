@@ -6,7 +6,6 @@ use crate::call_rows::CallKind;
 use crate::demands::Constraints;
 use crate::keys::{BufferName, ClientId, NodeKey, Strength};
 use std::alloc::AllocError;
-use std::fmt;
 
 /// What a call is made on. `N` is what names a node, and `B` what names a buffer.
 #[derive(Copy)]
@@ -16,8 +15,7 @@ pub enum Object<N, B> {
     Buffer(B),
 }
 
-// A clone is a copy, and a text is that of what the object holds: proofs of what a derive writes for these generic types take
-// ten times as long.
+// The proof of a derived clone of such a generic type takes ten times as long.
 impl<N: Copy, B: Copy> Clone for Object<N, B> {
     ghost is_clone = { λ object copy. copy ≡ object };
 
@@ -25,16 +23,6 @@ impl<N: Copy, B: Copy> Clone for Object<N, B> {
 
     fn clone(&self) -> Result<Object<N, B>, AllocError> {
         Ok(*self)
-    }
-}
-
-impl<N: fmt::Debug, B: fmt::Debug> fmt::Debug for Object<N, B> {
-    fn fmt<W: fmt::Write>(&self, f: &mut fmt::Formatter<W>) -> fmt::Result {
-        match self {
-            Object::Nothing => f.write_str("Nothing"),
-            Object::Node(name) => name.fmt(f),
-            Object::Buffer(name) => name.fmt(f),
-        }
     }
 }
 
@@ -63,22 +51,8 @@ impl<C: Copy> Clone for Argument<C> {
     }
 }
 
-impl<C: fmt::Debug> fmt::Debug for Argument<C> {
-    fn fmt<W: fmt::Write>(&self, f: &mut fmt::Formatter<W>) -> fmt::Result {
-        match self {
-            Argument::Nothing => f.write_str("Nothing"),
-            Argument::Client(to) => to.fmt(f),
-            Argument::Children(children) => children.fmt(f),
-            Argument::Constraints(constraints) => constraints.fmt(f),
-            Argument::Most(most) => most.fmt(f),
-            Argument::Strength(strength) => strength.fmt(f),
-            Argument::Gift(strength, to) => (strength, to).fmt(f),
-        }
-    }
-}
-
 /// A call, taken apart.
-#[derive(Clone, Copy, Debug)]
+#[derive(Clone, Copy)]
 pub struct CallParts {
     pub kind: CallKind,
     pub object: Object<NodeKey, BufferName>,

@@ -10,7 +10,6 @@ use crate::call_parts::{
 use crate::demands::Constraints;
 use crate::keys::{BufferName, ClientId, NodeKey, Strength};
 use crate::messages::Call;
-use std::fmt;
 
 /// Which call it is, without what it names. The kinds stand in the order of their numbers for C.
 #[derive(Clone, Copy, PartialEq, Eq)]
@@ -38,13 +37,6 @@ pub enum CallKind {
     TrackNode,
     TrackLifetime,
     TrackWeak,
-}
-
-// Shown as its word in scripts.
-impl fmt::Debug for CallKind {
-    fn fmt<W: fmt::Write>(&self, f: &mut fmt::Formatter<W>) -> fmt::Result {
-        f.write_str(word_of(*self))
-    }
 }
 
 /// All kinds, each at the place of its number.

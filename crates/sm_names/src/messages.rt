@@ -1,9 +1,7 @@
 //! What clients ask, what they are answered, and what they give to each other.
-use crate::call_rows::parts_of;
 use crate::demands::Constraints;
 use crate::keys::{BufferName, ClientId, CollectionId, Kind, NodeKey, Strength, TrackerId};
 use crate::outcomes::{Cause, Misuse, Refusal};
-use std::fmt;
 
 /// What a client asks.
 #[derive(Clone, Copy, PartialEq, Eq)]
@@ -67,15 +65,8 @@ pub enum Call {
     TrackWeak(BufferName),
 }
 
-// Shown as its parts: the proof of a derived text takes twenty times as long.
-impl fmt::Debug for Call {
-    fn fmt<W: fmt::Write>(&self, f: &mut fmt::Formatter<W>) -> fmt::Result {
-        fmt::Debug::fmt(&parts_of(*self), f)
-    }
-}
-
 /// What a call is answered.
-#[derive(Clone, Copy, Debug, PartialEq, Eq)]
+#[derive(Clone, Copy, PartialEq, Eq)]
 pub enum Reply {
     /// The call took effect.
     Done,
@@ -128,7 +119,7 @@ pub enum Reply {
 }
 
 /// A parcel: an end or a handle, which a client gave to a client.
-#[derive(Clone, Copy, Debug, PartialEq, Eq)]
+#[derive(Clone, Copy, PartialEq, Eq)]
 pub enum Parcel {
     End(NodeKey),
     Handle(BufferName, Strength),

@@ -6,7 +6,7 @@ use crate::keys::NodeKey;
 
 /// Why an allocation failed. The first four fail the whole collection, the last two an attached
 /// subtree alone.
-#[derive(Clone, Copy, Debug, PartialEq, Eq)]
+#[derive(Clone, Copy, PartialEq, Eq)]
 pub enum Failure {
     /// No strong node of the collection is live.
     NoStrong,
@@ -24,7 +24,7 @@ pub enum Failure {
 }
 
 /// What a client did that fails its node.
-#[derive(Clone, Copy, Debug, PartialEq, Eq)]
+#[derive(Clone, Copy, PartialEq, Eq)]
 pub enum Misuse {
     /// SetConstraints on a node that has constraints.
     SecondConstraints,
@@ -67,7 +67,7 @@ impl Misuse {
 }
 
 /// Why a node failed.
-#[derive(Clone, Copy, Debug, PartialEq, Eq)]
+#[derive(Clone, Copy, PartialEq, Eq)]
 pub enum Cause {
     /// An end was closed without Release.
     Lost,
@@ -80,21 +80,21 @@ pub enum Cause {
 }
 
 /// Why and where a node failed: the first loss that reached it, and the node of that loss.
-#[derive(Clone, Copy, Debug, PartialEq, Eq)]
+#[derive(Clone, Copy, PartialEq, Eq)]
 pub struct Fault {
     pub cause: Cause,
     pub origin: NodeKey,
 }
 
 /// How many buffers a collection was given, and how many bytes each has.
-#[derive(Clone, Copy, Debug, PartialEq, Eq)]
+#[derive(Clone, Copy, PartialEq, Eq)]
 pub struct Buffers {
     pub count: u32,
     pub size: u32,
 }
 
 /// Why a call was refused. It then changed nothing but the number of events.
-#[derive(Clone, Copy, Debug, PartialEq, Eq)]
+#[derive(Clone, Copy, PartialEq, Eq)]
 pub enum Refusal {
     /// The caller or the receiver was made by no Join, or a Join was made by a client.
     NoSuchClient,

@@ -2,7 +2,7 @@
 use crate::keys::{BufferName, CollectionId, NodeKey, TrackerId};
 
 /// What a tracker waits for. The definition `holds` says when the condition holds.
-#[derive(Clone, Copy, Debug, PartialEq, Eq)]
+#[derive(Clone, Copy, PartialEq, Eq)]
 pub enum Condition {
     /// The node is gone (`fuchsia.sysmem2.Node.AttachNodeTracking`).
     Node(NodeKey),
@@ -15,7 +15,7 @@ pub enum Condition {
 }
 
 /// A tracker that fired, and the number of the event at which it did.
-#[derive(Clone, Copy, Debug, PartialEq, Eq)]
+#[derive(Clone, Copy, PartialEq, Eq)]
 pub struct Fired {
     pub tracker: TrackerId,
     pub event: u64,
