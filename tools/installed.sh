@@ -1,8 +1,8 @@
 #!/usr/bin/env bash
 # Installs the bindings into a temporary prefix, and builds there a program of fifteen lines in C, C++ and Rust as their users
-# would: by pkg-config (against the shared library and the static one), by CMake (both) and by cargo. Then it unpacks what
-# `make dist` packs, checks its checksums, and builds the C++ program against that. It needs cc, c++, make, pkg-config, cmake
-# and cargo, and crates/sysmem/out/libsysmem.a, which `rt lib` leaves.
+# would: by pkg-config (against the shared library and the static one), by CMake (both) and by cargo; and the program of
+# docs/TUTORIAL.md. Then it unpacks what `make dist` packs, checks its checksums, and builds the C++ program against that. It
+# needs cc, c++, make, pkg-config, cmake and cargo, and crates/sysmem/out/libsysmem.a, which `rt lib` leaves.
 set -euo pipefail
 cd "$(dirname "$0")/.."
 top=$PWD
@@ -81,6 +81,15 @@ expect NoSuchClient "$room/app"
 c++ -std=c++17 "$room/app.cpp" $(pkg-config --cflags sysmem) "$prefix/lib/libsysmem.a" -o "$room/app"
 expect "$lost" "$room/app"
 say "pkg-config: C and C++, shared and static"
+
+# The program of the tutorial prints what its page shows.
+blocks() { # the code blocks of this language on the page of the tutorial
+  awk -v language="$1" '/^```/ { is_in = !is_in; named = substr($0, 4); next } is_in && named == language' docs/TUTORIAL.md
+}
+blocks cpp >"$room/tour.cpp"
+c++ -std=c++17 "$room/tour.cpp" $(pkg-config --cflags --libs sysmem) -Wl,-rpath,"$prefix/lib" -pthread -o "$room/tour"
+expect "$(blocks '')" "$room/tour"
+say "the tutorial"
 
 cat >"$room/CMakeLists.txt" <<'END'
 cmake_minimum_required(VERSION 3.16)

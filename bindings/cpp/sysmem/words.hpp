@@ -218,7 +218,7 @@ using Record = std::function<void(std::string_view)>;
 struct Waits {
     Key node;                  ///< the node
     std::string label;         ///< its label; it may be empty
-    ClientId holder = 0;       ///< who holds its end, or gave it away
+    ClientId holder = 0;       ///< who holds its end, or who gave it away if it is in a parcel (not the receiver)
     std::string holder_label;  ///< the label of its holder; it may be empty
     bool is_bound = false;     ///< whether its end is bound
     bool is_in_parcel = false; ///< whether its end is in a parcel

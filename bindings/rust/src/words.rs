@@ -288,7 +288,7 @@ pub struct Waits {
     pub node: Key,
     /// Its label, if it has one.
     pub label: Option<String>,
-    /// Who holds its end, or gave it away.
+    /// Who holds its end, or who gave it away if it is in a parcel (not the receiver).
     pub holder: ClientId,
     /// The label of its holder, if this has one.
     pub holder_label: Option<String>,
