@@ -1,12 +1,13 @@
 #!/usr/bin/env python3
-"""Says which wrong edits no longer apply, of crates/NAME/must-fail/*.edit and crates/NAME/more-edits/*.edit.
+"""Says which wrong edits no longer apply, of must-fail/, gate-edits/ and more-edits/ in crates/NAME.
 
   tools/edits_apply.py [NAME | NAME/EDIT.edit ..]      with no NAME: those of every crate, and of the page's calls
   tools/edits_apply.py --make FOLDER EDIT.edit         makes the edit in this copy of its crate
 
 An edit applies where each of its `old:` texts stands exactly once in its file, after the pairs before it, and the
-edit changes something. With no NAME it is also a fault where the gate tries more than eight edits of a crate. It reads
-files alone, and takes less than a second. The last line counts; the status is 1 if there is a fault.
+edit changes something. With no NAME it is also a fault where the gate tries more than eight edits of a crate, or one that
+docs/TESTING.md does not list. It reads files alone, and takes less than a second. The last line counts; the status is 1 if
+there is a fault.
 """
 import pathlib
 import re
@@ -15,7 +16,9 @@ import sys
 TOP = pathlib.Path(__file__).resolve().parent.parent
 CRATES = TOP / "crates"
 PAGE = TOP / "web/page_calls"
-FOLDERS = ("must-fail", "more-edits")
+# What `rt ci` tries, what `tools/more_edits.py --gate` tries beside, and all others.
+GATE = ("must-fail", "gate-edits")
+FOLDERS = (*GATE, "more-edits")
 MOST = 8
 
 
@@ -82,12 +85,14 @@ def misplaced():
                 yield file
 
 
-def miscounted():
-    """Crates of which the gate tries too many edits."""
-    for folder in sorted(CRATES.glob("*/must-fail")):
-        count = len(list(folder.glob("*.edit")))
-        if count > MOST:
-            yield folder, f"the gate tries {count} edits of a crate, and not at most {MOST}"
+def of_the_gate():
+    """What is wrong with the edits that the gate tries: of a crate too many, or not listed."""
+    listed = (TOP / "docs/TESTING.md").read_text(encoding="utf-8")
+    for crate in sorted(CRATES.iterdir()):
+        edits = [edit for folder in GATE for edit in crate.glob(f"{folder}/*.edit")]
+        if len(edits) > MOST:
+            yield crate, f"the gate tries {len(edits)} edits of a crate, and not at most {MOST}"
+        yield from ((edit, "docs/TESTING.md does not list it") for edit in edits if f"`{edit.stem}`" not in listed)
 
 
 def report(words):
@@ -102,7 +107,7 @@ def report(words):
             edited(edit.parent.parent, edit)
         except (DoesNotApply, UnicodeDecodeError) as fault:
             faults.append((edit, fault))
-    counts = [] if words else list(miscounted())
+    counts = [] if words else list(of_the_gate())
     for file, fault in faults + counts:
         print(f"{file.relative_to(TOP)}: {fault}")
     print(f"{asked - len(faults)} edits apply, {len(faults)} do not")

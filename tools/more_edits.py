@@ -1,12 +1,14 @@
 #!/usr/bin/env python3
-"""Tries the wrong edits that the gate leaves out, crates/NAME/more-edits/*.edit: the prover must refuse each.
+"""Tries wrong edits: the prover must refuse each.
 
-  tools/more_edits.py [-j LANES] [--built] [NAME | NAME/EDIT.edit ..]
+  tools/more_edits.py [-j LANES] [--built] [--gate] [NAME | NAME/EDIT.edit ..]
 
-With no NAME it tries those of every crate; NAME/EDIT.edit is one edit, of more-edits/ or of must-fail/. LANES (2) copies
-of the repository take a crate each, in the order of the NAMEs. A crate is proved first, unless out/ has its library,
-built of the same sources. With --built out/ has the libraries that `rt ci` left, and over these only the functions with
-edits are proved first. The last line counts; the status is 1 if an edit is not refused.
+With no NAME it tries the edits of every crate: those that the gate leaves out, crates/NAME/more-edits/*.edit, or, with
+--gate, those that it tries, of gate-edits/ and must-fail/. NAME/EDIT.edit is one edit of any folder. LANES (2) copies of the
+repository take a crate each, in the order of the NAMEs. A crate is proved first, unless out/ has its library, built of the
+same sources. With --built out/ has the libraries that `rt ci` left, and over these only the functions with edits are proved
+first; with both, not even these: `rt ci` has just proved them. The last line counts; the status is 1 if an edit is not
+refused, and with --gate also if it is refused by no goal of its own function, or if there is none.
 
 One check makes many edits at once, at most one of each function, and proves those functions and what they call, no
 others. No other function's proof sees the body of a function, so an edit is refused if a goal or an answer of its own
@@ -33,7 +35,7 @@ import threading
 
 sys.path.insert(0, str(pathlib.Path(__file__).resolve().parent))
 sys.dont_write_bytecode = True
-from edits_apply import CRATES, DoesNotApply, edited, named
+from edits_apply import CRATES, GATE, DoesNotApply, edited, named
 
 ROOT = CRATES.parent
 RT = os.environ.get("RT", "rt")
@@ -46,6 +48,7 @@ CALLED = re.compile(r"`((?:\w+::)+\w+)`")
 ERROR = re.compile(r"^(?:\./)?proofs/(\S+)/\w+\.antt:\d+:\d+: error: (.*)$", re.M)
 ELSEWHERE = re.compile(r"rejected|not checked|not admitted|no module|cannot be imported")
 NAMED = re.compile(r"has no field|has no `|is not in scope")
+BY_GOAL = re.compile(r"refused: \S+ is not proved")
 REACHED = re.compile(r"^(?:logic=not-proved|only=)", re.M)
 NOT_COMPILED = re.compile(r"^\S+: error\[([\w-]+)\]: .*$", re.M)
 
@@ -92,7 +95,7 @@ class Answer:
     def __init__(self, said):
         self.reached = bool(REACHED.search(said))
         self.proved, self.faults, self.calls = {short(it) for it in PROVED.findall(said)}, set(), {}
-        self.only_named = set()
+        self.only_named, self.with_goals = set(), set()
         errors = [(place, bool(NAMED.search(text))) for place, text in ERROR.findall(said) if not ELSEWHERE.search(text)]
         rejected = {place for place, text in ERROR.findall(said) if ELSEWHERE.search(text)}
         for name, why in NOT_PROVED.findall(said):
@@ -102,7 +105,9 @@ class Answer:
             own = {is_named for at, is_named in errors if at == place}
             if "did not prove" in goals or False in own or not calls and place not in rejected:
                 self.faults.add(short(name))
-            if "did not prove" not in goals and own == {True}:
+            if "did not prove" in goals or False in own:
+                self.with_goals.add(short(name))
+            elif True in own:
                 self.only_named.add(short(name))
 
     def decided(self, changed):
@@ -114,8 +119,9 @@ class Answer:
 
     def refusal(self, names):
         """What to say of an edit that is refused since these functions are not proved."""
-        only = "" if names - self.only_named else ", but only by an answer that names what is gone"
-        return f"refused{only}: {min(names - self.only_named or names)} is not proved"
+        how = ", but by no goal" if names - self.only_named else ", but only by an answer that names what is gone"
+        goals = names & self.with_goals
+        return f"refused{'' if goals else how}: {min(goals or names - self.only_named or names)} is not proved"
 
     def below(self, name):
         """The functions that are not proved among those that this one calls, and that they call."""
@@ -151,8 +157,8 @@ def library(name):
 class Crate:
     """A crate in the copy of a lane, with its edits."""
 
-    def __init__(self, lane, name, edits, is_built=False):
-        self.name, self.edits, self.folder = name, edits, lane / "crates" / name
+    def __init__(self, lane, name, edits, is_built=False, is_proved=False):
+        self.name, self.edits, self.folder, self.is_proved = name, edits, lane / "crates" / name, is_proved
         self.checks, self.is_built = 0, is_built
         self.top = "src/main.rt" if (CRATES / name / "src/main.rt").is_file() else "src/lib.rt"
 
@@ -196,12 +202,14 @@ class Crate:
         return self.with_texts(texts, lambda: self.rt("check", "--jobs", "1", *only))
 
     def unproved(self):
-        """Proves the crate, unless its library is there, or the functions with edits over what `rt ci` left; gives what was said
-        if they are not proved."""
+        """Proves the crate, unless its library is there, or the functions with edits over what `rt ci` left, unless that has
+        just proved them; gives what was said if they are not proved."""
         if self.is_built:
             lacks = [it for it in uses_of(self.name) if not library(it).is_dir()]
             if lacks:
                 return f"there is no library {library(lacks[0])}"
+            if self.is_proved:
+                return ""
             status, said = self.check({}, set().union(*(self.functions_of(it)[0] for it in self.edits)))
         else:
             status, said = self.rt("lib" if (self.folder / "out/rlib").is_dir() else "check", "--jobs", "2")
@@ -320,26 +328,29 @@ def write(file, text):
 
 
 def main(words):
-    lanes, is_built = 2, False
+    lanes, is_built, is_gate = 2, False, False
     while words[:1] and words[0].startswith("-"):
         if words[0] == "-j" and words[1:] and words[1].isdigit():
             lanes, words = int(words[1]), words[1:]
         elif words[0] == "--built":
             is_built = True
+        elif words[0] == "--gate":
+            is_gate = True
         else:
             sys.exit(f"more_edits.py: {words[0]} is not known; --help tells what it takes")
         words = words[1:]
-    edits = {}
-    for what in words or sorted(it.parent.name for it in CRATES.glob("*/more-edits")):
+    edits, folders = {}, GATE if is_gate else ("more-edits",)
+    for what in words or sorted({it.parent.name for folder in folders for it in CRATES.glob(f"*/{folder}")}):
         for edit in named(what):
-            if "/" in what or edit.parent.name == "more-edits":
+            if "/" in what or edit.parent.name in folders:
                 edits.setdefault(edit.parent.parent.name, []).append(edit)
     left = list(edits) if words else sorted(edits, key=lambda it: -len(edits[it]))
     passed, failed, lock = [], [], threading.Lock()
 
     def say(name, edit, text):
         with lock:
-            (passed if text.startswith("refused") else failed).append(edit)
+            is_refused = BY_GOAL.fullmatch(text) if is_gate else text.startswith("refused")
+            (passed if is_refused else failed).append(edit)
             print(f"{name}/{edit.name}: {text}", flush=True)
 
     def work(lane):
@@ -351,7 +362,7 @@ def main(words):
                 if not left:
                     return
                 name = left.pop(0)
-            Crate(lane, name, edits[name], is_built).run(say)
+            Crate(lane, name, edits[name], is_built, is_gate).run(say)
 
     with tempfile.TemporaryDirectory(prefix="more-edits-", dir=os.environ.get("EDITS_ROOM")) as room:
         threads = [threading.Thread(target=work, args=(pathlib.Path(room) / str(it),)) for it in range(lanes)]
@@ -364,7 +375,7 @@ def main(words):
             if edit not in passed + failed:
                 say(name, edit, "NOT TRIED")
     print(f"{len(passed)} passed, {len(failed)} failed")
-    return 1 if failed else 0
+    return 1 if failed or is_gate and not passed else 0
 
 
 if __name__ == "__main__":

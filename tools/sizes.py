@@ -61,30 +61,31 @@ def word(number):
     return NUMBERS[number] if number < len(NUMBERS) else str(number)
 
 
-must_fail = glob.glob("crates/*/must-fail/*.edit")
+gate_edits = glob.glob("crates/*/gate-edits/*.edit") + glob.glob("crates/*/must-fail/*.edit")
 by_crate = {}
-for edit in must_fail:
+for edit in gate_edits:
     by_crate[edit.split("/")[1]] = by_crate.get(edit.split("/")[1], 0) + 1
-all_edits = len(must_fail) + len(glob.glob("crates/*/more-edits/*.edit"))
+all_edits = len(gate_edits) + len(glob.glob("crates/*/more-edits/*.edit"))
 
 # A document, the sentence with one group for each size, and the sizes: as text, or as a number of lines.
 SIZES = [
     ("README.md", r"the crates have ([\d,]+) lines of code, ([\d,]+) of specifications and ([\d,]+) of proofs",
      [lines("crates/*/src/**/*.rt", "//"), lines("crates/*/specs/**/*.antt", "--"), lines("crates/*/proofs/**/*.antt", "--")]),
     ("README.md", r"`crates/sm_names/specs`, ([\d,]+) lines", [lines("crates/sm_names/specs/**/*.antt", "--")]),
-    ("README.md", r"gate tries (\d+) of some ([\d,]+) wrong bodies", [str(len(must_fail)), all_edits]),
+    ("README.md", r"gate tries (\d+) of some ([\d,]+) wrong bodies", [str(len(gate_edits)), all_edits]),
     ("README.md", r"Sync among 1,000 nodes \| (\d+) \| (\d+)", instructions("a4 sync among 1,000")),
     ("README.md", r"open and close a collection \| (\d+) \| (\d+)", instructions("a1 open, close")),
     ("README.md", r"loss of 1,000 nodes, each \| (\d+) \| (\d+)", instructions("b2 wide loss 1,000 /node")),
     ("README.md", r"mixed calls, 256 collections \| (\d+) \| (\d+)", instructions("e mixed, 256 collections")),
-    ("docs/TESTING.md", r"`must-fail/` has (\d+) edits in (\w+) crates, at most (\w+) a crate",
-     [str(len(must_fail)), word(len(by_crate)), word(max(by_crate.values()))]),
+    ("docs/TESTING.md", r"gate tries (\d+) edits in (\w+) crates, at most (\w+) a crate",
+     [str(len(gate_edits)), word(len(by_crate)), word(max(by_crate.values()))]),
 ]
 
 
 # The documents, and how many words they have at most, all together.
 DOCUMENTS = ["README.md", "CONTRIBUTING.md", "CHANGELOG.md", *sorted(glob.glob("docs/*.md"))]
-MOST_WORDS = 26_000
+# 900 of them are of docs/DAEMON.md, which stands apart: who uses the service in one process need not read it.
+MOST_WORDS = 27_900
 
 
 # The document that lists the crates, and one of its rows: the crate with its three sizes.
