@@ -1,5 +1,6 @@
 //! What ties a core's state to each history that it shows.
-ghost use Rattle.std.specs.Prelude.{◌≡◌, ◌<◌, [], ◌∷◌, ◌++◌, ℕ, List, true};
+ghost use Rattle.std.specs.Prelude.{◌≡◌, ◌<◌, [], ◌∷◌, ◌++◌, ℕ, List, true, length, drop};
+ghost use Rattle.std.specs.Prelude.{None, Some, option_map, if◌then◌else◌};
 ghost use Rattle.sm_names.specs.declared.keys.BufferName.{BufferName};
 ghost use Rattle.sm_names.specs.declared.keys.NodeKey.{NodeKey};
 ghost use Rattle.sm_names.specs.declared.keys.Strength.{Strength};
@@ -8,14 +9,18 @@ ghost use Rattle.sm_names.specs.declared.messages.Reply.{Reply};
 ghost use Rattle.sm_names.specs.Answers.{IsAnswer, answer};
 ghost use Rattle.sm_names.specs.Bounds.{Bound};
 ghost use Rattle.sm_names.specs.Handles.{opens};
+ghost use Rattle.sm_names.specs.Kept.{is_kept, is_kept_collection};
 ghost use Rattle.sm_names.specs.Legality.{IsLegal};
+ghost use Rattle.sm_names.specs.Losses.{fault};
 ghost use Rattle.sm_names.specs.Marks.{Called, Entry};
 ghost use Rattle.sm_names.specs.Reading.{readings};
 ghost use Rattle.sm_names.specs.declared.tracking.Fired.{Fired};
 ghost use Rattle.sm_names.specs.Timelines.{timeline};
 ghost use Rattle.sm_names.specs.Trackers.{fired};
-ghost use Rattle.core_state.specs.Reads.{readings_of};
-ghost use Rattle.core_state.specs.Shown.{Shows, ShowsBut, forgetting};
+ghost use Rattle.sm_names.specs.Views.{free_pages, live_nodes};
+ghost use Rattle.forest_store.specs.Forest.{Collection, collection_at, live_keys};
+ghost use Rattle.core_state.specs.Reads.{fault_in, readings_of, views_of};
+ghost use Rattle.core_state.specs.Shown.{Shows, ShowsBut, forgetting, held_after};
 ghost use Rattle.core_state.specs.State.{State};
 ghost use Rattle.core_state.specs.Theorem.{Leads};
 
@@ -80,4 +85,32 @@ pub fn a_core_that_forgot_goes_on()
         ShowsBut gone new (history ++ entries) }
     ensures fired { (gone : List Fired) (s : State) (history : List Entry) →
         ShowsBut gone s history → gone ++ s.trackers.fired ≡ fired (timeline s.pool history) }
+{}
+
+/// Views of a core that forgot firings are those of each history that it shows so, as if it had
+/// forgotten nothing: only `fired` leaves out the firings that were forgotten, which are the history's
+/// first. It also reads as this history, so that it answers every call as this history does.
+pub fn a_core_that_forgot_is_seen_whole()
+    ensures live { (gone : List Fired) (s : State) (history : List Entry) →
+        ShowsBut gone s history →
+        live_keys s.forest ≡ live_nodes (timeline s.pool history) }
+    ensures causes { (gone : List Fired) (s : State) (history : List Entry) →
+        ShowsBut gone s history → (key : NodeKey) → let marks = timeline s.pool history in
+        fault_in s key ≡ (if is_kept marks key then fault marks key else None) }
+    ensures held { (gone : List Fired) (s : State) (history : List Entry) →
+        ShowsBut gone s history → (id : ℕ) → let marks = timeline s.pool history in
+        option_map (λ (c : Collection). c.held) (collection_at s.forest id)
+        ≡ (if is_kept_collection marks id then Some (held_after s.pool marks id) else None) }
+    ensures free { (gone : List Fired) (s : State) (history : List Entry) →
+        ShowsBut gone s history →
+        (views_of s).free ≡ free_pages s.pool (timeline s.pool history) }
+    ensures fired { (gone : List Fired) (s : State) (history : List Entry) →
+        ShowsBut gone s history →
+        s.trackers.fired ≡ drop (length gone) (fired (timeline s.pool history)) }
+    ensures events { (gone : List Fired) (s : State) (history : List Entry) →
+        ShowsBut gone s history → s.events ≡ length history }
+    ensures readings { (gone : List Fired) (s : State) (history : List Entry) →
+        ShowsBut gone s history → record (readings_of s)
+        { was_given = (readings (timeline s.pool history)).was_given }
+        ≡ readings (timeline s.pool history) }
 {}

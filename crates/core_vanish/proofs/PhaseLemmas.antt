@@ -10,8 +10,9 @@ use Rattle.sm_names.specs.Ends.{has_joined}
 use Rattle.sm_names.specs.Handles.{open_of}
 use Rattle.sm_names.specs.Legality.{IsLegal}
 use Rattle.sm_names.specs.Marks.{Entry, Timeline}
+use Rattle.sm_names.specs.declared.tracking.Fired.{Fired}
 use Rattle.sm_names.specs.Timelines.{timeline}
-use Rattle.core_state.specs.Shown.{Shows}
+use Rattle.core_state.specs.Shown.{ShowsBut}
 use Rattle.core_state.specs.State.{State}
 use Rattle.core_vanish.specs.Events.{GetsNothing, Lets}
 use Rattle.core_vanish.specs.Vanishing.{AdvancesBy}
@@ -27,7 +28,7 @@ advances_none s = record {
   limits = refl;
   counted = omega arith;
   untaken = refl;
-  goes_on = λ history shows. subst (Shows s) (sym (append-nil history)) shows;
+  goes_on = λ gone history shows. subst (ShowsBut gone s) (sym (append-nil history)) shows;
 }
 
 -- and by some events and then more
@@ -38,7 +39,8 @@ advances_then old mid new first more a b = record {
   limits = b.limits ∙ a.limits;
   counted = omega (arith, a.counted, b.counted, length-append first more);
   untaken = b.untaken ∙ a.untaken;
-  goes_on = λ history shows. subst (Shows new) (append_assoc history first more) (b.goes_on (history ++ first) (a.goes_on history shows));
+  goes_on = λ gone history shows. subst (ShowsBut gone new) (append_assoc history first more)
+      (b.goes_on gone (history ++ first) (a.goes_on gone history shows));
 }
 
 -- ---- phases
@@ -80,26 +82,26 @@ events_grew old new P Q (Err fault) p q = let counted = q.advances.counted in om
 
 -- a phase without events
 pub phase_none : (s : State) (P : Timeline → List Entry → Timeline → Type 0) →
-    ((history : List Entry) → Shows s history → P (timeline s.pool history) [] (timeline s.pool history)) → Phase s s P
+    ((gone : List Fired) (history : List Entry) → ShowsBut gone s history → P (timeline s.pool history) [] (timeline s.pool history)) → Phase s s P
 phase_none s P each = record {
   events = [];
   advances = advances_none s;
-  so = λ history shows. subst (λ (h : List Entry). P (timeline s.pool history) [] (timeline s.pool h)) (sym (append-nil history))
-      (each history shows);
+  so = λ gone history shows. subst (λ (h : List Entry). P (timeline s.pool history) [] (timeline s.pool h)) (sym (append-nil history))
+      (each gone history shows);
 }
 
 -- a phase of one event, which is legal since the extended history is
 pub phase_one : (old new : State) (entry : Entry) (P : Timeline → List Entry → Timeline → Type 0) → AdvancesBy old new (entry ∷ []) →
-    ((history : List Entry) → Shows old history → IsLegal old.pool old.limits (history ++ entry ∷ []) →
+    ((gone : List Fired) (history : List Entry) → ShowsBut gone old history → IsLegal old.pool old.limits (history ++ entry ∷ []) →
     P (timeline old.pool history) (entry ∷ []) (timeline old.pool (history ++ entry ∷ []))) → Phase old new P
 phase_one old new entry P a each = record {
   events = entry ∷ [];
   advances = a;
-  so = λ history shows.
-      let legal : IsLegal new.pool new.limits (history ++ entry ∷ []) = (a.goes_on history shows).legal in
+  so = λ gone history shows.
+      let legal : IsLegal new.pool new.limits (history ++ entry ∷ []) = (a.goes_on gone history shows).legal in
       let pooled : IsLegal old.pool new.limits (history ++ entry ∷ []) =
       subst (λ (n : ℕ). IsLegal n new.limits (history ++ entry ∷ [])) a.pool legal in
-      each history shows (subst (λ (b : Bound). IsLegal old.pool b (history ++ entry ∷ [])) a.limits pooled);
+      each gone history shows (subst (λ (b : Bound). IsLegal old.pool b (history ++ entry ∷ [])) a.limits pooled);
 }
 
 -- a phase and then another
@@ -113,15 +115,15 @@ phase_then old mid new P Q R p q each =
     record {
       events = first ++ more;
       advances = advances_then old mid new first more p.advances q.advances;
-      so = λ history shows.
+      so = λ gone history shows.
           let then : Q (timeline mid.pool (history ++ first)) more (timeline mid.pool ((history ++ first) ++ more)) =
-          q.so (history ++ first) (p.advances.goes_on history shows) in
+          q.so gone (history ++ first) (p.advances.goes_on gone history shows) in
           let pooled : Q (timeline old.pool (history ++ first)) more (timeline old.pool ((history ++ first) ++ more)) =
           subst (λ (n : ℕ). Q (timeline n (history ++ first)) more (timeline n ((history ++ first) ++ more))) p.advances.pool then in
           subst (λ (h : List Entry). R (timeline old.pool history) (first ++ more) (timeline old.pool h)) (append_assoc history first more)
           (each (timeline old.pool history) (timeline old.pool (history ++ first))
           (timeline old.pool ((history ++ first) ++ more)) first more
-          (p.so history shows) pooled);
+          (p.so gone history shows) pooled);
     }
 
 -- a phase of which less is said
@@ -130,8 +132,8 @@ pub phase_less : (old new : State) (P Q : Timeline → List Entry → Timeline �
 phase_less old new P Q p each = record {
   events = p.events;
   advances = p.advances;
-  so = λ history shows.
-      each (timeline old.pool history) (timeline old.pool (history ++ p.events)) p.events (p.so history shows);
+  so = λ gone history shows.
+      each (timeline old.pool history) (timeline old.pool (history ++ p.events)) p.events (p.so gone history shows);
 }
 
 -- a phase, and then a state that advances by no event

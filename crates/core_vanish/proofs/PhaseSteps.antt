@@ -15,15 +15,15 @@ use Rattle.sm_names.specs.declared.outcomes.StepFault.{StepFault}
 use Rattle.sm_names.specs.Ends.{has_joined, is_shut, parcels}
 use Rattle.sm_names.specs.Handles.{open_of}
 use Rattle.sm_names.specs.Marks.{Entry, Timeline}
+use Rattle.sm_names.specs.declared.tracking.Fired.{Fired}
 use Rattle.sm_names.specs.Reading.{readings}
 use Rattle.sm_names.specs.Sameness.{same_buffer, same_key}
 use Rattle.sm_names.specs.Timelines.{timeline}
-use Rattle.sm_names.specs.Views.{held_by_page}
 use Rattle.sm_names.proofs.SamenessLaws.{same_buffer-true, both_ways, or_cases, same_key-true}
 use Rattle.forest_store.specs.declared.node.Node.{Node}
-use Rattle.forest_store.specs.Forest.{all_nodes}
+use Rattle.forest_store.specs.Forest.{all_nodes, held_by_page}
 use Rattle.core_state.specs.Reads.{readings_of}
-use Rattle.core_state.specs.Shown.{Shows}
+use Rattle.core_state.specs.Shown.{ShowsBut, recalling}
 use Rattle.core_state.specs.State.{State}
 use Rattle.core_vanish.specs.declared.vanishing.VanishFault.{VanishFault}
 use Rattle.core_vanish.specs.Events.{Collecting, Collects, GetsNothing, IsShut, Lets, Whatever}
@@ -41,19 +41,19 @@ shut_phase : (old new : State) (client waiting : ℕ) → AdvancesBy old new ((c
     Phase old new (λ marks events later. IsShut client waiting events later)
 shut_phase old new client waiting a =
     phase_one old new (client, Call.Shut, Reply.Shut waiting) (λ marks events later. IsShut client waiting events later) a
-    (λ history shows legal. shut_told old.pool old.limits history client waiting legal)
+    (λ gone history shows legal. shut_told old.pool old.limits history client waiting legal)
 
 -- or refused
 refused_phase : (old new : State) (client : ℕ) (reply : Reply) → AdvancesBy old new ((client, Call.Shut, reply) ∷ []) →
     ((waiting : ℕ) → reply ≡ Reply.Shut waiting → ⊥) → Phase old new (IsUnshut client VanishFault.NoSuchClient)
 refused_phase old new client reply a other =
-    phase_one old new (client, Call.Shut, reply) (IsUnshut client VanishFault.NoSuchClient) a (λ history shows legal.
+    phase_one old new (client, Call.Shut, reply) (IsUnshut client VanishFault.NoSuchClient) a (λ gone history shows legal.
     ap (λ (r : Reply). (client, Call.Shut, r) ∷ []) (shut_refused old.pool old.limits history client reply legal other))
 
 -- or not made
 pub unmade_phase : (old new : State) (client : ℕ) (fault : StepFault) → fault ≡ StepFault.HistoryFull → AdvancesBy old new [] →
     Phase old new (IsUnshut client (part_fault fault))
-unmade_phase old new client StepFault.HistoryFull is a = record { events = []; advances = a; so = λ history shows. refl }
+unmade_phase old new client StepFault.HistoryFull is a = record { events = []; advances = a; so = λ gone history shows. refl }
 unmade_phase old new client StepFault.NoMemory is a = absurd (cc)
 
 -- what was answered tells which
@@ -78,7 +78,7 @@ told_full _ h = cc
 -- none were made
 pub collect_none : (s : State) (client waiting : ℕ) → Phase s s (Collecting client waiting 0)
 collect_none s client waiting =
-    phase_none s (Collecting client waiting 0) (λ history shows joined many. record {
+    phase_none s (Collecting client waiting 0) (λ gone history shows joined many. record {
       many = refl;
       are = All-nil (IsCollect client);
       joined = joined;
@@ -102,7 +102,7 @@ collect_more old mid new client waiting count left reply adds some p a =
     let entry : Entry = (client, Call.Collect, reply) in
     let One : Timeline → List Entry → Timeline → Type 0 = λ marks events later. has_joined marks client ≡ true →
     length (parcels marks client) ≡ (left - 1) + 1 → CollectsOne client entry (left - 1) marks events later in
-    let one : Phase mid new One = phase_one mid new entry One a (λ history shows legal joined many.
+    let one : Phase mid new One = phase_one mid new entry One a (λ gone history shows legal joined many.
     let t = collect_told mid.pool mid.limits history client (left - 1) reply legal joined many in
     record { only = refl; is = t.0; joined = t.1; shut = shut_on mid.pool mid.limits history entry legal client; waits = t.2 }) in
     phase_then old mid new (Collecting client waiting count) One (Collecting client waiting (count + 1)) p one
@@ -125,7 +125,7 @@ collect_more old mid new client waiting count left reply adds some p a =
 
 -- nothing was made
 pub let_none : (Is : Entry → Type 0) (s : State) (client : ℕ) → Phase s s (Lets Is client Whatever)
-let_none Is s client = phase_none s (Lets Is client Whatever) (λ history shows. lets_none Is client Whatever (timeline s.pool history) tt)
+let_none Is s client = phase_none s (Lets Is client Whatever) (λ gone history shows. lets_none Is client Whatever (timeline s.pool history) tt)
 
 -- whatever is so of the later marks
 pub let_some : (Is : Entry → Type 0) (old new : State) (client : ℕ) (Q : Timeline → Type 0) → Phase old new (Lets Is client Q) →
@@ -142,9 +142,9 @@ let_on Is old mid new client Q R p q = phase_lets Is client old mid new Q R What
 pub close_none : (s : State) (client : ℕ) (key : NodeKey) → holds_end (readings_of s) client key ≡ false →
     Phase s s (Lets (IsClose client) client (λ later. holds_end (readings later) client key ≡ false))
 close_none s client key h =
-    phase_none s (Lets (IsClose client) client (λ later. holds_end (readings later) client key ≡ false)) (λ history shows.
+    phase_none s (Lets (IsClose client) client (λ later. holds_end (readings later) client key ≡ false)) (λ gone history shows.
     lets_none (IsClose client) client (λ later. holds_end (readings later) client key ≡ false) (timeline s.pool history)
-    (sym (holds_read s history shows client key) ∙ h))
+    (sym (holds_read (recalling gone s) history shows client key) ∙ h))
 
 -- it held it
 pub close_one : (old new : State) (client : ℕ) (key : NodeKey) (reply : Reply) → holds_end (readings_of old) client key ≡ true →
@@ -153,16 +153,16 @@ pub close_one : (old new : State) (client : ℕ) (key : NodeKey) (reply : Reply)
 close_one old new client key reply h a =
     phase_one old new (client, Call.Close key, reply)
     (Lets (IsClose client) client (λ later. holds_end (readings later) client key ≡ false)) a
-    (λ history shows legal. close_told old.pool old.limits history client key reply legal
-    (sym (holds_read old history shows client key) ∙ h))
+    (λ gone history shows legal. close_told old.pool old.limits history client key reply legal
+    (sym (holds_read (recalling gone old) history shows client key) ∙ h))
 
 -- what it holds is among the kept nodes
 pub close_first : (s : State) (client : ℕ) (nodes : List Node) → nodes ≡ all_nodes s.forest →
     Phase s s (Lets (IsClose client) client (HoldsAmong client nodes))
 close_first s client nodes is =
-    phase_none s (Lets (IsClose client) client (HoldsAmong client nodes)) (λ history shows.
+    phase_none s (Lets (IsClose client) client (HoldsAmong client nodes)) (λ gone history shows.
     lets_none (IsClose client) client (HoldsAmong client nodes) (timeline s.pool history)
-    (subst (λ (ns : List Node). HoldsAmong client ns (timeline s.pool history)) (sym is) (holds_among s history shows client)))
+    (subst (λ (ns : List Node). HoldsAmong client ns (timeline s.pool history)) (sym is) (holds_among (recalling gone s) history shows client)))
 
 -- one of them was looked at
 pub close_next : (old mid new : State) (client : ℕ) (node : Node) (nodes others : List Node) → nodes ≡ node ∷ others →
@@ -186,12 +186,12 @@ close_next old mid new client node nodes others is p q =
 
 -- this many handles of one kind are open
 pub drop_first : (s : State) (client : ℕ) (buffer : BufferName) (strength : Strength) (count : ℕ) →
-    ((history : List Entry) → Shows s history → count ≡ open_of (timeline s.pool history) client buffer strength) →
+    ((gone : List Fired) (history : List Entry) → ShowsBut gone s history → count ≡ open_of (timeline s.pool history) client buffer strength) →
     Phase s s (Lets (IsDrop client) client (λ later. open_of later client buffer strength ≡ count))
 drop_first s client buffer strength count is =
-    phase_none s (Lets (IsDrop client) client (λ later. open_of later client buffer strength ≡ count)) (λ history shows.
+    phase_none s (Lets (IsDrop client) client (λ later. open_of later client buffer strength ≡ count)) (λ gone history shows.
     lets_none (IsDrop client) client (λ later. open_of later client buffer strength ≡ count) (timeline s.pool history)
-    (sym (is history shows)))
+    (sym (is gone history shows)))
 
 -- one of them was dropped
 pub drop_more : (old mid new : State) (client : ℕ) (buffer : BufferName) (strength : Strength) (left : ℕ) (reply : Reply) → 0 < left →
@@ -202,7 +202,7 @@ drop_more old mid new client buffer strength left reply some p a =
     let entry : Entry = (client, Call.DropHandle buffer strength, reply) in
     let One : Timeline → List Entry → Timeline → Type 0 = λ marks events later. open_of marks client buffer strength ≡ (left - 1) + 1 →
     Lets (IsDrop client) client (λ later. open_of later client buffer strength ≡ left - 1) marks events later in
-    let one : Phase mid new One = phase_one mid new entry One a (λ history shows legal many.
+    let one : Phase mid new One = phase_one mid new entry One a (λ gone history shows legal many.
     drop_told mid.pool mid.limits history client (left - 1) buffer strength reply legal many) in
     phase_then old mid new (Lets (IsDrop client) client (λ later. open_of later client buffer strength ≡ left)) One
     (Lets (IsDrop client) client (λ later. open_of later client buffer strength ≡ left - 1)) p one
@@ -237,14 +237,13 @@ drop_strengths old mid new client buffer p q =
     by_strength midway later n strong weak Weak = weak
 
 -- what it has open is on held buffers
-pub drop_held : (s : State) (client : ℕ) (held : List HeldBuffer) →
-    ((history : List Entry) → Shows s history → held ≡ held_by_page s.pool (timeline s.pool history)) →
+pub drop_held : (s : State) (client : ℕ) (held : List HeldBuffer) → held ≡ held_by_page s.forest →
     Phase s s (Lets (IsDrop client) client (HasAmong client held))
 drop_held s client held is =
-    phase_none s (Lets (IsDrop client) client (HasAmong client held)) (λ history shows.
+    phase_none s (Lets (IsDrop client) client (HasAmong client held)) (λ gone history shows.
     lets_none (IsDrop client) client (HasAmong client held) (timeline s.pool history)
-    (subst (λ (hs : List HeldBuffer). HasAmong client hs (timeline s.pool history)) (sym (is history shows))
-    (has_among s history shows client)))
+    (subst (λ (hs : List HeldBuffer). HasAmong client hs (timeline s.pool history)) (sym is)
+    (has_among (recalling gone s) history shows client)))
 
 -- one of them was looked at
 pub drop_next : (old mid new : State) (client : ℕ) (one : HeldBuffer) (held others : List HeldBuffer) → held ≡ one ∷ others →

@@ -16,7 +16,6 @@ use Rattle.sm_names.specs.Marks.{Entry, Timeline}
 use Rattle.sm_names.specs.Reading.{readings}
 use Rattle.sm_names.specs.Sameness.{same_buffer}
 use Rattle.sm_names.specs.Timelines.{held, timeline}
-use Rattle.sm_names.specs.Views.{held_by_page}
 use Rattle.history_laws.proofs.CountLaws.{client-le-total, counted}
 use Rattle.history_laws.proofs.DoomLaws.{IsDoomed, doomed_parts}
 use Rattle.history_laws.proofs.GrowthLaws.{Grows, legal_grows}
@@ -25,15 +24,16 @@ use Rattle.sm_names.proofs.ListLaws.{In-list_any, is_some-find, In-any}
 use Rattle.sm_names.proofs.SamenessLaws.{and_both, and_left, and_right, either_way, false_if}
 use Rattle.event_laws.proofs.HandleBufferLaws.{has_named, stranger_has_none}
 use Rattle.forest_store.specs.declared.node.Node.{Node}
-use Rattle.forest_store.specs.Forest.{all_nodes, node_at}
+use Rattle.forest_store.specs.Forest.{all_held, all_nodes, held_by_page, node_at}
 use Rattle.forest_store.specs.Nodes.{is_of}
 use Rattle.core_state.specs.Reads.{open_end_in, readings_of}
 use Rattle.core_state.specs.Shown.{Shows}
 use Rattle.core_state.specs.State.{State}
 use Rattle.core_state.proofs.lists.ByNumber.{mixed_sorted}
 use Rattle.core_state.proofs.lists.Reorderings.{In-mixed_back}
+use Rattle.core_state.proofs.views.Held.{mixed_held}
 use Rattle.core_state.proofs.views.Readings.{readings_are}
-use Rattle.core_vanish.specs.Vanishes.{holds_end}
+use Rattle.core_vanish.specs.Vanishes.{HasVanished, holds_end}
 use Rattle.core_vanish.specs.Phases.{HasAmong, HoldsAmong}
 
 module _ (s : State) (history : List Entry) (shows : Shows s history) (client : ℕ) where
@@ -89,7 +89,7 @@ module _ (s : State) (history : List Entry) (shows : Shows s history) (client : 
           omega (arith, some, few, none)
 
   -- so it is a held one
-  pub has_among : HasAmong client (held_by_page s.pool (timeline s.pool history)) (timeline s.pool history)
+  pub has_among : HasAmong client (held_by_page s.forest) (timeline s.pool history)
   has_among buffer strength some =
       let names : list_any (λ name. same_buffer name buffer) (buffer_names marks buffer.collection) ≡ true =
       has_named s.pool s.limits marks grown client buffer strength some in
@@ -97,6 +97,19 @@ module _ (s : State) (history : List Entry) (shows : Shows s history) (client : 
       let there : list_any (λ (h : HeldBuffer). same_buffer h.buffer buffer) (held s.pool marks) ≡ true =
       stands_held s.pool s.limits marks grown buffer ∙ and_both _ (not (home marks buffer)) names away in
       let one = In-list_any (λ (h : HeldBuffer). same_buffer h.buffer buffer) (held s.pool marks) there in
-      In-any (λ (h : HeldBuffer). same_buffer h.buffer buffer) (held_by_page s.pool marks) one.0
-      (In-mixed_back (held s.pool marks) (held_by_page s.pool marks) one.0
-      (mixed_sorted (λ (h : HeldBuffer). h.pages.start) (held s.pool marks)) one.1) one.2
+      let kept = In-mixed_back (held s.pool marks) (all_held s.forest) one.0 (mixed_held s marks shows.shown s.limits grown) one.1 in
+      In-any (λ (h : HeldBuffer). same_buffer h.buffer buffer) (held_by_page s.forest) one.0
+      (In-mixed_back (all_held s.forest) (held_by_page s.forest) one.0
+      (mixed_sorted (λ (h : HeldBuffer). h.pages.start) (all_held s.forest)) kept) one.2
+
+-- a client that has vanished, as the history tells, has vanished as the state reads
+pub as_read : (s : State) (history : List Entry) (shows : Shows s history) (client : ℕ) →
+    HasVanished (readings (timeline s.pool history)) client → HasVanished (readings_of s) client
+as_read s history shows client v =
+    let same = readings_are s (timeline s.pool history) shows.shown s.limits (legal_grows s.pool s.limits history shows.legal) in
+    record {
+      shut = ap (λ (r : Readings). r.is_shut client) same ∙ v.shut;
+      parcels = ap (λ (r : Readings). r.waiting client) same ∙ v.parcels;
+      ends = λ key. holds_read s history shows client key ∙ v.ends key;
+      handles = λ buffer strength. ap (λ (r : Readings). r.open_of client buffer strength) same ∙ v.handles buffer strength;
+    }

@@ -15,9 +15,11 @@ use Rattle.sm_names.specs.declared.outcomes.StepFault.{StepFault}
 use Rattle.sm_names.specs.Ends.{has_joined, parcels}
 use Rattle.sm_names.specs.Handles.{open_of}
 use Rattle.sm_names.specs.Marks.{Entry, Timeline}
+use Rattle.sm_names.specs.declared.tracking.Fired.{Fired}
 use Rattle.sm_names.specs.Reading.{readings}
 use Rattle.sm_names.specs.Timelines.{timeline}
 use Rattle.sm_names.proofs.SamenessLaws.{false_if}
+use Rattle.core_state.specs.Shown.{ShowsBut, recalling}
 use Rattle.core_state.specs.State.{State}
 use Rattle.core_vanish.specs.declared.vanishing.VanishFault.{VanishFault}
 use Rattle.core_vanish.specs.Events.{Collecting, Collects, Gathered, GetsNothing, GivesUpAll, IsRest, IsShut, Leaving, Lets, Whatever}
@@ -25,6 +27,7 @@ use Rattle.core_vanish.specs.Vanishes.{HasVanished, IsClose, IsCollect, IsDrop, 
 use Rattle.core_vanish.specs.Vanishing.{Vanishes, IsBegun, VanishStops}
 use Rattle.core_vanish.specs.Phases.{HasAmong, HasLeft, HoldsAmong, IsUnshut, Phase, part_fault}
 use Rattle.core_vanish.proofs.PhaseLemmas.{gets_then, phase_less, phase_then}
+use Rattle.core_vanish.proofs.StateReads.{as_read}
 
 -- a number of which there is not one is none
 none_if : (n : ℕ) → (0 < n → ⊥) → n ≡ 0
@@ -321,27 +324,37 @@ unshut client fault old new p =
 
 -- ---- as it is told
 
+-- the state shows a history, but for some firings
+abbrev pub ShowsSome : State → Type 0
+ShowsSome s = (gone : List Fired) × (history : List Entry) × ShowsBut gone s history
+
 -- the client vanished by this many events
-pub vanishes_by : (client count : ℕ) (old new : State) → old.events + count ≡ new.events →
+pub vanishes_by : (client count : ℕ) (old new : State) → ShowsSome old → old.events + count ≡ new.events →
     Phase old new (λ marks events later. HasLeft client events later) → Vanishes old new client count
-vanishes_by client count old new many p = record {
+vanishes_by client count old new some many p = record {
   events = p.events;
   many = omega (arith, p.advances.counted, many);
   advances = p.advances;
-  is_vanish = λ history shows. (p.so history shows).is_vanish;
-  has_vanished = λ history shows.
-      subst (λ (n : ℕ). HasVanished (readings (timeline n (history ++ p.events))) client)
-      (sym p.advances.pool) (p.so history shows).has_vanished;
+  is_vanish = (p.so some.0 some.1 some.2).is_vanish;
+  vanished = as_read (recalling some.0 new) (some.1 ++ p.events) (p.advances.goes_on some.0 some.1 some.2) client
+      (told some.0 some.1 some.2);
+  has_vanished = told;
 }
+  where
+    told : (gone : List Fired) (history : List Entry) → ShowsBut gone old history →
+        HasVanished (readings (timeline new.pool (history ++ p.events))) client
+    told gone history shows =
+        subst (λ (n : ℕ). HasVanished (readings (timeline n (history ++ p.events))) client)
+        (sym p.advances.pool) (p.so gone history shows).has_vanished
 
 -- or this many events were made before the fault
-pub stops_by : (client count : ℕ) (fault : VanishFault) (old new : State) → old.events + count ≡ new.events →
+pub stops_by : (client count : ℕ) (fault : VanishFault) (old new : State) → ShowsSome old → old.events + count ≡ new.events →
     Phase old new (λ marks events later. IsBegun client fault events) →
     (fault ≡ VanishFault.HistoryFull → new.limits.events ≤ new.events) → VanishStops old new client count fault
-stops_by client count fault old new many p full = record {
+stops_by client count fault old new some many p full = record {
   events = p.events;
   many = omega (arith, p.advances.counted, many);
   advances = p.advances;
-  begun = p.so;
+  begun = p.so some.0 some.1 some.2;
   full = full;
 }

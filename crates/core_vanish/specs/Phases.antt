@@ -11,22 +11,23 @@ use Rattle.sm_names.specs.declared.outcomes.Refusal.{Refusal}
 use Rattle.sm_names.specs.declared.outcomes.StepFault.{StepFault}
 use Rattle.sm_names.specs.Handles.{open_of}
 use Rattle.sm_names.specs.Marks.{Entry, Timeline}
+use Rattle.sm_names.specs.declared.tracking.Fired.{Fired}
 use Rattle.sm_names.specs.Reading.{readings}
 use Rattle.sm_names.specs.Sameness.{same_buffer, same_key}
 use Rattle.sm_names.specs.Timelines.{timeline}
 use Rattle.forest_store.specs.declared.node.Node.{Node}
-use Rattle.core_state.specs.Shown.{Shows}
+use Rattle.core_state.specs.Shown.{ShowsBut}
 use Rattle.core_state.specs.State.{State}
 use Rattle.core_vanish.specs.declared.vanishing.VanishFault.{VanishFault}
 use Rattle.core_vanish.specs.Vanishes.{HasVanished, IsVanish, holds_end}
 use Rattle.core_vanish.specs.Vanishing.{AdvancesBy}
 
--- the core went on by some events, of which this holds for each history that it showed: of its marks, the events, and the marks
--- after them
+-- the core went on by some events, of which this holds for each history that it showed, but for the firings that it forgot: of its
+-- marks, the events, and the marks after them
 pub record Phase (old new : State) (P : Timeline → List Entry → Timeline → Type 0) : Type 0 where
   pub events : List Entry
   pub advances : AdvancesBy old new events
-  pub so : (history : List Entry) → Shows old history →
+  pub so : (gone : List Fired) (history : List Entry) → ShowsBut gone old history →
       P (timeline old.pool history) events (timeline old.pool (history ++ events))
 
 -- the same fault of the whole

@@ -234,8 +234,8 @@ fn vanish_by_events(core: &mut Core, client: ClientId) -> Result<(), VanishFault
 /// `HistoryFull` where as many events were made as may be, and `NoMemory` where memory is refused:
 /// the events before stand, and a further call, once there is room, begins with a Shut and makes
 /// the rest. The Shut and the Collects take no memory: where it is refused, they were made. Memory
-/// is taken for a list of the kept nodes and one of the held buffers, and may be by what a Close or
-/// a DropHandle forces.
+/// is taken for a list of the kept nodes and one of the held buffers, and may be by what a Close
+/// forces.
 ///
 /// Costs the steps of these events, and O(n + h log h) for n kept nodes and h held buffers: no
 /// square of anything.

@@ -57,15 +57,3 @@ pub place_none : (pool pages count k : ℕ) (held : List Interval) (starts : Lis
 place_none pool pages count k held starts more e =
     let left : count - k ≡ suc (count - (k + 1)) = omega arith in
     ap (λ n. option_map (λ ss. starts ++ ss) (places pool pages n held)) left ∙ rw e refl
-
--- all have one
-pub place_all : (pool pages count k : ℕ) (held : List Interval) (starts : List ℕ) → k ≡ count →
-    option_map (λ ss. starts ++ ss) (places pool pages (count - k) held) ≡ Some starts
-place_all pool pages count k held starts done =
-    let none : count - k ≡ 0 = omega arith in
-    ap (λ n. option_map (λ ss. starts ++ ss) (places pool pages n held)) none ∙ ap Some (along starts)
-  where
-    -- by induction on the starts
-    along : (xs : List ℕ) → xs ++ [] ≡ xs
-    along [] = refl
-    along (x ∷ xs) = ap (λ (l : List ℕ). x ∷ l) (along xs)

@@ -29,9 +29,9 @@ pub use Rattle.sm_names.specs.declared.outcomes.Cause.{Cause}
 pub use Rattle.node_table.specs.Table.{Row, Table, children_at, next_at, node_at, parent_at}
 pub use Rattle.node_table.specs.Table.{parent_in, row_at, table_len, was_given, children_in}
 pub use Rattle.forest_store.specs.Calm.{AreCounted, IsCounted, IsQuiescent, unkept_except, put_in, strong_count, AreCountedExcept}
-pub use Rattle.forest_store.specs.Counts.{AreUnits, AreUnitsExcept, HasUnit, HasUnits, cleared, hangs_in, head_above, heads_below}
+pub use Rattle.forest_store.specs.Counts.{AreUnits, AreUnitsExcept, HasUnit, HasUnits, hangs_in, head_above, heads_below}
 pub use Rattle.forest_store.specs.Counts.{is_unready, lives_in, no_unit, counted_both, counted_own, unit_at, unit_of, waits_in, Extends}
-pub use Rattle.forest_store.specs.Counts.{HaveUnits, decrement_if, increment_if, head_of, counted_above, with_below, HaveSlots}
+pub use Rattle.forest_store.specs.Counts.{HaveUnits, decrement_if, increment_if, head_of, counted_above, with_below}
 pub use Rattle.forest_store.specs.Decisions.{Allocates, Decision, Ends, Loses, Places, decided, early_failure}
 pub use Rattle.forest_store.specs.Decisions.{first_step, has_strong, is_left_of, late_failure, later_step}
 pub use Rattle.forest_store.specs.Decisions.{waiting, wanted_by, decisions, mark_of, IsStep, has_waiting}

@@ -1,5 +1,5 @@
 -- What is counted of units. No public clause of `alloc_event` cites this module.
-use Rattle.std.specs.Prelude.{◌≡◌, ◌≢◌, ℕ, ◌+◌, ◌<◌, ◌≤◌, Bool, ◌&&◌, ◌||◌, not, nat_lt, if◌then◌else◌, slice_index_or}
+use Rattle.std.specs.Prelude.{◌≡◌, ◌≢◌, ℕ, ◌+◌, ◌<◌, ◌≤◌, Bool, ◌&&◌, ◌||◌, not, nat_lt, slice_index_or, if◌then◌else◌}
 use Rattle.std.specs.Prelude.{List, [], ◌∷◌, map, length, set, is_some, true, false, Option, Some, None, option_map, ◌-◌}
 use Rattle.std.specs.List.{AllByRecursion, list_any}
 use Rattle.std.specs.Option.{option_map_or}
@@ -77,14 +77,6 @@ AreUnitsExcept units id cs = AllByRecursion (λ (c : Collection). c.id ≢ id �
 abbrev pub HaveUnits : List Unit → Table Node → List Entry → Type 0
 HaveUnits units t es = AreUnits units (map (collection_in t) (rows_of es))
 
--- the slot of the key of each of these nodes is in the list
-abbrev pub HasSlots : List Unit → List Node → Type 0
-HasSlots units nodes = AllByRecursion (λ (n : Node). n.key.slot < length units) nodes
-
--- so of the nodes of each collection
-abbrev pub HaveSlots : List Unit → List Collection → Type 0
-HaveSlots units cs = AllByRecursion (λ (c : Collection). HasSlots units c.nodes) cs
-
 -- the list is as long at least, and each slot counts what it did
 pub record Extends (old new : List Unit) : Type 0 where
   pub longer : length old ≤ length new
@@ -107,11 +99,6 @@ unit_then us n after = record {
 -- one more, if it counts and there is room for it
 abbrev pub increment_if : Bool → ℕ → ℕ
 increment_if is count = if is && nat_lt count 18446744073709551615 then count + 1 else count
-
--- the slots of these keys are counted from nothing on
-abbrev pub cleared : List NodeKey → List Unit → List Unit
-cleared [] units = units
-cleared (key ∷ keys) units = cleared keys (set units key.slot no_unit)
 
 -- the node is counted for its unit
 abbrev pub with_node : Node → List Unit → List Unit

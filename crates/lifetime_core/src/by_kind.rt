@@ -4,7 +4,8 @@
 //! than some 7,800 lines of LLVM's language, with what is marked within it (`bench/inlined.py`). To decide a
 //! call and to make it are therefore methods of the core, which meet only here. A call that is answered
 //! before its effect leaves first. The node that a call names is looked up once.
-ghost use Rattle.std.specs.Prelude.{◌≡◌};
+ghost use Rattle.std.specs.Prelude.{◌≡◌, OnErr};
+ghost use Rattle.std.specs.Result.{result_map_both};
 ghost use Rattle.sm_names.specs.declared.messages.Call.{Call as Made};
 ghost use Rattle.core_state.specs.Theorem.{Stepped};
 
@@ -12,68 +13,98 @@ use crate::machine::Core;
 use core_state::traits::key_of;
 use sm_names::{Call, ClientId, Reply, StepFault};
 
-/// Makes the call that the closure answers, as `Core::step` says. Each closure has a type of its own, so
-/// this function is compiled once for each.
+/// Makes the call that the closure answers, as `Core::step_into` says. Each closure has a type of its own,
+/// so this function is compiled once for each.
 #[inline(never)]
 fn step_kind<F: FnOnce() -> Call>(
     core: &mut Core,
     client: ClientId,
     known: F,
-) -> Result<Reply, StepFault>
+    out: &mut Reply,
+) -> Result<(), StepFault>
     requires { F.pre known }
-    ensures { (call : Made) → ((made : Made) → F.post known made → made ≡ call) →
-        Stepped core.old core.new client call result }
+    ensures stepped { (call : Made) → ((made : Made) → F.post known made → made ≡ call) →
+        Stepped core.old core.new client call
+        (result_map_both (λ _. out.new) (λ fault. fault) result) }
+    ensures kept { OnErr result (out.new ≡ out.old) }
 {
     let call = known();
     let named = key_of(&call);
     let node = core.named(named);
     if let Some(reply) = core.early_answer(client, &call, named, node) {
-        return core.commit_early(client, call, reply);
+        return core.commit_early(client, &call, reply, out);
     }
     let decision = core.decide_effect(client, &call, named, node);
-    core.commit(client, &call, decision)
+    core.commit(client, &call, decision, out)
 }
 
-/// Makes one call, as `Core::step` says: the one place that asks what kind of call it is.
+/// Makes one call, as `Core::step_into` says: the one place that asks what kind of call it is.
 #[inline(always)]
-pub(crate) fn dispatch(core: &mut Core, client: ClientId, call: Call) -> Result<Reply, StepFault>
-    ensures { Stepped core.old core.new client call result }
+pub(crate) fn dispatch(
+    core: &mut Core,
+    client: ClientId,
+    call: &Call,
+    out: &mut Reply,
+) -> Result<(), StepFault>
+    ensures stepped { Stepped core.old core.new client call.now
+        (result_map_both (λ _. out.new) (λ fault. fault) result) }
+    ensures kept { OnErr result (out.new ≡ out.old) }
 {
-    match call {
-        Call::Join => step_kind(core, client, || Call::Join),
-        Call::Shut => step_kind(core, client, || Call::Shut),
-        Call::OpenRoot => step_kind(core, client, || Call::OpenRoot),
-        Call::Duplicate(key) => step_kind(core, client, move || Call::Duplicate(key)),
-        Call::AttachToken(key) => step_kind(core, client, move || Call::AttachToken(key)),
-        Call::Sync(key) => step_kind(core, client, move || Call::Sync(key)),
-        Call::Give(key, to) => step_kind(core, client, move || Call::Give(key, to)),
-        Call::Collect => step_kind(core, client, || Call::Collect),
-        Call::Bind(key) => step_kind(core, client, move || Call::Bind(key)),
-        Call::SetDispensable(key) => step_kind(core, client, move || Call::SetDispensable(key)),
-        Call::SetWeak(key) => step_kind(core, client, move || Call::SetWeak(key)),
+    match *call {
+        Call::Join => step_kind(core, client, || Call::Join, out),
+        Call::Shut => step_kind(core, client, || Call::Shut, out),
+        Call::OpenRoot => step_kind(core, client, || Call::OpenRoot, out),
+        Call::Duplicate(key) => step_kind(core, client, move || Call::Duplicate(key), out),
+        Call::AttachToken(key) => step_kind(core, client, move || Call::AttachToken(key), out),
+        Call::Sync(key) => step_kind(core, client, move || Call::Sync(key), out),
+        Call::Give(key, to) => step_kind(core, client, move || Call::Give(key, to), out),
+        Call::Collect => step_kind(core, client, || Call::Collect, out),
+        Call::Bind(key) => step_kind(core, client, move || Call::Bind(key), out),
+        Call::SetDispensable(key) => step_kind(
+            core,
+            client,
+            move || Call::SetDispensable(key),
+            out,
+        ),
+        Call::SetWeak(key) => step_kind(core, client, move || Call::SetWeak(key), out),
         Call::SetWeakOk(key, children) => {
-            step_kind(core, client, move || Call::SetWeakOk(key, children))
+            step_kind(core, client, move || Call::SetWeakOk(key, children), out)
         }
         Call::SetConstraints(key, constraints) => {
-            step_kind(core, client, move || Call::SetConstraints(key, constraints))
+            step_kind(
+                core,
+                client,
+                move || Call::SetConstraints(key, constraints),
+                out,
+            )
         }
-        Call::Check(key) => step_kind(core, client, move || Call::Check(key)),
-        Call::Take(key) => step_kind(core, client, move || Call::Take(key)),
-        Call::Release(key) => step_kind(core, client, move || Call::Release(key)),
-        Call::Close(key) => step_kind(core, client, move || Call::Close(key)),
+        Call::Check(key) => step_kind(core, client, move || Call::Check(key), out),
+        Call::Take(key) => step_kind(core, client, move || Call::Take(key), out),
+        Call::Release(key) => step_kind(core, client, move || Call::Release(key), out),
+        Call::Close(key) => step_kind(core, client, move || Call::Close(key), out),
         Call::DupHandle(buffer, strength) => {
-            step_kind(core, client, move || Call::DupHandle(buffer, strength))
+            step_kind(core, client, move || Call::DupHandle(buffer, strength), out)
         }
         Call::DropHandle(buffer, strength) => {
-            step_kind(core, client, move || Call::DropHandle(buffer, strength))
+            step_kind(
+                core,
+                client,
+                move || Call::DropHandle(buffer, strength),
+                out,
+            )
         }
         Call::GiveHandle(buffer, strength, to) => {
-            step_kind(core, client, move || Call::GiveHandle(buffer, strength, to))
+            step_kind(
+                core,
+                client,
+                move || Call::GiveHandle(buffer, strength, to),
+                out,
+            )
         }
-        Call::TrackNode(key) => step_kind(core, client, move || Call::TrackNode(key)),
+        Call::TrackNode(key) => step_kind(core, client, move || Call::TrackNode(key), out),
         Call::TrackLifetime(key, most) => {
-            step_kind(core, client, move || Call::TrackLifetime(key, most))
+            step_kind(core, client, move || Call::TrackLifetime(key, most), out)
         }
-        Call::TrackWeak(buffer) => step_kind(core, client, move || Call::TrackWeak(buffer)),
+        Call::TrackWeak(buffer) => step_kind(core, client, move || Call::TrackWeak(buffer), out),
     }
 }

@@ -12,6 +12,7 @@ ghost use Rattle.sm_names.specs.Timelines.{timeline};
 ghost use Rattle.sm_names.specs.Trackers.{Tracked, tracked};
 ghost use Rattle.std.specs.List.{cons_option, list_any};
 ghost use Rattle.std.specs.Option.{option_and_then};
+ghost use Rattle.std.specs.Result.{result_map_both};
 ghost use Rattle.trackers.specs.Table.{empty, is_untaken, reader_of, cell_of, without_id};
 ghost use Rattle.forest_store.specs.Forest.{empty_forest, given, node_at};
 ghost use Rattle.forest_store.specs.Nodes.{is_of};
@@ -249,6 +250,17 @@ impl Core {
         self.decide_answered(client, call, reply, named, node)
     }
 
+    /// What `step` would answer to this call, but for `HistoryFull` and `NoMemory`. The key of a node that
+    /// the call would make is not known before, and 0.0 stands in its place. This makes no event, and takes
+    /// no memory. Costs the look-ups of the call.
+    pub fn answer(&self, client: ClientId, call: &Call) -> Reply
+        ensures { result ≡ answer_of self.now.limits (readings_of self.now) client no_key call.now }
+    {
+        let node = self.named(key_of(call));
+        let traits = traits_of(call);
+        answer(self, client, NO_KEY, call, &traits, with_end(node))
+    }
+
     // Decides the call: its answer, except for the key of a new node, and its effect.
     #[inline(always)]
     fn decide(&self, client: ClientId, call: &Call) -> Decision
@@ -287,35 +299,42 @@ impl Core {
         }
     }
 
-    // Makes a call with an answer that came before its effect, as `step` says. Compiled once, so that
+    // Makes a call with an answer that came before its effect, as `step_into` says. Compiled once, so that
     // no kind of call has its code beside that of the effect.
     #[cold]
     #[inline(never)]
     pub(crate) fn commit_early(
         &mut self,
         client: ClientId,
-        call: Call,
+        call: &Call,
         reply: Reply,
-    ) -> Result<Reply, StepFault>
-        requires { reply ≡ answer_of self.old.limits (readings_of self.old) client no_key call }
-        ensures { Stepped self.old self.new client call result }
+        out: &mut Reply,
+    ) -> Result<(), StepFault>
+        requires { reply
+            ≡ answer_of self.old.limits (readings_of self.old) client no_key call.now }
+        ensures stepped { Stepped self.old self.new client call.now
+            (result_map_both (λ _. out.new) (λ fault. fault) result) }
+        ensures kept { OnErr result (out.new ≡ out.old) }
     {
-        let named = key_of(&call);
+        let named = key_of(call);
         let node = self.named(named);
-        let decision = self.decide_answered(client, &call, reply, named, node);
-        self.commit(client, &call, decision)
+        let decision = self.decide_answered(client, call, reply, named, node);
+        self.commit(client, call, decision, out)
     }
 
-    // Makes the call that was decided so, as `step` says.
+    // Makes the call that was decided so, as `step_into` says.
     #[inline(always)]
     pub(crate) fn commit(
         &mut self,
         client: ClientId,
         call: &Call,
         decision: Decision,
-    ) -> Result<Reply, StepFault>
+        out: &mut Reply,
+    ) -> Result<(), StepFault>
         requires { IsDecision self.old client call.now decision }
-        ensures { Stepped self.old self.new client call.now result }
+        ensures stepped { Stepped self.old self.new client call.now
+            (result_map_both (λ _. out.new) (λ fault. fault) result) }
+        ensures kept { OnErr result (out.new ≡ out.old) }
     {
         let Decision {
             reply,
@@ -327,7 +346,8 @@ impl Core {
         }
         if changes_nothing(call, &reply) {
             self.events = self.next_event();
-            return Ok(reply);
+            *out = reply;
+            return Ok(());
         }
         let Ok(key) = take_effect(&mut self.contents, client, call, &reply, &task, tracking) else {
             return Err(StepFault::NoMemory);
@@ -348,7 +368,8 @@ impl Core {
         );
         let carried = carried_end(client, call, &reply);
         put_end(&mut self.contents.forest, &task, carried);
-        Ok(with_key(reply, key))
+        *out = with_key(reply, key);
+        Ok(())
     }
 
     /// Makes one call: answers it, makes its change and all that the change forces, puts its end where
@@ -393,7 +414,39 @@ impl Core {
         ensures memory { IfErr result (λ fault.
             takes_no_memory call ≡ true → fault ≡ StepFault.HistoryFull) }
     {
-        dispatch(self, client, call)
+        let mut reply = Reply::Done;
+        self.step_into(client, &call, &mut reply)?;
+        Ok(reply)
+    }
+
+    /// Makes one call as `step` does, and costs less: the reply is written once, into a place that the
+    /// caller lends. At a fault this place keeps what it had.
+    #[inline(always)]
+    pub fn step_into(
+        &mut self,
+        client: ClientId,
+        call: &Call,
+        out: &mut Reply,
+    ) -> Result<(), StepFault>
+        ensures answer { OnOk result (
+            IsAnswer self.old.limits (readings_of self.old) client call.now out.new) }
+        ensures kind { OnOk result (fits_call call.now out.new ≡ true) }
+        ensures after { OnOk result (Follows self.old self.new client call.now out.new) }
+        ensures goes_on { OnOk result (
+            GoesOn self.old self.new ((client, call.now, out.new) ∷ [])) }
+        ensures untaken { OnOk result (self.new.trackers.untaken
+            ≡ self.old.trackers.untaken ++ cons_option (tracker_told out.new) []) }
+        ensures kept { OnErr result (IsSame self.old self.new) }
+        ensures equal { result ≡ Err StepFault.HistoryFull → self.new ≡ self.old }
+        ensures stays { OnErr result ((history : List Entry) →
+            Shows self.old history → Shows self.new history) }
+        ensures full { (result ≡ Err StepFault.HistoryFull)
+            ↔ (self.old.limits.events ≤ self.old.events) }
+        ensures memory { IfErr result (λ fault.
+            takes_no_memory call.now ≡ true → fault ≡ StepFault.HistoryFull) }
+        ensures out { OnErr result (out.new ≡ out.old) }
+    {
+        dispatch(self, client, call, out)
     }
 
     /// Makes calls in order, each as `step` does, and answers their replies in this order.
@@ -431,9 +484,10 @@ impl Core {
         let Ok(mut replies) = Vec::with_capacity(alloc, calls.len()) else {
             return Err((Vec::new(alloc), self.out_of_memory_fault()));
         };
+        let mut reply = Reply::Done;
         for (client, call) in calls {
-            match self.step(*client, *call) {
-                Ok(reply) => {
+            match self.step_into(*client, call, &mut reply) {
+                Ok(()) => {
                     replies.push_reserved(reply);
                 }
                 Err(fault) => {
@@ -445,7 +499,8 @@ impl Core {
     }
 
     /// Takes the reader of the tracker with this id: `Some` once for each tracker that a reply named,
-    /// otherwise `None`. Takes no memory. Costs O(log t), where t is the number of trackers ever made.
+    /// otherwise `None`. Takes no memory. Costs O(log t), where t is the number of trackers made and not
+    /// forgotten.
     pub fn take_tracker(&mut self, id: TrackerId) -> Option<Tracker>
         ensures tracker { result ≡ (if is_untaken self.old.trackers.untaken id
             then Some (reader_of self.old.trackers id) else None) }
@@ -455,6 +510,8 @@ impl Core {
         } }
         ensures shows { (history : List Entry) → Shows self.old history →
             Shows self.new history }
+        ensures shows_but { (gone : List Fired) (history : List Entry) → ShowsBut gone self.old history →
+            ShowsBut gone self.new history }
         ensures attached { (history : List Entry) → Shows self.old history →
             IfSome result (λ t. list_any (λ (u : Tracked). u.id == id)
             (tracked (timeline self.old.pool history)) ≡ true) }

@@ -203,14 +203,15 @@ module _ {N : Type 0} (whole : Table N) (old new : Slab (Slot N)) (nexts : List 
         }
 
     -- each part, from the facts above and from those of the cut
-    pub removes : Removes whole after key e.node
-    removes =
+    pub removes : (key.generation < 4294967295 → new.vacant_key ≡ key.slot) → Removes whole after key e.node
+    removes back =
         record {
           was = sym (node-through (row_at whole key)) ∙ ap (option_map (λ (row : Row N). row.node)) (sym cut.loose) ∙ found;
           gone = gone;
           others = λ k differ. others k differ ∙ cut.others k differ;
           keys = record { given = cut.keys.given; nexts = cut.keys.nexts; limit = cut.keys.limit };
           shorter = sym shorter ∙ cut.len;
+          vacant = back;
         }
       where
         found : node_at before key ≡ Some e.node

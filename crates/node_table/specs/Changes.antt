@@ -1,5 +1,5 @@
 -- What each call that changes a node table does to every key.
-use Rattle.std.specs.Prelude.{◌≡◌, ◌≢◌, ℕ, ◌+◌, false, not, ◌||◌, [], ◌∷◌, ◌++◌, Option, Some, None, option_map, filter, if◌then◌else◌}
+use Rattle.std.specs.Prelude.{◌≡◌, ◌≢◌, ℕ, ◌+◌, ◌<◌, false, not, ◌||◌, [], ◌∷◌, ◌++◌, Option, Some, None, option_map, filter, if◌then◌else◌}
 use Rattle.sm_names.specs.declared.keys.NodeKey.{NodeKey}
 use Rattle.sm_names.specs.Sameness.{same_key}
 use Rattle.node_table.specs.Table.{Row, Table, row_at, node_at, parent_at, next_at, was_given, table_len}
@@ -55,7 +55,8 @@ module _ {N : Type 0} where
     pub vacant : new.vacant ≡ old.vacant
     pub len : table_len new ≡ table_len old
 
-  -- the key is gone with this node, its parent lost that child, and no other row changed
+  -- the key is gone with this node, its parent lost that child, and no other row changed; the next birth uses its slot, unless
+  -- the key had the last generation
   pub record Removes (old new : Table N) (key : NodeKey) (node : N) : Type 0 where
     pub was : node_at old key ≡ Some node
     pub gone : row_at new key ≡ None
@@ -63,6 +64,7 @@ module _ {N : Type 0} where
         → row_at new other ≡ option_map (at_parent (parent_at old key) (without_child key) other) (row_at old other)
     pub keys : SameKeys old new
     pub shorter : table_len new + 1 ≡ table_len old
+    pub vacant : key.generation < 4294967295 → new.vacant ≡ key.slot
 
   -- the key has this node, and nothing else changed
   pub record Writes (old new : Table N) (key : NodeKey) (node : N) : Type 0 where

@@ -56,7 +56,8 @@ pub fn apply<E: Setup, S: Ledger, W: Ledger>(
     if state.log.reserve(1).is_err() {
         return Err(StepFault::NoMemory);
     }
-    let reply = state.core.step(client, call)?;
+    let mut reply = Reply::Done;
+    state.core.step_into(client, &call, &mut reply)?;
     state.log.push_reserved((client, call, reply));
     state.events.write(&mut units.events, ONE_EVENT);
     state.strong.write(&mut units.strong, moves_of(Strength::Strong, &call, &reply));

@@ -8,7 +8,7 @@ use crate::codes::{BAD_CALL, DONE, HISTORY_FULL, NO_MEMORY, NOT_OPEN};
 use crate::handle::{CoreHandle, put, take};
 use crate::words::{CallWords, ReplyWords, call_of, tell};
 use lifetime_core::Core;
-use sm_names::{ClientId, StepFault};
+use sm_names::{ClientId, Reply, StepFault};
 use std::alloc::Global;
 
 // Makes the call that the words encode.
@@ -26,8 +26,9 @@ fn step_by_words(core: &mut Core, client: ClientId, asked: &CallWords, told: &mu
     let Some(call) = call_of(asked) else {
         return BAD_CALL;
     };
-    match core.step(client, call) {
-        Ok(reply) => {
+    let mut reply = Reply::Done;
+    match core.step_into(client, &call, &mut reply) {
+        Ok(()) => {
             tell(told, &reply);
             DONE
         }

@@ -1,15 +1,15 @@
 -- What a visit of one row and its firing leave.
-use Rattle.std.proofs.Common.{◌≡◌, ◌≢◌, ℕ, ◌<◌, Bool, true, false, if◌then◌else◌, List, [], ◌∷◌, ◌++◌, length, get_or, set}
-use Rattle.std.proofs.Common.{option_to_list, Option, Some, None, IsSomeAnd, refl, sym, ap, subst, ◌∙◌, arith, append-nil}
+use Rattle.std.proofs.Common.{◌≡◌, ◌≢◌, ℕ, ◌<◌, Bool, true, false, List, [], ◌∷◌, ◌++◌, length, get_or, set, if◌then◌else◌}
+use Rattle.std.proofs.Common.{Option, Some, None, IsSomeAnd, refl, sym, ap, subst, ◌∙◌, arith}
 use Rattle.std.specs.Bool.{OnTrue}
-use Rattle.std.proofs.lemmas.List.{length_push, get_or_push, get_or_append_left, set-get_or}
+use Rattle.std.proofs.lemmas.List.{length_push, get_or_push, get_or_append_left}
 use Rattle.sm_names.specs.declared.tracking.Fired.{Fired}
 use Rattle.sm_names.specs.Trackers.{World}
 use Rattle.trackers.specs.declared.place.Place.{Place}
 use Rattle.trackers.specs.declared.place.Stage.{Stage}
 use Rattle.trackers.specs.declared.place.Stage.TheVariants.{InSlot, Untaken, Taken}
 use Rattle.trackers.specs.Row.{TrackerRow, RowState, Waits, Over, WaitingRow, is_waiting}
-use Rattle.trackers.specs.Held.{is_met, row_after, fires}
+use Rattle.trackers.specs.Held.{is_met}
 use Rattle.trackers.specs.Places.{Slots, slot_at, firing_or_none, row_in, row_over, row_as, row_at}
 use Rattle.trackers.specs.Places.{rows_of, IsKept, IsKeptAt, IsHere, IsFiredAt, RowsInvariant}
 use Rattle.trackers.proofs.SlotLemmas.{rows_long, row_there, kept_there, in_slot, at_place}
@@ -150,22 +150,3 @@ met_waits_at w id cell (Over event) has met = met
 -- a row that fired waits for nothing that can be met, so a row that is met waits
 pub met_waits : (w : World) (row : TrackerRow) → is_met w row ≡ true → is_waiting row ≡ true
 met_waits w row met = met_waits_at w row.id row.cell row.state row.has_reader met
-
-module _ (w : World) (e : ℕ) (rows : List TrackerRow) (fired : List Fired) (at : ℕ) (d : TrackerRow) where
-  -- a visit of a row that is not met leaves all
-  pub unmet_rows : is_met w (get_or rows at d) ≡ false → rows ≡ set rows at (row_after w e (get_or rows at d))
-  unmet_rows unmet = rw unmet (sym (set-get_or rows at d))
-
-  -- a visit of a row that is not met adds no firing
-  pub unmet_fired : is_met w (get_or rows at d) ≡ false → fired ≡ fired ++ option_to_list (fires w e (get_or rows at d))
-  unmet_fired unmet = rw unmet (sym (append-nil fired))
-
-  -- a row that is met is over
-  pub met_rows : is_met w (get_or rows at d) ≡ true →
-      set rows at (record (get_or rows at d) { state = Over e }) ≡ set rows at (row_after w e (get_or rows at d))
-  met_rows met = rw met refl
-
-  -- a visit of a row that is met appends the firing of its tracker
-  pub met_fired : is_met w (get_or rows at d) ≡ true →
-      fired ++ record { tracker = (get_or rows at d).id; event = e } ∷ [] ≡ fired ++ option_to_list (fires w e (get_or rows at d))
-  met_fired met = rw met refl

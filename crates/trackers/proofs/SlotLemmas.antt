@@ -1,9 +1,9 @@
 -- What a change of one place, its slot and the firings leaves of the rows.
-use Rattle.std.proofs.Common.{◌≡◌, ◌≢◌, ℕ, zero, suc, ◌<◌, ◌≤◌, Bool, true, false, List, [], ◌∷◌, ◌++◌, map, length}
-use Rattle.std.proofs.Common.{get_or, set, option_to_list, Option, Some, None, IsSomeAnd, refl, sym, ap, subst, ◌∙◌, arith}
+use Rattle.std.proofs.Common.{◌≡◌, ◌≢◌, ℕ, zero, suc, ◌<◌, ◌≤◌, true, false, List, [], ◌∷◌, ◌++◌, map, length}
+use Rattle.std.proofs.Common.{get_or, set, Option, Some, None, IsSomeAnd, refl, sym, ap, subst, ◌∙◌, arith}
 use Rattle.std.specs.Bool.{OnTrue}
 use Rattle.std.specs.List.{AllByRecursion}
-use Rattle.std.proofs.lemmas.List.{map_push, length-map, get_or_default, same_from_push}
+use Rattle.std.proofs.lemmas.List.{map_push, length-map, get_or_default}
 use Rattle.std.proofs.lemmas.List.Elements.{All-from_recursion}
 use Rattle.sm_names.specs.declared.tracking.Fired.{Fired}
 use Rattle.trackers.specs.declared.place.Place.{Place}
@@ -77,14 +77,6 @@ module _ (slots : Slots) (fired : List Fired) (number name : ℕ) (known : Optio
   -- in a slot there is a row
   pub in_slot : stage ≡ InSlot → IsSomeAnd (slot_at slots number) (λ (row : WaitingRow). row.cell ≡ name)
   in_slot is = subst (IsKept slots fired number name known) is kept
-
-  -- after the firing there is that, whether the reader is here
-  pub in_fired : stage ≡ Untaken → number < length fired
-  in_fired is = subst (IsKept slots fired number name known) is kept
-
-  -- or was taken
-  pub in_taken : (was_set : Bool) → stage ≡ Taken was_set → number < length fired
-  in_taken was_set is = (subst (IsKept slots fired number name known) is kept).0
 
 -- ---- one slot changes
 
@@ -229,14 +221,3 @@ module _ (slots slots' : Slots) (fired : List Fired) (key : ℕ) (row : WaitingR
           rising = subst IdsRise (sym pushed) (rising_push (row_of_waiting row) (rows_of slots fired places) below sound.rising);
         },
       )
-
--- a row that was added and taken out again leaves the others
-pub unpushed : (old new : List TrackerRow) (row : TrackerRow) (o : Option TrackerRow) → old ++ row ∷ [] ≡ new ++ option_to_list o →
-    (o ≡ None → old ++ row ∷ [] ≡ []) → new ≡ old
-unpushed old new row (Some other) is none = sym (same_from_push old new row other is).0
-unpushed old new row None is none = absurd (not_empty old (none refl))
-  where
-    -- by cases: both lists have an element
-    not_empty : (rows : List TrackerRow) → rows ++ row ∷ [] ≡ [] → ⊥
-    not_empty [] e = cc
-    not_empty (r ∷ rows) e = cc

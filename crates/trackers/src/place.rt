@@ -29,8 +29,9 @@ pub(crate) enum Stage {
     Taken { was_set: bool },
 }
 
-/// What the table keeps of a tracker for good: the slot of its row, or the place of its firing. The
-/// note, which takes no bytes, tells the proofs the name of its cell, and the firing that set it.
+/// What the table keeps of a tracker until it is forgotten: the slot of its row, or the place of its
+/// firing. The note, which takes no bytes, tells the proofs the name of its cell, and the firing that
+/// set it.
 #[derive(Drop)]
 pub(crate) struct Place {
     pub(crate) number: u32,

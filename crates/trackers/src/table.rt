@@ -23,15 +23,16 @@ use std::marker::Model;
 /// Why a tracker was not attached. Then nothing changed.
 #[derive(Clone, Copy, Debug, PartialEq, Eq)]
 pub enum TrackFault {
-    /// Memory was refused, or 4,294,967,295 trackers were attached before.
+    /// Memory was refused, or 4,294,967,295 trackers are kept: they wait, or fired and were not
+    /// forgotten.
     NoMemory,
     /// As many trackers wait as may.
     Full,
 }
 
 /// All trackers of a service. One that waits takes a row, a cell with the room for its value, and its
-/// places in the tables. Of one that fired 24 bytes are kept for good: its firing, and the place that
-/// names it.
+/// places in the tables. Of one that fired 24 bytes are kept until it is forgotten: its firing, and the
+/// place that names it.
 #[derive(Drop)]
 pub struct Trackers {
     limit: u32,

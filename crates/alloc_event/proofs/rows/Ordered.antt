@@ -1,9 +1,8 @@
 -- The live nodes and the buffers of a forest, in order, told by its table and its entries.
-use Rattle.alloc_event.proofs.Common.{ℕ, ◌≡◌, refl, ap, ◌∙◌, nat_lt, cond, true, false, List, [], ◌∷◌, ◌++◌, map, filter, Table, Entry}
+use Rattle.alloc_event.proofs.Common.{◌≡◌, refl, ap, ◌∙◌, List, [], ◌∷◌, ◌++◌, map, filter, Table, Entry}
 use Rattle.alloc_event.proofs.Common.{HeldBuffer, Node, CollectionRow, all_keys, forest_of, nodes_with, rows_of, sorted_by, nodes_of_all}
 use Rattle.forest_store.specs.Questions.{is_live_node}
 use Rattle.std.specs.List.{flat_map}
-use Rattle.sm_names.specs.Words.{insert_by}
 use Rattle.forest_store.specs.Forest.{held_by_page, live_keys}
 use Rattle.forest_store.proofs.newborns.Forest.{helds_in}
 
@@ -13,25 +12,6 @@ pub live_in_order : (t : Table Node) (ss : List CollectionRow) →
     (sorted_by (λ (n : Node). n.event) (filter is_live_node (nodes_with t (all_keys ss))))
 live_in_order t ss =
     ap (λ ns. map (λ (n : Node). n.key) (sorted_by (λ (n : Node). n.event) (filter is_live_node ns))) (nodes_of_all t ss)
-
--- one that is made of another is put into the place of that
-pub insert_by-map : {A B : Type 0} (number : B → ℕ) (f : A → B) (x : A) (xs : List A) →
-    insert_by number (f x) (map f xs) ≡ map f (insert_by (λ y. number (f y)) x xs)
-insert_by-map number f x [] = refl
-insert_by-map number f x (y ∷ ys) =
-    elim (nat_lt (number (f y)) (number (f x))) as (λ b.
-    cond b (f y ∷ insert_by number (f x) (map f ys)) (f x ∷ f y ∷ map f ys)
-    ≡ map f (cond b (y ∷ insert_by (λ z. number (f z)) x ys) (x ∷ y ∷ ys))) [
-      | true ↦ ap (λ l. f y ∷ l) (insert_by-map _ f x ys)
-      | false ↦ refl
-    ]
-
--- a map of sorted elements is sorted by what they were sorted by
-pub sorted_by-map : {A B : Type 0} (number : B → ℕ) (f : A → B) (xs : List A) →
-    sorted_by number (map f xs) ≡ map f (sorted_by (λ y. number (f y)) xs)
-sorted_by-map number f [] = refl
-sorted_by-map number f (x ∷ xs) =
-    ap (insert_by number (f x)) (sorted_by-map _ f xs) ∙ insert_by-map number f x (sorted_by (λ y. number (f y)) xs)
 
 -- all buffers are those of the entries
 held_of_all : (es : List Entry) → flat_map (λ (s : CollectionRow). s.held) (rows_of es) ≡ flat_map (λ (e : Entry). e.held.items) es

@@ -118,8 +118,9 @@ room_left most count never = by (nat_le most count) refl
     by true full = absurd (never (leb-true most count full))
     by false less = leb-false most count less
 
--- what a step tells where it answers
-pub makes : (old new : State) (client : ℕ) (call : Call) (reply : Reply) (result : Result Reply StepFault) → result ≡ Ok reply →
+-- what a step tells where it answers; the reply may stand in its result or beside it
+pub makes : {R : Type 0} {told : R} (old new : State) (client : ℕ) (call : Call) (reply : Reply) (result : Result R StepFault) →
+    result ≡ Ok told →
     ((result ≡ Err StepFault.HistoryFull) ↔ (old.limits.events ≤ old.events)) →
     IsAnswer old.limits (readings_of old) client call reply → Follows old new client call reply → Makes old new (client, call, reply)
 makes old new client call reply result is full answer follows = record {
@@ -148,7 +149,8 @@ pub stopped_untaken : (old new : State) (made : List Entry) (fault : StepFault) 
 stopped_untaken old new made fault stops = same_untaken stops.last new stops.kept ∙ leads_untaken old stops.last made stops.made
 
 -- it says that the history is full exactly where it is
-pub stopped_full : (last new : State) (fault : StepFault) (result : Result Reply StepFault) → result ≡ Err fault → IsSame last new →
+pub stopped_full : {R : Type 0} (last new : State) (fault : StepFault) (result : Result R StepFault) → result ≡ Err fault →
+    IsSame last new →
     ((result ≡ Err StepFault.HistoryFull) ↔ (last.limits.events ≤ last.events)) →
     (fault ≡ StepFault.HistoryFull) ↔ (new.limits.events ≤ new.events)
 stopped_full last new fault result is same full = (
@@ -167,8 +169,8 @@ stops_at_once s calls replies fault none = record {
 }
 
 -- a run that stops behind its first calls
-pub stops_there : (old last new : State) (made : List Entry) (fault : StepFault) (result : Result Reply StepFault) → result ≡ Err fault →
-    Leads old made last → IsSame last new →
+pub stops_there : {R : Type 0} (old last new : State) (made : List Entry) (fault : StepFault) (result : Result R StepFault) →
+    result ≡ Err fault → Leads old made last → IsSame last new →
     (result ≡ Err StepFault.HistoryFull → new ≡ last) → Stops old made fault new
 stops_there old last new made fault result is leads same equal = record {
   last = last;

@@ -1,5 +1,5 @@
 -- Intervals in order of page, as a pool keeps them.
-use Rattle.forest_store.proofs.Common.{cases_eq, le-ltb, ℕ, ◌≡◌, ◌≤◌, refl, ap, sym, ◌∙◌, Bool, true, false, nat_lt, cond, List, [], ◌∷◌}
+use Rattle.forest_store.proofs.Common.{cases_eq, ℕ, ◌≡◌, refl, ap, sym, ◌∙◌, Bool, true, false, nat_lt, cond, List, [], ◌∷◌}
 use Rattle.forest_store.proofs.Common.{◌++◌, map, inl, inr, list_any, Interval, insert_by, by_page, with_buffers, with_interval, arith}
 use Rattle.sm_names.specs.Apart.{at_pages}
 use Rattle.forest_store.proofs.lists.SameIntervals.{any-sorted, insert-swap}
@@ -12,10 +12,6 @@ put_in new is = insert_by (λ (i : Interval). i.start) new is
 put_is : (new : Interval) (is : List Interval) → with_interval new is ≡ put_in new is
 put_is new [] = refl
 put_is new (i ∷ is) = ap (λ (l : List Interval). cond (nat_lt i.start new.start) (i ∷ l) (new ∷ i ∷ is)) (put_is new is)
-
--- a number that is not above another is not smaller in it
-pub not_lt : (a b : ℕ) → b ≤ a → nat_lt a b ≡ false
-not_lt a b l = le-ltb a b l
 
 -- an interval is inserted in front of one that does not begin before it
 pub front : (new i : Interval) (is : List Interval) → nat_lt i.start new.start ≡ false →

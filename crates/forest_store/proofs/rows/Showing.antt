@@ -1,6 +1,6 @@
 -- What the forest that a table and entries make is read as.
-use Rattle.forest_store.proofs.Common.{◌≡◌, ◌≤◌, ℕ, ◌==◌, ◌+◌, true, false, not, List, [], ◌∷◌, length, map, Option, Some}
-use Rattle.forest_store.proofs.Common.{None, option_map, if◌then◌else◌, refl, ap, ◌∙◌, arith, filter, find, list_any}
+use Rattle.forest_store.proofs.Common.{◌≡◌, ◌≤◌, ℕ, ◌==◌, ◌+◌, true, false, not, List, [], ◌∷◌, length, Option, Some, if◌then◌else◌}
+use Rattle.forest_store.proofs.Common.{None, option_map, refl, ap, ◌∙◌, arith, filter, find, list_any}
 use Rattle.forest_store.proofs.Common.{list_all, cons_option, option_map_or, NodeKey, Buffers, same_key, and_left, and_right}
 use Rattle.forest_store.proofs.Common.{Table, node_at, Entry, Node, Collection, node_of, CollectionRow, row_of, rows_of}
 use Rattle.forest_store.proofs.Common.{nodes_with, collection_in, forest_of, all_keys, is_filed, are_filed, IsStored, IfSome}
@@ -14,12 +14,6 @@ use Rattle.forest_store.proofs.lists.Lookups.{nothing, node_of-looked}
 pub nodes_of_all : (t : Table Node) (es : List CollectionRow) → all_nodes (forest_of t es) ≡ nodes_with t (all_keys es)
 nodes_of_all t [] = refl
 nodes_of_all t (e ∷ es) = grind (arith, nodes_of_all t es, filter_map-append)
-
--- the collections have the ids of the entries
-pub ids_of_all : (t : Table Node) (es : List Entry) →
-    map (λ (c : Collection). c.id) (forest_of t (rows_of es)).collections ≡ map (λ (e : Entry). e.id) es
-ids_of_all t [] = refl
-ids_of_all t (e ∷ es) = ap (λ (ids : List ℕ). e.id ∷ ids) (ids_of_all t es)
 
 -- the pages beside a collection are those of the other entries
 pub pages_of_others : (t : Table Node) (id : ℕ) (es : List Entry) → beside (forest_of t (rows_of es)) id

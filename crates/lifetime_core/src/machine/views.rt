@@ -1,8 +1,12 @@
 //! Views of a core: fired trackers, nodes, buffers and pages, collections, clients and handles.
-ghost use Rattle.std.specs.Prelude.{◌≡◌, ◌+◌, ◌≤◌, List, map, reverse, option_map, if◌then◌else◌};
+//!
+//! Each view is that of every history that the core shows, but for the firings `gone` that it forgot. A
+//! core that forgot none shows its histories but for `[]`, so `shown []` speaks of `Shows` itself.
+ghost use Rattle.std.specs.Prelude.{◌≡◌, ◌+◌, ◌≤◌, ◌++◌, List, map, reverse, option_map, if◌then◌else◌};
 ghost use Rattle.std.specs.Prelude.{AllPairs, IfOk, IfSome, None, Some, []};
 ghost use Rattle.std.specs.Option.{option_map_or};
 ghost use Rattle.sm_names.specs.declared.outcomes.Fault.{Fault};
+ghost use Rattle.sm_names.specs.declared.tracking.Fired.{Fired as Firing};
 ghost use Rattle.sm_names.specs.declared.keys.HeldBuffer.{HeldBuffer as Held};
 ghost use Rattle.sm_names.specs.Births.{birth_of};
 ghost use Rattle.sm_names.specs.Ends.{clients as clients_after};
@@ -20,7 +24,7 @@ ghost use Rattle.forest_store.specs.Scenes.{IsSound as IsSoundCollection};
 ghost use Rattle.forest_store.specs.Snapshots.{collection_of};
 ghost use Rattle.buffer_holds.specs.Counts.{moving_count, of, total};
 ghost use Rattle.core_state.specs.Reads.{buffers_in, fault_in, is_live_in, views_of};
-ghost use Rattle.core_state.specs.Shown.{Shows, collection_after, all_kept_nodes, node_after, pages_beside_after};
+ghost use Rattle.core_state.specs.Shown.{ShowsBut, collection_after, all_kept_nodes, node_after, pages_beside_after};
 ghost use Rattle.core_state.specs.State.{Client as ClientRow};
 
 use super::Core;
@@ -34,12 +38,12 @@ use sm_names::{
 };
 
 impl Core {
-    /// The trackers that fired, by event, and by rising id within an event. Costs O(1), and takes no
-    /// memory.
+    /// The trackers that fired, by event, and by rising id within an event, without those that the core
+    /// forgot. Costs O(1), and takes no memory.
     pub fn fired(&self) -> &[Fired]
         ensures value { result.now ≡ self.now.trackers.fired }
-        ensures shown { (history : List Entry) → Shows self.now history →
-            result.now ≡ fired_after (timeline self.now.pool history) }
+        ensures shown { (gone : List Firing) (history : List Entry) → ShowsBut gone self.now history →
+            gone ++ result.now ≡ fired_after (timeline self.now.pool history) }
     {
         self.contents.trackers.fired()
     }
@@ -48,7 +52,7 @@ impl Core {
     /// one had it. Costs one look-up.
     pub fn is_live(&self, key: NodeKey) -> bool
         ensures value { result ≡ is_live_in self.now key }
-        ensures shown { (history : List Entry) → Shows self.now history →
+        ensures shown { (gone : List Firing) (history : List Entry) → ShowsBut gone self.now history →
             result ≡ is_live_after (timeline self.now.pool history) key }
     {
         is_live(self.contents.forest.node(key))
@@ -59,7 +63,7 @@ impl Core {
     pub fn cause(&self, key: NodeKey) -> Option<(Cause, NodeKey)>
         ensures value { result
             ≡ option_map (λ (f : Fault). (f.cause, f.origin)) (fault_in self.now key) }
-        ensures shown { (history : List Entry) → Shows self.now history →
+        ensures shown { (gone : List Firing) (history : List Entry) → ShowsBut gone self.now history →
             let marks = timeline self.now.pool history in
             result ≡ (if is_kept marks key
             then option_map (λ (f : Fault). (f.cause, f.origin)) (fault_after marks key)
@@ -73,7 +77,8 @@ impl Core {
     /// `NoMemory` if the list is refused. Costs O(n + l log l) for n kept nodes, of which l are live.
     pub fn live(&self) -> Result<Vec<NodeKey>, NoMemory>
         ensures value { IfOk result (λ keys. keys.items ≡ live_keys self.now.forest) }
-        ensures shown { IfOk result (λ keys. (history : List Entry) → Shows self.now history →
+        ensures shown { IfOk result (λ keys. (gone : List Firing) (history : List Entry) →
+            ShowsBut gone self.now history →
             keys.items ≡ live_nodes (timeline self.now.pool history)) }
     {
         self.contents.forest.live()
@@ -85,7 +90,8 @@ impl Core {
     pub fn held(&self) -> Result<Vec<HeldBuffer>, NoMemory>
         ensures value { IfOk result (λ held.
             held.items ≡ held_by_page self.now.forest) }
-        ensures shown { IfOk result (λ held. (history : List Entry) → Shows self.now history →
+        ensures shown { IfOk result (λ held. (gone : List Firing) (history : List Entry) →
+            ShowsBut gone self.now history →
             let marks = timeline self.now.pool history in
             held.items ≡ held_after self.now.pool marks) }
         // Each ends before the next begins.
@@ -103,7 +109,7 @@ impl Core {
     pub fn held_of(&self, collection: CollectionId) -> &[HeldBuffer]
         ensures value { result.now ≡ option_map_or (λ (c : CollectionValue). c.held)
             (collection_told self.now.forest collection) [] }
-        ensures shown { (history : List Entry) → Shows self.now history →
+        ensures shown { (gone : List Firing) (history : List Entry) → ShowsBut gone self.now history →
             let marks = timeline self.now.pool history in
             result.now ≡ (if is_kept_collection marks collection
             then (collection_after self.now.pool marks collection).held else []) }
@@ -114,7 +120,7 @@ impl Core {
     /// The number of the pool's pages that no buffer holds. Costs O(1).
     pub fn free_pages(&self) -> u32
         ensures value { result ≡ (views_of self.now).free }
-        ensures shown { (history : List Entry) → Shows self.now history →
+        ensures shown { (gone : List Firing) (history : List Entry) → ShowsBut gone self.now history →
             result ≡ free_after self.now.pool (timeline self.now.pool history) }
     {
         self.contents.pool.free_pages()
@@ -126,7 +132,8 @@ impl Core {
     /// `NoMemory` if the list is refused. Costs a copy of these nodes.
     pub fn nodes(&self) -> Result<Vec<Node>, NoMemory>
         ensures value { IfOk result (λ nodes. nodes.items ≡ all_nodes self.now.forest) }
-        ensures shown { IfOk result (λ nodes. (history : List Entry) → Shows self.now history →
+        ensures shown { IfOk result (λ nodes. (gone : List Firing) (history : List Entry) →
+            ShowsBut gone self.now history →
             nodes.items ≡ all_kept_nodes (timeline self.now.pool history)) }
     {
         self.contents.forest.nodes()
@@ -138,7 +145,8 @@ impl Core {
     /// `NoMemory` if the list is refused. Costs O(collections + their buffers).
     pub fn pages_beside(&self, collection: CollectionId) -> Result<Vec<Interval>, NoMemory>
         ensures value { IfOk result (λ pages. pages.items ≡ beside self.now.forest collection) }
-        ensures shown { IfOk result (λ pages. (history : List Entry) → Shows self.now history →
+        ensures shown { IfOk result (λ pages. (gone : List Firing) (history : List Entry) →
+            ShowsBut gone self.now history →
             let marks = timeline self.now.pool history in
             pages.items ≡ pages_beside_after self.now.pool marks collection) }
     {
@@ -156,7 +164,7 @@ impl Core {
     /// kept node, and each of its buffers is home. Costs O(log collections).
     pub fn given(&self, collection: CollectionId) -> Option<Buffers>
         ensures value { result ≡ buffers_in self.now collection }
-        ensures shown { (history : List Entry) → Shows self.now history →
+        ensures shown { (gone : List Firing) (history : List Entry) → ShowsBut gone self.now history →
             let marks = timeline self.now.pool history in
             result ≡ (if is_kept_collection marks collection
             then given_after marks collection else None) }
@@ -169,7 +177,8 @@ impl Core {
     pub fn clients(&self) -> Result<Vec<ClientId>, NoMemory>
         ensures value { IfOk result (λ ids. ids.items
             ≡ map (λ (c : ClientRow). c.id) self.now.clients) }
-        ensures shown { IfOk result (λ ids. (history : List Entry) → Shows self.now history →
+        ensures shown { IfOk result (λ ids. (gone : List Firing) (history : List Entry) →
+            ShowsBut gone self.now history →
             ids.items ≡ reverse (clients_after (timeline self.now.pool history))) }
     {
         match ids_of(*self.contents.clients.allocator(), &self.contents.clients) {
@@ -182,7 +191,7 @@ impl Core {
     /// belong to nobody. Costs one look-up.
     pub fn open_handles(&self, client: ClientId, buffer: BufferName, strength: Strength) -> u32
         ensures value { result ≡ of self.now.holds client buffer strength }
-        ensures shown { (history : List Entry) → Shows self.now history →
+        ensures shown { (gone : List Firing) (history : List Entry) → ShowsBut gone self.now history →
             result ≡ open_after (timeline self.now.pool history) client buffer strength }
     {
         self.contents.holds.of(client, buffer, strength)
@@ -191,7 +200,7 @@ impl Core {
     /// The number of handles of this buffer and strength in parcels. Costs one look-up.
     pub fn handles_in_parcels(&self, buffer: BufferName, strength: Strength) -> u32
         ensures value { result ≡ moving_count self.now.holds buffer strength }
-        ensures shown { (history : List Entry) → Shows self.now history →
+        ensures shown { (gone : List Firing) (history : List Entry) → ShowsBut gone self.now history →
             result ≡ moving_after (timeline self.now.pool history) buffer strength }
     {
         self.contents.holds.moving(buffer, strength)
@@ -201,7 +210,7 @@ impl Core {
     /// where k is the number of clients that have some.
     pub fn total_handles(&self, buffer: BufferName, strength: Strength) -> u32
         ensures value { result ≡ total self.now.holds buffer strength }
-        ensures shown { (history : List Entry) → Shows self.now history →
+        ensures shown { (gone : List Firing) (history : List Entry) → ShowsBut gone self.now history →
             result ≡ total_after (timeline self.now.pool history) buffer strength }
     {
         self.open_total(buffer, strength)
@@ -223,7 +232,8 @@ impl Core {
             ≡ collection_told self.now.forest id) }
         ensures sound { IfOk result (λ copied.
             IfSome copied (λ s. IsSoundCollection (collection_of s))) }
-        ensures shown { IfOk result (λ copied. (history : List Entry) → Shows self.now history →
+        ensures shown { IfOk result (λ copied. (gone : List Firing) (history : List Entry) →
+            ShowsBut gone self.now history →
             let marks = timeline self.now.pool history in
             option_map collection_of copied ≡ (if is_kept_collection marks id
             then Some (collection_after self.now.pool marks id) else None)) }
@@ -235,7 +245,7 @@ impl Core {
     /// node is gone and its end is spent. Costs one look-up.
     pub fn node(&self, key: NodeKey) -> Option<Node>
         ensures value { result ≡ node_at self.now.forest key }
-        ensures shown { (history : List Entry) → Shows self.now history →
+        ensures shown { (gone : List Firing) (history : List Entry) → ShowsBut gone self.now history →
             let marks = timeline self.now.pool history in
             result ≡ (if is_kept marks key
             then option_map (node_after marks) (birth_of marks key) else None) }

@@ -1,4 +1,4 @@
-use Rattle.std.proofs.Common.{ℕ, ◌≡◌, ◌∙◌, List, map, refl, subst, sym}
+use Rattle.std.proofs.Common.{ℕ, ◌≡◌, ◌∙◌, List, [], map, refl, subst, sym}
 use Rattle.sm_names.specs.Timelines.{timeline}
 use Rattle.core_state.specs.Shown.{client_after}
 use Rattle.alike_cores.specs.Alike.{client_renamed}
@@ -11,7 +11,7 @@ pub returns : goal.returns
 returns c = λ h.
     clients-alike (client_renamed (new_key c.args.names.now) (new_id c.args.names.now)) c.args.one.now c.args.other.now c.args.first.now
     c.args.second.now c.requires.one c.requires.other c.in_ok-clients.clients.items c.in_ok-others.others.items
-    (c.in_ok-clients.ensures.shown c.args.first.now c.requires.one) (c.in_ok-others.ensures.shown c.args.second.now c.requires.other)
+    (c.in_ok-clients.ensures.shown [] c.args.first.now c.requires.one) (c.in_ok-others.ensures.shown [] c.args.second.now c.requires.other)
     (sym c.deref-2.ensures.value ∙ (c.if-not-are_same.ensures refl ∙ c.deref.ensures.value))
     (subst (λ (ids : List ℕ). map (client_after (timeline c.args.other.now.pool c.args.second.now)) ids
     ≡ map (λ client. client_renamed (new_key c.args.names.now) (new_id c.args.names.now)

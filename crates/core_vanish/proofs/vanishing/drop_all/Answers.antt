@@ -8,8 +8,8 @@ use Rattle.core_vanish.proofs.vanishing.drop_all.Goals as goal
 
 pub loop-buffer-init : goal.loop-buffer-init
 loop-buffer-init c =
-    drop_held c.args.core.now c.args.client c.as_slice-rest.result.now (λ history shows.
-    c.as_slice-rest.ensures.value ∙ c.in-Ok.ensures.shown history shows)
+    drop_held c.args.core.now c.args.client c.as_slice-rest.result.now
+    (c.as_slice-rest.ensures.value ∙ c.in-Ok.ensures.value)
 
 pub loop-buffer-preserved : goal.loop-buffer-preserved
 loop-buffer-preserved c =

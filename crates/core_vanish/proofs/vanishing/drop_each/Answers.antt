@@ -1,5 +1,7 @@
-use Rattle.std.proofs.Common.{ℕ, ◌≡◌, subst, arith}
+use Rattle.std.proofs.Common.{ℕ, ◌≡◌, ◌∙◌, subst, arith}
 use Rattle.sm_names.specs.Handles.{open_of}
+use Rattle.core_state.specs.Shown.{recalling}
+use Rattle.core_state.proofs.views.Shown.{open_shown}
 use Rattle.core_vanish.specs.Events.{Lets, Whatever}
 use Rattle.core_vanish.specs.Vanishes.{IsDrop}
 use Rattle.core_vanish.specs.Phases.{Phase}
@@ -9,7 +11,9 @@ use Rattle.core_vanish.proofs.vanishing.drop_each.Goals as goal
 
 pub loop-left-init : goal.loop-left-init
 loop-left-init c =
-    drop_first c.args.core.now c.args.client c.args.buffer c.args.strength c.open_handles-left.result c.open_handles-left.ensures.shown
+    drop_first c.args.core.now c.args.client c.args.buffer c.args.strength c.open_handles-left.result
+    (λ gone history shows. c.open_handles-left.ensures.value
+    ∙ open_shown (recalling gone c.args.core.now) history shows c.args.client c.args.buffer c.args.strength)
 
 pub loop-left-preserved : goal.loop-left-preserved
 loop-left-preserved c =

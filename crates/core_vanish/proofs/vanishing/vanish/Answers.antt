@@ -19,7 +19,7 @@ returns-in-Ok-clause-ok c =
     (λ fault marks events later. IsBegun c.args.client fault events) c.vanish_by_events-end.result c.vanish_by_events-end.ensures.ok
     c.vanish_by_events-end.ensures.err in
     vanishes_by c.args.client (c.events.result - c.events-before.result) c.args.core.now c.vanish_by_events-end.new.core
-    (omega (arith, grew, c.events.ensures.value, c.events-before.ensures.value)) c.in-Ok.ensures.ok
+    c.events-before.ensures.legal (omega (arith, grew, c.events.ensures.value, c.events-before.ensures.value)) c.in-Ok.ensures.ok
 
 pub returns-in-Err-clause-err : goal.returns-in-Err-clause-err
 returns-in-Err-clause-err c =
@@ -28,5 +28,5 @@ returns-in-Err-clause-err c =
     c.vanish_by_events-end.ensures.err in
     let failed : VanishFault → Result (Unit {0}) VanishFault = λ fault. Err fault in
     stops_by c.args.client (c.events.result - c.events-before.result) c.in-Err.fault c.args.core.now c.vanish_by_events-end.new.core
-    (omega (arith, grew, c.events.ensures.value, c.events-before.ensures.value)) c.in-Err.ensures.err
+    c.events-before.ensures.legal (omega (arith, grew, c.events.ensures.value, c.events-before.ensures.value)) c.in-Err.ensures.err
     (λ e. c.in-Err.ensures.full (ap failed e))

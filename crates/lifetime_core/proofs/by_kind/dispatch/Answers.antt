@@ -2,71 +2,71 @@ use Rattle.std.proofs.Common.{rules}
 use Rattle.lifetime_core.proofs.by_kind.dispatch.Goals as goal
 
 -- the closure answers this call alone
-pub returns-in-Join : goal.returns-in-Join
-returns-in-Join c = c.step_kind.ensures _ (λ made is. search rules)
+pub returns-in-Join-clause-stepped : goal.returns-in-Join-clause-stepped
+returns-in-Join-clause-stepped c = c.step_kind.ensures.stepped _ (λ made is. search rules)
 
-pub returns-in-Shut : goal.returns-in-Shut
-returns-in-Shut c = c.step_kind-in-Shut.ensures _ (λ made is. search rules)
+pub returns-in-Shut-clause-stepped : goal.returns-in-Shut-clause-stepped
+returns-in-Shut-clause-stepped c = c.step_kind-in-Shut.ensures.stepped _ (λ made is. search rules)
 
-pub returns-in-OpenRoot : goal.returns-in-OpenRoot
-returns-in-OpenRoot c = c.step_kind-in-OpenRoot.ensures _ (λ made is. search rules)
+pub returns-in-OpenRoot-clause-stepped : goal.returns-in-OpenRoot-clause-stepped
+returns-in-OpenRoot-clause-stepped c = c.step_kind-in-OpenRoot.ensures.stepped _ (λ made is. search rules)
 
-pub returns-in-Duplicate : goal.returns-in-Duplicate
-returns-in-Duplicate c = c.step_kind-in-Duplicate.ensures _ (λ made is. search rules)
+pub returns-in-Duplicate-clause-stepped : goal.returns-in-Duplicate-clause-stepped
+returns-in-Duplicate-clause-stepped c = c.step_kind-in-Duplicate.ensures.stepped _ (λ made is. search rules)
 
-pub returns-in-AttachToken : goal.returns-in-AttachToken
-returns-in-AttachToken c = c.step_kind-in-AttachToken.ensures _ (λ made is. search rules)
+pub returns-in-AttachToken-clause-stepped : goal.returns-in-AttachToken-clause-stepped
+returns-in-AttachToken-clause-stepped c = c.step_kind-in-AttachToken.ensures.stepped _ (λ made is. search rules)
 
-pub returns-in-Sync : goal.returns-in-Sync
-returns-in-Sync c = c.step_kind-in-Sync.ensures _ (λ made is. search rules)
+pub returns-in-Sync-clause-stepped : goal.returns-in-Sync-clause-stepped
+returns-in-Sync-clause-stepped c = c.step_kind-in-Sync.ensures.stepped _ (λ made is. search rules)
 
-pub returns-in-Give : goal.returns-in-Give
-returns-in-Give c = c.step_kind-in-Give.ensures _ (λ made is. search rules)
+pub returns-in-Give-clause-stepped : goal.returns-in-Give-clause-stepped
+returns-in-Give-clause-stepped c = c.step_kind-in-Give.ensures.stepped _ (λ made is. search rules)
 
-pub returns-in-Collect : goal.returns-in-Collect
-returns-in-Collect c = c.step_kind-in-Collect.ensures _ (λ made is. search rules)
+pub returns-in-Collect-clause-stepped : goal.returns-in-Collect-clause-stepped
+returns-in-Collect-clause-stepped c = c.step_kind-in-Collect.ensures.stepped _ (λ made is. search rules)
 
-pub returns-in-Bind : goal.returns-in-Bind
-returns-in-Bind c = c.step_kind-in-Bind.ensures _ (λ made is. search rules)
+pub returns-in-Bind-clause-stepped : goal.returns-in-Bind-clause-stepped
+returns-in-Bind-clause-stepped c = c.step_kind-in-Bind.ensures.stepped _ (λ made is. search rules)
 
-pub returns-in-SetDispensable : goal.returns-in-SetDispensable
-returns-in-SetDispensable c = c.step_kind-in-SetDispensable.ensures _ (λ made is. search rules)
+pub returns-in-SetDispensable-clause-stepped : goal.returns-in-SetDispensable-clause-stepped
+returns-in-SetDispensable-clause-stepped c = c.step_kind-in-SetDispensable.ensures.stepped _ (λ made is. search rules)
 
-pub returns-in-SetWeak : goal.returns-in-SetWeak
-returns-in-SetWeak c = c.step_kind-in-SetWeak.ensures _ (λ made is. search rules)
+pub returns-in-SetWeak-clause-stepped : goal.returns-in-SetWeak-clause-stepped
+returns-in-SetWeak-clause-stepped c = c.step_kind-in-SetWeak.ensures.stepped _ (λ made is. search rules)
 
-pub returns-in-SetWeakOk : goal.returns-in-SetWeakOk
-returns-in-SetWeakOk c = c.step_kind-in-SetWeakOk.ensures _ (λ made is. search rules)
+pub returns-in-SetWeakOk-clause-stepped : goal.returns-in-SetWeakOk-clause-stepped
+returns-in-SetWeakOk-clause-stepped c = c.step_kind-in-SetWeakOk.ensures.stepped _ (λ made is. search rules)
 
-pub returns-in-SetConstraints : goal.returns-in-SetConstraints
-returns-in-SetConstraints c = c.step_kind-in-SetConstraints.ensures _ (λ made is. search rules)
+pub returns-in-SetConstraints-clause-stepped : goal.returns-in-SetConstraints-clause-stepped
+returns-in-SetConstraints-clause-stepped c = c.step_kind-in-SetConstraints.ensures.stepped _ (λ made is. search rules)
 
-pub returns-in-Check : goal.returns-in-Check
-returns-in-Check c = c.step_kind-in-Check.ensures _ (λ made is. search rules)
+pub returns-in-Check-clause-stepped : goal.returns-in-Check-clause-stepped
+returns-in-Check-clause-stepped c = c.step_kind-in-Check.ensures.stepped _ (λ made is. search rules)
 
-pub returns-in-Take : goal.returns-in-Take
-returns-in-Take c = c.step_kind-in-Take.ensures _ (λ made is. search rules)
+pub returns-in-Take-clause-stepped : goal.returns-in-Take-clause-stepped
+returns-in-Take-clause-stepped c = c.step_kind-in-Take.ensures.stepped _ (λ made is. search rules)
 
-pub returns-in-Release : goal.returns-in-Release
-returns-in-Release c = c.step_kind-in-Release.ensures _ (λ made is. search rules)
+pub returns-in-Release-clause-stepped : goal.returns-in-Release-clause-stepped
+returns-in-Release-clause-stepped c = c.step_kind-in-Release.ensures.stepped _ (λ made is. search rules)
 
-pub returns-in-Close : goal.returns-in-Close
-returns-in-Close c = c.step_kind-in-Close.ensures _ (λ made is. search rules)
+pub returns-in-Close-clause-stepped : goal.returns-in-Close-clause-stepped
+returns-in-Close-clause-stepped c = c.step_kind-in-Close.ensures.stepped _ (λ made is. search rules)
 
-pub returns-in-DupHandle : goal.returns-in-DupHandle
-returns-in-DupHandle c = c.step_kind-in-DupHandle.ensures _ (λ made is. search rules)
+pub returns-in-DupHandle-clause-stepped : goal.returns-in-DupHandle-clause-stepped
+returns-in-DupHandle-clause-stepped c = c.step_kind-in-DupHandle.ensures.stepped _ (λ made is. search rules)
 
-pub returns-in-DropHandle : goal.returns-in-DropHandle
-returns-in-DropHandle c = c.step_kind-in-DropHandle.ensures _ (λ made is. search rules)
+pub returns-in-DropHandle-clause-stepped : goal.returns-in-DropHandle-clause-stepped
+returns-in-DropHandle-clause-stepped c = c.step_kind-in-DropHandle.ensures.stepped _ (λ made is. search rules)
 
-pub returns-in-GiveHandle : goal.returns-in-GiveHandle
-returns-in-GiveHandle c = c.step_kind-in-GiveHandle.ensures _ (λ made is. search rules)
+pub returns-in-GiveHandle-clause-stepped : goal.returns-in-GiveHandle-clause-stepped
+returns-in-GiveHandle-clause-stepped c = c.step_kind-in-GiveHandle.ensures.stepped _ (λ made is. search rules)
 
-pub returns-in-TrackNode : goal.returns-in-TrackNode
-returns-in-TrackNode c = c.step_kind-in-TrackNode.ensures _ (λ made is. search rules)
+pub returns-in-TrackNode-clause-stepped : goal.returns-in-TrackNode-clause-stepped
+returns-in-TrackNode-clause-stepped c = c.step_kind-in-TrackNode.ensures.stepped _ (λ made is. search rules)
 
-pub returns-in-TrackLifetime : goal.returns-in-TrackLifetime
-returns-in-TrackLifetime c = c.step_kind-in-TrackLifetime.ensures _ (λ made is. search rules)
+pub returns-in-TrackLifetime-clause-stepped : goal.returns-in-TrackLifetime-clause-stepped
+returns-in-TrackLifetime-clause-stepped c = c.step_kind-in-TrackLifetime.ensures.stepped _ (λ made is. search rules)
 
-pub returns-in-TrackWeak : goal.returns-in-TrackWeak
-returns-in-TrackWeak c = c.step_kind-in-TrackWeak.ensures _ (λ made is. search rules)
+pub returns-in-TrackWeak-clause-stepped : goal.returns-in-TrackWeak-clause-stepped
+returns-in-TrackWeak-clause-stepped c = c.step_kind-in-TrackWeak.ensures.stepped _ (λ made is. search rules)

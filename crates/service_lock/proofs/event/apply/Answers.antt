@@ -17,47 +17,48 @@ use Rattle.service_lock.proofs.event.apply.Goals as goal
 
 pub write-requires-2-clause-fits : goal.write-requires-2-clause-fits
 write-requires-2-clause-fits g c =
-    fits _ _ Strong c.args.client c.args.call c.in_ok-reply.reply c.state.inside.log.items _ _ c.events-2.result
+    fits _ _ Strong c.args.client c.args.call c.step_into.new.out c.state.inside.log.items _ _ c.events-2.result
     c.state.invariant.shown.legal c.moves_of.ensures c.state.invariant.strong
     (omega (arith, c.events.ensures.shown c.state.inside.log.items c.state.invariant.shown, c.if-events.false)) (omega arith)
 
 pub write-requires-2-clause-there : goal.write-requires-2-clause-there
 write-requires-2-clause-there g c =
-    let shown = c.in_ok-reply.ensures.goes_on c.state.inside.log.items c.state.invariant.shown in
-    there _ _ _ _ Strong c.args.client c.args.call c.in_ok-reply.reply c.state.inside.log.items _ c.in_ok-reply.ensures.after.pool
+    let shown = c.in_ok-step_into.ensures.goes_on c.state.inside.log.items c.state.invariant.shown in
+    there _ _ _ _ Strong c.args.client c.args.call c.step_into.new.out c.state.inside.log.items _ c.in_ok-step_into.ensures.after.pool
     c.state.invariant.shown.legal shown.legal c.moves_of.ensures _ c.state.invariant.strong
 
 pub write-requires-3-clause-fits : goal.write-requires-3-clause-fits
 write-requires-3-clause-fits g c =
-    fits _ _ Weak c.args.client c.args.call c.in_ok-reply.reply c.state.inside.log.items _ _ c.events-2.result
+    fits _ _ Weak c.args.client c.args.call c.step_into.new.out c.state.inside.log.items _ _ c.events-2.result
     c.state.invariant.shown.legal c.moves_of-2.ensures c.state.invariant.weak
     (omega (arith, c.events.ensures.shown c.state.inside.log.items c.state.invariant.shown, c.if-events.false)) (omega arith)
 
 pub write-requires-3-clause-there : goal.write-requires-3-clause-there
 write-requires-3-clause-there g c =
-    let shown = c.in_ok-reply.ensures.goes_on c.state.inside.log.items c.state.invariant.shown in
-    there _ _ _ _ Weak c.args.client c.args.call c.in_ok-reply.reply c.state.inside.log.items _ c.in_ok-reply.ensures.after.pool
+    let shown = c.in_ok-step_into.ensures.goes_on c.state.inside.log.items c.state.invariant.shown in
+    there _ _ _ _ Weak c.args.client c.args.call c.step_into.new.out c.state.inside.log.items _ c.in_ok-step_into.ensures.after.pool
     c.state.invariant.shown.legal shown.legal c.moves_of-2.ensures _ c.state.invariant.weak
 
 -- the record has one entry more, which the core shows, and each book counts it
 pub invariant_of-state-2 : goal.invariant_of-state-2
 invariant_of-state-2 g c =
     let log : List Entry = c.state.inside.log.items in
-    let e : Entry = (c.args.client, c.args.call, c.in_ok-reply.reply) in
+    let e : Entry = (c.args.client, c.args.call, c.step_into.new.out) in
     let items : c.push_reserved.new.self.items ≡ log ++ e ∷ [] =
     pushed log c.reserve.new.self.items c.push_reserved.new.self.items e c.reserve.ensures.items c.push_reserved.ensures.items in
-    let shown = c.in_ok-reply.ensures.goes_on log c.state.invariant.shown in
+    let shown = c.in_ok-step_into.ensures.goes_on log c.state.invariant.shown in
     let goes = λ (strength : Strength) (moves : HandleMoves) (is : moves ≡ moves_by strength e.1 e.2).
-    written _ _ _ _ strength e.0 e.1 e.2 log moves c.in_ok-reply.ensures.after.pool c.state.invariant.shown.legal shown.legal is in
-    let sound : StateInvariant g.E.Setup.pages g.E.Setup.limits c.step.new.self c.state.inside.limits
+    written _ _ _ _ strength e.0 e.1 e.2 log moves c.in_ok-step_into.ensures.after.pool c.state.invariant.shown.legal shown.legal is in
+    let sound : StateInvariant g.E.Setup.pages g.E.Setup.limits c.step_into.new.self c.state.inside.limits
     (log ++ e ∷ []) c.write.new.self c.write-2.new.self c.write-3.new.self =
     record {
-      asked = (c.in_ok-reply.ensures.after.pool ∙ c.state.invariant.asked.0, c.state.invariant.asked.1);
+      asked = (c.in_ok-step_into.ensures.after.pool ∙ c.state.invariant.asked.0, c.state.invariant.asked.1);
       shown = shown;
-      came = came_on log c.state.inside.core c.step.new.self c.args.client c.args.call c.in_ok-reply.reply c.state.invariant.came
-          (makes c.state.inside.core c.step.new.self c.args.client c.args.call c.in_ok-reply.reply c.step.result c.in_ok-reply.was
-          c.step.ensures.full c.in_ok-reply.ensures.answer c.in_ok-reply.ensures.after);
-      limited = c.in_ok-reply.ensures.after.limits ∙ c.state.invariant.limited;
+      came = came_on log c.state.inside.core c.step_into.new.self c.args.client c.args.call c.step_into.new.out c.state.invariant.came
+          (makes c.state.inside.core c.step_into.new.self c.args.client c.args.call c.step_into.new.out
+          c.step_into.result c.in_ok-step_into.was c.step_into.ensures.full c.in_ok-step_into.ensures.answer
+          c.in_ok-step_into.ensures.after);
+      limited = c.in_ok-step_into.ensures.after.limits ∙ c.state.invariant.limited;
       counted = omega (arith, c.write.ensures.written.total, c.state.invariant.counted, length-append log (e ∷ []));
       cut = (
         c.write-2.ensures.left ∙ c.state.invariant.cut.0 ∙ sym c.write.ensures.left,
@@ -68,17 +69,17 @@ invariant_of-state-2 g c =
       weak = goes Weak c.moves_of-2.result c.moves_of-2.ensures c.state.inside.weak c.state.invariant.weak c.write-3.new.self
           c.write-3.ensures.written;
     } in
-    subst (λ l. StateInvariant g.E.Setup.pages g.E.Setup.limits c.step.new.self c.state.inside.limits l
+    subst (λ l. StateInvariant g.E.Setup.pages g.E.Setup.limits c.step_into.new.self c.state.inside.limits l
     c.write.new.self c.write-2.new.self c.write-3.new.self) (sym items) sound
 
 pub returns-clause-made : goal.returns-clause-made
 returns-clause-made g c =
     let log : List Entry = c.state.inside.log.items in
-    let e : Entry = (c.args.client, c.args.call, c.in_ok-reply.reply) in
+    let e : Entry = (c.args.client, c.args.call, c.step_into.new.out) in
     let items : c.push_reserved.new.self.items ≡ log ++ e ∷ [] =
     pushed log c.reserve.new.self.items c.push_reserved.new.self.items e c.reserve.ensures.items c.push_reserved.ensures.items in
-    let ids = c.in_ok-reply.ensures.untaken in
-    let pools = c.in_ok-reply.ensures.after.pool in
+    let ids = c.in_ok-step_into.ensures.untaken in
+    let pools = c.in_ok-step_into.ensures.after.pool in
     let seen : View = record {
       pool = c.state.inside.core.pool;
       limits = c.state.inside.limits;
@@ -87,10 +88,10 @@ returns-clause-made g c =
       parts = c.state.inside.events.left;
     } in
     let next : ◌≡◌ {A = View} (record {
-      pool = c.step.new.self.pool;
+      pool = c.step_into.new.self.pool;
       limits = c.state.inside.limits;
       history = c.push_reserved.new.self.items;
-      untaken = c.step.new.self.trackers.untaken;
+      untaken = c.step_into.new.self.trackers.untaken;
       parts = c.write.new.self.left;
     }) (view_after seen e.0 e.1 e.2) =
     λ i. record { pool = pools i; limits = c.state.inside.limits; history = items i; untaken = ids i; parts = c.write.ensures.left i } in
@@ -99,13 +100,13 @@ returns-clause-made g c =
 pub returns-clause-legal : goal.returns-clause-legal
 returns-clause-legal g c =
     let log : List Entry = c.state.inside.log.items in
-    let e : Entry = (c.args.client, c.args.call, c.in_ok-reply.reply) in
+    let e : Entry = (c.args.client, c.args.call, c.step_into.new.out) in
     let items : c.push_reserved.new.self.items ≡ log ++ e ∷ [] =
     pushed log c.reserve.new.self.items c.push_reserved.new.self.items e c.reserve.ensures.items c.push_reserved.ensures.items in
-    let shown = c.in_ok-reply.ensures.goes_on log c.state.invariant.shown in
-    let limited : c.step.new.self.limits ≡ c.state.inside.limits = c.in_ok-reply.ensures.after.limits ∙ c.state.invariant.limited in
-    subst (λ l. IsLegal c.step.new.self.pool c.state.inside.limits l) (sym items)
-    (subst (λ b. IsLegal c.step.new.self.pool b (log ++ e ∷ [])) limited shown.legal)
+    let shown = c.in_ok-step_into.ensures.goes_on log c.state.invariant.shown in
+    let limited : c.step_into.new.self.limits ≡ c.state.inside.limits = c.in_ok-step_into.ensures.after.limits ∙ c.state.invariant.limited in
+    subst (λ l. IsLegal c.step_into.new.self.pool c.state.inside.limits l) (sym items)
+    (subst (λ b. IsLegal c.step_into.new.self.pool b (log ++ e ∷ [])) limited shown.legal)
 
 pub write-requires-clause-enough : goal.write-requires-clause-enough
 write-requires-clause-enough c = search rules

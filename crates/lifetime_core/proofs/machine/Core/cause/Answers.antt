@@ -1,11 +1,13 @@
 use Rattle.std.proofs.Common.{ap, ◌∙◌}
 use Rattle.std.specs.Option.{option_map}
 use Rattle.core_state.specs.Reads.{fault_in}
+use Rattle.core_state.specs.Shown.{recalling}
 use Rattle.core_state.specs.State.{State}
 use Rattle.core_state.proofs.views.Shown.{cause_shown, told_of}
 use Rattle.lifetime_core.proofs.machine.Core.cause.Goals as goal
 
 pub returns-clause-shown : goal.returns-clause-shown
-returns-clause-shown c history shows =
+returns-clause-shown c gone history shows =
     rw (c.cause.ensures, c.node.ensures)
-    (ap (λ (s : State). option_map told_of (fault_in s c.args.key)) c.self.view_is ∙ cause_shown c.args.self.now history shows c.args.key)
+    (ap (λ (s : State). option_map told_of (fault_in s c.args.key)) c.self.view_is
+    ∙ cause_shown (recalling gone c.args.self.now) history shows c.args.key)

@@ -120,11 +120,11 @@ invariant_of-self-2 c =
     c.take_effect.ensures.limit c.take_effect.ensures.places)
 
 -- each reply is the answer, and the new state follows: also where the call changes nothing, or memory is refused
-pub returns : goal.returns
-returns = made_returns
+pub returns-clause-stepped : goal.returns-clause-stepped
+returns-clause-stepped = made_returns
 
-pub returns-then-changes_nothing : goal.returns-then-changes_nothing
-returns-then-changes_nothing = idle_returns
+pub returns-then-changes_nothing-clause-stepped : goal.returns-then-changes_nothing-clause-stepped
+returns-then-changes_nothing-clause-stepped = idle_returns
 
-pub returns-in_default : goal.returns-in_default
-returns-in_default = refused_returns
+pub returns-in_default-clause-stepped : goal.returns-in_default-clause-stepped
+returns-in_default-clause-stepped = refused_returns

@@ -4,6 +4,7 @@ use Rattle.sm_names.specs.declared.keys.Interval.{Interval}
 use Rattle.sm_names.specs.declared.keys.HeldBuffer.{HeldBuffer}
 use Rattle.forest_store.specs.Forest.{all_held}
 use Rattle.core_state.specs.Reads.{views_of}
+use Rattle.core_state.specs.Shown.{recalling}
 use Rattle.core_state.proofs.views.Shown.{free_shown}
 use Rattle.core_state.proofs.collections.Pages.{sum-sorted, sum-map}
 use Rattle.lifetime_core.proofs.machine.Core.free_pages.Goals as goal
@@ -21,5 +22,5 @@ returns c =
     rw (← c.self.view_is) (omega (arith, c.free_pages.ensures.free, all)) in
     record {
       value = value;
-      shown = λ history shows. value ∙ free_shown c.args.self.now history shows;
+      shown = λ gone history shows. value ∙ free_shown (recalling gone c.args.self.now) history shows;
     }

@@ -1,6 +1,8 @@
 use Rattle.std.proofs.Common.{◌∙◌}
+use Rattle.core_state.specs.Shown.{recalling}
 use Rattle.core_state.proofs.views.Shown.{given_shown}
 use Rattle.lifetime_core.proofs.machine.Core.given.Goals as goal
 
 pub returns-clause-shown : goal.returns-clause-shown
-returns-clause-shown c history shows = c.buffers_of.ensures.value ∙ given_shown c.args.self.now history shows c.args.collection
+returns-clause-shown c gone history shows =
+    c.buffers_of.ensures.value ∙ given_shown (recalling gone c.args.self.now) history shows c.args.collection

@@ -1,6 +1,7 @@
 use Rattle.std.proofs.Common.{AllPairs, ap, sym, ◌∙◌, subst}
 use Rattle.std.proofs.lemmas.Result.{IfOk-weaker}
 use Rattle.forest_store.specs.Forest.{held_by_page}
+use Rattle.core_state.specs.Shown.{recalling}
 use Rattle.core_state.specs.State.{State}
 use Rattle.core_state.proofs.views.Shown.{held_shown}
 use Rattle.core_state.proofs.views.HeldApart.{EndsBefore, held_in_order}
@@ -14,8 +15,8 @@ returns-clause-shown c =
     (have_pages c.self.inside.contents.pool c.self.inside.contents.forest c.self.invariant.whole.pages
     c.free_pages-free.ensures.sound) in
     IfOk-weaker c.held.result _ _
-    (λ held is history shows. is ∙ (ap (λ (s : State). held_by_page s.forest) c.self.view_is
-    ∙ held_shown c.args.self.now history shows paged))
+    (λ held is gone history shows. is ∙ (ap (λ (s : State). held_by_page s.forest) c.self.view_is
+    ∙ held_shown (recalling gone c.args.self.now) history shows paged))
     c.held.ensures
 
 pub returns-clause-apart : goal.returns-clause-apart

@@ -1,10 +1,12 @@
 use Rattle.std.proofs.Common.{ap, ◌∙◌}
 use Rattle.forest_store.specs.Forest.{node_at}
+use Rattle.core_state.specs.Shown.{recalling}
 use Rattle.core_state.specs.State.{State}
 use Rattle.core_state.proofs.views.Shown.{node_shown}
 use Rattle.lifetime_core.proofs.machine.Core.node.Goals as goal
 
 pub returns-clause-shown : goal.returns-clause-shown
-returns-clause-shown c history shows =
+returns-clause-shown c gone history shows =
     rw (c.copied.ensures, c.node.ensures)
-    (ap (λ (s : State). node_at s.forest c.args.key) c.self.view_is ∙ node_shown c.args.self.now history shows c.args.key)
+    (ap (λ (s : State). node_at s.forest c.args.key) c.self.view_is
+    ∙ node_shown (recalling gone c.args.self.now) history shows c.args.key)

@@ -22,19 +22,20 @@ loop-client-preserved c =
     let count : length c.loop-client.replies.items ≡ c.loop-client.client-index = c.loop-client.invariant.count in
     let item : c.loop-client-item.result ≡ get_or c.args.calls.now (length c.loop-client.replies.items) c.loop-client-item.result =
     c.loop-client-item.is ∙ ap (λ n. get_or c.args.calls.now n c.loop-client-item.result) (sym count) in
-    let next = subst (λ (x : ℕ × Call). GoesOn c.loop-client.self c.step.new.self ((x.0, x.1, c.in-Ok-step.reply) ∷ [])) item
-    c.in-Ok-step.ensures.goes_on in
-    let made : Makes c.loop-client.self c.step.new.self (c.loop-client-item.result.0, c.loop-client-item.result.1, c.in-Ok-step.reply) =
-    makes c.loop-client.self c.step.new.self c.loop-client-item.result.0 c.loop-client-item.result.1 c.in-Ok-step.reply c.step.result
-    c.in-Ok-step.is c.step.ensures.full c.in-Ok-step.ensures.answer c.in-Ok-step.ensures.after in
-    let makes_it = subst (λ (x : ℕ × Call). Makes c.loop-client.self c.step.new.self (x.0, x.1, c.in-Ok-step.reply)) item made in
+    let next = subst (λ (x : ℕ × Call). GoesOn c.loop-client.self c.step_into.new.self ((x.0, x.1, c.step_into.new.out) ∷ [])) item
+    c.in-Ok-step_into.ensures.goes_on in
+    let made : Makes c.loop-client.self c.step_into.new.self (c.loop-client-item.result.0, c.loop-client-item.result.1, c.step_into.new.out) =
+    makes c.loop-client.self c.step_into.new.self c.loop-client-item.result.0 c.loop-client-item.result.1 c.step_into.new.out
+    c.step_into.result c.in-Ok-step_into.is c.step_into.ensures.full c.in-Ok-step_into.ensures.answer
+    c.in-Ok-step_into.ensures.after in
+    let makes_it = subst (λ (x : ℕ × Call). Makes c.loop-client.self c.step_into.new.self (x.0, x.1, c.step_into.new.out)) item made in
     let less : length c.loop-client.replies.items < length c.args.calls.now = omega arith in
     record {
       goes = rw c.push_reserved.ensures.items
-          (goes_more c.args.self.now c.loop-client.self c.step.new.self c.args.calls.now c.loop-client.replies.items c.in-Ok-step.reply
+          (goes_more c.args.self.now c.loop-client.self c.step_into.new.self c.args.calls.now c.loop-client.replies.items c.step_into.new.out
           c.loop-client-item.result less c.loop-client.invariant.goes next);
       leads = rw c.push_reserved.ensures.items
-          (leads_more c.args.self.now c.loop-client.self c.step.new.self c.args.calls.now c.loop-client.replies.items c.in-Ok-step.reply
+          (leads_more c.args.self.now c.loop-client.self c.step_into.new.self c.args.calls.now c.loop-client.replies.items c.step_into.new.out
           c.loop-client-item.result less c.loop-client.invariant.leads makes_it);
       count = rw (c.push_reserved.ensures.items, length-append) (omega arith);
       len = omega arith;
@@ -57,30 +58,31 @@ returns-in_default-clause-untaken_some c =
 -- a call was not taken
 pub returns-in-Err-clause-stopped : goal.returns-in-Err-clause-stopped
 returns-in-Err-clause-stopped c =
-    stops_there c.args.self.now c.loop-client.self c.step.new.self (entries c.args.calls.now c.loop-client.replies.items) c.in-Err.fault
-    c.step.result c.in-Err.is c.loop-client.invariant.leads c.in-Err.ensures.kept c.step.ensures.equal
+    stops_there c.args.self.now c.loop-client.self c.step_into.new.self (entries c.args.calls.now c.loop-client.replies.items) c.in-Err.fault
+    c.step_into.result c.in-Err.is c.loop-client.invariant.leads c.in-Err.ensures.kept c.step_into.ensures.equal
 
 pub returns-in-Err-clause-full : goal.returns-in-Err-clause-full
 returns-in-Err-clause-full c =
-    stopped_full c.loop-client.self c.step.new.self c.in-Err.fault c.step.result c.in-Err.is c.in-Err.ensures.kept c.step.ensures.full
+    stopped_full c.loop-client.self c.step_into.new.self c.in-Err.fault c.step_into.result c.in-Err.is c.in-Err.ensures.kept
+    c.step_into.ensures.full
 
 pub returns-in-Err-clause-pool : goal.returns-in-Err-clause-pool
 returns-in-Err-clause-pool c =
-    stopped_pool c.args.self.now c.step.new.self (entries c.args.calls.now c.loop-client.replies.items) c.in-Err.fault
-    (stops_there c.args.self.now c.loop-client.self c.step.new.self (entries c.args.calls.now c.loop-client.replies.items) c.in-Err.fault
-    c.step.result c.in-Err.is c.loop-client.invariant.leads c.in-Err.ensures.kept c.step.ensures.equal)
+    stopped_pool c.args.self.now c.step_into.new.self (entries c.args.calls.now c.loop-client.replies.items) c.in-Err.fault
+    (stops_there c.args.self.now c.loop-client.self c.step_into.new.self (entries c.args.calls.now c.loop-client.replies.items) c.in-Err.fault
+    c.step_into.result c.in-Err.is c.loop-client.invariant.leads c.in-Err.ensures.kept c.step_into.ensures.equal)
 
 pub returns-in-Err-clause-limits : goal.returns-in-Err-clause-limits
 returns-in-Err-clause-limits c =
-    stopped_limits c.args.self.now c.step.new.self (entries c.args.calls.now c.loop-client.replies.items) c.in-Err.fault
-    (stops_there c.args.self.now c.loop-client.self c.step.new.self (entries c.args.calls.now c.loop-client.replies.items) c.in-Err.fault
-    c.step.result c.in-Err.is c.loop-client.invariant.leads c.in-Err.ensures.kept c.step.ensures.equal)
+    stopped_limits c.args.self.now c.step_into.new.self (entries c.args.calls.now c.loop-client.replies.items) c.in-Err.fault
+    (stops_there c.args.self.now c.loop-client.self c.step_into.new.self (entries c.args.calls.now c.loop-client.replies.items) c.in-Err.fault
+    c.step_into.result c.in-Err.is c.loop-client.invariant.leads c.in-Err.ensures.kept c.step_into.ensures.equal)
 
 pub returns-in-Err-clause-untaken_some : goal.returns-in-Err-clause-untaken_some
 returns-in-Err-clause-untaken_some c =
-    stopped_untaken c.args.self.now c.step.new.self (entries c.args.calls.now c.loop-client.replies.items) c.in-Err.fault
-    (stops_there c.args.self.now c.loop-client.self c.step.new.self (entries c.args.calls.now c.loop-client.replies.items) c.in-Err.fault
-    c.step.result c.in-Err.is c.loop-client.invariant.leads c.in-Err.ensures.kept c.step.ensures.equal)
+    stopped_untaken c.args.self.now c.step_into.new.self (entries c.args.calls.now c.loop-client.replies.items) c.in-Err.fault
+    (stops_there c.args.self.now c.loop-client.self c.step_into.new.self (entries c.args.calls.now c.loop-client.replies.items) c.in-Err.fault
+    c.step_into.result c.in-Err.is c.loop-client.invariant.leads c.in-Err.ensures.kept c.step_into.ensures.equal)
 
 pub returns-clause-pool : goal.returns-clause-pool
 returns-clause-pool c =

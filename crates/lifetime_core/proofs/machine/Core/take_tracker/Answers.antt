@@ -1,5 +1,5 @@
 use Rattle.std.proofs.Common.{sym, subst}
-use Rattle.core_state.specs.Shown.{Shows}
+use Rattle.core_state.specs.Shown.{Shows, ShowsBut, recalling}
 use Rattle.core_state.specs.State.{State}
 use Rattle.core_state.proofs.theorem.GoesOn.{take_shows}
 use Rattle.core_state.proofs.theorem.Keeps.{core_took}
@@ -20,6 +20,22 @@ returns-clause-shows c history shows =
       trackers = c.self.inside.contents.trackers;
     } in
     rw c.take_tracker.ensures.taken (take_shows s c.args.id history (subst (λ (x : State). Shows x history) (sym c.self.view_is) shows))
+
+-- nor does one of a core that forgot firings
+pub returns-clause-shows_but : goal.returns-clause-shows_but
+returns-clause-shows_but c gone history shows =
+    let s : State =
+    record {
+      pool = c.self.inside.contents.pool.size;
+      limits = c.self.inside.limits;
+      events = c.self.inside.events;
+      clients = c.self.inside.contents.clients.items;
+      forest = c.self.inside.contents.forest;
+      holds = c.self.inside.contents.holds;
+      trackers = c.self.inside.contents.trackers;
+    } in
+    rw c.take_tracker.ensures.taken (take_shows (recalling gone s) c.args.id history
+    (subst (λ (x : State). ShowsBut gone x history) (sym c.self.view_is) shows))
 
 pub returns-clause-attached : goal.returns-clause-attached
 returns-clause-attached c = search rules

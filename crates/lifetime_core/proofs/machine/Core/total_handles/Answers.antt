@@ -1,7 +1,8 @@
+use Rattle.core_state.specs.Shown.{recalling}
 use Rattle.core_state.proofs.views.Shown.{total_shown}
 use Rattle.std.proofs.Common.{◌∙◌}
 use Rattle.lifetime_core.proofs.machine.Core.total_handles.Goals as goal
 
 pub returns-clause-shown : goal.returns-clause-shown
-returns-clause-shown c history shows =
-    c.open_total.ensures ∙ total_shown c.args.self.now history shows c.args.buffer c.args.strength
+returns-clause-shown c gone history shows =
+    c.open_total.ensures ∙ total_shown (recalling gone c.args.self.now) history shows c.args.buffer c.args.strength

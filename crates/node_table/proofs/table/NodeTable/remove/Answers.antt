@@ -4,6 +4,7 @@ use Rattle.node_table.specs.Table.{row_at}
 use Rattle.node_table.specs.Changes.{Cuts, Removes, without_parent}
 use Rattle.node_table.specs.Sound.{HasEntry, node_in, table_in}
 use Rattle.node_table.proofs.Slots.{entry-there, is_some-option_map}
+use Rattle.node_table.proofs.Keys.{eq-false}
 use Rattle.node_table.proofs.Removals.{sound-removed, removes}
 use Rattle.node_table.proofs.table.NodeTable.remove.Goals as goal
 
@@ -40,7 +41,8 @@ returns g c =
     c.self.inside.count c.self.inside.limit c.args.key held.0
     c.requires.there c.requires.leaf (subst (λ t. Cuts c.args.self.now t c.args.key) (sym c.self.view_is) c.cut.ensures)
     c.self.invariant held.1 c.take_node-node.ensures.none c.take_node-node.ensures.others
-    (λ last. c.take_node-node.ensures.retired (search rules)) (search rules))
+    (λ last. c.take_node-node.ensures.retired (search rules)) (search rules)
+    (λ few. c.take_node-node.ensures.back (eq-false c.args.key.generation 4294967295 (λ is. omega (arith, few, is)))))
 
 -- by arithmetic and the usual steps
 pub overflow_sub-self : goal.overflow_sub-self

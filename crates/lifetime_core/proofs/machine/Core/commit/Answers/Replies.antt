@@ -14,10 +14,10 @@ use Rattle.lifetime_core.proofs.machine.Core.commit.Answers.Points.{before, begu
 use Rattle.lifetime_core.proofs.machine.Core.commit.Goals as goal
 
 -- a call that changes nothing is answered so, and the new state follows
-pub idle_returns : goal.returns-then-changes_nothing
+pub idle_returns : goal.returns-then-changes_nothing-clause-stepped
 idle_returns c =
-    let s = before (goal.at.returns-then-changes_nothing c).After-changes_nothing in
-    let i = idle (goal.at.returns-then-changes_nothing c).After-changes_nothing c.if-changes_nothing.true in
+    let s = before (goal.at.returns-then-changes_nothing-clause-stepped c).After-changes_nothing in
+    let i = idle (goal.at.returns-then-changes_nothing-clause-stepped c).After-changes_nothing c.if-changes_nothing.true in
     let next : c.next_event-self-inside.result ≡ s.events + 1 =
     c.next_event-self-inside.ensures ∙ ap (λ (x : State). x.events + 1) (sym c.self.view_is) in
     let answers = step_answers _ _ _ _ _ None None i.begins (parts_of s) i.takes in
@@ -40,10 +40,10 @@ idle_returns c =
     })
 
 -- neither a Shut nor a Collect was refused memory
-pub refused_returns : goal.returns-in_default
+pub refused_returns : goal.returns-in_default-clause-stepped
 refused_returns c =
-    let s = before (goal.at.returns-in_default c).After-changes_nothing in
-    let b = begun (goal.at.returns-in_default c).After-changes_nothing in
+    let s = before (goal.at.returns-in_default-clause-stepped c).After-changes_nothing in
+    let b = begun (goal.at.returns-in_default-clause-stepped c).After-changes_nothing in
     record {
       answer = search rules;
       kind = search rules;
@@ -61,11 +61,11 @@ refused_returns c =
     }
 
 -- the reply is the answer, and the new state follows
-pub made_returns : goal.returns
+pub made_returns : goal.returns-clause-stepped
 made_returns c =
-    let s = before (goal.at.returns c).After-changes_nothing in
-    let b = begun (goal.at.returns c).After-changes_nothing in
-    let parts = made (goal.at.returns c).In-Ok in
+    let s = before (goal.at.returns-clause-stepped c).After-changes_nothing in
+    let b = begun (goal.at.returns-clause-stepped c).After-changes_nothing in
+    let parts = made (goal.at.returns-clause-stepped c).In-Ok in
     let next = after _ _ _ _ _ _ _ b parts c.in-Ok.ensures.ok c.carried_end-carried.result c.carried_end-carried.ensures
     c.put_end.new.forest c.sweep.new.trackers c.put_end.ensures.collections c.put_end.ensures.keys c.sweep.ensures in
     let answers = step_answers _ _ _ _ _ _ _ b parts c.in-Ok.ensures.ok in
