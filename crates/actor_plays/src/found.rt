@@ -56,6 +56,27 @@ pub struct Figures {
     pub share: f64,
 }
 
+/// Why a search that was to certify did not.
+#[derive(Clone, Copy)]
+pub enum Doubt {
+    /// Not all values were met.
+    Incomplete,
+    /// To make each play again would cost more calls than a search of so many values may make.
+    Costly,
+    /// After so many calls the step at this place of the actor's plan, or the call by which it leaves, leads to a play that is
+    /// not seen to be like the one of its value. It is the first such turn.
+    Turn {
+        calls: usize,
+        actor: usize,
+        at: usize,
+        leaves: bool,
+    },
+    /// A play of so many calls does not end as the outcome says that was noted for it. It is the first such play.
+    Outcome {
+        calls: usize,
+    },
+}
+
 /// What a search found.
 #[derive(Drop)]
 pub struct Exploration {
@@ -70,6 +91,10 @@ pub struct Exploration {
     pub orders: f64,
     /// For sure no outcome is missing. Only a search that is asked to certifies.
     pub certified: bool,
+    /// The steps whose call no play makes, each by the places of its actor and of it; none where not all values were met.
+    pub unmade: Vec<(usize, usize)>,
+    /// Why the search did not certify, where it was to.
+    pub doubt: Option<Doubt>,
 }
 
 /// Which actors may leave at any point, how many of them at most, and whether each leaves at its end.

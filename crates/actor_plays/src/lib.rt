@@ -14,7 +14,7 @@ mod vanish;
 pub use actor::Actor;
 pub use ending::Fate;
 pub use falls::GoneNode;
-pub use found::{ActorOutcome, Became, Exploration, Figures, Found, Outcome, Vanishing};
+pub use found::{ActorOutcome, Became, Doubt, Exploration, Figures, Found, Outcome, Vanishing};
 pub use plan::{Plan, Planned, Waiting, plan_of};
 pub use play::{Play, Turn, Turned};
 pub use vanish::VanishProgress;

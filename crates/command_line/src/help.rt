@@ -223,7 +223,7 @@ by two spaces, and by lines indented by four or more, which are ignored. What
 `sysmem explain` writes is one, and so is what `sysmem threads --record` writes.
 `sysmem run --help` lists the lines of a script. If all replies agree, the
 numbers of calls and views that were played and of replies are written, or that
-no line was played; else the first reply that differs:
+no reply is recorded; else the first reply that differs:
 
     line 38: enc check encoder
       recorded  pending
@@ -232,8 +232,8 @@ no line was played; else the first reply that differs:
 
 Status: 0 all replies agree; 1 FILE can't be opened, or read or write fault; 2
 the command line was refused; 3 a bad line; 4 no memory, or history full; 6 a
-reply differs; 7 no line was played. A fault is one line on standard error; a bad
-line has its reason.";
+reply differs; 7 no reply is recorded. A fault is one line on standard error; a
+bad line has its reason.";
 
 pub(crate) const EXPLORE_ABOUT: &str =
     "Goes through all orders of the clients' steps, and tells the outcomes";
@@ -275,19 +275,23 @@ waits. A client stays when its steps are done.
 An outcome says of each node whether it ends, fails (and why), or is left, of
 each client whether it comes to its end or waits for ever, of each tracker
 whether it fires, and how many pages are free. N of 100: the share of the runs
-in which each turn is drawn evenly among the clients that have one.
+in which each turn is drawn evenly among the clients that have one. A label that
+several clients use has the client in front: a.m. One that a client binds twice
+has the line behind it: m (line 9). `never made` names the lines whose call no
+order makes.
 
     sysmem explore --outcome 2 pair.actors | sysmem explain
 
-explains a play that comes to outcome 2, of the fewest calls. Labels that two
-clients use have the client's in front there.
+explains a play that comes to outcome 2, of the fewest calls. What the report
+calls a.m is am there, or x1 if that is taken.
 
     sysmem explore --vanish a,b pair.actors
 
 lets a or b vanish at any point, at most one of them, or as many as --most says:
 the client is shut, collects its parcels, closes its tokens and collections, and
 drops its handles. `all` stands for all clients. The outcomes are told apart by
-who vanishes. A line of the script says the same, unless --vanish is given:
+who vanishes. A line of the script lets at most one vanish, unless --vanish is
+given:
 
     #! vanish a b
 
@@ -296,7 +300,8 @@ standard error counts the states, if that is a terminal.
 
 With --certify every state is played again, and each turn from it. If no turn
 leads to what was not met, `certified` stands behind the number of outcomes: then
-for sure none is missing.
+for sure none is missing. Else `not certified` stands there, and a line on
+standard error says why.
 
 A script may have claims, which other commands skip, such as
 
@@ -315,4 +320,5 @@ such outcome, or a client that is to vanish does not join; 3 a bad line, as for
 `sysmem threads`, or a bad claim; 4 no memory, or history full; 5 a mistake of
 the program; 6 a claim does not hold; 7 not all orders were gone through, since
 there are more states than --states, or --certify could not certify.
-A fault is one line on standard error; a bad line has its reason.";
+A fault, or why the status is 7, is one line on standard error; a bad line has
+its reason.";

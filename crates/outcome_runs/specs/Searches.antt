@@ -1,10 +1,11 @@
 -- What is told of a search through the orders of a script.
-use Rattle.std.specs.Prelude.{ℕ, ◌≡◌, ◌-◌, ◌==◌, if◌then◌else◌, Bool, true, false, not, ◌&&◌, ◌||◌, List, [], ◌++◌, vec_len, map, slice_get, Option, Some, None, option_map, Ok, Err, Result, MatchOption, All, ◌⊎◌, ◌≤◌, ⊤}
+use Rattle.std.specs.Prelude.{ℕ, ◌≡◌, ◌-◌, ◌==◌, if◌then◌else◌, Bool, true, false, not, ◌&&◌, is_some, List, [], ◌++◌, vec_len, map, slice_get, Option, Some, None, option_map, Ok, Err, Result, MatchOption, All, ◌⊎◌, ◌≤◌, ⊤}
 use Rattle.actor_scripts.specs.declared.actor_list.ActorList.{ActorList}
 use Rattle.actor_scripts.specs.declared.step.ActorScript.{ActorScript}
 use Rattle.actor_scripts.specs.ActorLists.{actors_of, script_actors}
 use Rattle.actor_plays.specs.declared.plan.Plan.{Plan}
 use Rattle.actor_plays.specs.Plans.{planned, steps_of}
+use Rattle.actor_plays.specs.declared.found.Doubt.{Doubt}
 use Rattle.actor_plays.specs.declared.found.Exploration.{Exploration}
 use Rattle.actor_plays.specs.declared.found.Found.{Found}
 use Rattle.play_search.specs.declared.fault.ExploreFault.{ExploreFault}
@@ -18,10 +19,13 @@ use Rattle.report_io.specs.declared.fault.ReportFault.{ReportFault}
 use Rattle.outcome_texts.specs.declared.telling.Telling.{Telling}
 use Rattle.outcome_texts.specs.declared.verdicts.ClaimLine.{ClaimLine}
 use Rattle.outcome_texts.specs.ClaimLines.{Text, claim_texts_of, claims_in, is_good_list, judged, who_told}
+use Rattle.outcome_texts.specs.declared.lines.StepLine.{StepLine}
 use Rattle.outcome_texts.specs.Lines.{step_lines_of, steps_in}
+use Rattle.outcome_texts.specs.Plays.{line_told}
 use Rattle.outcome_texts.specs.Reports.{IsReport}
 use Rattle.outcome_texts.specs.Scripts.{IsPlayText}
 use Rattle.outcome_texts.specs.Verdicts.{claims_text, has_broken}
+use Rattle.outcome_runs.specs.declared.job.DoubtLine.{DoubtLine}
 use Rattle.outcome_runs.specs.declared.job.Ending.{Ending}
 use Rattle.outcome_runs.specs.declared.job.SearchJob.{SearchJob}
 use Rattle.outcome_runs.specs.Reasons.{reason_at}
@@ -35,13 +39,15 @@ setting_of job seed = record {
 }
 
 -- each outcome that was found has a play of the actors of these plans that comes to it, no more states were met than are asked for,
--- and if the search certifies, no outcome is missing, that was asked for, and all was gone through
+-- and if the search certifies, no outcome is missing, that was asked for, and all was gone through; if it was to and did not, there
+-- is a doubt
 pub record IsSearch (plans : List Plan) (vanishing : Vanishing) (job : SearchJob) (seed : List ℕ) (found : Exploration) : Type 0 where
   pub real : All (IsFound plans vanishing (setting_of job seed)) found.outcomes.items
   pub states : found.states ≤ job.states
   pub none_missing : found.certified ≡ true →
       NoneIsMissing vanishing.at_end (setup_of plans vanishing (setting_of job seed)) found.outcomes.items
   pub asked : found.certified ≡ true → (job.certifies ≡ true) × (found.complete ≡ true)
+  pub doubted : is_some found.doubt ≡ (job.certifies && not found.certified)
 
 -- the clients that are asked to vanish, as they are written
 abbrev pub list_asked : SearchJob → Option (List ℕ)
@@ -53,46 +59,58 @@ pub record IsVanishing (job : SearchJob) (script : List ℕ) (labels : List Labe
   pub most : vanishing.most ≡ job.most
   pub at_end : vanishing.at_end ≡ job.at_end
 
+-- the doubt about a turn after so many calls: about the step of this line, or the call of a client that vanishes
+abbrev pub turn_told : ℕ → Bool → Option StepLine → DoubtLine
+turn_told calls leaves None = DoubtLine.Leave calls
+turn_told calls leaves (Some step) = if leaves then DoubtLine.Leave calls else DoubtLine.Step calls step.number
+
+-- the doubt, by lines of the script
+abbrev pub doubt_told : Telling → Doubt → DoubtLine
+doubt_told telling Doubt.Incomplete = DoubtLine.Incomplete
+doubt_told telling Doubt.Costly = DoubtLine.Costly
+doubt_told telling (Doubt.Turn calls actor at leaves) = turn_told calls leaves (line_told telling actor at)
+doubt_told telling (Doubt.Outcome calls) = DoubtLine.Outcome calls
+
+-- why the search did not certify, if it was to
+abbrev pub doubts_told : Telling → Exploration → Option DoubtLine
+doubts_told telling found = option_map (doubt_told telling) found.doubt
+
 -- how a search ended of which something is told
-abbrev pub whole_ending : Bool → Ending
-whole_ending true = Ending.Whole
-whole_ending false = Ending.Part
+abbrev pub whole_ending : Bool → Option DoubtLine → Ending
+whole_ending complete None = if complete then Ending.Whole else Ending.Part
+whole_ending complete (Some doubt) = Ending.Unsure doubt
 
 -- the outcome of this number, from 1
 abbrev pub outcome_at : List Found → ℕ → Option Found
 outcome_at outcomes number = if number == 0 then None else slice_get outcomes (number - 1)
 
 -- how a search ended whose claims were judged: one of them does not hold, or none
-abbrev pub judged_ending : Bool → Bool → Ending
-judged_ending true complete = Ending.Broken
-judged_ending false complete = whole_ending complete
-
--- all orders were gone through, and if it is asked for, no outcome is missing for sure
-abbrev pub is_whole : SearchJob → Exploration → Bool
-is_whole job found = found.complete && (found.certified || not job.certifies)
+abbrev pub judged_ending : Bool → Bool → Option DoubtLine → Ending
+judged_ending true complete doubt = Ending.Broken doubt
+judged_ending false complete doubt = whole_ending complete doubt
 
 -- the text is the report, with what is said of the claims
-pub record IsJudged (job : SearchJob) (telling : Telling) (found : Exploration) (claims : List ClaimLine) (text : List ℕ)
-    (ending : Ending) : Type 0 where
+pub record IsJudged (telling : Telling) (found : Exploration) (claims : List ClaimLine) (text : List ℕ) (ending : Ending) : Type 0 where
   pub report : List ℕ
   pub is_report : IsReport telling found report
   pub whole : text ≡ report ++ claims_text telling found claims
-  pub ending_is : ending ≡ judged_ending (has_broken telling found claims) (is_whole job found)
+  pub ending_is : ending ≡ judged_ending (has_broken telling found claims) found.complete (doubts_told telling found)
 
 -- the text is the play of the outcome of this number; if there is none, nothing is told
-abbrev pub IsPlayed : SearchJob → Telling → Exploration → ℕ → List ℕ → Ending → Type 0
-IsPlayed job telling found number text ending = MatchOption (outcome_at found.outcomes.items number)
+abbrev pub IsPlayed : Telling → Exploration → ℕ → List ℕ → Ending → Type 0
+IsPlayed telling found number text ending = MatchOption (outcome_at found.outcomes.items number)
     ((text ≡ []) × (ending ≡ Ending.Missing))
-    (λ one. IsPlayText telling one number (vec_len found.outcomes) text × (ending ≡ whole_ending (is_whole job found)))
+    (λ one. IsPlayText telling one number (vec_len found.outcomes) text
+    × (ending ≡ whole_ending found.complete (doubts_told telling found)))
 
 -- the text is the report, or the play of the outcome of this number
-abbrev pub IsTextOf : SearchJob → Telling → Exploration → List ClaimLine → Option ℕ → List ℕ → Ending → Type 0
-IsTextOf job telling found claims None text ending = IsJudged job telling found claims text ending
-IsTextOf job telling found claims (Some number) text ending = IsPlayed job telling found number text ending
+abbrev pub IsTextOf : Telling → Exploration → List ClaimLine → Option ℕ → List ℕ → Ending → Type 0
+IsTextOf telling found claims None text ending = IsJudged telling found claims text ending
+IsTextOf telling found claims (Some number) text ending = IsPlayed telling found number text ending
 
 -- the text is the report, or the play of the outcome that is asked for
 abbrev pub IsText : SearchJob → Telling → Exploration → List ClaimLine → List ℕ → Ending → Type 0
-IsText job telling found claims text ending = IsTextOf job telling found claims job.outcome text ending
+IsText job telling found claims text ending = IsTextOf telling found claims job.outcome text ending
 
 -- it is told by the lines of the script that are steps of the clients of this list, and by these plans
 pub record IsTelling (script : List ℕ) (list : ActorList) (plans : List Plan) (telling : Telling) : Type 0 where

@@ -31,15 +31,32 @@ pub struct SearchHost<'a, P> {
     pub progress: &'a P,
 }
 
+/// Why a search that was to certify did not, by lines of the script.
+#[derive(Clone, Copy)]
+pub enum DoubtLine {
+    /// Not all orders were gone through.
+    Incomplete,
+    /// To make each state again would cost more calls than a search of so many states may make.
+    Costly,
+    /// After so many calls that of this line leads to a state that was not met.
+    Step { calls: u64, line: u64 },
+    /// After so many calls the next one of a client that vanishes does.
+    Leave { calls: u64 },
+    /// An order of so many calls does not end as its outcome says.
+    Outcome { calls: u64 },
+}
+
 /// How a search ended.
 #[derive(Clone, Copy)]
 pub enum Ending {
     /// All orders were gone through, and if it was asked for, no outcome is missing for sure.
     Whole,
-    /// There are more states than may be met, or it is not known for sure whether an outcome is missing.
+    /// Not all orders were gone through.
     Part,
-    /// A claim does not hold.
-    Broken,
+    /// The search was to certify and did not, for this reason.
+    Unsure(DoubtLine),
+    /// A claim does not hold; and the search was to certify and did not, if there is a reason.
+    Broken(Option<DoubtLine>),
     /// There is no outcome of the number that is asked for, and nothing was written.
     Missing,
     /// The clients that may vanish are asked for, and one of them does not join. Nothing was written.

@@ -8,5 +8,5 @@ mod reasons;
 mod telling;
 
 pub use explore::explore_script;
-pub use job::{Ending, SearchHost, SearchJob};
+pub use job::{DoubtLine, Ending, SearchHost, SearchJob};
 pub use program::explore_to_exit;

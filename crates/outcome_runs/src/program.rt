@@ -3,10 +3,10 @@ ghost use Rattle.std.specs.Prelude.{◌≡◌, ◌≤◌};
 ghost use Rattle.std.specs.Process.{exit_status};
 ghost use Rattle.sm_names.specs.declared.rules.TheConstants.{MAX_PAGES};
 ghost use Rattle.script_lines.specs.Written.{WritesPart};
-ghost use Rattle.outcome_runs.specs.Endings.{EndsExplored, missing_line, unknown_line, unlike_line};
+ghost use Rattle.outcome_runs.specs.Endings.{EndsExplored, IsDoubtTold, doubt_line, missing_line, part_line, unknown_line, unlike_line};
 
 use crate::explore::explore_script;
-use crate::job::{Ending, SearchHost, SearchJob};
+use crate::job::{DoubtLine, Ending, SearchHost, SearchJob};
 use play_search::Progress;
 use report_io::end_with;
 use script_lines::write_line;
@@ -14,7 +14,7 @@ use std::fmt;
 use std::io::{Read, Write};
 use std::process::ExitCode;
 
-// The status where not all orders were gone through.
+// The status where not all orders were gone through, or a search was to certify and did not.
 const PART: u8 = 7;
 
 // The status where a claim does not hold.
@@ -55,54 +55,85 @@ fn tell_missing<F: Write>(faults: &mut F, outcome: Option<u64>)
     }
 }
 
-// A client that may vanish does not join.
-#[derive(Clone, Copy)]
-struct NoClient;
-
-impl fmt::Display for NoClient {
-    ghost use Rattle.std.specs.Prelude.{Some, codes};
-
-    ghost output = { λ none. Some (codes "sysmem: --vanish names a client that does not join") };
-
-    fn fmt<W: fmt::Write>(&self, f: &mut fmt::Formatter<W>) -> fmt::Result {
-        write!(f, "sysmem: --vanish names a client that does not join")
-    }
-}
-
-// Says so, as far as the writer takes it.
+// Says that a client that may vanish does not join, as far as the writer takes it.
 fn tell_unknown<F: Write>(faults: &mut F)
     ensures { WritesPart (F.contents faults.old) (F.contents faults.new) unknown_line }
 {
-    let _ = write_line(faults, NoClient);
+    let _ = write_line(faults, "sysmem: --vanish names a client that does not join");
 }
 
-// A play that was made again went on otherwise than before.
-#[derive(Clone, Copy)]
-struct OtherPlay;
-
-impl fmt::Display for OtherPlay {
-    ghost use Rattle.std.specs.Prelude.{Some, codes};
-
-    ghost output = { λ other. Some (codes "explore: a play went on otherwise") };
-
-    fn fmt<W: fmt::Write>(&self, f: &mut fmt::Formatter<W>) -> fmt::Result {
-        write!(f, "explore: a play went on otherwise")
-    }
-}
-
-// Says so, as far as the writer takes it.
+// Says that a play that was made again went on otherwise than before, as far as the writer takes it.
 fn tell_unlike<F: Write>(faults: &mut F)
     ensures { WritesPart (F.contents faults.old) (F.contents faults.new) unlike_line }
 {
-    let _ = write_line(faults, OtherPlay);
+    let _ = write_line(faults, "explore: a play went on otherwise");
+}
+
+// Says that not all orders were gone through, as far as the writer takes it.
+fn tell_part<F: Write>(faults: &mut F)
+    ensures { WritesPart (F.contents faults.old) (F.contents faults.new) part_line }
+{
+    let _ = write_line(
+        faults,
+        "sysmem: not all explored: a greater --states may do",
+    );
+}
+
+impl fmt::Display for DoubtLine {
+    ghost use Rattle.std.specs.Prelude.{Some};
+    ghost use Rattle.outcome_runs.specs.Endings.{doubt_text};
+
+    ghost output = { λ doubt. Some (doubt_text doubt) };
+
+    fn fmt<W: fmt::Write>(&self, f: &mut fmt::Formatter<W>) -> fmt::Result {
+        match *self {
+            DoubtLine::Incomplete => write!(
+                f,
+                "sysmem: not certified: not all explored: a greater --states may do"
+            ),
+            DoubtLine::Costly => write!(
+                f,
+                "sysmem: not certified: too many calls to repeat: a greater --states may do"
+            ),
+            DoubtLine::Step { calls, line } => write!(
+                f,
+                "sysmem: not certified: after {calls} calls line {line} leads to a state that was not met"
+            ),
+            DoubtLine::Leave { calls } => write!(
+                f,
+                "sysmem: not certified: after {calls} calls a client that vanishes leads to a state that was not met"
+            ),
+            DoubtLine::Outcome { calls } => write!(
+                f,
+                "sysmem: not certified: a schedule of {calls} calls does not end as its outcome says"
+            ),
+        }
+    }
+}
+
+// Says why a search did not certify, as far as the writer takes it.
+fn tell_doubt<F: Write>(faults: &mut F, doubt: DoubtLine)
+    ensures { WritesPart (F.contents faults.old) (F.contents faults.new) (doubt_line doubt) }
+{
+    let _ = write_line(faults, doubt);
+}
+
+// The same, if there is a reason.
+fn tell_doubt_of<F: Write>(faults: &mut F, doubt: Option<DoubtLine>)
+    ensures { IsDoubtTold (F.contents faults.old) (F.contents faults.new) doubt }
+{
+    if let Some(doubt) = doubt {
+        tell_doubt(faults, doubt);
+    }
 }
 
 /// Explores the script of actors that the reader holds, with the greatest limits, as `explore_script` does, and
 /// answers the status that a program is to end with: 0 where all orders were gone through and each claim holds, 6 where
-/// a claim does not, 7 where there are more states than may be met, 2 where there is no outcome of the number that is
-/// asked for or a client that is asked to vanish does not join, 5 where a play that was made again went on otherwise, and
-/// else the status of the fault. Of a fault, a missing outcome or client, or such a play one line is written on `faults`,
-/// as far as that takes it. Costs what `explore_script` costs.
+/// a claim does not, 7 where not all orders were gone through or the search was to certify and did not, 2 where there is
+/// no outcome of the number that is asked for or a client that is asked to vanish does not join, 5 where a play that was
+/// made again went on otherwise, and else the status of the fault. Of a fault, of orders that were not gone through, of why
+/// a search did not certify, of a missing outcome or client, or of such a play one line is written on `faults`, as far as
+/// that takes it. Costs what `explore_script` costs.
 pub fn explore_to_exit<P: Progress, R: Read, W: Write, F: Write>(
     host: SearchHost<'_, P>,
     seed: [u8; 16],
@@ -119,8 +150,18 @@ pub fn explore_to_exit<P: Progress, R: Read, W: Write, F: Write>(
     let alloc = host.alloc;
     match explore_script(host, seed, reader, writer, job) {
         Ok(Ending::Whole) => ExitCode::SUCCESS,
-        Ok(Ending::Part) => ExitCode::from(PART),
-        Ok(Ending::Broken) => ExitCode::from(BROKEN),
+        Ok(Ending::Part) => {
+            tell_part(faults);
+            ExitCode::from(PART)
+        }
+        Ok(Ending::Unsure(doubt)) => {
+            tell_doubt(faults, doubt);
+            ExitCode::from(PART)
+        }
+        Ok(Ending::Broken(doubt)) => {
+            tell_doubt_of(faults, doubt);
+            ExitCode::from(BROKEN)
+        }
         Ok(Ending::Missing) => {
             tell_missing(faults, job.outcome);
             ExitCode::from(MISSING)

@@ -8,11 +8,11 @@ ghost use Rattle.actor_plays.specs.Plans.{planned, steps_of};
 ghost use Rattle.outcome_texts.specs.ClaimLines.{claims_in, is_good_list, judged, texts_in};
 ghost use Rattle.outcome_texts.specs.Lines.{step_lines_of, steps_in};
 ghost use Rattle.outcome_runs.specs.declared.job.Ending.{Ending as EndingTold};
-ghost use Rattle.outcome_runs.specs.Searches.{HasSearched, IsFoundBy, IsFoundWith, IsJudged, IsPlayed, IsSearch, IsText, IsTold, IsToldBy, IsToldWith, IsUnfound, IsUnheld, IsUnheldBy, IsUnjudged, IsUnlike, IsUnlisted, IsUnsearched, IsUntold, judged_ending, list_asked, outcome_at, is_whole as whole_search, stop_told, whole_ending};
+ghost use Rattle.outcome_runs.specs.Searches.{HasSearched, IsFoundBy, IsFoundWith, IsJudged, IsPlayed, IsSearch, IsText, IsTold, IsToldBy, IsToldWith, IsUnfound, IsUnheld, IsUnheldBy, IsUnjudged, IsUnlike, IsUnlisted, IsUnsearched, IsUntold, doubt_told, doubts_told, judged_ending, list_asked, outcome_at, stop_told, turn_told, whole_ending};
 
-use crate::job::{Ending, SearchHost, SearchJob};
+use crate::job::{DoubtLine, Ending, SearchHost, SearchJob};
 use crate::reasons::reason_of;
-use actor_plays::{Exploration, Found, Plan, Vanishing};
+use actor_plays::{Doubt, Exploration, Found, Plan, Vanishing};
 use actor_scripts::{ActorList, ActorScriptFault, read_actors};
 use outcome_texts::{
     BadClaim, ClaimLine, ClaimText, LabelNames, StepLine, Telling, claim_texts, has_broken,
@@ -93,22 +93,69 @@ fn searched<P: Progress>(
     }
 }
 
-// How a search ended of which something is told.
-fn ending_of(complete: bool) -> Ending
-    ensures { result ≡ whole_ending complete }
+// The doubt about a turn after so many calls: about the step of this line, or the call of a client that vanishes.
+fn line_of_turn(calls: usize, leaves: bool, step: Option<StepLine<'_>>) -> DoubtLine
+    ensures { result ≡ turn_told calls leaves step.entry }
 {
-    if complete {
-        Ending::Whole
-    } else {
-        Ending::Part
+    let calls = calls as u64;
+    match step {
+        Some(step) => {
+            if leaves {
+                DoubtLine::Leave { calls }
+            } else {
+                DoubtLine::Step {
+                    calls,
+                    line: step.number,
+                }
+            }
+        }
+        None => DoubtLine::Leave { calls },
     }
 }
 
-// Whether all orders were gone through, and if it is asked for, no outcome is missing for sure.
-fn is_whole(job: SearchJob<'_>, found: &Exploration) -> bool
-    ensures { result ≡ whole_search job.entry found.now }
+// The doubt, by lines of the script.
+fn line_of_doubt(telling: &Telling<'_>, doubt: Doubt) -> DoubtLine
+    ensures { result ≡ doubt_told telling.now doubt }
 {
-    found.complete && (found.certified || !job.certifies)
+    match doubt {
+        Doubt::Incomplete => DoubtLine::Incomplete,
+        Doubt::Costly => DoubtLine::Costly,
+        Doubt::Turn {
+            calls,
+            actor,
+            at,
+            leaves,
+        } => line_of_turn(calls, leaves, telling.line(actor, at)),
+        Doubt::Outcome { calls } => DoubtLine::Outcome {
+            calls: calls as u64,
+        },
+    }
+}
+
+// Why the search did not certify, if it was to.
+fn doubt_of(telling: &Telling<'_>, found: &Exploration) -> Option<DoubtLine>
+    ensures { result ≡ doubts_told telling.now found.now }
+{
+    match found.doubt {
+        Some(doubt) => Some(line_of_doubt(telling, doubt)),
+        None => None,
+    }
+}
+
+// How a search ended of which something is told.
+fn ending_of(complete: bool, doubt: Option<DoubtLine>) -> Ending
+    ensures { result ≡ whole_ending complete doubt }
+{
+    match doubt {
+        Some(doubt) => Ending::Unsure(doubt),
+        None => {
+            if complete {
+                Ending::Whole
+            } else {
+                Ending::Part
+            }
+        }
+    }
 }
 
 // The outcome of this number, from 1.
@@ -132,26 +179,25 @@ fn unlike(alloc: Global) -> SearchReport
 }
 
 // How a search ended whose claims were judged.
-fn judged_end(broken: bool, complete: bool) -> Ending
-    ensures { result ≡ judged_ending broken complete }
+fn judged_end(broken: bool, complete: bool, doubt: Option<DoubtLine>) -> Ending
+    ensures { result ≡ judged_ending broken complete doubt }
 {
     if broken {
-        Ending::Broken
+        Ending::Broken(doubt)
     } else {
-        ending_of(complete)
+        ending_of(complete, doubt)
     }
 }
 
 // The report, with what is said of the claims, and how the search ended.
 fn report_of(
     alloc: Global,
-    job: SearchJob<'_>,
     telling: &Telling<'_>,
     found: &Exploration,
     claims: &[ClaimLine<'_>],
 ) -> Result<SearchReport, AllocError>
-    ensures { IfOk result (λ told. IsJudged job.entry telling.now found.now claims.now
-        told.text.items told.ending) }
+    ensures { IfOk result (λ told. IsJudged telling.now found.now claims.now told.text.items
+        told.ending) }
 {
     let mut text = Vec::new(alloc);
     push_report(alloc, &mut text, telling, found)?;
@@ -159,20 +205,18 @@ fn report_of(
     let broken = has_broken(telling, found, claims);
     Ok(SearchReport {
         text,
-        ending: judged_end(broken, is_whole(job, found)),
+        ending: judged_end(broken, found.complete, doubt_of(telling, found)),
     })
 }
 
 // The play of the outcome of this number, and how the search ended.
 fn play_of(
     alloc: Global,
-    job: SearchJob<'_>,
     telling: &Telling<'_>,
     found: &Exploration,
     number: u64,
 ) -> Result<SearchReport, AllocError>
-    ensures { IfOk result (λ told. IsPlayed job.entry telling.now found.now number told.text.items
-        told.ending) }
+    ensures { IfOk result (λ told. IsPlayed telling.now found.now number told.text.items told.ending) }
 {
     let mut text = Vec::new(alloc);
     let Some(one) = outcome_of(&found.outcomes, number) else {
@@ -184,7 +228,7 @@ fn play_of(
     push_play(alloc, &mut text, telling, one, number, found.outcomes.len())?;
     Ok(SearchReport {
         text,
-        ending: ending_of(is_whole(job, found)),
+        ending: ending_of(found.complete, doubt_of(telling, found)),
     })
 }
 
@@ -200,8 +244,8 @@ fn told_of(
         told.text.items told.ending) }
 {
     match job.outcome {
-        None => report_of(alloc, job, telling, found, claims),
-        Some(number) => play_of(alloc, job, telling, found, number),
+        None => report_of(alloc, telling, found, claims),
+        Some(number) => play_of(alloc, telling, found, number),
     }
 }
 

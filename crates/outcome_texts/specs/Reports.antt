@@ -1,5 +1,5 @@
 -- The report of all outcomes.
-use Rattle.std.specs.Prelude.{ℕ, ◌≡◌, ◌+◌, ◌-◌, ◌^◌, min, Bool, if◌then◌else◌, List, [], ◌∷◌, ◌++◌, codes, length, vec_len}
+use Rattle.std.specs.Prelude.{ℕ, ◌≡◌, ◌+◌, ◌-◌, ◌^◌, min, Bool, if◌then◌else◌, is_some, List, [], ◌∷◌, ◌++◌, codes, length, vec_len}
 use Rattle.std.specs.List.{fold}
 use Rattle.actor_plays.specs.declared.found.Exploration.{Exploration}
 use Rattle.actor_plays.specs.declared.plan.Plan.{Plan}
@@ -16,16 +16,16 @@ orders_text complete orders = if complete then orders else []
 abbrev pub extent_text : Bool → List ℕ
 extent_text complete = if complete then codes ", " else codes "not all explored: "
 
--- what stands behind the number of outcomes, if none is missing for sure
-abbrev pub certificate_text : Bool → List ℕ
-certificate_text certified = if certified then codes ", certified" else []
+-- what stands behind the number of outcomes: that none is missing for sure, or that there is a doubt
+abbrev pub certificate_text : Exploration → List ℕ
+certificate_text found = if found.certified then codes ", certified" else if is_some found.doubt then codes ", not certified" else []
 
 -- how many clients, steps, orders, states and outcomes there are, with words on who vanishes
 abbrev pub counts_with : ℕ → ℕ → List ℕ → Exploration → List ℕ → List ℕ
 counts_with clients steps how found orders = pieces (counted clients (codes "client") ∷ codes ", "
     ∷ counted steps (codes "step") ∷ codes "; " ∷ how ∷ codes "\n"
     ∷ orders_text found.complete orders ∷ extent_text found.complete ∷ counted found.states (codes "state")
-    ∷ codes ", " ∷ counted (vec_len found.outcomes) (codes "outcome") ∷ certificate_text found.certified
+    ∷ codes ", " ∷ counted (vec_len found.outcomes) (codes "outcome") ∷ certificate_text found
     ∷ codes "\n\n" ∷ [])
 
 -- so many steps and those of one more plan, or the greatest number that is told

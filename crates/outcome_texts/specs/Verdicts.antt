@@ -10,9 +10,10 @@ use Rattle.actor_plays.specs.declared.found.Exploration.{Exploration}
 use Rattle.actor_plays.specs.declared.found.Found.{Found}
 use Rattle.outcome_texts.specs.Calls.{calls_told}
 use Rattle.outcome_texts.specs.Facts.{has_fact}
-use Rattle.outcome_texts.specs.Plays.{counted, pieces}
+use Rattle.outcome_texts.specs.Plays.{counted, line_told, pieces}
 use Rattle.outcome_texts.specs.Scripts.{call_text}
 use Rattle.outcome_texts.specs.declared.calls.PlayCall.{PlayCall}
+use Rattle.outcome_texts.specs.declared.lines.StepLine.{StepLine}
 use Rattle.outcome_texts.specs.declared.telling.Telling.{Telling}
 use Rattle.outcome_texts.specs.declared.verdicts.ClaimLine.{ClaimLine}
 use Rattle.outcome_texts.specs.declared.verdicts.Verdict.{Verdict}
@@ -67,10 +68,16 @@ has_broken telling found claims = list_any (λ (one : ClaimLine). is_broken (ver
 
 -- ---- the text
 
+-- the call as the script has it: the line of its step, or that by which a client leaves
+abbrev pub source_text : Telling → Found → PlayCall → List ℕ
+source_text telling found (PlayCall.Step actor at) =
+    option_map_or (λ (step : StepLine). pieces (step.line.now ∷ codes "\n" ∷ [])) (line_told telling actor at) []
+source_text telling found (PlayCall.Leave actor number) = call_text telling found (PlayCall.Leave actor number)
+
 -- the call of this number, after which no other outcome is possible
 abbrev pub decision_text : Telling → Found → ℕ → PlayCall → List ℕ
 decision_text telling found number call =
-    pieces (codes "    decided by call " ∷ decimal number ∷ codes ": " ∷ []) ++ call_text telling found call
+    pieces (codes "    decided by call " ∷ decimal number ∷ codes ": " ∷ []) ++ source_text telling found call
 
 -- the call of this number, from 1
 abbrev pub call_numbered : List PlayCall → ℕ → Option PlayCall

@@ -243,7 +243,7 @@ impl LabelNames {
     }
 
     // The actor's other label, if there is one.
-    fn other(&self, actor: usize, label: Label) -> Option<Label>
+    pub(crate) fn other(&self, actor: usize, label: Label) -> Option<Label>
         ensures { result ≡ other_name self.now actor label }
     {
         match self.others.get(actor) {

@@ -10,7 +10,7 @@ use script_lines::{Fact, Label, Line, NodeFact, NodeName, read_line};
 use sm_names::{Product, row_of};
 
 // The label that the line binds.
-fn line_label(line: &[u8]) -> Option<Label>
+pub(crate) fn line_label(line: &[u8]) -> Option<Label>
     ensures { result ≡ label_told line.now }
 {
     match read_line(line) {

@@ -4,8 +4,10 @@ ghost use Rattle.outcome_texts.specs.Reports.{AppendsReport, all_steps, certific
 ghost use Rattle.outcome_texts.specs.Vanishing.{how_text};
 
 use crate::numbers::push_great;
+use crate::row_names::RowNames;
 use crate::rows::{Among, Occurrences, ReportRow, push_rows};
 use crate::telling::{Makers, Subject, Telling, subject_at};
+use crate::unmade::push_unmade;
 use crate::vanishing::{can_vanish, has_vanished, how_words, is_alike, push_gone};
 use crate::words::MadeOutcome;
 use actor_plays::{Exploration, Found, Plan};
@@ -119,6 +121,7 @@ struct Outcomes<'a> {
     first: usize,
     outcomes: &'a [Found],
     makers: &'a [Makers],
+    names: &'a RowNames,
 }
 
 impl Outcomes<'_> {
@@ -143,6 +146,7 @@ fn add_outcome(
         let made = MadeOutcome {
             found,
             makers: &all.makers[at],
+            names: all.names,
         };
         let mut what = Vec::new(all.alloc);
         all.telling.push_what(&mut what, made, subject)?;
@@ -191,7 +195,7 @@ impl ReportRows {
         occurrences: Occurrences,
     ) -> Result<(), AllocError> {
         let mut names = Vec::new(all.alloc);
-        all.telling.push_name(&mut names, subject)?;
+        all.telling.push_name(&mut names, all.names, subject)?;
         self.rows.push(ReportRow { names, occurrences })?;
         Ok(())
     }
@@ -206,7 +210,7 @@ impl ReportRows {
         if place < self.rows.len() {
             let names = &mut self.rows[place].names;
             push(names, " ")?;
-            all.telling.push_name(names, subject)?;
+            all.telling.push_name(names, all.names, subject)?;
         }
         Ok(())
     }
@@ -306,10 +310,16 @@ fn extent(complete: bool) -> &'static str
 }
 
 // What stands behind the number of outcomes.
-fn certificate(certified: bool) -> &'static str
-    ensures { result.now ≡ certificate_text certified }
+fn certificate(found: &Exploration) -> &'static str
+    ensures { result.now ≡ certificate_text found.now }
 {
-    if certified { ", certified" } else { "" }
+    if found.certified {
+        ", certified"
+    } else if found.doubt.is_some() {
+        ", not certified"
+    } else {
+        ""
+    }
 }
 
 // What a report says first of a search: how many steps its clients have, who may vanish, and how many orders there are.
@@ -345,7 +355,7 @@ fn push_counts<'a>(
             Part::Counted(found.states as u64, "state"),
             Part::Word(", "),
             Part::Counted(found.outcomes.len() as u64, "outcome"),
-            Part::Word(certificate(found.certified)),
+            Part::Word(certificate(found)),
             Part::Word("\n\n"),
         ],
     )
@@ -390,6 +400,7 @@ fn push_group(
     alloc: Global,
     text: &mut Vec<u8>,
     telling: &Telling<'_>,
+    names: &RowNames,
     first: usize,
     outcomes: &[Found],
     have_shares: bool,
@@ -401,6 +412,7 @@ fn push_group(
         first,
         outcomes,
         makers: &makers,
+        names,
     };
     let mut rows = Vec::new(alloc);
     push_all(&all, &mut rows)?;
@@ -416,6 +428,7 @@ fn push_groups(
     alloc: Global,
     text: &mut Vec<u8>,
     telling: &Telling<'_>,
+    names: &RowNames,
     outcomes: &[Found],
 ) -> Result<(), AllocError> {
     let mut first: usize = 0;
@@ -429,24 +442,35 @@ fn push_groups(
             push(text, "\n")?;
         }
         push_group_head(text, telling.labels, &outcomes[first..end])?;
-        push_group(alloc, text, telling, first, &outcomes[first..end], false)?;
+        push_group(
+            alloc,
+            text,
+            telling,
+            names,
+            first,
+            &outcomes[first..end],
+            false,
+        )?;
         first = end;
     }
     Ok(())
 }
 
-// The rows of the report: what became of what, in which outcomes, and if somebody may vanish by who vanished.
+// The rows of the report: what became of what, in which outcomes, and if somebody may vanish by who vanished; and below them
+// the lines whose calls no order makes.
 fn rows_text(
     alloc: Global,
     telling: &Telling<'_>,
-    outcomes: &[Found],
+    found: &Exploration,
 ) -> Result<Vec<u8>, AllocError> {
     let mut text = Vec::new(alloc);
+    let names = RowNames::of(alloc, telling)?;
     if can_vanish(telling.vanishing) {
-        push_groups(alloc, &mut text, telling, outcomes)?;
+        push_groups(alloc, &mut text, telling, &names, &found.outcomes)?;
     } else {
-        push_group(alloc, &mut text, telling, 0, outcomes, true)?;
+        push_group(alloc, &mut text, telling, &names, 0, &found.outcomes, true)?;
     }
+    push_unmade(alloc, &mut text, telling, found)?;
     Ok(text)
 }
 
@@ -467,10 +491,11 @@ fn push_told<'a>(
     text.extend_from_slice(rows)
 }
 
-/// Appends the report: how many clients, steps, orders, states and outcomes there are, who may vanish, and what became of
-/// each node, client and tracker, and of the pages, in which outcomes; if somebody may vanish at any point, apart for
-/// those in which the same clients vanished, and without shares of the runs. No clause says how many orders are told,
-/// and what the rows are.
+/// Appends the report: how many clients, steps, orders, states and outcomes there are, who may vanish, whether the search is
+/// certified, if it was to be, and what became of each node, client and tracker, and of the pages, in which outcomes; if
+/// somebody may vanish at any point, apart for those in which the same clients vanished, and without shares of the runs. Below
+/// stand the lines whose calls no order makes, at most 20. No clause says how many orders are told, and what the rows and these
+/// lines are.
 ///
 /// `AllocError` where memory is refused. Costs O(n^2) for n outcomes, for each node, client and tracker.
 pub fn push_report(
@@ -482,7 +507,7 @@ pub fn push_report(
     ensures { OnOk result (AppendsReport telling.now found.now text.old.items text.new.items) }
 {
     let orders = orders_words(alloc, found.orders)?;
-    let rows = rows_text(alloc, telling, &found.outcomes)?;
+    let rows = rows_text(alloc, telling, found)?;
     let how = how_words(alloc, telling.labels, telling.vanishing)?;
     let head = ReportHead {
         steps: steps_in(telling.plans),

@@ -62,8 +62,8 @@ pub(crate) fn subject_at(plan: &Plan, actor: usize, at: usize) -> Option<Subject
 }
 
 impl<'a> Telling<'a> {
-    // The line of the step at this place of the actor's plan.
-    pub(crate) fn line(&self, actor: usize, at: usize) -> Option<StepLine<'a>>
+    /// The line of the step at this place of the actor's plan. Costs O(n) for n lines.
+    pub fn line(&self, actor: usize, at: usize) -> Option<StepLine<'a>>
         ensures { result ≡ line_told self.now actor at }
     {
         match step_at(self.plans, actor, at) {

@@ -2,7 +2,7 @@
 ghost use Rattle.std.specs.Prelude.{◌≡◌, ◌++◌, [], OnOk};
 ghost use Rattle.std.specs.List.{flat_map};
 ghost use Rattle.std.specs.Option.{option_map_or};
-ghost use Rattle.outcome_texts.specs.Verdicts.{breaking as breaking_told, breaking_text, broken_head, broken_text, call_numbered as call_told, claim_text, claims_text, decided_text, decision_text, first_with as first_told, has_broken as broken_among, having as having_told, is_as as as_told, is_broken as broken_told, is_sought as sought_told, unbroken as unbroken_told, verdict_by as verdict_told, verdict_of, verdict_text, words_text};
+ghost use Rattle.outcome_texts.specs.Verdicts.{breaking as breaking_told, breaking_text, broken_head, broken_text, call_numbered as call_told, claim_text, claims_text, decided_text, decision_text, first_with as first_told, has_broken as broken_among, having as having_told, is_as as as_told, is_broken as broken_told, is_sought as sought_told, source_text, unbroken as unbroken_told, verdict_by as verdict_told, verdict_of, verdict_text, words_text};
 
 use crate::calls::{PlayCall, calls_of};
 use crate::facts::has_fact;
@@ -126,6 +126,25 @@ pub fn has_broken(telling: &Telling<'_>, found: &Exploration, claims: &[ClaimLin
         .any(|one| is_broken(verdict_on(telling, found, one.claim)))
 }
 
+// Appends the call as the script has it: the line of its step, or that by which a client leaves.
+fn push_source(
+    text: &mut Vec<u8>,
+    telling: &Telling<'_>,
+    found: &Found,
+    call: PlayCall,
+) -> Result<(), AllocError>
+    ensures { OnOk result
+        (text.new.items ≡ text.old.items ++ source_text telling.now found.now call) }
+{
+    match call {
+        PlayCall::Step { actor, at } => match telling.line(actor, at) {
+            Some(step) => push_parts(text, &[Part::Bytes(step.line), Part::Word("\n")]),
+            None => Ok(()),
+        },
+        PlayCall::Leave { .. } => push_call(text, telling, found, call),
+    }
+}
+
 // Appends the call of this number, from 1, and that it decided.
 fn push_decision(
     text: &mut Vec<u8>,
@@ -145,7 +164,7 @@ fn push_decision(
             Part::Word(": "),
         ],
     )?;
-    push_call(text, telling, found, call)
+    push_source(text, telling, found, call)
 }
 
 // Appends the call of this number, if there is one, and that it decided.

@@ -1,4 +1,5 @@
 //! What is said of nodes, trackers and clients.
+use crate::row_names::RowNames;
 use crate::telling::{Makers, Subject, Telling, became_at};
 use actor_plays::{Became, Fate, Found};
 use script_labels::push_cause;
@@ -6,39 +7,30 @@ use script_lines::{Part, push, push_label, push_number, push_parts};
 use sm_names::Fault;
 use std::alloc::AllocError;
 
-// An outcome, with the steps that made its nodes.
+// An outcome, with the steps that made its nodes, and what rows call what steps make.
 #[derive(Clone, Copy)]
 pub(crate) struct MadeOutcome<'a> {
     pub(crate) found: &'a Found,
     pub(crate) makers: &'a Makers,
+    pub(crate) names: &'a RowNames,
 }
 
-impl<'a> Telling<'a> {
-    fn push_fault(
-        &self,
-        text: &mut Vec<u8>,
-        makers: &Makers,
-        fault: Fault,
-    ) -> Result<(), AllocError> {
+impl MadeOutcome<'_> {
+    fn push_fault(&self, text: &mut Vec<u8>, fault: Fault) -> Result<(), AllocError> {
         push(text, "fails, ")?;
         push_cause(text, fault.cause)?;
         push(text, " ")?;
-        match makers.maker(fault.origin) {
-            Some((actor, at)) => push_label(text, self.bound(actor, at)),
+        match self.makers.maker(fault.origin) {
+            Some((actor, at)) => self.names.push(text, actor, at),
             None => Ok(()),
         }
     }
 
-    fn push_fate(
-        &self,
-        text: &mut Vec<u8>,
-        makers: &Makers,
-        fate: Option<Fate>,
-    ) -> Result<(), AllocError> {
+    fn push_fate(&self, text: &mut Vec<u8>, fate: Option<Fate>) -> Result<(), AllocError> {
         match fate {
             None => push(text, "is not kept"),
             Some(Fate::Ended) => push(text, "ends"),
-            Some(Fate::Failed(fault)) => self.push_fault(text, makers, fault),
+            Some(Fate::Failed(fault)) => self.push_fault(text, fault),
             Some(Fate::Live { allocated: true }) => push(text, "is live, with buffers"),
             Some(Fate::Live { allocated: false }) => push(text, "is live, without buffers"),
             Some(Fate::Released { allocated: true }) => push(text, "is released, with buffers"),
@@ -48,21 +40,24 @@ impl<'a> Telling<'a> {
         }
     }
 
-    // Appends what became of what a step makes.
-    fn push_became(
-        &self,
-        text: &mut Vec<u8>,
-        makers: &Makers,
-        became: Option<Became>,
-    ) -> Result<(), AllocError> {
-        match became {
-            Some(Became::Node(_, fate)) => self.push_fate(text, makers, fate),
-            Some(Became::Tracker(true)) => push(text, "fires"),
-            Some(Became::Tracker(false)) => push(text, "does not fire"),
+    // Appends what became of the node that a step makes.
+    fn push_node(&self, text: &mut Vec<u8>, actor: usize, at: usize) -> Result<(), AllocError> {
+        match became_at(self.found, actor, at) {
+            Some(Became::Node(_, fate)) => self.push_fate(text, fate),
             _ => push(text, "is not made"),
         }
     }
 
+    // Appends whether the tracker that a step makes fires. One that is not made does not.
+    fn push_tracker(&self, text: &mut Vec<u8>, actor: usize, at: usize) -> Result<(), AllocError> {
+        match became_at(self.found, actor, at) {
+            Some(Became::Tracker(true)) => push(text, "fires"),
+            _ => push(text, "does not fire"),
+        }
+    }
+}
+
+impl Telling<'_> {
     // Appends the line at which the client waits for ever.
     fn push_waits(&self, text: &mut Vec<u8>, actor: usize, at: usize) -> Result<(), AllocError> {
         match self.line(actor, at) {
@@ -105,20 +100,22 @@ impl<'a> Telling<'a> {
         subject: Subject,
     ) -> Result<(), AllocError> {
         match subject {
-            Subject::Node(actor, at) | Subject::Tracker(actor, at) => {
-                self.push_became(text, made.makers, became_at(made.found, actor, at))
-            }
+            Subject::Node(actor, at) => made.push_node(text, actor, at),
+            Subject::Tracker(actor, at) => made.push_tracker(text, actor, at),
             Subject::Client(actor) => self.push_client(text, made.found, actor),
             Subject::Free => push_number(text, made.found.outcome.free as u64),
         }
     }
 
     // Appends what the subject is called.
-    pub(crate) fn push_name(&self, text: &mut Vec<u8>, subject: Subject) -> Result<(), AllocError> {
+    pub(crate) fn push_name(
+        &self,
+        text: &mut Vec<u8>,
+        names: &RowNames,
+        subject: Subject,
+    ) -> Result<(), AllocError> {
         match subject {
-            Subject::Node(actor, at) | Subject::Tracker(actor, at) => {
-                push_label(text, self.bound(actor, at))
-            }
+            Subject::Node(actor, at) | Subject::Tracker(actor, at) => names.push(text, actor, at),
             Subject::Client(actor) => push_label(text, self.labels.get(actor).copied()),
             Subject::Free => push(text, "free"),
         }

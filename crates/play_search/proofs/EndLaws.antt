@@ -24,7 +24,7 @@ use Rattle.alike_plays.proofs.Places.{all_back}
 use Rattle.alike_plays.proofs.Reaching.{reached_seen}
 use Rattle.alike_plays.proofs.TurnsLeft.{asks_behind, leaves_left, waits_ahead}
 use Rattle.actor_plays.specs.declared.found.Became.{Became}
-use Rattle.play_search.specs.Ends.{IsOver, became_of, became_renamed, end_in, told_of, unless_left}
+use Rattle.play_search.specs.Ends.{IsOver, became_of, became_renamed, end_in, telling_of, told_of, unless_left}
 use Rattle.play_search.specs.Vanishings.{began_early, early_at, is_done, is_early, must_leave, vanished, vanished_first}
 
 -- ---- one end under two names, one after another
@@ -85,8 +85,9 @@ module _ (to again : NodeKey → NodeKey) (id number : ℕ → ℕ) (core later 
       at = ap (λ (left : Bool). unless_left left same.at) leaves ∙ by (is_some stage.vanish) steps
 
       -- what its calls made
-      told : map (told_of again later fallen) (made_of same.made) ≡ map (told_of (λ key. again (to key)) core falls) (made_of stage.made)
-      told = ap (map (told_of again later fallen)) made ∙ told_again (made_of stage.made)
+      told : telling_of (map (told_of again later fallen) (made_of same.made))
+          ≡ telling_of (map (told_of (λ key. again (to key)) core falls) (made_of stage.made))
+      told = ap telling_of (ap (map (told_of again later fallen)) made ∙ told_again (made_of stage.made))
 
 -- ---- actor by actor
 

@@ -1,5 +1,5 @@
 -- The outcome of a play tells how it ends.
-use Rattle.std.proofs.Common.{ℕ, ◌≡◌, refl, ap, sym, ◌∙◌, List, [], ◌∷◌, map}
+use Rattle.std.proofs.Common.{ℕ, ◌≡◌, refl, ap, sym, ◌∙◌, Bool, true, false, List, [], ◌∷◌, map}
 use Rattle.std.proofs.Common.{cond, Option, Some, None, is_some}
 use Rattle.std.specs.Option.{option_map}
 use Rattle.sm_names.specs.declared.keys.NodeKey.{NodeKey}
@@ -9,7 +9,7 @@ use Rattle.actor_plays.specs.declared.vanish.VanishProgress.{VanishProgress}
 use Rattle.actor_plays.specs.declared.play.Play.{Play}
 use Rattle.actor_plays.specs.Leaves.{vanish_of}
 use Rattle.actor_plays.specs.Moves.{position_of}
-use Rattle.actor_plays.specs.Plays.{stage_of}
+use Rattle.actor_plays.specs.Plays.{has_fired, stage_of}
 use Rattle.alike_plays.specs.Actors.{made_of, tells_made}
 use Rattle.actor_plays.specs.declared.found.Became.{Became}
 use Rattle.actor_plays.specs.declared.found.Outcome.{Outcome}
@@ -27,15 +27,21 @@ abbrev end_by : Told → End
 end_by t = record { left = t.left; at = unless_left t.left t.at; made = telling_of t.made }
 
 module _ (to : NodeKey → NodeKey) (play : Play) where
+  -- By whether the tracker fired.
+  one_tracker : (at : ℕ) (fired : Bool) (those later : List (ℕ × Became)) → map (told_renamed to) those ≡ later →
+      map (told_renamed to) (cond fired ((at, Became.Tracker fired) ∷ those) those) ≡ cond fired ((at, Became.Tracker fired) ∷ later) later
+  one_tracker at true those later same = λ i. (at, Became.Tracker true) ∷ same i
+  one_tracker at false those later same = same
+
   -- By cases on the reply.
   one_made : (at : ℕ) (reply : Reply) (those : List (ℕ × Became)) (made : List (ℕ × Reply)) →
-      map (told_renamed to) those ≡ map (told_of to play.core play.falls.items) made →
+      map (told_renamed to) those ≡ telling_of (map (told_of to play.core play.falls.items) made) →
       map (told_renamed to) (cond (does_tell (became_in play reply)) ((at, became_in play reply) ∷ those) those)
-      ≡ map (told_of to play.core play.falls.items) (cond (tells_made reply) ((at, reply) ∷ made) made)
+      ≡ telling_of (map (told_of to play.core play.falls.items) (cond (tells_made reply) ((at, reply) ∷ made) made))
   one_made at (Reply.Token key collection) those made same =
       λ i. told_of to play.core play.falls.items (at, Reply.Token key collection) ∷ same i
-  one_made at (Reply.Tracker tracker) those made same =
-      λ i. told_of to play.core play.falls.items (at, Reply.Tracker tracker) ∷ same i
+  one_made at (Reply.Tracker tracker) those made same = one_tracker at (has_fired play.core.trackers.fired tracker) those
+      (telling_of (map (told_of to play.core play.falls.items) made)) same
   one_made at Reply.Done those made same = same
   one_made at (Reply.Joined client) those made same = same
   one_made at (Reply.Shut waiting) those made same = same
@@ -49,9 +55,9 @@ module _ (to : NodeKey → NodeKey) (play : Play) where
   one_made at (Reply.Misused misuse) those made same = same
   one_made at (Reply.PeerClosed cause origin) those made same = same
 
-  -- What became of nodes and trackers is told by the replies that tell of them.
+  -- What became of nodes and of trackers that fired is told by the replies that tell of them.
   all_made : (made : List (ℕ × Reply)) →
-      map (told_renamed to) (telling_of (map (made_in play) made)) ≡ map (told_of to play.core play.falls.items) (made_of made)
+      map (told_renamed to) (telling_of (map (made_in play) made)) ≡ telling_of (map (told_of to play.core play.falls.items) (made_of made))
   all_made [] = refl
   all_made (m ∷ made) = one_made m.0 m.1 (telling_of (map (made_in play) made)) (made_of made) (all_made made)
 

@@ -27,8 +27,8 @@ use Rattle.play_search.specs.Closing.{way_to}
 use Rattle.play_search.specs.Searches.{setup_of}
 use Rattle.play_search.specs.Vanishings.{must_leave, vanished}
 
--- what is told of the end of an actor: whether it left, how many steps are behind it if it did not, and what became of what its
--- steps made, each with the place of the step
+-- what is told of the end of an actor: whether it left, how many steps are behind it if it did not, what became of the nodes that its
+-- steps made, and which of its trackers fired, each with the place of the step
 pub record End : Type 0 where
   pub left : Bool
   pub at : Option ℕ
@@ -38,13 +38,13 @@ pub record End : Type 0 where
 abbrev pub unless_left : Bool → ℕ → Option ℕ
 unless_left left at = if left then None else Some at
 
--- this became of a node or of a tracker
+-- this became of a node, or it is a tracker that fired: one that did not fire is told as one that was not made
 abbrev pub does_tell : Became → Bool
 does_tell Became.Nothing = false
 does_tell (Became.Node key fate) = true
-does_tell (Became.Tracker fired) = true
+does_tell (Became.Tracker fired) = fired
 
--- of what became of what steps made, that of nodes and trackers
+-- of what became of what steps made, that of nodes and of trackers that fired
 abbrev pub telling_of : List (ℕ × Became) → List (ℕ × Became)
 telling_of made = filter (λ (m : ℕ × Became). does_tell m.1) made
 
@@ -89,7 +89,7 @@ abbrev pub end_in : (NodeKey → NodeKey) → State → List GoneNode → Stage 
 end_in to core falls stage = record {
   left = is_some stage.vanish;
   at = unless_left (is_some stage.vanish) stage.at;
-  made = map (told_of to core falls) (made_of stage.made);
+  made = telling_of (map (told_of to core falls) (made_of stage.made));
 }
 
 -- a play that is here ends as the outcome says, under new keys: each actor, and the free pages

@@ -34,6 +34,11 @@ fn kind_at(plans: &[Plan], actor: usize, at: usize) -> Option<CallKind> {
     }
 }
 
+// Whether the actor's step at this place makes a call.
+pub(crate) fn is_call(plans: &[Plan], actor: usize, at: usize) -> bool {
+    kind_at(plans, actor, at).is_some()
+}
+
 // Whether the actor's step at this place opens a collection.
 fn opens(plans: &[Plan], actor: usize, at: usize) -> bool {
     matches!(kind_at(plans, actor, at), Some(CallKind::OpenRoot))

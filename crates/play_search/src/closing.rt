@@ -1,5 +1,5 @@
 //! Whether no turn leads out of what a search met.
-ghost use Rattle.std.specs.Prelude.{◌≡◌, ◌<◌, ℕ, length, true, IfOk};
+ghost use Rattle.std.specs.Prelude.{◌≡◌, ◌<◌, ℕ, length, true, IfOk, None};
 ghost use Rattle.actor_plays.specs.Moves.{position_of};
 ghost use Rattle.actor_plays.specs.Plays.{IsPlay};
 ghost use Rattle.play_search.specs.Closing.{AreAllTriedIn, AreClosedIn, AreTriedIn, IsBackIn, IsCallTriedIn, IsLeaveTriedIn, IsRowTriedIn, way_to};
@@ -11,7 +11,7 @@ use crate::likeness::are_alike;
 use crate::replay::{Ground, is_made, replay};
 use crate::turns::code_of;
 use crate::vanishing::may_go;
-use actor_plays::{Play, Turn};
+use actor_plays::{Doubt, Play, Turn};
 use std::alloc::{AllocError, Global};
 
 // How much a play of this many calls costs that is made again, in calls, and a look whether it is like another: as many looks
@@ -39,7 +39,7 @@ impl Graph {
         Ok(lengths)
     }
 
-    // What it costs to make each play again that `is_closed` asks for, and to compare it: one for each value, and two for each
+    // What it costs to make each play again that `open_doubt` asks for, and to compare it: one for each value, and two for each
     // turn.
     fn closing_cost(&self, alloc: Global) -> Result<usize, AllocError> {
         let lengths = self.lengths(alloc)?;
@@ -53,6 +53,12 @@ impl Graph {
             }
         }
         Ok(cost)
+    }
+
+    // How many calls the way to the value at this place has.
+    pub(crate) fn calls_to(&self, alloc: Global, at: usize) -> Result<usize, AllocError> {
+        let turns = self.path_to(alloc, at)?;
+        Ok(turns.len())
     }
 
     // The play of the way to the value at this place.
@@ -214,92 +220,116 @@ impl Graph {
         Ok(back)
     }
 
-    // Whether both lead back.
-    fn is_actor_tried(
+    // The doubt about a call of the actor from the value at this place, at which the play stands: that by which it leaves, or that
+    // of its next step.
+    fn turn_doubt(
         &self,
         ground: &Ground<'_>,
         here: &Play,
         at: usize,
         actor: usize,
-    ) -> Result<bool, ExploreFault>
-        requires pages { IsPool ground.now.setting.pages }
-        requires here { IsReplay ground.now.plans.now ground.now.vanishing ground.now.setting
-            (way_to self.now.rows.items at) here.now }
-        ensures { IfOk result (λ yes. yes ≡ true →
-            AreTriedIn ground.now.plans.now ground.now.vanishing ground.now.setting
-            self.now.rows.items at actor) }
-    {
-        if !self.is_call_tried(ground, here, at, actor)? {
-            return Ok(false);
-        }
-        let left = self.is_leave_tried(ground, here, at, actor)?;
-        Ok(left)
+        leaves: bool,
+    ) -> Result<Doubt, AllocError> {
+        let step = match here.actor(actor) {
+            Some(one) => one.at,
+            None => 0,
+        };
+        Ok(Doubt::Turn {
+            calls: self.calls_to(ground.alloc, at)?,
+            actor,
+            at: step,
+            leaves,
+        })
     }
 
-    // Whether no turn leads out of what was met from the value at this place, at which the play stands.
-    fn are_actors_tried(
+    // Which of both does not lead back, if one does not.
+    fn actor_doubt(
         &self,
         ground: &Ground<'_>,
         here: &Play,
         at: usize,
-    ) -> Result<bool, ExploreFault>
+        actor: usize,
+    ) -> Result<Option<Doubt>, ExploreFault>
         requires pages { IsPool ground.now.setting.pages }
         requires here { IsReplay ground.now.plans.now ground.now.vanishing ground.now.setting
             (way_to self.now.rows.items at) here.now }
-        ensures { IfOk result (λ yes. yes ≡ true →
+        ensures { IfOk result (λ doubt. doubt ≡ None →
+            AreTriedIn ground.now.plans.now ground.now.vanishing ground.now.setting
+            self.now.rows.items at actor) }
+    {
+        if !self.is_call_tried(ground, here, at, actor)? {
+            return Ok(Some(self.turn_doubt(ground, here, at, actor, false)?));
+        }
+        if !self.is_leave_tried(ground, here, at, actor)? {
+            return Ok(Some(self.turn_doubt(ground, here, at, actor, true)?));
+        }
+        Ok(None)
+    }
+
+    // The first turn that leads out of what was met from the value at this place, at which the play stands.
+    fn actors_doubt(
+        &self,
+        ground: &Ground<'_>,
+        here: &Play,
+        at: usize,
+    ) -> Result<Option<Doubt>, ExploreFault>
+        requires pages { IsPool ground.now.setting.pages }
+        requires here { IsReplay ground.now.plans.now ground.now.vanishing ground.now.setting
+            (way_to self.now.rows.items at) here.now }
+        ensures { IfOk result (λ doubt. doubt ≡ None →
             AreAllTriedIn ground.now.plans.now ground.now.vanishing ground.now.setting
             self.now.rows.items at (length ground.now.plans.now)) }
     {
         'actors: for actor in 0..ground.plans.len() {
-            if !self.is_actor_tried(ground, here, at, actor)? {
-                return Ok(false);
+            if let Some(doubt) = self.actor_doubt(ground, here, at, actor)? {
+                return Ok(Some(doubt));
             }
         }
-        Ok(true)
+        Ok(None)
     }
 
     // The same by a play that is made again.
-    fn is_row_tried(&self, ground: &Ground<'_>, at: usize) -> Result<bool, ExploreFault>
+    fn row_doubt(&self, ground: &Ground<'_>, at: usize) -> Result<Option<Doubt>, ExploreFault>
         requires { IsPool ground.now.setting.pages }
-        ensures { IfOk result (λ yes. yes ≡ true →
+        ensures { IfOk result (λ doubt. doubt ≡ None →
             IsRowTriedIn ground.now.plans.now ground.now.vanishing ground.now.setting
             self.now.rows.items at) }
     {
         let here = self.replay_to(ground, at)?;
-        let tried = self.are_actors_tried(ground, &here, at)?;
-        Ok(tried)
+        let doubt = self.actors_doubt(ground, &here, at)?;
+        Ok(doubt)
     }
 
-    // Whether no turn leads out of what was met from any value.
-    fn are_rows_tried(&self, ground: &Ground<'_>) -> Result<bool, ExploreFault>
+    // The first turn that leads out of what was met, from any value.
+    fn rows_doubt(&self, ground: &Ground<'_>) -> Result<Option<Doubt>, ExploreFault>
         requires { IsPool ground.now.setting.pages }
-        ensures { IfOk result (λ yes. yes ≡ true → (at : ℕ) → at < length self.now.rows.items →
+        ensures { IfOk result (λ doubt. doubt ≡ None → (at : ℕ) → at < length self.now.rows.items →
             IsRowTriedIn ground.now.plans.now ground.now.vanishing ground.now.setting
             self.now.rows.items at) }
     {
         'values: for at in 0..self.rows.len() {
-            if !self.is_row_tried(ground, at)? {
-                return Ok(false);
+            if let Some(doubt) = self.row_doubt(ground, at)? {
+                return Ok(Some(doubt));
             }
         }
-        Ok(true)
+        Ok(None)
     }
 
-    // Whether the value without a turn was met, and no turn leads out of what was met. If that is too much work to tell, the
-    // answer is no.
-    pub(crate) fn is_closed(&self, ground: &Ground<'_>) -> Result<bool, ExploreFault>
+    // Why it is not known that the value without a turn was met and no turn leads out of what was met: it was not, one does, or
+    // that is too much work to tell.
+    pub(crate) fn open_doubt(&self, ground: &Ground<'_>) -> Result<Option<Doubt>, ExploreFault>
         requires { IsPool ground.now.setting.pages }
-        ensures { IfOk result (λ yes. yes ≡ true →
+        ensures { IfOk result (λ doubt. doubt ≡ None →
             AreClosedIn ground.now.plans.now ground.now.vanishing ground.now.setting
             self.now.rows.items) }
     {
         if !self.is_met(0) {
-            return Ok(false);
+            return Ok(Some(Doubt::Incomplete));
         }
         if self.is_costly(self.closing_cost(ground.alloc)?) {
-            return Ok(false);
+            return Ok(Some(Doubt::Costly));
         }
-        let tried = self.are_rows_tried(ground)?;
-        Ok(tried)
+        let doubt = self.rows_doubt(ground)?;
+        Ok(doubt)
     }
 }

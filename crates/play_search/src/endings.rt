@@ -1,5 +1,5 @@
 //! Whether the plays that a search met end as outcomes say, where they are over.
-ghost use Rattle.std.specs.Prelude.{◌≡◌, ℕ, length, true, IfOk, Ok};
+ghost use Rattle.std.specs.Prelude.{◌≡◌, ℕ, length, true, IfOk, None, Ok};
 ghost use Rattle.actor_plays.specs.Moves.{position_of};
 ghost use Rattle.actor_plays.specs.Positions.{Rests};
 ghost use Rattle.play_search.specs.Closing.{AreClosedIn};
@@ -12,7 +12,7 @@ use crate::graph::Graph;
 use crate::next::is_left_open;
 use crate::replay::{Ground, is_made, replay};
 use crate::turns::{actor_of, is_step};
-use actor_plays::{Found, Play};
+use actor_plays::{Doubt, Found, Play};
 use std::alloc::AllocError;
 
 // The outcomes that were found, and for each ending its place among them.
@@ -95,44 +95,45 @@ impl Graph {
         Ok(goes)
     }
 
-    // The same of all values that were met. Costs one play for each, and one turn more for one that has no ending.
-    pub(crate) fn are_rows_ended(
+    // The first value whose play does not. Costs one play for each, and one turn more for one that has no ending.
+    fn ending_doubt(
         &self,
         ground: &Ground<'_>,
         shown: Shown<'_>,
-    ) -> Result<bool, ExploreFault>
+    ) -> Result<Option<Doubt>, ExploreFault>
         requires { IsPool ground.now.setting.pages }
-        ensures { IfOk result (λ yes. yes ≡ true →
+        ensures { IfOk result (λ doubt. doubt ≡ None →
             AreRowsEnded ground.now.plans.now ground.now.vanishing ground.now.setting
             self.now.rows.items shown.entry.outcomes.now (length self.now.rows.items)) }
     {
         'values: for at in 0..self.rows.len() {
             if !self.is_row_ended(ground, shown, at)? {
-                return Ok(false);
+                let calls = self.calls_to(ground.alloc, at)?;
+                return Ok(Some(Doubt::Outcome { calls }));
             }
         }
-        Ok(true)
+        Ok(None)
     }
 
-    // Whether each play that is over ends as one of the outcomes says: no turn leads out of the values that were met, and the plays
-    // of these that are over do.
-    pub(crate) fn is_certified(
+    // Why it is not known that each play that is over ends as one of the outcomes says. It is if no turn leads out of the values
+    // that were met, and the plays of these that are over do.
+    pub(crate) fn doubt(
         &self,
         ground: &Ground<'_>,
         shown: Shown<'_>,
-    ) -> Result<bool, ExploreFault>
+    ) -> Result<Option<Doubt>, ExploreFault>
         requires { IsPool ground.now.setting.pages }
-        ensures closed { IfOk result (λ yes. yes ≡ true →
+        ensures closed { IfOk result (λ doubt. doubt ≡ None →
             AreClosedIn ground.now.plans.now ground.now.vanishing ground.now.setting
             self.now.rows.items) }
-        ensures none { IfOk result (λ yes. yes ≡ true → NoneIsMissing ground.now.vanishing.at_end
+        ensures none { IfOk result (λ doubt. doubt ≡ None → NoneIsMissing ground.now.vanishing.at_end
             (setup_of ground.now.plans.now ground.now.vanishing ground.now.setting)
             shown.entry.outcomes.now) }
     {
-        if !self.is_closed(ground)? {
-            return Ok(false);
+        if let Some(doubt) = self.open_doubt(ground)? {
+            return Ok(Some(doubt));
         }
-        let ended = self.are_rows_ended(ground, shown)?;
+        let ended = self.ending_doubt(ground, shown)?;
         Ok(ended)
     }
 }

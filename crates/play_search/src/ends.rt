@@ -87,18 +87,18 @@ fn are_new_told(one: &[(usize, Became)], other: &[(usize, Became)], names: &Name
     true
 }
 
-// Whether this became of a node or of a tracker.
+// Whether this became of a node, or is a tracker that fired.
 fn tells(became: Became) -> bool
     ensures { result ≡ does_tell became }
 {
     match became {
         Became::Nothing => false,
         Became::Node(..) => true,
-        Became::Tracker(_) => true,
+        Became::Tracker(fired) => fired,
     }
 }
 
-// Of what became of what steps made, that of nodes and trackers.
+// Of what became of what steps made, that of nodes and of trackers that fired.
 fn telling(alloc: Global, made: &[(usize, Became)]) -> Result<Vec<(usize, Became)>, AllocError>
     ensures { IfOk result (λ those. those.items ≡ telling_of made.now) }
 {

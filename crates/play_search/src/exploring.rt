@@ -1,5 +1,5 @@
 //! The search, from the plans of a script to its outcomes.
-ghost use Rattle.std.specs.Prelude.{◌≡◌, ◌≤◌, All, IfOk, OnOk, length, true, vec_len};
+ghost use Rattle.std.specs.Prelude.{◌≡◌, ◌≤◌, ◌&&◌, [], All, IfOk, None, OnOk, false, is_some, length, not, true, vec_len};
 ghost use Rattle.sm_names.specs.declared.rules.TheConstants.{MAX_PAGES};
 ghost use Rattle.actor_plays.specs.Plays.{stages_of};
 ghost use Rattle.play_search.specs.Changes.{changes};
@@ -21,9 +21,10 @@ use crate::outcome::outcome_of;
 use crate::progress::Progress;
 use crate::replay::{Ground, Setting, have_no_turn, replay};
 use crate::shares::{left_at, lefts_of, number_at, shares_of};
+use crate::unmade::unmade_in;
 use crate::vanishing::{are_allowed, vanished_of};
 use crate::witness::{WayTurn, Ways, goals_of, ways_of};
-use actor_plays::{Exploration, Figures, Found, Outcome, Plan, Play, Turn, Vanishing};
+use actor_plays::{Doubt, Exploration, Figures, Found, Outcome, Plan, Play, Turn, Vanishing};
 use script_lines::LabelHash;
 use sm_names::{Call, ClientId, Reply};
 use std::alloc::{AllocError, Global};
@@ -286,38 +287,72 @@ fn places_of(
     Ok(places)
 }
 
-// Whether no play and none of their outcomes is missing, if that is asked for.
-fn certified(
+// Why it is not known that no play and none of their outcomes is missing, if it is not.
+fn doubt_of(
     ground: &Ground<'_>,
     graph: &Graph,
     goals: &[Goal],
     outcomes: &[Found],
-    certifies: bool,
-) -> Result<bool, ExploreFault>
+    complete: bool,
+) -> Result<Option<Doubt>, ExploreFault>
     requires { IsPool ground.now.setting.pages }
-    ensures met { IfOk result (λ yes. yes ≡ true → AreAllMet ground.now.plans.now
+    ensures met { IfOk result (λ doubt. doubt ≡ None → AreAllMet ground.now.plans.now
         ground.now.vanishing ground.now.setting (vec_len graph.now.rows)) }
-    ensures none { IfOk result (λ yes. yes ≡ true → NoneIsMissing ground.now.vanishing.at_end
+    ensures none { IfOk result (λ doubt. doubt ≡ None → NoneIsMissing ground.now.vanishing.at_end
         (setup_of ground.now.plans.now ground.now.vanishing ground.now.setting) outcomes.now) }
-    ensures asked { IfOk result (λ yes. yes ≡ true → certifies ≡ true) }
+    ensures complete { IfOk result (λ doubt. doubt ≡ None → complete ≡ true) }
 {
-    if !certifies {
-        return Ok(false);
+    if !complete {
+        return Ok(Some(Doubt::Incomplete));
     }
     let places = places_of(ground.alloc, goals, graph.endings.len())?;
     let shown = Shown {
         outcomes,
         places: &places,
     };
-    let certified = graph.is_certified(ground, shown)?;
-    Ok(certified)
+    let doubt = graph.doubt(ground, shown)?;
+    Ok(doubt)
 }
 
-// Whether a search that was complete, or was not, is to be certified.
-fn is_asked(certifies: bool, complete: bool) -> bool
-    ensures { result ≡ true → (certifies ≡ true) × (complete ≡ true) }
+// Whether it is known that no play and none of their outcomes is missing, if that is asked for.
+#[derive(Clone, Copy)]
+struct Certainty {
+    certified: bool,
+    // Why not.
+    doubt: Option<Doubt>,
+}
+
+// The same of the graph of these goals and outcomes.
+fn certainty_of(
+    ground: &Ground<'_>,
+    graph: &Graph,
+    goals: &[Goal],
+    outcomes: &[Found],
+    certifies: bool,
+    complete: bool,
+) -> Result<Certainty, ExploreFault>
+    requires { IsPool ground.now.setting.pages }
+    ensures met { IfOk result (λ sure. sure.certified ≡ true → AreAllMet ground.now.plans.now
+        ground.now.vanishing ground.now.setting (vec_len graph.now.rows)) }
+    ensures none { IfOk result (λ sure. sure.certified ≡ true →
+        NoneIsMissing ground.now.vanishing.at_end
+        (setup_of ground.now.plans.now ground.now.vanishing ground.now.setting) outcomes.now) }
+    ensures asked { IfOk result (λ sure. sure.certified ≡ true →
+        (certifies ≡ true) × (complete ≡ true)) }
+    ensures doubted { IfOk result
+        (λ sure. is_some sure.doubt ≡ (certifies && not sure.certified)) }
 {
-    certifies && complete
+    if !certifies {
+        return Ok(Certainty {
+            certified: false,
+            doubt: None,
+        });
+    }
+    let doubt = doubt_of(ground, graph, goals, outcomes, complete)?;
+    Ok(Certainty {
+        certified: doubt.is_none(),
+        doubt,
+    })
 }
 
 // What a search finds, where texts hash so.
@@ -340,23 +375,31 @@ fn explored<P: Progress>(
         found.outcomes.items) }
     ensures asked { IfOk result (λ found. found.certified ≡ true →
         (effort.certifies ≡ true) × (found.complete ≡ true)) }
+    ensures doubted { IfOk result
+        (λ found. is_some found.doubt ≡ (effort.certifies && not found.certified)) }
+    ensures unmade { IfOk result
+        (λ found. found.complete ≡ false → found.unmade.items ≡ []) }
 {
     let (graph, complete) = graph_of(ground, hash, effort.most, progress)?;
     let Read { goals, orders } = read_graph(ground, &graph)?;
     let outcomes = found_all(ground, &goals)?;
-    let certified = certified(
+    let unmade = unmade_in(ground, &graph, complete)?;
+    let certainty = certainty_of(
         ground,
         &graph,
         &goals,
         &outcomes,
-        is_asked(effort.certifies, complete),
+        effort.certifies,
+        complete,
     )?;
     Ok(Exploration {
         outcomes,
         states: graph.rows.len(),
         complete,
         orders,
-        certified,
+        certified: certainty.certified,
+        unmade,
+        doubt: certainty.doubt,
     })
 }
 
@@ -372,7 +415,7 @@ fn explored<P: Progress>(
 /// `progress` is told how many values were met, each time that `PROGRESS_STEP` more were, and once that the search is over. The
 /// answer does not depend on it.
 /// Only a complete answer is certified, and only if `effort.certifies` is true; then it is, unless two plays of one value are not
-/// seen to be alike, or that is too costly to tell.
+/// seen to be alike, or that is too costly to tell. If it is true and the answer is not certified, `doubt` says why.
 /// Costs O(`effort.most`) look-ups, calls and bytes, and the plays of the outcomes; with `effort.certifies`, as many calls again.
 pub fn explore<P: Progress>(
     alloc: Global,
@@ -393,6 +436,10 @@ pub fn explore<P: Progress>(
         found.outcomes.items) }
     ensures asked { IfOk result (λ found. found.certified ≡ true →
         (effort.certifies ≡ true) × (found.complete ≡ true)) }
+    ensures doubted { IfOk result
+        (λ found. is_some found.doubt ≡ (effort.certifies && not found.certified)) }
+    ensures unmade { IfOk result
+        (λ found. found.complete ≡ false → found.unmade.items ≡ []) }
 {
     let hash = LabelHash::new(setting.seed);
     let bases = bases_of(alloc, plans)?;

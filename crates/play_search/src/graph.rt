@@ -11,10 +11,12 @@ use crate::numbers::small;
 use crate::progress::{Progress, tell_met};
 use crate::replay::{Ground, made_again};
 use crate::turns::{code_of, is_step, turn_of};
+use crate::unmade::note_made;
 use actor_plays::{Play, Turn};
 use indexmap::IndexSet;
 use script_lines::LabelHash;
 use std::alloc::{AllocError, Global};
+use std::collections::HashMap;
 
 // The turn of this number leads to this value, or to none that is known, if it was not tried.
 #[derive(Clone, Copy)]
@@ -48,6 +50,8 @@ pub(crate) struct Graph {
     pub(crate) endings: IndexSet<Vec<u8>, LabelHash>,
     // Who vanished in each ending.
     pub(crate) groups: Vec<Group>,
+    // The steps whose call some play made, by their numbers.
+    pub(crate) made: HashMap<u32, bool>,
     // What the search has cost: the bytes of all values, and the calls of all plays.
     cost: usize,
     // How many values it has room for.
@@ -80,6 +84,7 @@ impl Graph {
             edges: Vec::new(alloc),
             endings: IndexSet::with_hasher(alloc, hash),
             groups: Vec::new(alloc),
+            made: HashMap::new(alloc),
             cost: 0,
             most,
             full: false,
@@ -350,6 +355,7 @@ impl Graph {
             return Ok(None);
         };
         self.lead(at, to);
+        note_made(&mut self.made, ground, play, turn)?;
         if new {
             self.open(ground, play, to)?;
         }

@@ -22,6 +22,7 @@ mod progress;
 mod replay;
 mod shares;
 mod turns;
+mod unmade;
 mod value;
 mod vanishing;
 mod witness;

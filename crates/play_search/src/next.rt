@@ -91,10 +91,10 @@ pub(crate) fn next_in(
     Ok(Some(met_in(ground, before, play)?))
 }
 
-// Whether the actor of this place has a call to make, unless it is one that surely has to wait.
+// Whether the actor of this place has a call to make, unless it is one that has to wait.
 fn makes_step(ground: &Ground<'_>, play: &Play, place: usize, actor: &Actor) -> bool {
     match play.next_call(ground.plans, place) {
-        Some((call, waits)) => !(waits && is_idle(play, actor, &call)),
+        Some((call, waits)) => !(waits && is_idle(play.core(), actor.client, &call)),
         None => false,
     }
 }

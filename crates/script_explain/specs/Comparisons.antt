@@ -93,9 +93,13 @@ abbrev pub agreement_text : TranscriptPlace → List ℕ
 agreement_text at = codes "agrees: " ++ decimal at.lines ++ codes " " ++ codes "line" ++ plural_end at.lines ++ codes ", "
     ++ decimal at.replies ++ replies_word at.replies
 
--- what is told where no line was played that has a reply
-abbrev pub empty_text : List ℕ
-empty_text = codes "no line was played\n"
+-- what is told where no reply was compared, after so many lines that have one
+abbrev pub empty_words : ℕ → List ℕ
+empty_words lines = if lines == 0 then codes "no line was played\n" else codes "no reply is recorded\n"
+
+-- the same of a place
+abbrev pub empty_text : TranscriptPlace → List ℕ
+empty_text at = empty_words at.lines
 
 -- the legal reply, as it is told: nothing is no reply
 abbrev pub legal_text : List ℕ → List ℕ
@@ -122,13 +126,13 @@ pub record Difference (setting : Setting) (lines : List (List ℕ)) (text : List
   pub differs : at.reply ≢ as_line reply
   pub said : text ≡ told_difference at.number at.line at.reply reply ++ indented at.facts
 
--- what is said of a place up to which all agrees: nothing is, if no line was played that has a reply
+-- what is said of a place up to which all agrees: that it does, if a reply was compared
 abbrev pub IsSaid : CheckResult → TranscriptPlace → List ℕ → List ℕ → Type 0
-IsSaid CheckResult.Agrees at before after = (0 < at.lines) × (after ≡ before ++ agreement_text at)
-IsSaid CheckResult.Empty at before after = (at.lines ≡ 0) × (after ≡ before ++ empty_text)
+IsSaid CheckResult.Agrees at before after = (0 < at.replies) × (after ≡ before ++ agreement_text at)
+IsSaid CheckResult.Empty at before after = (at.replies ≡ 0) × (after ≡ before ++ empty_text at)
 IsSaid CheckResult.Differs at before after = ⊥
 
--- all agrees, and the text tells so, or that no line was played that has a reply
+-- all agrees, and the text tells so, or that no reply was compared
 pub record FullAgreement (setting : Setting) (script : List ℕ) (text : List ℕ) (verdict : CheckResult) : Type 0 where
   pub ended : last_part script ≡ []
   pub at : TranscriptPlace
@@ -213,7 +217,7 @@ pub record Checks (setting : Setting) (left_before left old new : Option (List �
       (λ verdict. IsAtEnd left × (length script ≤ MOST_BYTES) × IsJudged setting old new script verdict)
       (CheckStops setting left old new script)
 
--- the status that the program ends with: 0 where all agrees, 6 where a reply differs, 7 where no line was played that has a reply
+-- the status that the program ends with: 0 where all agrees, 6 where a reply differs, 7 where no reply was compared
 abbrev pub checking_status : Result CheckResult ReportFault → ℕ
 checking_status (Ok CheckResult.Agrees) = 0
 checking_status (Ok CheckResult.Differs) = 6

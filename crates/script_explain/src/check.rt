@@ -6,7 +6,7 @@ ghost use Rattle.sm_script.specs.Scenes.{Scene, Setting, as_line};
 ghost use Rattle.sm_script.specs.Sessions.{Advances, IsAt, IsStopped};
 ghost use Rattle.event_texts.specs.Deeds.{KeptLines};
 ghost use Rattle.report_io.specs.declared.fault.ReportFault.{ReportFault as Fault};
-ghost use Rattle.script_explain.specs.Comparisons.{Checks, IsJudged, IsSaid, IsVerdict, ComparisonLinesStop, Records, ComparisonStopped, agreement_text, legal_text, replies_word, told_difference};
+ghost use Rattle.script_explain.specs.Comparisons.{Checks, IsJudged, IsSaid, IsVerdict, ComparisonLinesStop, Records, ComparisonStopped, agreement_text, empty_words, legal_text, replies_word, told_difference};
 ghost use Rattle.script_explain.specs.Progress.{CheckHalted, Compared, Ended, Judges, comparison_place, lines_counted};
 
 use event_texts::EventWriter;
@@ -22,11 +22,11 @@ use std::io::{Read, Write};
 /// The result of comparing a transcript.
 #[derive(Clone, Copy)]
 pub enum CheckResult {
-    /// Each reply that is there is the machine's.
+    /// Some replies are there, and each is the machine's.
     Agrees,
     /// The first that differs was written.
     Differs,
-    /// No line was played that has a reply.
+    /// No reply was compared.
     Empty,
 }
 
@@ -57,7 +57,7 @@ struct Comparison {
 /// pages, and compares each reply that is there with the machine's. A line that begins with two spaces is
 /// the reply to the line before it that begins with none; one that begins with four says nothing. Where
 /// all agree, writes how many lines were played that have a reply and how many replies compared, or that no
-/// line was; else the first that differs, with the machine's reply and the facts of the event. The whole
+/// reply or no line was; else the first that differs, with the machine's reply and the facts of the event. The whole
 /// transcript is read before any line is judged.
 ///
 /// On a fault nothing was written, but for `WriteFault`, where a first part of the text was. Costs what
@@ -161,8 +161,8 @@ impl Comparison {
             IsSaid verdict (comparison_place self.old scene kept) self.old.text.items self.new.text.items) }
         ensures err { IfErr result (λ fault. fault ≡ Fault.NoMemory) }
     {
-        if self.lines == 0 {
-            return match push(&mut self.text, "no line was played\n") {
+        if self.replies == 0 {
+            return match push(&mut self.text, words_of_none(self.lines)) {
                 Ok(()) => Ok(CheckResult::Empty),
                 Err(_) => Err(ReportFault::NoMemory),
             };
@@ -336,6 +336,17 @@ fn counted(lines: u64, reply: &[u8]) -> u64
         lines
     } else {
         lines.saturating_add(1)
+    }
+}
+
+// What is told where no reply was compared, after so many lines that have one.
+fn words_of_none(lines: u64) -> &'static str
+    ensures { result.now ≡ empty_words lines }
+{
+    if lines == 0 {
+        "no line was played\n"
+    } else {
+        "no reply is recorded\n"
     }
 }
 

@@ -1,6 +1,6 @@
 -- What the words of a claim say.
-use Rattle.std.specs.Prelude.{ℕ, ◌+◌, ◌==◌, Bool, if◌then◌else◌, List, [], ◌∷◌, take, drop, codes, Option, Some, None}
-use Rattle.std.specs.List.{position}
+use Rattle.std.specs.Prelude.{ℕ, ◌+◌, ◌==◌, ◌&&◌, nat_eq, not, Bool, if◌then◌else◌, List, [], ◌∷◌, take, drop, codes, Option, Some, None}
+use Rattle.std.specs.List.{position, starts_with}
 use Rattle.std.specs.Option.{option_and_then, option_map}
 use Rattle.std.specs.Str.{bytes_eq}
 use Rattle.sm_names.specs.declared.outcomes.Failure.{Failure}
@@ -17,10 +17,14 @@ use Rattle.script_lines.specs.declared.claim.NodeName.{NodeName}
 use Rattle.script_lines.specs.declared.claim.Often.{Often}
 use Rattle.script_lines.specs.declared.claim.SaidCause.{SaidCause}
 
--- the first of the words is #!
+-- the word begins with #!, and not with #!/, as a line does that names an interpreter
+abbrev pub is_claim_word : List ℕ → Bool
+is_claim_word word = starts_with nat_eq word (codes "#!") && not (starts_with nat_eq word (codes "#!/"))
+
+-- so does the first of the words
 abbrev pub begins_claim : List (List ℕ) → Bool
-begins_claim [] = bytes_eq [] (codes "#!")
-begins_claim (first ∷ rest) = bytes_eq first (codes "#!")
+begins_claim [] = is_claim_word []
+begins_claim (first ∷ rest) = is_claim_word first
 
 -- the line is a claim, good or bad
 abbrev pub is_claim_line : List ℕ → Bool

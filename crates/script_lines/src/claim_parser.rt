@@ -8,7 +8,7 @@ ghost use Rattle.script_lines.specs.Numbers.{number_of};
 ghost use Rattle.script_lines.specs.Words.{words_left};
 ghost use Rattle.script_lines.specs.declared.claim.Fact.{Fact as FactTold};
 ghost use Rattle.script_lines.specs.declared.claim.NodeName.{NodeName as Name};
-ghost use Rattle.script_lines.specs.Claims.{claim_behind, claim_of, fact_behind, fact_of, failed_by as failed_told, failure_named as failure_told, failure_of, fails_by as fails_told, full_name as full_told, is_claim_line, misuse_named as misuse_told, misused_by as misused_told, name_of as name_told, node_fact_of, node_said as node_told, often_named as often_told, origin_of, plain_name as plain_told, said_by as said_told};
+ghost use Rattle.script_lines.specs.Claims.{claim_behind, claim_of, fact_behind, fact_of, failed_by as failed_told, failure_named as failure_told, failure_of, fails_by as fails_told, full_name as full_told, is_claim_line, is_claim_word, misuse_named as misuse_told, misused_by as misused_told, name_of as name_told, node_fact_of, node_said as node_told, often_named as often_told, origin_of, plain_name as plain_told, said_by as said_told};
 
 use crate::claim::{Claim, Fact, NodeFact, NodeName, Often, SaidCause};
 use crate::label::Label;
@@ -16,12 +16,25 @@ use crate::number::number as read_number;
 use crate::words::{cut, is_word, next_word, place_of};
 use sm_names::{Failure, Misuse};
 
-/// Whether the line, without its end, is a claim, good or bad: its first word is `#!`. Costs O(n) for n bytes.
+// How a claim begins, and a line that names an interpreter.
+const CLAIM: &[u8] = b"#!";
+
+const INTERPRETER: &[u8] = b"#!/";
+
+// Whether the first word of a line makes it a claim.
+fn begins_claim(word: &[u8]) -> bool
+    ensures { result ≡ is_claim_word word.now }
+{
+    word.starts_with(CLAIM) && !word.starts_with(INTERPRETER)
+}
+
+/// Whether the line, without its end, is a claim, good or bad: its first word begins with `#!`, and not with `#!/`. Costs O(n)
+/// for n bytes.
 pub fn is_claim(line: &[u8]) -> bool
     ensures { result ≡ is_claim_line line.now }
 {
     let (first, _) = cut(line);
-    is_word(first, "#!")
+    begins_claim(first)
 }
 
 /// What the claim says, without the end of its line, or `None` where the line is no good claim. Costs O(n) for n bytes.

@@ -8,9 +8,8 @@ use std::fmt;
 use std::fmt::Write as _;
 use std::io::Write;
 
-// The longest line that is written has 61 bytes and its end: two of the greatest numbers behind
-// `gather: open values`.
-const LONGEST: usize = 64;
+// The longest line that is written has 115 bytes and its end: why a search is not certified, with the greatest numbers.
+const LONGEST: usize = 128;
 
 /// The writer failed, or took nothing.
 #[derive(Clone, Copy, Debug, PartialEq, Eq)]
@@ -35,7 +34,7 @@ pub fn write_out<W: Write>(writer: &mut W, text: &[u8]) -> Result<(), WriteFault
 }
 
 /// Writes what the value displays, in one line with its end. Where the writer fails or takes nothing,
-/// a first part of the line was written; of a line of more than 64 bytes, none. Takes no memory.
+/// a first part of the line was written; of a line of more than 128 bytes, none. Takes no memory.
 /// Costs O(n) for a line of n bytes.
 pub fn write_line<W: Write, D: fmt::Display + Copy>(
     writer: &mut W,

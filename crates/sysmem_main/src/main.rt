@@ -11,7 +11,7 @@ ghost use Rattle.std.specs.Process.{exit_status};
 ghost use Rattle.std.specs.IoError.{error_kind};
 ghost use Rattle.clap.specs.Words.{kind_of};
 ghost use Rattle.sysmem_main.specs.Jobs.{IsAnswered, IsPlayed, IsRead, format_for, job_for, output_for, repeats_for, streams, until_for, waiting_for};
-ghost use Rattle.sysmem_main.specs.Statuses.{IsUnreadStatus, refusal_status, unread_status};
+ghost use Rattle.sysmem_main.specs.Statuses.{IsRefused, IsUnreadStatus, help_status, refusal_status, unread_status};
 
 use actor_plays::Waiting;
 use clap::error::ErrorKind;
@@ -35,29 +35,45 @@ use std::time::Clock;
 use std::{env, fs, io};
 use thread_runs::{Job, MOST_REPEATS, Output, RunHost, run_threads_to_exit};
 
-// The status of what clap says of the words.
-fn status_of(kind: ErrorKind) -> u8
-    ensures { result ≡ refusal_status kind }
+// The status of what clap says of the words, which was written or not.
+fn status_of(kind: ErrorKind, is_written: bool) -> u8
+    ensures { result ≡ refusal_status is_written kind }
 {
     match kind {
         ErrorKind::OutOfMemory => 4,
-        ErrorKind::DisplayHelp | ErrorKind::DisplayVersion => 0,
+        ErrorKind::DisplayHelp | ErrorKind::DisplayVersion => help_status(is_written),
         _ => 2,
     }
 }
 
+// The status of help, which was written or not.
+fn help_status(is_written: bool) -> u8
+    ensures { result ≡ help_status is_written }
+{
+    if is_written { 0 } else { 1 }
+}
+
+// Writes help, and says if it can't be written.
+fn print_help(rt: &(impl Print + Eprint), error: &Error) -> io::Result<()> {
+    let written = error.print(rt);
+    if written.is_err() {
+        let _ = rt.eprintln("write fault");
+    }
+    written
+}
+
 // Says why the words ask for no run, behind the program's name: a missing command and a file instead
 // of one in words of our own, all else in clap's. Help stands alone.
-fn tell(rt: &(impl Print + Eprint), error: &Error, words: &[String]) {
-    let _ = match error.kind() {
-        ErrorKind::DisplayHelp | ErrorKind::DisplayVersion => error.print(rt),
+fn tell(rt: &(impl Print + Eprint), error: &Error, words: &[String]) -> io::Result<()> {
+    match error.kind() {
+        ErrorKind::DisplayHelp | ErrorKind::DisplayVersion => print_help(rt, error),
         ErrorKind::MissingSubcommand => rt.eprintln(NO_COMMAND),
         ErrorKind::InvalidSubcommand => match misplaced_file(words) {
             Some(name) => rt.eprintln(Misplaced { name }),
             None => tell_named(rt, error),
         },
         _ => tell_named(rt, error),
-    };
+    }
 }
 
 // Says it in clap's words, behind the program's name.
@@ -66,15 +82,15 @@ fn tell_named(rt: &(impl Print + Eprint), error: &Error) -> io::Result<()> {
     error.print(rt)
 }
 
-// Help on standard output with status 0, a refusal on standard error with 2.
+// Help on standard output with status 0, or 1 if it can't be written; a refusal on standard error with 2.
 fn refuse(rt: &(impl Print + Eprint), error: Error, words: &[String]) -> ExitCode
-    ensures { exit_status result ≡ refusal_status (kind_of error) }
+    ensures { IsRefused (kind_of error) (exit_status result) }
 {
     match error.kind() {
         ErrorKind::OutOfMemory => no_memory(rt),
         kind => {
-            tell(rt, &error, words);
-            ExitCode::from(status_of(kind))
+            let is_written = tell(rt, &error, words).is_ok();
+            ExitCode::from(status_of(kind, is_written))
         }
     }
 }
@@ -181,7 +197,7 @@ fn serve<H: Threads + Wait + Clock + Sync, R: Read, W: Write, F: Write>(
         (streams (R.remaining reader.old) (W.contents writer.old) (F.contents faults.old))
         (streams (R.remaining reader.new) (W.contents writer.new) (F.contents faults.new))
         (exit_status result))
-        (λ e. exit_status result ≡ refusal_status (kind_of e)) }
+        (λ e. IsRefused (kind_of e) (exit_status result)) }
 {
     match parse {
         Ok(matches) => match request_of(&matches) {

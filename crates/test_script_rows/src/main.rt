@@ -25,7 +25,7 @@ mod setting;
 mod task;
 
 use actor_plays::Waiting;
-use outcome_runs::{Ending, SearchHost, SearchJob, explore_script};
+use outcome_runs::{DoubtLine, Ending, SearchHost, SearchJob, explore_script};
 use plain::push_plain;
 use play_search::Silent;
 use report_io::behind;
@@ -110,15 +110,33 @@ fn explore(
         progress: &Silent,
     };
     let ending = explore_script(host, [0; 16], &mut reader, out, job)?;
-    Ok(out.extend_from_slice(end_text(ending))?)
+    Ok(push_ending(alloc, ending, out)?)
 }
 
-// What is told of how a search ended.
+// Why a search did not certify, if it was to.
+fn doubt_of(ending: Ending) -> Option<DoubtLine> {
+    match ending {
+        Ending::Unsure(doubt) => Some(doubt),
+        Ending::Broken(doubt) => doubt,
+        _ => None,
+    }
+}
+
+// Appends how a search ended.
+fn push_ending(alloc: Global, ending: Ending, out: &mut Vec<u8>) -> Result<(), AllocError> {
+    if let Some(doubt) = doubt_of(ending) {
+        let text = format!(in alloc; "! {doubt}\n")?;
+        out.extend_from_slice(text.as_bytes())?;
+    }
+    out.extend_from_slice(end_text(ending))
+}
+
+// What else is told of it.
 fn end_text(ending: Ending) -> &'static [u8] {
     match ending {
-        Ending::Whole => b"",
+        Ending::Whole | Ending::Unsure(_) => b"",
         Ending::Part => b"! not all orders were gone through\n",
-        Ending::Broken => b"! a claim does not hold\n",
+        Ending::Broken(_) => b"! a claim does not hold\n",
         Ending::Missing => b"! there is no such outcome\n",
         Ending::Unknown => b"! a client that is to vanish does not join\n",
         Ending::Unlike => b"! a play went on otherwise\n",

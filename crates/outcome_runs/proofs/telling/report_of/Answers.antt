@@ -10,6 +10,7 @@ returns c = record {
   is_report = rw c.new-text.ensures.items at c.in_ok-push_report.ensures;
   whole = c.in_ok-push_claims.ensures;
   ending_is = c.judged_end.ensures
-      ∙ (ap (λ (b : Bool). judged_ending b c.is_whole.result) c.has_broken-broken.ensures
-      ∙ ap (judged_ending (has_broken c.args.telling.now c.args.found.now c.args.claims.now)) c.is_whole.ensures);
+      ∙ (ap (λ (b : Bool). judged_ending b c.args.found.now.complete c.doubt_of.result) c.has_broken-broken.ensures
+      ∙ ap (judged_ending (has_broken c.args.telling.now c.args.found.now c.args.claims.now) c.args.found.now.complete)
+      c.doubt_of.ensures);
 }

@@ -7,4 +7,5 @@ returns-in-Ok-clause-ok g c = record {
   states = c.in-Ok.ensures.states;
   none_missing = rw c.full.ensures at c.in-Ok.ensures.none_missing;
   asked = c.in-Ok.ensures.asked;
+  doubted = c.in-Ok.ensures.doubted;
 }

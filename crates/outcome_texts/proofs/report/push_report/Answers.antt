@@ -3,5 +3,5 @@ use Rattle.outcome_texts.proofs.report.push_report.Goals as goal
 
 pub returns : goal.returns
 returns c = on_ok_weaker c.push_told.result
-    (λ is. record { orders = c.deref-3.result.now; rows = c.deref-4.result.now; appended = is })
+    (λ is. record { orders = c.deref-2.result.now; rows = c.deref-3.result.now; appended = is })
     c.push_told.ensures

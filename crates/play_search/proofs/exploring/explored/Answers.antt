@@ -9,8 +9,8 @@ pub returns-clause-none : goal.returns-clause-none
 returns-clause-none g c = λ yes.
     subst (λ (outcomes : List Found). NoneIsMissing c.args.ground.now.vanishing.at_end
     (setup_of c.args.ground.now.plans.now c.args.ground.now.vanishing c.args.ground.now.setting) outcomes)
-    c.deref-3.ensures.value (c.in_ok-certified.ensures.none yes)
+    c.deref-3.ensures.value (c.in_ok-certainty.ensures.none yes)
 
 -- it was asked for, and the search was complete
 pub returns-clause-asked : goal.returns-clause-asked
-returns-clause-asked g c = λ yes. c.is_asked.ensures (c.in_ok-certified.ensures.asked yes)
+returns-clause-asked g c = λ yes. c.in_ok-certainty.ensures.asked yes

@@ -1,5 +1,5 @@
 use Rattle.play_search.specs.Closing.{AreAllTriedIn}
-use Rattle.play_search.proofs.graph.Graph.are_actors_tried.Given as goal
+use Rattle.play_search.proofs.graph.Graph.actors_doubt.Given as goal
 
 -- the turns of so many actors are tried
 abbrev pub invariant-actors : goal.invariant-actors

@@ -1,5 +1,5 @@
 use Rattle.play_search.specs.Ends.{AreRowsEnded}
-use Rattle.play_search.proofs.graph.Graph.are_rows_ended.Given as goal
+use Rattle.play_search.proofs.graph.Graph.ending_doubt.Given as goal
 
 -- so far the plays end so
 abbrev pub invariant-values : goal.invariant-values

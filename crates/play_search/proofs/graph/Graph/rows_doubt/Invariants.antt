@@ -1,6 +1,6 @@
 use Rattle.std.proofs.Common.{ℕ, ◌<◌}
 use Rattle.play_search.specs.Closing.{IsRowTriedIn}
-use Rattle.play_search.proofs.graph.Graph.are_rows_tried.Given as goal
+use Rattle.play_search.proofs.graph.Graph.rows_doubt.Given as goal
 
 -- so many rows are tried
 abbrev pub invariant-values : goal.invariant-values

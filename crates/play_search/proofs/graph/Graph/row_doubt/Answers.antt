@@ -1,12 +1,12 @@
 use Rattle.actor_plays.specs.Moves.{position_of}
-use Rattle.play_search.proofs.graph.Graph.is_row_tried.Goals as goal
+use Rattle.play_search.proofs.graph.Graph.row_doubt.Goals as goal
 
 -- a play came there, where all turns are tried
 pub returns : goal.returns
-returns c = λ yes. record {
+returns c = λ none. record {
   real = (
     position_of c.in_ok-here.here,
     record { reached = c.in_ok-here.ensures.reached; rests = c.in_ok-here.ensures.rests },
   );
-  turns = c.in_ok-tried.ensures yes;
+  turns = c.in_ok-doubt.ensures none;
 }

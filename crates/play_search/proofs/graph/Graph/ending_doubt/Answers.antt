@@ -2,7 +2,7 @@ use Rattle.std.proofs.Common.{ℕ, ◌≡◌, ◌<◌, sym, subst, inl, inr, add
 use Rattle.std.proofs.Math.Nat.{eq-or-lt_of_le}
 use Rattle.std.specs.Prelude.{◌⊎◌}
 use Rattle.play_search.specs.Ends.{IsRowEnded}
-use Rattle.play_search.proofs.graph.Graph.are_rows_ended.Goals as goal
+use Rattle.play_search.proofs.graph.Graph.ending_doubt.Goals as goal
 
 -- one more does: it is that one, or one before it
 one_more : (P : ℕ → Type 0) (n : ℕ) → ((k : ℕ) → k < n → P k) → P n → (k : ℕ) → (k ≡ n) ⊎ (k < n) → P k
