@@ -111,6 +111,7 @@ try 2 '' '*' 'a join\n' draw --format png
 # Transcripts.
 try 0 'agrees: 2 lines, 1 reply\n' '' 'a join\n  joined\n    a remark\n# another\nshow free\n' check
 try 7 'no line was played\n' '' '' check
+try 7 'no reply is recorded\n' '' 'a join\nshow free\n    a remark\n' check
 try 7 'no line was played\n' '' '# a remark\n\n    another\n' check
 try 6 'line 1: a join\n  recorded  token a\n  legal     joined\n' '' 'a join\n  token a\n' check
 try 6 'line 2: # a remark\n  recorded  joined\n  legal     no reply\n' '' 'a join\n# a remark\n  joined\n' check
@@ -169,10 +170,15 @@ try 2 '' 'sysmem: --vanish names a client that does not join' "$pair" explore --
 try 2 '' 'sysmem: --vanish names a client that does not join' "$pair" explore --vanish 'a b'
 try 2 '' 'sysmem: --vanish names a client that does not join' "$pair" explore --vanish ''
 try 2 '' '*' "$pair" explore --vanish
-try 2 '' '*' "$pair" explore --most two
+for words in '--vanish a --most two' '--vanish a --most 0' '--vanish all --most -1' '--most 1' '--most 2'; do
+  # shellcheck disable=SC2086
+  try 2 '' '*' "$pair" explore $words
+done
+try 2 '' '*' "#! vanish all\n$pair" explore --most 2
 try 3 '' 'bad line 1: vanish is followed by all, or by clients that join' "#! vanish a c\n$pair" explore
 try 3 '' 'bad line 1: vanish is followed by all, or by clients that join' "#! vanish all b\n$pair" explore
 try 3 '' 'bad line 1: a claim is never, always or sometimes, and a fact; or vanish, and clients' "#! vanish\n$pair" explore
+try 3 '' 'bad line 1: a claim is never, always or sometimes, and a fact; or vanish, and clients' "#!never r fails\n$pair" explore
 says_who() {
   local wanted=$1 script=$2
   shift 2
@@ -186,11 +192,12 @@ waits_patiently() {
 too_few_states() {
   for most in 0 1 2 3; do
     printf "$pair" | "$program" explore --states "$most" >"$room/out" 2>"$room/told"
-    [ $? = 7 ] && grep -q "^not all explored: $most states*, " "$room/out" && hears '' || return 1
+    [ $? = 7 ] && grep -q "^not all explored: $most states*, " "$room/out" &&
+      hears 'sysmem: not all explored: a greater --states may do' || return 1
   done
 }
 # A report is certified where it is asked for: those of the examples, which are the same but for this word, and that of a pair.
-# Where not all states were met, it is not, and the status is 7.
+# Where not all states were met, or they would be too many calls to repeat, it is not: the status is 7, and standard error has why.
 certifies() {
   local told
   for told in examples/*.outcomes; do
@@ -202,11 +209,16 @@ certifies() {
   printf "$pair" | "$program" explore --certify --vanish all --end >"$room/out" 2>"$room/told" &&
     grep -q ' outcomes, certified$' "$room/out" || return 1
   printf "$pair" | "$program" explore --certify --states 3 >"$room/out" 2>"$room/told"
-  [ $? = 7 ] && ! grep -q certified "$room/out"
+  [ $? = 7 ] && sed -n 2p "$room/out" | grep -q ', not certified$' &&
+    hears 'sysmem: not certified: not all explored: a greater --states may do' || return 1
+  { printf 'a join\na open r\n' && yes 'a sync r' | head -n 400; } >"$room/script"
+  "$program" explore --certify --states 402 "$room/script" >"$room/out" 2>"$room/told"
+  [ $? = 7 ] && sed -n 2p "$room/out" | grep -q ', 1 outcome, not certified$' &&
+    hears 'sysmem: not certified: too many calls to repeat: a greater --states may do'
 }
 # On a terminal, and there alone, a line counts the states. It is gone at the end, and the report is the same.
 counts_states() {
-  set -- explore --most 2 examples/camera.actors
+  set -- explore --vanish cam,enc,dis --most 2 examples/camera.actors
   "$program" "$@" >"$room/out" 2>"$room/told" || [ $? = 6 ] || return 1
   hears '' || return 1
   python3 -c 'import pty, sys; pty.spawn(sys.argv[1:])' sh -c 'exec "$@" >"$0"' "$room/again" "$program" "$@" \
@@ -269,6 +281,14 @@ write_fails() {
   "$program" "$1" <"$room/script" >/dev/full 2>"$room/told"
   [ $? = 1 ] && hears 'write fault'
 }
+help_fails() {
+  "$program" "$@" >/dev/full 2>"$room/told"
+  [ $? = 1 ] && hears 'write fault'
+}
+for words in --help --version 'explore --help'; do
+  # shellcheck disable=SC2086
+  count help_fails $words
+done
 for command in run threads explain draw check explore; do
   count read_fails "$command"
   count write_fails "$command"
@@ -315,14 +335,12 @@ count certifies
 count waits_patiently
 count counts_states
 count says_who 'none vanishes' "$pair"
-count says_who 'none vanishes' "$pair" --most 2
-count says_who 'none vanishes' "$pair" --vanish a --most 0
 count says_who 'at most one vanishes, at any point' "$pair" --vanish all
 count says_who 'at most one vanishes, at any point' "$pair" --vanish b,a
 count says_who 'at most one of a vanishes, at any point' "$pair" --vanish a
 count says_who 'at most one of b vanishes, at any point' "#! vanish b\n$pair"
 count says_who 'at most one of a vanishes, at any point' "#! vanish b\n$pair" --vanish a
-count says_who 'at most 2 vanish, at any points' "#! vanish all\n$pair" --most 2
+count says_who 'at most 2 vanish, at any points' "#! vanish b\n$pair" --vanish all --most 2
 count says_who 'each vanishes at its end' "$pair" --end
 count says_who 'at most one of a vanishes, at any point, and each at its end' "$pair" --end --vanish a
 
@@ -413,6 +431,40 @@ long_labels() {
 }
 for case in large_tree_fails chain_ends empty_lines long_labels; do count "$case"; done
 
+# After 1,023 children of a root, 256 collections, or 64 trackers of each of 64 nodes one more is refused, and nothing before it.
+is_refused_last() { # the refusal; the lines behind `a join` are on standard input
+  { echo 'a join' && cat; } >"$room/script"
+  "$program" run <"$room/script" >"$room/out" 2>"$room/told" && hears '' &&
+    [ "$(tail -n 1 "$room/out")" = "$1" ] && [ "$(grep -c '^refused ' "$room/out")" = 1 ]
+}
+nodes_are_full() { (echo 'a open r' && seq -f 'a dup r n%g' 1024) | is_refused_last 'refused 6 TooManyNodes'; }
+collections_are_full() { seq -f 'a open r%g' 257 | is_refused_last 'refused 7 TooManyCollections'; }
+trackers_are_full() {
+  (echo 'a open r' && for node in $(seq -f 'n%g' 64); do echo "a dup r $node" && seq -f "a tracknode $node ${node}t%g" 64; done &&
+    echo 'a tracknode r one') | is_refused_last 'refused 8 TrackersFull'
+}
+# The lifetimes of a thousand nodes are waited for while handles on their only buffer are doubled, given and dropped. They end
+# with the last handle, and no earlier.
+lifetimes_end() {
+  {
+    printf 'a join\na open r\n'
+    for node in $(seq -f 'n%g' 999); do
+      printf 'a %s\n' "dup r $node" "bind $node" "constrain $node 0 0 4096" "tracklife $node 0 t$node"
+    done
+    printf 'a %s\n' 'bind r' 'constrain r 1 0 4096' 'tracklife r 0 tr' 'take r' 'close r'
+    { yes $'duph r.0 strong\ndroph r.0 strong' | head -n 20 &&
+      printf '%s\n' 'duph r.0 strong' 'giveh r.0 strong a' 'droph r.0 strong' 'collect m' 'droph r.0 strong'; } |
+      sed 's/^.*/a &\nshow fired\nshow live\nshow free/'
+  } >"$room/script"
+  {
+    yes $'fired\nlive\nfree 15' | head -n 72
+    echo "fired$(seq -s '' -f ' tn%g 4028' 999) tr 4028" && printf 'live\nfree 16\n'
+  } >"$room/wanted"
+  "$program" run <"$room/script" >"$room/out" 2>"$room/told" && hears '' &&
+    grep '^fired\|^live\|^free' "$room/out" | cmp -s - "$room/wanted"
+}
+for case in nodes_are_full collections_are_full trackers_are_full lifetimes_end; do count "$case"; done
+
 # Actors that never meet have one report. Of those that share a tree the number of events is open.
 is_reported() {
   "$program" threads <examples/apart.actors 2>"$room/told" | cmp -s - examples/apart.out && hears '' &&
@@ -437,19 +489,19 @@ parts_are_recorded() {
     sed -n 's/^# //p' "$room/record" | cmp -s - examples/apart.out
 }
 # Its lines are good and its replies are the machine's, one for each event.
-agrees() {
-  "$program" check --pages 64 "$room/record" >"$room/out" 2>"$room/told" && hears '' &&
+agrees() { # the number of pages
+  "$program" check --pages "$1" "$room/record" >"$room/out" 2>"$room/told" && hears '' &&
     [ "$(cat "$room/out")" = "agrees: $(wc -l <"$room/lines") lines, $(sed -n 's/^# events //p' "$room/record") replies" ]
 }
-record_agrees() {
-  "$program" threads --pages 64 --record <"$1" >"$room/record" 2>"$room/told" && hears '' &&
-    grep -v '^  \|^#' "$room/record" >"$room/lines" && agrees
+record_agrees() { # a script of actors, and the number of pages
+  "$program" threads --pages "$2" --record <"$1" >"$room/record" 2>"$room/told" && hears '' &&
+    grep -v '^  \|^#' "$room/record" >"$room/lines" && agrees "$2"
 }
 count is_recorded
 count parts_are_recorded
-for script in examples/*.actors; do count record_agrees "$script"; done
+for script in examples/*.actors; do count record_agrees "$script" 64; done
 
-for _ in 1 2 3 4 5 6 7 8 9; do count record_agrees examples/shared.actors; done
+for _ in 1 2 3 4 5 6 7 8 9; do count record_agrees examples/shared.actors 64; done
 
 # In one run of a hundred at least, two of these actors or more take the buffers: how many do is up to the schedule, so that a
 # busy machine needs more runs than the ten that are always made.
@@ -476,22 +528,28 @@ are_patient() {
 }
 count are_patient
 
-# A crowd: 64 actors open trees, give children and handles to the next one, and use what comes, 50 times.
-awk 'BEGIN {
-  for (actor = 0; actor < 64; actor++) print "c" actor " join"
-  count = split("open r#;dup r# k#;give k# c%;bind r#;constrain r# 1 0 4096;take r#;duph r#.0 strong;" \
-    "giveh r#.0 strong c%;collect m#;bind m#;constrain m# 0 0 1;take m#;tracknode r# t#;collect n#;collect o#;" \
-    "droph r#.0 strong;close m#;release r#;check r#", steps, ";")
-  for (round = 0; round < 50; round++)
-    for (actor = 0; actor < 64; actor++)
-      for (i = 1; i <= count; i++) {
-        step = steps[i]
-        gsub(/#/, round, step)
-        gsub(/%/, (actor + 1) % 64, step)
-        print "c" actor " " step
-      }
-}' >"$room/crowd"
-count record_agrees "$room/crowd"
+# Crowds: actors open trees, give children and handles to the next one, and use what comes. Every other one has half of the
+# rounds, and vanishes while the others go on.
+crowd() { # how many actors and rounds, and the steps of a round, where % is the next actor
+  awk -v actors="$1" -v rounds="$2" -v steps="$3" 'BEGIN {
+    for (actor = 0; actor < actors; actor++) print "c" actor " join"
+    count = split(steps, all, ";")
+    for (round = 0; round < rounds; round++)
+      for (actor = 0; actor < actors; actor += round < rounds / 2 ? 1 : 2)
+        for (i = 1; i <= count; i++) {
+          step = all[i]
+          gsub(/#/, round, step)
+          gsub(/%/, (actor + 1) % actors, step)
+          print "c" actor " " step
+        }
+  }' >"$room/crowd"
+}
+crowd 64 66 'open r#;dup r# k#;give k# c%;bind r#;constrain r# 1 0 4096;take r#;duph r#.0 strong;giveh r#.0 strong c%;collect m#;'\
+'bind m#;constrain m# 0 0 1;take m#;tracknode r# t#;collect n#;collect o#;droph r#.0 strong;close m#;release r#;check r#'
+count record_agrees "$room/crowd" 64
+crowd 4 700 'open r#;dup r# k#;give k# c%;close k#;release r#;collect m#;close m#;open s#;bind s#;constrain s# 1 0 4096;take s#;'\
+'giveh s#.0 strong c%;droph s#.0 strong;release s#;collect n#;close n#'
+count record_agrees "$room/crowd" 16384
 
 # Version and help.
 try 0 'sysmem 0.1.0\n' '' '' --version

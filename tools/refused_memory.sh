@@ -4,11 +4,11 @@
 #   tools/refused_memory.sh [-j LANES] [--built] [CRATE.. | explain]
 # With no CRATE it takes those that have such tests, and `explain`: the program explains three scripts, and each
 # refusal ends it with status 4, and leaves whole lines with all that is told of them; or it asks for the memory
-# again, and tells all. Of test_core all tests count but those of plays, of the others those with `memory` in
-# their names: the rest take success for granted. The tests are proved and built first, where that was not done;
-# with --built those are run that `rt ci` left. A run takes milliseconds. Of a test that makes thousands, the
-# first 300 are refused. LANES tests (one for each processor, if not said) run side by side. The last line counts
-# the tests. Needs cc.
+# again, and tells all. Of test_core all tests count, of the others those with `memory` in their names: the rest
+# take success for granted. The tests are proved and built first, where that was not done; with --built those
+# are run that `rt ci` left. A run takes milliseconds. Of a test that makes thousands of allocations the first
+# 300 are refused, but all of the one that plays each script of test_core. LANES tests (one for each processor,
+# if not said) run side by side. The last line counts the tests. Needs cc.
 set -euo pipefail
 cd "$(dirname "$0")/.."
 lanes=$(nproc) built='' crates=()
@@ -20,16 +20,17 @@ while [ $# -gt 0 ]; do
   esac
   shift
 done
-[ ${#crates[@]} = 0 ] && crates=(test_core test_vanish test_ends explain test_scripts test_parts)
+[ ${#crates[@]} = 0 ] && crates=(test_core test_ends explain test_scripts test_parts)
 room=$(mktemp -d)
 trap 'rm -r "$room"' EXIT
-export room most=300
+export room
 cc -O1 -Wall -Wextra -Werror -shared -fPIC -o "$room/refuse.so" tools/refuse.c
 
 # Follows one test to its first run in which no allocation is refused.
 follow() {
-  local program=$1 test=$2 own number=0
+  local program=$1 test=$2 most=300 own number=0
   own=$(mktemp -d "$room/test.XXXXXX")
+  [ "$test" != tests::plays::scripts_are_answered_as_they_say ] || most=100000
   while :; do
     number=$((number + 1))
     if ! timeout 600 env LD_PRELOAD="$room/refuse.so" REFUSE=$number "$program" "$test" >"$own/said" 2>&1 </dev/null; then
@@ -106,7 +107,7 @@ for crate in "${crates[@]}"; do
   program=crates/$crate/out/${crate}_tests
   have "$program" "$crate" rt test
   counts='/memory/!d'
-  [ "$crate" = test_core ] && counts='/^tests::turns::/d'
+  [ "$crate" = test_core ] && counts=
   "$program" --list | sed -n 's/: test$//p' | sed "$counts" | sed "s#^#follow $program #" >>"$room/tests"
 done
 xargs -P "$lanes" -L 1 bash -c '"$@" && echo >>"$room/passed"' - <"$room/tests" || true

@@ -1,9 +1,7 @@
 //! What no contract says: that calls succeed, and how events follow on one another.
 mod acts;
 mod cores;
-mod dropping;
 mod failing;
-mod first;
 mod forgetting;
 mod giving;
 mod holding;
@@ -18,6 +16,5 @@ mod running;
 mod scripts;
 mod strangers;
 mod tracking;
-mod turns;
 mod vanishing;
 mod views;

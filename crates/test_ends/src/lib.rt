@@ -1,5 +1,5 @@
-//! Tests of service_lock and client_ends, all by their public calls: see docs/TESTING.md. A crate of their own, so that
-//! each of those is proved once.
+//! Tests of service_lock, client_ends, client_vanish and client_actors, all by their public calls: see docs/TESTING.md. A
+//! crate of their own, so that each of those is proved once.
 #![tactic(auto)]
 
 #[cfg(test)]

@@ -1,10 +1,8 @@
 //! Cores that are lent to what plays on them, and what is often asked of one by client 1.
-use super::dropping::drops;
-use super::first::is_told;
 use super::forgetting::{Leaving, leave_beside};
 use super::lasting::{collects, forgets_firings, lasts};
 use super::lending::on_core;
-use super::limits::{has_children, has_collections, has_rounds, has_trackers, stops};
+use super::limits::{has_rounds, stops};
 use super::strangers::knows_nobody;
 use super::vanishing::come_and_go;
 use lifetime_core::Core;
@@ -14,17 +12,12 @@ use std::alloc::Global;
 /// What is played on a core that has seen nothing.
 #[derive(Clone, Copy)]
 pub enum Play {
-    FirstProgram,
     Strangers,
-    Collections,
-    Nodes,
-    Trackers,
     Keys,
     LastEvent,
     Lasting,
     Forgotten,
     Collected,
-    LastDrop,
     Vanish,
     /// Units of this many nodes come and go.
     Units(u8, Leaving),
@@ -34,17 +27,12 @@ impl Play {
     // Whether all goes well on this core.
     fn goes_well(self, alloc: Global, core: &mut Core) -> bool {
         match self {
-            Play::FirstProgram => is_told(core),
             Play::Strangers => knows_nobody(core),
-            Play::Collections => has_collections(core),
-            Play::Nodes => has_children(core),
-            Play::Trackers => has_trackers(core),
             Play::Keys => has_rounds(alloc, core),
             Play::LastEvent => stops(alloc, core),
             Play::Lasting => lasts(core),
             Play::Forgotten => forgets_firings(core),
             Play::Collected => collects(core),
-            Play::LastDrop => drops(core),
             Play::Vanish => come_and_go(alloc, core),
             Play::Units(nodes, leaving) => leave_beside(alloc, core, nodes, leaving),
         }

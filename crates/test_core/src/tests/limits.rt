@@ -1,54 +1,8 @@
-//! As much is taken as may be, and no more.
-use super::cores::{Play, first_root, goes_well, is_done, is_refused, joins, makes, token};
-use super::scripts::FULL;
+//! No key comes back, and nothing is taken after the last event.
+use super::cores::{Play, goes_well, is_done, joins, token};
 use lifetime_core::Core;
-use sm_names::{Call, NodeKey, Refusal, Reply, StepFault};
+use sm_names::{Call, NodeKey, Reply, StepFault};
 use std::alloc::Global;
-
-/// Whether 256 collections are made, and no more.
-pub fn has_collections(core: &mut Core) -> bool {
-    joins(core)
-        && makes(core, &Call::OpenRoot, 256)
-        && is_refused(core, Call::OpenRoot, Refusal::TooManyCollections)
-}
-
-/// Whether a root gets 1,023 children, and no more.
-pub fn has_children(core: &mut Core) -> bool {
-    let Some(root) = first_root(core) else {
-        return false;
-    };
-    let call = Call::Duplicate(root);
-    makes(core, &call, 1023) && is_refused(core, call, Refusal::TooManyNodes)
-}
-
-// Whether a new child of the node gets 64 trackers.
-fn tracks_child(core: &mut Core, parent: NodeKey) -> bool {
-    match token(core, Call::Duplicate(parent)) {
-        Some(child) => makes(core, &Call::TrackNode(child), 64),
-        None => false,
-    }
-}
-
-// Whether 64 children of the node do.
-fn tracks_children(core: &mut Core, parent: NodeKey) -> bool {
-    for _ in 0..64 {
-        if !tracks_child(core, parent) {
-            return false;
-        }
-    }
-    true
-}
-
-/// Whether there are 4,096 trackers, and no more.
-pub fn has_trackers(core: &mut Core) -> bool {
-    match first_root(core) {
-        Some(root) => {
-            tracks_children(core, root)
-                && is_refused(core, Call::TrackNode(root), Refusal::TrackersFull)
-        }
-        None => false,
-    }
-}
 
 // Whether the root that is opened next has a new key, and is closed.
 fn opens_anew(core: &mut Core, seen: &mut Vec<NodeKey>) -> bool {
@@ -97,21 +51,6 @@ pub fn stops(alloc: Global, core: &mut Core) -> bool {
         && core.remaining() == 0
         && core.step(1, Call::Shut) == Err(StepFault::HistoryFull)
         && core.step(99, Call::Collect) == Err(StepFault::HistoryFull)
-}
-
-#[test]
-fn collections_up_to_the_limit(rt: HostRuntime) {
-    assert!(rt; goes_well(rt.alloc(), FULL, Play::Collections));
-}
-
-#[test]
-fn nodes_up_to_the_limit(rt: HostRuntime) {
-    assert!(rt; goes_well(rt.alloc(), FULL, Play::Nodes));
-}
-
-#[test]
-fn trackers_up_to_the_limit(rt: HostRuntime) {
-    assert!(rt; goes_well(rt.alloc(), FULL, Play::Trackers));
 }
 
 #[test]

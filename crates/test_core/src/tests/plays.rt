@@ -90,56 +90,6 @@ fn told(alloc: Global, script: &Script) -> bool {
     holds(alloc, script.limits, Question::Plays(script))
 }
 
-#[test]
-fn a_nested_loss_goes_no_further(rt: HostRuntime) {
-    assert!(rt; told(rt.alloc(), &NESTED_LOSS));
-}
-
-#[test]
-fn an_attached_subtree_fails_alone(rt: HostRuntime) {
-    assert!(rt; told(rt.alloc(), &FAILING_SUBTREES));
-}
-
-#[test]
-fn a_share_of_an_orphan_is_kept(rt: HostRuntime) {
-    assert!(rt; told(rt.alloc(), &ORPHAN_SHARE));
-}
-
-#[test]
-fn weak_holders_are_told(rt: HostRuntime) {
-    assert!(rt; told(rt.alloc(), &WEAK_HOLDERS));
-}
-
-#[test]
-fn the_last_weak_handle_sends_no_buffer_home(rt: HostRuntime) {
-    assert!(rt; told(rt.alloc(), &LAST_WEAK));
-}
-
-#[test]
-fn each_buffer_goes_home_with_its_own_last_handle(rt: HostRuntime) {
-    assert!(rt; told(rt.alloc(), &LAST_OF_ALL));
-}
-
-#[test]
-fn pages_come_back_as_one_hole(rt: HostRuntime) {
-    assert!(rt; told(rt.alloc(), &HOLES));
-}
-
-#[test]
-fn a_client_gives_to_itself(rt: HostRuntime) {
-    assert!(rt; told(rt.alloc(), &SHUT_RECEIVER));
-}
-
-#[test]
-fn an_end_in_a_parcel_is_nobodys(rt: HostRuntime) {
-    assert!(rt; told(rt.alloc(), &PARCEL));
-}
-
-#[test]
-fn a_handle_in_a_parcel_is_nobodys(rt: HostRuntime) {
-    assert!(rt; told(rt.alloc(), &HANDLE_PARCEL));
-}
-
 // The place of the first script that is not answered as it says, if there is one.
 fn first_untold(alloc: Global) -> Option<usize> {
     for (place, script) in scripts().iter().enumerate() {

@@ -1,5 +1,5 @@
 //! Calls that must be made, and values that must be there.
-ghost use Rattle.std.specs.Prelude.{◌≡◌, Ok};
+ghost use Rattle.std.specs.Prelude.{◌≡◌, ◌++◌, ◌∷◌, [], Ok};
 
 use super::lock::stands as state_stands;
 use client_ends::Client;
@@ -19,9 +19,17 @@ pub fn made<V, F, R: Abort>(rt: &R, asked: Result<V, F>) -> V
     }
 }
 
-/// A value more.
-pub fn put<V, R: Abort>(rt: &R, values: &mut Vec<V>, value: V) {
-    made(rt, values.push(value))
+/// A value more, asked for once more where memory is refused.
+pub fn put<V, R: Abort>(rt: &R, values: &mut Vec<V>, value: V)
+    ensures { values.new.items ≡ values.old.items ++ value ∷ [] }
+{
+    match values.push(value) {
+        Ok(()) => {}
+        Err(refused) => match values.push(refused.value) {
+            Ok(()) => {}
+            Err(_) => panic!(rt; "no room"),
+        },
+    }
 }
 
 /// The last of these values.

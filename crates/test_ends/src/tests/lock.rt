@@ -1,19 +1,15 @@
-//! The lock alone: that calls succeed, and that threads wait for each other.
+//! The lock alone: that calls succeed.
 use super::stage::{Scene, stage};
 pub use asking::stands;
-use crowd::crowd;
 use handles::handles;
 use limits::last_event;
 use service_lock::{Service, Setup};
-use std::alloc::Global;
 use std::process::Abort;
 use std::sync::Wait;
 use std::sync::ledger::Ledger;
-use std::thread::Threads;
 use tracking::tracker;
 
 mod asking;
-mod crowd;
 mod handles;
 mod limits;
 mod tracking;
@@ -24,21 +20,18 @@ pub enum LockScene {
     Handles,
     LastEvent,
     Tracker,
-    Crowd,
 }
 
 /// Plays the scene on a service that has seen nothing.
-pub fn play_lock<
-    E: Setup + Send + Sync,
-    S: Ledger + Send + Sync,
-    W: Ledger + Send + Sync,
-    R: Threads + Wait + Abort + Sync,
->(rt: &R, alloc: Global, service: &Service<E, S, W>, scene: LockScene) {
+pub fn play_lock<E: Setup, S: Ledger, W: Ledger, R: Wait + Abort>(
+    rt: &R,
+    service: &Service<E, S, W>,
+    scene: LockScene,
+) {
     match scene {
         LockScene::Handles => handles(rt, service),
         LockScene::LastEvent => last_event(rt, service),
         LockScene::Tracker => tracker(rt, service),
-        LockScene::Crowd => crowd(rt, alloc, service),
     }
 }
 
@@ -55,9 +48,4 @@ fn each_call_after_the_last_event_is_answered_history_full(rt: HostRuntime) {
 #[test]
 fn a_reader_is_taken_once_and_sees_its_firing_without_the_lock(rt: HostRuntime) {
     stage(&rt, rt.alloc(), Scene::Lock(LockScene::Tracker), 64)
-}
-
-#[test]
-fn threads_share_one_record(rt: HostRuntime) {
-    stage(&rt, rt.alloc(), Scene::Lock(LockScene::Crowd), 16)
 }

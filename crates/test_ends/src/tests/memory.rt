@@ -69,7 +69,8 @@ fn tokens<E: Setup, S: Ledger, W: Ledger, R: Wait + Abort>(
     ensures { client.new.id ≡ client.old.id }
 {
     let token = duplicate_again(rt, service, client, root);
-    give_again(rt, service, client, token);
+    let own = client.id();
+    give_again(rt, service, client, token, own);
     let token = match collect_again(rt, service, client) {
         ParcelContent::Token(token) => token,
         _ => panic!(rt; "no token"),
@@ -102,7 +103,8 @@ fn handles<E: Setup, S: Ledger, W: Ledger, R: Wait + Abort>(
     let first = last_of(rt, &mut taken);
     none_left(rt, taken);
     assert!(rt; first.client() == client.id() && second.client() == client.id());
-    send_again(rt, service, client, first);
+    let own = client.id();
+    send_again(rt, service, client, first, own);
     let first = match collect_again(rt, service, client) {
         ParcelContent::Handle(handle) => handle,
         _ => panic!(rt; "no handle"),

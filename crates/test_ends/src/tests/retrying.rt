@@ -4,7 +4,7 @@ ghost use Rattle.std.specs.Prelude.{◌≡◌};
 use super::asking::{constraints, made};
 use client_ends::{Client, CollectionEnd, EndOf, Handle, Kept, ParcelContent, TokenEnd, Why, join};
 use service_lock::{Service, Setup};
-use sm_names::{Constraints, Reply, StepFault};
+use sm_names::{ClientId, Constraints, Reply, StepFault};
 use std::alloc::Global;
 use std::process::Abort;
 use std::sync::Wait;
@@ -80,17 +80,17 @@ pub fn bind_again<E: Setup, S: Ledger, W: Ledger, R: Wait + Abort>(
     }
 }
 
-/// The end goes into a parcel for its holder.
+/// The end goes into a parcel for this client.
 pub fn give_again<K, E: Setup, S: Ledger, W: Ledger, R: Wait + Abort>(
     rt: &R,
     service: &Service<E, S, W>,
     client: &mut Client<E, S, W>,
     end: EndOf<K, E>,
+    to: ClientId,
 )
     requires { end.client ≡ client.old.id }
     ensures { client.new.id ≡ client.old.id }
 {
-    let to = client.id();
     match end.give(rt, service, client, to) {
         Ok(()) => {}
         Err(
@@ -225,6 +225,23 @@ pub fn fill_again<E: Setup, S: Ledger, W: Ledger, R: Wait + Abort>(
     take_again(rt, alloc, service, client, collection)
 }
 
+/// A new collection of this many buffers, and a handle on each: 4 events.
+pub fn filled_again<E: Setup, S: Ledger, W: Ledger, R: Wait + Abort>(
+    rt: &R,
+    alloc: Global,
+    service: &Service<E, S, W>,
+    client: &mut Client<E, S, W>,
+    buffers: u8,
+) -> (CollectionEnd<E>, Vec<Handle<E, S, W>>)
+    ensures id { client.new.id ≡ client.old.id }
+    ensures collection { result.0.client ≡ client.new.id }
+{
+    let root = open_again(rt, service, client);
+    let root = bind_again(rt, service, client, root);
+    let handles = fill_again(rt, alloc, service, client, &root, buffers);
+    (root, handles)
+}
+
 /// One handle more.
 pub fn double_again<E: Setup, S: Ledger, W: Ledger, R: Wait + Abort>(
     rt: &R,
@@ -265,17 +282,17 @@ pub fn drop_again<E: Setup, S: Ledger, W: Ledger, R: Wait + Abort>(
     }
 }
 
-/// The handle goes into a parcel for its holder.
+/// The handle goes into a parcel for this client.
 pub fn send_again<E: Setup, S: Ledger, W: Ledger, R: Wait + Abort>(
     rt: &R,
     service: &Service<E, S, W>,
     client: &mut Client<E, S, W>,
     handle: Handle<E, S, W>,
+    to: ClientId,
 )
-    requires { handle.client ≡ client.old.id }
     ensures { client.new.id ≡ client.old.id }
 {
-    let to = client.id();
+    assert!(rt; handle.client() == client.id());
     match handle.give(rt, service, client, to) {
         Ok(()) => {}
         Err(

@@ -3,6 +3,7 @@ ghost use Rattle.std.specs.Prelude.{◌≤◌};
 ghost use Rattle.service_lock.specs.States.{IsSetUpWith};
 ghost use Rattle.service_lock.specs.Units.{AreFor};
 
+use super::actors::{ActorScene, play_actors};
 use super::crowd::crowd;
 use super::drafting::drafts;
 use super::limits::last_event;
@@ -10,6 +11,10 @@ use super::lock::{LockScene, play_lock};
 use super::memory::again;
 use super::remains::remains;
 use super::typed::typed;
+use super::vanishing::handed::handed;
+use super::vanishing::memory::two_again;
+use super::vanishing::missing::all_gathered;
+use super::vanishing::vanished::vanished;
 use client_ends::{Client, end};
 use service_lock::{BlankBooks, MAX_SHARES, Service, Setup};
 use sm_names::Limits;
@@ -19,6 +24,7 @@ use std::process::Abort;
 use std::sync::Wait;
 use std::sync::ledger::{Blank, Ledger};
 use std::thread::Threads;
+use std::time::Clock;
 
 /// What is played.
 #[derive(Clone, Copy)]
@@ -28,8 +34,13 @@ pub enum Scene {
     LastEvent,
     Remains,
     Memory,
+    Vanished,
+    Gathered,
+    Handed,
+    MemoryOfTwo,
     Crowd,
     Lock(LockScene),
+    Actors(ActorScene),
 }
 
 // How many events the scene may make.
@@ -38,13 +49,19 @@ fn limits(scene: Scene) -> Option<Limits> {
         Scene::LastEvent | Scene::Lock(LockScene::LastEvent) => Limits::new(2, 4, 4, 4, 4),
         Scene::Lock(LockScene::Handles) => Limits::new(20, 2, 1, 1, 3),
         Scene::Lock(LockScene::Tracker) => Limits::new(4, 1, 1, 1, 1),
+        Scene::Actors(ActorScene::OneEvent) => Limits::new(1, 4, 4, 4, 4),
         _ => Some(Limits::full()),
     }
 }
 
 /// Plays the scene on a service that has seen nothing and has a pool of this many pages, ends it, and
 /// lets the client go.
-pub fn stage<R: Threads + Wait + Abort + Sync>(rt: &R, alloc: Global, scene: Scene, pages: u32)
+pub fn stage<R: Threads + Wait + Clock + Abort + Sync>(
+    rt: &R,
+    alloc: Global,
+    scene: Scene,
+    pages: u32,
+)
     requires { (1 ≤ pages) × (pages ≤ 1048576) }
 {
     if !start(rt, alloc, scene, pages) {
@@ -53,7 +70,12 @@ pub fn stage<R: Threads + Wait + Abort + Sync>(rt: &R, alloc: Global, scene: Sce
 }
 
 // The same, once: whether there was memory for a service.
-fn start<R: Threads + Wait + Abort + Sync>(rt: &R, alloc: Global, scene: Scene, pages: u32) -> bool
+fn start<R: Threads + Wait + Clock + Abort + Sync>(
+    rt: &R,
+    alloc: Global,
+    scene: Scene,
+    pages: u32,
+) -> bool
     requires { (1 ≤ pages) × (pages ≤ 1048576) }
 {
     let blanks = BlankBooks {
@@ -71,7 +93,7 @@ fn play<
     E: Setup + Send + Sync,
     S: Ledger + Send + Sync,
     W: Ledger + Send + Sync,
-    R: Threads + Wait + Abort + Sync,
+    R: Threads + Wait + Clock + Abort + Sync,
 >(rt: &R, alloc: Global, blanks: BlankBooks, scene: Scene, pages: u32, limits: Limits) -> bool
     requires pages { (1 ≤ pages) × (pages ≤ 1048576) }
     requires blanks { AreFor E.name E.parts S.name S.parts W.name W.parts blanks }
@@ -86,11 +108,16 @@ fn play<
         Scene::Memory => leave(again(rt, alloc, &service), service),
         Scene::LastEvent => last_event(rt, alloc, service),
         Scene::Remains => remains(rt, alloc, service),
+        Scene::Vanished => vanished(rt, alloc, service),
+        Scene::Gathered => all_gathered(rt, alloc, service),
+        Scene::Handed => handed(rt, alloc, service),
+        Scene::MemoryOfTwo => two_again(rt, alloc, service),
         Scene::Crowd => crowd(rt, alloc, service),
         Scene::Lock(scene) => {
-            play_lock(rt, alloc, &service, scene);
+            play_lock(rt, &service, scene);
             service.end();
         }
+        Scene::Actors(scene) => play_actors(rt, alloc, service, scene),
     }
     true
 }

@@ -125,7 +125,8 @@ fn round<E: Setup, S: Ledger, W: Ledger, R: Wait + Abort>(
     ensures id { client.new.id ≡ client.old.id }
     ensures root { result.client ≡ client.new.id }
 {
-    give_again(rt, service, client, root);
+    let own = client.id();
+    give_again(rt, service, client, root, own);
     let root = match collect_again(rt, service, client) {
         ParcelContent::Collection(root) => root,
         _ => panic!(rt; "not collected"),

@@ -11,7 +11,6 @@ use std::sync::Wait;
 use std::sync::ledger::Ledger;
 use std::thread::Threads;
 use std::time::Clock;
-use together::together;
 
 mod alone;
 mod asking;
@@ -25,7 +24,6 @@ mod together;
 pub enum ActorScene {
     Alone,
     Patient,
-    Together,
     Meeting,
     OneEvent,
     Memory,
@@ -41,7 +39,6 @@ pub fn play_actors<
     match scene {
         ActorScene::Alone => alone(rt, alloc, service),
         ActorScene::Patient => patient(rt, alloc, service),
-        ActorScene::Together => together(rt, alloc, service),
         ActorScene::Meeting => meeting(rt, alloc, service),
         ActorScene::OneEvent => one_event(rt, alloc, service),
         ActorScene::Memory => memory(rt, alloc, service),
@@ -56,11 +53,6 @@ fn an_actor_makes_all_its_steps_and_vanishes(rt: HostRuntime) {
 #[test]
 fn a_patient_actor_makes_a_step_again(rt: HostRuntime) {
     stage(&rt, rt.alloc(), Scene::Actors(ActorScene::Patient), 1)
-}
-
-#[test]
-fn two_actors_leave_nothing_live_or_held(rt: HostRuntime) {
-    stage(&rt, rt.alloc(), Scene::Actors(ActorScene::Together), 64)
 }
 
 #[test]

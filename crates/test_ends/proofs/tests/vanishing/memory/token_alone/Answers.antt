@@ -2,7 +2,7 @@ use Rattle.std.proofs.Common.{List, [], ◌∷◌, ◌++◌, ◌≡◌, ◌∙�
 use Rattle.std.specs.List.{All}
 use Rattle.std.proofs.lemmas.List.Elements.{All-cons, All-nil}
 use Rattle.client_ends.specs.Clients.{Grip, Tag}
-use Rattle.test_vanish.proofs.tests.memory.token_alone.Goals as goal
+use Rattle.test_ends.proofs.tests.vanishing.memory.token_alone.Goals as goal
 
 pub returns : goal.returns
 returns g c =

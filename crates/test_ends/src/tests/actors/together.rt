@@ -1,5 +1,5 @@
 //! Two actors side by side.
-use super::asking::{Silent, ask, open};
+use super::asking::{ask, open};
 use crate::tests::asking::{made, put};
 use actor_scripts::ActorScript;
 use client_actors::{ActorEnd, Gate, run_actors};
@@ -89,15 +89,4 @@ pub fn gather_and_end<E: Setup, S: Ledger, W: Ledger, R: Wait + Abort>(
     let (parts, answer) = gather(rt, alloc, &service, parts);
     assert!(rt; is_all(&made(rt, answer)));
     end_service(service, parts);
-}
-
-/// Two actors of whom nobody is told.
-pub fn together<
-    E: Setup + Send + Sync,
-    S: Ledger + Send + Sync,
-    W: Ledger + Send + Sync,
-    R: Threads + Wait + Clock + Abort + Sync,
->(rt: &R, alloc: Global, service: Service<E, S, W>) {
-    let parts = two(rt, alloc, &service, &Silent);
-    gather_and_end(rt, alloc, service, parts);
 }

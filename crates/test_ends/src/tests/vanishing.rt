@@ -11,6 +11,11 @@ use std::process::Abort;
 use std::sync::Wait;
 use std::sync::ledger::Ledger;
 
+pub mod handed;
+pub mod memory;
+pub mod missing;
+pub mod vanished;
+
 /// The client that is the last part, and holds nothing.
 pub fn last_client<E: Setup, S: Ledger, W: Ledger, R: Abort>(
     rt: &R,

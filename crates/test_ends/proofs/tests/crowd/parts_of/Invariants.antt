@@ -1,5 +1,5 @@
 use Rattle.std.proofs.Common.{vec_len}
-use Rattle.test_vanish.proofs.tests.crowd.parts_of.Given as goal
+use Rattle.test_ends.proofs.tests.crowd.parts_of.Given as goal
 
 abbrev pub decreases-loop-seat : goal.decreases-loop-seat
 decreases-loop-seat g l = vec_len l.seats

@@ -1,8 +1,8 @@
 //! A client that vanishes with an end in a parcel.
 ghost use Rattle.std.specs.Prelude.{◌≡◌};
 
-use super::asking::{made, put};
-use super::vanishing::{both, gone, parted_by};
+use super::{both, gone, parted_by};
+use crate::tests::asking::{made, put};
 use client_ends::{Client, Held, TokenEnd, join};
 use client_vanish::{Holding, end_service};
 use service_lock::{Service, Setup};

@@ -1,7 +1,7 @@
 //! What is gathered, and what is missed.
-use super::asking::{last_of, made, put};
-use super::retrying::filled_again;
-use super::vanishing::{gathered, is_missed};
+use super::{gathered, is_missed};
+use crate::tests::asking::{last_of, made, put};
+use crate::tests::retrying::filled_again;
 use client_ends::{Client, Handle, Held, join};
 use client_vanish::{GatherFault, Holding, Report, end_service};
 use service_lock::{Service, Setup};

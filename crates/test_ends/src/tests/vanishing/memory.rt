@@ -2,9 +2,9 @@
 ghost use Rattle.std.specs.Prelude.{◌≡◌};
 ghost use Rattle.client_vanish.specs.Vanishings.{AllHeldBy, held_in};
 
-use super::asking::{last_of, made, put};
-use super::retrying::{filled_again, give_again, join_again, open_again, send_again};
-use super::vanishing::{both, gather_again};
+use super::{both, gather_again};
+use crate::tests::asking::{last_of, made, put};
+use crate::tests::retrying::{filled_again, give_again, join_again, open_again, send_again};
 use client_ends::{Client, Handle, Held, Own, TokenEnd};
 use client_vanish::{Holding, Report, Wreck, end_service, vanish};
 use service_lock::{Service, Setup};
@@ -102,7 +102,7 @@ fn is_all(report: &Report) -> bool {
 
 /// A client that vanishes with a token, while a collection and a handle wait for it, and all that is
 /// gathered then.
-pub fn memory<E: Setup, S: Ledger, W: Ledger, R: Wait + Abort>(
+pub fn two_again<E: Setup, S: Ledger, W: Ledger, R: Wait + Abort>(
     rt: &R,
     alloc: Global,
     service: Service<E, S, W>,

@@ -1,7 +1,7 @@
 //! A handle that is given to a client that vanishes.
-use super::asking::{made, only, put};
-use super::retrying::{filled_again, send_again};
-use super::vanishing::{both, gathered, gone, is_missed, last_client, parted_by};
+use super::{both, gathered, gone, is_missed, last_client, parted_by};
+use crate::tests::asking::{made, only, put};
+use crate::tests::retrying::{filled_again, send_again};
 use client_ends::{Client, CollectionEnd, Held, join};
 use client_vanish::{GatherFault, Holding, end_service};
 use service_lock::{Service, Setup};

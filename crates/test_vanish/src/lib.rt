@@ -1,6 +1,0 @@
-//! Tests of client_vanish and client_actors, all by their public calls: see docs/TESTING.md. A crate of their own, so
-//! that each of those is proved once.
-#![tactic(auto)]
-
-#[cfg(test)]
-mod tests;
