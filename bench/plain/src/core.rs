@@ -6,13 +6,17 @@
 //! A unit has the index of its head's slot. Before a unit is
 //! allocated a loss in it takes all of it, so its sums only grow until then and
 //! need no undoing; after that only the reserved sum of the collection matters.
-use crate::map::Map;
+use crate::map::{Map, Slot};
 use crate::pool::Pool;
 use crate::types::*;
 use std::cmp::Reverse;
 use std::collections::{BinaryHeap, VecDeque};
 use std::sync::Arc;
 use std::sync::atomic::{AtomicU64, Ordering};
+
+mod snapshot;
+
+pub use snapshot::Fate;
 
 const NONE: u32 = u32::MAX;
 
@@ -37,6 +41,7 @@ const FIRED: u64 = 1 << 63;
 const _: () = assert!(size_of::<Node>() == 64);
 
 /// One cache line.
+#[derive(Clone)]
 #[repr(align(64))]
 struct Node {
     birth: u64,
@@ -56,6 +61,7 @@ struct Node {
     tracked: u8,
 }
 
+#[derive(Clone)]
 struct Unit {
     /// The unit above, NONE for the root unit.
     above: u32,
@@ -77,6 +83,7 @@ struct Unit {
     allocated: bool,
 }
 
+#[derive(Clone)]
 struct Coll {
     id: u64,
     /// NONE once the root is gone (and with it every node).
@@ -107,6 +114,7 @@ impl Coll {
 
 /// Per buffer of a collection. The lists are valid where the masks say so, and
 /// the totals are all zero when a collection is forgotten.
+#[derive(Clone)]
 struct Buffers {
     total: [[u32; 64]; 2],
     start: [u32; 64],
@@ -115,9 +123,41 @@ struct Buffers {
 }
 
 /// The open handles of one client on one collection.
+#[derive(Clone)]
 struct Holding {
     count: [[u32; 64]; 2],
     mask: [u64; 2],
+    coll: u32,
+}
+
+/// Where the holding is of a client on a collection. An event number may have
+/// 53 bits.
+#[derive(Clone, Copy)]
+struct Held {
+    coll: CollectionId,
+    client: u32,
+    holding: u32,
+}
+
+impl Slot for Held {
+    type Key = (u32, CollectionId);
+    const EMPTY: Held = Held { coll: 0, client: 0, holding: 0 };
+    #[inline]
+    fn is_empty(self) -> bool {
+        self.coll == 0
+    }
+    #[inline]
+    fn key(self) -> (u32, CollectionId) {
+        (self.client, self.coll)
+    }
+    #[inline]
+    fn is_of(self, (client, coll): (u32, CollectionId)) -> bool {
+        (self.coll ^ coll) | (self.client ^ client) as u64 == 0
+    }
+    #[inline]
+    fn mix((client, coll): (u32, CollectionId)) -> u64 {
+        (client as u64) << 32 ^ coll
+    }
 }
 
 #[derive(Clone, Copy)]
@@ -126,12 +166,14 @@ enum Parcel {
     Handle(u32, u8, Strength),
 }
 
+#[derive(Clone)]
 struct Client {
     id: ClientId,
     shut: bool,
     parcels: VecDeque<Parcel>,
 }
 
+#[derive(Clone)]
 struct Track {
     id: TrackerId,
     next: u32,
@@ -163,14 +205,14 @@ impl Tracker {
     }
 }
 
+#[derive(Clone)]
 pub struct Core {
     limits: Limits,
     events: u64,
-    first_generation: u32,
 
     clients: Vec<Client>,
     /// Only clients whose id is not their index and one.
-    client_map: Map,
+    client_map: Map<(u64, u64)>,
 
     nodes: Vec<Node>,
     units: Vec<Unit>,
@@ -183,12 +225,12 @@ pub struct Core {
 
     holdings: Vec<Holding>,
     free_holdings: Vec<u32>,
-    holding_map: Map,
+    holding_map: Map<Held>,
 
     tracks: Vec<Track>,
     free_tracks: Vec<u32>,
     /// Trackers that nobody took: slot, or FIRED and the event.
-    untaken: Map,
+    untaken: Map<(u64, u64)>,
     fired: Vec<Fired>,
     /// Fired in this event, until `finish` notes them.
     now: Vec<TrackerId>,
@@ -241,15 +283,9 @@ fn bits(mut mask: u64) -> impl Iterator<Item = usize> {
 
 impl Core {
     pub fn new(pages: u32, limits: Limits) -> Core {
-        Core::starting_at(pages, limits, 0)
-    }
-
-    /// New slots get this first generation (for tests).
-    pub fn starting_at(pages: u32, limits: Limits, generation: u32) -> Core {
         Core {
             limits,
             events: 0,
-            first_generation: generation,
             clients: Vec::new(),
             client_map: Map::new(),
             nodes: Vec::new(),
@@ -272,6 +308,11 @@ impl Core {
             stack: Vec::new(),
             eligible: BinaryHeap::new(),
         }
+    }
+
+    /// Counts so many more events, as if these calls had been refused (for tests).
+    pub fn refuse(&mut self, calls: u64) {
+        self.events += calls;
     }
 
     // ---- views ----
@@ -348,7 +389,10 @@ impl Core {
 
     /// Some once for each attached id.
     pub fn take_tracker(&mut self, id: TrackerId) -> Option<Tracker> {
-        let v = self.untaken.remove(id)?;
+        if id == 0 {
+            return None;
+        }
+        let (_, v) = self.untaken.remove(id)?;
         if v & FIRED != 0 {
             return Some(Tracker { id, event: v & !FIRED, cell: None });
         }
@@ -371,7 +415,7 @@ impl Core {
     }
 
     pub fn step(&mut self, client: ClientId, call: Call) -> Result<Reply, StepFault> {
-        if self.events >= self.limits.events as u64 {
+        if self.events >= self.limits.events {
             return Err(StepFault::HistoryFull);
         }
         self.events += 1;
@@ -451,7 +495,8 @@ impl Core {
         let guess = id.wrapping_sub(1);
         match self.clients.get(guess as usize) {
             Some(c) if c.id == id => Some(guess as u32),
-            _ => self.client_map.get(id).map(|i| i as u32),
+            _ if id == 0 => None,
+            _ => self.client_map.get(id).map(|slot| slot.1 as u32),
         }
     }
 
@@ -463,7 +508,7 @@ impl Core {
         let id = self.events;
         let index = self.clients.len() as u64;
         if index + 1 != id {
-            self.client_map.put(id, index);
+            self.client_map.put((id, index));
         }
         self.clients.push(Client { id, shut: false, parcels: VecDeque::new() });
         Ok(Reply::Joined(id))
@@ -589,7 +634,7 @@ impl Core {
                 self.nodes.push(Node {
                     birth: 0,
                     origin: NodeKey { slot: 0, generation: 0 },
-                    generation: self.first_generation,
+                    generation: 0,
                     holder: 0,
                     unit: 0,
                     parent: NONE,
@@ -907,43 +952,38 @@ impl Core {
 
     // ---- handles ----
 
-    /// Event numbers fit in 32 bits, and so do ids.
-    #[inline]
-    fn pair(me: u32, coll: CollectionId) -> u64 {
-        (me as u64 + 1) << 32 | coll
-    }
-
     /// The holding of the client on the collection, made if there is none.
     #[inline]
     fn holding(&mut self, me: u32, c: u32) -> u32 {
-        let pair = Core::pair(me, self.colls[c as usize].id);
-        if let Some(v) = self.holding_map.get(pair) {
-            return (v >> 16) as u32;
+        let coll = self.colls[c as usize].id;
+        if let Some(held) = self.holding_map.get((me, coll)) {
+            return held.holding;
         }
         let h = match self.free_holdings.pop() {
             Some(h) => h,
             None => {
-                self.holdings.push(Holding { count: [[0; 64]; 2], mask: [0; 2] });
+                self.holdings.push(Holding { count: [[0; 64]; 2], mask: [0; 2], coll: 0 });
                 (self.holdings.len() - 1) as u32
             }
         };
-        self.holding_map.put(pair, (h as u64) << 16 | c as u64);
+        self.holdings[h as usize].coll = c;
+        self.holding_map.put(Held { coll, client: me, holding: h });
         h
     }
 
     /// The collection's slot and the holding, if the client has such a handle.
     #[inline]
     fn find_handle(&self, me: u32, b: BufferName, s: Strength) -> Option<(u32, u32)> {
-        if b.collection >> 32 != 0 || b.index >= 64 {
+        if b.collection == 0 || b.index >= 64 {
             return None;
         }
-        let v = self.holding_map.get(Core::pair(me, b.collection))?;
-        let (c, h) = (v as u32 & 0xFFFF, (v >> 16) as u32);
-        (self.holdings[h as usize].mask[s as usize] >> b.index & 1 != 0).then_some((c, h))
+        let h = self.holding_map.get((me, b.collection))?.holding;
+        let holding = &self.holdings[h as usize];
+        (holding.mask[s as usize] >> b.index & 1 != 0).then_some((holding.coll, h))
     }
 
     /// Takes one handle from the client's holding; the totals stay.
-    #[inline]
+    #[inline(always)]
     fn lift(&mut self, me: u32, coll: CollectionId, h: u32, index: u8, s: Strength) {
         let holding = &mut self.holdings[h as usize];
         let left = &mut holding.count[s as usize][index as usize];
@@ -951,7 +991,7 @@ impl Core {
         if *left == 0 {
             holding.mask[s as usize] &= !(1 << index);
             if holding.mask == [0; 2] {
-                self.holding_map.remove(Core::pair(me, coll));
+                self.holding_map.remove((me, coll));
                 self.free_holdings.push(h);
             }
         }
@@ -1002,14 +1042,14 @@ impl Core {
                 (self.tracks.len() - 1) as u32
             }
         };
-        self.untaken.put(id, t as u64);
+        self.untaken.put((id, t as u64));
         t
     }
 
     /// A tracker whose condition holds at its own event.
     fn track_fired(&mut self) {
         let event = self.events;
-        self.untaken.put(event, FIRED | event);
+        self.untaken.put((event, FIRED | event));
         self.fired.push(Fired { tracker: event, event });
     }
 
@@ -1102,7 +1142,7 @@ impl Core {
             self.now.push(track.id);
             match track.cell.take() {
                 Some(cell) => cell.store(self.events, Ordering::Release),
-                None => self.untaken.put(track.id, FIRED | self.events),
+                None => self.untaken.put((track.id, FIRED | self.events)),
             }
             self.free_tracks.push(t);
             t = next;
@@ -1195,15 +1235,14 @@ impl Core {
             }
             node.trackers = NONE;
             node.flags = flags | GONE;
+            node.cause = cause;
+            node.origin = origin;
             if flags & SPENT != 0 {
                 if node.generation != u32::MAX {
                     node.generation += 1;
                     self.free_nodes.push(v);
                 }
                 forgotten += 1;
-            } else {
-                node.cause = cause;
-                node.origin = origin;
             }
             if flags & RELEASED == 0 {
                 strong += (flags & WEAK == 0) as u32;
@@ -1477,5 +1516,132 @@ impl Core {
                 }
             }
         }
+    }
+}
+
+#[cfg(test)]
+mod tests {
+    use super::*;
+    use crate::rng::Rng;
+
+    const PAST: u64 = u32::MAX as u64 - 100;
+
+    /// What calls can name, each as the young core knows it: the last ones.
+    struct Seen {
+        clients: Vec<ClientId>,
+        ends: Vec<(NodeKey, ClientId)>,
+        handles: Vec<(CollectionId, ClientId)>,
+    }
+
+    fn one_of<T: Copy>(all: &[T], rng: &mut Rng) -> T {
+        let last = &all[all.len().saturating_sub(4)..];
+        last[rng.below(last.len() as u64) as usize]
+    }
+
+    fn some_call(seen: &Seen, rng: &mut Rng) -> (ClientId, Call) {
+        let (me, to) = (one_of(&seen.clients, rng), one_of(&seen.clients, rng));
+        let ((key, holder), (collection, taker)) = (one_of(&seen.ends, rng), one_of(&seen.handles, rng));
+        let buffer = BufferName { collection, index: rng.below(2) as u8 };
+        let strength = if rng.below(3) == 0 { Strength::Weak } else { Strength::Strong };
+        let call = match rng.below(42) {
+            0 if seen.clients.len() < 4 => return (0, Call::Join),
+            1..4 => Call::OpenRoot,
+            4 => Call::Duplicate(key),
+            5 => Call::AttachToken(key),
+            6 => Call::Give(key, to),
+            7..12 => Call::Collect,
+            12..18 => Call::Bind(key),
+            18 => Call::SetWeakOk(key, true),
+            19 => Call::SetWeak(key),
+            20..25 => Call::SetConstraints(key, Constraints::new(1, 0, 4096).unwrap()),
+            25..30 => Call::Take(key),
+            30 => Call::Release(key),
+            31 => Call::Close(key),
+            32..34 => Call::DupHandle(buffer, strength),
+            34..37 => Call::DropHandle(buffer, strength),
+            37 => Call::GiveHandle(buffer, strength, to),
+            38 => Call::TrackNode(key),
+            39 => Call::TrackLifetime(key, 0),
+            40 => Call::TrackWeak(buffer),
+            _ => Call::SetDispensable(key),
+        };
+        match call {
+            Call::Bind(_) | Call::SetConstraints(..) | Call::Take(_) | Call::Give(..) => (holder, call),
+            Call::DupHandle(..) | Call::GiveHandle(..) | Call::TrackWeak(_) => (taker, call),
+            _ => (me, call),
+        }
+    }
+
+    /// The number of the event in a core that is PAST older from event 8 on.
+    fn older(event: u64) -> u64 {
+        if event < 8 { event } else { event + PAST }
+    }
+
+    fn older_call(call: Call) -> Call {
+        let of = |buffer: BufferName| BufferName { collection: older(buffer.collection), ..buffer };
+        match call {
+            Call::Give(key, to) => Call::Give(key, older(to)),
+            Call::DupHandle(buffer, strength) => Call::DupHandle(of(buffer), strength),
+            Call::DropHandle(buffer, strength) => Call::DropHandle(of(buffer), strength),
+            Call::GiveHandle(buffer, strength, to) => Call::GiveHandle(of(buffer), strength, older(to)),
+            Call::TrackWeak(buffer) => Call::TrackWeak(of(buffer)),
+            call => call,
+        }
+    }
+
+    fn older_reply(reply: Reply) -> Reply {
+        match reply {
+            Reply::Joined(id) => Reply::Joined(older(id)),
+            Reply::Tracker(id) => Reply::Tracker(older(id)),
+            Reply::Token { key, collection } => Reply::Token { key, collection: older(collection) },
+            Reply::Collected { key, kind, collection } => Reply::Collected { key, kind, collection: older(collection) },
+            Reply::Taken { collection, strength, set } => Reply::Taken { collection: older(collection), strength, set },
+            Reply::CollectedHandle { buffer, strength } => {
+                let buffer = BufferName { collection: older(buffer.collection), ..buffer };
+                Reply::CollectedHandle { buffer, strength }
+            }
+            reply => reply,
+        }
+    }
+
+    /// A core with more events than 32 bits count answers as a young one does.
+    #[test]
+    fn is_the_same_past_32_bits() {
+        let (mut taken, mut collected) = (0, 0);
+        for seed in 0..40 {
+            let mut rng = Rng(seed);
+            let (mut young, mut old) = (Core::new(64, Limits::lasting()), Core::new(64, Limits::lasting()));
+            let root = NodeKey { slot: 0, generation: 0 };
+            let mut seen = Seen { clients: vec![1, 2], ends: vec![(root, 1)], handles: vec![(3, 1)] };
+            let asks = Constraints::new(2, 0, 4096).unwrap();
+            let begin = [Call::OpenRoot, Call::Bind(root), Call::SetConstraints(root, asks), Call::Take(root), Call::OpenRoot];
+            let begin = [(0, Call::Join); 2].into_iter().chain(begin.map(|call| (1, call)));
+            let mut made = begin.collect::<VecDeque<_>>();
+            for turn in 0..1000 {
+                if turn == 7 {
+                    old.refuse(PAST);
+                }
+                let (client, call) = made.pop_front().unwrap_or_else(|| some_call(&seen, &mut rng));
+                let reply = young.step(client, call).unwrap();
+                assert_eq!(old.step(older(client), older_call(call)), Ok(older_reply(reply)));
+                match reply {
+                    Reply::Joined(id) if id > 2 => seen.clients.push(id),
+                    Reply::Token { key, .. } | Reply::Collected { key, .. } => seen.ends.push((key, client)),
+                    Reply::CollectedHandle { buffer, .. } => {
+                        seen.handles.push((buffer.collection, client));
+                        collected += (buffer.collection > 108) as u32;
+                    }
+                    Reply::Taken { collection, .. } => {
+                        seen.handles.push((collection, client));
+                        taken += (collection > 108) as u32;
+                    }
+                    _ => {}
+                }
+                assert_eq!(young.free_pages(), old.free_pages());
+            }
+            let fired = young.fired().iter().map(|fired| Fired { tracker: older(fired.tracker), event: older(fired.event) });
+            assert_eq!(fired.collect::<Vec<_>>(), old.fired());
+        }
+        assert!(taken > 100 && collected > 20, "{taken} {collected}");
     }
 }

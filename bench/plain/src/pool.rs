@@ -8,6 +8,7 @@
 
 const CAP: usize = 64;
 
+#[derive(Clone)]
 struct Block {
     len: usize,
     start: [u32; CAP],
@@ -38,6 +39,7 @@ impl Block {
     }
 }
 
+#[derive(Clone)]
 pub struct Pool {
     free: u32,
     /// Slab of blocks; `order` lists those in use by address.

@@ -69,7 +69,7 @@ impl Constraints {
 
 #[derive(Clone, Copy, PartialEq, Eq, Debug)]
 pub struct Limits {
-    pub(crate) events: u32,
+    pub(crate) events: u64,
     pub(crate) nodes: u32,
     pub(crate) collections: u32,
     pub(crate) trackers: u32,
@@ -78,7 +78,10 @@ pub struct Limits {
 
 impl Limits {
     pub fn full() -> Limits {
-        Limits { events: u32::MAX, nodes: 1024, collections: 256, trackers: 4096, handles: u32::MAX }
+        Limits { events: u32::MAX.into(), nodes: 1024, collections: 256, trackers: 4096, handles: u32::MAX }
+    }
+    pub fn lasting() -> Limits {
+        Limits { events: (1 << 53) - 1, ..Limits::full() }
     }
     pub fn new(events: u32, nodes: u32, collections: u32, trackers: u32, handles: u32) -> Option<Limits> {
         let f = Limits::full();
@@ -87,7 +90,7 @@ impl Limits {
             && (1..=f.collections).contains(&collections)
             && (1..=f.trackers).contains(&trackers)
             && handles >= 1;
-        ok.then_some(Limits { events, nodes, collections, trackers, handles })
+        ok.then_some(Limits { events: events.into(), nodes, collections, trackers, handles })
     }
 }
 
