@@ -53,35 +53,27 @@ public:
         Event event = watch().event.load(std::memory_order_acquire);
         return event == 0 ? std::nullopt : std::optional<Event>(event);
     }
-    /// Waits until the tracker fires. With a `stop`, which is a Cancel or (C++20) a std::stop_token, nothing if it
-    /// ends the wait first; so with all waits.
-    Event wait() const { return *wait_until(detail::forever()); }
-    /// Waits until the tracker fires, or the `stop` ends the wait: then nothing.
-    template <class Stop> std::optional<Event> wait(const Stop &stop) const {
-        return wait_until(detail::forever(), stop);
+    /// Waits until the tracker fires.
+    Event wait() const {
+        detail::Ends<> never(watch().bell);
+        return *wait_to(detail::forever(), never);
     }
-    /// Waits likewise; nothing if the time is over first.
-    template <class Duration, class... Stop>
-    std::optional<Event> wait_until(std::chrono::time_point<std::chrono::steady_clock, Duration> until,
-                                    const Stop &...stop) const {
-        detail::Reader &r = *reader;
-        detail::Ends<Stop...> ends(r.state->mutex, watch().changed, stop...);
-        std::unique_lock<std::mutex> lock(r.state->mutex);
-        detail::sleep(*r.state, lock, watch().changed,
-                      std::chrono::time_point_cast<std::chrono::steady_clock::duration>(until),
-                      [&] { return poll().has_value() || ends.are_here(); });
-        return poll();
+    /// Waits until the tracker fires, or the `stop` ends the wait: a Cancel or (C++20) a std::stop_token. So with all
+    /// waits: their answer then has no value, and `is_cancelled`.
+    template <class Stop> Waited<Event> wait(const Stop &stop) const {
+        detail::Ends<Stop> ends(watch().bell, stop);
+        return wait_to(detail::forever(), ends);
     }
-    /// Waits likewise, by another clock.
-    template <class Clock, class Duration, class... Stop>
-    std::optional<Event> wait_until(std::chrono::time_point<Clock, Duration> until,
-                                    const Stop &...stop) const {
-        return wait_for(until - Clock::now(), stop...);
-    }
-    /// Waits so long at most.
+    /// Waits likewise; nothing if the time is over first. A time that is negative or no number is over.
     template <class Rep, class Period, class... Stop>
-    std::optional<Event> wait_for(std::chrono::duration<Rep, Period> time, const Stop &...stop) const {
-        return wait_until(detail::after(time), stop...);
+    Waited<Event> wait_for(std::chrono::duration<Rep, Period> time, const Stop &...stop) const {
+        detail::Ends<Stop...> ends(watch().bell, stop...);
+        return wait_to(detail::after(time), ends);
+    }
+    /// Waits likewise, until then by any clock.
+    template <class Clock, class Duration, class... Stop>
+    Waited<Event> wait_until(std::chrono::time_point<Clock, Duration> until, const Stop &...stop) const {
+        return wait_for(detail::left(until), stop...);
     }
     /// Sets the callback, in place of an earlier one. It is called once, with the event, without the
     /// mutex: in the thread whose call fires the tracker, or in this call if the tracker has fired.
@@ -112,6 +104,12 @@ private:
     friend class Handle;
     explicit Tracker(std::shared_ptr<detail::Reader> reader) : reader(std::move(reader)) {}
     detail::Watch &watch() const { return *reader->watch; }
+    Waited<Event> wait_to(std::chrono::steady_clock::time_point until, const detail::Ending &wait) const {
+        detail::State &s = *reader->state;
+        std::unique_lock<std::mutex> lock(s.mutex);
+        bool is_fired = detail::sleep(s, lock, wait, until, [&] { return poll().has_value(); });
+        return {poll(), !is_fired && wait.is_over};
+    }
     static Result<Tracker> make(const detail::Account &a, const sysmem_call &call,
                                 CollectionId tree) {
         detail::State &s = *a.state;
@@ -120,7 +118,7 @@ private:
         detail::Guard guard(s);
         reader->state = s.self;
         if (!detail::reserve(s.waiting, 1)) return Error::fault(SYSMEM_NO_MEMORY);
-        if (s.is_short()) return Error::fault(SYSMEM_HISTORY_FULL);
+        if (s.is_short(a)) return Error::fault(SYSMEM_HISTORY_FULL);
         if (s.waiting.empty()) s.seen = s.fired_count();
         detail::Answer answer = s.ask(a, call, tree);
         if (!answer.is_good()) return s.why(answer);
@@ -171,7 +169,7 @@ public:
         detail::Guard guard(*account->state);
         detail::Cell *c = nullptr;
         if (!find(c)) return Error::fault(SYSMEM_NO_MEMORY);
-        if (!c) return spent();
+        if (!c) return vanished();
         return c->at;
     }
 
@@ -188,7 +186,7 @@ public:
         detail::State &s = *account->state;
         detail::Guard guard(s);
         if (!account->has_room()) return Error::fault(SYSMEM_NO_MEMORY);
-        if (s.is_short()) return Error::fault(SYSMEM_HISTORY_FULL);
+        if (s.is_short(*account)) return Error::fault(SYSMEM_HISTORY_FULL);
         detail::Answer answer = s.ask(*account, words(SYSMEM_DUP_HANDLE));
         if (!answer.is_good()) return s.why(answer);
         detail::Cell *cell = account->rows[row].cell;
@@ -205,7 +203,7 @@ public:
         detail::Answer answer = a.state->ask(a, call);
         if (!answer.is_good()) return guard.stay(), a.state->why(answer);
         a.erase(row);
-        a.state->tell_gift(to);
+        a.state->tell_gift(to, detail::Post(buffer(), strength()));
         account = nullptr;
         return {};
     }
@@ -223,7 +221,7 @@ public:
         detail::Guard guard(*account->state);
         detail::Cell *c = nullptr;
         if (!find(c)) return Error::fault(SYSMEM_NO_MEMORY);
-        if (!c) return spent();
+        if (!c) return vanished();
         return c->open;
     }
     /// Calls `then` once, as soon as at most `most` handles of this buffer are open, whoever gave up
@@ -240,42 +238,19 @@ public:
         detail::Guard guard(*account->state);
         detail::Cell *c = nullptr;
         if (!find(c)) return Error::fault(SYSMEM_NO_MEMORY);
-        if (!c) return spent();
+        if (!c) return vanished();
         idle->after = std::move(c->idle);
         c->idle = std::move(idle);
         account->state->tell_idle(*c);
         return {};
     }
-    /// Waits for the same; false if the time is over first, or if a `stop` ends the wait.
+    /// Waits for the same; false if the time is over first, or if a `stop` ends the wait: then it `is_cancelled`.
     template <class Rep, class Period, class... Stop>
-    Result<bool> wait_idle(std::uint32_t most, std::chrono::duration<Rep, Period> time,
-                           const Stop &...stop) const {
-        if (!account) return spent();
-        auto until = detail::after(time);
-        std::condition_variable changed;
-        auto idle = std::make_shared<detail::Idle>();
-        idle->most = most;
-        idle->changed = &changed;
-        std::shared_ptr<detail::State> s; // the handle's client may vanish in the meantime
-        detail::Ends<Stop...> ends(account->state->mutex, changed, stop...);
-        {
-            detail::Guard guard(*account->state);
-            detail::Cell *c = nullptr;
-            if (!find(c)) return Error::fault(SYSMEM_NO_MEMORY);
-            if (!c) return spent();
-            if (c->open <= most) return true;
-            s = account->state->self;
-            idle->after = std::move(c->idle);
-            c->idle = idle;
-        }
-        std::unique_lock<std::mutex> lock(s->mutex);
-        detail::sleep(*s, lock, changed, until, [&] { return idle->is_told || ends.are_here(); });
-        if (idle->is_told) return true;
-        detail::Cell *c = s->cell_of(buffer()); // it is there: its list has this one
-        std::shared_ptr<detail::Idle> *place = &c->idle;
-        while (*place != idle) place = &(*place)->after;
-        *place = std::move(idle->after);
-        return false;
+    Result<Waited<void>> wait_idle(std::uint32_t most, std::chrono::duration<Rep, Period> time,
+                                   const Stop &...stop) const {
+        detail::Bell bell;
+        detail::Ends<Stop...> ends(bell, stop...);
+        return idle_to(most, detail::after(time), ends);
     }
 
 private:
@@ -292,6 +267,42 @@ private:
     }
     sysmem_call words(std::uint32_t kind) const { return detail::call(kind, buffer(), strength()); }
     static Error spent() { return Error::spent(Refusal::NoSuchHandle); }
+    static Error vanished() { return Error::vanished(Refusal::NoSuchHandle); }
+    // Removes a thread that waits from the list of the buffer, under the mutex.
+    struct Forget {
+        detail::State &state;
+        const std::shared_ptr<detail::Idle> &idle;
+        ~Forget() {
+            if (idle->is_told) return;
+            detail::Cell *c = state.cell_of(idle->buffer); // it is there: its list has this one
+            std::shared_ptr<detail::Idle> *place = &c->idle;
+            while (*place != idle) place = &(*place)->after;
+            *place = std::move(idle->after);
+        }
+    };
+    Result<Waited<void>> idle_to(std::uint32_t most, std::chrono::steady_clock::time_point until,
+                                 const detail::Ending &wait) const {
+        if (!account) return spent();
+        auto idle = std::make_shared<detail::Idle>();
+        idle->most = most;
+        idle->bell = wait.bell;
+        idle->buffer = buffer();
+        std::shared_ptr<detail::State> s; // the handle's client may vanish in the meantime
+        {
+            detail::Guard guard(*account->state);
+            detail::Cell *c = nullptr;
+            if (!find(c)) return Error::fault(SYSMEM_NO_MEMORY);
+            if (!c) return vanished();
+            if (c->open <= most) return Waited<void>(true);
+            s = account->state->self;
+            idle->after = std::move(c->idle);
+            c->idle = idle;
+        }
+        std::unique_lock<std::mutex> lock(s->mutex);
+        Forget forget{*s, idle};
+        bool is_so = detail::sleep(*s, lock, wait, until, [&] { return idle->is_told; });
+        return Waited<void>(is_so, !is_so && wait.is_over);
+    }
     /// Called under the mutex. Null if the client vanished; false if memory is refused.
     bool find(detail::Cell *&cell) const noexcept {
         if (account->is_leaving) return true;
@@ -354,7 +365,7 @@ public:
         detail::Answer answer = a.state->ask(a, call);
         if (!answer.is_good()) return guard.stay(), a.state->why(answer);
         a.state->erase(a, row);
-        a.state->tell_gift(to);
+        a.state->tell_gift(to, detail::Post(node));
         account = nullptr;
         return {};
     }
@@ -429,7 +440,7 @@ protected:
         detail::State &s = *a.state;
         detail::Guard guard(s);
         if (!a.has_room()) return Error::fault(SYSMEM_NO_MEMORY);
-        if (s.is_short()) return Error::fault(SYSMEM_HISTORY_FULL);
+        if (s.is_short(a)) return Error::fault(SYSMEM_HISTORY_FULL);
         detail::Answer answer =
             a.is_leaving ? s.ask(a, call) : s.step_named(a.id, call, label);
         if (!answer.is_good()) return s.why(answer);
@@ -471,42 +482,12 @@ public:
         return look();
     }
     /// Waits until the buffers are allocated or the node failed, and then makes one Check. Nothing, and no event,
-    /// if the time is over first, or if a `stop` ends the wait.
+    /// if the time is over first, or if a `stop` ends the wait: then it `is_cancelled`.
     template <class Rep, class Period, class... Stop>
-    Result<std::optional<Allocation>> wait_allocated(std::chrono::duration<Rep, Period> time,
-                                                     const Stop &...stop) const {
-        if (!account) return spent();
-        auto until = detail::after(time);
-        detail::State &s = *account->state;
-        detail::Waiter waiter(tree);
-        detail::Ends<Stop...> ends(s.mutex, waiter.changed, stop...);
-        bool is_so = false;
-        {
-            detail::Guard guard(s);
-            if (is_decided()) return look();
-            s.wait(waiter);
-        }
-        {
-            std::unique_lock<std::mutex> lock(s.mutex);
-            auto until_now = [&](std::chrono::steady_clock::time_point then) {
-                return detail::sleep(s, lock, waiter.changed, then, [&] {
-                    if (std::exchange(waiter.is_changed, false)) is_so = is_decided();
-                    return is_so || ends.are_here();
-                });
-            };
-            auto first = s.slow.count() > 0 ? detail::after(s.slow) : until;
-            if (!until_now(std::min(first, until)) && first < until) {
-                std::string line = slow_line(s);
-                lock.unlock();
-                std::fputs(line.c_str(), stderr);
-                lock.lock();
-                until_now(until);
-            }
-            s.forget(waiter);
-        }
-        if (!is_so) return std::optional<Allocation>();
-        detail::Guard guard(s);
-        return look();
+    Result<Waited<Allocation>> wait_allocated(std::chrono::duration<Rep, Period> time, const Stop &...stop) const {
+        detail::Bell bell;
+        detail::Ends<Stop...> ends(bell, stop...);
+        return allocated_to(detail::after(time), ends);
     }
     /// The nodes that keep this node's allocation waiting: those of its unit, and of the pending units
     /// above it, that are neither gone nor released and have no constraints, by birth. None once the
@@ -515,6 +496,7 @@ public:
         if (!account) return spent();
         detail::State &s = *account->state;
         detail::Guard guard(s);
+        if (account->is_leaving) return Error::vanished(Refusal::NoSuchEnd);
         return waits(s);
     }
     /// Opens a handle on each buffer that something strong keeps; nothing if none is allocated yet.
@@ -526,7 +508,7 @@ public:
         detail::Guard guard(s);
         if (!detail::reserve(handles, most) || !detail::reserve(account->rows, most))
             return Error::fault(SYSMEM_NO_MEMORY);
-        if (s.is_short()) return Error::fault(SYSMEM_HISTORY_FULL);
+        if (s.is_short(*account)) return Error::fault(SYSMEM_HISTORY_FULL);
         detail::Tree *t = nullptr;
         if (s.memory) {
             if (!s.place_tree(tree, t)) return Error::fault(SYSMEM_NO_MEMORY);
@@ -569,10 +551,50 @@ private:
         return std::optional<Allocation>(Allocation{answer.reply.count, answer.reply.size});
     }
 
+    Result<Waited<Allocation>> allocated_to(std::chrono::steady_clock::time_point until,
+                                            const detail::Ending &wait) const {
+        if (!account) return spent();
+        detail::State &s = *account->state;
+        bool is_so = false;
+        {
+            std::unique_lock<std::mutex> lock(s.mutex);
+            detail::Waiter waiter(s, tree, *wait.bell);
+            auto sleeps = [&](std::chrono::steady_clock::time_point then) {
+                return detail::sleep(s, lock, wait, then, [&] {
+                    if (std::exchange(waiter.is_changed, false)) is_so = is_decided();
+                    return is_so;
+                });
+            };
+            auto first = s.slow.count() > 0 ? detail::after(s.slow) : until;
+            if (!sleeps(std::min(first, until)) && first < until && !wait.is_over) {
+                std::string line = slow_line(s);
+                lock.unlock();
+                std::fputs(line.c_str(), stderr);
+                lock.lock();
+                sleeps(until);
+            }
+        }
+        if (!is_so) return Waited<Allocation>(std::nullopt, wait.is_over);
+        detail::Guard guard(s);
+        return look();
+    }
     /// Called under the mutex: whether a Check would tell more than that nothing is allocated.
     bool is_decided() const noexcept {
         sysmem_node n;
         return account->is_leaving || !account->state->look_up(node, n) || detail::State::state_of(n) != 0;
+    }
+    static Waits waits(detail::State &s, const sysmem_node &n) {
+        Waits w;
+        w.node = {n.key.slot, n.key.generation};
+        w.label = s.label(w.node);
+        w.holder = n.holder;
+        w.holder_label = s.client_label(n.holder);
+        w.is_bound = (n.flags & SYSMEM_NODE_BOUND) != 0;
+        w.is_in_parcel = (n.flags & SYSMEM_NODE_IN_TRANSIT) != 0;
+        w.event = n.event;
+        const detail::Account *to = w.is_in_parcel ? s.receiver_of(w.node) : nullptr;
+        if (to) w.receiver = to->id, w.receiver_label = to->label;
+        return w;
     }
     Result<std::vector<Waits>> waits(detail::State &s) const {
         auto kept = s.kept_nodes();
@@ -589,9 +611,7 @@ private:
             for (const sysmem_node &m : *kept)
                 if (key_of(m.head) == head && m.collection == tree &&
                     !(m.flags & (SYSMEM_NODE_GONE | SYSMEM_NODE_RELEASED | SYSMEM_NODE_CONSTRAINED)))
-                    all.push_back({key_of(m.key), s.label(key_of(m.key)), m.holder,
-                                   s.client_label(m.holder), (m.flags & SYSMEM_NODE_BOUND) != 0,
-                                   (m.flags & SYSMEM_NODE_IN_TRANSIT) != 0, m.event});
+                    all.push_back(waits(s, m));
             const sysmem_node *top = find(head);
             if (!top || key_of(top->parent) == head) break;
             n = find(key_of(top->parent));
@@ -599,8 +619,15 @@ private:
         std::sort(all.begin(), all.end(), [](const Waits &a, const Waits &b) { return a.event < b.event; });
         return all;
     }
-    /// Called under the mutex.
-    SYSMEM_SELDOM std::string slow_line(detail::State &s) const {
+    /// Called under the mutex. Empty if memory is refused: the wait goes on.
+    SYSMEM_SELDOM std::string slow_line(detail::State &s) const noexcept {
+        SYSMEM_TRY {
+            return whom(s);
+        } SYSMEM_CATCH {
+            return {};
+        }
+    }
+    std::string whom(detail::State &s) const {
         auto called = [](const std::string &label, const std::string &otherwise) {
             return label.empty() ? otherwise : label;
         };
@@ -613,8 +640,10 @@ private:
             const Waits &w = (*all)[i];
             line += i == 0 ? ": no constraints from " : ", ";
             line += called(w.label, std::to_string(w.node.slot) + "." + std::to_string(w.node.generation));
-            line += (w.is_in_parcel ? " (in a parcel of " : w.is_bound ? " (held by " : " (a token of ") +
-                    called(w.holder_label, "client " + std::to_string(w.holder)) + ")";
+            line += w.receiver ? " (in a parcel for " : w.is_in_parcel ? " (in a parcel of "
+                    : w.is_bound ? " (held by " : " (a token of ";
+            line += called(w.receiver ? w.receiver_label : w.holder_label,
+                           "client " + std::to_string(w.receiver ? w.receiver : w.holder)) + ")";
         }
         return line + "\n";
     }
@@ -663,7 +692,7 @@ public:
 private:
     template <class T> Result<T> take() {
         if (T *it = std::get_if<T>(this)) return std::move(*it);
-        return Error{Error::Kind::Refused, SYSMEM_WRONG_KIND, {}, {}, false, {}};
+        return Error::of(Error::Kind::Refused, SYSMEM_WRONG_KIND);
     }
 };
 
@@ -714,24 +743,12 @@ public:
         return collect_one();
     }
     /// Waits for a parcel if there is none, and takes it. Nothing, and no event, if the time is over first, or if
-    /// a `stop` ends the wait.
+    /// a `stop` ends the wait: then it `is_cancelled`.
     template <class Rep, class Period, class... Stop>
-    Result<std::optional<Parcel>> collect_for(std::chrono::duration<Rep, Period> time,
-                                              const Stop &...stop) const {
+    Result<Waited<Parcel>> collect_for(std::chrono::duration<Rep, Period> time, const Stop &...stop) const {
         if (!account) return spent();
-        auto until = detail::after(time);
-        detail::Account &a = *account;
-        detail::State &s = *a.state;
-        detail::Ends<Stop...> ends(s.mutex, a.given, stop...);
-        for (;;) {
-            {
-                detail::Guard guard(s);
-                if (a.parcels > 0) return collect_one();
-            }
-            std::unique_lock<std::mutex> lock(s.mutex);
-            detail::sleep(s, lock, a.given, until, [&] { return a.parcels > 0 || ends.are_here(); });
-            if (a.parcels == 0) return std::optional<Parcel>();
-        }
+        detail::Ends<Stop...> ends(account->given, stop...);
+        return collect_to(detail::after(time), ends);
     }
 
 #ifdef __linux__
@@ -800,6 +817,20 @@ private:
     friend class Service;
     explicit Client(detail::Account *account) noexcept : account(account) {}
     static Error spent() { return Error::spent(Refusal::NoSuchClient); }
+    Result<Waited<Parcel>> collect_to(std::chrono::steady_clock::time_point until,
+                                      const detail::Ending &wait) const {
+        detail::Account &a = *account;
+        detail::State &s = *a.state;
+        for (;;) {
+            {
+                detail::Guard guard(s);
+                if (a.parcels > 0) return collect_one();
+            }
+            std::unique_lock<std::mutex> lock(s.mutex);
+            if (!detail::sleep(s, lock, wait, until, [&] { return a.parcels > 0; }))
+                return Waited<Parcel>(std::nullopt, wait.is_over);
+        }
+    }
     Result<std::optional<Parcel>> collect_one() const {
         using Got = std::optional<Parcel>;
         detail::Account &a = *account;
@@ -813,9 +844,11 @@ private:
         if (a.is_lit) s.dim(a);
         if (r.kind == SYSMEM_COLLECTED_HANDLE) {
             Buffer buffer{r.id, r.index};
+            a.take_post(detail::Post(buffer, Strength(r.detail)));
             return Got(Handle(a, buffer, Strength(r.detail), s.cell_of(buffer)));
         }
         Key key{r.slot, r.generation};
+        a.take_post(detail::Post(key));
         if (r.detail == SYSMEM_TOKEN) return Got(Token(a, key, r.id));
         return Got(Collection(a, key, r.id));
     }
@@ -932,6 +965,32 @@ public:
         sysmem_open_handles(&state->core, client, buffer.collection, buffer.index,
                             std::uint32_t(strength), &count);
         return count;
+    }
+    /// The clients that have handles on the buffer, or in whose parcels some wait. O(clients, and the parcels that
+    /// wait).
+    std::vector<Holder> holders(Buffer buffer) const {
+        detail::Guard guard(*state);
+        std::vector<Holder> all;
+        state->each_account([&](const detail::Account &a) {
+            Holder h = state->holder(a, buffer);
+            if (h.strong + h.weak + h.parcels > 0) all.push_back(std::move(h));
+        });
+        return all;
+    }
+    /// How many handles on the buffer are open: of either strength, of all clients and in parcels. O(clients).
+    std::uint32_t open_handles(Buffer buffer) const {
+        detail::Guard guard(*state);
+        std::uint32_t all = 0;
+        for (std::uint32_t strength : {SYSMEM_STRONG, SYSMEM_WEAK}) {
+            std::uint32_t some = 0;
+            sysmem_handles_in_parcels(&state->core, buffer.collection, buffer.index, strength, &some);
+            all += some;
+            state->each_account([&](const detail::Account &a) {
+                sysmem_open_handles(&state->core, a.id, buffer.collection, buffer.index, strength, &some);
+                all += some;
+            });
+        }
+        return all;
     }
     /// How many events the limit still allows.
     std::uint64_t remaining() const {

@@ -36,7 +36,7 @@ complete -c sysmem -n '__fish_seen_subcommand_from explore' -l end \
     -d 'Each client vanishes once its steps are done'
 complete -c sysmem -n '__fish_seen_subcommand_from explore' -l vanish -x \
     -d 'The clients that may vanish at any point'
-complete -c sysmem -n '__fish_seen_subcommand_from explore' -l most -x -d 'How many clients vanish at most'
+complete -c sysmem -n '__fish_seen_subcommand_from explore' -l most -x -d 'How many of --vanish vanish at most'
 complete -c sysmem -n '__fish_seen_subcommand_from explore' -l outcome -x \
     -d 'The outcome whose play is written'
 complete -c sysmem -n '__fish_seen_subcommand_from explore' -l states -x -d 'How many states are met at most'

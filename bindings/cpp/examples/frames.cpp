@@ -110,7 +110,8 @@ int main() {
     std::move(shown).give(dis.id()).value();
     Collection mine = std::move(root).bind().value();
     for (const Waits &one : mine.waits_for().value())
-        std::printf("the allocation waits for %s, held by %s\n", one.label.c_str(), one.holder_label.c_str());
+        std::printf("the allocation waits for %s, %s %s\n", one.label.c_str(), one.receiver ? "in a parcel for" : "held by",
+                    (one.receiver ? one.receiver_label : one.holder_label).c_str());
     screen = dis.id();
 
     std::vector<std::thread> threads;

@@ -15,10 +15,6 @@
 #include <memory>
 #include <mutex>
 #include <vector>
-#ifdef __linux__
-#include <sys/eventfd.h>
-#include <unistd.h>
-#endif
 
 // Functions that seldom run are compiled apart from those that each call runs.
 #ifdef __GNUC__
@@ -104,7 +100,7 @@ struct Watch : Due {
     TrackerId id = 0;
     ClientId owner = 0;
     std::atomic<Event> event{0}; // 0: it has not fired yet
-    std::condition_variable changed;
+    Bell bell;
     std::function<void(Event)> then;
     std::shared_ptr<Watch> told; // the next one that the owner's pending() will name
     void run() override {
@@ -126,10 +122,10 @@ struct Idle : Due {
     std::uint32_t most = 0;
     ClientId owner = 0;
     Buffer buffer;
-    bool is_told = false;                  // a thread waits, and may go on
-    std::condition_variable *changed = nullptr;
-    std::function<void(Buffer)> then;      // if neither, pending() names the buffer
-    std::shared_ptr<Idle> after;           // the next one of this buffer, or of this client
+    bool is_told = false;             // a thread waits, and may go on
+    Bell *bell = nullptr;             // the thread's
+    std::function<void(Buffer)> then; // if neither, pending() names the buffer
+    std::shared_ptr<Idle> after;      // the next one of this buffer, or of this client
     void run() override {
         if (then) then(buffer);
     }
@@ -160,17 +156,20 @@ struct Tree {
 
 // A thread that sleeps. It lies on the stack of that thread.
 struct Sleeper {
-    std::condition_variable *changed;
+    Bell *bell;
     Sleeper *next;
 };
 
-// A thread that waits for a change of a collection. It lies on the stack of that thread.
+// A thread that waits for a change of a collection. It lies on the stack of that thread, and is in the state's list
+// as long as it is there: it is made, and goes, under the mutex.
 struct Waiter {
-    explicit Waiter(CollectionId tree) : tree(tree) {}
+    Waiter(State &state, CollectionId tree, Bell &bell) noexcept;
+    ~Waiter();
+    State &state;
     CollectionId tree;
-    Waiter *next = nullptr;
-    bool is_changed = false;
-    std::condition_variable changed;
+    Bell &bell;
+    Waiter *next;
+    bool is_changed = true; // the thread has not looked yet
 };
 
 inline sysmem_call call(std::uint32_t kind, Key key = {}) {
@@ -213,6 +212,22 @@ struct Row {
     }
 };
 
+// An end or a handle in a parcel.
+struct Post {
+    bool is_handle;
+    std::uint8_t index, strength; // of a handle
+    Key node;                     // of an end
+    CollectionId tree;            // of a handle's buffer
+    explicit Post(Key node) : is_handle(false), index(0), strength(0), node(node), tree(0) {}
+    Post(Buffer buffer, Strength strength)
+        : is_handle(true), index(buffer.index), strength(std::uint8_t(strength)), tree(buffer.collection) {}
+    bool is_of(Buffer buffer) const { return is_handle && tree == buffer.collection && index == buffer.index; }
+    bool operator==(const Post &other) const {
+        return is_handle == other.is_handle && index == other.index && strength == other.strength &&
+               node == other.node && tree == other.tree;
+    }
+};
+
 template <class T> bool reserve(std::vector<T> &list, std::uint64_t more) noexcept {
     std::uint64_t wanted = list.size() + more;
     if (wanted <= list.capacity()) return true;
@@ -241,9 +256,10 @@ struct Account {
     std::uint32_t free = NONE;      // the first free row
     std::size_t values = 1;         // the number of values, the Client included
     std::uint64_t parcels = 0;      // the number of parcels that wait for the client
-    std::condition_variable given;  // notified of each parcel
+    std::vector<Post> posted;       // what waits in them, the first first, as far as memory allowed to note it,
+    std::size_t collected = 0;      // after so many that do not wait any more
+    Bell given;                     // rings at each parcel
     std::atomic<bool> is_leaving{false}; // the client vanished
-    bool is_dead = false;           // it vanished, and its vanishing was put off
     bool is_shut = false;           // it vanished, and its Shut was made: `parcels` must be collected
     std::size_t own = 0;            // the number of rows at the Shut
     bool is_late = false;           // some call was put off
@@ -267,6 +283,16 @@ struct Account {
         rows[at] = row;
         return at;
     }
+    void post(const Post &one) noexcept {
+        if (reserve(posted, 1)) posted.push_back(one);
+    }
+    // Notes that the first parcel was collected.
+    void take_post(const Post &one) noexcept {
+        if (collected == posted.size() || !(posted[collected] == one)) return; // it was not noted
+        if (++collected < 64 && collected < posted.size()) return;
+        posted.erase(posted.begin(), posted.begin() + std::ptrdiff_t(collected));
+        collected = 0;
+    }
     void erase(std::uint32_t at) noexcept {
         rows[at].kind = Row::FREE;
         rows[at].is_late = false;
@@ -284,6 +310,7 @@ struct Seat {
 
 // A reply, or a code that says why there is none.
 struct Answer {
+    enum : std::uint32_t { VANISHED = SYSMEM_ERRORS }; // the caller's client vanished, and there was no call
     std::uint32_t code;
     sysmem_reply reply;
     bool is_good() const { return code == SYSMEM_DONE && reply.kind < SYSMEM_REFUSED; }
@@ -347,6 +374,8 @@ struct State : std::enable_shared_from_this<State> {
     }
     // Whether only those who let go get an event any more.
     bool is_short() noexcept { return margin > 0 && is_nearly_full(); }
+    // Whether it is so, and the client might make one: after it vanished `ask` says so.
+    bool is_short(const Account &a) noexcept { return is_short() && !a.is_leaving; }
     SYSMEM_SELDOM bool is_nearly_full() noexcept {
         std::uint64_t left = 0;
         sysmem_remaining(&core, &left);
@@ -359,28 +388,29 @@ struct State : std::enable_shared_from_this<State> {
         if (recorder) recorder->suggest(nullptr);
         return answer;
     }
-    // Makes a call on a value of this client. Refuses it without an event while the vanishing of
-    // the client is put off.
+    // Makes a call on a value of this client. Refuses it without an event if the client vanished.
     Answer ask(const Account &a, const sysmem_call &c, CollectionId tree = 0) noexcept {
-        if (a.is_dead) return dead(c.kind);
+        if (a.is_leaving) return vanished(c.kind);
         return step(a.id, c, tree);
     }
-    SYSMEM_SELDOM static Answer dead(std::uint32_t kind) noexcept {
+    SYSMEM_SELDOM static Answer vanished(std::uint32_t kind) noexcept {
         bool on_handle = kind == SYSMEM_DUP_HANDLE || kind == SYSMEM_GIVE_HANDLE ||
                          kind == SYSMEM_TRACK_WEAK;
-        Answer answer{};
-        answer.reply.kind = SYSMEM_REFUSED;
+        Answer answer{Answer::VANISHED, {}};
         answer.reply.detail = on_handle ? SYSMEM_NO_SUCH_HANDLE : SYSMEM_NO_SUCH_END;
         return answer;
     }
     // The error of an answer that is no success.
     SYSMEM_SELDOM Error why(const Answer &answer) const {
         const sysmem_reply &r = answer.reply;
+        if (answer.code == Answer::VANISHED) return Error::vanished(Refusal(r.detail));
         if (answer.code != SYSMEM_DONE) return Error::fault(answer.code);
-        if (r.kind == SYSMEM_REFUSED) return Error{Error::Kind::Refused, r.detail, {}, {}, false, {}};
-        if (r.kind == SYSMEM_MISUSED) return Error{Error::Kind::Misused, r.detail, {}, {}, false, {}};
-        Key origin{r.slot, r.generation};
-        return Error{Error::Kind::PeerClosed, r.detail, origin, label(origin), false, {}};
+        if (r.kind == SYSMEM_REFUSED) return Error::of(Error::Kind::Refused, r.detail);
+        if (r.kind == SYSMEM_MISUSED) return Error::of(Error::Kind::Misused, r.detail);
+        Error error = Error::of(Error::Kind::PeerClosed, r.detail);
+        error.origin = {r.slot, r.generation};
+        error.label = label(error.origin);
+        return error;
     }
 
     // Whether a call with this reply may cause an allocation or a failure.
@@ -393,18 +423,8 @@ struct State : std::enable_shared_from_this<State> {
         for (Waiter *w = waiters; w; w = w->next)
             if (w->tree == tree) {
                 w->is_changed = true;
-                w->changed.notify_all();
+                w->bell.tell();
             }
-    }
-    void wait(Waiter &waiter) noexcept {
-        waiter.next = std::exchange(waiters, &waiter);
-        is_watched = true;
-    }
-    void forget(Waiter &waiter) noexcept {
-        Waiter **at = &waiters;
-        while (*at != &waiter) at = &(*at)->next;
-        *at = waiter.next;
-        is_watched = waiters || recorder || !seats.empty();
     }
 
     // The collection's cells, made when a call first needs them, or with a memory before the first
@@ -437,9 +457,7 @@ struct State : std::enable_shared_from_this<State> {
         sysmem_held_of(&core, id, held, 64, &all);
         for (std::uint64_t i = 0; i < all; i++)
             tree->cells[held[i].index].at = {held[i].start, held[i].pages};
-        for (Account *a : clients) seat_handles(*a, id, *tree);
-        for (Account *a = late; a; a = a->next_late)
-            if (a->is_leaving) seat_handles(*a, id, *tree);
+        each_account([&](Account &a) { seat_handles(a, id, *tree); });
         for (std::uint32_t i = 0; i < count; i++)
             for (std::uint32_t strength : {SYSMEM_STRONG, SYSMEM_WEAK}) {
                 std::uint32_t open = 0;
@@ -489,9 +507,9 @@ struct State : std::enable_shared_from_this<State> {
         }
     }
     void tell_idle(std::shared_ptr<Idle> one) noexcept {
-        if (one->changed) {
+        if (one->bell) {
             one->is_told = true;
-            one->changed->notify_all();
+            one->bell->tell();
         } else if (one->then) {
             one->next = std::move(due);
             due = std::move(one);
@@ -666,7 +684,7 @@ struct State : std::enable_shared_from_this<State> {
                 if (at == waiting.end() || at->first != some[i].tracker) continue;
                 std::shared_ptr<Watch> watch = std::move(at->second);
                 watch->event.store(some[i].event, std::memory_order_release);
-                watch->changed.notify_all();
+                watch->bell.tell();
                 signal(*watch);
                 if (Account *a = account_of(watch->owner); a && a->fd >= 0) {
                     watch->told = std::move(a->fired);
@@ -703,13 +721,37 @@ struct State : std::enable_shared_from_this<State> {
         return std::lower_bound(clients.begin(), clients.end(), id,
                                 [](const Account *a, ClientId i) { return a->id < i; });
     }
-    // Notes that a parcel waits for this client.
-    void tell_gift(ClientId to) noexcept {
+    // Notes that this waits for the client in a parcel.
+    void tell_gift(ClientId to, const Post &what) noexcept {
         auto at = place(to);
         if (at == clients.end() || (*at)->id != to) return;
         (*at)->parcels++;
-        (*at)->given.notify_all();
+        (*at)->post(what);
+        (*at)->given.tell();
         light(**at);
+    }
+    // The accounts of all clients that have ends or handles.
+    template <class F> void each_account(const F &look) {
+        for (Account *a : clients) look(*a);
+        for (Account *a = late; a; a = a->next_late)
+            if (a->is_leaving) look(*a);
+    }
+    // The client in whose parcels the end waits; null if it waits in none, or was not noted.
+    const Account *receiver_of(Key node) noexcept {
+        for (const Account *a : clients)
+            for (std::size_t i = a->collected; i < a->posted.size(); i++)
+                if (a->posted[i] == Post(node)) return a;
+        return nullptr;
+    }
+    // What this client has to do with the buffer.
+    Holder holder(const Account &a, Buffer buffer) {
+        Holder h;
+        h.client = a.id;
+        h.label = a.label;
+        sysmem_open_handles(&core, a.id, buffer.collection, buffer.index, SYSMEM_STRONG, &h.strong);
+        sysmem_open_handles(&core, a.id, buffer.collection, buffer.index, SYSMEM_WEAK, &h.weak);
+        for (std::size_t i = a.collected; i < a.posted.size(); i++) h.parcels += a.posted[i].is_of(buffer);
+        return h;
     }
 
     // Gives up the end or handle in this row, whose value is destroyed. If its client vanished,
@@ -741,17 +783,16 @@ struct State : std::enable_shared_from_this<State> {
         put_off(a);
     }
     SYSMEM_SELDOM void put_off(Account &a) noexcept {
-        a.is_dead = a.is_leaving;
         if (a.is_late) return;
         a.is_late = true;
         a.next_late = std::exchange(late, &a);
-        for (Sleeper *s = sleepers; s; s = s->next) s->changed->notify_all(); // they try it again
+        for (Sleeper *s = sleepers; s; s = s->next) s->bell->tell(); // they try it again
     }
     // Makes the calls that were put off, as far as memory allows.
     SYSMEM_SELDOM void catch_up() noexcept {
         while (late && settle(*late)) {
             Account *done = std::exchange(late, late->next_late);
-            done->is_late = done->is_dead = false;
+            done->is_late = false;
             forget_if_gone(done);
         }
     }
@@ -794,6 +835,8 @@ struct State : std::enable_shared_from_this<State> {
             if (!answer.is_good()) return is_lost(answer);
             a.is_shut = true;
             a.parcels = answer.reply.id;
+            a.posted.clear();
+            a.collected = 0;
             a.own = a.rows.size();
         }
         for (; a.parcels > 0; a.parcels--) {
@@ -837,13 +880,23 @@ inline void State::open_bytes(Cell &cell) noexcept { cell.is_shut = false; }
 inline void State::shut_bytes(Cell &) noexcept {}
 #endif
 
-// The point of time so long from now; a century from now if the clock can't count that far.
+// The point of time so long from now; a century from now if it is later, and now if the time is negative or no
+// number. A floating number holds any time, so that nothing overflows.
 template <class Rep, class Period>
 std::chrono::steady_clock::time_point after(std::chrono::duration<Rep, Period> time) {
     using Clock = std::chrono::steady_clock;
-    constexpr std::chrono::hours longest(1 << 20);
-    if (time < longest) return Clock::now() + std::chrono::duration_cast<Clock::duration>(time);
-    return Clock::now() + longest;
+    const Clock::duration longest = std::chrono::hours(1 << 20);
+    const std::chrono::duration<long double, Clock::period> ticks(time);
+    if (!(ticks.count() > 0)) return Clock::now();
+    if (ticks >= longest) return Clock::now() + longest;
+    return Clock::now() + Clock::duration(Clock::rep(ticks.count() + 0.5L));
+}
+
+// How long it is until then.
+template <class Clock, class Duration>
+std::chrono::duration<long double, std::nano> left(std::chrono::time_point<Clock, Duration> until) {
+    const std::chrono::duration<long double, std::nano> then(until.time_since_epoch());
+    return then - Clock::now().time_since_epoch();
 }
 
 inline std::chrono::steady_clock::time_point forever() { return after(std::chrono::hours(1 << 20)); }
@@ -877,10 +930,21 @@ private:
     State &state;
 };
 
-// Sleeps until this is so, or the time is over: then false. Meanwhile calls that were put off are tried again,
-// and callbacks that fall due by that run here. The lock is held, but not all the time.
+inline Waiter::Waiter(State &state, CollectionId tree, Bell &bell) noexcept
+    : state(state), tree(tree), bell(bell), next(std::exchange(state.waiters, this)) {
+    state.is_watched = true;
+}
+inline Waiter::~Waiter() {
+    Waiter **at = &state.waiters;
+    while (*at != this) at = &(*at)->next;
+    *at = next;
+    state.is_watched = state.waiters || state.recorder || !state.seats.empty();
+}
+
+// Sleeps until this is so, the time is over, or the wait is ended; whether this is so. Meanwhile calls that were put
+// off are tried again, and callbacks that fall due by that run here. The lock is held, but not all the time.
 template <class F>
-bool sleep(State &state, std::unique_lock<std::mutex> &lock, std::condition_variable &changed,
+bool sleep(State &state, std::unique_lock<std::mutex> &lock, const Ending &wait,
            std::chrono::steady_clock::time_point until, const F &is_so) {
     struct Place {
         State &state;
@@ -891,9 +955,9 @@ bool sleep(State &state, std::unique_lock<std::mutex> &lock, std::condition_vari
             *at = self.next;
         }
     };
-    Place place{state, {&changed, state.sleepers}};
+    Place place{state, {wait.bell, state.sleepers}};
     state.sleepers = &place.self;
-    while (!is_so()) {
+    while (!is_so() && !wait.is_over) {
         if (state.late) {
             lock.unlock();
             { Guard tries(state); }
@@ -902,9 +966,9 @@ bool sleep(State &state, std::unique_lock<std::mutex> &lock, std::condition_vari
         }
         auto next = until;
         if (state.late) next = std::min(until, std::chrono::steady_clock::now() + std::chrono::milliseconds(10));
-        if (changed.wait_until(lock, next) == std::cv_status::timeout && next == until) return is_so();
+        if (!wait.bell->wait(lock, next, wait.is_over) && next == until) return is_so();
     }
-    return true;
+    return is_so();
 }
 
 // A Guard for a call that uses up a value of this client. The last value of all closes the core.

@@ -11,9 +11,10 @@
 #include <cstdio>
 #include <cstdlib>
 #include <functional>
+#include <iosfwd>
 #include <memory>
+#include <new>
 #include <optional>
-#include <ostream>
 #include <stdexcept>
 #include <string>
 #include <string_view>
@@ -218,11 +219,23 @@ using Record = std::function<void(std::string_view)>;
 struct Waits {
     Key node;                  ///< the node
     std::string label;         ///< its label; it may be empty
-    ClientId holder = 0;       ///< who holds its end, or who gave it away if it is in a parcel (not the receiver)
+    ClientId holder = 0;       ///< who holds its end, or who gave it away if it is in a parcel
     std::string holder_label;  ///< the label of its holder; it may be empty
     bool is_bound = false;     ///< whether its end is bound
     bool is_in_parcel = false; ///< whether its end is in a parcel
     Event event = 0;           ///< the event at which it was born
+    /// Whose parcels its end waits in, and who must collect it; 0 if it is in none, or memory was refused to note it.
+    ClientId receiver = 0;
+    std::string receiver_label; ///< the label of its receiver; it may be empty
+};
+
+/// A client that has handles on a buffer, or in whose parcels some wait.
+struct Holder {
+    ClientId client = 0;       ///< the client
+    std::string label;         ///< its label; it may be empty
+    std::uint32_t strong = 0;  ///< how many strong handles on the buffer it has open
+    std::uint32_t weak = 0;    ///< how many weak ones
+    std::uint32_t parcels = 0; ///< how many of either strength wait for it in parcels
 };
 
 /// A kept node: one that is not gone, or whose end is not spent.
@@ -334,6 +347,7 @@ struct Error {
     std::string label;     ///< of the origin, if it has one
     bool is_spent = false; ///< the value was moved from, given, released, closed or dropped: no event
     std::string note;      ///< of a number that is out of its range: which one, and the range
+    bool is_vanished = false; ///< the value's client vanished: no event
 
     /// Why the call was refused, if the kind is Refused.
     Refusal refusal() const { return Refusal(detail); }
@@ -358,6 +372,7 @@ struct Error {
     std::string message() const {
         switch (kind) {
         case Kind::Refused:
+            if (is_vanished) return "refused: the client vanished";
             return "refused: " + name(refusal()) + (is_spent ? " (the value was spent)" : "");
         case Kind::Misused: return "misused: " + name(misuse());
         case Kind::PeerClosed:
@@ -367,13 +382,33 @@ struct Error {
         }
         return detail::name_of(SYSMEM_ABOUT_CODE, this->detail) + (note.empty() ? "" : ": ") + note;
     }
+    /// The error of this kind and number.
+    static Error of(Kind kind, std::uint32_t detail) {
+        Error error;
+        error.kind = kind;
+        error.detail = detail;
+        return error;
+    }
     /// The error of a code.
-    static Error fault(std::uint32_t code) { return {Kind::Fault, code, {}, {}, false, {}}; }
+    static Error fault(std::uint32_t code) { return of(Kind::Fault, code); }
     /// The refusal of a call on a spent value.
 #ifdef __GNUC__
     __attribute__((noinline, cold))
 #endif
-    static Error spent(Refusal r) { return {Kind::Refused, std::uint32_t(r), {}, {}, true, {}}; }
+    static Error spent(Refusal r) {
+        Error error = of(Kind::Refused, std::uint32_t(r));
+        error.is_spent = true;
+        return error;
+    }
+    /// The refusal of a call on a value whose client vanished.
+#ifdef __GNUC__
+    __attribute__((noinline, cold))
+#endif
+    static Error vanished(Refusal r) {
+        Error error = of(Kind::Refused, std::uint32_t(r));
+        error.is_vanished = true;
+        return error;
+    }
     /// The error of a number that is out of its range: it `is` so much, and must be `least` to `most`.
 #ifdef __GNUC__
     __attribute__((noinline, cold))
@@ -387,26 +422,46 @@ struct Error {
     }
 };
 
-/// Writes slot and generation, as "2.0".
-inline std::ostream &operator<<(std::ostream &out, Key k) { return out << k.slot << '.' << k.generation; }
+/// Writes slot and generation, as "2.0". These are templates so that only who writes to a stream needs its header.
+template <class Traits>
+std::basic_ostream<char, Traits> &operator<<(std::basic_ostream<char, Traits> &out, Key k) {
+    return out << k.slot << '.' << k.generation;
+}
 /// Writes the collection's number and the index, as "2.0".
-inline std::ostream &operator<<(std::ostream &out, Buffer b) {
+template <class Traits>
+std::basic_ostream<char, Traits> &operator<<(std::basic_ostream<char, Traits> &out, Buffer b) {
     return out << b.collection << '.' << unsigned(b.index);
 }
 /// Writes the first page and how many there are, as "3+2".
-inline std::ostream &operator<<(std::ostream &out, Pages p) { return out << p.start << '+' << p.count; }
+template <class Traits>
+std::basic_ostream<char, Traits> &operator<<(std::basic_ostream<char, Traits> &out, Pages p) {
+    return out << p.start << '+' << p.count;
+}
 /// Writes "strong" or "weak".
-inline std::ostream &operator<<(std::ostream &out, Strength s) {
+template <class Traits>
+std::basic_ostream<char, Traits> &operator<<(std::basic_ostream<char, Traits> &out, Strength s) {
     return out << (s == Strength::Strong ? "strong" : "weak");
 }
 /// Writes its name.
-inline std::ostream &operator<<(std::ostream &out, Refusal r) { return out << name(r); }
+template <class Traits>
+std::basic_ostream<char, Traits> &operator<<(std::basic_ostream<char, Traits> &out, Refusal r) {
+    return out << name(r);
+}
 /// Writes its name.
-inline std::ostream &operator<<(std::ostream &out, Misuse m) { return out << name(m); }
+template <class Traits>
+std::basic_ostream<char, Traits> &operator<<(std::basic_ostream<char, Traits> &out, Misuse m) {
+    return out << name(m);
+}
 /// Writes its name.
-inline std::ostream &operator<<(std::ostream &out, Cause c) { return out << name(c); }
+template <class Traits>
+std::basic_ostream<char, Traits> &operator<<(std::basic_ostream<char, Traits> &out, Cause c) {
+    return out << name(c);
+}
 /// Writes its message.
-inline std::ostream &operator<<(std::ostream &out, const Error &e) { return out << e.message(); }
+template <class Traits>
+std::basic_ostream<char, Traits> &operator<<(std::basic_ostream<char, Traits> &out, const Error &e) {
+    return out << e.message();
+}
 
 namespace detail {
 /// Which of the constraints is out of its range.
@@ -447,37 +502,98 @@ namespace detail {
 }
 } // namespace detail
 
+namespace detail {
+/// What has a value of such a type can't be copied either.
+struct Unique {
+    Unique() = default;
+    Unique(const Unique &) = delete;
+    Unique(Unique &&) = default;
+    Unique &operator=(const Unique &) = delete;
+    Unique &operator=(Unique &&) = default;
+};
+struct Copied {};
+
+/// A value or an error. A std::variant of them would take the compiler a multiple of the time.
+template <class T> struct Held {
+    explicit Held(T &&value) : value(std::move(value)), has_value(true) {}
+    explicit Held(Error &&error) noexcept : error(std::move(error)), has_value(false) {}
+    Held(Held &&other) noexcept(std::is_nothrow_move_constructible_v<T>) : has_value(other.has_value) {
+        if (has_value) ::new (static_cast<void *>(&value)) T(std::move(other.value));
+        else ::new (static_cast<void *>(&error)) Error(std::move(other.error));
+    }
+    Held(const Held &other) : has_value(other.has_value) {
+        if (has_value) ::new (static_cast<void *>(&value)) T(other.value);
+        else ::new (static_cast<void *>(&error)) Error(other.error);
+    }
+    Held &operator=(const Held &other) { return *this = Held(other); }
+    Held &operator=(Held &&other) {
+        if (has_value && other.has_value) value = std::move(other.value);
+        else if (has_value) put(std::move(other.error));
+        else if (other.has_value) put(T(std::move(other.value)));
+        else error = std::move(other.error);
+        return *this;
+    }
+    ~Held() {
+        if (has_value) value.~T();
+        else error.~Error();
+    }
+    union {
+        T value;
+        Error error;
+    };
+    bool has_value;
+
+private:
+    void put(Error &&other) noexcept {
+        value.~T();
+        ::new (static_cast<void *>(&error)) Error(std::move(other));
+        has_value = false;
+    }
+    void put(T &&other) noexcept {
+        error.~Error();
+        ::new (static_cast<void *>(&value)) T(std::move(other));
+        has_value = true;
+    }
+};
+} // namespace detail
+
 /// A value or an Error, with members of std::expected.
-template <class T> class [[nodiscard]] Result {
+template <class T>
+class [[nodiscard]] Result
+    : std::conditional_t<std::is_copy_constructible_v<T>, detail::Copied, detail::Unique> {
 public:
     using value_type = T;     ///< the type of the value
     using error_type = Error; ///< the type of the error
 
     /// With this value.
-    Result(T value) : held(std::in_place_index<0>, std::move(value)) {}
+    Result(T value) : held(std::move(value)) {}
     /// With this error.
-    Result(Error error) : held(std::in_place_index<1>, std::move(error)) {}
+    Result(Error error) noexcept : held(std::move(error)) {}
+    /// With the other's value, as this type, or its error.
+    template <class U, class = std::enable_if_t<std::is_convertible_v<U, T>>>
+    Result(Result<U> other)
+        : held(other ? detail::Held<T>(T(*std::move(other))) : detail::Held<T>(std::move(other).error())) {}
     /// Whether there is a value.
-    bool has_value() const noexcept { return held.index() == 0; }
+    bool has_value() const noexcept { return held.has_value; }
     /// Whether there is a value.
     explicit operator bool() const noexcept { return has_value(); }
 
     /// The value. Undefined behaviour if there is none.
-    T &operator*() & { return *std::get_if<0>(&held); }
+    T &operator*() & { return held.value; }
     /// The value. Undefined behaviour if there is none.
-    const T &operator*() const & { return *std::get_if<0>(&held); }
+    const T &operator*() const & { return held.value; }
     /// The value. Undefined behaviour if there is none.
-    T &&operator*() && { return std::move(*std::get_if<0>(&held)); }
+    T &&operator*() && { return std::move(held.value); }
     /// The value. Undefined behaviour if there is none.
-    T *operator->() { return std::get_if<0>(&held); }
+    T *operator->() { return &held.value; }
     /// The value. Undefined behaviour if there is none.
-    const T *operator->() const { return std::get_if<0>(&held); }
+    const T *operator->() const { return &held.value; }
     /// The error. Undefined behaviour if there is none.
-    Error &error() & { return *std::get_if<1>(&held); }
+    Error &error() & { return held.error; }
     /// The error. Undefined behaviour if there is none.
-    const Error &error() const & { return *std::get_if<1>(&held); }
+    const Error &error() const & { return held.error; }
     /// The error. Undefined behaviour if there is none.
-    Error &&error() && { return std::move(*std::get_if<1>(&held)); }
+    Error &&error() && { return std::move(held.error); }
 
     /// The value. Throws Failure if there is none; without exceptions it ends the program.
     T &value() & { return check(), **this; }
@@ -526,7 +642,35 @@ private:
     }
     template <class V, class Self, class F> static auto mapped(Self &&self, F &&f);
 
-    std::variant<T, Error> held;
+    detail::Held<T> held;
+};
+
+/// What a wait answers: the value. Or nothing, because its time was over, or because a `stop` ended it.
+template <class T> class Waited : public std::optional<T> {
+public:
+    using std::optional<T>::optional;
+    /// The value; or nothing, and whether a `stop` ended the wait.
+    Waited(std::optional<T> value, bool is_ended = false) : std::optional<T>(std::move(value)), is_ended(is_ended) {}
+    /// Whether a `stop` ended the wait, so that there is no value.
+    bool is_cancelled() const noexcept { return is_ended; }
+
+private:
+    bool is_ended = false;
+};
+
+/// What a wait without a value answers: a bool, whether what it waited for is so. If not, its time was over, or a
+/// `stop` ended it.
+template <> class Waited<void> {
+public:
+    /// Whether it is so; if not, whether a `stop` ended the wait.
+    explicit Waited(bool is_so, bool is_ended = false) noexcept : is_so(is_so), is_ended(is_ended) {}
+    /// Whether it is so.
+    operator bool() const noexcept { return is_so; }
+    /// Whether a `stop` ended the wait, before it was so.
+    bool is_cancelled() const noexcept { return is_ended; }
+
+private:
+    bool is_so, is_ended;
 };
 
 /// Nothing, or an Error: what a call answers that has no value.

@@ -17,6 +17,42 @@ struct Raw {
         detail::Guard guard(*service.state);
         return service.state->trees.empty() && service.state->seats.empty() && !service.state->due;
     }
+    // Whether the binding knows of no thread that waits.
+    static bool is_awaited_by_none(Service &service) {
+        detail::State &s = *service.state;
+        detail::Guard guard(s);
+        bool is_none = !s.waiters && !s.sleepers && s.is_watched == (s.recorder || !s.seats.empty());
+        for (auto &tree : s.trees)
+            for (detail::Cell &cell : tree.second.cells) is_none = is_none && !cell.idle;
+        return is_none;
+    }
+    // What waits in the parcels of each client is what the core has in parcels: all ends whose nodes say so, each once,
+    // and as many handles on each buffer.
+    static bool are_posted_rightly(Service &service) {
+        detail::State &s = *service.state;
+        detail::Guard guard(s);
+        std::map<Key, int> ends;
+        std::map<std::pair<Buffer, std::uint8_t>, std::uint32_t> handles;
+        for (detail::Account *a : s.clients) {
+            if (a->posted.size() - a->collected != a->parcels) return false;
+            for (std::size_t i = a->collected; i < a->posted.size(); i++) {
+                const detail::Post &p = a->posted[i];
+                if (p.is_handle) handles[{{p.tree, p.index}, p.strength}]++;
+                else if (ends[p.node]++ || s.receiver_of(p.node) != a) return false;
+            }
+        }
+        auto kept = s.kept_nodes();
+        for (const sysmem_node &n : *kept)
+            if (((n.flags & SYSMEM_NODE_IN_TRANSIT) != 0) != (ends.count({n.key.slot, n.key.generation}) == 1))
+                return false;
+        for (auto &one : handles) {
+            Buffer buffer = one.first.first;
+            std::uint32_t count = 0;
+            sysmem_handles_in_parcels(&s.core, buffer.collection, buffer.index, one.first.second, &count);
+            if (count != one.second) return false;
+        }
+        return true;
+    }
     // Each descriptor is readable exactly where there is something to tell, and each end's state is the core's.
     static bool are_lit_rightly(Service &service, std::uint64_t &lit, std::uint64_t &dark) {
         detail::State &s = *service.state;

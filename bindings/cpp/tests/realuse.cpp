@@ -3,9 +3,11 @@
 #include "sysmem.hpp"
 
 #include <cstring>
+#include <fcntl.h>
 #include <poll.h>
 #include <sstream>
 #include <thread>
+#include <unistd.h>
 #include <unordered_map>
 
 namespace sysmem {
@@ -168,6 +170,38 @@ static void idle() {
     EXPECT(!is_readable(late.fd()));
 }
 
+// Who has a buffer.
+static void holders() {
+    Service service = Service::open().value();
+    Client a = service.join("a").value(), b = service.join("b").value();
+    std::optional<Client> c = service.join("c").value();
+    Token root = a.open_root().value(), watcher = root.duplicate().value();
+    watcher.set_weak().value();
+    Collection strong = std::move(root).bind().value(), weak = std::move(watcher).bind().value();
+    strong.set_constraints({2, 0, 1}).value();
+    weak.set_constraints({0, 0, 1}).value();
+    std::vector<Handle> all = *strong.take().value(), eyes = *weak.take().value();
+    Buffer first = all[0].buffer(), second = all[1].buffer();
+    EXPECT(service.holders({99, 0}).empty() && service.open_handles({99, 0}) == 0);
+    Handle more = all[0].duplicate().value();
+    all[0].duplicate().value().give(b.id()).value();
+    std::move(eyes[0]).give(c->id()).value();
+    auto has = [](const Holder &h, const Client &who, std::uint32_t strong, std::uint32_t weak, std::uint32_t parcels) {
+        return h.client == who.id() && h.label == who.label() && h.strong == strong && h.weak == weak &&
+               h.parcels == parcels;
+    };
+    auto told = service.holders(first);
+    EXPECT(told.size() == 3 && has(told[0], a, 2, 0, 0) && has(told[1], b, 0, 0, 1) && has(told[2], *c, 0, 0, 1));
+    EXPECT(service.open_handles(first) == 4 && service.open_handles(first) == more.open_handles().value());
+    Handle there = c->collect().value()->handle().value();
+    told = service.holders(first);
+    EXPECT(told.size() == 3 && has(told[2], *c, 0, 1, 0) && service.open_handles(first) == 4);
+    told = service.holders(second);
+    EXPECT(told.size() == 1 && has(told[0], a, 1, 1, 0) && service.open_handles(second) == 2);
+    c.reset();
+    EXPECT(service.holders(first).size() == 2 && service.open_handles(first) == 3);
+}
+
 static void descriptors() {
     Service service = Service::open().value();
     Client a = service.join("a").value(), b = service.join("b").value();
@@ -217,16 +251,30 @@ static void descriptors() {
 
 static void waits_across_units() {
     Service service = Service::open().value();
-    Client a = service.join("a").value(), b = service.join("b").value();
+    Client a = service.join("a").value();
+    std::optional<Client> b = service.join("b").value();
     Collection root = a.open_root("root").value().bind().value();
     Token att = root.attach_token("att").value();
-    att.duplicate("below").value().give(b.id()).value();
+    a.open_root().value().give(b->id()).value(); // two parcels come before
+    std::move((*allocated(a, {1, 0, 1}).take().value())[0]).give(b->id()).value();
+    att.duplicate("below").value().give(b->id()).value();
     Collection top = std::move(att).bind().value();
     top.set_constraints({1, 0, 4096}).value();
     auto waits = top.waits_for().value();
     EXPECT(waits.size() == 2 && waits[0].label == "root" && waits[1].label == "below");
-    EXPECT(waits[1].is_in_parcel && waits[1].holder == a.id());
+    EXPECT(waits[1].is_in_parcel && waits[1].holder == a.id()); // b must collect it
+    EXPECT(waits[1].receiver == b->id() && waits[1].receiver_label == "b" && waits[0].receiver == 0);
     EXPECT(root.waits_for().value().size() == 1);
+    EXPECT(b->collect().value()->token() && b->collect().value()->handle());
+    EXPECT(top.waits_for().value()[1].receiver == b->id());
+    Token below = b->collect().value()->token().value();
+    waits = top.waits_for().value();
+    EXPECT(!waits[1].is_in_parcel && waits[1].holder_label == "b" && waits[1].receiver == 0);
+    Client c = service.join().value();
+    std::move(below).give(c.id()).value();
+    b.reset();
+    waits = top.waits_for().value();
+    EXPECT(waits[1].receiver == c.id() && waits[1].receiver_label.empty() && waits[1].holder_label.empty());
 }
 
 static void callbacks() {
@@ -283,43 +331,120 @@ static void parcels() {
     EXPECT(next.sync());
 }
 
-// A wait ends when it is told to, and makes no event.
-template <class Make> static void cancelled(Make make) {
-    Service service = Service::open().value();
+// A wait ends when it is told to, and makes no event. A recorder may tell it so, which runs under the mutex.
+template <class Make> static void cancelled(Make make, bool by_recorder) {
+    std::function<void()> at_event;
+    Options o;
+    o.record = [&](std::string_view) {
+        if (at_event) at_event();
+    };
+    Service service = Service::open(o).value();
     Client a = service.join("a").value();
     Token root = a.open_root("root").value();
     Tracker gone = root.track_node().value();
     Collection alone = std::move(root).bind().value();
     Collection c = allocated(a, {1, 0, 1});
     std::vector<Handle> frame = *c.take().value(), other = *c.take().value();
+    auto late = a.collect_for(1ms);
+    auto early = alone.wait_allocated(1ms);
+    EXPECT(!*late && !late->is_cancelled() && !*early && !early->is_cancelled());
+    EXPECT(!gone.wait_for(1ms).is_cancelled() && !frame[0].wait_idle(1, 1ms)->is_cancelled());
     std::uint64_t events = service.events();
     auto [stop, ends] = make();
     auto begin = std::chrono::steady_clock::now();
     std::atomic<int> ended{0};
     std::vector<std::thread> all;
-    all.emplace_back([&, &stop = stop] { ended += !*a.collect_for(1h, stop); });
-    all.emplace_back([&, &stop = stop] { ended += !*alone.wait_allocated(1h, stop); });
-    all.emplace_back([&, &stop = stop] { ended += !gone.wait(stop); });
-    all.emplace_back([&, &stop = stop] { ended += !frame[0].wait_idle(1, 1h, stop).value(); });
+    auto is_ended = [](const auto &told) { return !told && told.is_cancelled(); };
+    all.emplace_back([&, &stop = stop] { ended += is_ended(*a.collect_for(1h, stop)); });
+    all.emplace_back([&, &stop = stop] { ended += is_ended(*alone.wait_allocated(1h, stop)); });
+    all.emplace_back([&, &stop = stop] { ended += is_ended(gone.wait(stop)); });
+    all.emplace_back([&, &stop = stop] { ended += is_ended(frame[0].wait_idle(1, 1h, stop).value()); });
     std::this_thread::sleep_for(20ms);
-    ends();
+    if (by_recorder) {
+        at_event = ends;
+        c.sync().value();
+        at_event = nullptr;
+        events++;
+    } else {
+        ends();
+    }
     for (std::thread &one : all) one.join();
     EXPECT(ended == 4 && std::chrono::steady_clock::now() - begin < 30s);
-    EXPECT(!*a.collect_for(1h, stop) && service.events() == events); // and those that come later
+    EXPECT(is_ended(*a.collect_for(1h, stop)) && service.events() == events); // and those that come later
+    EXPECT(frame[0].wait_idle(2, 1h, stop).value() && !frame[0].wait_idle(2, 1h, stop)->is_cancelled()); // it is so
     alone.close();
-    EXPECT(gone.wait(stop));
+    EXPECT(gone.wait(stop) && !gone.wait(stop).is_cancelled());
+}
+// A Cancel also ends a wait in poll(), or in epoll.
+static void cancel_descriptors() {
+    Cancel one;
+    std::optional<Cancel> copy = one;
+    int fd = copy->fd();
+    EXPECT(fd >= 0 && one.fd() == fd && !is_readable(fd));
+    copy.reset();
+    std::thread ends([one] {
+        std::this_thread::sleep_for(5ms);
+        one.cancel();
+    });
+    pollfd wait{fd, POLLIN, 0};
+    EXPECT(poll(&wait, 1, 30000) == 1 && one.is_cancelled());
+    ends.join();
+    one.cancel();
+    EXPECT(is_readable(fd));
+    one = Cancel();
+    EXPECT(fcntl(fd, F_GETFD) < 0); // the last copy has closed it
+    one.cancel();
+    EXPECT(is_readable(one.fd())); // also if it comes later
 }
 static void cancels() {
-    cancelled([] {
-        Cancel cancel;
-        return std::pair(cancel, std::function<void()>([cancel] { cancel.cancel(); }));
-    });
+    for (bool by_recorder : {false, true}) {
+        alarm(300); // a wait that nobody ends ends the test
+        cancelled([] {
+            Cancel cancel;
+            return std::pair(cancel, std::function<void()>([cancel] { cancel.cancel(); }));
+        }, by_recorder);
 #ifdef __cpp_lib_jthread
-    cancelled([] {
-        auto source = std::make_shared<std::stop_source>();
-        return std::pair(source->get_token(), std::function<void()>([source] { source->request_stop(); }));
-    });
+        cancelled([] {
+            auto source = std::make_shared<std::stop_source>();
+            return std::pair(source->get_token(), std::function<void()>([source] { source->request_stop(); }));
+        }, by_recorder);
 #endif
+        alarm(0);
+    }
+}
+
+// Recorders of two services end waits on each other, both in the middle of an event.
+static void cancels_across() {
+    alarm(300);
+    std::optional<Cancel> cancels[2]; // changed while there is one thread
+    std::vector<Service> services;
+    std::vector<Client> clients;
+    for (int i : {0, 1}) {
+        Options o;
+        o.record = [&cancels, i](std::string_view) {
+            if (cancels[1 - i]) cancels[1 - i]->cancel();
+        };
+        services.push_back(Service::open(o).value());
+        clients.push_back(services[i].join().value());
+    }
+    for (int round = 0; round < 300; round++) {
+        std::atomic<int> begun{0}, ready{0};
+        for (auto &cancel : cancels) cancel.emplace();
+        std::vector<std::thread> all;
+        for (int i : {0, 1}) {
+            all.emplace_back([&, i] {
+                begun++;
+                EXPECT(clients[i].collect_for(1h, *cancels[i])->is_cancelled());
+            });
+            all.emplace_back([&, i] {
+                while (begun < 2) std::this_thread::yield();
+                for (ready++; ready < 2;) continue;
+                (void)clients[i].open_root(); // and closed
+            });
+        }
+        for (std::thread &one : all) one.join();
+    }
+    alarm(0);
 }
 
 // The last events are for those who let go.
@@ -336,6 +461,9 @@ static void few_events() {
         EXPECT(all[0].duplicate().error().is_history_full() && a.open_root().error().is_history_full());
         EXPECT(c.track_node().error().is_history_full() && c.attach_token().error().is_history_full());
         std::move(all[1]).give(b.id()).value();
+        a.vanish();
+        EXPECT(c.take().error().is_vanished && all[0].duplicate().error().is_vanished);
+        EXPECT(c.track_node().error().is_vanished && c.attach_token().error().is_vanished);
     }
     EXPECT(service.is_settled() && service.live().value().empty() && service.free_pages() == 16);
     o.events = 8;
@@ -435,8 +563,11 @@ static void says() {
         Service service = Service::open(o).value();
         Client app = service.join("app").value();
         Collection view = app.open_root("view").value().bind().value();
-        view.attach_token("later").value().give(app.id()).value();
+        Client eye = service.join("eye").value();
+        Token twin = app.open_root("twin").value(), given = twin.duplicate("given").value();
+        std::move(given).give(eye.id()).value();
         EXPECT(!*view.wait_allocated(10ms));
+        EXPECT(!*std::move(twin).bind()->wait_allocated(10ms));
     }
     unsetenv("SYSMEM_DEBUG");
     dup2(before, 2);
@@ -447,6 +578,8 @@ static void says() {
     EXPECT(said.find("app join\n  joined\napp open view\n  token view\n") == 0);
     EXPECT(said.find("sysmem: app waits for the allocation of view: no constraints from view (held by app)\n") !=
            std::string::npos);
+    EXPECT(said.find("sysmem: app waits for the allocation of twin: no constraints from twin (held by app), "
+                     "given (in a parcel for eye)\n") != std::string::npos);
     EXPECT(said.find("app close view\n  done\n") != std::string::npos);
 }
 
@@ -455,11 +588,14 @@ int main() {
     pages_and_bytes(true);
     guarded();
     idle();
+    holders();
     descriptors();
     waits_across_units();
     callbacks();
     parcels();
     cancels();
+    cancel_descriptors();
+    cancels_across();
     few_events();
     forgets();
     names();

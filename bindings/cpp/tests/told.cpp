@@ -1,5 +1,5 @@
-// After each call of four clients that make what calls they like, the descriptors, what they tell of each end,
-// and the counts of handles are compared with the core; in the second half also the bytes of a memory. The argument is
+// After each call of four clients that make what calls they like, the descriptors, what they tell of each end, the
+// parcels, and the counts of handles are compared with the core; in the second half also the bytes of a memory. The argument is
 // the number of events.
 #include "life.hpp"
 
@@ -16,10 +16,14 @@ static bool is_told(std::uint64_t events, const std::shared_ptr<Memory> &memory)
         for (int step = 0; step < 1500; step++) {
             Life &life = *lives[dice() % 4];
             life.step();
-            bool is_so = Raw::are_lit_rightly(service, lit, dark) && Raw::are_counted_rightly(service);
+            bool is_so = Raw::are_lit_rightly(service, lit, dark) && Raw::are_counted_rightly(service) &&
+                         Raw::are_posted_rightly(service);
             if (memory && !life.handles.empty()) {
                 mapped++;
-                is_so &= Raw::are_there(memory, life.handles.back());
+                const Handle &handle = life.handles.back();
+                is_so &= Raw::are_there(memory, handle);
+                auto open = handle.open_handles();
+                is_so &= !open || *open == service.open_handles(handle.buffer());
             }
             if (!is_so) {
                 std::printf("round %u, step %d: the binding tells something else than the core\n", round, step);

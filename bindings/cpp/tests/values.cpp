@@ -3,6 +3,7 @@
 
 #include <cstdio>
 #include <cstdlib>
+#include <limits>
 #include <thread>
 #ifdef __linux__
 #include <fcntl.h>
@@ -93,12 +94,22 @@ static void a_vanishing() {
     EXPECT(service.live().value().empty() && service.free_pages() == 16);
     auto told = root.sync();
     EXPECT(!told && told.error().is(Cause::Lost) && told.error().label == "parcel");
-    auto dead = kept.check();
-    EXPECT(!dead && dead.error().is(Refusal::NoSuchEnd));
     auto before = service.events();
-    EXPECT(!handles[0].duplicate() && handles[0].duplicate().error().is(Refusal::NoSuchHandle));
-    EXPECT(service.events() == before + 2); // a call on a dead value is a call
-    before = service.events();
+    auto says = [](const auto &told, Refusal refusal) {
+        return !told && told.error().is(refusal) && told.error().is_vanished && !told.error().is_spent &&
+               told.error().message() == "refused: the client vanished";
+    };
+    EXPECT(says(kept.check(), Refusal::NoSuchEnd) && says(kept.wait_allocated(1h), Refusal::NoSuchEnd));
+    EXPECT(says(kept.take(), Refusal::NoSuchEnd) && says(kept.attach_token(), Refusal::NoSuchEnd));
+    EXPECT(says(kept.waits_for(), Refusal::NoSuchEnd) && says(kept.track_lifetime(0), Refusal::NoSuchEnd));
+    EXPECT(says(other.sync(), Refusal::NoSuchEnd) && says(other.duplicate(), Refusal::NoSuchEnd));
+    EXPECT(says(std::move(other).give(a.id()), Refusal::NoSuchEnd) && other);
+    EXPECT(says(std::move(other).bind(), Refusal::NoSuchEnd) && other);
+    EXPECT(says(handles[0].duplicate(), Refusal::NoSuchHandle) && says(handles[0].pages(), Refusal::NoSuchHandle));
+    EXPECT(says(handles[0].open_handles(), Refusal::NoSuchHandle) && says(handles[0].on_idle(9), Refusal::NoSuchHandle));
+    EXPECT(says(handles[0].wait_idle(9, 1h), Refusal::NoSuchHandle) && says(handles[0].track_weak(), Refusal::NoSuchHandle));
+    EXPECT(says(std::move(handles[0]).give(a.id()), Refusal::NoSuchHandle) && handles[0]);
+    EXPECT(service.events() == before); // a call on a dead value is none
     handles.clear();
     other.close();
     { Collection gone = std::move(kept); }
@@ -140,8 +151,8 @@ static void moves() {
     EXPECT(a->label() == "b" && a->id() == one.client() && !b && b.id() == 0);
     EXPECT(b.collect().error().is_spent && !b.open_root() && !b.shut() && service.is_live(second));
     a.reset();
-    EXPECT(!service.is_live(second) && one.sync().error().is(Refusal::NoSuchEnd));
-    EXPECT(!one.sync().error().is_spent);
+    EXPECT(!service.is_live(second) && one.sync().error().is_vanished && !one.sync().error().is_spent);
+    EXPECT(std::move(one).release().error().is_vanished && !one && one.sync().error().is_spent);
 }
 
 // Labels are of nodes; at most 4,096 are kept, and those of nodes that were forgotten go first.
@@ -171,6 +182,22 @@ static void results() {
     EXPECT(!bad.has_value() && bad.error().is(Refusal::ClientShut));
     EXPECT(one->open_root().and_then([](Token t) { return t.sync(); }).error().is(Refusal::ClientShut));
     EXPECT(bad.value_or(Key{3, 4}) == (Key{3, 4}));
+    Result<std::string> some = std::string(99, 'x'), none = Error::fault(SYSMEM_NO_MEMORY), copy = some;
+    EXPECT(*copy == *some && !none);
+    copy = none;
+    EXPECT(!copy && copy.error().is_no_memory());
+    none = some;
+    EXPECT(none && *none == *some);
+    some = std::move(copy);
+    EXPECT(!some && some.error().is_no_memory());
+    none = std::move(some);
+    copy = std::move(none);
+    Result<std::string> last = std::move(copy);
+    EXPECT(!last && last.error().is_no_memory());
+    using Mine = Result<Token>;
+    static_assert(!std::is_copy_constructible_v<Mine> && !std::is_copy_assignable_v<Mine>);
+    static_assert(std::is_nothrow_move_constructible_v<Mine> && std::is_move_assignable_v<Mine>);
+    static_assert(std::is_copy_constructible_v<Result<Waits>> && std::is_copy_assignable_v<Result<Waits>>);
     Result<void> done;
     EXPECT(*done.transform([] { return 5; }) == 5 && done.and_then([] { return Result<void>(); }));
     done.value();
@@ -254,7 +281,7 @@ static void trackers() {
     EXPECT(poll(fds, 2, 0) == 0);
 #endif
     std::vector<Handle> handles = *mine.take().value();
-    std::thread waits([&] { EXPECT(life.wait_for(20s) && life.wait() > 0); });
+    std::thread waits([&] { EXPECT(life.wait_for(20s) && life.wait() > 0 && !life.wait_for(1ns).is_cancelled()); });
     std::this_thread::sleep_for(20ms);
     mine.close();
     EXPECT(heard == *node.poll() && heard > 0 && free_then == 12);
@@ -285,6 +312,86 @@ static void trackers() {
     Collection alone = a.open_root().value().bind().value();
     EXPECT(!*alone.wait_allocated(5ms) && !*alone.wait_allocated(5ms));
     EXPECT(!*a.collect_for(1ms));
+    // What a wait answers also is what it waits for.
+    std::optional<Event> fired = life.wait_for(1ms);
+    Result<std::optional<Allocation>> look = alone.wait_allocated(1ms), all = mine.wait_allocated(1ms);
+    Result<std::optional<Parcel>> parcel = a.collect_for(1ms);
+    EXPECT(fired == life.poll() && look && !*look && all.error().is_spent && parcel && !*parcel);
+}
+
+// A wait lasts as long as its time, in whatever unit that is; and not at all if it is negative or no number.
+static void lasts_until(std::chrono::steady_clock::time_point then, std::function<Waited<Event>(const Cancel &)> wait) {
+    Cancel cancel;
+    auto begin = std::chrono::steady_clock::now();
+    EXPECT(then > begin + 100h && then < begin + 2000000h);
+    std::thread ends([&] {
+        std::this_thread::sleep_for(2ms);
+        cancel.cancel();
+    });
+    EXPECT(wait(cancel).is_cancelled() && std::chrono::steady_clock::now() >= begin + 2ms);
+    ends.join();
+}
+template <class Time> static void lasts(const Tracker &never, Time time) {
+    lasts_until(detail::after(time), [&](const Cancel &cancel) { return never.wait_for(time, cancel); });
+}
+template <class Time> static void is_over(const Tracker &never, Time time) {
+    auto then = detail::after(time);
+    EXPECT(then <= std::chrono::steady_clock::now());
+    auto told = never.wait_for(time, Cancel());
+    EXPECT(!told && !told.is_cancelled());
+}
+template <class... Unit> static void units(const Tracker &never) {
+    (lasts(never, Unit::max()), ...);
+    (is_over(never, Unit::min()), ...);
+    (is_over(never, Unit::zero() - Unit(1)), ...);
+    (is_over(never, Unit::zero()), ...);
+    auto is_near = [](auto time) {
+        auto begin = std::chrono::steady_clock::now(), then = detail::after(time);
+        return then >= begin + 24h && then <= std::chrono::steady_clock::now() + 24h;
+    };
+    EXPECT((is_near(std::chrono::duration_cast<Unit>(24h)) && ...));
+}
+template <class Rep> static void floating(const Tracker &never) {
+    using Time = std::chrono::duration<Rep>;
+    using Limits = std::numeric_limits<Rep>;
+    lasts(never, Time(Limits::infinity()));
+    lasts(never, std::chrono::duration<Rep, std::ratio<86400>>::max());
+    is_over(never, Time(-Limits::infinity()));
+    is_over(never, Time(Limits::quiet_NaN()));
+    is_over(never, Time(Limits::denorm_min()) - Time(1));
+    units<Time>(never);
+}
+static void times() {
+    using namespace std::chrono;
+    using day = std::ratio<86400>;
+    Service service = Service::open().value();
+    Client a = service.join().value();
+    Token root = a.open_root().value();
+    const Tracker never = root.track_node().value();
+    units<nanoseconds, microseconds, milliseconds, seconds, minutes, hours>(never);
+    units<duration<int, day>, duration<std::int64_t, day>, duration<signed char, std::ratio<3600>>>(never);
+    units<duration<std::int64_t, std::pico>, duration<std::int64_t, std::ratio<1, 3>>>(never);
+    lasts(never, duration<std::uint64_t, day>::max());
+    lasts(never, duration<int, std::ratio<31556952>>::max());
+#if __cplusplus >= 202002L
+    units<days>(never);
+    lasts(never, weeks::max()), lasts(never, months::max()), lasts(never, years::max());
+    is_over(never, weeks::min()), is_over(never, months::min()), is_over(never, years::min());
+#endif
+    floating<float>(never), floating<double>(never), floating<long double>(never);
+
+    // And so by points of time.
+    Cancel ended;
+    ended.cancel();
+    auto until = [&](auto then) { return never.wait_until(then, ended).is_cancelled(); };
+    EXPECT(until(steady_clock::time_point::max()) && until(time_point<steady_clock, hours>::max()));
+    EXPECT(until(system_clock::time_point::max()) && until(time_point<system_clock, hours>::max()));
+    EXPECT(detail::after(detail::left(system_clock::time_point::max())) > steady_clock::now() + 100h);
+    auto past = [&](auto then) { return never.wait_until(then) == std::nullopt; };
+    EXPECT(past(steady_clock::time_point::min()) && past(time_point<steady_clock, hours>::min()));
+    EXPECT(past(system_clock::time_point::min()) && past(system_clock::now() - 1s) && past(steady_clock::now() + 1ms));
+    auto begin = steady_clock::now();
+    EXPECT(past(system_clock::now() + 5ms) && past(begin + 20ms) && steady_clock::now() >= begin + 20ms);
 }
 
 // Of a tracker's callbacks the last one counts; those of one event run in the order of the trackers. One may
@@ -451,6 +558,7 @@ int main() {
     what_was_given();
     what_is_refused();
     trackers();
+    times();
     callbacks();
     gifts();
     a_transcript();

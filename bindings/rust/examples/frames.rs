@@ -79,7 +79,7 @@ fn camera(memory: &Memory, client: Client, encoder: ClientId) -> Result<(), Erro
         }
     }
     for frame in &all {
-        assert!(frame.wait_idle(1, LONG)?);
+        assert!(frame.wait_idle(1, LONG)?.is_done());
     }
     mine.release()
 }
@@ -139,8 +139,9 @@ fn main() -> Result<(), Error> {
     let mine = root.bind()?;
     SCREEN.store(dis.id(), Release);
     for one in mine.waits_for()? {
-        let (label, holder) = (one.label.unwrap_or_default(), one.holder_label.unwrap_or_default());
-        println!("the allocation waits for {label}, held by {holder}");
+        let how = if one.is_in_parcel { "in a parcel for" } else { "held by" };
+        let whom = one.receiver_label.or(one.holder_label).unwrap_or_default();
+        println!("the allocation waits for {}, {how} {whom}", one.label.unwrap_or_default());
     }
     let memory = &*memory;
     thread::scope(|scope| -> Result<(), Error> {

@@ -1,9 +1,11 @@
 //! Accounts: the ends and handles of a client.
 use crate::calls::{kind, of_buffer, of_key};
+use crate::cancel::Bell;
 use crate::descriptors::News;
 use crate::ffi::CallWords;
 use crate::words::*;
-use std::sync::{Arc, Condvar};
+use std::collections::VecDeque;
+use std::sync::Arc;
 
 /// An end or a handle that a client has, as the call that gives it up.
 #[derive(Clone, Copy)]
@@ -29,6 +31,13 @@ pub(crate) enum Row {
 
 pub(crate) const NONE: u32 = u32::MAX;
 
+/// An end or a handle in a parcel.
+#[derive(Clone, Copy, PartialEq)]
+pub(crate) enum Post {
+    End(Key),
+    Handle(Buffer, Strength),
+}
+
 impl Row {
     pub fn of_end(key: Key, collection: CollectionId) -> Row {
         let (is_release, is_late, is_seated) = (false, false, false);
@@ -50,6 +59,15 @@ impl Row {
             Row::Handle { buffer, strength, .. } => {
                 Some((of_buffer(kind::DROP_HANDLE, buffer, strength), buffer.collection))
             }
+        }
+    }
+
+    /// What a parcel has in which it is given away.
+    pub fn post(&self) -> Option<Post> {
+        match *self {
+            Row::Free(_) => None,
+            Row::End { key, .. } => Some(Post::End(key)),
+            Row::Handle { buffer, strength, .. } => Some(Post::Handle(buffer, strength)),
         }
     }
 
@@ -77,7 +95,10 @@ pub(crate) struct Account {
     pub values: usize,
     /// The number of parcels that wait for the client.
     pub parcels: u64,
-    pub given: Arc<Condvar>,
+    /// What waits in them, the first first.
+    pub posted: VecDeque<Post>,
+    /// Rings at each parcel.
+    pub given: Arc<Bell>,
     pub stage: Stage,
     /// Whether some call was put off.
     pub is_late: bool,

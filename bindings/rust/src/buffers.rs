@@ -1,11 +1,12 @@
 //! The buffers of which handles are open. All handles pass through the bindings, which so can count
 //! them. A collection's table is made when a call first needs it, or with a memory before the first Take.
 use crate::account::Row;
+use crate::cancel::Bell;
 use crate::state::State;
 use crate::words::*;
 use std::collections::VecDeque;
 use std::sync::atomic::{AtomicBool, Ordering};
-use std::sync::{Arc, Condvar};
+use std::sync::Arc;
 
 /// One who waits until at most so many handles of a buffer are open.
 pub(crate) struct Idle {
@@ -26,7 +27,7 @@ pub(crate) enum IdleThen {
 #[derive(Default)]
 pub(crate) struct Awaited {
     pub is_so: AtomicBool,
-    pub changed: Arc<Condvar>,
+    pub bell: Arc<Bell>,
 }
 
 /// A buffer.
@@ -155,7 +156,7 @@ impl State {
                 Some((IdleThen::Tell, owner)) => self.tell_of_idle(owner, buffer),
                 Some((IdleThen::Wake(awaited), _)) => {
                     awaited.is_so.store(true, Ordering::Release);
-                    awaited.changed.notify_all();
+                    awaited.bell.tell();
                 }
                 None => {}
             }

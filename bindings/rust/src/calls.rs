@@ -63,12 +63,3 @@ pub(crate) fn may_change(kind: u32, told: u32) -> bool {
     told == reply::MISUSED
         || matches!(kind, SET_CONSTRAINTS | SET_WEAK | RELEASE | CLOSE | DROP_HANDLE)
 }
-
-/// The error of a call on a value whose client vanished.
-pub(crate) fn dead(kind: u32) -> Error {
-    use kind::*;
-    match kind {
-        DUP_HANDLE | GIVE_HANDLE | TRACK_WEAK => Error::Refused(Refusal::NoSuchHandle),
-        _ => Error::Refused(Refusal::NoSuchEnd),
-    }
-}

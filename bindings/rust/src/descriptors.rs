@@ -1,5 +1,5 @@
 //! File descriptors for event loops.
-use crate::account::{Account, Row};
+use crate::account::{Account, Post, Row};
 use crate::ffi::flag;
 use crate::state::{Place, State};
 use crate::words::*;
@@ -113,10 +113,11 @@ impl Account {
         }
     }
 
-    /// Notes that a parcel waits.
-    pub fn tell_of_parcel(&mut self) {
+    /// Notes that a parcel with this waits.
+    pub fn tell_of_parcel(&mut self, what: Option<Post>) {
         self.parcels += 1;
-        self.given.notify_all();
+        self.posted.extend(what);
+        self.given.tell();
         self.light();
     }
 

@@ -4,11 +4,12 @@ use crate::ffi::{flag, CallWords};
 use crate::state::{kind, of_key, reply, Owner, State, Wait};
 use crate::{
     Allocation, Back, Buffer, ClientId, CollectionId, Constraints, Error, Handle, Key, Patience,
-    Refusal, Strength, Tracker, Waits,
+    Strength, Tracker, Waited, Waits,
 };
 use std::fmt;
+use std::io::Write;
 use std::marker::PhantomData;
-use std::sync::{Arc, Condvar};
+use std::sync::Arc;
 use std::time::{Duration, Instant};
 
 mod sealed {
@@ -167,47 +168,47 @@ impl End<OfCollection> {
         Ok((told.kind != reply::PENDING).then_some(given))
     }
 
-    /// Waits until the buffers are allocated or the node failed, and then makes one Check. `None`, and
-    /// no event, if the wait ends first.
+    /// Waits until the buffers are allocated or the node failed, and then makes one Check. No event if the
+    /// wait ends first.
     pub fn wait_allocated<'a>(
         &self,
         time: impl Into<Patience<'a>>,
-    ) -> Result<Option<Allocation>, Error> {
+    ) -> Result<Waited<Allocation>, Error> {
         let shared = &self.owner.shared;
-        let changed = Arc::new(Condvar::new());
-        let waiting = time.into().begin(shared, &changed);
-        let (number, slow) = {
-            let mut state = shared.lock();
-            if self.is_decided(&mut state) {
-                return self.look(&mut state);
-            }
-            let (collection, is_changed) = (self.collection, false);
-            let number = state.wait(Wait { collection, is_changed, changed: changed.clone() });
-            (number, state.slow)
-        };
+        let bell = Arc::default();
+        let waiting = time.into().begin(&bell);
+        let mut state = shared.raw();
+        let (slow, collection) = (state.slow, self.collection);
+        let number = state.wait(Wait { collection, is_changed: true, bell });
         let mut is_so = false;
-        let first = Instant::now() + slow.min(Duration::from_secs(1 << 31));
-        let mut waits_until = |until: Instant| {
-            let sleeps = shared.sleep(shared.raw(), &changed, until, |state| {
+        let mut sleeps = |state, until| {
+            shared.sleep(state, &waiting, until, |state| {
                 if std::mem::take(&mut state.waiter(number).is_changed) {
                     is_so = self.is_decided(state);
                 }
-                is_so || waiting.is_cancelled()
-            });
-            sleeps.1
+                is_so
+            })
         };
-        let is_slow = slow > Duration::from_secs(0) && first < waiting.until;
-        if is_slow && !waits_until(first) {
-            eprintln!("{}", self.slow_line(&mut shared.raw()));
-            waits_until(waiting.until);
-        } else if !is_slow {
-            waits_until(waiting.until);
+        let first = Instant::now() + slow.min(Duration::from_secs(1 << 31));
+        if slow > Duration::from_secs(0) && first < waiting.until {
+            let mut slept = sleeps(state, first);
+            if !slept.1 && !waiting.is_cancelled() {
+                let line = self.slow_line(&mut slept.0);
+                drop(slept);
+                let _ = std::io::stderr().write_all(line.as_bytes());
+                slept = sleeps(shared.raw(), waiting.until);
+            }
+            state = slept.0;
+        } else {
+            state = sleeps(state, waiting.until).0;
         }
-        shared.raw().end_wait(number);
+        state.end_wait(number);
+        drop(state);
         if !is_so {
-            return Ok(None);
+            return Ok(waiting.none());
         }
-        self.look(&mut shared.lock())
+        let told = self.look(&mut shared.lock())?;
+        Ok(told.map_or_else(|| waiting.none(), Waited::Done))
     }
 
     /// Whether a Check would tell more than that nothing is allocated.
@@ -225,7 +226,7 @@ impl End<OfCollection> {
 
     fn waits(&self, state: &mut State) -> Result<Vec<Waits>, Error> {
         if !state.is_here(self.owner.place) {
-            return Err(Error::Refused(Refusal::NoSuchEnd));
+            return Err(Error::Vanished);
         }
         let kept = state.core.nodes().map_err(Error::of)?;
         let find = |key: Key| kept.iter().find(|n| Key::from(n.key) == key);
@@ -237,14 +238,20 @@ impl End<OfCollection> {
             for n in kept.iter().filter(|n| n.collection == self.collection) {
                 if Key::from(n.head) == head && n.flags & done == 0 {
                     let node = Key::from(n.key);
+                    let is_in_parcel = n.flags & flag::IN_TRANSIT != 0;
+                    let receiver = is_in_parcel.then(|| state.receiver_of(node)).flatten();
                     all.push(Waits {
                         node,
                         label: state.labels.get(&node).cloned(),
                         holder: n.holder,
                         holder_label: state.client_label(n.holder).map(|l| l.to_string()),
                         is_bound: n.flags & flag::BOUND != 0,
-                        is_in_parcel: n.flags & flag::IN_TRANSIT != 0,
+                        is_in_parcel,
                         event: n.event,
+                        receiver: receiver.as_ref().map(|to| to.0),
+                        receiver_label: receiver
+                            .map(|to| to.1.to_string())
+                            .filter(|label| !label.is_empty()),
                     });
                 }
             }
@@ -266,13 +273,13 @@ impl End<OfCollection> {
             line += if place == 0 { ": no constraints from " } else { ", " };
             line += &one.to_string();
         }
-        line
+        line + "\n"
     }
 
     /// Opens a handle on each buffer that something strong keeps; `None` if none is allocated yet.
     pub fn take(&self) -> Result<Option<Vec<Handle>>, Error> {
         let mut state = self.owner.shared.lock();
-        state.may_open()?;
+        state.may_open(&self.owner)?;
         if state.memory.is_some() {
             state.tree(self.collection);
         }

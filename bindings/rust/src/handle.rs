@@ -2,7 +2,7 @@
 use crate::buffers::{Awaited, Cell, Idle, IdleThen};
 use crate::ffi::CallWords;
 use crate::state::{kind, of_buffer, Owner};
-use crate::{Back, Buffer, ClientId, Error, Pages, Patience, Refusal, Strength, Tracker};
+use crate::{Back, Buffer, ClientId, Error, Pages, Patience, Strength, Tracker, Waited};
 use std::fmt;
 use std::sync::atomic::Ordering;
 use std::sync::Arc;
@@ -41,7 +41,7 @@ impl Handle {
     /// Opens one more handle of this buffer and strength.
     pub fn duplicate(&self) -> Result<Handle, Error> {
         let mut state = self.owner.shared.lock();
-        state.may_open()?;
+        state.may_open(&self.owner)?;
         state.ask(&self.owner, &self.asks(kind::DUP_HANDLE), 0)?;
         if !state.trees.is_empty() {
             state.opened(self.buffer);
@@ -64,7 +64,7 @@ impl Handle {
         let mut state = self.owner.shared.lock();
         let is_open = state.is_here(self.owner.place);
         let cell = state.cell(self.buffer).filter(|_| is_open);
-        cell.map(look).ok_or(Error::Refused(Refusal::NoSuchHandle))
+        cell.map(look).ok_or(Error::Vanished)
     }
 
     /// Where the bytes are in this memory; nowhere if the client has vanished, or if the service has
@@ -103,28 +103,31 @@ impl Handle {
         let mut state = self.owner.shared.lock();
         let is_open = state.is_here(self.owner.place);
         let cell = state.cell(self.buffer).filter(|_| is_open);
-        let cell = cell.ok_or(Error::Refused(Refusal::NoSuchHandle))?;
+        let cell = cell.ok_or(Error::Vanished)?;
         cell.idle.push_back(Idle { most, owner: self.owner.client, then });
         state.tell_idle(self.buffer);
         Ok(())
     }
 
-    /// Waits until at most `most` handles of this buffer are open; false if the wait ends first. Makes
-    /// no event.
-    pub fn wait_idle<'a>(&self, most: u32, time: impl Into<Patience<'a>>) -> Result<bool, Error> {
+    /// Waits until at most `most` handles of this buffer are open. Makes no event.
+    pub fn wait_idle<'a>(
+        &self,
+        most: u32,
+        time: impl Into<Patience<'a>>,
+    ) -> Result<Waited<()>, Error> {
         let awaited = Arc::new(Awaited::default());
         let shared = &self.owner.shared;
-        let waiting = time.into().begin(shared, &awaited.changed);
+        let waiting = time.into().begin(&awaited.bell);
         self.when_idle(most, IdleThen::Wake(awaited.clone()))?;
         let is_so = || awaited.is_so.load(Ordering::Acquire);
-        let (mut state, is_told) = shared.wait_until(&waiting, &awaited.changed, |_| is_so());
+        let (mut state, is_told) = shared.sleep(shared.raw(), &waiting, waiting.until, |_| is_so());
         if !is_told {
             if let Some(cell) = state.cell(self.buffer) {
                 let is_mine = |idle: &Idle| matches!(&idle.then, IdleThen::Wake(one) if Arc::ptr_eq(one, &awaited));
                 cell.idle.retain(|idle| !is_mine(idle));
             }
         }
-        Ok(is_told)
+        Ok(if is_told { Waited::Done(()) } else { waiting.none() })
     }
 
     /// Puts the handle into a parcel for the client. If that is refused, the handle comes back.

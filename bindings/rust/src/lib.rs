@@ -71,7 +71,7 @@ mod told_tests;
 mod tracker;
 mod words;
 
-pub use cancel::{Cancel, Patience};
+pub use cancel::{Cancel, Patience, Waited};
 #[cfg(target_os = "linux")]
 pub use descriptors::Descriptor;
 pub use ends::{Collection, End, OfCollection, OfToken, Token};
@@ -104,7 +104,7 @@ impl Owner {
         collection: CollectionId,
     ) -> Result<Tracker, Error> {
         let mut state = self.shared.lock();
-        state.may_open()?;
+        state.may_open(self)?;
         if state.waiting.is_empty() {
             state.seen = state.core.fired_at(u64::MAX).1;
         }
@@ -118,7 +118,7 @@ impl Owner {
 
     pub(crate) fn birth<K: Kind>(&self, call: &CallWords, label: &str) -> Result<End<K>, Error> {
         let mut state = self.shared.lock();
-        state.may_open()?;
+        state.may_open(self)?;
         let told = state.ask_named(self, call, label)?;
         let key = Key { slot: told.slot, generation: told.generation };
         state.set_label(key, label);
@@ -191,7 +191,9 @@ impl Service {
     /// Makes a client with a label, for people and transcripts.
     pub fn join_as(&self, label: &str) -> Result<Client, Error> {
         let mut state = self.0.lock();
-        state.may_open()?;
+        if state.is_short() {
+            return Err(Error::HistoryFull);
+        }
         let client = state.ask_anybody(&of_kind(kind::JOIN), label)?.id;
         let place = state.open_account(client, label);
         Ok(Client { owner: Owner { shared: self.0.clone(), client, place } })
@@ -248,6 +250,22 @@ impl Service {
     pub fn open_handles(&self, client: ClientId, buffer: Buffer, strength: Strength) -> u32 {
         let Buffer { collection, index } = buffer;
         self.0.lock().core.open_handles(client, collection, index, strength as u32)
+    }
+
+    /// The clients that have handles on the buffer, or in whose parcels some wait, by number. O(clients,
+    /// and the parcels that wait).
+    pub fn holders(&self, buffer: Buffer) -> Vec<Holder> {
+        self.0.lock().holders(buffer)
+    }
+
+    /// How many handles on the buffer are open: of either strength, of all clients and in parcels.
+    /// O(clients, and the parcels that wait).
+    pub fn all_open_handles(&self, buffer: Buffer) -> u32 {
+        let mut state = self.0.lock();
+        let open: u32 = state.holders(buffer).iter().map(|one| one.strong + one.weak).sum();
+        let Buffer { collection, index } = buffer;
+        let in_parcels = |strength| state.core.handles_in_parcels(collection, index, strength);
+        open + [0, 1].map(in_parcels).iter().sum::<u32>()
     }
 
     /// How many events the limit still allows.
@@ -424,6 +442,7 @@ impl Client {
         }
         let account = state.account(self.owner.place);
         account.parcels -= 1;
+        account.posted.pop_front();
         account.dim();
         let key = Key { slot: told.slot, generation: told.generation };
         Ok(Some(match (told.kind, told.detail) {
@@ -436,20 +455,22 @@ impl Client {
         }))
     }
 
-    /// Waits for a parcel if there is none, and takes it; `None`, and no event, if the wait ends first.
-    pub fn collect_for<'a>(&self, time: impl Into<Patience<'a>>) -> Result<Option<Parcel>, Error> {
+    /// Waits for a parcel if there is none, and takes it. No event if the wait ends first.
+    pub fn collect_for<'a>(&self, time: impl Into<Patience<'a>>) -> Result<Waited<Parcel>, Error> {
         let (place, shared) = (self.owner.place, &self.owner.shared);
         let given = shared.raw().account(place).given.clone();
-        let waiting = time.into().begin(shared, &given);
+        let waiting = time.into().begin(&given);
+        let has_some = |state: &mut State| state.account(place).parcels > 0;
         loop {
             let mut state = shared.lock();
-            if state.account(place).parcels > 0 {
-                return self.collect_one(&mut state);
+            if has_some(&mut state) {
+                if let Some(parcel) = self.collect_one(&mut state)? {
+                    return Ok(Waited::Done(parcel));
+                }
             }
             drop(state);
-            let is_so = |state: &mut State| state.account(place).parcels > 0;
-            if !shared.wait_until(&waiting, &given, is_so).1 {
-                return Ok(None);
+            if !shared.sleep(shared.raw(), &waiting, waiting.until, has_some).1 {
+                return Ok(waiting.none());
             }
         }
     }

@@ -26,7 +26,11 @@ extern "C" {
 /// Its bytes are atomic: a handle may outlive its client, and then the buffer's pages may be another's;
 /// two handles may be on one buffer; and other programs may have the descriptor. What is read is then what
 /// another one wrote, and never undefined behaviour. [`slice`](Memory::slice) and
-/// [`slice_mut`](Memory::slice_mut) are faster, and unsafe for these reasons.
+/// [`slice_mut`](Memory::slice_mut) are faster, and unsafe for these reasons. No safe function lends a
+/// `&mut [u8]`, not even of the only open handle: another thread may let its client vanish meanwhile,
+/// after which the pages can be another buffer's; who borrowed the atomic bytes of a handle whose client
+/// vanished still has them; and the descriptor, which safe code can write to, and other mappings know
+/// nothing of handles.
 #[derive(Debug)]
 pub struct Memory {
     start: *mut AtomicU8,

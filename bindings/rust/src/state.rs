@@ -1,26 +1,26 @@
 //! The state behind the values: the core, its lock, and an account for each client.
-use crate::account::{Account, Row, Stage, NONE};
+use crate::account::{Account, Post, Row, Stage, NONE};
 use crate::buffers::Tree;
 use crate::callbacks::{run, Due};
-use crate::calls::{dead, may_change};
+use crate::calls::may_change;
 pub(crate) use crate::calls::{kind, of_buffer, of_key, of_kind, reply};
-use crate::cancel::Waiting;
+use crate::cancel::{Bell, Waiting};
 use crate::descriptors::{Descriptor, News};
 use crate::ffi::{flag, CallWords, Core, ReplyWords};
 use crate::record::Recorder;
 use crate::words::*;
-use std::collections::{BTreeMap, HashMap, HashSet};
+use std::collections::{BTreeMap, HashMap, HashSet, VecDeque};
 use std::ops::{Deref, DerefMut};
 use std::panic::{catch_unwind, AssertUnwindSafe};
 use std::sync::atomic::{AtomicU64, Ordering};
-use std::sync::{Arc, Condvar, Mutex, MutexGuard, PoisonError};
+use std::sync::{Arc, Mutex, MutexGuard, PoisonError};
 use std::time::{Duration, Instant};
 
 /// A tracker's firing.
 #[derive(Default)]
 pub(crate) struct Watch {
     pub event: AtomicU64,
-    pub changed: Arc<Condvar>,
+    pub bell: Arc<Bell>,
     #[cfg(target_os = "linux")]
     pub fd: Mutex<Option<Descriptor>>,
 }
@@ -38,7 +38,7 @@ pub(crate) struct Waiter {
 pub(crate) struct Wait {
     pub collection: CollectionId,
     pub is_changed: bool,
-    pub changed: Arc<Condvar>,
+    pub bell: Arc<Bell>,
 }
 
 /// The place of an account in the state's list.
@@ -68,7 +68,7 @@ pub(crate) struct State {
     /// The waiting threads, by numbers of their own.
     waits: BTreeMap<u64, Wait>,
     /// The sleeping threads, by numbers of their own.
-    sleepers: BTreeMap<u64, Arc<Condvar>>,
+    sleepers: BTreeMap<u64, Arc<Bell>>,
     pub trees: BTreeMap<CollectionId, Tree>,
     /// The ends of clients with a descriptor, by collection.
     pub seats: BTreeMap<CollectionId, Vec<(Place, u32)>>,
@@ -134,10 +134,16 @@ impl State {
         self.margin = u64::from((events / 2).min(1 << 20));
     }
 
-    /// An error if only those who let go get an event any more.
+    /// Whether only those who let go get an event any more.
     #[inline]
-    pub fn may_open(&mut self) -> Result<(), Error> {
-        if self.margin > 0 && self.is_nearly_full() {
+    pub fn is_short(&mut self) -> bool {
+        self.margin > 0 && self.is_nearly_full()
+    }
+
+    /// An error if it is so. After a client vanished `ask` says so.
+    #[inline]
+    pub fn may_open(&mut self, owner: &Owner) -> Result<(), Error> {
+        if self.is_short() && self.is_here(owner.place) {
             return Err(Error::HistoryFull);
         }
         Ok(())
@@ -193,7 +199,7 @@ impl State {
         if may_change(call.kind, told.kind) {
             for wait in self.waits.values_mut().filter(|wait| wait.collection == collection) {
                 wait.is_changed = true;
-                wait.changed.notify_all();
+                wait.bell.tell();
             }
         }
         if may_change(call.kind, told.kind) {
@@ -242,8 +248,7 @@ impl State {
         self.ask_raw(0, call, 0, wanted)
     }
 
-    /// Makes one call on a value of an account. Refuses it without an event while the vanishing of
-    /// the client is put off.
+    /// Makes one call on a value of an account. Refuses it without an event if the client vanished.
     #[inline]
     pub fn ask(
         &mut self,
@@ -251,8 +256,8 @@ impl State {
         call: &CallWords,
         collection: CollectionId,
     ) -> Result<ReplyWords, Error> {
-        if !self.late.is_empty() && self.is_dead(owner.place) {
-            return Err(dead(call.kind));
+        if !self.is_here(owner.place) {
+            return Err(Error::Vanished);
         }
         self.ask_raw(owner.client, call, collection, "")
     }
@@ -264,8 +269,8 @@ impl State {
         call: &CallWords,
         wanted: &str,
     ) -> Result<ReplyWords, Error> {
-        if !self.late.is_empty() && self.is_dead(owner.place) {
-            return Err(dead(call.kind));
+        if !self.is_here(owner.place) {
+            return Err(Error::Vanished);
         }
         self.ask_raw(owner.client, call, 0, wanted)
     }
@@ -289,11 +294,6 @@ impl State {
 
     pub fn is_here(&mut self, place: Place) -> bool {
         self.account(place).stage == Stage::Here
-    }
-
-    #[cold]
-    fn is_dead(&self, place: Place) -> bool {
-        matches!(&self.accounts[place], Some(a) if a.is_late && a.stage != Stage::Here)
     }
 
     /// At most 4,096 labels are kept. At that number those of nodes that are neither kept nor the origin
@@ -339,7 +339,8 @@ impl State {
             free: NONE,
             values: 1,
             parcels: 0,
-            given: Arc::new(Condvar::new()),
+            posted: VecDeque::new(),
+            given: Arc::default(),
             stage: Stage::Here,
             is_late: false,
             news: News::default(),
@@ -390,12 +391,40 @@ impl State {
 
     /// Notes that the value in this row was given away, and that a parcel waits for the receiver.
     pub fn given(&mut self, place: Place, row: u32, to: ClientId) {
+        let what = self.account(place).rows[row as usize].post();
         self.erase(place, row);
         self.leave(place);
         if let Ok(at) = self.clients.binary_search_by_key(&to, |client| client.0) {
             let place = self.clients[at].1;
-            self.account(place).tell_of_parcel();
+            self.account(place).tell_of_parcel(what);
         }
+    }
+
+    /// The client in whose parcels the end waits, and its label.
+    pub fn receiver_of(&mut self, node: Key) -> Option<(ClientId, Arc<str>)> {
+        let of_client = |account: &&Account| account.stage == Stage::Here;
+        let mut all = self.accounts.iter().flatten().filter(of_client);
+        let receiver = all.find(|account| account.posted.contains(&Post::End(node)))?;
+        Some((receiver.client, receiver.label.clone()))
+    }
+
+    /// What each client has to do with the buffer, by number.
+    pub fn holders(&mut self, buffer: Buffer) -> Vec<Holder> {
+        let Buffer { collection, index } = buffer;
+        let is_on_it = |post: &&Post| matches!(post, Post::Handle(of, _) if *of == buffer);
+        let mut all = Vec::new();
+        for account in self.accounts.iter().flatten() {
+            let client = account.client;
+            let mut open = |strength| self.core.open_handles(client, collection, index, strength);
+            let (strong, weak) = (open(0), open(1));
+            let parcels = account.posted.iter().filter(is_on_it).count() as u32;
+            if strong + weak + parcels > 0 {
+                let label = Some(account.label.to_string()).filter(|label| !label.is_empty());
+                all.push(Holder { client, label, strong, weak, parcels });
+            }
+        }
+        all.sort_by_key(|holder| holder.client);
+        all
     }
 
     /// Notes that a value was used up or dropped.
@@ -478,7 +507,7 @@ impl State {
         if !account.is_late {
             account.is_late = true;
             self.late.push(place);
-            self.sleepers.values().for_each(|changed| changed.notify_all()); // they try it again
+            self.sleepers.values().for_each(|bell| bell.tell()); // they try it again
         }
     }
 
@@ -557,6 +586,7 @@ impl State {
             let told = told.map_err(|code| self.is_lost(code))?;
             let account = self.account(place);
             account.parcels = told.id;
+            account.posted.clear();
             account.stage = Stage::Shut(account.rows.len());
         }
         while self.account(place).parcels > 0 {
@@ -618,7 +648,7 @@ impl State {
             self.seen += 1;
             if let Some(Waiter { watch, owner, then, fd }) = self.waiting.remove(&fired.tracker) {
                 watch.event.store(fired.event, Ordering::Release);
-                watch.changed.notify_all();
+                watch.bell.tell();
                 if let Some(fd) = fd {
                     fd.light();
                 }
@@ -647,24 +677,19 @@ pub(crate) struct Owner {
 
 pub(crate) struct Shared(pub Mutex<State>);
 
-impl std::fmt::Debug for Shared {
-    fn fmt(&self, f: &mut std::fmt::Formatter<'_>) -> std::fmt::Result {
-        f.write_str("Shared")
-    }
-}
-
 impl Shared {
-    /// Sleeps until this is so, or the time is over: then false. Meanwhile calls that were put off are
-    /// tried again, and callbacks that fall due by that run here. The lock is held, but not all the time.
+    /// Sleeps until this is so, the time is over, or the wait is ended; whether this is so. Meanwhile calls
+    /// that were put off are tried again, and callbacks that fall due by that run here. The lock is held,
+    /// but not all the time.
     pub fn sleep<'a>(
         &'a self,
         mut state: MutexGuard<'a, State>,
-        changed: &Arc<Condvar>,
+        waiting: &Waiting<'_>,
         until: Instant,
         mut is_so: impl FnMut(&mut State) -> bool,
     ) -> (MutexGuard<'a, State>, bool) {
         let number = state.sleepers.keys().last().map_or(0, |last| last + 1);
-        state.sleepers.insert(number, changed.clone());
+        state.sleepers.insert(number, waiting.bell.clone());
         loop {
             let mut is_now = is_so(&mut state);
             if !is_now && !state.late.is_empty() {
@@ -674,29 +699,14 @@ impl Shared {
                 is_now = is_so(&mut state);
             }
             let left = until.saturating_duration_since(Instant::now());
-            if is_now || left == Duration::from_secs(0) {
+            if is_now || waiting.is_cancelled() || left == Duration::from_secs(0) {
                 state.sleepers.remove(&number);
                 return (state, is_now);
             }
             let retry = Duration::from_millis(10);
             let time = if state.late.is_empty() { left } else { left.min(retry) };
-            state = changed.wait_timeout(state, time).unwrap_or_else(PoisonError::into_inner).0;
+            state = waiting.bell.wait(self, state, time, waiting);
         }
-    }
-
-    /// Waits until this is so, or the wait ends.
-    pub fn wait_until(
-        &self,
-        waiting: &Waiting<'_>,
-        changed: &Arc<Condvar>,
-        mut is_so: impl FnMut(&mut State) -> bool,
-    ) -> (MutexGuard<'_, State>, bool) {
-        let mut is_now = false;
-        let sleeps = self.sleep(self.raw(), changed, waiting.until, |state| {
-            is_now = is_so(state);
-            is_now || waiting.is_cancelled()
-        });
-        (sleeps.0, is_now)
     }
 
     pub fn raw(&self) -> MutexGuard<'_, State> {

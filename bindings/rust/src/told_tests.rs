@@ -1,7 +1,8 @@
 //! After each call of four clients that make what calls they like, the descriptors, what they tell of each
 //! end, and the counts of handles are compared with the core; in the second half also the bytes of a memory.
-use crate::account::Row;
+use crate::account::{Post, Row};
 use crate::descriptors::state_of;
+use crate::ffi::flag;
 use crate::record_tests::things::{Dice, Things};
 use crate::state::State;
 use crate::*;
@@ -46,6 +47,26 @@ fn compare_descriptors(state: &mut State) -> (u64, u64) {
         all += 1;
     }
     (lit, all)
+}
+
+/// What waits in the parcels of each client is what the core has in parcels: as many as it knows, and each
+/// end's node says so.
+fn compare_parcels(state: &mut State) {
+    let nodes = state.core.nodes().unwrap();
+    let mut ends = nodes.iter().filter(|n| n.flags & flag::IN_TRANSIT != 0).count();
+    for (client, place) in state.clients.clone() {
+        let account = state.account(place);
+        assert_eq!(account.posted.len() as u64, account.parcels, "the parcels of client {client}");
+        for post in account.posted.clone() {
+            if let Post::End(key) = post {
+                assert_eq!(state.receiver_of(key).map(|to| to.0), Some(client), "who gets {key}");
+                let node = state.core.node(key.words()).unwrap();
+                assert!(node.flags & flag::IN_TRANSIT != 0);
+                ends -= 1;
+            }
+        }
+    }
+    assert_eq!(ends, 0);
 }
 
 fn compare_counts(state: &mut State) {
@@ -103,6 +124,7 @@ fn tells_what_the_core_has(events: u64, memory: Option<Arc<Memory>>) {
             let mut state = service.0.lock();
             let seen = compare_descriptors(&mut state);
             compare_counts(&mut state);
+            compare_parcels(&mut state);
             (lit, all) = (lit + seen.0, all + seen.1);
         }
         drop(clients);

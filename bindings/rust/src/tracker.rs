@@ -1,6 +1,6 @@
 //! Trackers.
 use crate::state::{Shared, Watch};
-use crate::{Event, Patience, TrackerId};
+use crate::{Event, Patience, TrackerId, Waited};
 use std::fmt;
 use std::sync::atomic::Ordering;
 use std::sync::Arc;
@@ -29,15 +29,15 @@ impl Tracker {
 
     /// Waits until the tracker fires.
     pub fn wait(&self) -> Event {
-        self.wait_for(Patience::forever()).expect("the wait does not end before the firing")
+        self.wait_for(Patience::forever()).unwrap()
     }
 
-    /// Waits until the tracker fires; `None` if the wait ends first.
-    pub fn wait_for<'a>(&self, time: impl Into<Patience<'a>>) -> Option<Event> {
-        let waiting = time.into().begin(&self.shared, &self.watch.changed);
+    /// Waits until the tracker fires.
+    pub fn wait_for<'a>(&self, time: impl Into<Patience<'a>>) -> Waited<Event> {
+        let waiting = time.into().begin(&self.watch.bell);
         let is_so = |_: &mut _| self.poll().is_some();
-        drop(self.shared.wait_until(&waiting, &self.watch.changed, is_so));
-        self.poll()
+        drop(self.shared.sleep(self.shared.raw(), &waiting, waiting.until, is_so));
+        self.poll().map_or_else(|| waiting.none(), Waited::Done)
     }
 
     /// A file descriptor for `poll` or `epoll`, which becomes readable when the tracker fires. Each call

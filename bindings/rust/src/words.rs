@@ -288,7 +288,7 @@ pub struct Waits {
     pub node: Key,
     /// Its label, if it has one.
     pub label: Option<String>,
-    /// Who holds its end, or who gave it away if it is in a parcel (not the receiver).
+    /// Who holds its end, or who gave it away if it is in a parcel.
     pub holder: ClientId,
     /// The label of its holder, if this has one.
     pub holder_label: Option<String>,
@@ -298,6 +298,26 @@ pub struct Waits {
     pub is_in_parcel: bool,
     /// The event at which it was born.
     pub event: Event,
+    /// Whose parcels its end waits in, and who must collect it.
+    pub receiver: Option<ClientId>,
+    /// The label of its receiver, if this has one.
+    pub receiver_label: Option<String>,
+}
+
+/// A client that has handles on a buffer, or in whose parcels some wait.
+#[derive(Clone, Debug, PartialEq, Eq)]
+#[non_exhaustive]
+pub struct Holder {
+    /// The client.
+    pub client: ClientId,
+    /// Its label, if it has one.
+    pub label: Option<String>,
+    /// How many strong handles on the buffer it has open.
+    pub strong: u32,
+    /// How many weak ones.
+    pub weak: u32,
+    /// How many of either strength wait for it in parcels.
+    pub parcels: u32,
 }
 
 impl fmt::Display for Waits {
@@ -306,14 +326,15 @@ impl fmt::Display for Waits {
             Some(label) => f.write_str(label)?,
             None => self.node.fmt(f)?,
         }
-        let how = match (self.is_in_parcel, self.is_bound) {
-            (true, _) => "in a parcel of",
-            (_, true) => "held by",
-            _ => "a token of",
+        let (how, client, label) = match (self.receiver, self.is_in_parcel, self.is_bound) {
+            (Some(receiver), ..) => ("in a parcel for", receiver, &self.receiver_label),
+            (_, true, _) => ("in a parcel of", self.holder, &self.holder_label),
+            (_, _, true) => ("held by", self.holder, &self.holder_label),
+            _ => ("a token of", self.holder, &self.holder_label),
         };
-        match &self.holder_label {
+        match label {
             Some(label) => write!(f, " ({how} {label})"),
-            None => write!(f, " ({how} client {})", self.holder),
+            None => write!(f, " ({how} client {client})"),
         }
     }
 }
@@ -516,6 +537,8 @@ pub enum Error {
     BadCall(OutOfRange),
     /// The memory is of another service.
     MemoryInUse,
+    /// The value's client vanished. No event.
+    Vanished,
     /// The limit allows no further event.
     HistoryFull,
     /// Memory was refused; the same call may succeed later.
@@ -544,6 +567,7 @@ impl fmt::Display for Error {
             Error::BadLimits(range) => write!(f, "{}: {range}", name(0, 3)),
             Error::BadCall(range) => write!(f, "{}: {range}", name(0, 4)),
             Error::MemoryInUse => f.write_str("the memory is of another service"),
+            Error::Vanished => f.write_str("refused: the client vanished"),
             Error::HistoryFull => f.write_str(&name(0, 5)),
             Error::NoMemory => f.write_str(&name(0, 6)),
         }

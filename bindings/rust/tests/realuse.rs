@@ -3,6 +3,7 @@
 #![cfg(target_os = "linux")]
 use std::os::raw::{c_int, c_short, c_ulong};
 use std::os::unix::io::AsRawFd;
+use std::process::Stdio;
 use std::sync::atomic::{AtomicBool, AtomicU32, Ordering};
 use std::sync::{Arc, Mutex};
 use std::thread;
@@ -119,16 +120,18 @@ fn buffer_falls_idle() {
     frame.duplicate().unwrap().give(crashes.id()).unwrap();
     frame.on_idle(1, count(&calls)).unwrap();
     frame.on_idle(2, count(&calls)).unwrap();
-    assert_eq!((called(), frame.open_handles(), frame.wait_idle(2, SHORT)), (1, Ok(3), Ok(false)));
+    assert_eq!((called(), frame.open_handles()), (1, Ok(3)));
+    assert_eq!(frame.wait_idle(2, SHORT), Ok(Waited::TimeOver));
     let events = service.events();
     drop(b.collect().unwrap().unwrap().handle().unwrap());
-    assert_eq!((called(), frame.wait_idle(2, SHORT), service.events()), (2, Ok(true), events + 2));
+    assert_eq!((called(), frame.wait_idle(2, SHORT)), (2, Ok(Waited::Done(()))));
+    assert_eq!(service.events(), events + 2);
     thread::scope(|scope| {
         scope.spawn(|| {
             thread::sleep(Duration::from_millis(5));
             drop(crashes); // with the handle in its parcel
         });
-        assert_eq!(frame.wait_idle(1, LONG), Ok(true));
+        assert_eq!(frame.wait_idle(1, LONG), Ok(Waited::Done(())));
     });
     assert_eq!((called(), frame.open_handles()), (3, Ok(1)));
     let fd = camera.fd().unwrap(); // its node is allocated
@@ -164,8 +167,8 @@ fn descriptor_tells_of_everything() {
     mine.set_constraints(asks(1, 4096)).unwrap();
     assert!(mine.waits_for().unwrap().len() == 1 && !is_readable(&fd));
     let events = service.events();
-    assert_eq!(mine.wait_allocated(SHORT), Ok(None));
-    assert!(a.collect_for(SHORT).unwrap().is_none());
+    assert_eq!(mine.wait_allocated(SHORT), Ok(Waited::TimeOver));
+    assert!(matches!(a.collect_for(SHORT), Ok(Waited::TimeOver)));
     assert_eq!(service.events(), events);
     kid.set_constraints(asks(1, 4096)).unwrap();
     assert!(is_readable(&fd) && is_readable(&other) && mine.waits_for().unwrap().is_empty());
@@ -199,9 +202,17 @@ fn descriptor_tells_of_everything() {
     assert!(!is_readable(&fd) && a.pending().is_empty()); // it has no ends any more
 }
 
-#[test]
-fn wait_is_cancelled() {
-    let service = Service::open(Options::default()).unwrap();
+/// A recorder may end waits, which runs under the lock.
+fn wait_is_cancelled_by(recorder: bool) {
+    let cancel = Cancel::new();
+    let is_time = Arc::new(AtomicBool::new(false));
+    let (ends, now) = (cancel.clone(), is_time.clone());
+    let record: Record = Arc::new(move |_| {
+        if now.load(Ordering::SeqCst) {
+            ends.cancel();
+        }
+    });
+    let service = Service::open(Options { record: Some(record), ..Options::default() }).unwrap();
     let a = service.join().unwrap();
     let alone = a.open_root("").unwrap();
     let gone = alone.track_node().unwrap();
@@ -209,23 +220,120 @@ fn wait_is_cancelled() {
     let c = allocated(&a, asks(1, 1));
     let (frame, _other) = (take(&c).pop().unwrap(), take(&c));
     let events = service.events();
-    let cancel = Cancel::new();
     let start = Instant::now();
     thread::scope(|scope| {
         let all = [
-            scope.spawn(|| a.collect_for(&cancel).unwrap().is_none()),
-            scope.spawn(|| alone.wait_allocated(cancel.within(LONG)) == Ok(None)),
-            scope.spawn(|| gone.wait_for(&cancel).is_none()),
-            scope.spawn(|| frame.wait_idle(1, cancel.within(LONG)) == Ok(false)),
+            scope.spawn(|| a.collect_for(&cancel).unwrap().is_cancelled()),
+            scope.spawn(|| alone.wait_allocated(cancel.within(LONG)) == Ok(Waited::Cancelled)),
+            scope.spawn(|| gone.wait_for(&cancel).is_cancelled()),
+            scope.spawn(|| frame.wait_idle(1, cancel.within(LONG)) == Ok(Waited::Cancelled)),
         ];
         thread::sleep(Duration::from_millis(20));
-        cancel.clone().cancel();
+        if recorder {
+            is_time.store(true, Ordering::SeqCst);
+            c.sync().unwrap();
+        } else {
+            cancel.clone().cancel();
+        }
         all.into_iter().for_each(|one| assert!(one.join().unwrap()));
     });
-    assert!(start.elapsed() < LONG && cancel.is_cancelled() && service.events() == events);
-    assert!(a.collect_for(&cancel).unwrap().is_none()); // and those that come later
+    assert!(start.elapsed() < LONG && cancel.is_cancelled());
+    assert!(matches!(a.collect_for(&cancel), Ok(Waited::Cancelled))); // and those that come later
+    assert_eq!(service.events(), events + u64::from(recorder));
+    assert_eq!(frame.wait_idle(2, &cancel), Ok(Waited::Done(()))); // it is so
     alone.close();
-    assert!(gone.wait_for(&cancel).is_some());
+    assert!(gone.wait_for(&cancel).is_done());
+}
+
+#[test]
+fn wait_is_cancelled() {
+    wait_is_cancelled_by(false);
+    wait_is_cancelled_by(true);
+}
+
+#[test]
+fn cancel_has_a_descriptor() {
+    let cancel = Cancel::new();
+    let fd = cancel.fd().unwrap();
+    assert_eq!(
+        (cancel.clone().fd().unwrap().as_raw_fd(), is_readable(&fd)),
+        (fd.as_raw_fd(), false)
+    );
+    thread::scope(|scope| {
+        scope.spawn(|| {
+            thread::sleep(Duration::from_millis(5));
+            cancel.cancel();
+        });
+        let mut one = PollFd(fd.as_raw_fd(), 1, 0);
+        assert_eq!(unsafe { poll(&mut one, 1, 30_000) }, 1);
+    });
+    cancel.cancel();
+    assert!(is_readable(&fd));
+    let late = Cancel::new();
+    late.cancel();
+    assert!(is_readable(&late.fd().unwrap()));
+}
+
+#[test]
+fn receiver_of_a_parcel_is_named() {
+    let service = Service::open(Options::default()).unwrap();
+    let (a, b) = (service.join_as("a").unwrap(), service.join_as("b").unwrap());
+    let root = a.open_root("root").unwrap();
+    a.open_root("").unwrap().give(b.id()).unwrap(); // two parcels come before
+    take(&allocated(&a, asks(1, 1))).pop().unwrap().give(b.id()).unwrap();
+    root.duplicate("kid").unwrap().give(b.id()).unwrap();
+    let root = root.bind().unwrap();
+    let waits = || root.waits_for().unwrap().pop().unwrap();
+    let told = waits();
+    assert_eq!((told.holder, told.receiver), (a.id(), Some(b.id()))); // b must collect it
+    assert_eq!(told.to_string(), "kid (in a parcel for b)");
+    assert!(b.collect().unwrap().unwrap().token().is_ok());
+    assert!(b.collect().unwrap().unwrap().handle().is_ok());
+    assert_eq!(waits(), told);
+    let kid = b.collect().unwrap().unwrap().token().unwrap();
+    assert_eq!((waits().holder, waits().receiver), (b.id(), None));
+    let c = service.join().unwrap();
+    kid.give(c.id()).unwrap();
+    drop(b);
+    assert_eq!(waits().to_string(), format!("kid (in a parcel for client {})", c.id()));
+}
+
+#[test]
+fn holders_of_a_buffer_are_named() {
+    let service = Service::open(Options::default()).unwrap();
+    let (a, b) = (service.join_as("a").unwrap(), service.join_as("b").unwrap());
+    let c = service.join().unwrap();
+    let root = a.open_root("").unwrap();
+    let watcher = root.duplicate("").unwrap();
+    watcher.set_weak().unwrap();
+    let (strong, weak) = (root.bind().unwrap(), watcher.bind().unwrap());
+    strong.set_constraints(asks(2, 1)).unwrap();
+    weak.set_constraints(asks(0, 1)).unwrap();
+    let (all, mut eyes) = (take(&strong), take(&weak));
+    let (first, second) = (all[0].buffer(), all[1].buffer());
+    let nobodys = Buffer { collection: 99, index: 0 };
+    assert_eq!((service.holders(nobodys), service.all_open_handles(nobodys)), (vec![], 0));
+    let more = all[0].duplicate().unwrap();
+    all[0].duplicate().unwrap().give(b.id()).unwrap();
+    eyes.remove(0).give(c.id()).unwrap();
+    let holders = |buffer| {
+        let all = service.holders(buffer).into_iter();
+        all.map(|h| (h.client, h.label, h.strong, h.weak, h.parcels)).collect::<Vec<_>>()
+    };
+    let (called_a, called_b) = (Some("a".to_string()), Some("b".to_string()));
+    let mut told = vec![
+        (a.id(), called_a.clone(), 2, 0, 0),
+        (b.id(), called_b, 0, 0, 1),
+        (c.id(), None, 0, 0, 1),
+    ];
+    assert_eq!((holders(first), service.all_open_handles(first)), (told.clone(), 4));
+    assert_eq!(more.open_handles(), Ok(4));
+    let _there = c.collect().unwrap().unwrap().handle().unwrap();
+    told[2] = (c.id(), None, 0, 1, 0);
+    assert_eq!((holders(first), service.all_open_handles(first)), (told, 4));
+    assert_eq!(holders(second), [(a.id(), called_a, 1, 1, 0)]);
+    drop(c);
+    assert_eq!((holders(first).len(), service.all_open_handles(first)), (2, 3));
 }
 
 #[test]
@@ -280,7 +388,13 @@ fn few_events_are_left_for_those_who_let_go() {
     assert!(matches!(c.track_node(), Err(Error::HistoryFull)));
     assert!(matches!(a.open_root(""), Err(Error::HistoryFull)));
     all.pop().unwrap().give(b.id()).unwrap();
-    drop((a, b, c, all));
+    drop(a);
+    assert_eq!(
+        (c.take().err(), all[0].duplicate().err()),
+        (Some(Error::Vanished), Some(Error::Vanished))
+    );
+    assert!(matches!(c.track_node(), Err(Error::Vanished)));
+    drop((b, c, all));
     assert!(service.is_settled() && service.live() == Ok(vec![]) && service.free_pages() == 16);
 
     let service = Service::open(Options { events: Some(8), ..Options::default() }).unwrap();
@@ -335,7 +449,7 @@ fn recorder_that_panics_ends_the_transcript() {
     assert_eq!(service.transcript(), kept);
 }
 
-/// Run again as a program of its own: what it writes to standard error.
+/// Run again as a program of its own: what it writes to standard error, also where nobody reads it.
 #[test]
 fn standard_error_says_what_happens() {
     if std::env::var_os("SYSMEM_CHILD").is_some() {
@@ -343,12 +457,23 @@ fn standard_error_says_what_happens() {
         let service = Service::open(Options { slow, ..Options::default() }).unwrap();
         let app = service.join_as("app").unwrap();
         let view = app.open_root("view").unwrap().bind().unwrap();
-        assert_eq!(view.wait_allocated(10 * SHORT), Ok(None));
+        assert_eq!(view.wait_allocated(10 * SHORT), Ok(Waited::TimeOver));
+        assert_eq!(view.wait_allocated(10 * SHORT), Ok(Waited::TimeOver));
         return;
     }
     let words = ["--exact", "standard_error_says_what_happens", "--nocapture"];
-    let mut child = std::process::Command::new(std::env::current_exe().unwrap());
-    let ran = child.args(words).env("SYSMEM_CHILD", "1").env("SYSMEM_DEBUG", "1").output().unwrap();
+    let run = |is_read: bool| {
+        let mut child = std::process::Command::new(std::env::current_exe().unwrap());
+        child.args(words).env("SYSMEM_CHILD", "1").env("SYSMEM_DEBUG", "1");
+        child.stdout(Stdio::null()).stderr(Stdio::piped());
+        let mut child = child.spawn().unwrap();
+        if !is_read {
+            drop(child.stderr.take());
+        }
+        child.wait_with_output().unwrap()
+    };
+    assert!(run(false).status.success());
+    let ran = run(true);
     let said = String::from_utf8(ran.stderr).unwrap();
     assert!(ran.status.success(), "{said}");
     assert!(said.contains("app join\n  joined\napp open view\n  token view\n"), "{said}");

@@ -89,7 +89,7 @@ fn dropped_client_vanishes() {
     drop(b);
     assert_eq!((service.live().unwrap().len(), service.free_pages()), (0, 16));
     assert!(matches!(root.sync(), Err(Error::PeerClosed { label: Some(l), .. }) if l == "parcel"));
-    assert_eq!(kept.check(), Err(Error::Refused(Refusal::NoSuchEnd)));
+    assert_eq!(kept.check(), Err(Error::Vanished));
     let before = service.events();
     drop((handles, other, kept));
     assert_eq!(service.events(), before);
@@ -151,7 +151,7 @@ fn trackers_and_waits() {
             heard.1.store(service.free_pages(), Ordering::SeqCst);
         }
     });
-    assert_eq!(node.wait_for(SHORT), None);
+    assert_eq!(node.wait_for(SHORT), Waited::TimeOver);
     mine.set_constraints(asks(1, 4096)).unwrap();
     let before = service.events();
     let start = Instant::now();
@@ -163,7 +163,7 @@ fn trackers_and_waits() {
             theirs.release().unwrap();
         });
         let given = mine.wait_allocated(LONG);
-        assert_eq!(given, Ok(Some(Allocation { count: 2, size: 8192 })));
+        assert_eq!(given, Ok(Waited::Done(Allocation { count: 2, size: 8192 })));
     });
     assert!(start.elapsed() < LONG - Duration::from_secs(1)); // told, and not by the end of its time
     assert!(service.events() <= before + 4 + 3);
@@ -174,7 +174,7 @@ fn trackers_and_waits() {
     assert_eq!((heard.0.load(Ordering::SeqCst), heard.1.load(Ordering::SeqCst)), (event, 12));
     assert_eq!(life.poll(), None);
     thread::scope(|scope| {
-        let waits = scope.spawn(|| life.wait_for(4 * LONG).map(|_| life.wait()));
+        let waits = scope.spawn(|| life.wait_for(4 * LONG).done().map(|_| life.wait()));
         thread::sleep(Duration::from_millis(20));
         let start = Instant::now();
         drop(handles);
@@ -182,9 +182,10 @@ fn trackers_and_waits() {
         assert!(start.elapsed() < LONG);
     });
     let alone = a.open_root("").unwrap().bind().unwrap();
-    assert_eq!(alone.wait_allocated(SHORT), Ok(None));
-    assert_eq!(alone.wait_allocated(SHORT), Ok(None));
-    assert!(a.collect_for(SHORT).unwrap().is_none());
+    assert_eq!(alone.wait_allocated(SHORT), Ok(Waited::TimeOver));
+    assert_eq!(alone.wait_allocated(SHORT), Ok(Waited::TimeOver));
+    assert!(matches!(a.collect_for(SHORT), Ok(Waited::TimeOver)));
+    assert_eq!(Option::from(life.wait_for(SHORT)), life.poll());
 }
 
 #[test]
@@ -260,7 +261,7 @@ fn core_outlives_its_service() {
     assert_eq!(root.sync(), Ok(()));
     drop(a);
     assert!(tracker.poll().is_some());
-    assert_eq!(root.sync(), Err(Error::Refused(Refusal::NoSuchEnd)));
+    assert_eq!(root.sync(), Err(Error::Vanished));
 }
 
 #[test]
@@ -304,17 +305,38 @@ fn labels_of_forgotten_nodes_go_first() {
 }
 
 #[test]
-fn call_on_a_dead_value_is_refused() {
+fn call_on_a_value_of_a_client_that_vanished_says_so() {
     let service = service();
     let a = service.join().unwrap();
+    let (token, other) = (a.open_root("").unwrap(), a.open_root("").unwrap());
     let kept = bound(&a, asks(1, 1));
-    let mut handles = kept.take().unwrap().unwrap();
+    let handle = kept.take().unwrap().unwrap().pop().unwrap();
     drop(a);
     let before = service.events();
-    let handle = handles.pop().unwrap();
-    assert_eq!(handle.duplicate().err(), Some(Error::Refused(Refusal::NoSuchHandle)));
-    assert_eq!(kept.release(), Err(Error::Refused(Refusal::NoSuchEnd)));
-    assert_eq!(service.events(), before + 2);
-    drop(handle);
-    assert_eq!(service.events(), before + 2);
+    fn says<T>(told: Result<T, impl Into<Error>>) {
+        let error = told.err().unwrap().into();
+        assert_eq!(
+            (&error, error.to_string().as_str()),
+            (&Error::Vanished, "refused: the client vanished")
+        );
+    }
+    says(kept.sync());
+    says(kept.check());
+    says(kept.take());
+    says(kept.wait_allocated(LONG));
+    says(kept.waits_for());
+    says(kept.attach_token(""));
+    says(kept.track_lifetime(0));
+    says(token.duplicate(""));
+    says(token.give(1));
+    says(other.bind());
+    says(handle.duplicate());
+    says(handle.pages());
+    says(handle.open_handles());
+    says(handle.tell_idle(9));
+    says(handle.wait_idle(9, LONG));
+    says(handle.track_weak());
+    says(handle.give(1));
+    says(kept.release());
+    assert_eq!(service.events(), before); // nor is a drop an event
 }

@@ -66,8 +66,8 @@ impl Things {
             0 => self.tokens.push(client.open_root("root")?),
             1 | 2 => {
                 let got = match dice.upto(4) {
-                    0 => client.collect_for(Duration::from_micros(20))?,
-                    1 => client.collect_for(&over())?,
+                    0 => client.collect_for(Duration::from_micros(20))?.done(),
+                    1 => client.collect_for(&over())?.done(),
                     _ => client.collect()?,
                 };
                 got.into_iter().for_each(|parcel| self.keep(parcel));
