@@ -1,0 +1,160 @@
+// Waits, messages and descriptors on sockets. Nothing here is for callers.
+#ifndef SYSMEM_REMOTE_SOCKET_HPP
+#define SYSMEM_REMOTE_SOCKET_HPP
+
+#include "words.hpp"
+
+#include <cerrno>
+#include <fcntl.h>
+#include <poll.h>
+#include <sys/socket.h>
+#include <sys/un.h>
+#include <unistd.h>
+
+namespace sysmem {
+inline namespace SYSMEM_INLINE {
+namespace remote {
+namespace detail {
+
+// 1: ready, 0: the time is over, -1: it can't be.
+inline int await(int fd, short events, Clock::time_point until) {
+    for (;;) {
+        auto left = std::chrono::duration_cast<std::chrono::nanoseconds>(until - Clock::now()).count();
+        if (left < 0) left = 0;
+        timespec time{time_t(left / 1000000000), long(left % 1000000000)};
+        pollfd one{fd, events, 0};
+        int n = ppoll(&one, 1, until == Clock::time_point::max() ? nullptr : &time, nullptr);
+        if (n >= 0) return n;
+        if (errno != EINTR) return -1;
+    }
+}
+
+// Descriptors that came along, at most as many as a message of the daemon has. Those that nobody takes are closed.
+class Fds {
+public:
+    Fds() = default;
+    Fds(Fds &&other) noexcept { *this = std::move(other); }
+    Fds &operator=(Fds &&other) noexcept {
+        close();
+        std::memcpy(all, other.all, sizeof(int) * other.count);
+        count = std::exchange(other.count, 0);
+        return *this;
+    }
+    ~Fds() { close(); }
+    int take(std::size_t i) { return i < count ? std::exchange(all[i], -1) : -1; }
+    void read(const cmsghdr &c) {
+        close();
+        count = std::min<std::size_t>(128, (c.cmsg_len - CMSG_LEN(0)) / sizeof(int));
+        std::memcpy(all, CMSG_DATA(&c), sizeof(int) * count);
+    }
+
+private:
+    void close() {
+        for (std::size_t i = 0; i < count; i++)
+            if (all[i] >= 0) ::close(all[i]);
+        count = 0;
+    }
+    int all[128];
+    std::size_t count = 0;
+};
+
+// A message of the daemon: a reply, and what follows if it is a list.
+struct Message {
+    Message() = default;
+    Message(Message &&other) noexcept { *this = std::move(other); }
+    Message &operator=(Message &&other) noexcept {
+        length = other.length;
+        if (length > 0) std::memcpy(&words, &other.words, std::size_t(length)); // most have no list
+        fds = std::move(other.fds);
+        sender = other.sender;
+        return *this;
+    }
+    sysmemd_list words;
+    ssize_t length = 0;
+    Fds fds;
+    ucred sender{}; // if the socket has SO_PASSCRED
+    const sysmemd_reply &reply() const { return words.reply; }
+};
+
+// Reads one message. 1: there is one, 0: the time is over, -1: the socket ended.
+inline int read_message(int fd, Message &m, Clock::time_point until) {
+    for (int resets = 0;;) {
+        int is = await(fd, POLLIN, until); // before recvmsg, since the program's event loop may have set O_NONBLOCK
+        if (is <= 0) return is;
+        iovec part{&m.words, sizeof m.words};
+        alignas(cmsghdr) char space[CMSG_SPACE(sizeof(int) * 128) + CMSG_SPACE(sizeof(ucred))];
+        msghdr h{};
+        h.msg_iov = &part;
+        h.msg_iovlen = 1;
+        h.msg_control = space;
+        h.msg_controllen = sizeof space;
+        m.length = recvmsg(fd, &h, MSG_CMSG_CLOEXEC | MSG_DONTWAIT);
+        if (m.length < 0 && (errno == EINTR || errno == EAGAIN)) continue;
+        if (m.length < 0 && errno == ECONNRESET && resets++ == 0) continue; // what was sent before it follows
+        if (m.length <= 0) return -1;
+        for (cmsghdr *c = CMSG_FIRSTHDR(&h); c; c = CMSG_NXTHDR(&h, c)) {
+            if (c->cmsg_level != SOL_SOCKET) continue;
+            if (c->cmsg_type == SCM_RIGHTS) m.fds.read(*c);
+            if (c->cmsg_type == SCM_CREDENTIALS) std::memcpy(&m.sender, CMSG_DATA(c), sizeof m.sender);
+        }
+        if (m.length < ssize_t(sizeof m.words.reply)) return -1; // no daemon of this version
+        if (h.msg_flags & MSG_CTRUNC) {                          // this process has no descriptor left
+            m.words.reply.kind = SYSMEMD_FAULT;
+            m.words.reply.detail = SYSMEM_NO_MEMORY;
+        }
+        return 1;
+    }
+}
+
+// Sends one descriptor over a socket of whatever kind.
+inline Result<void> send_fd(int socket, int fd) {
+    char byte = 's';
+    iovec part{&byte, 1};
+    alignas(cmsghdr) char space[CMSG_SPACE(sizeof(int))];
+    msghdr m{};
+    m.msg_iov = &part;
+    m.msg_iovlen = 1;
+    m.msg_control = space;
+    m.msg_controllen = sizeof space;
+    cmsghdr *c = CMSG_FIRSTHDR(&m);
+    c->cmsg_level = SOL_SOCKET;
+    c->cmsg_type = SCM_RIGHTS;
+    c->cmsg_len = CMSG_LEN(sizeof(int));
+    std::memcpy(CMSG_DATA(c), &fd, sizeof fd);
+    ssize_t n;
+    do n = sendmsg(socket, &m, MSG_NOSIGNAL);
+    while (n < 0 && errno == EINTR);
+    if (n == 1) return {};
+    return ended(Ending::NoReceiver, std::strerror(errno));
+}
+
+// A descriptor that came over a socket; -1 if the socket ended, -2 if the time is over.
+inline int receive_fd(int socket, Clock::time_point until) {
+    for (int bytes = 0;;) {
+        if (bytes++ > 0 && Clock::now() >= until) return -2; // also if the peer sends bytes without end
+        int is = await(socket, POLLIN, until);
+        if (is <= 0) return is == 0 ? -2 : -1;
+        char byte = 0;
+        iovec part{&byte, 1};
+        alignas(cmsghdr) char space[CMSG_SPACE(sizeof(int))];
+        msghdr m{};
+        m.msg_iov = &part;
+        m.msg_iovlen = 1;
+        m.msg_control = space;
+        m.msg_controllen = sizeof space;
+        ssize_t n = recvmsg(socket, &m, MSG_CMSG_CLOEXEC | MSG_DONTWAIT);
+        if (n < 0 && (errno == EINTR || errno == EAGAIN)) continue;
+        if (n <= 0) return -1;
+        int fd = -1;
+        cmsghdr *c = CMSG_FIRSTHDR(&m);
+        if (c && c->cmsg_level == SOL_SOCKET && c->cmsg_type == SCM_RIGHTS) std::memcpy(&fd, CMSG_DATA(c), sizeof fd);
+        if (fd >= 0) return fd;
+    }
+}
+
+} // namespace detail
+} // namespace remote
+} // namespace SYSMEM_INLINE
+} // namespace sysmem
+
+#endif

@@ -1,0 +1,22 @@
+#!/bin/sh
+# Runs the examples against a daemon under sanitizers, that of three processes five times; the program of the page is that of
+# examples/first.cpp, and prints what the page shows.
+set -e
+build=$1 page=$2
+run=$(mktemp -d)
+"$build/sysmemd.address" --socket "$run/s" &
+daemon=$!
+trap 'kill $daemon; wait $daemon; rm -rf "$run"' EXIT
+while [ ! -S "$run/s" ]; do sleep 0.05; done
+export SYSMEM_SOCKET="$run/s"
+for i in 1 2 3 4 5; do
+  timeout 300 "$build/three" | sort | diff examples/three.out -
+done
+timeout 300 "$build/raw" | diff examples/raw.out -
+blocks() { # the code blocks of this language on the page
+  awk -v language="$1" '/^```/ { is_in = !is_in; named = substr($0, 4); next } is_in && named == language' "$page"
+}
+blocks cpp | diff examples/first.cpp -
+timeout 300 "$build/first" >"$run/told" 2>/dev/null
+blocks '' | diff - "$run/told"
+echo "examples ok"

@@ -1,0 +1,141 @@
+#!/usr/bin/env python3
+"""Tries wrong daemons and clients: each has to be caught by a test.
+
+    make && ./wrong.py [WORD..]      takes some half an hour
+    ./wrong.py --apply               says only which of them no longer apply
+
+A wrong one is a text of a file that is replaced by another, with the tests that should catch it. With words, those whose
+names have one of them are tried. The last line counts."""
+import concurrent.futures
+import os
+import shutil
+import subprocess
+import sys
+import tempfile
+
+HERE = os.path.dirname(os.path.abspath(__file__))
+LIBRARY = os.environ.get("LIBRARY", f"{HERE}/../bindings/build/libsysmem.a")
+WRAPS = "sysmem_step send sendmsg setsockopt fallocate"
+
+# To serve an event of a former socket for its successor is not among them: it reads where nothing is, and does no harm.
+# the file, what is wrong, the text, what stands in its place, the tests
+WRONG = [
+    ("src/hangups.cpp", "late calls are forgotten", "if (!give_up(o)) put_off(o);", "(void)give_up(o);", "late_calls"),
+    ("src/hangups.cpp", "late calls are not tried again", "        if (give_up(*o)) continue;\n        put_off(*o);\n        return;", "        return;", "late_calls"),
+    ("src/messages.cpp", "sends wait", "sendmsg(o.fd, &m, MSG_DONTWAIT | MSG_NOSIGNAL)", "sendmsg(o.fd, &m, MSG_NOSIGNAL)", "late_calls"),
+    ("src/messages.cpp", "sends raise signals", "sendmsg(o.fd, &m, MSG_DONTWAIT | MSG_NOSIGNAL)", "sendmsg(o.fd, &m, MSG_DONTWAIT)", "late_calls"),
+    ("src/messages.cpp", "a full socket stays", "if (why == EAGAIN) cut(o, SYSMEMD_UNREAD);", "", "full_sockets"),
+    ("src/sockets.cpp", "hangups of former sockets end new ones", "if (!o || o->stamp != stamp) return;", "(void)stamp;\n    if (!o) return;\n    if (events & EPOLLHUP) return hang_up(*o), sweep();", "stale_events"),
+    ("src/requests.cpp", "a claim finds what is cut", "at == by_cookie.end() || at->second->is_cut ? nullptr", "at == by_cookie.end() ? nullptr", "cut_and_claimed"),
+    ("src/requests.cpp", "a claim needs no offer", "found && number != 0 && found->offer == number ? found : nullptr", "found", "stolen"),
+    ("src/requests.cpp", "a claim moves before it delivers", "    ::close(two[1]);\n    move_to", "    move_to", "exhausted travels crowd"),
+    ("src/requests.cpp", "copies of a claimed socket stay", "    ::close(o.fd);\n    o.fd = fd;", "    o.fd = fd;", "stolen"),
+    ("src/requests.cpp", "a claimed end is not told of its failure", "    if (o.is == Is::End && (static_cast", "    if (false && (static_cast", "stolen"),
+    ("src/requests.cpp", "a claimed tracker is not told that it fired", "    if (o.is == Is::Tracker && static_cast", "    if (false && static_cast", "trackers"),
+    ("src/requests.cpp", "unread fields may be anything", "    return ((reads & SIZE) || !q.size) && ", "    return true || ", "malformed"),
+    ("src/requests.cpp", "labels of ops without one", "    if (!(reads & LABEL))\n", "    if (false)\n", "malformed"),
+    ("src/requests.cpp", "requests before Hello", "if (!o.domain && q.op != SYSMEMD_HELLO) return false;", "", "fuzzed malformed"),
+    ("src/hangups.cpp", "silent connections stay", "        cut(c, SYSMEMD_LATE);", "", "half_open"),
+    ("src/connections.cpp", "any version", "if (q.left != SYSMEMD_VERSION) return", "if (false) return", "malformed"),
+    ("src/connections.cpp", "a uid may have all descriptors", "return d.descriptors + more <= left;", "return more <= left;", "exhausted"),
+    ("src/connections.cpp", "connections are not counted", "callers[peer.uid]++;", "callers[peer.uid] = 1;", "uid_limits half_open"),
+    ("src/sockets.cpp", "no shares of a round", "if (spent >= options.share) return;", "", "shares"),
+    ("src/sockets.cpp", "descriptors are received", "    setsockopt(fd, SOL_SOCKET, SO_PASSRIGHTS, &off, sizeof off);", "    (void)off;", "lingering malformed"),
+    ("src/sockets.cpp", "nothing is choked", "return ioctl(o.fd, SIOCOUTQ, &unread) == 0 && (unread + 1) * 4 > room;", "return false && unread;", "unread"),
+    ("src/hangups.cpp", "a hangup releases", "call_on(e.is_undelivered ? SYSMEM_RELEASE : SYSMEM_CLOSE, e.key)", "call_on(SYSMEM_RELEASE, e.key)", "travels"),
+    ("src/hangups.cpp", "a hangup of a lease drops nothing", "Answer a = raw_step(d, c);\n    if (a.code == SYSMEM_NO_MEMORY) return false;\n    if (a.code != SYSMEM_DONE) say(\"uid %u: a handle", "Answer a;\n    if (a.code == SYSMEM_NO_MEMORY) return false;\n    if (a.code != SYSMEM_DONE) say(\"uid %u: a handle", "life"),
+    ("src/hangups.cpp", "who waits is not told of a drop", "    tell_idle(t, index);\n    settle", "    settle", "life"),
+    ("src/leases.cpp", "any number is idle", "|| b.open > l->most) continue;", ") continue;", "idle"),
+    ("src/leases.cpp", "an event of an earlier wait", "r.set = l->wait;", "r.set = 1;", "idle"),
+    ("src/leases.cpp", "buffers share a memory", "    if (b.memory >= 0) return true;", "    if (&b != &t.buffers[0] && t.buffers[0].memory >= 0) return b.memory = dup(t.buffers[0].memory), d.memories++, d.descriptors++, files++, true;\n    if (b.memory >= 0) return true;", "life"),
+    ("src/leases.cpp", "memory may shrink", "F_SEAL_SHRINK | F_SEAL_GROW | F_SEAL_SEAL", "F_SEAL_GROW | F_SEAL_SEAL", "life"),
+    ("src/leases.cpp", "others may be sealed out", "F_SEAL_SHRINK | F_SEAL_GROW | F_SEAL_SEAL", "F_SEAL_SHRINK | F_SEAL_GROW", "life"),
+    ("src/leases.cpp", "memory stays", "        if (!(set >> i & 1)) forget_memory", "        if (false) forget_memory", "life"),
+    ("src/leases.cpp", "memory goes while it is held", "        if (!(set >> i & 1)) forget_memory", "        if (true || !(set >> i & 1)) forget_memory", "life killed"),
+    ("src/leases.cpp", "memory is wiped", "    ::close(b.memory);\n", "    fallocate(b.memory, FALLOC_FL_PUNCH_HOLE | FALLOC_FL_KEEP_SIZE, 0, 4096);\n    ::close(b.memory);\n", "locked_file"),
+    ("src/leases.cpp", "nothing is reserved", "(options.reserves && fallocate(file, 0, 0, off_t(length)))", "false", "reserved"),
+    ("src/leases.cpp", "a strong handle tracks", "if (l.strength != SYSMEM_WEAK) return", "if (false) return", "answers"),
+    ("src/events.cpp", "failures are not told", "        tell_failed(e);\n    }\n}", "    }\n}", "travels"),
+    ("src/events.cpp", "allocations are not told", "        sysmem_given(&e.domain->core, e.tree->id, &r.count, &r.size);\n        send(e, r);", "        sysmem_given(&e.domain->core, e.tree->id, &r.count, &r.size);", "life"),
+    ("src/events.cpp", "firings are told to nobody", "            tell_fired(*t);\n        }", "        }", "answers"),
+    ("src/ends.cpp", "a bound end is a token", "e.is_bound = true;", "", "travels"),
+    ("src/ends.cpp", "a refused release closes", "        e.is_undelivered = true; // it is released once there is memory\n", "", "late_calls"),
+    ("src/lists.cpp", "lists begin anew", "std::min<std::size_t>(q.left, all.size())", "std::size_t(0)", "lists"),
+    ("src/listener.cpp", "an old kernel does not matter", "if (options.is_old_ok) return made;", "return made;", "old_kernel"),
+    ("src/listener.cpp", "files are removed", "if (lstat(path.c_str(), &is) == 0 && !S_ISSOCK(is.st_mode)) {", "if (false) {", "options"),
+    ("include/sysmem_remote/link.hpp", "an old IDLE answers", "if (r.set != armed) return false;", "", "idle"),
+    ("include/sysmem_remote/link.hpp", "waits are not armed again", "is_to_arm |= !i->is_done;", "", "many_idle"),
+    ("include/sysmem_remote/link.hpp", "what calls read lights nothing", "    void note() {\n        is_untold = is_news = true;\n        hub->light();", "    void note() {\n        is_untold = is_news = true;", "pending"),
+    ("include/sysmem_remote/link.hpp", "ended sockets are watched", "if (is_over) hub->unwatch(*this);", "", "pending"),
+    ("include/sysmem_remote/link.hpp", "calls wait for ever", "        auto until = hub->until();\n        std::unique_lock", "        auto until = Clock::time_point::max();\n        std::unique_lock", "deadline"),
+    ("include/sysmem_remote/socket.hpp", "bytes without end", "if (bytes++ > 0 && Clock::now() >= until) return -2;", "(void)bytes;", "noisy_peers"),
+    ("include/sysmem_remote/socket.hpp", "no wait before a read", "int is = await(fd, POLLIN, until); // before", "int is = 1; // before", "nonblocking"),
+    ("include/sysmem_remote.hpp", "strangers are written to", "return peer.pid == daemon.pid && peer.uid == daemon.uid;", "return true;", "strangers"),
+    ("include/sysmem_remote.hpp", "no look for room", "if (spare < 0 || getrandom", "if (getrandom", "full_table"),
+    ("include/sysmem_remote.hpp", "a fault loses what came", "inbox->keep(socket, fd);", "::close(fd);", "full_table"),
+]
+
+
+def run(words, **more):
+    """Runs a command; its output if it fails, and None if it does not."""
+    done = subprocess.run(words, capture_output=True, text=True, errors="replace", **more)
+    return (done.stdout + done.stderr)[-600:] or "failed" if done.returncode else None
+
+
+def try_one(room, number, path, name, old, new, tests):
+    """Says which test catches it."""
+    folder = f"{room}/{number}"
+    shutil.copytree(HERE, folder, ignore=shutil.ignore_patterns("build"))
+    if path.startswith("src") and os.path.isdir(f"{HERE}/build/plain"):  # make compiles what is newer
+        shutil.copytree(f"{HERE}/build/plain", f"{folder}/build/plain")
+    with open(f"{folder}/{path}") as file:
+        text = file.read()
+    if old not in text:
+        return "DOES NOT APPLY"
+    with open(f"{folder}/{path}", "w") as file:
+        file.write(text.replace(old, new, 1))
+    top = os.path.realpath(f"{HERE}/..")
+    make = ["make", "-s", "-C", folder, f"top={top}", f"lib={LIBRARY}"]
+    if path.startswith("src"):  # the tests stay as they are
+        made = run([*make, "build/sysmemd", "build/sysmemd.wrapped"])
+        program, daemon = f"{HERE}/build/tests", f"{folder}/build"
+    else:
+        made = run([*make, "build/tests"])
+        program, daemon = f"{folder}/build/tests", f"{HERE}/build"
+    if made:
+        return f"DOES NOT BUILD: {made}"
+    environment = dict(os.environ, SYSMEMD=f"{daemon}/sysmemd", WRAPPED=f"{daemon}/sysmemd.wrapped")
+    for test in tests.split():
+        try:
+            if run([program, test], env=environment, timeout=100):
+                return f"caught by {test}"
+        except subprocess.TimeoutExpired:
+            return f"caught by {test}, which hangs"
+    return "SURVIVES"
+
+
+def apply():
+    """Says whose text stands in its file no longer, and answers the status."""
+    lost = [name for path, name, old, *_ in WRONG if old not in open(f"{HERE}/{path}").read()]
+    for name in lost:
+        print(f"{name}: does not apply")
+    print(f"{len(WRONG) - len(lost)} wrong daemons apply, {len(lost)} do not")
+    return 1 if lost else 0
+
+
+def main():
+    if sys.argv[1:] == ["--apply"]:
+        sys.exit(apply())
+    wanted = [it for it in WRONG if len(sys.argv) < 2 or any(word in it[1] for word in sys.argv[1:])]
+    caught = 0
+    with tempfile.TemporaryDirectory() as room:
+        with concurrent.futures.ThreadPoolExecutor(int(os.environ.get("LANES", "3"))) as pool:
+            told = [pool.submit(try_one, room, number, *it) for number, it in enumerate(wanted)]
+            for it, one in zip(wanted, told):
+                print(f"{it[1]:<44} {one.result()}", flush=True)
+                caught += one.result().startswith("caught")
+    print(f"{caught} of {len(wanted)} wrong daemons caught")
+    sys.exit(caught != len(wanted))
+
+
+main()
