@@ -1,32 +1,12 @@
 -- The tests of keys that are derived are those of the specs, and keys that pass them are one.
-use Rattle.std.proofs.Common.{◌≡◌, refl, true, ◌&&◌, ◌==◌, arith}
+use Rattle.std.proofs.Common.{◌≡◌, true, ◌==◌, arith}
 use Rattle.std.proofs.lemmas.Grind.{common_steps}
 use Rattle.std.proofs.lemmas.Bool.{and_parts, eqb-true}
 use Rattle.sm_names.specs.Sameness.{same_buffer, same_strength}
-use Rattle.sm_names.specs.declared.keys.Strength.{Strength}
-use Rattle.sm_names.specs.declared.keys.Strength.TheVariants.{Strong, Weak}
 use Rattle.buffer_holds.specs.declared.kinds.HandleKind.{HandleKind}
 use Rattle.buffer_holds.specs.declared.kinds.Hold.{Hold}
 use Rattle.buffer_holds.specs.Kinds.{same_handle_kind, same_hold}
-use Rattle.sm_names.specs.contracts.keys.StrengthPartialEq.TheImpl as strength
 use Rattle.sm_names.proofs.SamenessLaws.{same_buffer-true, same_strength-true, same_strength-refl}
-use Rattle.buffer_holds.specs.contracts.kinds.HandleKindPartialEq.TheImpl as kind
-use Rattle.buffer_holds.specs.contracts.kinds.HoldPartialEq.TheImpl as hold
-
--- the derived test of strengths
-derived_strength : (a b : Strength) → (strength.eq-value).it a b ≡ same_strength a b
-derived_strength Strong Strong = refl
-derived_strength Strong Weak = refl
-derived_strength Weak Strong = refl
-derived_strength Weak Weak = refl
-
--- the derived test of kinds
-pub derived_kind : (kind.eq-value).it ≡ same_handle_kind
-derived_kind = λ i a b. same_buffer a.buffer b.buffer && derived_strength a.strength b.strength i
-
--- the derived test of holds
-pub derived_hold : (hold.eq-value).it ≡ same_hold
-derived_hold = λ i a b. a.client == b.client && derived_kind i a.kind b.kind
 
 -- kinds that are the same are one
 pub same_kind-one : (a b : HandleKind) → same_handle_kind a b ≡ true → a ≡ b

@@ -11,10 +11,6 @@ use Rattle.std.specs.Map.{lookup, keys_of}
 use Rattle.buffer_holds.specs.Pages.{cell, cell_at, cells, flat, page_of, IsBlank, SetsCell}
 use Rattle.buffer_holds.specs.Rows.{weight_at, Keeps, Resets}
 
--- a number is the same as itself
-eqb-same : (n : ℕ) → (n == n) ≡ true
-eqb-same n = grind (arith, common_steps)
-
 -- numbers that differ are not the same
 eqb-other : (m n : ℕ) → m < n → (m == n) ≡ false
 eqb-other m n less = grind (arith, common_steps, less)

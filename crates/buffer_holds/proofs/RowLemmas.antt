@@ -7,37 +7,15 @@ use Rattle.std.proofs.lemmas.Option.{get_or_from_slice_get, slice_get_within, sl
 use Rattle.std.specs.Cmp.{IsEquivalence}
 use Rattle.std.specs.List.{IsDistinct, swap_remove}
 use Rattle.std.specs.Option.{option_copied_mut, option_map}
-use Rattle.std.specs.Map.{lookup, set_value, remove_entry}
+use Rattle.std.specs.Map.{lookup, remove_entry}
 use Rattle.std.specs.Map.Iter.{deref_pair}
-use Rattle.std.specs.HashMap.{HashMap, get, values, IsUnique, Updates, UpdatesBy, WritesThrough}
+use Rattle.std.specs.HashMap.{HashMap, get, values, IsUnique, Updates}
 use Rattle.indexmap.specs.IndexMap.{insert_entry, set_value_at, with_value_at}
 use Rattle.indexmap.proofs.CallerLemmas.{insert_entry-new, keys-with_value_at, updates-with_value_at}
 use Rattle.buffer_holds.specs.Rows.{weight_at, Resets}
 
 -- ---- sums over the entries
 module _ {K X : Type 0} (weight : K × X → ℕ) (test : K → Bool) (key : K) (one : (other : K) → test other ≡ true → key ≡ other) where
-  -- after a new value
-  sum_by-set_value-key : (es : List (K × X)) (v w : X) → lookup test es ≡ Some v →
-      sum_by weight (set_value test es w) + weight (key, v) ≡ sum_by weight es + weight (key, w)
-  sum_by-set_value-key [] v w found = cc
-  sum_by-set_value-key (e ∷ es) v w found =
-      elim (test e.0) as (λ b. test e.0 ≡ b → cond b (Some e.1) (lookup test es) ≡ Some v →
-      sum_by weight (cond b ((e.0, w) ∷ es) (e ∷ set_value test es w)) + weight (key, v) ≡ sum_by weight (e ∷ es) + weight (key, w)) [
-        | true ↦ λ hit is.
-            let here : key ≡ e.0 = one e.0 hit in
-            let value : e.1 ≡ v = cc in
-            let back : v ≡ e.1 = cc in
-            let old : weight (key, v) ≡ weight e = λ i. weight (here i, back i) in
-            let new : weight (e.0, w) ≡ weight (key, w) = cc in
-            omega (arith, sum_by-cons weight (e.0, w) es, sum_by-cons weight e es)
-        | false ↦ λ miss is. omega (
-          arith,
-          sum_by-set_value-key es v w is,
-          sum_by-cons weight e (set_value test es w),
-          sum_by-cons weight e es,
-        )
-      ] refl found
-
   -- without the entry
   sum_by-remove_entry-key : (es : List (K × X)) → sum_by weight (remove_entry test es) + weight_at weight key (lookup test es) ≡ sum_by
       weight es
@@ -58,8 +36,7 @@ module _ {K X : Type 0} (weight : K × X → ℕ) (test : K → Bool) (key : K) 
   weight_at-le-sum_by es = omega (arith, sum_by-remove_entry-key es)
 
 -- ---- calls of a map, whose test of keys is the specs' own
-module _ {K X S : Type 0} (eq same : K → K → Bool) (is : eq ≡ same) (one : (a b : K) → same a b ≡ true →
-    a ≡ b) (m n : HashMap K X S) (key : K) where
+module _ {K X S : Type 0} (eq same : K → K → Bool) (is : eq ≡ same) (m n : HashMap K X S) (key : K) where
   -- by the map's test, and so by the specs' own
   told : (was now : Option X) → Resets eq m.entries n.entries key was now →
       Resets same m.entries n.entries key (lookup (same key) m.entries) now
@@ -70,23 +47,6 @@ module _ {K X S : Type 0} (eq same : K → K → Bool) (is : eq ≡ same) (one :
   -- what the map's own search finds
   pub lookup_found : (found : Option X) → found ≡ get eq m key → lookup (same key) m.entries ≡ found
   lookup_found found is_found = subst (λ s. lookup (s key) m.entries ≡ found) is (sym is_found)
-
-  -- keys that pass the map's test are one
-  key_one : (other : K) → eq key other ≡ true → key ≡ other
-  key_one other e = one key other (subst (λ s. s key other ≡ true) is e)
-
-  -- a value written through `get_mut`
-  pub resets_written : (v w : X) → Some v ≡ get eq m key → WritesThrough eq (eq key) m w n →
-      Resets same m.entries n.entries key (lookup (same key) m.entries) (Some w)
-  resets_written v w found written =
-      let updates : UpdatesBy eq (eq key) m n (Some w) = written.3 (subst IsSome found refl) in
-      told (Some v) (Some w) (record {
-        had = sym found;
-        finds = updates.0;
-        weighs = λ weight. subst (λ es. sum_by weight es + weight (key, v) ≡ sum_by weight m.entries + weight (key, w)) (sym written.0)
-            (sum_by-set_value-key weight (eq key) key key_one m.entries v w (sym found));
-        distinct = written.4;
-      })
 
 -- ---- calls of a map by place
 module _ {K X : Type 0} where
@@ -152,10 +112,6 @@ module _ {K X S : Type 0} (eq : K → K → Bool) (m : HashMap K X S) (place : �
   this : read.0.now ≡ key
   this = ap (λ (o : Option (K × X)). (unwrap_or o (key, v)).0) (sym pair ∙ stands)
 
-  -- the value that was read stands at the place under the given key
-  pub stands_read_at : slice_get m.entries place ≡ Some (key, read.1.now)
-  stands_read_at = pair ∙ ap (λ k. Some (k, read.1.now)) this
-
   -- a look-up of the key finds the value that was read at its place
   pub lookup_read_at : lookup (eq key) m.entries ≡ Some read.1.now
   lookup_read_at =
@@ -201,7 +157,7 @@ module _ {K X S : Type 0} (eq same : K → K → Bool) (is : eq ≡ same) (one :
       pub resets_placed : (w : X) → Resets same m.entries (set_value_at m.entries place w) key (lookup (same key) m.entries) (Some w)
       resets_placed w =
           let written = with_value_at m place w in
-          told eq same is one m written key (Some v) (Some w) (record {
+          told eq same is m written key (Some v) (Some w) (record {
             had = found;
             finds = (updates-with_value_at m place w laws unique key v stands).0;
             weighs = λ weight. subst (λ (e : K × X). sum_by weight (set_value_at m.entries place w) + weight e ≡ sum_by weight
@@ -217,7 +173,7 @@ module _ {K X S : Type 0} (eq same : K → K → Bool) (is : eq ≡ same) (one :
         let entry' : taken ≡ Some (key, v) = entry ∙ stands in
         let left' = subst (λ o. IfSome o (λ e. n.entries ≡ swap_remove m.entries place e)) entry' left in
         let updates' = subst (λ o. IfSome o (λ e. Updates eq m n e.0 None)) entry' updates in
-        told eq same is one m n key (Some v) None (record {
+        told eq same is m n key (Some v) None (record {
           had = had;
           finds = updates'.0;
           weighs = λ weight. subst (λ (e : K × X). sum_by weight n.entries + weight e ≡ sum_by weight m.entries + 0) here
@@ -232,7 +188,7 @@ module _ {K X S : Type 0} (eq same : K → K → Bool) (is : eq ≡ same) (one :
   resets_added w absent added updates distinct =
       let none : lookup (eq key) m.entries ≡ None = subst (λ s. lookup (s key) m.entries ≡ None) (sym is) absent in
       let last = added ∙ insert_entry-new eq m key w none in
-      told eq same is one m n key None (Some w) (record {
+      told eq same is m n key None (Some w) (record {
         had = none;
         finds = updates.0;
         weighs = λ weight. omega (

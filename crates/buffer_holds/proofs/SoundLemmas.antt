@@ -1,6 +1,6 @@
 -- What the sound fields say of counts and tallies.
 use Rattle.std.proofs.Common.{◌≡◌, ◌+◌, ◌≤◌, ◌<◌, refl, sym, ap, ◌∙◌, ℕ, Bool, true, false, cond, not, List, [], ◌∷◌}
-use Rattle.std.proofs.Common.{Option, Some, None, arith, sum_by, length, IsSome, is_some, if◌then◌else◌, unwrap_or}
+use Rattle.std.proofs.Common.{Option, Some, None, arith, sum_by, IsSome, is_some, if◌then◌else◌, unwrap_or}
 use Rattle.std.proofs.lemmas.List.Sums.{sum_by-cons}
 use Rattle.std.proofs.lemmas.Map.Made.{lookup-map_values}
 use Rattle.std.specs.Option.{option_map}
@@ -85,17 +85,6 @@ pub one_row-added : (row : Option ℕ) → one_row row + (if is_some row then 0 
 one_row-added None = refl
 one_row-added (Some count) = refl
 
--- there are no more rows of a kind than rows
-pub sum_by-one_of-le-length : (kind : HandleKind) (rows : List (Hold × ℕ)) → sum_by (one_of kind) rows ≤ length rows
-sum_by-one_of-le-length kind [] = omega arith
-sum_by-one_of-le-length kind (row ∷ rows) =
-    omega (arith, sum_by-one_of-le-length kind rows, sum_by-cons (one_of kind) row rows, at_most_one (same_handle_kind row.0.kind kind))
-  where
-    -- by cases on the test
-    at_most_one : (b : Bool) → cond b 1 0 ≤ 1
-    at_most_one true = omega arith
-    at_most_one false = omega arith
-
 -- without a row of a kind no count is of it
 pub sum_by-share-none : (kind : HandleKind) (rows : List (Hold × ℕ)) → sum_by (one_of kind) rows ≡ 0 → sum_by (share kind) rows ≡ 0
 sum_by-share-none kind [] none = refl
@@ -138,10 +127,6 @@ module _ (limit : ℕ) (rows : List (Hold × ℕ)) (tallies : List (HandleKind �
         weight_at-le-sum_by (one_of hold.kind) (same_hold hold) hold (same_hold-one hold) rows,
         weight_at-one_of hold.kind hold (row_at rows hold) true (same_kind-refl hold.kind),
       )
-
-  -- no more clients are counted than there are rows
-  pub clients-le-length : (tally_at tallies hold.kind).clients ≤ length rows
-  clients-le-length = omega (arith, (sound.counted_by_kind hold.kind).clients, sum_by-one_of-le-length hold.kind rows)
 
 -- a buffer with no open handle is home where no strong node is live
 pub home_unopened : (strong_live : Bool) → not strong_live ≡ is_home 0 0 strong_live

@@ -1,5 +1,5 @@
 -- The cells of a page of tallies.
-use Rattle.std.proofs.Common.{ℕ, zero, suc, ◌≡◌, ◌+◌, ◌<◌, ◌≤◌, ◌==◌, refl, sym, ap}
+use Rattle.std.proofs.Common.{ℕ, zero, suc, ◌≡◌, ◌+◌, ◌-◌, ◌<◌, ◌≤◌, ◌==◌, refl, sym, ap}
 use Rattle.std.proofs.Common.{subst, ◌∙◌, Bool, true, false, not, cond, if◌then◌else◌, List, [], ◌∷◌}
 use Rattle.std.proofs.Common.{Option, Some, None, IsSome, is_some, arith, count_by, get_or, length, map, set, sum_by, unwrap_or}
 use Rattle.std.proofs.lemmas.Bool.{and_parts, eqb-false, eqb-true}
@@ -8,6 +8,7 @@ use Rattle.std.proofs.lemmas.List.Sums.{sum_by-cons, sum_by-set}
 use Rattle.buffer_holds.specs.declared.tally.Tally.{Tally}
 use Rattle.buffer_holds.specs.Pages.{cell_at, SetsCell}
 use Rattle.buffer_holds.specs.Sound.{is_busy, is_idle, kept, no_tally, IsPlain}
+use Rattle.buffer_holds.specs.Stored.{changed}
 
 -- 1 for a tally that says something
 abbrev pub one_if : Tally → ℕ
@@ -123,3 +124,25 @@ none_busy (t ∷ ts) none at = by (none_busy ts rest) at
     by : ((n : ℕ) → cell_at (map kept ts) n ≡ None) → (at : ℕ) → cell_at (map kept (t ∷ ts)) at ≡ None
     by later zero = first (is_idle t) refl
     by later (suc n) = later n
+
+-- one handle less
+pub closed_one : (t : Tally) → changed t 1 0 0 0 ≡ record t { total = t.total - 1 }
+closed_one t =
+    let moving : t.moving + 0 - 0 ≡ t.moving = omega arith in
+    let clients : t.clients + 0 ≡ t.clients = omega arith in
+    λ i. record { total = t.total - 1; moving = moving i; clients = clients i }
+
+-- one more in a parcel
+pub lifted_one : (t : Tally) → changed t 0 1 0 0 ≡ record t { moving = t.moving + 1 }
+lifted_one t =
+    let total : t.total - 0 ≡ t.total = omega arith in
+    let moving : t.moving + 1 - 0 ≡ t.moving + 1 = omega arith in
+    let clients : t.clients + 0 ≡ t.clients = omega arith in
+    λ i. record { total = total i; moving = moving i; clients = clients i }
+
+-- one less in a parcel, for clients of whom some are new
+pub landed_one : (t : Tally) (more : ℕ) → changed t 0 0 1 more ≡ record { total = t.total; moving = t.moving - 1; clients = t.clients + more }
+landed_one t more =
+    let total : t.total - 0 ≡ t.total = omega arith in
+    let moving : t.moving + 0 - 1 ≡ t.moving - 1 = omega arith in
+    λ i. record { total = total i; moving = moving i; clients = t.clients + more }

@@ -126,7 +126,7 @@ pub tally_read : {S : Type 0} (m : HashMap Part (List (Option Tally)) S) (kind :
     (entries : List (HandleKind × Tally)) → tallies_in m.entries ≡ entries → tally_row entries kind ≡ cell_at read.1.now slot
 tally_read m kind place part part_is slot slot_is found distinct lent entry value read is_read entries is =
     let here = lookup_read_at derived.it m place part found.0 found.1 lent entry value read is_read in
-    let row = lookup_found derived.it same_part derived_part same_part-one m m part _ (sym here) in
+    let row = lookup_found derived.it same_part derived_part m m part _ (sym here) in
     cell_tally kind m.entries entries is distinct part part_is slot slot_is (cell_at read.1.now slot)
     (ap (λ o. cell_at (page_of o) slot) (sym row))
 

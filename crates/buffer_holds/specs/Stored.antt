@@ -11,6 +11,14 @@ use Rattle.buffer_holds.specs.Sound.{tally_at, tally_row}
 abbrev pub one_more : Tally → ℕ → Tally
 one_more tally rows = record { total = tally.total + 1; moving = tally.moving; clients = tally.clients + rows }
 
+-- the tally of so many handles less, so many more and less of them in parcels, and so many clients more
+abbrev pub changed : Tally → (closed lifted landed clients : ℕ) → Tally
+changed tally closed lifted landed clients = record {
+  total = tally.total - closed;
+  moving = tally.moving + lifted - landed;
+  clients = tally.clients + clients;
+}
+
 -- the tally of this kind counts one handle more, and a client more where there is a row more
 abbrev pub OpensOne : (old_rows new_rows : List (Hold × ℕ)) (old new : List (HandleKind × Tally)) (kind : HandleKind) → Type 0
 OpensOne old_rows new_rows old new kind =

@@ -16,7 +16,7 @@ use crate::kinds::{HandleKind, Hold};
 use crate::last::Last;
 use crate::runs::open_run;
 use crate::tally_pages::{
-    Tallies, close, land, leave, lift, no_tallies, none_open, open, open_there, tally_of, total_of,
+    Tallies, change, leave, no_tallies, none_open, open, open_there, tally_of, total_of,
 };
 use sm_names::{BufferName, ClientId, CollectionId, NoMemory, Strength};
 use std::alloc::Global;
@@ -206,27 +206,6 @@ impl Holds {
         ensures places { self.new.places ≡ self.old.places }
         ensures err { OnErr result (self.new ≡ self.old) }
     {
-        self.add_inline(client, buffer, strength)
-    }
-
-    // Does what `add` does, as a part of the caller.
-    #[inline(always)]
-    pub(crate) fn add_inline(
-        &mut self,
-        client: ClientId,
-        buffer: BufferName,
-        strength: Strength,
-    ) -> Result<(), HoldFault>
-        ensures opened { OnOk result (Sets self.old self.new client buffer strength
-            (of self.old client buffer strength + 1) (moving_count self.old buffer strength)
-            (total self.old buffer strength + 1)) }
-        ensures too_many { IsErrOf result HoldFault.TooMany
-            ↔ (total self.old buffer strength ≡ self.old.limit) }
-        ensures room { IsTrue (has_handle_room self.old client buffer strength) →
-            IsOkUnless result HoldFault.TooMany }
-        ensures places { self.new.places ≡ self.old.places }
-        ensures err { OnErr result (self.new ≡ self.old) }
-    {
         if self.add_there(client, buffer, strength) {
             return Ok(());
         }
@@ -345,10 +324,11 @@ impl Holds {
         ensures unchanged { OnFalse result (self.new ≡ self.old) }
     {
         let kind = HandleKind { buffer, strength };
+        few_rows(&self.rows);
         if !lower(&mut self.rows, Hold { client, kind }, &self.last.row) {
             return false;
         }
-        close(&mut self.tallies, kind, &self.last.tally);
+        change(&mut self.tallies, kind, 1, 0, 0, 0, &self.last.tally);
         true
     }
 
@@ -397,10 +377,11 @@ impl Holds {
         ensures unchanged { OnFalse result (self.new ≡ self.old) }
     {
         let kind = HandleKind { buffer, strength };
+        few_rows(&self.rows);
         if !lower(&mut self.rows, Hold { client, kind }, &self.last.row) {
             return false;
         }
-        lift(&mut self.tallies, kind, &self.last.tally);
+        change(&mut self.tallies, kind, 0, 1, 0, 0, &self.last.tally);
         true
     }
 
@@ -435,7 +416,7 @@ impl Holds {
         ) else {
             return Err(NoMemory);
         };
-        land(&mut self.tallies, kind, more, &self.last.tally);
+        change(&mut self.tallies, kind, 0, 0, 1, more, &self.last.tally);
         self.places = places;
         Ok(())
     }

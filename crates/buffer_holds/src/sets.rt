@@ -134,7 +134,7 @@ impl Holds {
         ensures places { self.new.places ≡ self.old.places }
         ensures err { OnErr result (self.new ≡ self.old) }
     {
-        match self.add_inline(client, buffer, strength) {
+        match self.add(client, buffer, strength) {
             Ok(()) => Ok(()),
             Err(HoldFault::NoMemory) => Err(NoMemory),
             Err(HoldFault::TooMany) => unreachable!(),

@@ -9,7 +9,7 @@ ghost use Rattle.buffer_holds.specs.Kinds.{kind_of, same_handle_kind};
 ghost use Rattle.buffer_holds.specs.Pages.{part_of, same_part, IsBlank};
 ghost use Rattle.buffer_holds.specs.PagedTallies.{tallies_in, AddsTallies, IsNewestPart, StandsBare, TakesTallies};
 ghost use Rattle.buffer_holds.specs.Rows.{count_at, row_at, Keeps, Raises, Resets, StandsAt};
-ghost use Rattle.buffer_holds.specs.Stored.{OpensOne, one_more};
+ghost use Rattle.buffer_holds.specs.Stored.{OpensOne, changed, one_more};
 ghost use Rattle.buffer_holds.specs.Sound.{no_tally, one_of, tally_at, tally_row, without_client};
 
 use crate::cells::note_most;
@@ -256,66 +256,27 @@ fn add_page(
     let _ = pages.insert(part_of(kind), page);
 }
 
-// One handle less of this kind.
+// So many handles less of this kind, so many more and less of them in parcels, and so many clients more that have
+// a row.
 #[inline(always)]
-pub(crate) fn close(tallies: &mut Tallies, kind: HandleKind, last: &Cell<usize>)
+pub(crate) fn change(
+    tallies: &mut Tallies,
+    kind: HandleKind,
+    closed: u32,
+    lifted: u32,
+    landed: u32,
+    clients: usize,
+    last: &Cell<usize>,
+)
     requires some { IsSome (tally_row tallies.old.entries kind) }
-    requires had { 0 < (tally_at tallies.old.entries kind).total }
-    ensures { Resets same_handle_kind tallies.old.entries tallies.new.entries kind
-        (tally_row tallies.old.entries kind) (Some (record (tally_at tallies.old.entries kind) { total = (tally_at tallies.old.entries kind).total - 1 })) }
-{
-    let Some(place) = page_place(&tallies.pages, tallies.newest, part_of(kind), last) else {
-        unreachable!();
-    };
-    let page = tallies.pages.get_index_mut(place).unwrap();
-    let slot = slot_of(kind);
-    let tally = page.get(slot);
-    page.change(
-        slot,
-        Tally {
-            total: tally.total - 1,
-            moving: tally.moving,
-            clients: tally.clients,
-        },
-    );
-}
-
-// One handle more of this kind in a parcel.
-#[inline(always)]
-pub(crate) fn lift(tallies: &mut Tallies, kind: HandleKind, last: &Cell<usize>)
-    requires some { IsSome (tally_row tallies.old.entries kind) }
-    requires fits { (tally_at tallies.old.entries kind).moving + 1 < 2 ^ 32 }
-    ensures { Resets same_handle_kind tallies.old.entries tallies.new.entries kind
-        (tally_row tallies.old.entries kind) (Some (record (tally_at tallies.old.entries kind) { moving = (tally_at tallies.old.entries kind).moving + 1 })) }
-{
-    let Some(place) = page_place(&tallies.pages, tallies.newest, part_of(kind), last) else {
-        unreachable!();
-    };
-    let page = tallies.pages.get_index_mut(place).unwrap();
-    let slot = slot_of(kind);
-    let tally = page.get(slot);
-    page.change(
-        slot,
-        Tally {
-            total: tally.total,
-            moving: tally.moving + 1,
-            clients: tally.clients,
-        },
-    );
-}
-
-// One handle less of this kind in a parcel, and so many clients more that have a row.
-#[inline(always)]
-pub(crate) fn land(tallies: &mut Tallies, kind: HandleKind, clients: usize, last: &Cell<usize>)
-    requires some { IsSome (tally_row tallies.old.entries kind) }
-    requires sent { 0 < (tally_at tallies.old.entries kind).moving }
+    requires had { closed ≤ (tally_at tallies.old.entries kind).total }
+    requires fits { (tally_at tallies.old.entries kind).moving + lifted < 2 ^ 32 }
+    requires sent { landed ≤ (tally_at tallies.old.entries kind).moving + lifted }
     requires left { 0 < (tally_at tallies.old.entries kind).clients + clients }
     requires few { (tally_at tallies.old.entries kind).clients + clients < 2 ^ 64 }
     ensures { Resets same_handle_kind tallies.old.entries tallies.new.entries kind
-        (tally_row tallies.old.entries kind) (Some (record (tally_at tallies.old.entries kind) {
-          moving = (tally_at tallies.old.entries kind).moving - 1;
-          clients = (tally_at tallies.old.entries kind).clients + clients;
-        })) }
+        (tally_row tallies.old.entries kind)
+        (Some (changed (tally_at tallies.old.entries kind) closed lifted landed clients)) }
 {
     let Some(place) = page_place(&tallies.pages, tallies.newest, part_of(kind), last) else {
         unreachable!();
@@ -326,8 +287,8 @@ pub(crate) fn land(tallies: &mut Tallies, kind: HandleKind, clients: usize, last
     page.change(
         slot,
         Tally {
-            total: tally.total,
-            moving: tally.moving - 1,
+            total: tally.total - closed,
+            moving: tally.moving + lifted - landed,
             clients: tally.clients + clients,
         },
     );

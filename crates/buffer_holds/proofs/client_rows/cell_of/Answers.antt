@@ -1,7 +1,7 @@
 use Rattle.std.proofs.Common.{◌∙◌, ap, sym}
 use Rattle.buffer_holds.specs.contracts.names.OwnerPartialEq.TheImpl.{eq-value as derived}
 use Rattle.buffer_holds.specs.Pages.{cell_at, page_of, same_owner}
-use Rattle.buffer_holds.proofs.PageNames.{derived_owner, same_owner-one}
+use Rattle.buffer_holds.proofs.PageNames.{derived_owner}
 use Rattle.buffer_holds.proofs.RowLemmas.{lookup_found, lookup_read_at}
 use Rattle.buffer_holds.proofs.client_rows.cell_of.Goals as goal
 
@@ -12,7 +12,7 @@ returns-in-Some c =
     let found = c.in-Some.ensures.found in
     let here = lookup_read_at derived.it pages c.in-Some.place c.args.owner found.0 found.1 c.get_index.result c.get_index.ensures.entry
     c.get_index.ensures.value c.unwrap.result c.unwrap.ensures in
-    let row = lookup_found derived.it same_owner derived_owner same_owner-one pages pages c.args.owner _ (sym here) in
+    let row = lookup_found derived.it same_owner derived_owner pages pages c.args.owner _ (sym here) in
     c.get.ensures ∙ ap (λ o. cell_at (page_of o) c.args.slot) (sym row)
 
 -- no page

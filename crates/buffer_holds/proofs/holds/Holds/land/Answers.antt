@@ -1,11 +1,14 @@
-use Rattle.std.proofs.Common.{◌≡◌, ◌-◌, ◌+◌, refl, ap, arith, length}
-use Rattle.buffer_holds.specs.Kinds.{kind_of, hold_of}
-use Rattle.buffer_holds.specs.Rows.{row_at}
+use Rattle.std.proofs.Common.{◌≡◌, ◌-◌, ◌+◌, refl, ap, subst, Some, arith, length}
+use Rattle.buffer_holds.specs.declared.tally.Tally.{Tally}
+use Rattle.buffer_holds.specs.Kinds.{kind_of, hold_of, same_handle_kind}
+use Rattle.buffer_holds.specs.Rows.{row_at, Resets}
 use Rattle.buffer_holds.specs.Sound.{tally_at, tally_row}
 use Rattle.buffer_holds.proofs.Invariant.{agree_after}
 use Rattle.buffer_holds.proofs.Landing.{has_fewer, has_place, landed, lies, Step-landed}
 use Rattle.buffer_holds.proofs.SoundLemmas.{kept_from_something, one_row-added, one_row-le-clients}
+use Rattle.buffer_holds.proofs.TallyCells.{landed_one}
 use Rattle.buffer_holds.proofs.Steps.{sets_by}
+use Rattle.buffer_holds.proofs.holds.Holds.land.Goals.{After-change}
 use Rattle.buffer_holds.proofs.holds.Holds.land.Goals as goal
 
 -- one is in a parcel, so the client has fewer than may be open
@@ -14,19 +17,19 @@ raise-requires c =
     omega (arith, has_fewer _ _ _ c.self.invariant.0 c.args.client c.args.buffer c.args.strength c.self.view_is c.requires)
 
 -- there is a tally
-pub land-requires-clause-some : goal.land-requires-clause-some
-land-requires-clause-some c =
+pub change-requires-clause-some : goal.change-requires-clause-some
+change-requires-clause-some c =
     let kind = kind_of c.args.buffer c.args.strength in
     let lying = lies _ _ _ c.self.invariant.0 c.args.client c.args.buffer c.args.strength c.self.view_is c.requires in
     kept_from_something (tally_row c.self.inside.tallies.entries kind) (omega (arith, lying))
 
-pub land-requires-clause-sent : goal.land-requires-clause-sent
-land-requires-clause-sent c =
+pub change-requires-clause-sent : goal.change-requires-clause-sent
+change-requires-clause-sent c =
     omega (arith, lies _ _ _ c.self.invariant.0 c.args.client c.args.buffer c.args.strength c.self.view_is c.requires)
 
 -- the client has a row now
-pub land-requires-clause-left : goal.land-requires-clause-left
-land-requires-clause-left c =
+pub change-requires-clause-left : goal.change-requires-clause-left
+change-requires-clause-left c =
     let inside = c.self.inside in
     let hold = hold_of c.args.client c.args.buffer c.args.strength in
     omega (
@@ -37,8 +40,8 @@ land-requires-clause-left c =
     )
 
 -- no more clients are counted than there are rows of the kind
-pub land-requires-clause-few : goal.land-requires-clause-few
-land-requires-clause-few c =
+pub change-requires-clause-few : goal.change-requires-clause-few
+change-requires-clause-few c =
     let kind = kind_of c.args.buffer c.args.strength in
     let hold = hold_of c.args.client c.args.buffer c.args.strength in
     omega (
@@ -48,6 +51,22 @@ land-requires-clause-few c =
       c.few_rows.ensures kind,
       (c.self.invariant.0.counted_by_kind kind).clients,
     )
+
+-- no more are in parcels than may be open
+pub change-requires-clause-fits : goal.change-requires-clause-fits
+change-requires-clause-fits c =
+    let counted = c.self.invariant.0.counted_by_kind (kind_of c.args.buffer c.args.strength) in
+    omega (arith, counted.total, counted.within)
+
+-- one tally changes
+after : (c : After-change) → let tally = tally_at c.self.inside.tallies.entries (kind_of c.args.buffer c.args.strength) in
+    Resets same_handle_kind c.self.inside.tallies.entries c.change.new.tallies.entries (kind_of c.args.buffer c.args.strength)
+    (tally_row c.self.inside.tallies.entries (kind_of c.args.buffer c.args.strength)) (Some (landed tally c.in-Ok.more))
+after c =
+    let kind = kind_of c.args.buffer c.args.strength in
+    let old = c.self.inside.tallies.entries in
+    subst (λ (t : Tally). Resets same_handle_kind old c.change.new.tallies.entries kind (tally_row old kind) (Some t))
+    (landed_one (tally_at old kind) c.in-Ok.more) c.change.ensures
 
 pub invariant_of-self-2 : goal.invariant_of-self-2
 invariant_of-self-2 c =
@@ -64,7 +83,7 @@ invariant_of-self-2 c =
     (omega arith) c.self.invariant.4
     (omega arith) (c.raise.ensures.places (omega (arith, c.self.invariant.2))) hold _ (landed tally more)
     (Step-landed _ _ _ c.self.invariant.0 c.args.client c.args.buffer c.args.strength c.self.view_is c.requires c.raise.new.rows.entries _
-    tally more refl longer c.in-Ok.ensures.ok c.land.ensures)
+    tally more refl longer c.in-Ok.ensures.ok (after (goal.at.invariant_of-self-2 c).After-change))
     (omega (arith, c.self.invariant.1 hold.kind))
     (λ later. omega (arith, c.self.invariant.3 hold.kind later))
 
@@ -80,7 +99,7 @@ returns-clause-landed c =
     ) in
     let step = Step-landed _ _ _ c.self.invariant.0 c.args.client c.args.buffer c.args.strength
     c.self.view_is c.requires c.raise.new.rows.entries _
-    tally more refl longer c.in-Ok.ensures.ok c.land.ensures in
+    tally more refl longer c.in-Ok.ensures.ok (after (goal.at.returns-clause-landed c).After-change) in
     sets_by c.args.client c.args.buffer c.args.strength step c.args.self.now c.self.view_is (λ n. n + 1) (λ n. n - 1) (λ n. n)
     refl refl refl
 

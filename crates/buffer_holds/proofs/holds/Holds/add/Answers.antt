@@ -1,7 +1,7 @@
 use Rattle.std.proofs.Common.{◌≡◌, ◌↔◌, subst, IsErrOf}
 use Rattle.buffer_holds.specs.declared.fault.HoldFault.TheVariants.{TooMany}
 use Rattle.buffer_holds.specs.Counts.{total}
-use Rattle.buffer_holds.proofs.holds.Holds.add_inline.Goals as goal
+use Rattle.buffer_holds.proofs.holds.Holds.add.Goals as goal
 
 -- what is elsewhere is looked for in the same counts
 pub returns-clause-too_many : goal.returns-clause-too_many

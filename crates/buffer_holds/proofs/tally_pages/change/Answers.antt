@@ -1,14 +1,15 @@
-use Rattle.std.proofs.Common.{◌≡◌, ◌+◌, ◌∙◌, ap, subst, sym, IsSome, None, Some, unwrap_or, arith}
+use Rattle.std.proofs.Common.{◌≡◌, ◌∙◌, ap, subst, sym, IsSome, None, Some, unwrap_or, arith}
 use Rattle.indexmap.specs.IndexMap.{set_value_at}
 use Rattle.buffer_holds.specs.declared.tally.Tally.{Tally}
 use Rattle.buffer_holds.specs.Kinds.{same_handle_kind}
 use Rattle.buffer_holds.specs.PagedTallies.{tallies_in, PagedTallies}
 use Rattle.buffer_holds.specs.Rows.{Resets}
 use Rattle.buffer_holds.specs.Sound.{no_tally, tally_at, tally_row}
+use Rattle.buffer_holds.specs.Stored.{changed}
 use Rattle.buffer_holds.proofs.RowLemmas.{IsSome-lent_at}
 use Rattle.buffer_holds.proofs.TallyCells.{says_something}
 use Rattle.buffer_holds.proofs.TallyLemmas.{distinct_tallies, newest_tallies, tally_absent, tally_there, tally_written}
-use Rattle.buffer_holds.proofs.tally_pages.lift.Goals as goal
+use Rattle.buffer_holds.proofs.tally_pages.change.Goals as goal
 
 -- the kind has a tally, so its part has a page
 pub unreachable-requires : goal.unreachable-requires
@@ -26,12 +27,33 @@ unwrap-page-requires c =
     IsSome-lent_at c.tallies.inside.pages c.in-Some.place c.part_of.result found.0 found.1 c.get_index_mut.result
     c.get_index_mut.ensures.value
 
+pub overflow_sub-tally : goal.overflow_sub-tally
+overflow_sub-tally c =
+    let there = tally_there c.tallies.inside.pages c.args.kind c.in-Some.place c.part_of.result c.part_of.ensures c.slot_of-slot.result
+    c.slot_of-slot.ensures.value c.in-Some.ensures.found c.get_index_mut.result c.get_index_mut.ensures.value c.get_index_mut.ensures.unique
+    c.unwrap-page.result c.unwrap-page.ensures c.args.tallies.now.entries (ap (λ (r : PagedTallies). r.entries) c.tallies.view_is) in
+    omega (arith, c.requires.had, ap (λ (t : Tally). t.total) c.get-tally.ensures.value, ap (λ o. (unwrap_or o no_tally).total) there)
+
 pub overflow_add-tally : goal.overflow_add-tally
 overflow_add-tally c =
     let there = tally_there c.tallies.inside.pages c.args.kind c.in-Some.place c.part_of.result c.part_of.ensures c.slot_of-slot.result
     c.slot_of-slot.ensures.value c.in-Some.ensures.found c.get_index_mut.result c.get_index_mut.ensures.value c.get_index_mut.ensures.unique
     c.unwrap-page.result c.unwrap-page.ensures c.args.tallies.now.entries (ap (λ (r : PagedTallies). r.entries) c.tallies.view_is) in
     omega (arith, c.requires.fits, ap (λ (t : Tally). t.moving) c.get-tally.ensures.value, ap (λ o. (unwrap_or o no_tally).moving) there)
+
+pub overflow_sub-tally-2 : goal.overflow_sub-tally-2
+overflow_sub-tally-2 c =
+    let there = tally_there c.tallies.inside.pages c.args.kind c.in-Some.place c.part_of.result c.part_of.ensures c.slot_of-slot.result
+    c.slot_of-slot.ensures.value c.in-Some.ensures.found c.get_index_mut.result c.get_index_mut.ensures.value c.get_index_mut.ensures.unique
+    c.unwrap-page.result c.unwrap-page.ensures c.args.tallies.now.entries (ap (λ (r : PagedTallies). r.entries) c.tallies.view_is) in
+    omega (arith, c.requires.sent, ap (λ (t : Tally). t.moving) c.get-tally.ensures.value, ap (λ o. (unwrap_or o no_tally).moving) there)
+
+pub overflow_add-tally-2 : goal.overflow_add-tally-2
+overflow_add-tally-2 c =
+    let there = tally_there c.tallies.inside.pages c.args.kind c.in-Some.place c.part_of.result c.part_of.ensures c.slot_of-slot.result
+    c.slot_of-slot.ensures.value c.in-Some.ensures.found c.get_index_mut.result c.get_index_mut.ensures.value c.get_index_mut.ensures.unique
+    c.unwrap-page.result c.unwrap-page.ensures c.args.tallies.now.entries (ap (λ (r : PagedTallies). r.entries) c.tallies.view_is) in
+    omega (arith, c.requires.few, ap (λ (t : Tally). t.clients) c.get-tally.ensures.value, ap (λ o. (unwrap_or o no_tally).clients) there)
 
 -- the cell is not empty, and stays so
 pub change-requires-clause-had : goal.change-requires-clause-had
@@ -43,7 +65,17 @@ change-requires-clause-had c = subst IsSome (tally_there c.tallies.inside.pages 
 
 pub change-requires-clause-has : goal.change-requires-clause-has
 change-requires-clause-has c =
-    says_something (record c.get-tally.result { moving = c.get-tally.result.moving + 1 }) (omega arith)
+    let there = tally_there c.tallies.inside.pages c.args.kind c.in-Some.place c.part_of.result c.part_of.ensures c.slot_of-slot.result
+    c.slot_of-slot.ensures.value c.in-Some.ensures.found c.get_index_mut.result c.get_index_mut.ensures.value c.get_index_mut.ensures.unique
+    c.unwrap-page.result c.unwrap-page.ensures c.args.tallies.now.entries (ap (λ (r : PagedTallies). r.entries) c.tallies.view_is) in
+    says_something (changed c.get-tally.result c.args.closed c.args.lifted c.args.landed c.args.clients)
+    (omega (
+      arith,
+      c.requires.left,
+      ap (λ (t : Tally). t.clients) c.get-tally.ensures.value,
+      ap (λ o. (unwrap_or o no_tally).clients)
+          there,
+    ))
 
 pub invariant_of-tallies : goal.invariant_of-tallies
 invariant_of-tallies c = (
@@ -67,10 +99,8 @@ returns c =
     c.slot_of-slot.ensures.value c.in-Some.ensures.found c.get_index_mut.result c.get_index_mut.ensures.value c.get_index_mut.ensures.unique
     c.unwrap-page.result c.unwrap-page.ensures c.args.tallies.now.entries (ap (λ (r : PagedTallies). r.entries) c.tallies.view_is) in
     let same : c.get-tally.result ≡ tally_at old c.args.kind = c.get-tally.ensures.value ∙ ap (λ o. unwrap_or o no_tally) (sym there) in
-    subst (λ (t : Tally). Resets same_handle_kind old new c.args.kind (tally_row old c.args.kind) (Some (record t {
-      moving = t.moving
-          + 1;
-    }))) same
+    subst (λ (t : Tally). Resets same_handle_kind old new c.args.kind (tally_row old c.args.kind) (Some
+    (changed t c.args.closed c.args.lifted c.args.landed c.args.clients))) same
     (tally_written c.tallies.inside.pages c.args.kind c.in-Some.place c.part_of.result c.part_of.ensures c.slot_of-slot.result
     c.slot_of-slot.ensures.value c.in-Some.ensures.found c.get_index_mut.result c.get_index_mut.ensures.value c.get_index_mut.ensures.unique
     c.unwrap-page.result c.unwrap-page.ensures old (ap (λ (r : PagedTallies). r.entries) c.tallies.view_is) c.change.new.self _
