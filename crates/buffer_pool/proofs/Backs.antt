@@ -12,8 +12,7 @@ use Rattle.buffer_pool.specs.Holes.{end_of, gap, holes_from, holes_of}
 use Rattle.buffer_pool.specs.Holdings.{HasRun, IsPoolSound, in_order, in_run, total_pages, without, without_run}
 use Rattle.buffer_pool.specs.Merging.{spaced, first_begins, with_merged, with_released}
 use Rattle.buffer_pool.proofs.Orders.{first_in_order, in_order-cons, in_order-wider, in_order-at, without-later}
-use Rattle.buffer_pool.proofs.Filling.{lists_of}
-use Rattle.buffer_pool.proofs.Keeping.{gaps_of}
+use Rattle.buffer_pool.proofs.Keeping.{gaps_of, lists_of}
 use Rattle.buffer_pool.proofs.Runs.{in_order-without_run, run-end, without_run-keeps}
 use Rattle.buffer_pool.proofs.Spaces.{first_spaced, joined_apart}
 use Rattle.buffer_pool.proofs.Gaps.{gap_some, gap_none, spaced-holes, length-holes}
@@ -299,7 +298,7 @@ keeps_more size free holes held capacity start pages n k run =
       some = omega (arith, e.0);
       spaced = subst (λ hs. spaced 0 hs ≡ true) (sym k.holes_are) (spaced-holes 0 size held k.in_order);
       few = lists.few;
-      fits = lists.fits;
+      fits = λ j d less. (lists.sane j d less).1;
       back_fits = omega arith;
       room = subst (λ hs. length hs ≤ capacity) (sym released_is) (omega (arith, g.fewer, k.has_capacity));
       fewer = g.fewer;

@@ -1,11 +1,14 @@
 -- What stays true of blocks that change.
-use Rattle.std.proofs.Common.{ℕ, suc, ◌≡◌, ◌+◌, ◌<◌, ◌≤◌, sym, subst, List, [], ◌∷◌, ◌++◌, length, set, take, drop, arith}
+use Rattle.std.proofs.Common.{ℕ, suc, ◌≡◌, ◌+◌, ◌<◌, ◌≤◌, refl, ap, sym, subst, ◌∙◌, List, [], ◌∷◌, ◌++◌}
+use Rattle.std.proofs.Common.{length, get_or, set, take, drop, inl, inr, arith}
 use Rattle.std.specs.List.{insert, remove}
-use Rattle.std.proofs.lemmas.List.{length-set, length-take-le, length_push, take-set, drop-set-lt}
+use Rattle.std.proofs.lemmas.List.{length-set, length-take-le, length_push, take-set, drop-set-lt, get_or-set_same, nil_from_length}
+use Rattle.std.proofs.lemmas.Bool.{cases_lt}
 use Rattle.std.proofs.lemmas.List.Edits.{length-insert, length-remove}
 use Rattle.std.proofs.lemmas.List.Elements.{All-append, All-cons, All-take, All-drop, All-set, All-push}
 use Rattle.sm_names.specs.declared.keys.Interval.{Interval}
-use Rattle.buffer_pool.specs.Rows.{AreBlocks}
+use Rattle.buffer_pool.specs.Rows.{all_in, AreBlocks}
+use Rattle.buffer_pool.proofs.Joins.{without_none, take-remove}
 
 -- intervals in blocks, as the list of the blocks
 abbrev Lists : Type 0
@@ -67,3 +70,52 @@ blocks-gone used spare at B used' spare' cu cs cu' cs' none lt is more more_u mo
 -- a block that changed and went
 pub remove-set : (L : Lists) (b : ℕ) (B : List Interval) → remove (set L b B) b ≡ remove L b
 remove-set L b B = λ i. take-set L b B i ++ drop-set-lt (suc b) L b B (omega arith) i
+
+-- what is true once a block that changed is made spare if it has no interval
+pub record IsCleared (used spare : Lists) (at : ℕ) (X : List Interval) (used' spare' : Lists) (cu' cs' : ℕ) : Type 0 where
+  pub sound : AreBlocks used' spare' cu' cs'
+  pub all : all_in used' ≡ all_in (set used at X)
+  pub front : take at used' ≡ take at used
+  pub count : length used' + length spare' ≡ length used + length spare
+
+-- a block with an interval stays, and one with none goes to the spare ones
+pub cleared : (used spare : Lists) (at n : ℕ) (X : List Interval) (used' spare' : Lists) (cu cs cu' cs' : ℕ) → at < length used →
+    n ≡ length (get_or (set used at X) at []) → (n ≡ 0 → (used' ≡ remove (set used at X) at) × (spare' ≡ spare ++ [] ∷ [])) →
+    (0 < n → (used' ≡ set used at X) × (spare' ≡ spare)) → cu ≤ cu' → cs ≤ cs' → AreBlocks used spare cu cs →
+    IsCleared used spare at X used' spare' cu' cs'
+cleared used spare at n X used' spare' cu cs cu' cs' lt is gone kept more_u more_s k =
+    let here : get_or (set used at X) at [] ≡ X = get_or-set_same used at X [] lt in
+    let size : n ≡ length X = is ∙ ap length here in
+    let long : length (set used at X) ≡ length used = length-set used at X in
+    elim (cases_lt 0 n) [
+      | inl some ↦
+          let p = kept some in
+          let b = blocks-set used spare at X cu cs (omega arith) k in
+          let sound : AreBlocks (set used at X) spare cu' cs' = record {
+            some = b.some;
+            empty = b.empty;
+            has_used_room = omega (arith, b.has_used_room);
+            has_spare_room = omega (arith, b.has_spare_room);
+          } in
+          record {
+            sound = subst (λ s. AreBlocks used' s cu' cs') (sym p.1) (subst (λ u. AreBlocks u spare cu' cs') (sym p.0) sound);
+            all = ap all_in p.0;
+            front = ap (take at) p.0 ∙ take-set used at X;
+            count = omega (arith, ap length p.0, ap length p.1);
+          }
+      | inr none ↦
+          let p = gone (omega arith) in
+          let empty : X ≡ [] = nil_from_length X (omega arith) in
+          record {
+            sound = blocks-gone used spare at [] used' spare' cu cs cu' cs' refl lt (p.0 ∙ remove-set used at X) p.1 more_u more_s k;
+            all = ap all_in p.0 ∙ without_none (set used at X) at (omega arith) (here ∙ empty);
+            front = ap (take at) p.0 ∙ take-remove (set used at X) at at (omega arith) (omega arith) ∙ take-set used at X;
+            count = omega (
+              arith,
+              ap length p.0,
+              ap length p.1,
+              length-remove (set used at X) at (omega arith),
+              length_push spare [],
+            );
+          }
+    ]

@@ -30,7 +30,7 @@ spaced-apart low (h ∷ hs) s (suc j) (suc k) d e less lt =
     spaced-apart (end_of h + 1) hs f.rest j k d e before within
 
 -- each hole of a spaced list has a page, since the test asks it of each
-spaced-pages : (low : ℕ) (hs : List Interval) → spaced low hs ≡ true → (k : ℕ) (d : Interval) → k < length hs → 0 < (get_or hs k d).pages
+pub spaced-pages : (low : ℕ) (hs : List Interval) → spaced low hs ≡ true → (k : ℕ) (d : Interval) → k < length hs → 0 < (get_or hs k d).pages
 spaced-pages low [] s k d lt = absurd (omega arith)
 spaced-pages low (h ∷ hs) s zero d lt = (first_spaced low h hs s).has_pages
 spaced-pages low (h ∷ hs) s (suc k) d lt =
@@ -49,7 +49,7 @@ has_behind P low to rest d at =
     ]
 
 -- each part of room
-room_parts : (size : ℕ) (a i : Interval) (is : List Interval) → has_room size (i ∷ is) a ≡ true → (meets a i ≡ false) ×
+pub room_parts : (size : ℕ) (a i : Interval) (is : List Interval) → has_room size (i ∷ is) a ≡ true → (meets a i ≡ false) ×
     (has_room size is a ≡ true)
 room_parts size a i is h =
     elim (cases_Bool (meets a i)) [

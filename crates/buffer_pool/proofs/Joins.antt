@@ -1,7 +1,7 @@
 -- Intervals in blocks, joined to one list.
 use Rattle.std.proofs.Common.{ℕ, zero, suc, ◌≡◌, ◌+◌, ◌-◌, ◌<◌, ◌≤◌, refl, ap, sym, subst, ◌∙◌, List, []}
 use Rattle.std.proofs.Common.{◌∷◌, ◌++◌, length, get_or, set, take, drop, arith, add-one, append_assoc}
-use Rattle.std.specs.List.{insert, remove, remove_range}
+use Rattle.std.specs.List.{insert, remove}
 use Rattle.std.proofs.Math.Seq.{take-append-add, drop-append-add}
 use Rattle.std.proofs.lemmas.List.{append-nil, take-append-drop, drop_more, set_split, take_more, take_more_set, take-set}
 use Rattle.std.proofs.lemmas.List.{drop-set-lt, drop_at, take-append-le, drop-append-le, take-take, length-take-le}
@@ -18,7 +18,7 @@ abbrev Lists : Type 0
 Lists = List (List Interval)
 
 -- the intervals of two lists of blocks in a row are those of the first and then of the second
-all-append : (us vs : Lists) → all_in (us ++ vs) ≡ all_in us ++ all_in vs
+pub all-append : (us vs : Lists) → all_in (us ++ vs) ≡ all_in us ++ all_in vs
 all-append us vs = flat_map-append (λ (b : List Interval). b) us vs
 
 -- what lies before a block, in it and behind it
@@ -52,22 +52,21 @@ insert_in L b o x lt le =
     ∙ sym (insert-append_right P (B ++ S) (length P) (length P + o) x refl (omega arith))
     ∙ sym (ap (λ ys. insert ys (length P + o) x) (parts L b lt))
 
--- the removal of a range in a block removes it from the whole list, offset by the blocks before
-pub remove_range_in : (L : Lists) (b o n : ℕ) → b < length L → o + n ≤ length (get_or L b []) →
-    all_in (set L b (remove_range (get_or L b []) o (o + n)))
-    ≡ remove_range (all_in L) (length (all_in (take b L)) + o) (length (all_in (take b L)) + o + n)
-remove_range_in L b o n lt le =
+-- the removal of an interval in a block removes it from the whole list, offset by the blocks before
+pub remove_in : (L : Lists) (b o : ℕ) → b < length L → o < length (get_or L b []) →
+    all_in (set L b (remove (get_or L b []) o)) ≡ remove (all_in L) (length (all_in (take b L)) + o)
+remove_in L b o lt le =
     let P : List Interval = all_in (take b L) in
     let B : List Interval = get_or L b [] in
     let S : List Interval = all_in (drop (b + 1) L) in
-    let sum : length P + o + n ≡ length P + (o + n) = omega arith in
-    parts-set L b (remove_range B o (o + n)) lt
-    ∙ ap (λ r. P ++ r) (append_assoc (take o B) (drop (o + n) B) S)
-    ∙ sym (append_assoc P (take o B) (drop (o + n) B ++ S))
-    ∙ sym (λ i. (P ++ take-append-le o B S (omega arith) i) ++ drop-append-le (o + n) B S le i)
-    ∙ sym (λ i. take-append-add P (B ++ S) o i ++ drop-append-add P (B ++ S) (o + n) i)
-    ∙ sym (ap (λ m. take (length P + o) (P ++ (B ++ S)) ++ drop m (P ++ (B ++ S))) sum)
-    ∙ sym (ap (λ ys. remove_range ys (length P + o) (length P + o + n)) (parts L b lt))
+    let next : length P + suc o ≡ suc (length P + o) = omega arith in
+    parts-set L b (remove B o) lt
+    ∙ ap (λ r. P ++ r) (append_assoc (take o B) (drop (suc o) B) S)
+    ∙ sym (append_assoc P (take o B) (drop (suc o) B ++ S))
+    ∙ sym (λ i. (P ++ take-append-le o B S (omega arith) i) ++ drop-append-le (suc o) B S (omega arith) i)
+    ∙ sym (λ i. take-append-add P (B ++ S) o i ++ drop-append-add P (B ++ S) (suc o) i)
+    ∙ ap (λ n. take (length P + o) (P ++ (B ++ S)) ++ drop n (P ++ (B ++ S))) next
+    ∙ sym (ap (λ ys. remove ys (length P + o)) (parts L b lt))
 
 -- an update in a block is an update in the whole list, offset by the blocks before
 pub set_in : (L : Lists) (b o : ℕ) (x : Interval) → b < length L → o < length (get_or L b []) →

@@ -1,19 +1,86 @@
 -- What the fields of a pool give for buffers that are placed, and keep.
-use Rattle.std.proofs.Common.{ℕ, ◌≡◌, ◌+◌, ◌-◌, ◌*◌, ◌<◌, ◌≤◌, ap, sym, subst, ◌∙◌, List, length, arith, Some, None}
+use Rattle.std.proofs.Common.{ℕ, ◌≡◌, ◌+◌, ◌-◌, ◌*◌, ◌<◌, ◌≤◌, refl, ap, sym, subst, ◌∙◌, List, [], ◌∷◌, length, arith}
+use Rattle.std.proofs.Common.{get_or, drop, nat_le, inl, inr, true, Some, None}
+use Rattle.std.specs.Prelude.{All}
+use Rattle.std.proofs.lemmas.Bool.{leb-true, and_parts}
+use Rattle.sm_names.specs.declared.rules.TheConstants.{MAX_PAGES}
 use Rattle.sm_names.specs.declared.keys.Interval.{Interval}
-use Rattle.sm_names.specs.Pages.{places}
+use Rattle.sm_names.specs.Apart.{at_pages}
+use Rattle.sm_names.specs.Pages.{places, has_room}
 use Rattle.buffer_pool.specs.Holes.{holes_of}
-use Rattle.buffer_pool.specs.Holdings.{AreGaps, IsPoolSound, with_buffers}
+use Rattle.buffer_pool.specs.Holdings.{AreGaps, IsPoolSound, with_buffers, with_interval}
+use Rattle.buffer_pool.specs.Rows.{IsSane}
 use Rattle.buffer_pool.specs.Looks.{looks_for}
 use Rattle.buffer_pool.specs.Placing.{PlacesBuffers}
-use Rattle.buffer_pool.specs.Fitting.{rooms, starts_in, holes_after, looks_in}
+use Rattle.buffer_pool.specs.Fitting.{rooms, first_fit, taken, starts_in, holes_after, looks_in, AreFirstFits}
 use Rattle.buffer_pool.proofs.Orders.{pages_in-le}
-use Rattle.buffer_pool.proofs.Placing.{Run, run_of, looks_in-bounds, places-none}
+use Rattle.buffer_pool.proofs.Gaps.{holes-end, length-holes, spaced-holes}
+use Rattle.buffer_pool.proofs.Greatest.{spaced-pages}
+use Rattle.buffer_pool.proofs.Least.{fit_or_none}
+use Rattle.buffer_pool.proofs.Taking.{length-starts}
+use Rattle.buffer_pool.proofs.Placing.{Run, run_of, rooms-taken, looks_in-bounds, places-none}
 
 -- the holes are the gaps
 pub gaps_of : (size free : ℕ) (holes held : List Interval) (capacity : ℕ) → IsPoolSound size free holes held capacity →
     AreGaps size holes held
 gaps_of size free holes held capacity k = record { sized = k.sized.1; in_order = k.in_order; holes_are = k.holes_are }
+
+-- the facts on the lists of a pool's gaps
+pub record Lists (holes : List Interval) : Type 0 where
+  pub sane : All IsSane holes
+  pub few : length holes ≤ MAX_PAGES
+
+-- holes end inside the pool, and each has a page
+pub lists_of : (size : ℕ) (holes held : List Interval) → AreGaps size holes held → Lists holes
+lists_of size holes held g =
+    let small = g.sized in
+    subst Lists (sym g.holes_are)
+    (record {
+      sane = λ j d lt. (
+        spaced-pages 0 (holes_of size held) (spaced-holes 0 size held g.in_order) j d lt,
+        omega (arith, holes-end 0 size held g.in_order j d lt),
+      );
+      few = omega (arith, (length-holes 0 size held g.in_order).0);
+    })
+
+-- the buffers that have room lie where first fit puts them
+pub first_fits : (size pages count : ℕ) (holes held : List Interval) (starts : List ℕ) → AreGaps size holes held →
+    count ≤ rooms pages holes → starts ≡ starts_in pages count holes → AreFirstFits size pages starts held
+first_fits size pages count holes held starts g le is =
+    let many : length starts ≡ count = ap length is ∙ length-starts pages count holes in
+    record {
+      in_order = g.in_order;
+      has_rooms = omega (arith, ap (rooms pages) g.holes_are);
+      starts_are = is ∙ (λ i. starts_in pages (sym many i) (g.holes_are i));
+    }
+
+-- what placing the next of them leaves
+pub record IsHeldNext (size pages s : ℕ) (ss : List ℕ) (held : List Interval) : Type 0 where
+  pub inside : s + pages ≤ size
+  pub free : has_room size held (at_pages pages s) ≡ true
+  pub rest : AreFirstFits size pages ss (with_interval (at_pages pages s) held)
+
+-- the first fit has room, and the others are those of the holes that it leaves
+pub held_next : (size pages s : ℕ) (ss : List ℕ) (held : List Interval) → 1 ≤ pages → AreFirstFits size pages (s ∷ ss) held →
+    IsHeldNext size pages s ss held
+held_next size pages s ss held one a =
+    let hs : List Interval = holes_of size held in
+    elim (fit_or_none 0 size pages held one a.in_order) [
+      | inl f ↦
+          let first : s ≡ first_fit pages hs = ap (λ (xs : List ℕ). get_or xs 0 0) a.starts_are in
+          let others : ss ≡ starts_in pages (length ss) (taken pages hs) = ap (λ (xs : List ℕ). drop 1 xs) a.starts_are in
+          subst (λ t. IsHeldNext size pages t ss held) (sym first)
+          (record {
+            inside = leb-true _ _ (and_parts (nat_le (first_fit pages hs + pages) size) _ f.least.is_free).0;
+            free = f.least.is_free;
+            rest = record {
+              in_order = f.in_order;
+              has_rooms = omega (arith, a.has_rooms, rooms-taken pages hs one f.some, ap (rooms pages) f.holes);
+              starts_are = others ∙ ap (starts_in pages (length ss)) (sym f.holes);
+            };
+          })
+      | inr n ↦ absurd (omega (arith, a.has_rooms, n.rooms))
+    ]
 
 -- the facts where all buffers have room
 pub record KeepsRun (size free count pages : ℕ) (holes held : List Interval) : Type 0 where

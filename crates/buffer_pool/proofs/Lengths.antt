@@ -1,11 +1,13 @@
 -- What a length that is written makes of the intervals that are held.
 use Rattle.std.proofs.Common.{ℕ, zero, suc, ◌≡◌, ◌+◌, ◌-◌, ◌*◌, ◌<◌, ◌≤◌, refl, ap, sym, subst, ◌∙◌, true, false, List, [], ◌∷◌}
 use Rattle.std.proofs.Common.{length, get_or, set, replicate, inl, inr, arith, nat_lt, ◌==◌}
-use Rattle.std.proofs.lemmas.Bool.{cases_lt, lt-ltb, le-ltb, eq-eqb, ne_eqb}
+use Rattle.std.proofs.lemmas.Bool.{both_ways, cases_lt, lt-ltb, le-ltb, eq-eqb, ne_eqb}
 use Rattle.sm_names.specs.declared.keys.Interval.{Interval}
-use Rattle.buffer_pool.specs.Fitting.{run_starts}
-use Rattle.buffer_pool.specs.Holdings.{IsClear, with_buffers, with_interval, without, without_run}
+use Rattle.sm_names.specs.Pages.{has_room}
+use Rattle.buffer_pool.specs.Holdings.{with_interval, without, without_run}
 use Rattle.buffer_pool.specs.Lengths.{held_from}
+use Rattle.buffer_pool.proofs.Greatest.{room_parts}
+use Rattle.buffer_pool.proofs.Least.{has_room-over, meets-over}
 
 -- a length at a page is the interval there, and 0 is none
 held-some : (page n : ℕ) (ns : List ℕ) → 0 < n → held_from page (n ∷ ns) ≡ record { start = page; pages = n } ∷ held_from (suc page) ns
@@ -86,42 +88,26 @@ held-clear page (suc k) (m ∷ ms) lt =
       | inr none ↦ rw (held-none page m (set ms k 0) none, held-none page m ms none) rest
     ]
 
--- where no interval begins, the length is 0
-pub held-free : (from to page k : ℕ) (ns : List ℕ) → IsClear from to (held_from page ns) → k < length ns → from ≤ page + k → page + k < to →
-    get_or ns k 0 ≡ 0
-held-free from to page k [] clear lt l u = absurd (omega arith)
-held-free from to page zero (m ∷ ms) clear lt l u =
+-- where an interval has room none begins, so the length is 0
+pub held-free : (size page k : ℕ) (a : Interval) (ns : List ℕ) → has_room size (held_from page ns) a ≡ true → 0 < a.pages →
+    a.start ≡ page + k → k < length ns → get_or ns k 0 ≡ 0
+held-free size page k a [] room some is lt = absurd (omega arith)
+held-free size page zero a (m ∷ ms) room some is lt =
     elim (cases_lt 0 m) [
-      | inl some ↦
-          let c : IsClear from to (record { start = page; pages = m } ∷ held_from (suc page) ms) =
-          subst (IsClear from to) (held-some page m ms some) clear in
-          elim c.0 [
-            | inl before ↦ absurd (omega arith)
-            | inr after ↦ absurd (omega arith)
-          ]
+      | inl had ↦
+          let i : Interval = record { start = page; pages = m } in
+          let over = has_room-over size a i (held_from (suc page) ms) (meets-over a i (omega arith) (omega arith)) in
+          absurd (both_ways _ over (rw (held-some page m ms had) at room))
       | inr none ↦ omega arith
     ]
-held-free from to page (suc k) (m ∷ ms) clear lt l u =
+held-free size page (suc k) a (m ∷ ms) room some is lt =
     elim (cases_lt 0 m) [
-      | inl some ↦
-          let c : IsClear from to (record { start = page; pages = m } ∷ held_from (suc page) ms) =
-          subst (IsClear from to) (held-some page m ms some) clear in
-          held-free from to (suc page) k ms c.1 (omega arith) (omega arith) (omega arith)
-      | inr none ↦
-          held-free from to (suc page) k ms (subst (IsClear from to) (held-none page m ms none) clear) (omega arith) (omega arith)
-          (omega arith)
+      | inl had ↦
+          let parts = room_parts size a (record { start = page; pages = m }) (held_from (suc page) ms)
+          (rw (held-some page m ms had) at room) in
+          held-free size (suc page) k a ms parts.1 some (omega arith) (omega arith)
+      | inr none ↦ held-free size (suc page) k a ms (rw (held-none page m ms none) at room) some (omega arith) (omega arith)
     ]
-
--- the first of those that are left is held, and the others come after it
-pub held-next : (page pages left rest : ℕ) (ns : List ℕ) → left ≡ suc rest → page < length ns → 1 ≤ pages → get_or ns page 0 ≡ 0 →
-    with_buffers pages (run_starts (page + pages) pages rest) (held_from 0 (set ns page pages))
-    ≡ with_buffers pages (run_starts page pages left) (held_from 0 ns)
-held-next page pages left rest ns is lt some free =
-    let here : 0 + page ≡ page = omega arith in
-    let one : held_from 0 (set ns page pages) ≡ with_interval (record { start = page; pages = pages }) (held_from 0 ns) =
-    held-set 0 page pages ns lt some free ∙ ap (λ s. with_interval (record { start = s; pages = pages }) (held_from 0 ns)) here in
-    ap (with_buffers pages (run_starts (page + pages) pages rest)) one
-    ∙ ap (λ n. with_buffers pages (run_starts page pages n) (held_from 0 ns)) (sym is)
 
 -- the next of a run goes after those before it
 pub gone-next : (start pages n m page : ℕ) (ns ns0 : List ℕ) → m ≡ suc n → page ≡ start + n * pages → page < length ns →

@@ -2,7 +2,6 @@ mod Backs
 mod Blocking
 mod Filling
 mod Finding
-mod Fits
 mod Gaps
 mod Greatest
 mod HeldRuns
@@ -17,5 +16,5 @@ pub mod Runs
 mod Searches
 mod Sounds
 mod Spaces
-mod TakenRuns
+mod Taking
 mod Touching

@@ -59,21 +59,6 @@ spaced-rises low (h ∷ hs) s (suc j) (suc k) d le lt =
     let before : j ≤ k = omega arith in
     spaced-rises (end_of h + 1) hs f.rest j k d before within
 
--- and so do their starts
-pub spaced-begins : (low : ℕ) (hs : List Interval) → spaced low hs ≡ true → IsNonDecreasingBy (λ (h : Interval). h.start) hs
-spaced-begins low [] s j k d le lt = absurd (omega arith)
-spaced-begins low (h ∷ hs) s zero zero d le lt = omega arith
-spaced-begins low (h ∷ hs) s (suc j) zero d le lt = absurd (omega arith)
-spaced-begins low (h ∷ hs) s zero (suc k) d le lt =
-    let f = first_spaced low h hs s in
-    let within : k < length hs = omega arith in
-    let r = spaced-at (end_of h + 1) hs f.rest k d within in omega (arith, r)
-spaced-begins low (h ∷ hs) s (suc j) (suc k) d le lt =
-    let f = first_spaced low h hs s in
-    let within : k < length hs = omega arith in
-    let before : j ≤ k = omega arith in
-    spaced-begins (end_of h + 1) hs f.rest j k d before within
-
 -- what comes back is merged behind the holes that end before it
 pub released_at : (i : Interval) (hs : List Interval) →
     with_released i hs ≡ take (prefix_len (λ (h : Interval). nat_lt (end_of h) i.start) hs)

@@ -1,15 +1,13 @@
 -- First fit on a list of holes.
-use Rattle.std.specs.Prelude.{ℕ, zero, suc, ◌+◌, ◌-◌, ◌*◌, ◌/◌, ◌<◌, ◌≤◌, get_or, nat_lt, Bool, ◌==◌, List, [], ◌∷◌, if◌then◌else◌}
+use Rattle.std.specs.Prelude.{ℕ, zero, suc, ◌+◌, ◌-◌, ◌*◌, ◌/◌, ◌≡◌, ◌≤◌, nat_lt, Bool, ◌==◌, List, [], ◌∷◌, if◌then◌else◌, IsTrue, length}
 use Rattle.std.specs.List.{prefix_len, sum_by}
 use Rattle.sm_names.specs.declared.keys.Interval.{Interval}
+use Rattle.buffer_pool.specs.Holes.{holes_of}
+use Rattle.buffer_pool.specs.Holdings.{in_order}
 
 -- the hole has fewer pages
 abbrev pub too_small : ℕ → Interval → Bool
 too_small pages hole = nat_lt hole.pages pages
-
--- the holes from one place up to another are too small
-abbrev pub AreSmall : ℕ → ℕ → ℕ → List Interval → Type 0
-AreSmall pages from to holes = (k : ℕ) (d : Interval) → from ≤ k → k < to → (get_or holes k d).pages < pages
 
 -- how many buffers of this many pages the holes have room for
 abbrev pub rooms : ℕ → List Interval → ℕ
@@ -44,11 +42,13 @@ abbrev pub holes_after : ℕ → ℕ → List Interval → List Interval
 holes_after pages zero holes = holes
 holes_after pages (suc n) holes = holes_after pages n (taken pages holes)
 
--- this many buffers have room side by side in the first hole that is not too small for one
-abbrev pub FitsInFirst : ℕ → ℕ → List Interval → Type 0
-FitsInFirst pages n holes = (d : Interval) → n * pages ≤ (get_or holes (prefix_len (too_small pages) holes) d).pages
-
 -- the holes that a search from the first looks at, buffer by buffer
 abbrev pub looks_in : ℕ → ℕ → List Interval → ℕ
 looks_in pages zero holes = 0
 looks_in pages (suc n) holes = prefix_len (too_small pages) holes + 1 + looks_in pages n (taken pages holes)
+
+-- these are the starts of so many buffers, which all have room in the holes of a pool in which these are held
+pub record AreFirstFits (size pages : ℕ) (starts : List ℕ) (held : List Interval) : Type 0 where
+  pub in_order : IsTrue (in_order 0 size held)
+  pub has_rooms : length starts ≤ rooms pages (holes_of size held)
+  pub starts_are : starts ≡ starts_in pages (length starts) (holes_of size held)

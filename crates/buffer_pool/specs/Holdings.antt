@@ -1,5 +1,5 @@
 -- What callers see of a pool, and what placing and giving back make of it.
-use Rattle.std.specs.Prelude.{◌≡◌, ℕ, zero, suc, ◌+◌, ◌*◌, ◌<◌, ◌≤◌, ◌⊎◌, ⊤, nat_lt, nat_le, Bool, false, not, ◌&&◌, ◌==◌, List, [], ◌∷◌, if◌then◌else◌, IsTrue, All, AllPairs, Contains, length}
+use Rattle.std.specs.Prelude.{◌≡◌, ℕ, zero, suc, ◌+◌, ◌*◌, ◌<◌, ◌≤◌, nat_lt, nat_le, Bool, false, not, ◌&&◌, ◌==◌, List, [], ◌∷◌, if◌then◌else◌, IsTrue, All, AllPairs, Contains, length}
 use Rattle.std.specs.List.{filter, sum_by}
 use Rattle.sm_names.specs.declared.rules.TheConstants.{MAX_PAGES}
 use Rattle.sm_names.specs.declared.keys.Interval.{Interval}
@@ -44,11 +44,6 @@ without start held = filter (λ i. not (i.start == start)) held
 -- the interval of this many pages that lies behind this many others of as many pages, the first of which begins at this page
 abbrev pub in_run : ℕ → ℕ → ℕ → Interval
 in_run start pages n = record { start = start + n * pages; pages = pages }
-
--- none of the intervals begins at one page or behind it and before another
-abbrev pub IsClear : ℕ → ℕ → List Interval → Type 0
-IsClear from to [] = ⊤
-IsClear from to (i ∷ is) = ((i.start < from) ⊎ (to ≤ i.start)) × IsClear from to is
 
 -- this many intervals of as many pages are held that lie side by side from this page on
 abbrev pub HasRun : ℕ → ℕ → ℕ → List Interval → Type 0

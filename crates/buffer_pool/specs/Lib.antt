@@ -6,4 +6,3 @@ pub mod Looks
 pub mod Merging
 pub mod Placing
 pub mod Rows
-pub mod Runs

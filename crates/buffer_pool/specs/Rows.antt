@@ -1,11 +1,11 @@
 -- What callers see of intervals that lie in blocks.
-use Rattle.std.specs.Prelude.{◌≡◌, ℕ, ◌+◌, ◌-◌, ◌*◌, ◌<◌, ◌≤◌, Bool, true, false, List, [], All, length, take, get_or}
-use Rattle.std.specs.List.{flat_map, prefix_len}
+use Rattle.std.specs.Prelude.{◌≡◌, ℕ, ◌+◌, ◌-◌, ◌*◌, ◌<◌, ◌≤◌, List, [], All, length, take, get_or}
+use Rattle.std.specs.List.{flat_map}
 use Rattle.buffer_pool.specs.declared.block.TheConstants.{HALF, FULL}
 use Rattle.sm_names.specs.declared.keys.Interval.{Interval}
 use Rattle.buffer_pool.specs.declared.blocks.Spot.{Spot}
 use Rattle.buffer_pool.specs.declared.blocks.Reach.{Reach}
-use Rattle.buffer_pool.specs.Fitting.{too_small}
+use Rattle.buffer_pool.specs.Fitting.{rooms}
 use Rattle.buffer_pool.specs.Holes.{end_of}
 
 -- the intervals, and how many there can be before there have to be more blocks
@@ -49,10 +49,9 @@ pub record IsChanged (old new : Blocked) (spot : Spot) (items : List Interval) :
   pub front : take spot.block new.lists ≡ take spot.block old.lists
   pub capacity : capacity_of new ≡ capacity_of old
 
--- the page at which an interval ends, or at which it begins
-abbrev pub edge_of : Bool → Interval → ℕ
-edge_of true i = end_of i
-edge_of false i = i.start
+-- the interval has a page, and its end is a number of 32 bits
+abbrev pub IsSane : Interval → Type 0
+IsSane i = (0 < i.pages) × (end_of i < 4294967296)
 
 -- what the fields of a block keep true
 pub record IsBlock (greatest room : ℕ) (items : List Interval) : Type 0 where
@@ -67,8 +66,9 @@ pub record AreBlocks (used spare : List (List Interval)) (used_room spare_room :
   pub has_used_room : length used + length spare ≤ used_room
   pub has_spare_room : length used + length spare ≤ spare_room
 
--- where a search can start: it is known how many intervals lie in the blocks before, and none up to there has this many pages
+-- where a search can start: it is known how many intervals lie in the blocks before, and none there has this many pages
 pub record IsPassed (pages : ℕ) (reach : Reach) (lists : List (List Interval)) : Type 0 where
-  pub within : IsInsertSpot lists reach.spot
-  pub before : reach.before ≡ length (all_in (take reach.spot.block lists))
-  pub passed : spot_index lists reach.spot ≤ prefix_len (too_small pages) (all_in lists)
+  pub some : 1 ≤ pages
+  pub within : reach.block ≤ length lists
+  pub before : reach.before ≡ length (all_in (take reach.block lists))
+  pub passed : rooms pages (all_in (take reach.block lists)) ≡ 0

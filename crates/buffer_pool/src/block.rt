@@ -1,20 +1,21 @@
 //! A block of intervals: a short list, which a change does not copy.
-ghost use Rattle.std.specs.Prelude.{List, ◌≡◌, false, ◌+◌, ◌-◌, ◌*◌, ◌<◌, ◌≤◌, ◌^◌, [], ◌++◌, length, take, drop, set, slice_index_or, nat_lt, vec_capacity, IfOk};
-ghost use Rattle.std.specs.List.{insert, insert_slice, remove_range, prefix_len};
+ghost use Rattle.std.specs.Prelude.{List, ◌≡◌, false, ◌+◌, ◌-◌, ◌*◌, ◌<◌, ◌≤◌, ◌^◌, [], ◌++◌, length, take, drop, set, slice_index_or, nat_lt, min, vec_capacity, All, IfOk};
+ghost use Rattle.std.specs.List.{insert, insert_slice, remove, prefix_len};
 ghost use Rattle.std.specs.List.Sorted.{IsNonDecreasingBy};
 ghost use Rattle.sm_names.specs.declared.keys.Interval.{Interval};
-ghost use Rattle.buffer_pool.specs.Fitting.{too_small, AreSmall, rooms};
-ghost use Rattle.buffer_pool.specs.Rows.{edge_of};
+ghost use Rattle.buffer_pool.specs.Fitting.{rooms, starts_in, holes_after, looks_in, run_starts};
+ghost use Rattle.buffer_pool.specs.Holes.{end_of};
+ghost use Rattle.buffer_pool.specs.Rows.{IsSane};
 
-use sm_names::Interval;
+use sm_names::{Interval, MAX_PAGES};
 use std::alloc::{AllocError, Global};
 use std::marker::Model;
 
 /// The most intervals that a block has.
-pub(crate) const FULL: usize = 128;
+pub(crate) const FULL: usize = 64;
 
 /// How many stay where a full block is divided in two.
-pub(crate) const HALF: usize = 64;
+pub(crate) const HALF: usize = 32;
 
 /// This many intervals one after another. A change moves those behind it.
 #[derive(Drop)]
@@ -82,19 +83,12 @@ impl Block {
         self.cells.insert(at, new).unwrap();
     }
 
-    /// Takes this many intervals from this place on out.
-    pub(crate) fn remove_run(&mut self, at: usize, count: usize)
-        requires { at + count ≤ length self.old }
-        ensures { self.new ≡ remove_range self.old at (at + count) }
+    /// Takes the interval at a place out.
+    pub(crate) fn remove(&mut self, at: usize)
+        requires { at < length self.old }
+        ensures { self.new ≡ remove self.old at }
     {
-        // This moves the others at once.
-        if count == 1 {
-            self.cells.remove(at);
-            return;
-        }
-        let left = self.cells.len() - count;
-        self.cells.copy_within(at + count.., at);
-        self.cells.truncate(left);
+        self.cells.remove(at);
     }
 
     /// Moves those from a place on into a block of none.
@@ -120,11 +114,10 @@ impl Block {
         other.cells.truncate(0);
     }
 
-    /// How many end before this page, or begin before it. It looks close to a place first, and then
-    /// searches by halves.
-    pub(crate) fn place(&self, page: u64, by_end: bool, near: usize) -> usize
-        requires { IsNonDecreasingBy (edge_of by_end) self.now }
-        ensures { result ≡ prefix_len (λ i. nat_lt (edge_of by_end i) page) self.now }
+    /// How many end before this page. It looks close to a place first, and then searches by halves.
+    pub(crate) fn place(&self, page: u64, near: usize) -> usize
+        requires { IsNonDecreasingBy end_of self.now }
+        ensures { result ≡ prefix_len (λ i. nat_lt (end_of i) page) self.now }
     {
         let mut low = 0;
         let mut high = self.cells.len();
@@ -132,7 +125,7 @@ impl Block {
         while low < high {
             let at = place_to_look(low, high, guess);
             guess = next_guess(guess, near);
-            if edge(self.cells[at], by_end) < page {
+            if end(self.cells[at]) < page {
                 low = at + 1;
             } else {
                 high = at;
@@ -141,51 +134,94 @@ impl Block {
         low
     }
 
-    /// The first that has this many pages from a place on before which none has, or their number. Where
-    /// none is left this is kept, so that the next search for as many passes the block at once.
-    pub(crate) fn fit(&mut self, from: usize, pages_each: u32) -> usize
+    /// Whether an interval may have this many pages.
+    pub(crate) fn may_fit(&self, pages_each: u32) -> bool
+        requires { 1 ≤ pages_each }
+        ensures { result ≡ false → rooms pages_each self.now ≡ 0 }
+    {
+        self.greatest >= pages_each
+    }
+
+    /// How many of so many buffers are left once those that have room here are placed. Where none has, this
+    /// is kept, so that the next search for as many pages passes the block at once.
+    pub(crate) fn left_over(&mut self, count: u32, pages_each: u32) -> u32
         requires pages { 1 ≤ pages_each }
-        requires passed { from ≤ prefix_len (too_small pages_each) self.old }
-        ensures found { result ≡ prefix_len (too_small pages_each) self.old }
+        requires some { 1 ≤ count }
+        ensures left { result ≡ count - rooms pages_each self.old }
         ensures same { self.new ≡ self.old }
     {
         if self.greatest < pages_each {
-            return self.cells.len();
+            return count;
         }
-        let at = fit_in(&self.cells, from, pages_each);
-        if at == self.cells.len() {
+        let left = left_over_in(&self.cells, count, pages_each);
+        if left == count {
             self.greatest = pages_each - 1;
-        }
-        at
-    }
-
-    /// How many buffers of this many are left once those from a place on have taken what has room
-    /// there.
-    pub(crate) fn left_over(&self, from: usize, pages_each: u32, count: u32) -> u32
-        requires pages { 1 ≤ pages_each }
-        requires from { from ≤ length self.now }
-        ensures { result ≡ count - rooms pages_each (drop from self.now) }
-    {
-        let mut left = count;
-        for at in from..self.cells.len() {
-            if left == 0 {
-                return 0;
-            }
-            left = left.saturating_sub(self.cells[at].pages / pages_each);
         }
         left
     }
+
+    /// Takes pages for at most this many buffers from the front of each interval that has as many, and
+    /// pushes where they begin. So many intervals lie in the blocks before.
+    pub(crate) fn take(
+        &mut self,
+        most: u32,
+        pages_each: u32,
+        before: usize,
+        starts: &mut Vec<u32>,
+    ) -> Taken
+        requires pages { 1 ≤ pages_each }
+        requires sane { All IsSane self.old }
+        requires few { before + length self.old ≤ MAX_PAGES }
+        requires room { length starts.old.items + most ≤ vec_capacity starts.old }
+        ensures count { result.count ≡ min most (rooms pages_each self.old) }
+        ensures items { self.new ≡ holes_after pages_each result.count self.old }
+        ensures starts { starts.new.items
+            ≡ starts.old.items ++ starts_in pages_each result.count self.old }
+        ensures looks { result.looks
+            ≡ result.count * before + looks_in pages_each result.count self.old }
+        ensures capacity { vec_capacity starts.new ≡ vec_capacity starts.old }
+    {
+        if self.greatest < pages_each {
+            return Taken { count: 0, looks: 0 };
+        }
+        let mut count = 0;
+        let mut looks = 0;
+        let mut at = first_in(&self.cells, pages_each);
+        let mut kept = at;
+        while count < most && at < self.cells.len() {
+            let hole = self.cells[at];
+            let more = (most - count).min(hole.pages / pages_each);
+            push_starts(starts, hole.start, pages_each, more);
+            looks += more as u64 * (before + kept + 1) as u64;
+            count += more;
+            let pages = more * pages_each;
+            if pages < hole.pages {
+                self.cells[kept] = Interval {
+                    start: hole.start + pages,
+                    pages: hole.pages - pages,
+                };
+                kept += 1;
+            }
+            at += 1;
+        }
+        self.cells.copy_within(at.., kept);
+        self.cells.truncate(self.cells.len() - (at - kept));
+        Taken { count, looks }
+    }
 }
 
-/// The page at which an interval ends, or at which it begins.
-pub(crate) fn edge(i: Interval, by_end: bool) -> u64
-    ensures { result ≡ edge_of by_end i }
+/// Buffers that were placed: how many, and at how many intervals a search for them looks.
+#[derive(Clone, Copy)]
+pub(crate) struct Taken {
+    pub(crate) count: u32,
+    pub(crate) looks: u64,
+}
+
+/// The page behind the last of an interval.
+pub(crate) fn end(i: Interval) -> u64
+    ensures { result ≡ end_of i }
 {
-    if by_end {
-        u64::from(i.start) + u64::from(i.pages)
-    } else {
-        u64::from(i.start)
-    }
+    u64::from(i.start) + u64::from(i.pages)
 }
 
 /// A place from `low` up to `high`: the guess, or the middle.
@@ -209,29 +245,48 @@ pub(crate) fn next_guess(guess: usize, near: usize) -> usize {
     }
 }
 
-// The first that has this many pages, or their number. It looks at eight at a time.
-fn fit_in(holes: &[Interval], from: usize, pages_each: u32) -> usize
-    requires { from ≤ prefix_len (too_small pages_each) holes.now }
-    ensures { result ≡ prefix_len (too_small pages_each) holes.now }
+// How many of so many buffers are left once those that have room are placed.
+fn left_over_in(holes: &[Interval], count: u32, pages_each: u32) -> u32
+    requires { 1 ≤ pages_each }
+    ensures { result ≡ count - rooms pages_each holes.now }
 {
-    let mut at = from;
-    while holes.len() - at >= 8 && !one_fits(holes, at, pages_each) {
-        at += 8;
+    let mut left = count;
+    for at in 0..holes.len() {
+        if holes[at].pages >= pages_each {
+            left = left.saturating_sub(holes[at].pages / pages_each);
+            if left == 0 {
+                return 0;
+            }
+        }
     }
+    left
+}
+
+// The first that has this many pages, or their number.
+fn first_in(holes: &[Interval], pages_each: u32) -> usize
+    requires { 1 ≤ pages_each }
+    ensures within { result ≤ length holes.now }
+    ensures passed { rooms pages_each (take result holes.now) ≡ 0 }
+{
+    let mut at = 0;
     while at < holes.len() && holes[at].pages < pages_each {
         at += 1;
     }
     at
 }
 
-// Whether one of the next eight holes is not too small.
-fn one_fits(holes: &[Interval], at: usize, pages_each: u32) -> bool
-    requires { at + 8 ≤ length holes.now }
-    ensures { result ≡ false → AreSmall pages_each at (at + 8) holes.now }
+// Pushes the starts of this many buffers of as many pages, side by side from this page on.
+fn push_starts(starts: &mut Vec<u32>, start: u32, pages: u32, count: u32)
+    requires room { length starts.old.items + count ≤ vec_capacity starts.old }
+    requires fits { start + count * pages < 2 ^ 32 }
+    ensures items { starts.new.items ≡ starts.old.items ++ run_starts start pages count }
+    ensures capacity { vec_capacity starts.new ≡ vec_capacity starts.old }
 {
-    let mut fits = false;
-    for place in at..at + 8 {
-        fits = fits | (holes[place].pages >= pages_each);
+    let mut next = start;
+    let mut left = count;
+    while left > 0 {
+        starts.push_reserved(next);
+        next += pages;
+        left -= 1;
     }
-    fits
 }

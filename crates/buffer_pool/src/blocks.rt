@@ -1,12 +1,13 @@
 //! Intervals in blocks, so that a change moves no more than a block of them.
-ghost use Rattle.std.specs.Prelude.{◌≡◌, true, false, ◌+◌, ◌-◌, ◌*◌, ◌++◌, ◌∷◌, [], ◌<◌, ◌≤◌, ◌^◌, length, take, drop, set, get_or, slice_index_or, nat_lt, nat_le, min, max, All, IfOk, OnOk};
-ghost use Rattle.std.specs.List.{insert, insert_slice, remove, remove_range, prefix_len};
+ghost use Rattle.std.specs.Prelude.{◌≡◌, true, false, ◌+◌, ◌-◌, ◌*◌, ◌++◌, ◌∷◌, [], ◌<◌, ◌≤◌, ◌^◌, length, take, drop, set, get_or, slice_index_or, nat_lt, nat_le, max, vec_capacity, All, IfOk, OnOk};
+ghost use Rattle.std.specs.List.{insert, insert_slice, remove, prefix_len};
 ghost use Rattle.std.specs.List.Sorted.{IsNonDecreasingBy};
 ghost use Rattle.sm_names.specs.declared.keys.Interval.{Interval};
-ghost use Rattle.buffer_pool.specs.Fitting.{too_small, rooms};
-ghost use Rattle.buffer_pool.specs.Rows.{capacity_of, all_in, spot_index, HasIntervalAt, IsInsertSpot, IsNextOrEnd, IsChanged, IsPassed, edge_of};
+ghost use Rattle.buffer_pool.specs.Fitting.{rooms, starts_in, holes_after, looks_in};
+ghost use Rattle.buffer_pool.specs.Holes.{end_of};
+ghost use Rattle.buffer_pool.specs.Rows.{capacity_of, all_in, spot_index, HasIntervalAt, IsInsertSpot, IsNextOrEnd, IsChanged, IsPassed, IsSane};
 
-use crate::block::{Block, FULL, HALF, edge, next_guess, place_to_look};
+use crate::block::{Block, FULL, HALF, end, next_guess, place_to_look};
 use sm_names::{Interval, MAX_PAGES};
 use std::alloc::{AllocError, Global};
 use std::marker::Model;
@@ -18,10 +19,10 @@ pub(crate) struct Spot {
     pub(crate) offset: usize,
 }
 
-/// A spot, and how many intervals lie in the blocks before its own.
+/// A block, and how many intervals lie in those before it.
 #[derive(Clone, Copy)]
 pub(crate) struct Reach {
-    pub(crate) spot: Spot,
+    pub(crate) block: usize,
     pub(crate) before: usize,
 }
 
@@ -130,17 +131,17 @@ impl Blocks {
         }
     }
 
-    /// The spot behind all that end before this page, or that begin before it.
-    pub(crate) fn find(&self, page: u64, by_end: bool) -> Spot
-        requires { IsNonDecreasingBy (edge_of by_end) (all_in self.now.lists) }
+    /// The spot behind all that end before this page.
+    pub(crate) fn find(&self, page: u64) -> Spot
+        requires { IsNonDecreasingBy end_of (all_in self.now.lists) }
         ensures within { IsInsertSpot self.now.lists result }
         ensures place { spot_index self.now.lists result
-            ≡ prefix_len (λ i. nat_lt (edge_of by_end i) page) (all_in self.now.lists) }
+            ≡ prefix_len (λ i. nat_lt (end_of i) page) (all_in self.now.lists) }
     {
-        let block = block_of(&self.used, page, by_end, self.near.block);
+        let block = block_of(&self.used, page, self.near.block);
         let mut offset = 0;
         if block < self.used.len() {
-            offset = self.used[block].place(page, by_end, self.near.offset);
+            offset = self.used[block].place(page, self.near.offset);
         }
         Spot { block, offset }
     }
@@ -187,32 +188,12 @@ impl Blocks {
     /// Takes the interval at a spot out.
     pub(crate) fn remove(&mut self, spot: Spot)
         requires { HasIntervalAt self.old.lists spot }
-        ensures changed { IsChanged self.old self.new spot
+        ensures { IsChanged self.old self.new spot
             (remove (all_in self.old.lists) (spot_index self.old.lists spot)) }
-        ensures within { IsInsertSpot self.new.lists spot }
     {
-        self.remove_run(spot, 1);
-    }
-
-    /// Takes intervals from a spot on out, at most this many, and none of the next block. Answers how many.
-    pub(crate) fn remove_run(&mut self, spot: Spot, most: usize) -> usize
-        requires there { HasIntervalAt self.old.lists spot }
-        requires some { 1 ≤ most }
-        ensures count { (1 ≤ result) × (result ≤ most) }
-        ensures no_fewer { result
-            ≡ min most (length (get_or self.old.lists spot.block []) - spot.offset) }
-        ensures changed { IsChanged self.old self.new spot (remove_range (all_in self.old.lists)
-            (spot_index self.old.lists spot) (spot_index self.old.lists spot + result)) }
-        ensures within { IsInsertSpot self.new.lists spot }
-    {
-        let count = most.min(self.used[spot.block].len() - spot.offset);
-        self.used[spot.block].remove_run(spot.offset, count);
+        self.used[spot.block].remove(spot.offset);
         self.near = spot;
-        if self.used[spot.block].len() == 0 {
-            let block = self.used.remove(spot.block);
-            self.spare.push_reserved(block);
-        }
-        count
+        clear(&mut self.used, &mut self.spare, spot.block);
     }
 
     // Puts an interval into a block that is not full.
@@ -303,56 +284,94 @@ impl Blocks {
         Ok(())
     }
 
-    /// The spot of the first that has this many pages, from one on before which none has, or behind all.
-    pub(crate) fn fit(&mut self, from: Reach, pages_each: u32) -> Reach
-        requires pages { 1 ≤ pages_each }
-        requires few { length (all_in self.old.lists) ≤ MAX_PAGES }
-        requires from { IsPassed pages_each from self.old.lists }
-        ensures passed { IsPassed pages_each result self.old.lists }
-        ensures found { spot_index self.old.lists result.spot
-            ≡ prefix_len (too_small pages_each) (all_in self.old.lists) }
-        ensures taken { IsNextOrEnd self.old.lists result.spot }
-        ensures same { self.new ≡ self.old }
+    /// The first block that may have an interval of this many pages, from one on before which none has.
+    pub(crate) fn first(&self, from: Reach, pages_each: u32) -> Reach
+        requires few { length (all_in self.now.lists) ≤ MAX_PAGES }
+        requires from { IsPassed pages_each from self.now.lists }
+        ensures { IsPassed pages_each result self.now.lists }
     {
-        let mut block = from.spot.block;
-        let mut offset = from.spot.offset;
+        let mut block = from.block;
         let mut before = from.before;
-        while block < self.used.len() {
-            let at = self.used[block].fit(offset, pages_each);
-            let count = self.used[block].len();
-            if at < count {
-                let spot = Spot { block, offset: at };
-                return Reach { spot, before };
-            }
-            before += count;
+        while block < self.used.len() && !self.used[block].may_fit(pages_each) {
+            before += self.used[block].len();
             block += 1;
-            offset = 0;
         }
-        Reach {
-            spot: Spot { block, offset: 0 },
-            before,
-        }
+        Reach { block, before }
     }
 
-    /// Whether there is room for this many buffers, where before this spot there is none.
-    pub(crate) fn has_rooms(&self, from: Spot, count: u32, pages_each: u32) -> bool
-        requires pages { 1 ≤ pages_each }
-        requires within { IsInsertSpot self.now.lists from }
-        requires first { spot_index self.now.lists from
-            ≡ prefix_len (too_small pages_each) (all_in self.now.lists) }
-        ensures { result ≡ nat_le count (rooms pages_each (all_in self.now.lists)) }
+    /// How many of so many buffers are left once those are placed that have room, where before a block none
+    /// has.
+    pub(crate) fn left_over(&mut self, from: Reach, count: u32, pages_each: u32) -> u32
+        requires { IsPassed pages_each from self.old.lists }
+        ensures left { result ≡ count - rooms pages_each (all_in self.old.lists) }
+        ensures same { self.new ≡ self.old }
     {
         let mut left = count;
-        let mut offset = from.offset;
-        for block in from.block..self.used.len() {
-            left = self.used[block].left_over(offset, pages_each, left);
-            if left == 0 {
-                return true;
-            }
-            offset = 0;
+        let mut block = from.block;
+        while left > 0 && block < self.used.len() {
+            left = self.used[block].left_over(left, pages_each);
+            block += 1;
         }
-        left == 0
+        left
     }
+
+    /// Takes pages for this many buffers, which have room, each from the front of the first interval that has
+    /// as many, and pushes where they begin. Answers at how many intervals a search for them looks.
+    pub(crate) fn take(
+        &mut self,
+        from: Reach,
+        most: u32,
+        pages_each: u32,
+        starts: &mut Vec<u32>,
+    ) -> u64
+        requires from { IsPassed pages_each from self.old.lists }
+        requires rooms { most ≤ rooms pages_each (all_in self.old.lists) }
+        requires sane { All IsSane (all_in self.old.lists) }
+        requires few { length (all_in self.old.lists) ≤ MAX_PAGES }
+        requires room { length starts.old.items + most ≤ vec_capacity starts.old }
+        ensures items { all_in self.new.lists ≡ holes_after pages_each most (all_in self.old.lists) }
+        ensures capacity { capacity_of self.new ≡ capacity_of self.old }
+        ensures passed { IsPassed pages_each from self.new.lists }
+        ensures starts { starts.new.items
+            ≡ starts.old.items ++ starts_in pages_each most (all_in self.old.lists) }
+        ensures looks { result ≡ looks_in pages_each most (all_in self.old.lists) }
+    {
+        let mut block = from.block;
+        let mut before = from.before;
+        let mut count = 0;
+        let mut looks = 0;
+        while count < most {
+            let taken = self.used[block].take(most - count, pages_each, before, starts);
+            count += taken.count;
+            looks += taken.looks;
+            let kept = clear(&mut self.used, &mut self.spare, block);
+            before += kept;
+            if kept > 0 {
+                block += 1;
+            }
+        }
+        looks
+    }
+}
+
+// Makes a block spare if it has no interval. Answers how many it has.
+fn clear(used: &mut Vec<Block>, spare: &mut Vec<Block>, at: usize) -> usize
+    requires there { at < length used.old.items }
+    requires room { length spare.old.items < vec_capacity spare.old }
+    ensures count { result ≡ length (get_or used.old.items at []) }
+    ensures gone { result ≡ 0 → (used.new.items ≡ remove used.old.items at)
+        × (spare.new.items ≡ spare.old.items ++ [] ∷ []) }
+    ensures kept { 0 < result → (used.new.items ≡ used.old.items)
+        × (spare.new.items ≡ spare.old.items) }
+    ensures capacity { (vec_capacity used.old ≤ vec_capacity used.new)
+        × (vec_capacity spare.old ≤ vec_capacity spare.new) }
+{
+    let count = used[at].len();
+    if count == 0 {
+        let block = used.remove(at);
+        spare.push_reserved(block);
+    }
+    count
 }
 
 // The first of two blocks side by side that have no more intervals than one can have, if there are such.
@@ -371,16 +390,16 @@ fn short_pair(blocks: &[Block]) -> usize
     at
 }
 
-// The block in which the place lies behind all that end before this page, or that begin before it. It
-// looks close to a block first, and then searches by halves.
-fn block_of(blocks: &[Block], page: u64, by_end: bool, near: usize) -> usize
+// The block in which the place lies behind all that end before this page. It looks close to a block
+// first, and then searches by halves.
+fn block_of(blocks: &[Block], page: u64, near: usize) -> usize
     requires { All (λ b. 0 < length b) blocks.now }
     ensures within { result ≤ length blocks.now }
     ensures none { result ≡ length blocks.now → length blocks.now ≡ 0 }
     ensures below { (d : Interval) → 0 < result
-        → edge_of by_end (get_or (get_or blocks.now result []) 0 d) < page }
+        → end_of (get_or (get_or blocks.now result []) 0 d) < page }
     ensures above { (d : Interval) → result + 1 < length blocks.now
-        → page ≤ edge_of by_end (get_or (get_or blocks.now (result + 1) []) 0 d) }
+        → page ≤ end_of (get_or (get_or blocks.now (result + 1) []) 0 d) }
 {
     let mut low = 0;
     let mut high = blocks.len().saturating_sub(1);
@@ -388,7 +407,7 @@ fn block_of(blocks: &[Block], page: u64, by_end: bool, near: usize) -> usize
     while low < high {
         let before = place_to_look(low, high, guess);
         guess = next_guess(guess, near);
-        if edge(blocks[before + 1].get(0), by_end) < page {
+        if end(blocks[before + 1].get(0)) < page {
             low = before + 1;
         } else {
             high = before;

@@ -1,29 +1,23 @@
 //! The held intervals: at each page, how many pages the one has that begins there.
 ghost use Rattle.std.specs.Prelude.{ℕ, ◌≡◌, ◌+◌, ◌*◌, ◌≤◌, length, IfOk};
-ghost use Rattle.buffer_pool.specs.Fitting.{run_starts};
-ghost use Rattle.buffer_pool.specs.Holdings.{with_buffers, IsClear, without_run};
+ghost use Rattle.buffer_pool.specs.Fitting.{AreFirstFits};
+ghost use Rattle.buffer_pool.specs.Holdings.{with_buffers, without_run};
 ghost use Rattle.buffer_pool.specs.Lengths.{held_from};
 
 use sm_names::{Interval, MAX_PAGES};
 use std::alloc::{AllocError, Global};
 
-/// Holds `count` intervals that lie side by side, each as long as `first`, which is the first of them. No
-/// held interval begins among them. O(count).
-pub(crate) fn hold_run(lengths: &mut Vec<u32>, first: Interval, count: u32)
-    requires some { 1 ≤ first.pages }
-    requires inside { first.start + count * first.pages ≤ length lengths.old.items }
-    requires clear { IsClear first.start (first.start + count * first.pages)
+/// Holds intervals of this many pages, each where the first hole begins that is not too small. O(starts).
+pub(crate) fn hold(lengths: &mut Vec<u32>, starts: &[u32], pages: u32)
+    requires some { 1 ≤ pages }
+    requires fit { AreFirstFits (length lengths.old.items) pages starts.now
         (held_from 0 lengths.old.items) }
-    ensures held { held_from 0 lengths.new.items ≡ with_buffers first.pages
-        (run_starts first.start first.pages count) (held_from 0 lengths.old.items) }
+    ensures held { held_from 0 lengths.new.items
+        ≡ with_buffers pages starts.now (held_from 0 lengths.old.items) }
     ensures size { length lengths.new.items ≡ length lengths.old.items }
 {
-    let mut page = first.start as usize;
-    let mut left = count;
-    while left > 0 {
-        lengths[page] = first.pages;
-        page += first.pages as usize;
-        left -= 1;
+    for start in starts {
+        lengths[*start as usize] = pages;
     }
 }
 

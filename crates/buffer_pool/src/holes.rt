@@ -1,34 +1,30 @@
 //! First fit and merging on the holes of a pool.
-ghost use Rattle.std.specs.Prelude.{ℕ, List, ◌≡◌, ◌+◌, ◌++◌, ◌∷◌, [], ◌<◌, ◌≤◌, ◌^◌, length, take, drop, nat_le, nat_lt, All, IsTrue, IfOk, OnOk};
+ghost use Rattle.std.specs.Prelude.{ℕ, List, ◌≡◌, ◌+◌, ◌++◌, ◌∷◌, [], ◌<◌, ◌≤◌, ◌^◌, length, take, drop, nat_le, nat_lt, vec_capacity, All, IsTrue, IfOk, OnOk};
 ghost use Rattle.std.specs.List.{prefix_len};
 ghost use Rattle.sm_names.specs.declared.keys.Interval.{Interval};
 ghost use Rattle.buffer_pool.specs.Holes.{end_of};
-ghost use Rattle.buffer_pool.specs.Fitting.{too_small, rooms, first_fit, holes_after, FitsInFirst};
+ghost use Rattle.buffer_pool.specs.Fitting.{rooms, starts_in, holes_after, looks_in};
 ghost use Rattle.buffer_pool.specs.Merging.{spaced, first_ends, first_begins, with_merged, with_released};
-ghost use Rattle.buffer_pool.specs.Rows.{all_in, spot_index, capacity_of, HasIntervalAt, IsInsertSpot, IsNextOrEnd, IsChanged, IsPassed};
-ghost use Rattle.buffer_pool.specs.Runs.{FillsFirst};
+ghost use Rattle.buffer_pool.specs.Rows.{all_in, spot_index, capacity_of, HasIntervalAt, IsNextOrEnd, IsChanged, IsPassed, IsSane};
 
-use crate::block::edge;
+use crate::block::end;
 use crate::blocks::{Blocks, Reach, Spot};
+use crate::placement::Placed;
 use sm_names::{Interval, MAX_PAGES};
 use std::alloc::{AllocError, Global};
 use std::marker::Model;
 
 // Where a search starts of which nothing is known.
 const START: Reach = Reach {
-    spot: Spot {
-        block: 0,
-        offset: 0,
-    },
+    block: 0,
     before: 0,
 };
 
-/// The holes by page. Where the last search ended is remembered for the next ones of as many pages or
-/// more.
+/// The holes by page.
 #[derive(Drop)]
 pub(crate) struct Holes {
     blocks: Blocks,
-    // No hole before the reach has this many pages.
+    // No hole in the blocks before the reach has this many pages.
     pages: u32,
     reach: Reach,
 }
@@ -43,22 +39,6 @@ impl Model for Holes {
     ghost invariant = { λ h. IsPassed h.pages h.reach h.blocks.lists };
 }
 
-/// Buffers side by side at the front of a hole: where the first begins, how many there are, and how many
-/// holes lie before this one.
-#[derive(Clone, Copy)]
-pub(crate) struct Taken {
-    pub(crate) start: u32,
-    pub(crate) count: u32,
-    pub(crate) before: usize,
-}
-
-// Where the first of buffers side by side begins, and how many there are.
-#[derive(Clone, Copy)]
-struct Front {
-    start: u32,
-    count: u32,
-}
-
 impl Holes {
     /// One hole.
     pub(crate) fn of_one(alloc: Global, one: Interval) -> Result<Holes, AllocError>
@@ -66,10 +46,16 @@ impl Holes {
     {
         let mut blocks = Blocks::new(alloc);
         blocks.reserve(1)?;
-        blocks.insert(START.spot, one);
+        blocks.insert(
+            Spot {
+                block: 0,
+                offset: 0,
+            },
+            one,
+        );
         Ok(Holes {
             blocks,
-            pages: 0,
+            pages: 1,
             reach: START,
         })
     }
@@ -90,38 +76,31 @@ impl Holes {
         ensures rooms { result ≡ nat_le count (rooms pages_each self.old.items) }
         ensures same { self.new ≡ self.old }
     {
-        let found = seek(&mut self.blocks, self.pages, self.reach, pages_each);
+        let found = seek(&self.blocks, self.pages, self.reach, pages_each);
         self.pages = pages_each;
         self.reach = found;
-        self.blocks.has_rooms(found.spot, count, pages_each)
+        self.blocks.left_over(found, count, pages_each) == 0
     }
 
-    /// Takes pages from the front of the first hole that is not too small for one buffer: for as many
-    /// buffers as have room there, and at most this many.
-    pub(crate) fn take_front(&mut self, pages_each: u32, most: u32) -> Taken
+    /// Takes pages for this many buffers, which have room, each from the front of the first hole that is not
+    /// too small.
+    pub(crate) fn take(&mut self, count: u32, pages_each: u32, mut starts: Vec<u32>) -> Placed
         requires pages { 1 ≤ pages_each }
-        requires most { 1 ≤ most }
+        requires rooms { count ≤ rooms pages_each self.old.items }
+        requires sane { All IsSane self.old.items }
         requires few { length self.old.items ≤ MAX_PAGES }
-        requires some { prefix_len (too_small pages_each) self.old.items < length self.old.items }
-        requires fits { All (λ h. end_of h < 2 ^ 32) self.old.items }
-        ensures start { result.start ≡ first_fit pages_each self.old.items }
-        ensures before { result.before ≡ prefix_len (too_small pages_each) self.old.items }
-        ensures count { (1 ≤ result.count) × (result.count ≤ most) }
-        ensures in_first { FitsInFirst pages_each result.count self.old.items }
-        ensures no_fewer { FillsFirst pages_each most result.count self.old.items }
-        ensures items { self.new.items ≡ holes_after pages_each result.count self.old.items }
+        requires empty { starts.items ≡ [] }
+        requires room { count ≤ vec_capacity starts }
+        ensures starts { result.starts.items ≡ starts_in pages_each count self.old.items }
+        ensures looks { result.looks ≡ looks_in pages_each count self.old.items }
+        ensures items { self.new.items ≡ holes_after pages_each count self.old.items }
         ensures capacity { self.new.capacity ≡ self.old.capacity }
     {
-        let found = seek(&mut self.blocks, self.pages, self.reach, pages_each);
+        let found = seek(&self.blocks, self.pages, self.reach, pages_each);
         self.pages = pages_each;
         self.reach = found;
-        let front = shorten(&mut self.blocks, found.spot, pages_each, most);
-        let before = found.before + found.spot.offset;
-        Taken {
-            start: front.start,
-            count: front.count,
-            before,
-        }
+        let looks = self.blocks.take(found, count, pages_each, &mut starts);
+        Placed { starts, looks }
     }
 
     /// Puts pages back that nobody holds, as one hole with those that they touch.
@@ -135,30 +114,23 @@ impl Holes {
         ensures capacity { self.new.capacity ≡ self.old.capacity }
     {
         let reach = loosened(&mut self.blocks, self.reach);
-        let found = self.blocks.find(u64::from(back.start), true);
+        let found = self.blocks.find(u64::from(back.start));
         let spot = self.blocks.settle(found);
         self.reach = lowered(reach, spot);
         put_back(&mut self.blocks, spot, back);
     }
 }
 
-// The first hole that is not too small. The search starts where one for this many pages ended, if they
-// are no more.
-fn seek(blocks: &mut Blocks, known: u32, reach: Reach, pages_each: u32) -> Reach
+// The first block that may have a hole of this many pages. The search starts where one for this many pages
+// ended, if they are no more.
+fn seek(blocks: &Blocks, known: u32, reach: Reach, pages_each: u32) -> Reach
     requires pages { 1 ≤ pages_each }
-    requires few { length (all_in blocks.old.lists) ≤ MAX_PAGES }
-    requires known { IsPassed known reach blocks.old.lists }
-    ensures passed { IsPassed pages_each result blocks.old.lists }
-    ensures found { spot_index blocks.old.lists result.spot
-        ≡ prefix_len (too_small pages_each) (all_in blocks.old.lists) }
-    ensures settled { IsNextOrEnd blocks.old.lists result.spot }
-    ensures same { blocks.new ≡ blocks.old }
+    requires few { length (all_in blocks.now.lists) ≤ MAX_PAGES }
+    requires known { IsPassed known reach blocks.now.lists }
+    ensures { IsPassed pages_each result blocks.now.lists }
 {
-    if known <= pages_each {
-        blocks.fit(reach, pages_each)
-    } else {
-        blocks.fit(START, pages_each)
-    }
+    let from = if known <= pages_each { reach } else { START };
+    blocks.first(from, pages_each)
 }
 
 // Makes a block spare, and gives where the next search can start.
@@ -179,56 +151,14 @@ fn loosened(blocks: &mut Blocks, reach: Reach) -> Reach
 
 // Where the next search can start once a hole changes at the spot.
 fn lowered(reach: Reach, spot: Spot) -> Reach
-    ensures block { result.spot.block ≤ spot.block }
-    ensures offset { result.spot.offset ≡ 0 }
+    ensures block { result.block ≤ spot.block }
     ensures passed { (pages : ℕ) (lists : List (List Interval)) → IsPassed pages reach lists →
         IsPassed pages result lists }
 {
-    if reach.spot.block <= spot.block {
-        Reach {
-            spot: Spot {
-                block: reach.spot.block,
-                offset: 0,
-            },
-            before: reach.before,
-        }
+    if reach.block <= spot.block {
+        reach
     } else {
         START
-    }
-}
-
-// Takes pages from the front of the first hole that is not too small for one buffer, for as many as have
-// room there and at most this many.
-fn shorten(blocks: &mut Blocks, spot: Spot, pages_each: u32, most: u32) -> Front
-    requires pages { 1 ≤ pages_each }
-    requires most { 1 ≤ most }
-    requires first { spot_index blocks.old.lists spot
-        ≡ prefix_len (too_small pages_each) (all_in blocks.old.lists) }
-    requires some { HasIntervalAt blocks.old.lists spot }
-    requires fits { All (λ h. end_of h < 2 ^ 32) (all_in blocks.old.lists) }
-    ensures start { result.start ≡ first_fit pages_each (all_in blocks.old.lists) }
-    ensures count { (1 ≤ result.count) × (result.count ≤ most) }
-    ensures in_first { FitsInFirst pages_each result.count (all_in blocks.old.lists) }
-    ensures no_fewer { FillsFirst pages_each most result.count (all_in blocks.old.lists) }
-    ensures changed { IsChanged blocks.old blocks.new spot
-        (holes_after pages_each result.count (all_in blocks.old.lists)) }
-    ensures within { IsInsertSpot blocks.new.lists spot }
-{
-    let hole = blocks.get(spot);
-    let count = most.min(hole.pages / pages_each);
-    let pages = count * pages_each;
-    if hole.pages == pages {
-        blocks.remove(spot);
-    } else {
-        let rest = Interval {
-            start: hole.start + pages,
-            pages: hole.pages - pages,
-        };
-        blocks.set(spot, rest);
-    }
-    Front {
-        start: hole.start,
-        count,
     }
 }
 
@@ -238,7 +168,7 @@ fn ends_at(blocks: &Blocks, spot: Spot, page: u32) -> bool
     ensures { result
         ≡ first_ends page (drop (spot_index blocks.now.lists spot) (all_in blocks.now.lists)) }
 {
-    blocks.has_interval(spot) && edge(blocks.get(spot), true) == u64::from(page)
+    blocks.has_interval(spot) && end(blocks.get(spot)) == u64::from(page)
 }
 
 // Whether there is a hole at this spot that begins at this page.
@@ -247,7 +177,7 @@ fn begins_at(blocks: &Blocks, spot: Spot, page: u64) -> bool
     ensures { result
         ≡ first_begins page (drop (spot_index blocks.now.lists spot) (all_in blocks.now.lists)) }
 {
-    blocks.has_interval(spot) && edge(blocks.get(spot), false) == page
+    blocks.has_interval(spot) && u64::from(blocks.get(spot).start) == page
 }
 
 // Makes one hole of this and the next, if they touch.
@@ -265,7 +195,7 @@ fn join_next(blocks: &mut Blocks, spot: Spot, hole: Interval)
         offset: spot.offset + 1,
     };
     let next = blocks.settle(behind);
-    if begins_at(blocks, next, edge(hole, true)) {
+    if begins_at(blocks, next, end(hole)) {
         let more = blocks.get(next).pages;
         let whole = Interval {
             start: hole.start,
@@ -298,7 +228,7 @@ fn put_back(blocks: &mut Blocks, spot: Spot, back: Interval)
             pages: before.pages + back.pages,
         };
         join_next(blocks, spot, hole);
-    } else if begins_at(blocks, spot, edge(back, true)) {
+    } else if begins_at(blocks, spot, end(back)) {
         let behind = blocks.get(spot);
         let hole = Interval {
             start: back.start,

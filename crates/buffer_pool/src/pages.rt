@@ -1,12 +1,11 @@
 //! The pool.
 ghost use Rattle.std.specs.Prelude.{ℕ, ◌≡◌, ◌+◌, ◌*◌, ◌<◌, ◌≤◌, ◌++◌, ◌↔◌, [], length, vec_capacity, ◌^◌, IfOk, OnErr, OnOk, None, Err, Contains};
 ghost use Rattle.sm_names.specs.Pages.{places};
-ghost use Rattle.buffer_pool.specs.Fitting.{rooms, starts_in, holes_after, looks_in, run_starts};
-ghost use Rattle.buffer_pool.specs.Holdings.{AreGaps, HasRun, IsSound, total_pages, with_buffers, without, without_run};
+ghost use Rattle.buffer_pool.specs.Holdings.{HasRun, IsSound, total_pages, with_buffers, without, without_run};
 ghost use Rattle.buffer_pool.specs.Placing.{PlacesBuffers};
 ghost use Rattle.buffer_pool.specs.Lengths.{held_from};
 
-use crate::holding::{hold_run, let_go, list_held};
+use crate::holding::{hold, let_go, list_held};
 use crate::holes::Holes;
 use crate::placement::{Placed, PoolFault};
 use sm_names::{Interval, MAX_PAGES, NoMemory};
@@ -71,12 +70,11 @@ impl Pool {
     /// `PoolFull` where some buffer has no such start, and `NoMemory` where a growth is refused.
     /// Either leaves the pool as it was.
     ///
-    /// The holes lie in blocks of at most 128. Costs two walks over the blocks, from where the last
-    /// search ended if that was for as many pages or fewer and no pages came back before, up to the last
-    /// start, or to the end where the pool is full: a block whose greatest hole is too small is passed at
-    /// once. The buffers that lie in one hole leave it together. A hole that they fill costs a move of at
-    /// most a block, and where the block becomes empty, of the part of the list of blocks behind it. O(1)
-    /// for each buffer besides.
+    /// The holes lie in blocks of at most 64. Costs two walks over the blocks up to that of the last start, or
+    /// to the end where the pool is full. They begin where the last search for as many pages or fewer did, if
+    /// no pages came back before. A block whose greatest hole is too small is passed at once. In another each
+    /// hole is looked at, and those that stay move once. Where a block becomes empty, the part of the list of
+    /// blocks behind it moves. O(1) for each buffer besides.
     pub fn place(&mut self, count: u32, pages_each: u32) -> Result<Placed, PoolFault>
         requires { (1 ≤ count) × (1 ≤ pages_each) }
 
@@ -99,13 +97,8 @@ impl Pool {
             count,
         ) {
             Ok(starts) => {
-                let placed = fill(
-                    &mut self.holes,
-                    &mut self.lengths,
-                    starts,
-                    count,
-                    pages_each,
-                );
+                let placed = self.holes.take(count, pages_each, starts);
+                hold(&mut self.lengths, &placed.starts, pages_each);
                 self.free -= count * pages_each;
                 self.buffers += count;
                 Ok(placed)
@@ -191,62 +184,4 @@ fn reserve(
 {
     holes.reserve(buffers as usize + count as usize)?;
     Vec::with_capacity(alloc, count as usize)
-}
-
-// Places buffers that all have room, and computes at how many holes a first fit over a plain list looks
-// for them: it looks at no more itself. As the buffers are of one size, a hole that was too small for
-// one is too small for those after it, so the search continues where it was, and those that have room in
-// one hole lie side by side there.
-fn fill(
-    holes: &mut Holes,
-    lengths: &mut Vec<u32>,
-    mut starts: Vec<u32>,
-    count: u32,
-    pages_each: u32,
-) -> Placed
-    requires pages { 1 ≤ pages_each }
-    requires rooms { count ≤ rooms pages_each holes.old.items }
-    requires gaps { AreGaps (length lengths.old.items) holes.old.items (held_from 0 lengths.old.items) }
-    requires empty { starts.items ≡ [] }
-    requires starts_room { count ≤ vec_capacity starts }
-    ensures starts { result.starts.items ≡ starts_in pages_each count holes.old.items }
-    ensures looks { result.looks ≡ looks_in pages_each count holes.old.items }
-    ensures holes { holes.new.items ≡ holes_after pages_each count holes.old.items }
-    ensures held { held_from 0 lengths.new.items
-        ≡ with_buffers pages_each (starts_in pages_each count holes.old.items)
-        (held_from 0 lengths.old.items) }
-    ensures size { length lengths.new.items ≡ length lengths.old.items }
-    ensures capacity { holes.new.capacity ≡ holes.old.capacity }
-{
-    let mut looks = 0;
-    let mut left = count;
-    while left > 0 {
-        let taken = holes.take_front(pages_each, left);
-        let first = Interval {
-            start: taken.start,
-            pages: pages_each,
-        };
-        hold_run(lengths, first, taken.count);
-        push_starts(&mut starts, first, taken.count);
-        looks += taken.count as u64 * (taken.before as u64 + 1);
-        left -= taken.count;
-    }
-    Placed { starts, looks }
-}
-
-// Pushes the starts of this many buffers of as many pages, side by side, of which this is the first.
-fn push_starts(starts: &mut Vec<u32>, first: Interval, count: u32)
-    requires room { length starts.old.items + count ≤ vec_capacity starts.old }
-    requires fits { first.start + count * first.pages < 2 ^ 32 }
-    ensures items { starts.new.items
-        ≡ starts.old.items ++ run_starts first.start first.pages count }
-    ensures capacity { vec_capacity starts.new ≡ vec_capacity starts.old }
-{
-    let mut next = first.start;
-    let mut left = count;
-    while left > 0 {
-        starts.push_reserved(next);
-        next += first.pages;
-        left -= 1;
-    }
 }

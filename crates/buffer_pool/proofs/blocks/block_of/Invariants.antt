@@ -1,11 +1,11 @@
 -- The block lies between the two ends of the search.
 use Rattle.std.proofs.Common.{◌-◌}
-use Rattle.buffer_pool.specs.Rows.{edge_of}
+use Rattle.buffer_pool.specs.Holes.{end_of}
 use Rattle.buffer_pool.proofs.Finding.{IsBlockSearch}
 use Rattle.buffer_pool.proofs.blocks.block_of.Given as goal
 
 abbrev pub invariant-loop-low : goal.invariant-loop-low
-invariant-loop-low l = IsBlockSearch (edge_of l.by_end) l.page l.low l.high l.blocks
+invariant-loop-low l = IsBlockSearch end_of l.page l.low l.high l.blocks
 
 abbrev pub decreases-loop-low : goal.decreases-loop-low
 decreases-loop-low l = l.high - l.low

@@ -12,7 +12,7 @@ returns-then-has_interval c =
     let lt = place-within c.args.blocks.now.lists c.args.spot.block c.args.spot.offset taken.0 taken.1 in
     let parts = rw (sym c.get.ensures) at (drop_more (all_in c.args.blocks.now.lists) (spot_index c.args.blocks.now.lists c.args.spot)
     c.get.result lt) in
-    rw (parts, c.edge.ensures) refl
+    rw (parts, c.from.ensures) refl
 
 -- by arithmetic and the usual steps
 pub returns-else-has_interval : goal.returns-else-has_interval

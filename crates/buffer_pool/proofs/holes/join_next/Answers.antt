@@ -29,7 +29,7 @@ returns-then-begins_at c =
     let m = (goal.at.returns-then-begins_at c).After-settle-next in
     let L : List (List Interval) = c.args.blocks.now.lists in
     let hs : List Interval = all_in L in
-    let test = rw (c.edge.ensures, next m) at c.begins_at.ensures in
+    let test = rw (c.end.ensures, next m) at c.begins_at.ensures in
     let begins : first_begins (end_of c.args.hole) (drop (spot_index L c.args.spot + 1) hs) ≡ true = sym test ∙ c.if-begins_at.true in
     let lt = first_within (first_begins (end_of c.args.hole)) (spot_index L c.args.spot + 1) hs refl begins in
     let is : c.get-more.result ≡ get_or hs (spot_index L c.args.spot + 1) c.get-more.result =
@@ -42,22 +42,22 @@ returns-then-begins_at c =
     (same-place L c.args.spot.block c.settle-next.result.block (set B c.args.spot.offset whole) (length-set B c.args.spot.offset whole))
     ∙ next m in
     record {
-      items_are = c.remove.ensures.changed.items_are
+      items_are = c.remove.ensures.items_are
           ∙ (λ i. remove (c.set.ensures.changed.items_are i) (place i))
           ∙ remove-next hs (spot_index L c.args.spot) whole lt
           ∙ join_touching c.args.hole c.get-more.result (spot_index L c.args.spot) hs is begins;
       front = sym (take-take c.args.spot.block c.settle-next.result.block c.remove.new.self.lists c.settle-next.ensures.block)
-          ∙ ap (take c.args.spot.block) c.remove.ensures.changed.front
+          ∙ ap (take c.args.spot.block) c.remove.ensures.front
           ∙ take-take c.args.spot.block c.settle-next.result.block c.set.new.self.lists c.settle-next.ensures.block
           ∙ c.set.ensures.changed.front;
-      capacity = c.remove.ensures.changed.capacity ∙ c.set.ensures.changed.capacity;
+      capacity = c.remove.ensures.capacity ∙ c.set.ensures.changed.capacity;
     }
 
 pub returns-else-begins_at : goal.returns-else-begins_at
 returns-else-begins_at c =
     let m = (goal.at.returns-else-begins_at c).After-settle-next in
     let L : List (List Interval) = c.args.blocks.now.lists in
-    let test = rw (c.edge.ensures, next m) at c.begins_at.ensures in
+    let test = rw (c.end.ensures, next m) at c.begins_at.ensures in
     record {
       items_are = c.set-else-begins_at.ensures.changed.items_are
           ∙ join_apart c.args.hole (spot_index L c.args.spot) (all_in L)
@@ -69,13 +69,13 @@ returns-else-begins_at c =
 -- the next hole lies where it touches this one
 pub get-more-requires : goal.get-more-requires
 get-more-requires c =
-    let test = rw c.edge.ensures at c.begins_at.ensures in
+    let test = rw c.end.ensures at c.begins_at.ensures in
     there_if c.args.blocks.now.lists c.settle-next.result (first_begins (end_of c.args.hole)) refl c.settle-next.ensures.settled
     (sym test ∙ c.if-begins_at.true)
 
 pub remove-requires : goal.remove-requires
 remove-requires c =
-    let test = rw c.edge.ensures at c.begins_at.ensures in
+    let test = rw c.end.ensures at c.begins_at.ensures in
     subst (λ (M : List (List Interval)). HasIntervalAt M c.settle-next.result) (sym c.set.ensures.lists)
     (still_there c.args.blocks.now.lists c.args.spot c.settle-next.result
     (record { start = c.args.hole.start; pages = c.args.hole.pages + c.get-more.result.pages })
@@ -85,7 +85,7 @@ remove-requires c =
 -- both end where the next one does
 pub overflow_add-whole : goal.overflow_add-whole
 overflow_add-whole c =
-    let test = rw c.edge.ensures at c.begins_at.ensures in
+    let test = rw c.end.ensures at c.begins_at.ensures in
     let touch : c.get-more.result.start ≡ end_of c.args.hole =
     begins_there c.args.blocks.now.lists c.settle-next.result (end_of c.args.hole)
     c.get-more.result c.get-more.ensures (sym test ∙ c.if-begins_at.true) in

@@ -11,7 +11,7 @@ use Rattle.buffer_pool.proofs.holes.put_back.Goals as goal
 pub insert-requires-clause-spare : goal.insert-requires-clause-spare
 insert-requires-clause-spare c =
     let ends = c.ends_at.ensures in
-    let begins = rw c.edge.ensures at c.begins_at.ensures in
+    let begins = rw c.end.ensures at c.begins_at.ensures in
     c.requires.spare
     (room_apart c.args.back (all_in c.args.blocks.now.lists) (spot_index c.args.blocks.now.lists c.args.spot) c.requires.found
     (capacity_of c.args.blocks.now) (sym ends ∙ c.if-ends_at.false) (sym begins ∙ c.if-begins_at.false) c.requires.room).1
@@ -30,7 +30,7 @@ returns-then-ends_at c =
 pub returns-then-begins_at : goal.returns-then-begins_at
 returns-then-begins_at c =
     let ends = c.ends_at.ensures in
-    let begins = rw c.edge.ensures at c.begins_at.ensures in
+    let begins = rw c.end.ensures at c.begins_at.ensures in
     record {
       items_are = c.set.ensures.changed.items_are
           ∙ released_before c.args.back (all_in c.args.blocks.now.lists) (spot_index c.args.blocks.now.lists c.args.spot) c.requires.found
@@ -42,7 +42,7 @@ returns-then-begins_at c =
 pub returns-else-begins_at : goal.returns-else-begins_at
 returns-else-begins_at c =
     let ends = c.ends_at.ensures in
-    let begins = rw c.edge.ensures at c.begins_at.ensures in
+    let begins = rw c.end.ensures at c.begins_at.ensures in
     record {
       items_are = c.insert.ensures.items_are
           ∙ released_apart c.args.back (all_in c.args.blocks.now.lists) (spot_index c.args.blocks.now.lists c.args.spot) c.requires.found
@@ -64,13 +64,13 @@ join_next-requires-clause-there c =
 
 pub get-behind-requires : goal.get-behind-requires
 get-behind-requires c =
-    let begins = rw c.edge.ensures at c.begins_at.ensures in
+    let begins = rw c.end.ensures at c.begins_at.ensures in
     there_if c.args.blocks.now.lists c.args.spot (first_begins (end_of c.args.back)) refl c.requires.settled (sym begins
     ∙ c.if-begins_at.true)
 
 pub set-requires : goal.set-requires
 set-requires c =
-    let begins = rw c.edge.ensures at c.begins_at.ensures in
+    let begins = rw c.end.ensures at c.begins_at.ensures in
     there_if c.args.blocks.now.lists c.args.spot (first_begins (end_of c.args.back)) refl c.requires.settled (sym begins
     ∙ c.if-begins_at.true)
 
@@ -84,7 +84,7 @@ overflow_add-hole c =
 
 pub overflow_add-hole-then-begins_at : goal.overflow_add-hole-then-begins_at
 overflow_add-hole-then-begins_at c =
-    let begins = rw c.edge.ensures at c.begins_at.ensures in
+    let begins = rw c.end.ensures at c.begins_at.ensures in
     let touch : c.get-behind.result.start ≡ end_of c.args.back = begins_there c.args.blocks.now.lists c.args.spot (end_of c.args.back)
     c.get-behind.result c.get-behind.ensures (sym begins ∙ c.if-begins_at.true) in
     let fits : end_of c.get-behind.result < 2 ^ 32 =

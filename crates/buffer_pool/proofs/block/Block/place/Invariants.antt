@@ -1,11 +1,11 @@
 -- The place lies between the two ends of the search.
 use Rattle.std.proofs.Common.{◌-◌}
-use Rattle.buffer_pool.specs.Rows.{edge_of}
+use Rattle.buffer_pool.specs.Holes.{end_of}
 use Rattle.buffer_pool.proofs.Searches.{IsSearch}
 use Rattle.buffer_pool.proofs.block.Block.place.Given as goal
 
 abbrev pub invariant-loop-low : goal.invariant-loop-low
-invariant-loop-low l = IsSearch (edge_of l.by_end) l.page l.low l.high l.self-inside.cells.items
+invariant-loop-low l = IsSearch end_of l.page l.low l.high l.self-inside.cells.items
 
 abbrev pub decreases-loop-low : goal.decreases-loop-low
 decreases-loop-low l = l.high - l.low

@@ -6,7 +6,8 @@ use Rattle.std.specs.List.Sorted.{IsNonDecreasingBy}
 use Rattle.std.proofs.lemmas.List.{get_or_read}
 use Rattle.std.proofs.lemmas.List.Sums.{prefix_len-le-length}
 use Rattle.sm_names.specs.declared.keys.Interval.{Interval}
-use Rattle.buffer_pool.specs.Rows.{all_in, edge_of}
+use Rattle.buffer_pool.specs.Rows.{all_in}
+use Rattle.buffer_pool.specs.Holes.{end_of}
 use Rattle.buffer_pool.proofs.Finding.{rises-in, found-in}
 use Rattle.buffer_pool.proofs.blocks.Blocks.find.Goals as goal
 use Rattle.buffer_pool.proofs.blocks.Blocks.find.Goals.{After-index}
@@ -20,13 +21,13 @@ here c = get_or_read c.self.inside.used.items c.block_of-block.result c.index.re
 pub place-offset-requires : goal.place-offset-requires
 place-offset-requires c =
     let up = rw (← c.self.view_is) at c.requires in
-    subst (IsNonDecreasingBy (edge_of c.args.by_end)) (sym (here c))
-    (rises-in (edge_of c.args.by_end) c.self.inside.used.items c.block_of-block.result (there c) up)
+    subst (IsNonDecreasingBy end_of) (sym (here c))
+    (rises-in end_of c.self.inside.used.items c.block_of-block.result (there c) up)
 
 pub returns-then-block-len-clause-within : goal.returns-then-block-len-clause-within
 returns-then-block-len-clause-within c =
     let m = (goal.at.returns-then-block-len-clause-within c).After-index in
-    let p = λ (i : Interval). nat_lt (edge_of c.args.by_end i) c.args.page in
+    let p = λ (i : Interval). nat_lt (end_of i) c.args.page in
     let short : prefix_len p c.index.result.now ≤ length c.index.result.now = prefix_len-le-length p c.index.result.now in
     let same : length c.index.result.now ≡ length (get_or c.self.inside.used.items c.block_of-block.result []) = ap length (here m) in
     let lt = there m in
@@ -40,8 +41,8 @@ returns-then-block-len-clause-place c =
     let above = rw c.deref.ensures.value at c.block_of-block.ensures.above in
     rw (← c.self.view_is)
     (ap (λ n. length (all_in (take c.block_of-block.result c.self.inside.used.items)) + n)
-    (c.place-offset.ensures ∙ ap (prefix_len (λ (i : Interval). nat_lt (edge_of c.args.by_end i) c.args.page)) (here m))
-    ∙ found-in (edge_of c.args.by_end) c.args.page c.block_of-block.result c.self.inside.used.items (there m) c.self.invariant.some up
+    (c.place-offset.ensures ∙ ap (prefix_len (λ (i : Interval). nat_lt (end_of i) c.args.page)) (here m))
+    ∙ found-in end_of c.args.page c.block_of-block.result c.self.inside.used.items (there m) c.self.invariant.some up
     below above)
 
 -- by arithmetic and the usual steps

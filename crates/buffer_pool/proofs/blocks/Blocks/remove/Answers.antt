@@ -1,14 +1,38 @@
-use Rattle.std.proofs.Common.{◌≡◌, ◌+◌, ◌∙◌, ap, suc, arith, take, drop, ◌++◌}
-use Rattle.buffer_pool.specs.Rows.{all_in, spot_index}
+-- The interval lies in one block, which is spare without it if it has no other.
+use Rattle.std.proofs.Common.{◌≡◌, ◌+◌, ◌-◌, ◌*◌, ◌<◌, ◌∙◌, ap, arith, length, get_or, set, take, []}
+use Rattle.std.specs.List.{remove}
+use Rattle.std.proofs.lemmas.List.{get_or_read}
+use Rattle.sm_names.specs.declared.keys.Interval.{Interval}
+use Rattle.std.specs.Prelude.{List}
+use Rattle.buffer_pool.specs.declared.block.TheConstants.{HALF}
+use Rattle.buffer_pool.specs.Rows.{all_in}
+use Rattle.buffer_pool.proofs.Blocking.{IsCleared, cleared}
+use Rattle.buffer_pool.proofs.Joins.{remove_in}
 use Rattle.buffer_pool.proofs.blocks.Blocks.remove.Goals as goal
+use Rattle.buffer_pool.proofs.blocks.Blocks.remove.Goals.{After-clear}
 
-pub returns-clause-changed : goal.returns-clause-changed
-returns-clause-changed c =
-    let at = spot_index c.args.self.now.lists c.args.spot in
-    let one : at + c.remove_run.result ≡ suc at = omega (arith, c.remove_run.ensures.count) in
-    let k = c.remove_run.ensures.changed in
-    record {
-      items_are = k.items_are ∙ ap (λ n. take at (all_in c.args.self.now.lists) ++ drop n (all_in c.args.self.now.lists)) one;
+clears : (c : After-clear) → IsCleared c.self.inside.used.items c.self.inside.spare.items c.args.spot.block c.remove.new.self
+    c.clear.new.used.items c.clear.new.spare.items c.clear.new.used.cap c.clear.new.spare.cap
+clears c =
+    let taken = rw (← c.self.view_is) at c.requires in
+    cleared _ _ _ _ _ _ _ _ _ _ _ taken.0 c.clear.ensures.count c.clear.ensures.gone
+    c.clear.ensures.kept (omega (arith, c.clear.ensures.capacity.0)) (omega (arith, c.clear.ensures.capacity.1)) c.self.invariant
+
+pub invariant_of-self : goal.invariant_of-self
+invariant_of-self c = (clears (goal.at.invariant_of-self c).After-clear).sound
+
+pub returns : goal.returns
+returns c =
+    let taken = rw (← c.self.view_is) at c.requires in
+    let k = clears (goal.at.returns c).After-clear in
+    let here : c.index_mut.result.now ≡ get_or c.self.inside.used.items c.args.spot.block [] =
+    get_or_read c.self.inside.used.items c.args.spot.block c.index_mut.result.now taken.0 c.index_mut.ensures.value [] in
+    rw (← c.self.view_is)
+    (record {
+      items_are = k.all
+          ∙ ap (λ (B : List Interval). all_in (set c.self.inside.used.items c.args.spot.block B))
+          (c.remove.ensures ∙ ap (λ (B : List Interval). remove B c.args.spot.offset) here)
+          ∙ remove_in c.self.inside.used.items c.args.spot.block c.args.spot.offset taken.0 taken.1;
       front = k.front;
-      capacity = k.capacity;
-    }
+      capacity = ap (λ n. (n - 1) * HALF) k.count;
+    })

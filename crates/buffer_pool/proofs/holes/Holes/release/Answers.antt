@@ -17,6 +17,5 @@ pub invariant_of-self : goal.invariant_of-self
 invariant_of-self c =
     let known = c.loosened-reach.ensures.passed c.self.inside.pages c.self.invariant in
     passed-kept c.self.inside.pages c.settle-spot.result.block c.lowered-self-inside.result c.loosened-reach.new.blocks.lists
-    c.put_back.new.blocks.lists c.lowered-self-inside.ensures.offset c.lowered-self-inside.ensures.block
-    c.settle-spot.ensures.settled.within.0 c.put_back.ensures.front
+    c.put_back.new.blocks.lists c.lowered-self-inside.ensures.block c.settle-spot.ensures.settled.within.0 c.put_back.ensures.front
     (c.lowered-self-inside.ensures.passed c.self.inside.pages c.loosened-reach.new.blocks.lists known)

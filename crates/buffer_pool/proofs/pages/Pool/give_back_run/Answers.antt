@@ -9,16 +9,14 @@ use Rattle.buffer_pool.proofs.pages.Pool.give_back_run.Goals.{After-let_go}
 pub let_go-requires : goal.let_go-requires
 let_go-requires c =
     let run = rw (← c.self.view_is) at c.requires.held in
-    let k = keeps_back c.self.inside.size c.self.inside.free c.self.inside.holes.items (held_from 0 c.self.inside.lengths.items)
-    c.self.inside.holes.capacity c.args.start c.args.pages c.args.count c.requires.some c.self.invariant.1 run in
+    let k = keeps_back _ _ _ _ _ _ _ _ c.requires.some c.self.invariant.1 run in
     record { inside = omega (arith, k.inside, c.self.invariant.0.0); some = k.some }
 
 keeps : (c : After-let_go) → KeepsBack c.self.inside.size c.self.inside.free c.self.inside.holes.items
     (held_from 0 c.self.inside.lengths.items)
     c.self.inside.holes.capacity c.args.start c.args.pages c.args.count
 keeps c =
-    keeps_back c.self.inside.size c.self.inside.free c.self.inside.holes.items (held_from 0 c.self.inside.lengths.items)
-    c.self.inside.holes.capacity c.args.start c.args.pages c.args.count c.requires.some c.self.invariant.1
+    keeps_back _ _ _ _ _ _ _ _ c.requires.some c.self.invariant.1
     (rw (← c.self.view_is) at c.requires.held)
 
 pub overflow_mul-all : goal.overflow_mul-all
@@ -48,4 +46,4 @@ invariant_of-self c =
 pub returns-clause-sound : goal.returns-clause-sound
 returns-clause-sound c =
     let k = keeps (goal.at.returns-clause-sound c).After-let_go in
-    rw (c.let_go.ensures.held) (sound_from c.self.inside.size _ k.kept.sized k.kept.in_order)
+    rw (c.let_go.ensures.held) (sound_from _ _ k.kept.sized k.kept.in_order)

@@ -3,11 +3,10 @@ use Rattle.std.proofs.Common.{◌<◌, ◌≤◌, ◌∙◌, refl, sym, ap, rule
 use Rattle.std.proofs.lemmas.Bool.{leb-true, leb-false}
 use Rattle.sm_names.specs.declared.rules.TheConstants.{MAX_PAGES}
 use Rattle.buffer_pool.specs.Fitting.{rooms, starts_in}
-use Rattle.buffer_pool.specs.Holdings.{with_buffers}
+use Rattle.buffer_pool.specs.Holdings.{AreGaps, with_buffers}
 use Rattle.buffer_pool.specs.Lengths.{held_from}
 use Rattle.buffer_pool.specs.Rows.{BlockRows}
-use Rattle.buffer_pool.proofs.Filling.{lists_of}
-use Rattle.buffer_pool.proofs.Keeping.{KeepsRun, gaps_of, keeps_run, places_buffers, not_full, is_full}
+use Rattle.buffer_pool.proofs.Keeping.{KeepsRun, gaps_of, keeps_run, lists_of, first_fits, places_buffers, not_full, is_full}
 use Rattle.buffer_pool.proofs.Orders.{length-le}
 use Rattle.buffer_pool.proofs.Sounds.{sound_from}
 use Rattle.buffer_pool.proofs.pages.Pool.place.Goals as goal
@@ -18,30 +17,43 @@ returns-then-not-has_rooms-clause-full c =
     let few : rooms c.args.pages_each c.self.inside.holes.items < c.args.count =
     leb-false _ _ (sym c.has_rooms.ensures.rooms ∙ c.if-not-has_rooms.true) in
     rw (← c.self.view_is) (
-      λ _. is_full c.self.inside.size c.self.inside.free c.args.count c.args.pages_each c.self.inside.holes.items
-          (held_from 0 c.self.inside.lengths.items)
-          c.self.inside.holes.capacity c.requires.1 c.self.invariant.1 few,
+      λ _. is_full _ _ _ _ _ _ _ c.requires.1 c.self.invariant.1 few,
       λ _. refl,
     )
 
 pub returns-then-not-has_rooms-clause-sound : goal.returns-then-not-has_rooms-clause-sound
 returns-then-not-has_rooms-clause-sound c =
-    sound_from c.self.inside.size (held_from 0 c.self.inside.lengths.items) c.self.invariant.1.sized c.self.invariant.1.in_order
+    sound_from _ _ c.self.invariant.1.sized c.self.invariant.1.in_order
 
 -- all buffers have room
 all_fit : (c : Else-not-has_rooms) → KeepsRun c.self.inside.size c.self.inside.free c.args.count c.args.pages_each c.self.inside.holes.items
     (held_from 0 c.self.inside.lengths.items)
 all_fit c =
-    keeps_run c.self.inside.size c.self.inside.free c.args.count c.args.pages_each c.self.inside.holes.items
-    (held_from 0 c.self.inside.lengths.items)
-    c.self.inside.holes.capacity c.requires.1 c.self.invariant.1
+    keeps_run _ _ _ _ _ _ _ c.requires.1 c.self.invariant.1
     (leb-true _ _ (sym c.has_rooms.ensures.rooms ∙ c.if-not-has_rooms.false))
 
-pub fill-placed-requires-clause-gaps : goal.fill-placed-requires-clause-gaps
-fill-placed-requires-clause-gaps c =
-    rw (c.reserve.ensures.holes, c.has_rooms.ensures.same, c.self.invariant.0.0)
-    (gaps_of c.self.inside.size c.self.inside.free c.self.inside.holes.items (held_from 0 c.self.inside.lengths.items)
-    c.self.inside.holes.capacity c.self.invariant.1)
+gaps : (c : Else-not-has_rooms) → AreGaps c.self.inside.size c.self.inside.holes.items (held_from 0 c.self.inside.lengths.items)
+gaps c = gaps_of _ _ _ _ _ c.self.invariant.1
+
+pub take-placed-requires-clause-sane : goal.take-placed-requires-clause-sane
+take-placed-requires-clause-sane c =
+    rw (c.reserve.ensures.holes, c.has_rooms.ensures.same)
+    (lists_of _ _ _
+    (gaps (goal.at.take-placed-requires-clause-sane c).Else-not-has_rooms)).sane
+
+pub take-placed-requires-clause-few : goal.take-placed-requires-clause-few
+take-placed-requires-clause-few c =
+    rw (c.reserve.ensures.holes, c.has_rooms.ensures.same)
+    (lists_of _ _ _
+    (gaps (goal.at.take-placed-requires-clause-few c).Else-not-has_rooms)).few
+
+pub hold-requires-clause-fit : goal.hold-requires-clause-fit
+hold-requires-clause-fit c =
+    let same = c.reserve.ensures.holes ∙ ap (λ (l : BlockRows). l.items) c.has_rooms.ensures.same in
+    rw (c.deref.ensures.value, c.self.invariant.0.0)
+    (first_fits _ _ _ _ _ _ (gaps (goal.at.hold-requires-clause-fit c).Else-not-has_rooms)
+    (leb-true _ _ (sym c.has_rooms.ensures.rooms ∙ c.if-not-has_rooms.false))
+    (c.take-placed.ensures.starts ∙ ap (starts_in c.args.pages_each c.args.count) same))
 
 pub overflow_mul-self : goal.overflow_mul-self
 overflow_mul-self c = let small = (all_fit (goal.at.overflow_mul-self c).Else-not-has_rooms).small in search rules
@@ -51,9 +63,8 @@ overflow_sub-self c = (all_fit (goal.at.overflow_sub-self c).Else-not-has_rooms)
 
 pub has_rooms-requires-clause-few : goal.has_rooms-requires-clause-few
 has_rooms-requires-clause-few c =
-    (lists_of c.self.inside.size c.self.inside.holes.items (held_from 0 c.self.inside.lengths.items)
-    (gaps_of c.self.inside.size c.self.inside.free c.self.inside.holes.items (held_from 0 c.self.inside.lengths.items)
-    c.self.inside.holes.capacity c.self.invariant.1)).few
+    (lists_of _ _ _
+    (gaps_of _ _ _ _ _ c.self.invariant.1)).few
 
 pub overflow_add-self : goal.overflow_add-self
 overflow_add-self c =
@@ -79,10 +90,12 @@ invariant_of-self-in-Ok c =
     let k = all.kept in
     let long = all.run.length_is in
     rw (
-      c.fill-placed.ensures.holes,
-      c.fill-placed.ensures.held,
-      c.fill-placed.ensures.size,
-      c.fill-placed.ensures.capacity,
+      c.take-placed.ensures.items,
+      c.hold.ensures.held,
+      c.deref.ensures.value,
+      c.take-placed.ensures.starts,
+      c.hold.ensures.size,
+      c.take-placed.ensures.capacity,
       c.reserve.ensures.holes,
       c.has_rooms.ensures.same,
     ) (
@@ -98,12 +111,11 @@ pub returns-in-Ok : goal.returns-in-Ok
 returns-in-Ok c =
     let k = all_fit (goal.at.returns-in-Ok c).Else-not-has_rooms in
     let kept = k.kept c.reserve.new.holes.capacity (omega (arith, c.self.invariant.0.1, c.in-Ok.ensures.holes_room)) in
-    let p = places_buffers c.self.inside.size c.self.inside.free c.args.count c.args.pages_each c.self.inside.holes.items
-    (held_from 0 c.self.inside.lengths.items) c.reserve.new.holes.items (held_from 0 c.self.inside.lengths.items)
-    (held_from 0 c.fill-placed.new.lengths.items)
-    c.fill-placed.result.starts.items c.fill-placed.result.looks k
-    (c.reserve.ensures.holes ∙ ap (λ (l : BlockRows). l.items) c.has_rooms.ensures.same) refl c.fill-placed.ensures.starts
-    c.fill-placed.ensures.looks c.fill-placed.ensures.held in
+    let p = places_buffers _ _ _ _ _ _ _ _ _ _ _ k
+    (c.reserve.ensures.holes ∙ ap (λ (l : BlockRows). l.items) c.has_rooms.ensures.same) refl c.take-placed.ensures.starts
+    c.take-placed.ensures.looks
+    (c.hold.ensures.held ∙ ap (λ ss. with_buffers c.args.pages_each ss (held_from 0 c.self.inside.lengths.items))
+    (c.deref.ensures.value ∙ c.take-placed.ensures.starts)) in
     rw (← c.self.view_is)
     (record {
       ok = p;
@@ -111,10 +123,16 @@ returns-in-Ok c =
       full = (
         λ same. cc,
         not_full c.self.inside.size c.args.pages_each c.args.count (held_from 0 c.self.inside.lengths.items)
-            c.fill-placed.result.starts.items _ p.starts_are,
+            c.take-placed.result.starts.items _ p.starts_are,
       );
-      sound = rw (c.fill-placed.ensures.held, c.reserve.ensures.holes, c.has_rooms.ensures.same)
-          (sound_from c.self.inside.size _ kept.sized kept.in_order);
+      sound = rw (
+        c.hold.ensures.held,
+        c.deref.ensures.value,
+        c.take-placed.ensures.starts,
+        c.reserve.ensures.holes,
+        c.has_rooms.ensures.same,
+      )
+          (sound_from _ _ kept.sized kept.in_order);
     })
 
 pub returns-in-Err : goal.returns-in-Err
@@ -129,6 +147,6 @@ returns-in-Err c =
         not_full c.self.inside.size c.args.pages_each c.args.count (held_from 0 c.self.inside.lengths.items) _ _
             k.run.places_are,
       );
-      sound = sound_from c.self.inside.size (held_from 0 c.self.inside.lengths.items) c.self.invariant.1.sized
+      sound = sound_from _ _ c.self.invariant.1.sized
           c.self.invariant.1.in_order;
     })

@@ -1,7 +1,0 @@
-use Rattle.std.proofs.Common.{arith}
-use Rattle.std.proofs.lemmas.Grind.{common_steps}
-use Rattle.buffer_pool.proofs.block.Block.remove_run.Goals as goal
-
--- by arithmetic and the usual steps
-pub returns : goal.returns
-returns c = grind (arith, common_steps)

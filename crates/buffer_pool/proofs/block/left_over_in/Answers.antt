@@ -1,0 +1,28 @@
+-- The room of the first of those that remain is subtracted.
+use Rattle.std.proofs.Common.{List, ◌≡◌, ◌+◌, ◌-◌, ◌/◌, ◌∙◌, ap, arith, drop, get_or}
+use Rattle.std.proofs.Math.Nat.{div-eq_of_lt}
+use Rattle.std.proofs.lemmas.List.{drop_more}
+use Rattle.sm_names.specs.declared.keys.Interval.{Interval}
+use Rattle.buffer_pool.specs.Fitting.{rooms}
+use Rattle.buffer_pool.proofs.Taking.{rooms-cons}
+use Rattle.buffer_pool.proofs.block.left_over_in.Goals as goal
+use Rattle.buffer_pool.proofs.block.left_over_in.Goals.{then-holes-at+else-left-eq0, else-holes-at}
+
+pub loop-at-preserved : goal.loop-at-preserved
+loop-at-preserved c =
+    let hs : List Interval = c.args.holes.now in
+    let h : Interval = get_or hs c.loop-at.at (record { start = 0; pages = 0 }) in
+    let cell : rooms c.args.pages_each (drop c.loop-at.at hs)
+    ≡ h.pages / c.args.pages_each + rooms c.args.pages_each (drop (c.loop-at.at + 1) hs) =
+    ap (rooms c.args.pages_each) (drop_more hs c.loop-at.at (record { start = 0; pages = 0 }) c.loop-at-test.true)
+    ∙ rooms-cons c.args.pages_each h (drop (c.loop-at.at + 1) hs) in
+    let so : c.loop-at.left - rooms c.args.pages_each (drop c.loop-at.at hs) ≡ c.args.count - rooms c.args.pages_each hs =
+    c.loop-at.invariant in
+    let all : c.if-holes-at.left - rooms c.args.pages_each (drop (c.loop-at.at + 1) hs) ≡ c.args.count - rooms c.args.pages_each hs =
+    elim c.if-holes-at.branch [
+      | then-holes-at+else-left-eq0 w ↦ omega (arith, cell, so, w.left-is, w.saturating_sub-left.ensures)
+      | else-holes-at w ↦
+          let none : h.pages / c.args.pages_each ≡ 0 = div-eq_of_lt (omega (arith, w.if-holes-at.false)) in
+          omega (arith, cell, so, w.left-is)
+    ] in
+    all

@@ -1,0 +1,14 @@
+-- Those so far are held, and those that are left lie where first fit puts them.
+use Rattle.std.proofs.Common.{◌≡◌, length, drop}
+use Rattle.buffer_pool.specs.Fitting.{AreFirstFits}
+use Rattle.buffer_pool.specs.Holdings.{with_buffers}
+use Rattle.buffer_pool.specs.Lengths.{held_from}
+use Rattle.buffer_pool.proofs.holding.hold.Given as goal
+
+abbrev pub invariant-loop-start : goal.invariant-loop-start
+invariant-loop-start l = record {
+  size : length l.lengths.items ≡ length l.initial.lengths.items;
+  fit : AreFirstFits (length l.initial.lengths.items) l.pages (drop l.start-index l.starts) (held_from 0 l.lengths.items);
+  held : with_buffers l.pages (drop l.start-index l.starts) (held_from 0 l.lengths.items)
+      ≡ with_buffers l.pages l.starts (held_from 0 l.initial.lengths.items);
+}
