@@ -17,16 +17,3 @@ module _ {A B C : Type 0} (f : A → C) (g : B → C) where
   pub alike-all : (xs : List A) (ys : List B) (i : ℕ) → length xs ≤ i → length ys ≤ i → map f (take i xs) ≡ map g (take i ys) → map
       f xs ≡ map g ys
   alike-all xs ys i all both same = ap (map f) (sym (take_all i xs all)) ∙ (same ∙ ap (map g) (take_all i ys both))
-
-module _ {A B : Type 0} (g : B → A) where
-  -- The first stay those that the second make.
-  pub made-more : (xs : List A) (ys : List B) (i : ℕ) (d : A) (e : B) → i < length xs → i < length ys → take i xs ≡ map g (take i ys) →
-      get_or xs i d ≡ g (get_or ys i e) → take (i + 1) xs ≡ map g (take (i + 1) ys)
-  made-more xs ys i d e within there same next =
-      take_more xs i d within
-      ∙ ((λ j. same j ++ next j ∷ [])
-      ∙ (sym (map-append g (take i ys) (get_or ys i e ∷ [])) ∙ sym (ap (map g) (take_more ys i e there))))
-
-  -- At the end all are.
-  pub made-all : (xs : List A) (ys : List B) (i : ℕ) → length xs ≤ i → length ys ≤ i → take i xs ≡ map g (take i ys) → xs ≡ map g ys
-  made-all xs ys i all both same = sym (take_all i xs all) ∙ (same ∙ ap (map g) (take_all i ys both))

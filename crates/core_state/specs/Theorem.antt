@@ -3,6 +3,7 @@ use Rattle.std.specs.Prelude.{◌≡◌, ℕ, ◌<◌, ◌≤◌, ◌↔◌, tru
 use Rattle.std.specs.List.{cons_option, filter_map}
 use Rattle.sm_names.specs.declared.messages.Call.{Call}
 use Rattle.sm_names.specs.declared.messages.Reply.{Reply}
+use Rattle.sm_names.specs.declared.outcomes.Refusal.{Refusal}
 use Rattle.sm_names.specs.declared.outcomes.StepFault.{StepFault}
 use Rattle.sm_names.specs.Answers.{IsAnswer}
 use Rattle.sm_names.specs.Marks.{Entry}
@@ -31,6 +32,10 @@ pub record Makes (old new : State) (entry : Entry) : Type 0 where
 abbrev pub Leads : State → List Entry → State → Type 0
 Leads old [] new = new ≡ old
 Leads old (entry ∷ more) new = (next : State) × Makes old next entry × Leads next more new
+
+-- a call that a core without clients refuses
+abbrev pub refused_call : Entry
+refused_call = (1, Call.Shut, Reply.Refused Refusal.NoSuchClient)
 
 -- after these events one more was not made, for this reason: nothing else happened
 pub record Stops (old : State) (entries : List Entry) (fault : StepFault) (new : State) : Type 0 where

@@ -1,12 +1,11 @@
 //! The forced steps of one collection, until none applies.
-ghost use Rattle.std.specs.Prelude.{◌≡◌, ◌≤◌, ◌^◌, ◌++◌, None, IfOk, IfSome, map, length, option_map};
-ghost use Rattle.sm_names.specs.Forced.{forced};
+ghost use Rattle.std.specs.Prelude.{◌≡◌, ◌≤◌, ◌++◌, IfOk, map, length};
 ghost use Rattle.buffer_holds.specs.Counts.{total};
 ghost use Rattle.sm_names.specs.declared.keys.HeldBuffer.{HeldBuffer as Held};
 ghost use Rattle.forest_store.specs.Decisions.{IsPlacing, IsStep, Places, mark_of};
 ghost use Rattle.forest_store.specs.Forest.{pages_in};
 ghost use Rattle.forest_store.specs.Scenes.{IsSound, laid};
-ghost use Rattle.forest_store.specs.Settling.{made, standing};
+ghost use Rattle.forest_store.specs.Settling.{made};
 ghost use Rattle.forest_store.specs.Snapshots.{collection_of};
 ghost use Rattle.forced_marks.specs.Steps.{mark_told, told, IsSized};
 ghost use Rattle.forced_marks.specs.Marks.{SettlesInStages};
@@ -56,29 +55,6 @@ pub fn settle(
         let mark = apply_step(scene, pool, others, step)?;
         all.push(Moment { mark, before })?;
     }
-}
-
-/// Makes the next forced step, if one applies, and answers its mark.
-pub fn advance(
-    scene: &mut Snapshot,
-    holds: &Holds,
-    pool: u32,
-    others: &[Interval],
-) -> Result<Option<Forced>, AllocError>
-    requires { IsSound (collection_of scene.old) }
-    ensures forced { IfOk result (λ mark.
-        forced pool (standing (total holds.now) others.now (collection_of scene.old))
-        ≡ option_map mark_told mark) }
-    ensures made { IfOk result (λ mark. IfSome mark (λ m. collection_of scene.new
-        ≡ made pool others.now (mark_told m) (collection_of scene.old))) }
-    ensures rests { IfOk result (λ mark. mark ≡ None → scene.new ≡ scene.old) }
-{
-    let decided = decide(scene, holds)?;
-    let Some(step) = decided else {
-        return Ok(None);
-    };
-    let mark = apply_step(scene, pool, others, step)?;
-    Ok(Some(mark))
 }
 
 /// Makes the step.

@@ -1,6 +1,6 @@
 //! Every call on one state.
 ghost use Rattle.std.specs.Prelude.{◌≡◌, ◌+◌, ◌<◌, ◌≤◌, ◌↔◌, ◌∷◌, ◌++◌, ◌==◌};
-ghost use Rattle.std.specs.Prelude.{[], List, length, option_map, if◌then◌else◌, IfOk, IfErr, IfSome, IfNone};
+ghost use Rattle.std.specs.Prelude.{[], List, length, replicate, option_map, if◌then◌else◌, IfOk, IfErr, IfSome, IfNone, IsOk};
 ghost use Rattle.std.specs.Prelude.{OnErr, OnOk, false, true, None, Some, option_copied};
 ghost use Rattle.sm_names.specs.declared.keys.NodeKey.{NodeKey as Key};
 ghost use Rattle.sm_names.specs.declared.tracking.Fired.{Fired};
@@ -13,8 +13,8 @@ ghost use Rattle.sm_names.specs.Trackers.{Tracked, tracked};
 ghost use Rattle.std.specs.List.{cons_option, list_any};
 ghost use Rattle.std.specs.Option.{option_and_then};
 ghost use Rattle.std.specs.Result.{result_map_both};
-ghost use Rattle.trackers.specs.Table.{empty, is_untaken, reader_of, cell_of, without_id};
-ghost use Rattle.forest_store.specs.Forest.{empty_forest, given, node_at};
+ghost use Rattle.trackers.specs.Table.{is_untaken, reader_of, cell_of, without_id};
+ghost use Rattle.forest_store.specs.Forest.{given, node_at};
 ghost use Rattle.forest_store.specs.Nodes.{is_of};
 ghost use Rattle.forest_store.specs.Settling.{MayChange, collection_or_new, no_key};
 ghost use Rattle.core_state.specs.Kinds.{fits_call, takes_no_memory};
@@ -22,9 +22,9 @@ ghost use Rattle.core_state.specs.Reads.{node_named, readings_of};
 ghost use Rattle.sm_names.specs.Timelines.{key_of as key_named};
 ghost use Rattle.core_state.specs.Shown.{Shows, ShowsBut, forgetting};
 ghost use Rattle.core_state.specs.Steps.{Follows, Work, leaves_tracker_room, work_of};
-ghost use Rattle.core_state.specs.State.{IsSame};
+ghost use Rattle.core_state.specs.State.{IsSame, empty_state};
 ghost use Rattle.core_state.specs.Tasks.{IsDecision};
-ghost use Rattle.core_state.specs.Theorem.{GoesOn, Leads, Stepped, Stops, entries};
+ghost use Rattle.core_state.specs.Theorem.{GoesOn, Leads, Stepped, Stops, entries, refused_call};
 ghost use Rattle.core_state.specs.Theorem.{tracker_told, trackers_told};
 
 mod readings;
@@ -103,15 +103,7 @@ impl Core {
     /// `NoMemory` if the pool's memory is refused. Costs O(pages).
     pub fn new(alloc: Global, pages: u32, limits: Limits) -> Result<Core, NoMemory>
         requires { (1 ≤ pages) × (pages ≤ MAX_PAGES) }
-        ensures state { IfOk result (λ core. core ≡ record {
-          pool = pages;
-          limits = limits;
-          events = 0;
-          clients = [];
-          forest = empty_forest limits.nodes;
-          holds = record { limit = limits.handles; places = 0; rows = []; parcels = [] };
-          trackers = empty limits.trackers;
-        }) }
+        ensures state { IfOk result (λ core. core ≡ empty_state pages limits 0) }
         ensures shows { IfOk result (λ core. Shows core []) }
     {
         Core::with_seed(alloc, pages, limits, [0; 16])
@@ -127,21 +119,33 @@ impl Core {
         seed: [u8; 16],
     ) -> Result<Core, NoMemory>
         requires { (1 ≤ pages) × (pages ≤ MAX_PAGES) }
-        ensures state { IfOk result (λ core. core ≡ record {
-          pool = pages;
-          limits = limits;
-          events = 0;
-          clients = [];
-          forest = empty_forest limits.nodes;
-          holds = record { limit = limits.handles; places = 0; rows = []; parcels = [] };
-          trackers = empty limits.trackers;
-        }) }
+        ensures state { IfOk result (λ core. core ≡ empty_state pages limits 0) }
         ensures shows { IfOk result (λ core. Shows core []) }
+    {
+        Core::starting_at(alloc, pages, limits, seed, 0)
+    }
+
+    /// Does what `with_seed` does, and numbers the next event `events` + 1, where `events` is at most the
+    /// limit: it makes the core that a new one becomes by so many calls of a client that nobody joined.
+    /// For tests of what comes after years.
+    pub fn starting_at(
+        alloc: Global,
+        pages: u32,
+        limits: Limits,
+        seed: [u8; 16],
+        events: u64,
+    ) -> Result<Core, NoMemory>
+        requires pages { (1 ≤ pages) × (pages ≤ MAX_PAGES) }
+        requires events { events ≤ limits.events }
+        ensures state { IfOk result (λ core. core ≡ empty_state pages limits events) }
+        ensures came { IfOk result (λ core.
+            Leads (empty_state pages limits 0) (replicate events refused_call) core) }
+        ensures shows { IfOk result (λ core. Shows core (replicate events refused_call)) }
     {
         let pool = Pool::new(alloc, pages)?;
         Ok(Core {
             limits,
-            events: 0,
+            events,
             contents: Contents {
                 clients: Vec::new(alloc),
                 forest: Forest::new(alloc, limits.nodes() as usize),
@@ -523,9 +527,9 @@ impl Core {
     /// taken can't be taken any more. A reader that was taken still reads its firing. This is no event, and
     /// changes no answer.
     ///
-    /// `NoMemory` if a new index of the waiting trackers is refused; then nothing changed. Costs O(t +
-    /// w log w) for t trackers made since the last time, of which w wait.
+    /// It takes no memory, so that it is never refused. Costs O(t) for t trackers made since the last time.
     pub fn forget_fired(&mut self) -> Result<(), NoMemory>
+        ensures done { IsOk result }
         ensures forgot { OnOk result (self.new ≡ forgetting self.old) }
         ensures kept { OnErr result (self.new ≡ self.old) }
         ensures shows { OnOk result ((gone : List Fired) (history : List Entry) →

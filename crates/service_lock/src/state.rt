@@ -197,9 +197,9 @@ pub fn is_full<E: Setup, S: Ledger, W: Ledger>(state: &State<E, S, W>) -> bool
     state.limits.events() <= state.core.events()
 }
 
-/// Takes the reader of the tracker with this id: `Some` once for each tracker that a reply named,
-/// otherwise `None`. The reader knows the firing if there was one, and sees a later one without the lock.
-/// Takes no memory. Costs O(log t), where t is the number of trackers ever made.
+/// Takes the reader of the tracker with this id: `Some` if it is still to be taken, otherwise `None`.
+/// The reader knows the firing if there was one, and sees a later one without the lock. Takes no memory.
+/// Costs O(log t), where t is the number of trackers that the core keeps.
 #[tactic(auto, using(crate::proofs::ComingLaws::came_taken))]
 pub fn take_tracker<E: Setup, S: Ledger, W: Ledger>(
     state: &mut State<E, S, W>,

@@ -219,7 +219,7 @@ pub extern "C" fn sysmem_fired_from(
 /// Forgets the trackers that fired: `sysmem_fired` then writes later ones alone, and counts those alone.
 /// This is no event, and changes no reply.
 ///
-/// `NOT_OPEN` if the handle has no core; `NO_MEMORY` if memory is refused: nothing changed then. Costs what
+/// `NOT_OPEN` if the handle has no core: nothing changed then. No memory is taken. Costs what
 /// `Core::forget_fired` costs.
 #[unsafe(no_mangle)]
 pub extern "C" fn sysmem_forget_fired(alloc: Global, handle: &mut CoreHandle) -> u32

@@ -7,6 +7,7 @@ mod giving;
 mod holding;
 mod holdings;
 mod lasting;
+mod late;
 mod lending;
 mod limits;
 mod placing;

@@ -1,6 +1,6 @@
 -- What one row more leaves.
-use Rattle.std.proofs.Common.{◌≡◌, ℕ, ◌+◌, ◌<◌, ◌≤◌, Bool, true, false, ◌==◌, if◌then◌else◌, cond, List, [], ◌∷◌}
-use Rattle.std.proofs.Common.{◌++◌, map, length, count_by, Some, None, option_to_list, refl, sym, ap, ◌∙◌, arith}
+use Rattle.std.proofs.Common.{◌≡◌, ℕ, ◌+◌, ◌<◌, ◌≤◌, Bool, ◌==◌, if◌then◌else◌, cond, List, [], ◌∷◌}
+use Rattle.std.proofs.Common.{◌++◌, map, length, count_by, refl, sym, ap, ◌∙◌, arith}
 use Rattle.std.specs.List.{filter_map, cons_option, AllByRecursion}
 use Rattle.std.proofs.lemmas.List.{map_push, length_push}
 use Rattle.std.proofs.lemmas.List.Sums.{sum_by-append, sum_by-cons}
@@ -8,11 +8,10 @@ use Rattle.sm_names.specs.declared.tracking.Fired.{Fired}
 use Rattle.trackers.specs.declared.waiting.Waiting.{Waiting}
 use Rattle.trackers.specs.Table.{Cell, Attaches, firing_of}
 use Rattle.trackers.specs.Row.{TrackerRow, RowState, Waits, Over, is_waiting, waiting_of_row, firing_of_row}
-use Rattle.trackers.specs.WaitIndex.{WaitIndex, Wish, entries_of, weigh}
-use Rattle.trackers.specs.Held.{cell_of_row, untaken_of_row, wish_of_row, wishes_from, IdsRise, TableInvariant, NoneHas, table_of, attached}
-use Rattle.trackers.proofs.IndexLemmas.{asked_push}
+use Rattle.trackers.specs.WaitIndex.{WaitIndex, trackers_in, waiters_of}
+use Rattle.trackers.specs.Held.{cell_of_row, untaken_of_row, IdsRise, TableInvariant, NoneHas, table_of, attached}
+use Rattle.trackers.proofs.IndexLemmas.{indexed_push}
 use Rattle.trackers.proofs.FoundLemmas.{table_with}
-use Rattle.trackers.proofs.Weights.{weigh_append}
 use Rattle.trackers.proofs.Walks.{filter_map_push}
 
 -- a row that waits is shown
@@ -71,10 +70,10 @@ module _ (limit capacity capacity' spare spare' : ℕ) (rows rows' : List Tracke
   -- the table is right with one row more
   pub sound_push : (cell : ℕ) (t : Waiting) → AllByRecursion (λ (r : TrackerRow). r.id < t.id) rows → count_by is_waiting rows < limit →
       length rows + 1 ≤ capacity' → count_by is_waiting rows + 1 ≤ spare' → rows' ≡ rows ++ attached cell t ∷ [] →
-      ((k : ℕ) (f : Wish → ℕ) → weigh f (entries_of new k)
-      ≡ (if k == t.collection then f (t.condition, length rows) + weigh f (entries_of old k) else weigh
-      f (entries_of old k))) → TableInvariant limit rows' fired' capacity' spare' new
-  sound_push cell t all room_left room spare_left pushed indexed =
+      (hint : ℕ) → ((k : ℕ) → waiters_of new k
+      ≡ (if k == t.collection then waiters_of old k ++ record { tracker = t; hint = hint } ∷ [] else waiters_of old k)) →
+      TableInvariant limit rows' fired' capacity' spare' new
+  sound_push cell t all room_left room spare_left pushed hint indexed =
       let row : TrackerRow = attached cell t in
       rw (same, pushed) record {
         held = record {
@@ -85,27 +84,13 @@ module _ (limit capacity capacity' spare spare' : ℕ) (rows rows' : List Tracke
           told = told_push row fired rows (sound.held.own t.id (fresh t.id rows all)) sound.held.told;
           own = λ other none. sound.held.own other (none_push row other rows none);
         };
-        indexed = record {
-          at = λ k f.
-              let had : weigh f (entries_of old k) ≡ weigh f (wishes_from k 0 rows) = sound.indexed.at k f in
-              let joined : weigh f (wishes_from k 0 (rows ++ row ∷ [])) ≡ weigh f (wishes_from k 0 rows) + weigh f
-              (option_to_list (wish_of_row k (0 + length rows) row)) =
-              ap (weigh f) (asked_push k 0 rows row)
-              ∙ weigh_append f (wishes_from k 0 rows) (option_to_list (wish_of_row k (0 + length rows) row)) in
-              let place_is : 0 + length rows ≡ length rows = omega arith in
-              indexed k f ∙ (elim (k == t.collection) as (λ b.
-              (if b then f (t.condition, length rows) + weigh f (entries_of old k) else weigh f (entries_of old k)) ≡ weigh f
-              (wishes_from k 0 rows) + weigh f (option_to_list (if b then Some (t.condition, 0 + length rows) else None))) [
-                | true ↦ omega (arith, had, ap (λ m. f (t.condition, m)) place_is)
-                | false ↦ omega (arith, had)
-              ] ∙ sym joined);
-        };
+        indexed = rw (filter_map_push waiting_of_row rows row) (indexed_push old new (filter_map waiting_of_row rows) t hint sound.indexed indexed);
         spare_room = omega (arith, spare_left, sum_by-append (λ r. cond (is_waiting r) 1 0) rows (row ∷ []));
       }
 
   -- and with more room alone
   pub sound_grown : capacity ≤ capacity' → spare ≤ spare' → rows' ≡ rows →
-      ((k : ℕ) (f : Wish → ℕ) → weigh f (entries_of new k) ≡ weigh f (entries_of old k)) →
+      ((k : ℕ) → waiters_of new k ≡ waiters_of old k) →
       TableInvariant limit rows' fired' capacity' spare' new
   sound_grown more more_spare stay indexed = rw (same, stay) record {
     held = record {
@@ -116,7 +101,7 @@ module _ (limit capacity capacity' spare spare' : ℕ) (rows rows' : List Tracke
       told = sound.held.told;
       own = sound.held.own;
     };
-    indexed = record { at = λ k f. indexed k f ∙ sound.indexed.at k f };
+    indexed = record { at = λ k. ap trackers_in (indexed k) ∙ sound.indexed.at k };
     spare_room = omega (arith, sound.spare_room, more_spare);
   }
 

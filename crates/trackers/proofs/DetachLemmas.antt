@@ -1,22 +1,19 @@
 -- What is left once the last row is taken out, where that was attached just now.
-use Rattle.std.proofs.Common.{◌≡◌, ◌≢◌, ℕ, ◌+◌, ◌<◌, ◌≤◌, Bool, true, false, ◌==◌, if◌then◌else◌, List, [], ◌∷◌, ◌++◌, map}
-use Rattle.std.proofs.Common.{length, count_by, cond, Option, Some, None, refl, sym, ap, subst, ◌∙◌, arith, append-nil}
+use Rattle.std.proofs.Common.{◌≡◌, ◌≢◌, ℕ, ◌+◌, ◌<◌, Bool, true, false, ◌==◌, if◌then◌else◌, List, [], ◌∷◌, ◌++◌, map}
+use Rattle.std.proofs.Common.{◌-◌, take, length, count_by, cond, Option, Some, None, refl, sym, ap, subst, ◌∙◌, arith, append-nil}
 use Rattle.std.specs.List.{filter_map, cons_option, AllByRecursion}
-use Rattle.std.specs.Option.{option_map_or, option_to_list}
+use Rattle.std.specs.Option.{option_to_list}
 use Rattle.std.proofs.lemmas.Bool.{eqb-true, eq-eqb}
-use Rattle.std.proofs.lemmas.Bool.Decides.{nat_tests}
 use Rattle.std.proofs.lemmas.List.{map_push, length_push, same_from_push}
 use Rattle.std.proofs.lemmas.List.Sums.{sum_by-append, sum_by-cons}
 use Rattle.sm_names.specs.declared.tracking.Fired.{Fired}
-use Rattle.sm_names.specs.declared.tracking.Condition.{Condition}
 use Rattle.trackers.specs.declared.waiting.Waiting.{Waiting}
 use Rattle.trackers.specs.Table.{Cell, TrackerTable, Attaches, firing_of}
 use Rattle.trackers.specs.Row.{TrackerRow, RowState, Waits, Over, is_waiting, waiting_of_row, firing_of_row}
-use Rattle.trackers.specs.WaitIndex.{WaitIndex, Wish, entries_of, weigh, weigh_at}
-use Rattle.trackers.specs.Held.{cell_of_row, untaken_of_row, wish_of_row, wishes_from, IdsRise, TableInvariant, NoneHas, table_of}
-use Rattle.trackers.proofs.IndexLemmas.{asked_push}
+use Rattle.trackers.specs.WaitIndex.{WaitIndex, IsIndexed, waiters_of}
+use Rattle.trackers.specs.Held.{cell_of_row, untaken_of_row, IdsRise, TableInvariant, NoneHas, table_of}
+use Rattle.trackers.proofs.IndexLemmas.{indexed_pop}
 use Rattle.trackers.proofs.Walks.{filter_map_push, row_of}
-use Rattle.trackers.proofs.Weights.{weigh_append}
 
 -- ---- the last of a list
 
@@ -137,32 +134,6 @@ module _ (limit : ℕ) (rows : List TrackerRow) (row : TrackerRow) (fired : List
 
 -- ---- the rows that are left
 
--- nothing behind the rows is asked
-none_at_row : (collection m n id cell : ℕ) (state : RowState) (has : Bool) (f : Wish → ℕ) (more : List Wish) → n < m →
-    weigh (weigh_at m f) more ≡ 0 →
-    weigh (weigh_at m f) (cons_option (wish_of_row collection n (row_of id cell state has)) more) ≡ 0
-none_at_row collection m n id cell (Over event) has f more less rest = rest
-none_at_row collection m n id cell (Waits p c) has f more less rest =
-    elim (collection == p) as (λ b. weigh (weigh_at m f) (cons_option (if b then Some (c, n) else None) more) ≡ 0) [
-      | true ↦
-          let other : (n == m) ≡ false = grind (arith, nat_tests, less) in
-          let nought : weigh_at m f (c, n) ≡ 0 = rw other refl in
-          omega (arith, nought, rest)
-      | false ↦ rest
-    ]
-
--- the rows stand at places before m, so none of their wishes is at m
-none_at : (collection m n : ℕ) (f : Wish → ℕ) (rows : List TrackerRow) → n + length rows ≤ m →
-    weigh (weigh_at m f) (wishes_from collection n rows) ≡ 0
-none_at collection m n f [] within = refl
-none_at collection m n f (row ∷ rows) within =
-    none_at_row collection m n row.id row.cell row.state row.has_reader f _ (omega (arith, within)) (none_at collection m (n + 1) f rows
-    (omega (arith, within)))
-
--- and what is asked right there counts
-all_at : (m : ℕ) (c : Condition) (f : Wish → ℕ) → weigh_at m f (c, 0 + m) ≡ f (c, 0 + m)
-all_at m c f = let same : (0 + m == m) ≡ true = grind (arith, nat_tests) in rw same refl
-
 -- an id that no row but the last has is had by none, if it is not the last one's
 none_last : (id : ℕ) (rows : List TrackerRow) (row : TrackerRow) → row.id ≢ id → NoneHas id rows → NoneHas id (rows ++ row ∷ [])
 none_last id [] row other none = (other, tt)
@@ -194,24 +165,9 @@ module _ (limit capacity spare : ℕ) (rows : List TrackerRow) (row : TrackerRow
       from true e = ap (firing_of fired) (sym (eqb-true row.id id e)) ∙ (last_of Told rows row sound.held.told ∙ waits_on.0)
       from false e = sound.held.own id (none_last id rows row (λ same. let no : false ≡ true = sym e ∙ eq-eqb row.id id same in cc) none)
 
-  -- what it asks
-  asked_last : (c n : ℕ) → wish_of_row c n row ≡ (if c == tracker.collection then Some (tracker.condition, n) else None)
-  asked_last c n = ap (λ o. option_map_or (λ (t : Waiting). if c == t.collection then Some (t.condition, n) else None) o None) waits
-
-  -- what was indexed
-  was_indexed : (c : ℕ) (g : Wish → ℕ) →
-      weigh g (entries_of old c) ≡ weigh g (wishes_from c 0 rows) + weigh g
-      (option_to_list (if c == tracker.collection then Some (tracker.condition, 0 + length rows) else None))
-  was_indexed c g =
-      sound.indexed.at c g
-      ∙ (ap (weigh g) (asked_push c 0 rows row)
-      ∙ (weigh_append g (wishes_from c 0 rows) (option_to_list (wish_of_row c (0 + length rows) row))
-      ∙ ap (λ o. weigh g (wishes_from c 0 rows) + weigh g (option_to_list o)) (asked_last c (0 + length rows))))
-
   -- the table is right without it
-  pub sound_popped : ((c : ℕ) (f : Wish → ℕ) →
-      (if c == tracker.collection then weigh f (entries_of new c) + weigh (weigh_at (length rows) f) (entries_of old c) else weigh f
-      (entries_of new c)) ≡ weigh f (entries_of old c)) → TableInvariant limit rows fired capacity spare new
+  pub sound_popped : ((c : ℕ) → waiters_of new c ≡ (if c == tracker.collection
+      then take (length (waiters_of old c) - 1) (waiters_of old c) else waiters_of old c)) → TableInvariant limit rows fired capacity spare new
   sound_popped withdrawn = record {
     held = record {
       rising = front_rises rows row sound.held.rising;
@@ -221,7 +177,7 @@ module _ (limit capacity spare : ℕ) (rows : List TrackerRow) (row : TrackerRow
       told = front_of Told rows row sound.held.told;
       own = own_left;
     };
-    indexed = record { at = at };
+    indexed = indexed_pop old new (filter_map waiting_of_row rows) tracker indexed withdrawn;
     spare_room = omega (arith, sound.spare_room, counts);
   }
     where
@@ -231,21 +187,9 @@ module _ (limit capacity spare : ℕ) (rows : List TrackerRow) (row : TrackerRow
       counts : count_by is_waiting (rows ++ row ∷ []) ≡ count_by is_waiting rows + 1
       counts = sum_by-append (λ r. cond (is_waiting r) 1 0) rows (row ∷ []) ∙ ap (λ n. count_by is_waiting rows + n) one
 
-      at : (c : ℕ) (f : Wish → ℕ) → weigh f (entries_of new c) ≡ weigh f (wishes_from c 0 rows)
-      at c f =
-          let none_there : weigh (weigh_at (length rows) f) (wishes_from c 0 rows) ≡ 0 = none_at c (length rows) 0 f rows (omega arith) in
-          let there = all_at (length rows) tracker.condition f in
-          (elim (c == tracker.collection) as (λ b.
-          weigh f (entries_of old c) ≡ weigh f (wishes_from c 0 rows) + weigh f
-          (option_to_list (if b then Some (tracker.condition, 0 + length rows) else None)) →
-          weigh (weigh_at (length rows) f) (entries_of old c) ≡ weigh (weigh_at (length rows) f) (wishes_from c 0 rows) + weigh
-          (weigh_at (length rows) f) (option_to_list (if b then Some (tracker.condition, 0 + length rows) else None)) →
-          (if b then weigh f (entries_of new c) + weigh (weigh_at (length rows) f) (entries_of old c) else weigh f
-          (entries_of new c)) ≡ weigh f (entries_of old c) →
-          weigh f (entries_of new c) ≡ weigh f (wishes_from c 0 rows)) [
-            | true ↦ λ all some gone. omega (arith, all, some, gone, none_there, there)
-            | false ↦ λ all some gone. omega (arith, all, gone)
-          ]) (was_indexed c f) (was_indexed c (weigh_at (length rows) f)) (withdrawn c f)
+      indexed : IsIndexed (filter_map waiting_of_row rows ++ tracker ∷ []) old
+      indexed = subst (λ (ts : List Waiting). IsIndexed ts old) (filter_map_push waiting_of_row rows row
+          ∙ ap (λ o. filter_map waiting_of_row rows ++ option_to_list o) waits) sound.indexed
 
 -- ---- the last row, taken out
 
@@ -281,8 +225,8 @@ module _ (limit capacity spare : ℕ) (rows left : List TrackerRow) (fired : Lis
   pub sound_detached : (o : Option TrackerRow) → rows ≡ left ++ option_to_list o → (o ≡ None → rows ≡ []) →
       (before : TrackerTable) (tracker : Waiting) →
       Attaches before (table_of limit rows fired) tracker →
-      ((c : ℕ) (f : Wish → ℕ) → (if c == tracker.collection then weigh f (entries_of new c) + weigh (weigh_at (length left) f)
-      (entries_of old c) else weigh f (entries_of new c)) ≡ weigh f (entries_of old c)) → TableInvariant limit left fired capacity spare new
+      ((c : ℕ) → waiters_of new c ≡ (if c == tracker.collection then take (length (waiters_of old c) - 1) (waiters_of old c)
+      else waiters_of old c)) → TableInvariant limit left fired capacity spare new
   sound_detached o is none before tracker attaches withdrawn =
       let p = popped o is none before tracker attaches in
       let so : Attaches before (table_of limit (left ++ p.0 ∷ []) fired) tracker =

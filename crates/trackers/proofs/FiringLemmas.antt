@@ -1,19 +1,16 @@
--- What a visit of one row and its firing leave.
+-- What the firing of one row leaves.
 use Rattle.std.proofs.Common.{◌≡◌, ◌≢◌, ℕ, ◌<◌, Bool, true, false, List, [], ◌∷◌, ◌++◌, length, get_or, set, if◌then◌else◌}
 use Rattle.std.proofs.Common.{Option, Some, None, IsSomeAnd, refl, sym, ap, subst, ◌∙◌, arith}
 use Rattle.std.specs.Bool.{OnTrue}
 use Rattle.std.proofs.lemmas.List.{length_push, get_or_push, get_or_append_left}
 use Rattle.sm_names.specs.declared.tracking.Fired.{Fired}
-use Rattle.sm_names.specs.Trackers.{World}
 use Rattle.trackers.specs.declared.place.Place.{Place}
 use Rattle.trackers.specs.declared.place.Stage.{Stage}
 use Rattle.trackers.specs.declared.place.Stage.TheVariants.{InSlot, Untaken, Taken}
-use Rattle.trackers.specs.Row.{TrackerRow, RowState, Waits, Over, WaitingRow, is_waiting}
-use Rattle.trackers.specs.Held.{is_met}
+use Rattle.trackers.specs.Row.{TrackerRow, Over, WaitingRow, is_waiting}
 use Rattle.trackers.specs.Places.{Slots, slot_at, firing_or_none, row_in, row_over, row_as, row_at}
 use Rattle.trackers.specs.Places.{rows_of, IsKept, IsKeptAt, IsHere, IsFiredAt, RowsInvariant}
 use Rattle.trackers.proofs.SlotLemmas.{rows_long, row_there, kept_there, in_slot, at_place}
-use Rattle.trackers.proofs.Walks.{row_of}
 
 -- ---- the place after the firing
 
@@ -138,15 +135,3 @@ module _ (slots : Slots) (fired : List Fired) (places : List Place) (at : ℕ) (
         (λ n less. get_or_append_left fired (firing ∷ []) (record { tracker = 0; event = 0 }) n less) place
         (λ n clear. others n (clear names_slot)) places sound at is inside place' both.1 (ap (λ (r : TrackerRow). r.id) both.0) in
         (all.0 ∙ ap (set (rows_of slots fired places) at) both.0, all.1)
-
--- ---- a visit
-
--- a row that is met waits
-met_waits_at : (w : World) (id cell : ℕ) (state : RowState) (has : Bool) → is_met w (row_of id cell state has) ≡ true →
-    is_waiting (row_of id cell state has) ≡ true
-met_waits_at w id cell (Waits place condition) has met = refl
-met_waits_at w id cell (Over event) has met = met
-
--- a row that fired waits for nothing that can be met, so a row that is met waits
-pub met_waits : (w : World) (row : TrackerRow) → is_met w row ≡ true → is_waiting row ≡ true
-met_waits w row met = met_waits_at w row.id row.cell row.state row.has_reader met

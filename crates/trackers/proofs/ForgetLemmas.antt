@@ -1,9 +1,7 @@
 -- What is left of the table once the trackers that fired are forgotten.
-use Rattle.std.proofs.Common.{◌≡◌, ◌≢◌, ℕ, ◌+◌, ◌<◌, ◌≤◌, Bool, true, false, ◌==◌, ◌||◌, if◌then◌else◌, cond, List, [], ◌∷◌, ◌++◌}
-use Rattle.std.proofs.Common.{map, length, count_by, option_to_list, Option, Some, None, refl, sym, ap, ◌∙◌, append-nil, arith}
-use Rattle.std.specs.List.{filter, filter_map, cons_option, list_any, AllByRecursion}
-use Rattle.std.specs.Option.{option_map_or}
-use Rattle.std.proofs.lemmas.List.{length_push}
+use Rattle.std.proofs.Common.{◌≡◌, ℕ, ◌+◌, ◌<◌, ◌≤◌, Bool, true, false, cond, List, [], ◌∷◌}
+use Rattle.std.proofs.Common.{map, length, count_by, Option, None, refl, sym, ap, ◌∙◌, arith}
+use Rattle.std.specs.List.{filter, filter_map, cons_option, AllByRecursion}
 use Rattle.std.proofs.lemmas.List.Sums.{sum_by-cons}
 use Rattle.sm_names.specs.declared.tracking.Fired.{Fired}
 use Rattle.trackers.specs.declared.place.Place.{Place}
@@ -12,14 +10,12 @@ use Rattle.trackers.specs.declared.place.Stage.TheVariants.{InSlot, Untaken, Tak
 use Rattle.trackers.specs.declared.waiting.Waiting.{Waiting}
 use Rattle.trackers.specs.Table.{Cell, firing_of, forgetful, is_unfired}
 use Rattle.trackers.specs.Row.{TrackerRow, RowState, Waits, Over, is_waiting, waiting_of_row, firing_of_row}
-use Rattle.trackers.specs.WaitIndex.{WaitIndex, Wish, entries_of, weigh}
-use Rattle.trackers.specs.Held.{AreHeld, IdsRise, IsIndexed, NoneHas, TableInvariant}
-use Rattle.trackers.specs.Held.{cell_of_row, table_of, untaken_of_row, wish_of_row, wishes_from}
+use Rattle.trackers.specs.WaitIndex.{WaitIndex}
+use Rattle.trackers.specs.Held.{IdsRise, TableInvariant}
+use Rattle.trackers.specs.Held.{cell_of_row, table_of, untaken_of_row}
 use Rattle.trackers.specs.Places.{IsKept, IsKeptAt, RowsInvariant, Slots, in_slot, row_as, row_at, rows_of}
 use Rattle.trackers.proofs.FoundLemmas.{other_id, same_id, table_with}
-use Rattle.trackers.proofs.IndexLemmas.{asked_push}
 use Rattle.trackers.proofs.Walks.{row_of}
-use Rattle.trackers.proofs.Weights.{weigh_append}
 
 -- ---- some of a list
 
@@ -58,17 +54,6 @@ kept_again test (x ∷ xs) = at (test x) refl (kept_again test xs) ∙ sym (sum_
         count_by test (cond b (x ∷ filter test xs) (filter test xs)) ≡ cond (test x) 1 0 + count_by test xs
     at true e more = sum_by-cons (λ y. cond (test y) 1 0) x (filter test xs) ∙ ap (λ n. cond (test x) 1 0 + n) more
     at false e more = omega (arith, more, ap (λ (b : Bool). cond {A = ℕ} b 1 0) e)
-
--- one more
-pub kept_push : {X : Type 0} (test : X → Bool) (xs : List X) (x : X) →
-    filter test (xs ++ x ∷ []) ≡ filter test xs ++ cond (test x) (x ∷ []) []
-kept_push test [] x = elim (test x) as (λ b. cond b (x ∷ []) [] ≡ [] ++ cond b (x ∷ []) []) [ true ↦ refl | false ↦ refl ]
-kept_push test (y ∷ ys) x =
-    elim (test y) as (λ b. cond b (y ∷ filter test (ys ++ x ∷ [])) (filter test (ys ++ x ∷ [])) ≡ cond b (y ∷ filter test ys)
-    (filter test ys) ++ cond (test x) (x ∷ []) []) [
-      | true ↦ ap (λ l. y ∷ l) (kept_push test ys x)
-      | false ↦ kept_push test ys x
-    ]
 
 -- what a function makes of a list that may have one more
 map_cond : {X Y : Type 0} (f : X → Y) (b : Bool) (x : X) (xs : List X) → map f (cond b (x ∷ xs) xs) ≡ cond b (f x ∷ map f xs) (map f xs)
@@ -155,25 +140,6 @@ untold_all (row ∷ rows) = at (is_waiting row) refl (untold_all rows)
     at true e more = (untold row e, more)
     at false e more = more
 
--- it is sound without what fired
-pub sound_forgotten : (limit capacity spare : ℕ) (rows rows' : List TrackerRow) (fired fired' : List Fired) (old new : WaitIndex) →
-    TableInvariant limit rows fired capacity spare old → IsIndexed (filter is_waiting rows) new →
-    rows' ≡ filter is_waiting rows → fired' ≡ [] → TableInvariant limit rows' fired' capacity spare new
-sound_forgotten limit capacity spare rows rows' fired fired' old new sound indexed left none = rw (left, none) record {
-  held = record {
-    rising = rising_kept is_waiting rows sound.held.rising;
-    counted = omega (arith, kept_count is_waiting rows, kept_again is_waiting rows);
-    room = omega (arith, sound.held.room, kept_le is_waiting rows);
-    within = omega (arith, sound.held.within, kept_again is_waiting rows);
-    told = untold_all rows;
-    own = λ id none. refl;
-  };
-  indexed = indexed;
-  spare_room = omega (arith, sound.spare_room, kept_again is_waiting rows);
-}
-
--- ---- what is shown of it
-
 -- what the others wait for
 rest_waits : (rows : List TrackerRow) → filter_map waiting_of_row (filter is_waiting rows) ≡ filter_map waiting_of_row rows
 rest_waits [] = refl
@@ -189,6 +155,25 @@ rest_waits (row ∷ rows) = at row.id row.cell row.state row.has_reader (rest_wa
     at id cell (Waits place condition) has more =
         ap (λ (l : List Waiting). record { id = id; collection = place; condition = condition } ∷ l) more
     at id cell (Over event) has more = more
+
+-- it is sound without what fired
+pub sound_forgotten : (limit capacity spare : ℕ) (rows rows' : List TrackerRow) (fired fired' : List Fired) (index : WaitIndex) →
+    TableInvariant limit rows fired capacity spare index →
+    rows' ≡ filter is_waiting rows → fired' ≡ [] → TableInvariant limit rows' fired' capacity spare index
+sound_forgotten limit capacity spare rows rows' fired fired' index sound left none = rw (left, none) record {
+  held = record {
+    rising = rising_kept is_waiting rows sound.held.rising;
+    counted = omega (arith, kept_count is_waiting rows, kept_again is_waiting rows);
+    room = omega (arith, sound.held.room, kept_le is_waiting rows);
+    within = omega (arith, sound.held.within, kept_again is_waiting rows);
+    told = untold_all rows;
+    own = λ id none. refl;
+  };
+  indexed = rw (rest_waits rows) sound.indexed;
+  spare_room = omega (arith, sound.spare_room, kept_again is_waiting rows);
+}
+
+-- ---- what is shown of it
 
 -- no tracker of rows with higher ids has this one
 none_waits : (id : ℕ) (rows : List TrackerRow) → AllByRecursion (λ (r : TrackerRow). id < r.id) rows →
@@ -265,76 +250,3 @@ pub table_forgotten : (limit : ℕ) (rows rows' : List TrackerRow) (fired fired'
 table_forgotten limit rows rows' fired fired' rising left none =
     let told = all_told rows rising in
     rw (left, none) (λ i. table_with limit (cells_left _ rows told i) (rest_waits rows i) (untaken_left _ rows told i) [])
-
--- ---- the new index
-
--- a row that there is not
-abbrev pub no_row : TrackerRow
-no_row = record { id = 0; cell = 0; state = Over 0; has_reader = false }
-
--- the rows so far that wait are indexed, and so many are they
-pub record IsPartIndexed (rows : List TrackerRow) (place : ℕ) (index : WaitIndex) : Type 0 where
-  pub at : (c : ℕ) (f : Wish → ℕ) → weigh f (entries_of index c) ≡ weigh f (wishes_from c 0 (filter is_waiting rows))
-  pub place_is : place ≡ length (filter is_waiting rows)
-
-module _ (rows : List TrackerRow) (place : ℕ) (index : WaitIndex) (so : IsPartIndexed rows place index) (row : TrackerRow) where
-  -- one row more that fired
-  pub indexed_pass : waiting_of_row row ≡ None → IsPartIndexed (rows ++ row ∷ []) place index
-  indexed_pass none = record {
-    at = λ c f. so.at c f ∙ ap (λ l. weigh f (wishes_from c 0 l)) (sym kept);
-    place_is = so.place_is ∙ ap length (sym kept);
-  }
-    where
-      from : (id cell : ℕ) (state : RowState) (has : Bool) → waiting_of_row (row_of id cell state has) ≡ None →
-          is_waiting (row_of id cell state has) ≡ false
-      from id cell (Waits p condition) has e = cc
-      from id cell (Over event) has e = refl
-
-      over : is_waiting row ≡ false
-      over = from row.id row.cell row.state row.has_reader none
-
-      kept : filter is_waiting (rows ++ row ∷ []) ≡ filter is_waiting rows
-      kept = kept_push is_waiting rows row ∙ ap (λ b. filter is_waiting rows ++ cond b (row ∷ []) []) over
-          ∙ append-nil (filter is_waiting rows)
-
-  -- or one more that waits
-  pub indexed_more : (t : Waiting) (new : WaitIndex) → waiting_of_row row ≡ Some t →
-      ((c : ℕ) (f : Wish → ℕ) →
-      weigh f (entries_of new c) ≡ (if c == t.collection then f (t.condition, place) + weigh f (entries_of index c)
-      else weigh f (entries_of index c))) → IsPartIndexed (rows ++ row ∷ []) (place + 1) new
-  indexed_more t new is indexed = record {
-    at = λ c f. at c f ∙ ap (λ l. weigh f (wishes_from c 0 l)) (sym kept);
-    place_is = omega (arith, so.place_is, length_push (filter is_waiting rows) row, ap length kept);
-  }
-    where
-      from : (id cell : ℕ) (state : RowState) (has : Bool) → waiting_of_row (row_of id cell state has) ≡ Some t →
-          is_waiting (row_of id cell state has) ≡ true
-      from id cell (Waits p condition) has e = refl
-      from id cell (Over event) has e = cc
-
-      on : is_waiting row ≡ true
-      on = from row.id row.cell row.state row.has_reader is
-
-      kept : filter is_waiting (rows ++ row ∷ []) ≡ filter is_waiting rows ++ row ∷ []
-      kept = kept_push is_waiting rows row ∙ ap (λ b. filter is_waiting rows ++ cond b (row ∷ []) []) on
-
-      asked : (c n : ℕ) → wish_of_row c n row ≡ (if c == t.collection then Some (t.condition, n) else None)
-      asked c n = ap (λ o. option_map_or (λ (w : Waiting). if c == w.collection then Some (w.condition, n) else None) o None) is
-
-      at : (c : ℕ) (f : Wish → ℕ) → weigh f (entries_of new c) ≡ weigh f (wishes_from c 0 (filter is_waiting rows ++ row ∷ []))
-      at c f =
-          let kept : List TrackerRow = filter is_waiting rows in
-          let had : weigh f (entries_of index c) ≡ weigh f (wishes_from c 0 kept) = so.at c f in
-          let place_is : 0 + length kept ≡ place = omega (arith, so.place_is) in
-          let joined : weigh f (wishes_from c 0 (kept ++ row ∷ [])) ≡ weigh f (wishes_from c 0 kept) + weigh f
-          (option_to_list (if c == t.collection then Some (t.condition, place) else None)) =
-          ap (weigh f) (asked_push c 0 kept row)
-          ∙ weigh_append f (wishes_from c 0 kept) (option_to_list (wish_of_row c (0 + length kept) row))
-          ∙ ap (λ o. weigh f (wishes_from c 0 kept) + weigh f (option_to_list o)) (asked c (0 + length kept)
-          ∙ ap (λ n. if c == t.collection then Some (t.condition, n) else None) place_is) in
-          indexed c f ∙ (elim (c == t.collection) as (λ b.
-          (if b then f (t.condition, place) + weigh f (entries_of index c) else weigh f (entries_of index c)) ≡ weigh f
-          (wishes_from c 0 kept) + weigh f (option_to_list (if b then Some (t.condition, place) else None))) [
-            | true ↦ omega (arith, had)
-            | false ↦ omega (arith, had)
-          ] ∙ sym joined)

@@ -9,9 +9,9 @@ use Rattle.std.proofs.lemmas.Bool.Decides.{nat_tests}
 use Rattle.sm_names.specs.declared.tracking.Fired.{Fired}
 use Rattle.trackers.specs.declared.waiting.Waiting.{Waiting}
 use Rattle.trackers.specs.Table.{TrackerTable, Reader, Cell, firing_of, cell_of, is_untaken, without_id, reader_of}
-use Rattle.trackers.specs.WaitIndex.{WaitIndex, weigh}
+use Rattle.trackers.specs.WaitIndex.{WaitIndex}
 use Rattle.trackers.specs.Row.{TrackerRow, is_waiting, waiting_of_row, firing_of_row, reader_of_row}
-use Rattle.trackers.specs.Held.{cell_of_row, untaken_of_row, wish_of_row, wishes_from, IdsRise}
+use Rattle.trackers.specs.Held.{cell_of_row, untaken_of_row, IdsRise}
 use Rattle.trackers.specs.Held.{AreHeld, TableInvariant, NoneHas, Found, here, later, table_of}
 
 -- the test of an id against itself
@@ -23,7 +23,7 @@ pub other_id : (i j : ℕ) → i ≢ j → (i == j) ≡ false
 other_id i j differ = grind (arith, nat_tests)
 
 -- an id below all is that of none
-none_below : (id : ℕ) (rows : List TrackerRow) → AllByRecursion (λ (r : TrackerRow). id < r.id) rows → NoneHas id rows
+pub none_below : (id : ℕ) (rows : List TrackerRow) → AllByRecursion (λ (r : TrackerRow). id < r.id) rows → NoneHas id rows
 none_below id [] below = tt
 none_below id (row ∷ rows) below = ((λ same. omega (arith, below.0)), none_below id rows below.1)
 
@@ -51,6 +51,19 @@ module _ (id : ℕ) where
   pub found_id : {rows : List TrackerRow} {at : ℕ} {row : TrackerRow} → Found id rows at row → row.id ≡ id
   found_id (here same rest) = same
   found_id (later differ found) = found_id found
+
+  -- and no other does
+  pub found_once : {rows : List TrackerRow} {at at' : ℕ} {row row' : TrackerRow} → Found id rows at row → Found id rows at' row' →
+      (at ≡ at') × (row ≡ row')
+  found_once (here same rest) (here same' rest') = (refl, refl)
+  found_once (here same rest) (later differ found') = absurd (differ same)
+  found_once (later differ found) (here same rest) = absurd (differ same)
+  found_once (later differ found) (later differ' found') = let more = found_once found found' in (ap suc more.0, more.1)
+
+  -- some row has the id then
+  pub found_some : {rows : List TrackerRow} {at : ℕ} {row : TrackerRow} → Found id rows at row → NoneHas id rows → ⊥
+  found_some (here same rest) none = none.0 same
+  found_some (later differ found) none = found_some found none.1
 
   -- its cell is found
   pub found_cell : {rows : List TrackerRow} {at : ℕ} {row : TrackerRow} → Found id rows at row → cell_of (map cell_of_row rows) id ≡
@@ -120,13 +133,6 @@ module _ (id : ℕ) where
       filter_map waiting_of_row (set rows at (taken row)) ≡ filter_map waiting_of_row rows
   taken_unfired (here same rest) = refl
   taken_unfired (later {other = other} differ found) = ap (cons_option (waiting_of_row other)) (taken_unfired found)
-
-  -- it is indexed as before
-  pub taken_asked : (collection : ℕ) {rows : List TrackerRow} {at : ℕ} {row : TrackerRow} → Found id rows at row → (n : ℕ) →
-      wishes_from collection n (set rows at (taken row)) ≡ wishes_from collection n rows
-  taken_asked collection (here same rest) n = refl
-  taken_asked collection (later {other = other} differ found) n =
-      ap (cons_option (wish_of_row collection n other)) (taken_asked collection found (n + 1))
 
   -- its id is no longer untaken
   pub taken_untaken : {rows : List TrackerRow} {at : ℕ} {row : TrackerRow} → Found id rows at row →
@@ -208,7 +214,7 @@ module _ (id : ℕ) where
       TableInvariant limit (set rows at (taken row)) fired capacity spare index
   sound_taken limit fired capacity spare index found sound = record {
     held = held_taken limit fired capacity found sound.held;
-    indexed = record { at = λ collection f. sound.indexed.at collection f ∙ ap (weigh f) (sym (taken_asked collection found 0)) };
+    indexed = rw (taken_unfired found) sound.indexed;
     spare_room = rw (taken_count found) sound.spare_room;
   }
 

@@ -12,7 +12,7 @@ use Rattle.trackers.specs.Table.{is_due, firing, firings, still_waiting, firing_
 use Rattle.trackers.specs.Row.{TrackerRow, RowState, Waits, Over, is_waiting, waiting_of_row, firing_of_row}
 use Rattle.trackers.specs.Held.{cell_of_row, untaken_of_row, is_met, row_after, fires, IdsRise, AreHeld, NoneHas, Found, here, later}
 use Rattle.trackers.proofs.FoundLemmas.{found_at, same_id, other_id}
-use Rattle.trackers.proofs.Walks.{balance, row_of}
+use Rattle.trackers.proofs.Walks.{balance, id_after, row_of}
 
 -- the length with one more, if there is one
 length_cons_option : {X : Type 0} (o : Option X) (xs : List X) → length (cons_option o xs) ≡ length (option_to_list o) + length xs
@@ -58,11 +58,7 @@ module _ (w : World) (e : ℕ) where
   firings_after [] = refl
   firings_after (row ∷ rows) = firings_at row.id row.cell row.state row.has_reader _ _ (firings_after rows)
 
-  -- the id, the cell and the reader of a row stay
-  id_after : (row : TrackerRow) → (row_after w e row).id ≡ row.id
-  id_after row = elim (is_met w row) as (λ b. (if b then record row { state = Over e } else row).id ≡ row.id) [ true ↦ refl | false ↦ refl ]
-
-  -- its cell stays
+  -- the cell of a row stays
   cell_after : (row : TrackerRow) → cell_of_row (row_after w e row) ≡ cell_of_row row
   cell_after row = elim (is_met w row) as (λ b. cell_of_row (if b then record row { state = Over e } else row) ≡ cell_of_row row)
       [ true ↦ refl | false ↦ refl ]

@@ -9,5 +9,3 @@ pub mod PlaceLemmas
 pub mod SlotLemmas
 pub mod SweepLemmas
 pub mod Walks
-pub mod WaitListLemmas
-pub mod Weights

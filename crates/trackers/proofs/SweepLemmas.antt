@@ -1,11 +1,11 @@
 -- What a sweep leaves, from what its walk did.
-use Rattle.std.proofs.Common.{◌≡◌, ℕ, ◌≤◌, ◌==◌, if◌then◌else◌, List, ◌++◌, map, ap, ◌∙◌, arith}
-use Rattle.std.specs.List.{filter_map, AllByRecursion}
+use Rattle.std.proofs.Common.{◌≡◌, ℕ, ◌≤◌, not, ◌==◌, if◌then◌else◌, List, ◌++◌, map, ap, ◌∙◌, arith}
+use Rattle.std.specs.List.{filter, filter_map, AllByRecursion}
 use Rattle.sm_names.specs.declared.tracking.Fired.{Fired}
 use Rattle.sm_names.specs.Trackers.{World}
 use Rattle.trackers.specs.Table.{still_waiting}
 use Rattle.trackers.specs.Row.{TrackerRow, waiting_of_row}
-use Rattle.trackers.specs.WaitIndex.{WaitIndex, Wish, entries_of, unmet_in, weigh}
+use Rattle.trackers.specs.WaitIndex.{WaitIndex, is_waiter_due, waiters_of}
 use Rattle.trackers.specs.Held.{cell_of_row, untaken_of_row, row_after, fires, TableInvariant, table_of}
 use Rattle.trackers.proofs.IndexLemmas.{Elsewhere, indexed_dropped}
 use Rattle.trackers.proofs.FoundLemmas.{table_with}
@@ -30,11 +30,11 @@ module _ (w : World) (e : ℕ) (rows rows' : List TrackerRow) (over : rows' ≡ 
       spare old) (grown : fired' ≡ fired ++ filter_map (fires w e) rows) (same : capacity' ≡ capacity) (more : spare ≤ spare') where
     -- the table is right once what holds was taken out under the place
     pub swept_dropped : (new : WaitIndex) (place : ℕ) → AllByRecursion (Elsewhere w place) (filter_map waiting_of_row rows) →
-        ((c : ℕ) (f : Wish → ℕ) → weigh f (entries_of new c) ≡ (if c == place then weigh f (unmet_in w (entries_of old c)) else weigh f
-        (entries_of old c))) →
+        ((c : ℕ) → waiters_of new c ≡ (if c == place then filter (λ waiter. not (is_waiter_due w waiter)) (waiters_of old c)
+        else waiters_of old c)) →
         TableInvariant limit rows' fired' capacity' spare' new
     swept_dropped new place all dropped = rw (over, grown, same) record {
       held = held_after w e limit fired capacity rows sound.held;
-      indexed = indexed_dropped w e place rows old new all sound.indexed dropped;
+      indexed = rw (unfired_after w e rows) (indexed_dropped w place (filter_map waiting_of_row rows) all old sound.indexed new dropped);
       spare_room = omega (arith, sound.spare_room, more, count_after w e rows);
     }

@@ -1,15 +1,18 @@
--- The walk over the rows that are due: what is done, where it stands, and what it leaves.
-use Rattle.std.proofs.Common.{◌≡◌, ℕ, ◌+◌, ◌<◌, ◌≤◌, Bool, true, false, List, [], ◌∷◌, ◌++◌, map, length, get_or}
-use Rattle.std.proofs.Common.{set, drop, Option, Some, None, count_by, cond, if◌then◌else◌, refl, sym, ap, subst}
-use Rattle.std.proofs.Common.{◌∙◌, arith, length-append, append-nil, append_assoc, option_to_list, IsTrue}
-use Rattle.std.specs.List.{filter_map, cons_option}
-use Rattle.std.proofs.lemmas.List.{map-append, map_push, length-map, get_or_at, set_at, drop_more}
-use Rattle.std.proofs.lemmas.List.Sums.{sum_by-set}
+-- The walk over what is due: what is done, where it stands, and what it leaves.
+use Rattle.std.proofs.Common.{◌≡◌, ℕ, ◌+◌, ◌<◌, Bool, true, false, List, [], ◌∷◌, ◌++◌, map, length, get_or}
+use Rattle.std.proofs.Common.{set, drop, Option, Some, None, cond, if◌then◌else◌, refl, sym, ap, subst}
+use Rattle.std.proofs.Common.{◌∙◌, arith, append-nil, append_assoc, option_to_list}
+use Rattle.std.specs.List.{filter_map, cons_option, AllByRecursion}
+use Rattle.std.proofs.lemmas.List.{map-append, map_push, length-map, set_at, drop_more}
 use Rattle.std.proofs.lemmas.List.Elements.{filter_map-append}
+use Rattle.sm_names.specs.declared.tracking.Condition.{Condition}
 use Rattle.sm_names.specs.declared.tracking.Fired.{Fired}
 use Rattle.sm_names.specs.Trackers.{World, holds}
-use Rattle.trackers.specs.Row.{TrackerRow, RowState, Waits, Over, is_waiting, waits}
-use Rattle.trackers.specs.Held.{is_met, row_after, fires, MetPlaces, pass, pick}
+use Rattle.trackers.specs.declared.index.Waiter.{Waiter}
+use Rattle.trackers.specs.WaitIndex.{ids_of}
+use Rattle.trackers.specs.Row.{TrackerRow, RowState, Waits, Over, is_waiting}
+use Rattle.trackers.specs.Held.{is_met, row_after, fires, due_id, Found, here, later, IdsRise}
+use Rattle.trackers.proofs.FoundLemmas.{none_below}
 
 -- what h gives of a list with one more item
 pub filter_map_push : {X Y : Type 0} (h : X → Option Y) (xs : List X) (x : X) →
@@ -33,6 +36,39 @@ after_unmet w e row unmet = rw unmet
 pub fires_unmet : (w : World) (e : ℕ) (row : TrackerRow) → is_met w row ≡ false → fires w e row ≡ None
 fires_unmet w e row unmet = rw unmet
 
+-- what stands behind the last of a list
+abbrev pub no_waiter : Waiter
+no_waiter = record {
+  tracker = record { id = 0; collection = 0; condition = Condition.Node (record { slot = 0; generation = 0 }) };
+  hint = 0;
+}
+
+-- a row that is met waits, fires its own id at the event, and is over then
+pub met_row : (w : World) (e : ℕ) (row : TrackerRow) → is_met w row ≡ true →
+    (is_waiting row ≡ true) × (row_after w e row ≡ record row { state = Over e })
+    × (fires w e row ≡ Some (record { tracker = row.id; event = e }))
+met_row w e row met = (waits row.id row.cell row.state row.has_reader met, rw met, rw met)
+  where
+    waits : (id cell : ℕ) (state : RowState) (has : Bool) → is_met w (row_of id cell state has) ≡ true →
+        is_waiting (row_of id cell state has) ≡ true
+    waits id cell (Waits p c) has is = refl
+    waits id cell (Over event) has is = is
+
+-- the id of a row stays
+pub id_after : (w : World) (e : ℕ) (row : TrackerRow) → (row_after w e row).id ≡ row.id
+id_after w e row = elim (is_met w row) as (λ b. (if b then record row { state = Over e } else row).id ≡ row.id) [ true ↦ refl | false ↦ refl ]
+
+-- so a row is found where it was, once those before it are over
+found_on : (w : World) (e : ℕ) (done : List TrackerRow) (row : TrackerRow) (todo : List TrackerRow) → IdsRise (done ++ row ∷ todo) →
+    Found row.id (map (row_after w e) done ++ row ∷ todo) (length done) row
+found_on w e [] row todo rising = here refl (none_below row.id todo rising.0)
+found_on w e (other ∷ done) row todo rising =
+    later (λ same. absurd (omega (arith, id_after w e other, same, before done rising.0))) (found_on w e done row todo rising.1)
+  where
+    before : (rows : List TrackerRow) → AllByRecursion (λ (r : TrackerRow). other.id < r.id) (rows ++ row ∷ todo) → other.id < row.id
+    before [] all = all.0
+    before (r ∷ rows) all = before rows all.1
+
 module _ (w : World) (e : ℕ) (start : List TrackerRow) (had : List Fired) where
   -- the rows so far are over, and those from here on are as they were
   pub record Walked (rows : List TrackerRow) (fired : List Fired) (due : List ℕ) : Type 0 where
@@ -41,18 +77,19 @@ module _ (w : World) (e : ℕ) (start : List TrackerRow) (had : List Fired) wher
     pub whole : start ≡ done ++ todo
     pub now : rows ≡ map (row_after w e) done ++ todo
     pub grown : fired ≡ had ++ filter_map (fires w e) done
-    pub reach : MetPlaces w (length done) todo due
+    pub left : due ≡ filter_map (due_id w) todo
 
-  -- the walk stands at a row
-  pub record Stands (rows : List TrackerRow) (fired : List Fired) (at : ℕ) (due : List ℕ) : Type 0 where
+  -- the walk stands at a row that is due
+  pub record Stands (rows : List TrackerRow) (fired : List Fired) (id : ℕ) (due : List ℕ) : Type 0 where
     pub done : List TrackerRow
     pub row : TrackerRow
     pub todo : List TrackerRow
     pub whole : start ≡ done ++ row ∷ todo
     pub now : rows ≡ map (row_after w e) done ++ row ∷ todo
     pub grown : fired ≡ had ++ filter_map (fires w e) done
-    pub place : at ≡ length done
-    pub reach : MetPlaces w (length done + 1) todo due
+    pub id_is : id ≡ row.id
+    pub met : is_met w row ≡ true
+    pub left : due ≡ filter_map (due_id w) todo
 
   -- the rows that are done, and one more whose condition does not hold
   done_pass : (done : List TrackerRow) (row : TrackerRow) (todo rows : List TrackerRow) → is_met w row ≡ false → rows ≡
@@ -64,96 +101,92 @@ module _ (w : World) (e : ℕ) (start : List TrackerRow) (had : List Fired) wher
       ∙ ap (λ l. (map (row_after w e) done ++ l ∷ []) ++ todo) (sym (after_unmet w e row unmet))
       ∙ ap (λ l. l ++ todo) (sym (map_push (row_after w e) done row))
 
-  -- the firings with one more row that is not met
-  grown_pass : (done : List TrackerRow) (row : TrackerRow) (fired : List Fired) → is_met w row ≡ false → fired ≡
-      had ++ filter_map (fires w e) done →
-      fired ≡ had ++ filter_map (fires w e) (done ++ row ∷ [])
-  grown_pass done row fired unmet grown =
-      grown
-      ∙ ap (λ l. had ++ l) (sym (filter_map_push (fires w e) done row
-      ∙ ap (λ o. filter_map (fires w e) done ++ option_to_list o) (fires_unmet w e row unmet)
-      ∙ append-nil (filter_map (fires w e) done)))
+  -- the firings with one more row
+  grown_by : (done : List TrackerRow) (row : TrackerRow) (fired : List Fired) → fired ≡ had ++ filter_map (fires w e) done →
+      fired ++ option_to_list (fires w e row) ≡ had ++ filter_map (fires w e) (done ++ row ∷ [])
+  grown_by done row fired grown =
+      ap (λ l. l ++ option_to_list (fires w e row)) grown
+      ∙ append_assoc had (filter_map (fires w e) done) (option_to_list (fires w e row))
+      ∙ ap (λ l. had ++ l) (sym (filter_map_push (fires w e) done row))
 
-  -- the rows before the next place that is due are not met
-  stand_at : (n : ℕ) (todo : List TrackerRow) (at : ℕ) (due : List ℕ) → MetPlaces w n todo (at ∷ due) →
-      (done : List TrackerRow) (rows : List TrackerRow) (fired : List Fired) → n ≡ length done → start ≡ done ++ todo →
-      rows ≡ map (row_after w e) done ++ todo → fired ≡ had ++ filter_map (fires w e) done → Stands rows fired at due
-  stand_at n [] at due reach done rows fired place whole now grown = elim reach [ ]
-  stand_at n (row ∷ todo) at due (pass unmet reach) done rows fired place whole now grown =
-      stand_at (n + 1) todo at due reach (done ++ row ∷ []) rows fired
-      (omega (arith, length-append done (row ∷ [])))
-      (whole ∙ sym (append_assoc done (row ∷ []) todo))
-      (done_pass done row todo rows unmet now)
-      (grown_pass done row fired unmet grown)
-  stand_at n (row ∷ todo) at due (pick reach) done rows fired place whole now grown = record {
-    done = done;
-    row = row;
-    todo = todo;
-    whole = whole;
-    now = now;
-    grown = grown;
-    place = place;
-    reach = subst (λ m. MetPlaces w (m + 1) todo due) place reach;
-  }
+  -- the rows before the next one that is due are not met
+  stand_at : (todo : List TrackerRow) (id : ℕ) (due : List ℕ) → id ∷ due ≡ filter_map (due_id w) todo →
+      (done : List TrackerRow) (rows : List TrackerRow) (fired : List Fired) → start ≡ done ++ todo →
+      rows ≡ map (row_after w e) done ++ todo → fired ≡ had ++ filter_map (fires w e) done → Stands rows fired id due
+  stand_at [] id due left done rows fired whole now grown = cc
+  stand_at (row ∷ todo) id due left done rows fired whole now grown =
+      elim (is_met w row) as (λ b. is_met w row ≡ b → id ∷ due ≡ cons_option (if b then Some row.id else None) (filter_map (due_id w) todo) →
+      Stands rows fired id due) [
+        | true ↦ λ met same. record {
+          done = done;
+          row = row;
+          todo = todo;
+          whole = whole;
+          now = now;
+          grown = grown;
+          id_is = cc;
+          met = met;
+          left = cc;
+        }
+        | false ↦ λ unmet same. stand_at todo id due same (done ++ row ∷ []) rows fired
+            (whole ∙ sym (append_assoc done (row ∷ []) todo))
+            (done_pass done row todo rows unmet now)
+            (sym (append-nil fired) ∙ ap (λ o. fired ++ option_to_list o) (sym (fires_unmet w e row unmet)) ∙ grown_by done row fired grown)
+      ] refl left
 
-  -- where the walk stands when a place is left
-  pub stand : (rows : List TrackerRow) (fired : List Fired) (at : ℕ) (due : List ℕ) → Walked rows fired (at ∷ due) →
-      Stands rows fired at due
-  stand rows fired at due walked =
-      stand_at (length walked.done) walked.todo at due walked.reach walked.done rows fired refl walked.whole walked.now walked.grown
-
-  -- the walk at an index of the places
-  pub stand_here : (rows : List TrackerRow) (fired : List Fired) (due : List ℕ) (i : ℕ) → i < length due → Walked rows fired (drop i due) →
-      Stands rows fired (get_or due i 0) (drop (i + 1) due)
+  -- the walk at an index of what is due
+  pub stand_here : (rows : List TrackerRow) (fired : List Fired) (due : List Waiter) (i : ℕ) → i < length due →
+      Walked rows fired (ids_of (drop i due)) → Stands rows fired (get_or due i no_waiter).tracker.id (ids_of (drop (i + 1) due))
   stand_here rows fired due i below walked =
-      stand rows fired (get_or due i 0) (drop (i + 1) due) (subst (Walked rows fired) (drop_more due i 0 below) walked)
+      stand_at walked.todo (get_or due i no_waiter).tracker.id (ids_of (drop (i + 1) due))
+      (ap ids_of (sym (drop_more due i no_waiter below)) ∙ walked.left)
+      walked.done rows fired walked.whole walked.now walked.grown
 
-  module _ (rows : List TrackerRow) (fired : List Fired) (at : ℕ) (due : List ℕ) (stands : Stands rows fired at due) where
-    -- this many rows are done
-    at_length : length (map (row_after w e) stands.done) ≡ at
-    at_length = length-map stands.done (row_after w e) ∙ sym stands.place
-
-    -- the place is one of a row
-    pub stands_within : at < length rows
-    stands_within = rw stands.now (omega (arith, length-append (map (row_after w e) stands.done) (stands.row ∷ stands.todo), at_length))
-
-    -- that row is as it was at the start
-    pub stands_row : (d : TrackerRow) → get_or rows at d ≡ stands.row
-    stands_row d = rw stands.now (get_or_at (map (row_after w e) stands.done) stands.row stands.todo d at at_length)
+  module _ (rows : List TrackerRow) (fired : List Fired) (id : ℕ) (due : List ℕ) (stands : Stands rows fired id due) where
+    -- the row is found by its id, where all done rows come before it
+    pub stands_found : IdsRise start → Found id rows (length stands.done) stands.row
+    stands_found rising = rw (stands.now, stands.id_is) (found_on w e stands.done stands.row stands.todo (subst IdsRise stands.whole rising))
 
     -- the walk after that row
-    pub stands_step : Walked (set rows at (row_after w e stands.row)) (fired ++ option_to_list (fires w e stands.row)) due
-    stands_step = record {
-      done = stands.done ++ stands.row ∷ [];
-      todo = stands.todo;
-      whole = stands.whole ∙ sym (append_assoc stands.done (stands.row ∷ []) stands.todo);
-      now =
-          ap (λ l. set l at (row_after w e stands.row)) stands.now
-          ∙ set_at (map (row_after w e) stands.done) stands.row stands.todo (row_after w e stands.row) at at_length
-          ∙ sym (append_assoc (map (row_after w e) stands.done) (row_after w e stands.row ∷ []) stands.todo)
-          ∙ ap (λ l. l ++ stands.todo) (sym (map_push (row_after w e) stands.done stands.row));
-      grown =
-          ap (λ l. l ++ option_to_list (fires w e stands.row)) stands.grown
-          ∙ append_assoc had (filter_map (fires w e) stands.done) (option_to_list (fires w e stands.row))
-          ∙ ap (λ l. had ++ l) (sym (filter_map_push (fires w e) stands.done stands.row));
-      reach = subst (λ m. MetPlaces w m stands.todo due) (sym (length-append stands.done (stands.row ∷ []))) stands.reach;
-    }
+    pub stands_step : Walked (set rows (length stands.done) (record stands.row { state = Over e }))
+        (fired ++ record { tracker = id; event = e } ∷ []) due
+    stands_step =
+        let is = met_row w e stands.row stands.met in
+        rw (stands.id_is) record {
+          done = stands.done ++ stands.row ∷ [];
+          todo = stands.todo;
+          whole = stands.whole ∙ sym (append_assoc stands.done (stands.row ∷ []) stands.todo);
+          now =
+              ap (λ l. set l (length stands.done) (record stands.row { state = Over e })) stands.now
+              ∙ set_at (map (row_after w e) stands.done) stands.row stands.todo (record stands.row { state = Over e }) (length stands.done)
+              (length-map stands.done (row_after w e))
+              ∙ sym (append_assoc (map (row_after w e) stands.done) ((record stands.row { state = Over e }) ∷ []) stands.todo)
+              ∙ ap (λ r. (map (row_after w e) stands.done ++ r ∷ []) ++ stands.todo) (sym is.1)
+              ∙ ap (λ l. l ++ stands.todo) (sym (map_push (row_after w e) stands.done stands.row));
+          grown = ap (λ o. fired ++ option_to_list o) (sym is.2) ∙ grown_by stands.done stands.row fired stands.grown;
+          left = stands.left;
+        }
 
   -- rows of which none is due stay
-  none_due : (n : ℕ) (todo : List TrackerRow) → MetPlaces w n todo [] →
+  none_due : (todo : List TrackerRow) → [] ≡ filter_map (due_id w) todo →
       (map (row_after w e) todo ≡ todo) × (filter_map (fires w e) todo ≡ [])
-  none_due n [] reach = (refl, refl)
-  none_due n (row ∷ todo) (pass unmet reach) =
-      let more = none_due (n + 1) todo reach in (
-        (ap (λ l. l ∷ map (row_after w e) todo) (after_unmet w e row unmet) ∙ ap (λ l. row ∷ l) more.0),
-        (ap (λ o. cons_option o (filter_map (fires w e) todo)) (fires_unmet w e row unmet) ∙ more.1),
-      )
+  none_due [] left = (refl, refl)
+  none_due (row ∷ todo) left =
+      elim (is_met w row) as (λ b. is_met w row ≡ b → [] ≡ cons_option (if b then Some row.id else None) (filter_map (due_id w) todo) →
+      (map (row_after w e) (row ∷ todo) ≡ row ∷ todo) × (filter_map (fires w e) (row ∷ todo) ≡ [])) [
+        | true ↦ λ met bad. cc
+        | false ↦ λ unmet none.
+            let more = none_due todo none in (
+              (ap (λ l. l ∷ map (row_after w e) todo) (after_unmet w e row unmet) ∙ ap (λ l. row ∷ l) more.0),
+              (ap (λ o. cons_option o (filter_map (fires w e) todo)) (fires_unmet w e row unmet) ∙ more.1),
+            )
+      ] refl left
 
   -- at the end of the walk all rows are over
   pub walked_rows : (rows : List TrackerRow) (fired : List Fired) → Walked rows fired [] → rows ≡ map (row_after w e) start
   walked_rows rows fired walked =
       walked.now
-      ∙ ap (λ l. map (row_after w e) walked.done ++ l) (sym (none_due _ walked.todo walked.reach).0)
+      ∙ ap (λ l. map (row_after w e) walked.done ++ l) (sym (none_due walked.todo walked.left).0)
       ∙ sym (map-append (row_after w e) walked.done walked.todo)
       ∙ ap (map (row_after w e)) (sym walked.whole)
 
@@ -163,7 +196,7 @@ module _ (w : World) (e : ℕ) (start : List TrackerRow) (had : List Fired) wher
       walked.grown
       ∙ ap (λ l. had ++ l) (sym (ap (filter_map (fires w e)) walked.whole
       ∙ filter_map-append (fires w e) walked.done walked.todo
-      ∙ ap (λ l. filter_map (fires w e) walked.done ++ l) (none_due _ walked.todo walked.reach).1
+      ∙ ap (λ l. filter_map (fires w e) walked.done ++ l) (none_due walked.todo walked.left).1
       ∙ append-nil (filter_map (fires w e) walked.done)))
 
 -- the firings of a row and its change balance
@@ -184,17 +217,3 @@ pub balance : (w : World) (e : ℕ) (row : TrackerRow) → length (option_to_lis
     cond
     (is_waiting row) 1 0
 balance w e row = balance_at w e row.id row.cell row.state row.has_reader row refl
-
-module _ (rows : List TrackerRow) (at : ℕ) (row : TrackerRow) (within : at < length rows) (here : get_or rows at row ≡ row) where
-  -- a row that waits is counted
-  pub counted_here : IsTrue (is_waiting row) → 0 < count_by is_waiting rows
-  counted_here waits =
-      let changed = sum_by-set (λ r. cond (is_waiting r) 1 0) rows at (record row { state = Over 0 }) row within in
-      omega (arith, rw (here, waits) at changed)
-
-  -- the room for the firings stays when the row changes
-  pub room_step : (w : World) (e : ℕ) (fired : List Fired) (capacity : ℕ) → length fired + count_by is_waiting rows ≤ capacity →
-      length (fired ++ option_to_list (fires w e row)) + count_by is_waiting (set rows at (row_after w e row)) ≤ capacity
-  room_step w e fired capacity room =
-      let changed = sum_by-set (λ r. cond (is_waiting r) 1 0) rows at (row_after w e row) row within in
-      omega (arith, balance w e row, rw here at changed, length-append fired (option_to_list (fires w e row)))

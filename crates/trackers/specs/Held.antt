@@ -1,12 +1,12 @@
 -- How the rows of the table show it, and what is always true of them. No public clause cites this module.
-use Rattle.std.specs.Prelude.{◌≡◌, ◌≢◌, ℕ, suc, ◌+◌, ◌<◌, ◌≤◌, Bool, true, false, ◌==◌, ⊤, if◌then◌else◌, List, [], ◌∷◌, map, length, Option, Some, None, MatchOption}
-use Rattle.std.specs.List.{filter_map, cons_option, AllByRecursion, count_by}
+use Rattle.std.specs.Prelude.{◌≡◌, ◌≢◌, ℕ, suc, ◌+◌, ◌<◌, ◌≤◌, Bool, true, false, ⊤, if◌then◌else◌, List, [], ◌∷◌, map, length, Option, Some, None, MatchOption}
+use Rattle.std.specs.List.{filter_map, AllByRecursion, count_by}
 use Rattle.std.specs.Option.{option_map_or}
 use Rattle.sm_names.specs.declared.tracking.Fired.{Fired}
 use Rattle.sm_names.specs.Trackers.{World}
 use Rattle.trackers.specs.declared.waiting.Waiting.{Waiting}
 use Rattle.trackers.specs.Table.{TrackerTable, Cell, is_due, firing_of}
-use Rattle.trackers.specs.WaitIndex.{WaitIndex, Wish, SameElements, entries_of}
+use Rattle.trackers.specs.WaitIndex.{WaitIndex, IsIndexed}
 use Rattle.trackers.specs.Row.{TrackerRow, Waits, Over, is_waiting, waiting_of_row, firing_of_row}
 
 -- the cell of a row
@@ -39,15 +39,9 @@ row_after world event row = if is_met world row then record row { state = Over e
 abbrev pub fires : World → ℕ → TrackerRow → Option Fired
 fires world event row = if is_met world row then Some (record { tracker = row.id; event = event }) else None
 
--- what the row at this place waits for, if it does under the collection
-abbrev pub wish_of_row : ℕ → ℕ → TrackerRow → Option Wish
-wish_of_row collection n row =
-    option_map_or (λ (t : Waiting). if collection == t.collection then Some (t.condition, n) else None) (waiting_of_row row) None
-
--- what the rows wait for under the collection, where the list begins at this place
-abbrev pub wishes_from : ℕ → ℕ → List TrackerRow → List Wish
-wishes_from collection n [] = []
-wishes_from collection n (row ∷ rows) = cons_option (wish_of_row collection n row) (wishes_from collection (n + 1) rows)
+-- its id, if what it waits for holds
+abbrev pub due_id : World → TrackerRow → Option ℕ
+due_id world row = if is_met world row then Some row.id else None
 
 -- the ids rise
 abbrev pub IdsRise : List TrackerRow → Type 0
@@ -68,26 +62,14 @@ pub record AreHeld (limit : ℕ) (rows : List TrackerRow) (fired : List Fired) (
   pub told : AllByRecursion (λ (row : TrackerRow). firing_of fired row.id ≡ firing_of_row row) rows
   pub own : (id : ℕ) → NoneHas id rows → firing_of fired id ≡ None
 
--- these are places of rows, rising, and no row elsewhere is met
-pub data MetPlaces (world : World) : ℕ → List TrackerRow → List ℕ → Type 0 where
-  none : {n : ℕ} → MetPlaces world n [] []
-  pass : {n : ℕ} {row : TrackerRow} {rows : List TrackerRow} {due : List ℕ} → is_met world row ≡ false
-      → MetPlaces world (n + 1) rows due → MetPlaces world n (row ∷ rows) due
-  pick : {n : ℕ} {row : TrackerRow} {rows : List TrackerRow} {due : List ℕ}
-      → MetPlaces world (n + 1) rows due → MetPlaces world n (row ∷ rows) (n ∷ due)
-
--- the index has under each collection what its rows wait for
-pub record IsIndexed (rows : List TrackerRow) (index : WaitIndex) : Type 0 where
-  pub at : (collection : ℕ) → SameElements (entries_of index collection) (wishes_from collection 0 rows)
-
 -- the row of a tracker that was attached just now
 abbrev pub attached : ℕ → Waiting → TrackerRow
 attached cell t = record { id = t.id; cell = cell; state = Waits t.collection t.condition; has_reader = true }
 
--- what holds of the table: its rows and firings are sound, those that wait are in the index, and there is room for their places
+-- what holds of the table: its rows and firings are sound, those that wait are in the index, and there is room for them
 pub record TableInvariant (limit : ℕ) (rows : List TrackerRow) (fired : List Fired) (capacity : ℕ) (spare : ℕ) (index : WaitIndex) : Type 0 where
   pub held : AreHeld limit rows fired capacity
-  pub indexed : IsIndexed rows index
+  pub indexed : IsIndexed (filter_map waiting_of_row rows) index
   pub spare_room : count_by is_waiting rows ≤ spare
 
 -- at this place the only row with this id stands

@@ -1,241 +1,131 @@
-//! The rows that wait, by collection and then by the node or the buffer that they wait for.
-ghost use Rattle.std.specs.Prelude.{◌≡◌, ℕ, ◌+◌, ◌<◌, ◌≤◌, ◌==◌, [], true, length, vec_len, vec_capacity, if◌then◌else◌, ⊤, OnOk, OnErr, OnSome, IfSome, MatchOption};
-ghost use Rattle.std.specs.BinaryHeap.{heap_len};
-ghost use Rattle.trackers.specs.WaitIndex.{Wish, TakesMet, wishes_of, at_most as narrowed, met_in, entries_in, entries_of, most_allowed as most_told, rank as rank_of, unmet_in, weigh, weigh_at};
+//! The trackers that wait, by collection. They stand by rising id, so that what is due is found in its
+//! order, and the last that was attached is the last of its collection.
+ghost use Rattle.std.specs.Prelude.{◌≡◌, ℕ, ◌+◌, ◌-◌, ◌<◌, ◌≤◌, ◌==◌, [], ◌∷◌, ◌++◌, true, not, length, take, vec_len, vec_capacity, if◌then◌else◌, OnOk, OnErr};
+ghost use Rattle.std.specs.List.{filter};
+ghost use Rattle.trackers.specs.WaitIndex.{is_waiter_due, waiters_of};
 
-use crate::wait_list::WaitList;
+use crate::waiting::Waiting;
 use crate::world::{World, holds_in};
-use sm_names::{CollectionId, Condition};
+use sm_names::CollectionId;
 use std::alloc::{AllocError, Global};
-use std::collections::{BinaryHeap, HashMap};
+use std::collections::HashMap;
 
-/// Under each collection the lists of its rows that wait.
-pub(crate) type WaitIndex = HashMap<CollectionId, Vec<WaitList>>;
-
-/// The condition, with this number of buffers that may be left, if it has one.
-fn at_most(condition: Condition, most: u32) -> Condition
-    ensures { result ≡ narrowed condition most }
-{
-    match condition {
-        Condition::Lifetime(key, collection, _) => Condition::Lifetime(key, collection, most),
-        Condition::Node(_) | Condition::Weak(_) => condition,
-    }
+/// A tracker that waits.
+#[derive(Clone, Copy)]
+pub(crate) struct Waiter {
+    pub(crate) tracker: Waiting,
+    /// Where it stood among all when it was attached: a search for it begins there.
+    pub(crate) hint: u32,
 }
 
-/// How many buffers may be left where the condition holds, and 0 where they are not looked at.
-fn most_allowed(condition: Condition) -> u32
-    ensures { result ≡ most_told condition }
-{
-    match condition {
-        Condition::Lifetime(_, _, most) => most,
-        Condition::Node(_) | Condition::Weak(_) => 0,
-    }
-}
+/// Under each collection those of its trackers that wait.
+pub(crate) type WaitIndex = HashMap<CollectionId, Vec<Waiter>>;
 
-/// Whether the condition is one of the list.
-fn is_of(list: &WaitList, condition: Condition) -> bool
-    ensures { result ≡ true → narrowed list.now.condition (most_told condition) ≡ condition }
-{
-    at_most(list.condition, most_allowed(condition)) == condition
-}
-
-/// A number by which lists stand in order: the same for all conditions of one list.
-fn rank(condition: Condition) -> u64
-    ensures { result ≡ rank_of condition }
-{
-    match condition {
-        Condition::Node(key) => 4 * key.slot as u64,
-        Condition::Lifetime(key, _, _) => 4 * key.slot as u64 + 1,
-        Condition::Weak(buffer) => 4 * buffer.index as u64 + 2,
-    }
-}
-
-/// Where the list of this rank stands, or is to stand: behind those of smaller ranks. Only the cost of
-/// a search rests on that order, since a second list of the same would be asked too.
-fn place_for(lists: &[WaitList], rank: u64) -> usize
-    ensures { result ≤ length lists.now }
-{
-    lists.partition_point(|list| list.rank < rank)
-}
-
-/// Puts the place into the list, of which the condition is one.
-fn put(list: &mut WaitList, condition: Condition, place: usize) -> Result<(), AllocError>
-    requires { narrowed list.old.condition (most_told condition) ≡ condition }
-    ensures ok { OnOk result ((f : Wish → ℕ) →
-        weigh f (wishes_of list.new) ≡ f (condition, place) + weigh f (wishes_of list.old)) }
-    ensures err { OnErr result (wishes_of list.new ≡ wishes_of list.old) }
-{
-    list.waiting.push((most_allowed(condition), place))?;
-    Ok(())
-}
-
-/// Puts the place into the list of the condition, or into a new one.
+/// Puts the tracker behind those that wait under its collection.
 #[inline(always)]
-fn insert_place(
-    lists: &mut Vec<WaitList>,
-    alloc: Global,
-    condition: Condition,
-    place: usize,
-) -> Result<(), AllocError>
-    ensures ok { OnOk result ((f : Wish → ℕ) → weigh f (entries_in lists.new.items)
-        ≡ f (condition, place) + weigh f (entries_in lists.old.items)) }
-    ensures err { OnErr result ((f : Wish → ℕ) → weigh f (entries_in lists.new.items)
-        ≡ weigh f (entries_in lists.old.items)) }
+pub(crate) fn insert(index: &mut WaitIndex, alloc: Global, waiter: Waiter) -> Result<(), AllocError>
+    ensures ok { OnOk result ((c : ℕ) → waiters_of index.new c
+        ≡ (if c == waiter.tracker.collection then waiters_of index.old c ++ waiter ∷ []
+        else waiters_of index.old c)) }
+    ensures err { OnErr result ((c : ℕ) → waiters_of index.new c ≡ waiters_of index.old c) }
 {
-    let rank = rank(condition);
-    let at = place_for(lists, rank);
-    if at < lists.len() && is_of(&lists[at], condition) {
-        return put(&mut lists[at], condition, place);
+    if let Some(list) = index.get_mut(&waiter.tracker.collection) {
+        list.push(waiter)?;
+        return Ok(());
     }
-    let mut list = WaitList {
-        condition,
-        rank,
-        waiting: BinaryHeap::new(alloc),
-    };
-    put(&mut list, condition, place)?;
-    lists.insert(at, list)?;
+    let mut list = Vec::new(alloc);
+    list.push(waiter)?;
+    index.insert(waiter.tracker.collection, list)?;
     Ok(())
 }
 
-/// Puts this place under the collection, into the list of the condition.
+/// Puts the tracker behind those that are due, if it is.
 #[inline(always)]
-pub(crate) fn insert_row(
-    index: &mut WaitIndex,
-    alloc: Global,
-    collection: CollectionId,
-    condition: Condition,
-    place: usize,
-) -> Result<(), AllocError>
-    ensures ok { OnOk result ((c : ℕ) (f : Wish → ℕ) → weigh f (entries_of index.new c)
-        ≡ (if c == collection then f (condition, place) + weigh f (entries_of index.old c)
-        else weigh f (entries_of index.old c))) }
-    ensures err { OnErr result ((c : ℕ) (f : Wish → ℕ) →
-        weigh f (entries_of index.new c) ≡ weigh f (entries_of index.old c)) }
-{
-    if let Some(lists) = index.get_mut(&collection) {
-        return insert_place(lists, alloc, condition, place);
-    }
-    let mut lists = Vec::new(alloc);
-    insert_place(&mut lists, alloc, condition, place)?;
-    index.insert(collection, lists)?;
-    Ok(())
-}
-
-/// Takes the widest of the list out, if it is due, and answers its place: one test.
-fn pop_widest<W: World>(list: &mut WaitList, world: &W) -> Option<usize>
-    ensures some { IfSome result (λ place.
-        TakesMet (W.seen world.now) (wishes_of list.old) place (wishes_of list.new)) }
-    ensures fewer { OnSome result
-        (heap_len list.new.waiting + 1 ≡ heap_len list.old.waiting) }
-    ensures none { MatchOption result
-        (met_in (W.seen world.now) (wishes_of list.old) ≡ []) (λ place. ⊤) }
-    ensures kept { MatchOption result (wishes_of list.new ≡ wishes_of list.old) (λ place. ⊤) }
-{
-    let (most, _) = *list.waiting.peek()?;
-    if !holds_in(at_most(list.condition, most), world) {
-        return None;
-    }
-    let (_, place) = list.waiting.pop()?;
-    Some(place)
-}
-
-/// Takes out of the list what is due, into `due`, which has room: one test for each, and one
-/// more.
-fn take_due<W: World>(list: &mut WaitList, due: &mut Vec<usize>, world: &W)
-    requires { vec_len due.old + length (met_in (W.seen world.now) (wishes_of list.old))
-        ≤ vec_capacity due.old }
-    ensures due { (f : ℕ → ℕ) → weigh f due.new.items ≡ weigh f due.old.items
-        + weigh f (met_in (W.seen world.now) (wishes_of list.old)) }
-    ensures kept { (f : Wish → ℕ) → weigh f (wishes_of list.new)
-        ≡ weigh f (unmet_in (W.seen world.now) (wishes_of list.old)) }
+fn push_due<W: World>(due: &mut Vec<Waiter>, waiter: Waiter, world: &W)
+    requires { is_waiter_due (W.seen world.now) waiter ≡ true
+        → vec_len due.old < vec_capacity due.old }
+    ensures items { due.new.items ≡ due.old.items
+        ++ (if is_waiter_due (W.seen world.now) waiter then waiter ∷ [] else []) }
     ensures capacity { vec_capacity due.new ≡ vec_capacity due.old }
 {
-    while let Some(place) = pop_widest(list, world) {
-        due.push_reserved(place);
+    if holds_in(waiter.tracker.condition, world) {
+        due.push_reserved(waiter);
     }
 }
 
-/// Takes out of all lists what is due.
-fn take_all_due<W: World>(lists: &mut Vec<WaitList>, due: &mut Vec<usize>, world: &W)
-    requires { vec_len due.old + length (met_in (W.seen world.now) (entries_in lists.old.items))
+/// Lists those that are due: one test for each.
+fn list_due<W: World>(list: &[Waiter], due: &mut Vec<Waiter>, world: &W)
+    requires { vec_len due.old + length (filter (is_waiter_due (W.seen world.now)) list.now)
         ≤ vec_capacity due.old }
-    ensures due { (f : ℕ → ℕ) → weigh f due.new.items ≡ weigh f due.old.items
-        + weigh f (met_in (W.seen world.now) (entries_in lists.old.items)) }
-    ensures kept { (f : Wish → ℕ) → weigh f (entries_in lists.new.items)
-        ≡ weigh f (unmet_in (W.seen world.now) (entries_in lists.old.items)) }
+    ensures due { due.new.items ≡ due.old.items
+        ++ filter (is_waiter_due (W.seen world.now)) list.now }
     ensures capacity { vec_capacity due.new ≡ vec_capacity due.old }
 {
-    for at in 0..lists.len() {
-        take_due(&mut lists[at], due, world);
+    for waiter in list {
+        push_due(due, *waiter, world);
     }
 }
 
-/// Takes what is due out of the collection's lists, into `due`, which is empty and has room, and
-/// the collection where none is left.
-pub(crate) fn take_due_rows<W: World>(
+/// Takes those that are due out of the list.
+fn drop_due<W: World>(list: &mut Vec<Waiter>, world: &W)
+    ensures { list.new.items
+        ≡ filter (λ waiter. not (is_waiter_due (W.seen world.now) waiter)) list.old.items }
+{
+    list.retain(|waiter| !holds_in(waiter.tracker.condition, world));
+}
+
+/// Takes those that are due out of the list, into `due`, which is empty and has room.
+fn take_due<W: World>(list: &mut Vec<Waiter>, due: &mut Vec<Waiter>, world: &W)
+    requires empty { due.old.items ≡ [] }
+    requires room { length (filter (is_waiter_due (W.seen world.now)) list.old.items)
+        ≤ vec_capacity due.old }
+    ensures due { due.new.items ≡ filter (is_waiter_due (W.seen world.now)) list.old.items }
+    ensures kept { list.new.items
+        ≡ filter (λ waiter. not (is_waiter_due (W.seen world.now) waiter)) list.old.items }
+    ensures capacity { vec_capacity due.new ≡ vec_capacity due.old }
+{
+    list_due(list, due, world);
+    if !due.is_empty() {
+        drop_due(list, world);
+    }
+}
+
+/// Takes those that are due out of what waits under the collection, into `due`, which is empty and has
+/// room, and the collection where none is left.
+pub(crate) fn take_due_of<W: World>(
     index: &mut WaitIndex,
     collection: CollectionId,
-    due: &mut Vec<usize>,
+    due: &mut Vec<Waiter>,
     world: &W,
 )
     requires empty { due.old.items ≡ [] }
-    requires room { length (met_in (W.seen world.now) (entries_of index.old collection))
-        ≤ vec_capacity due.old }
-    ensures due { (f : ℕ → ℕ) → weigh f due.new.items
-        ≡ weigh f (met_in (W.seen world.now) (entries_of index.old collection)) }
-    ensures kept { (c : ℕ) (f : Wish → ℕ) → weigh f (entries_of index.new c)
-        ≡ (if c == collection then weigh f (unmet_in (W.seen world.now) (entries_of index.old c))
-        else weigh f (entries_of index.old c)) }
+    requires room { length (filter (is_waiter_due (W.seen world.now))
+        (waiters_of index.old collection)) ≤ vec_capacity due.old }
+    ensures due { due.new.items
+        ≡ filter (is_waiter_due (W.seen world.now)) (waiters_of index.old collection) }
+    ensures kept { (c : ℕ) → waiters_of index.new c ≡ (if c == collection
+        then filter (λ waiter. not (is_waiter_due (W.seen world.now) waiter))
+        (waiters_of index.old c)
+        else waiters_of index.old c) }
     ensures capacity { vec_capacity due.new ≡ vec_capacity due.old }
 {
-    if let Some(lists) = index.get_mut(&collection) {
-        take_all_due(lists, due, world);
-        if !due.is_empty() {
-            drop_empty(lists);
-            if lists.is_empty() {
-                index.remove(&collection);
-            }
+    if let Some(list) = index.get_mut(&collection) {
+        take_due(list, due, world);
+        if list.is_empty() {
+            index.remove(&collection);
         }
     }
 }
 
-/// Takes the lists without a place away.
-fn drop_empty(lists: &mut Vec<WaitList>)
-    ensures { entries_in lists.new.items ≡ entries_in lists.old.items }
+/// Takes the last out that waits under the collection.
+pub(crate) fn remove_last(index: &mut WaitIndex, collection: CollectionId)
+    ensures { (c : ℕ) → waiters_of index.new c ≡ (if c == collection
+        then take (length (waiters_of index.old c) - 1) (waiters_of index.old c)
+        else waiters_of index.old c) }
 {
-    lists.retain(|list| !list.waiting.is_empty());
-}
-
-/// Takes the place out of the list.
-fn remove_place(list: &mut WaitList, place: usize)
-    ensures { (f : Wish → ℕ) → weigh f (wishes_of list.new)
-        + weigh (weigh_at place f) (wishes_of list.old)
-        ≡ weigh f (wishes_of list.old) }
-{
-    list.waiting.retain(|entry| entry.1 != place);
-}
-
-/// Takes the place out of each list.
-fn remove_place_from_all(lists: &mut Vec<WaitList>, place: usize)
-    ensures { (f : Wish → ℕ) → weigh f (entries_in lists.new.items)
-        + weigh (weigh_at place f) (entries_in lists.old.items)
-        ≡ weigh f (entries_in lists.old.items) }
-{
-    for at in 0..lists.len() {
-        remove_place(&mut lists[at], place);
-    }
-}
-
-/// Takes the place out of what waits under the collection.
-pub(crate) fn remove_row(index: &mut WaitIndex, collection: CollectionId, place: usize)
-    ensures { (c : ℕ) (f : Wish → ℕ) → (if c == collection
-        then weigh f (entries_of index.new c) + weigh (weigh_at place f) (entries_of index.old c)
-        else weigh f (entries_of index.new c)) ≡ weigh f (entries_of index.old c) }
-{
-    if let Some(lists) = index.get_mut(&collection) {
-        remove_place_from_all(lists, place);
-        drop_empty(lists);
-        if lists.is_empty() {
+    if let Some(list) = index.get_mut(&collection) {
+        let _last = list.pop();
+        if list.is_empty() {
             index.remove(&collection);
         }
     }

@@ -8,7 +8,6 @@ mod row;
 mod rows;
 mod table;
 mod tracker;
-mod wait_list;
 mod waiting;
 mod walk;
 mod world;

@@ -2,14 +2,12 @@
 ghost use Rattle.std.specs.Prelude.{◌≡◌, ◌↔◌, ◌+◌, ◌^◌, ◌<◌, ◌≤◌, [], ◌∷◌, ◌++◌, vec_len, vec_capacity, Some, None, OnOk, IfSome, true, false};
 ghost use Rattle.slab.specs.Slab.{get, HasRoomFor, Updates};
 ghost use Rattle.trackers.specs.declared.place.Place.{Place as PlaceValue};
-ghost use Rattle.trackers.specs.Row.{firing_of_row, reader_of_row, waiting_of_row};
-ghost use Rattle.trackers.specs.Held.{IdsRise, IsSearchAnswer, is_met};
+ghost use Rattle.trackers.specs.Row.{firing_of_row, reader_of_row};
+ghost use Rattle.trackers.specs.Held.{IdsRise, IsSearchAnswer};
 ghost use Rattle.trackers.specs.Places.{firing_or_none, row_in, row_at, rows_of, in_slot, IsFiredAt, IsKeptAt, IsHere, Leaves, Names};
 
 use crate::row::Row;
 use crate::tracker::Tracker;
-use crate::waiting::Waiting;
-use crate::world::World;
 use once_cell::race::Note;
 use slab::Slab;
 use sm_names::{Fired, TrackerId};
@@ -61,33 +59,6 @@ fn id_of(fired: &[Fired], number: usize) -> TrackerId
         fired[number].tracker
     } else {
         0
-    }
-}
-
-/// Whether the tracker waits, and what it waits for holds.
-pub(crate) fn is_due_at<W: World>(
-    place: &Place,
-    slots: &Slab<Row>,
-    fired: &[Fired],
-    world: &W,
-) -> bool
-    requires { IsKeptAt slots.now.slots fired.now place.now }
-    ensures { result ≡ is_met (W.seen world.now) (row_at slots.now.slots fired.now place.now) }
-{
-    match place.stage {
-        Stage::InSlot => slots[place.number as usize].is_due(world),
-        Stage::Untaken | Stage::Taken { .. } => false,
-    }
-}
-
-/// What the tracker waits for, if it waits.
-pub(crate) fn waiting_at(place: &Place, slots: &Slab<Row>, fired: &[Fired]) -> Option<Waiting>
-    requires { IsKeptAt slots.now.slots fired.now place.now }
-    ensures { result ≡ waiting_of_row (row_at slots.now.slots fired.now place.now) }
-{
-    match place.stage {
-        Stage::InSlot => Some(slots[place.number as usize].tracker()),
-        Stage::Untaken | Stage::Taken { .. } => None,
     }
 }
 

@@ -1,12 +1,10 @@
 //! One tracker that waits, as the table keeps it.
 ghost use Rattle.std.specs.Prelude.{◌≡◌, true, false, Some, IfOk, MatchOption, MatchResult};
 ghost use Rattle.sm_names.specs.declared.tracking.Fired.{Fired};
-ghost use Rattle.sm_names.specs.Trackers.{holds};
 ghost use Rattle.trackers.specs.Row.{WaitingRow, reader_of_waiting};
 
 use crate::tracker::Tracker;
 use crate::waiting::Waiting;
-use crate::world::{World, holds_in};
 use once_cell::race::{Note, OnceBox};
 use sm_names::{Fired, TrackerId};
 use std::alloc::{AllocError, Global};
@@ -64,27 +62,6 @@ impl Row {
         ensures { result ≡ self.now.tracker.id }
     {
         self.tracker.id
-    }
-
-    /// The tracker.
-    pub(crate) fn tracker(&self) -> Waiting
-        ensures { result ≡ self.now.tracker }
-    {
-        self.tracker
-    }
-
-    /// Whether what the tracker waits for holds.
-    pub(crate) fn is_due<W: World>(&self, world: &W) -> bool
-        ensures { result ≡ holds (W.seen world.now) self.now.tracker.condition }
-    {
-        holds_in(self.tracker.condition, world)
-    }
-
-    /// Whether the reader is still here.
-    pub(crate) fn has_reader(&self) -> bool
-        ensures { result ≡ self.now.has_reader }
-    {
-        self.reader.is_some()
     }
 
     /// A note of the cell, which takes no bytes: the name of the cell for the proofs.

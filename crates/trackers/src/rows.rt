@@ -2,19 +2,16 @@
 //! of one that fired the table keeps its firing, and a place of 8 bytes with the number of that.
 //! Places stand by rising id, for a binary search; firings stand in their order, in which ids do
 //! not rise.
-ghost use Rattle.std.specs.Prelude.{◌≡◌, ◌↔◌, ◌+◌, ◌^◌, ◌<◌, ◌≤◌, [], ◌∷◌, ◌++◌, length, true, false, Option, Some, None, OnOk, OnErr, IfSome, IsTrue, slice_index_or, slice_set, option_to_list};
+ghost use Rattle.std.specs.Prelude.{◌≡◌, ℕ, ◌↔◌, ◌+◌, ◌^◌, ◌<◌, ◌≤◌, [], ◌∷◌, ◌++◌, length, true, false, Option, None, OnOk, OnErr, IfSome, slice_index_or, slice_set, option_to_list};
 ghost use Rattle.std.specs.List.{AllByRecursion, filter};
-ghost use Rattle.trackers.specs.Row.{TrackerRow, Over, is_waiting, firing_of_row, reader_of_row, row_of_waiting, waiting_of_row};
-ghost use Rattle.trackers.specs.Held.{IsSearchAnswer, row_after, fires};
+ghost use Rattle.trackers.specs.Row.{TrackerRow, Over, is_waiting, firing_of_row, reader_of_row, row_of_waiting};
+ghost use Rattle.trackers.specs.Held.{Found, IsSearchAnswer};
 
 use crate::place::{
-    Place, add, agree_at, find_place, fire_place, is_due_at, leave, make_room, take_at, waiting_at,
-    waits,
+    Place, add, agree_at, find_place, fire_place, id_at, leave, make_room, take_at, waits,
 };
 use crate::row::Row;
 use crate::tracker::Tracker;
-use crate::waiting::Waiting;
-use crate::world::World;
 use slab::Slab;
 use sm_names::{Fired, TrackerId};
 use std::alloc::{AllocError, Global};
@@ -74,14 +71,6 @@ impl Rows {
         self.places.len() - self.fired.len()
     }
 
-    /// What the tracker at this place waits for, if it waits.
-    pub(crate) fn waiting_at(&self, at: usize) -> Option<Waiting>
-        requires { at < length self.now.rows }
-        ensures { (d : TrackerRow) → result ≡ waiting_of_row (slice_index_or self.now.rows at d) }
-    {
-        waiting_at(&self.places[at], &self.slots, &self.fired)
-    }
-
     /// Forgets the rows of the trackers that fired, and their firings.
     pub(crate) fn forget(&mut self)
         ensures rows { self.new.rows ≡ filter is_waiting self.old.rows }
@@ -105,6 +94,7 @@ impl Rows {
         requires rising { AllByRecursion (λ (r : TrackerRow). r.id < row.tracker.id) self.old.rows }
         ensures row { OnOk result (self.new.rows ≡ self.old.rows ++ row_of_waiting row ∷ []) }
         ensures room { OnOk result (length self.old.fired + (waiting + 1) ≤ self.new.room) }
+        ensures few { OnOk result (length self.old.fired + (waiting + 1) ≤ 2 ^ 32) }
         ensures kept { OnErr result (self.new.rows ≡ self.old.rows) }
         ensures fired { self.new.fired ≡ self.old.fired }
         ensures more_room { self.old.room ≤ self.new.room }
@@ -149,21 +139,33 @@ impl Rows {
         agree_at(&mut self.places[at], &self.slots, &self.fired, reader)
     }
 
-    /// Fires the tracker at this place, if it waits and what it waits for holds.
-    pub(crate) fn visit<W: World>(&mut self, at: usize, event: u64, world: &W)
-        requires within { at < length self.old.rows }
-        requires room { (d : TrackerRow) → IsTrue (is_waiting (slice_index_or self.old.rows at d))
-            → length self.old.fired < self.old.room }
-        ensures row { (d : TrackerRow) → self.new.rows ≡ slice_set self.old.rows at
-            (row_after (W.seen world.now) event (slice_index_or self.old.rows at d)) }
-        ensures fired { (d : TrackerRow) → self.new.fired ≡ self.old.fired ++ option_to_list
-            (fires (W.seen world.now) event (slice_index_or self.old.rows at d)) }
+    /// Fires the tracker with this id, which waits, and stood at this place when it was attached: a look
+    /// there, and a binary search where that is the place of another now.
+    pub(crate) fn fire_by_id(&mut self, id: TrackerId, hint: u32, event: u64)
+        requires waits { (at : ℕ) × (row : TrackerRow) × Found id self.old.rows at row
+            × (is_waiting row ≡ true) }
+        requires room { length self.old.fired < self.old.room }
+        ensures row { (at : ℕ) (row : TrackerRow) → Found id self.old.rows at row →
+            self.new.rows ≡ slice_set self.old.rows at (record row { state = Over event }) }
+        ensures fired { self.new.fired ≡ self.old.fired
+            ++ (record { tracker = id; event = event }) ∷ [] }
         ensures room { self.new.room ≡ self.old.room }
     {
-        if !is_due_at(&self.places[at], &self.slots, &self.fired, world) {
+        let Some(at) = self.find_near(id, hint as usize) else {
             return;
-        }
+        };
         self.fire(at, event);
+    }
+
+    /// Where the row with this id stands: at this place, or a binary search says.
+    fn find_near(&self, id: TrackerId, hint: usize) -> Option<usize>
+        ensures { IsSearchAnswer id self.now.rows result }
+    {
+        if hint < self.places.len() && id_at(&self.places[hint], &self.slots, &self.fired) == id {
+            Some(hint)
+        } else {
+            self.find(id)
+        }
     }
 
     /// Fires the tracker at this place, which waits.

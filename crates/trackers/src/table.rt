@@ -1,14 +1,14 @@
 //! All trackers of a service.
-ghost use Rattle.std.specs.Prelude.{◌≡◌, ◌≢◌, ℕ, ◌+◌, ◌^◌, ◌<◌, ◌≤◌, ◌==◌, ◌↔◌, [], ◌∷◌, ◌++◌, length, vec_capacity, true, false, if◌then◌else◌, Some, None, All, OnOk, OnErr, IfOk, IfSome, Err};
+ghost use Rattle.std.specs.Prelude.{◌≡◌, ◌≢◌, ℕ, ◌+◌, ◌^◌, ◌<◌, ◌≤◌, ◌==◌, ◌↔◌, [], ◌∷◌, ◌++◌, length, vec_capacity, true, false, if◌then◌else◌, Some, None, All, IsOk, OnOk, OnErr, IfSome, Err};
 ghost use Rattle.trackers.specs.declared.waiting.Waiting.{Waiting};
 ghost use Rattle.trackers.specs.Table.{TrackerTable, Cell, empty, is_due, firings, still_waiting, firing_of, cell_of, is_untaken, without_id, reader_of, forgetful, Attaches};
-ghost use Rattle.trackers.specs.WaitIndex.{Wish, entries_of, weigh};
+ghost use Rattle.trackers.specs.WaitIndex.{waiters_of};
 ghost use Rattle.std.specs.Bool.{OnTrue};
-ghost use Rattle.std.specs.List.{AllByRecursion, filter};
-ghost use Rattle.trackers.specs.Row.{TrackerRow, is_waiting};
-ghost use Rattle.trackers.specs.Held.{IsIndexed, attached};
+ghost use Rattle.std.specs.List.{AllByRecursion};
+ghost use Rattle.trackers.specs.Row.{TrackerRow};
+ghost use Rattle.trackers.specs.Held.{attached};
 
-use crate::index::{WaitIndex, insert_row, remove_row, take_due_rows};
+use crate::index::{WaitIndex, Waiter, insert, remove_last, take_due_of};
 use crate::row::Row;
 use crate::rows::Rows;
 use crate::tracker::Tracker;
@@ -38,8 +38,8 @@ pub struct Trackers {
     limit: u32,
     rows: Rows,
     index: WaitIndex,
-    // Room for the places of all that wait: a sweep sorts there those that are due.
-    due: Vec<usize>,
+    // Room for all that wait: a sweep lists there those that are due.
+    due: Vec<Waiter>,
 }
 
 impl Model for Trackers {
@@ -72,9 +72,7 @@ impl Trackers {
     /// Attaches a tracker, under the number of this event. It is `Full` exactly where as many wait as
     /// may, whatever memory there is; a fault changes nothing. All memory that the firing and the
     /// taking will need is taken here: a cell, the room for its value, and a place in each table. It
-    /// costs a binary search among the nodes and the buffers that are waited for under the collection,
-    /// the logarithm of how many wait for the same, the shift of the others behind one that is new,
-    /// and the growth of the tables.
+    /// costs a look-up of the collection, and the growth of the tables.
     pub fn attach(&mut self, tracker: Waiting) -> Result<(), TrackFault>
         requires rising { All (λ (c : Cell). c.id < tracker.id) self.old.cells }
         ensures ok { OnOk result (Attaches self.old self.new tracker) }
@@ -106,8 +104,7 @@ impl Trackers {
     }
 
     /// Takes out again the tracker that was attached last, under this collection, before any sweep:
-    /// all is as it was before that. Takes no memory, and a pass over the trackers that wait
-    /// under the collection.
+    /// all is as it was before that. Takes no memory, and a look-up of the collection.
     pub fn detach(&mut self, collection: CollectionId)
         requires last { (before : TrackerTable) × (tracker : Waiting)
             × Attaches before self.old tracker × (tracker.collection ≡ collection) }
@@ -115,16 +112,14 @@ impl Trackers {
             Attaches before self.old tracker → self.new ≡ before }
     {
         self.rows.pop();
-        remove_row(&mut self.index, collection, self.rows.len());
+        remove_last(&mut self.index, collection);
     }
 
     /// Fires the trackers that wait and whose condition holds, by rising id, at this event, which
     /// concerned one collection: under another none holds. Takes no memory. It looks up that
-    /// collection, and makes one test for each node of which trackers wait under it, for each node of
-    /// which lifetimes are waited for, and for each buffer, whatever numbers of buffers the lifetimes
-    /// allow and however many wait for the same. Each that fires costs a test more, is sorted among
-    /// those that fire, and then the nodes and buffers are gone through once more. Those that do not
-    /// fire, those of other collections, and those that fired, cost nothing else.
+    /// collection, and makes one test for each tracker that waits under it; if any fires, it tests each
+    /// once more. One that fires is found where it was attached, or by a binary search if others were
+    /// forgotten since. Those of other collections, and those that fired, cost nothing.
     pub fn sweep<W: World>(&mut self, event: u64, collection: CollectionId, world: &W)
         requires elsewhere { All (λ (t : Waiting). t.collection ≢ collection
             → is_due (W.seen world.now) t ≡ false) self.old.unfired }
@@ -136,8 +131,7 @@ impl Trackers {
             ≡ record self.old { unfired = self.new.unfired; fired = self.new.fired } }
     {
         self.due.clear();
-        take_due_rows(&mut self.index, collection, &mut self.due, world);
-        self.due.sort_unstable();
+        take_due_of(&mut self.index, collection, &mut self.due, world);
         fire_due(&mut self.rows, &self.due, event, world);
     }
 
@@ -152,26 +146,19 @@ impl Trackers {
     /// Forgets the trackers that fired: their firings, and those of their readers that were not taken. A
     /// reader that was taken still reads its firing.
     ///
-    /// `NoMemory` if a new index of those that wait is refused; then nothing changed. Costs a pass over
-    /// the trackers that fired since the last time, and the logarithm of how many wait for each that
-    /// does.
+    /// It takes no memory, so that it is never refused. Costs a pass over the trackers that are kept.
     pub fn forget_fired(&mut self) -> Result<(), NoMemory>
+        ensures done { IsOk result }
         ensures ok { OnOk result (self.new ≡ forgetful self.old) }
         ensures err { OnErr result (self.new ≡ self.old) }
     {
-        match index_of_waiting(*self.due.allocator(), &self.rows) {
-            Ok(index) => {
-                self.index = index;
-                self.rows.forget();
-                Ok(())
-            }
-            Err(_) => Err(NoMemory),
-        }
+        self.rows.forget();
+        Ok(())
     }
 
-    /// The reader of the tracker with this id: `Some` once for each that was attached, and else
-    /// `None`. It knows the firing if there was one. Takes no memory, and a binary search among
-    /// all that were ever attached.
+    /// The reader of the tracker with this id: `Some` if it is still to be taken, and else `None`. So
+    /// there is none of a tracker that fired and was forgotten. It knows the firing if there was one.
+    /// Takes no memory, and a binary search among the trackers that are kept.
     pub fn take_tracker(&mut self, id: TrackerId) -> Option<Tracker>
         ensures tracker { result ≡ (if is_untaken self.old.untaken id
             then Some (reader_of self.old id) else None) }
@@ -214,58 +201,39 @@ impl Trackers {
 fn add(
     rows: &mut Rows,
     index: &mut WaitIndex,
-    due: &mut Vec<usize>,
+    due: &mut Vec<Waiter>,
     waiting: usize,
     tracker: Waiting,
 ) -> Result<(), AllocError>
     requires small { waiting < 2 ^ 32 }
+    requires placed { length rows.old.rows ≡ length rows.old.fired + waiting }
     requires rising { AllByRecursion (λ (r : TrackerRow). r.id < tracker.id) rows.old.rows }
     ensures row { OnOk result ((cell : ℕ) × (rows.new.rows
         ≡ rows.old.rows ++ attached cell tracker ∷ [])) }
     ensures room { OnOk result (length rows.old.fired + (waiting + 1) ≤ rows.new.room) }
     ensures spare { OnOk result (waiting + 1 ≤ vec_capacity due.new) }
-    ensures indexed { OnOk result ((c : ℕ) (f : Wish → ℕ) → weigh f (entries_of index.new c)
-        ≡ (if c == tracker.collection then f (tracker.condition, length rows.old.rows)
-        + weigh f (entries_of index.old c)
-        else weigh f (entries_of index.old c))) }
+    ensures indexed { OnOk result ((hint : ℕ) × ((c : ℕ) → waiters_of index.new c
+        ≡ (if c == tracker.collection
+        then waiters_of index.old c ++ record { tracker = tracker; hint = hint } ∷ []
+        else waiters_of index.old c))) }
     ensures fired { rows.new.fired ≡ rows.old.fired }
     ensures capacity { rows.old.room ≤ rows.new.room }
     ensures more_spare { vec_capacity due.old ≤ vec_capacity due.new }
     ensures rows_kept { OnErr result (rows.new.rows ≡ rows.old.rows) }
-    ensures index_kept { OnErr result ((c : ℕ) (f : Wish → ℕ) →
-        weigh f (entries_of index.new c) ≡ weigh f (entries_of index.old c)) }
+    ensures index_kept { OnErr result ((c : ℕ) →
+        waiters_of index.new c ≡ waiters_of index.old c) }
 {
     let alloc = *due.allocator();
     due.reserve(waiting + 1)?;
     let row = Row::new(alloc, tracker)?;
     let at = rows.len();
     rows.push(row, waiting)?;
-    match insert_row(index, alloc, tracker.collection, tracker.condition, at) {
+    let hint = at as u32;
+    match insert(index, alloc, Waiter { tracker, hint }) {
         Ok(()) => Ok(()),
         Err(fault) => {
             rows.pop();
             Err(fault)
         }
     }
-}
-
-/// The index of the rows that wait, by the places that they have among themselves.
-fn index_of_waiting(alloc: Global, rows: &Rows) -> Result<WaitIndex, AllocError>
-    ensures { IfOk result (λ index. IsIndexed (filter is_waiting rows.now.rows) index) }
-{
-    let mut index = HashMap::new(alloc);
-    let mut place = 0;
-    for at in 0..rows.len() {
-        if let Some(tracker) = rows.waiting_at(at) {
-            insert_row(
-                &mut index,
-                alloc,
-                tracker.collection,
-                tracker.condition,
-                place,
-            )?;
-            place += 1;
-        }
-    }
-    Ok(index)
 }

@@ -1,22 +1,15 @@
 -- The order of answers, line by line.
 use Rattle.std.proofs.Common.{ℕ, ◌≡◌, refl, List, [], ◌∷◌, ◌++◌, Option, Some, None}
-use Rattle.std.specs.Option.{option_and_then, option_or}
-use Rattle.sm_names.specs.declared.keys.NodeKey.{NodeKey}
+use Rattle.std.specs.Option.{option_or}
 use Rattle.sm_names.specs.declared.messages.Call.{Call}
 use Rattle.sm_names.specs.declared.messages.Reply.{Reply}
-use Rattle.sm_names.specs.Answers.{Readings, answers_first, end_named, unknown_client, shut_client, no_end}
+use Rattle.sm_names.specs.Answers.{Readings, answers_first, unknown_client, shut_client, no_end}
 use Rattle.sm_names.specs.Answers.{end_in_transit, closing, peer_closed, wrong_kind, misuse, no_handle, limits_met}
 use Rattle.sm_names.specs.Bounds.{Bound}
-use Rattle.sm_names.specs.Timelines.{key_of}
 use Rattle.sm_names.specs.Words.{first_some}
-use Rattle.forest_store.specs.declared.node.Node.{Node}
-use Rattle.forest_store.specs.Forest.{node_at}
-use Rattle.core_state.specs.declared.traits.Named.{Named}
 use Rattle.core_state.specs.declared.traits.Traits.{Traits}
 use Rattle.core_state.specs.Lines.{limits_of}
-use Rattle.core_state.specs.Reads.{end_in, open_end_in, readings_of}
-use Rattle.core_state.specs.State.{State}
-use Rattle.core_state.specs.Traits.{Describes, key_in}
+use Rattle.core_state.specs.Traits.{Describes}
 
 -- the first of two lists of answers, one behind the other
 first_some-append : {A : Type 0} (os ps : List (Option A)) → first_some (os ++ ps) ≡ option_or (first_some os) (first_some ps)
@@ -48,14 +41,3 @@ lines_in_order limits r client call = by (unknown_client r client call) (shut_cl
 pub same_limits : (limits : Bound) (r : Readings) (call : Call) (t : Traits) → Describes call t →
     limits_met limits r call ≡ limits_of limits r t
 same_limits limits r call t law = rw (law.node, law.collection, law.tracker, law.handles limits r) refl
-
--- the end that the call names is that of the node that its traits name
-pub end_of_named : (s : State) (call : Call) (on : Named) (there : Option Node) → key_of call ≡ key_in on →
-    there ≡ option_and_then (node_at s.forest) (key_in on) →
-    end_named (readings_of s) call ≡ option_and_then (open_end_in s) there
-end_of_named s call on there key is = rw (key, is) (by (key_in on))
-  where
-    -- by cases on the key
-    by : (o : Option NodeKey) → option_and_then (end_in s) o ≡ option_and_then (open_end_in s) (option_and_then (node_at s.forest) o)
-    by None = refl
-    by (Some k) = refl

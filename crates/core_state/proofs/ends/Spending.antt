@@ -119,8 +119,3 @@ module _ (f g : Forest) (id : ℕ) (leaving : Option NodeKey) (amid : IsAmid f i
   same_held =
       ap (flat_map (λ (c : Collection). c.held)) are_left_of
       ∙ (held_left (map (spent_in_one leaving) f.collections) ∙ held_spent leaving f.collections)
-
--- spending an end changes no key and no limit
-pub same_worked : (leaving : Option NodeKey) (f g : Forest) → SameKeys (with_place (spent_place leaving) f) g → SameKeys f g
-same_worked None f g same = same
-same_worked (Some key) f g same = record { limit = same.limit; keys = same.keys }

@@ -1,12 +1,10 @@
 -- The rows of the clients, by rising ids.
 use Rattle.std.proofs.Common.{ℕ, zero, suc, ◌≡◌, ◌<◌, ◌≤◌, ◌==◌, ◌||◌, refl, sym, ap, ◌∙◌, inl, inr, Bool, true, false, cond}
-use Rattle.std.proofs.Common.{List, [], ◌∷◌, length, get_or, set, map, arith, Option, Some, None, is_some, Result, Ok, Err, Bor}
-use Rattle.std.specs.List.{find, list_any, position, position_or_len, slice_get, AllByRecursion}
+use Rattle.std.proofs.Common.{List, [], ◌∷◌, length, get_or, set, map, arith, Some, None, is_some, Result, Ok, Err}
+use Rattle.std.specs.List.{find, list_any, position, position_or_len, AllByRecursion}
 use Rattle.std.specs.List.Sorted.{IsSearchInRange, IsBinarySearchResult, IsNonDecreasingBy, IsPartitionPoint}
-use Rattle.std.specs.Option.{option_copied}
 use Rattle.std.specs.Ordering.{nat_cmp, ordering_index}
 use Rattle.std.specs.Result.{result_ok}
-use Rattle.std.specs.Slice.{IsItemAt}
 use Rattle.std.specs.declared.cmp.Ordering.TheVariants.{Less, Greater}
 use Rattle.std.proofs.lemmas.Bool.{eqb-true, eq-eqb, cases_lt}
 use Rattle.std.proofs.lemmas.Bool.Decides.{nat_tests}
@@ -50,13 +48,6 @@ rises_or_stays rows rise i j d order less = elim (cases_lt i j) [
   | inl before ↦ let up = rises rows rise i j d before less in omega arith
   | inr behind ↦ let same : i ≡ j = omega arith in rw same (omega arith)
 ]
-
--- what is read first in a queue
-pub first_read : {X : Type 0} (xs : List X) (r : Option (Bor X)) → IsItemAt xs 0 r → option_copied r ≡ slice_get xs 0
-first_read [] None item = refl
-first_read [] (Some x) item = absurd (omega (arith, item.3))
-first_read (x ∷ xs) None item = absurd (omega (arith, item.3))
-first_read (x ∷ xs) (Some y) item = ap Some item.1
 
 module _ (client : ℕ) where
   -- the row is the client's

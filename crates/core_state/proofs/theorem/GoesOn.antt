@@ -21,13 +21,13 @@ use Rattle.sm_names.proofs.ListLaws.{In-filter, In-list_any, In-any}
 use Rattle.history_laws.proofs.RestLaws.{every_rests}
 use Rattle.sm_names.proofs.SamenessLaws.{or_cases, or_left, or_right}
 use Rattle.buffer_holds.specs.Counts.{total}
-use Rattle.trackers.specs.Table.{empty, without_id}
-use Rattle.forest_store.specs.Forest.{Forest, given, empty_forest}
+use Rattle.trackers.specs.Table.{without_id}
+use Rattle.forest_store.specs.Forest.{Forest, given}
 use Rattle.forest_store.specs.Settling.{Handles}
 use Rattle.event_laws.proofs.MomentLaws.{events_after}
 use Rattle.core_state.specs.Reads.{readings_of}
 use Rattle.core_state.specs.Shown.{IsAfter, Shows, collection_after, handles_after, kept_ids}
-use Rattle.core_state.specs.State.{HandleCounts, State, counts_of}
+use Rattle.core_state.specs.State.{HandleCounts, State, counts_of, empty_state}
 use Rattle.core_state.specs.Steps.{Follows, Work, Worked, clients_by, end_by, handles_by, with_place, without_unkept, work_of}
 use Rattle.core_state.specs.Theorem.{GoesOn}
 use Rattle.core_state.proofs.forced.CallStep.{IsIdle}
@@ -176,20 +176,8 @@ goes_on old new client call reply told f room history shows =
       shown = subst (λ (t : Timeline). IsAfter new t) (sym there) now;
     }
 
--- the state of a core that saw nothing
-abbrev pub empty_state : ℕ → Bound → State
-empty_state pool limits = record {
-  pool = pool;
-  limits = limits;
-  events = 0;
-  clients = [];
-  forest = empty_forest limits.nodes;
-  holds = record { limit = limits.handles; places = 0; rows = []; parcels = [] };
-  trackers = empty limits.trackers;
-}
-
--- shows the empty history
-pub shows_nothing : (pool : ℕ) (limits : Bound) → Shows (empty_state pool limits) []
+-- the state of a core that saw nothing shows the empty history
+pub shows_nothing : (pool : ℕ) (limits : Bound) → Shows (empty_state pool limits 0) []
 shows_nothing pool limits = record {
   legal = record { answers = tt; within = omega arith };
   shown = record {

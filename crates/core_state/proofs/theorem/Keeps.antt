@@ -1,7 +1,7 @@
 -- A core shows a legal history, but for the firings that it forgot, and an event keeps it so.
 use Rattle.std.proofs.lemmas.Bool.{false≢true}
 use Rattle.std.proofs.Common.{ℕ, ◌≡◌, ◌<◌, ◌≤◌, ◌+◌, ◌^◌, refl, ap, sym, ◌∙◌, subst, not, inl}
-use Rattle.std.proofs.Common.{inr, List, ◌∷◌, ◌++◌, Option, Some, None, is_some, arith, []}
+use Rattle.std.proofs.Common.{inr, List, ◌∷◌, ◌++◌, replicate, Option, Some, None, is_some, arith, []}
 use Rattle.std.specs.List.{All}
 use Rattle.std.proofs.lemmas.List.Elements.{All-nil}
 use Rattle.sm_names.specs.declared.messages.Call.{Call}
@@ -27,15 +27,17 @@ use Rattle.forest_store.specs.Forest.{Forest, IsPoolOf}
 use Rattle.forest_store.specs.Settling.{Handles}
 use Rattle.buffer_holds.specs.Counts.{HasPlaces}
 use Rattle.core_state.specs.Reads.{readings_of, world_in}
-use Rattle.core_state.specs.Shown.{IsAfter, forgetting, recalling}
-use Rattle.core_state.specs.State.{IsSame, State}
+use Rattle.core_state.specs.Shown.{IsAfter, Shows, forgetting, recalling}
+use Rattle.core_state.specs.State.{IsSame, State, empty_state}
 use Rattle.core_state.specs.Steps.{Follows, GainsTracker, Work, Worked, tracker_by, work_of}
+use Rattle.core_state.specs.Theorem.{refused_call}
 use Rattle.core_state.specs.Whole.{IsCore, IsWholeCore}
 use Rattle.core_state.proofs.forced.Known.{IsKnown}
 use Rattle.core_state.proofs.firing.Fields.{is_made}
-use Rattle.core_state.proofs.theorem.GoesOn.{empty_state, goes_on, shows_nothing, take_shows}
+use Rattle.core_state.proofs.theorem.GoesOn.{goes_on, shows_nothing, take_shows}
+use Rattle.core_state.proofs.theorem.Leads.{leads_refused}
 use Rattle.core_state.proofs.theorem.OfHistory.{opened_of, out_of, rising_of, sent_of, sound_of, undue_of}
-use Rattle.core_state.proofs.theorem.Recalling.{follows_recalls, forgetting_shows}
+use Rattle.core_state.proofs.theorem.Recalling.{follows_recalls, forgetting_shows, leads_on_but}
 use Rattle.core_state.proofs.theorem.Sweeping.{filed_now}
 use Rattle.core_state.proofs.views.SameAnswers.{answer_is}
 use Rattle.core_state.proofs.views.Shown.{events_shown}
@@ -59,21 +61,28 @@ whole_known pool s core =
       out = out_of s marks shown s.limits grown;
     }
 
--- a core that saw nothing
-whole_empty : (pages : ℕ) (limits : Bound) → (1 ≤ pages) × (pages ≤ MAX_PAGES) →
-    IsWholeCore (record { size = pages; held = [] }) (empty_state pages limits)
-whole_empty pages limits sized = record {
+-- a core that refused all calls so far shows them: they lead to it from a core that saw nothing
+pub shows_refused : (pages : ℕ) (limits : Bound) (events : ℕ) → events ≤ limits.events →
+    Shows (empty_state pages limits events) (replicate events refused_call)
+shows_refused pages limits events within =
+    leads_on_but [] (empty_state pages limits 0) (replicate events refused_call) (empty_state pages limits events)
+    (leads_refused pages limits 0 events events (omega arith) within) [] (shows_nothing pages limits)
+
+-- a core that saw only calls that it refused
+whole_empty : (pages : ℕ) (limits : Bound) (events : ℕ) → (1 ≤ pages) × (pages ≤ MAX_PAGES) → events ≤ limits.events →
+    events < 2 ^ 53 → IsWholeCore (record { size = pages; held = [] }) (empty_state pages limits events)
+whole_empty pages limits events sized within few = record {
   sized = sized;
   pages = refl;
-  few = omega arith;
+  few = few;
   limit = refl;
   handle_limit = refl;
   places = omega arith;
   tracker_limit = refl;
-  numbered = All-nil (λ (c : Cell). c.id ≤ 0);
-  history = [];
-  shows = shows_nothing pages limits;
-  filed = All-nil (λ (t : Waiting). IsOf (timeline pages []) t.collection t.condition);
+  numbered = All-nil (λ (c : Cell). c.id ≤ events);
+  history = replicate events refused_call;
+  shows = shows_refused pages limits events within;
+  filed = All-nil (λ (t : Waiting). IsOf (timeline pages (replicate events refused_call)) t.collection t.condition);
 }
 
 -- ---- an event
@@ -254,10 +263,10 @@ core_known pool s core =
       out = known.out;
     }
 
--- a core that saw nothing forgot nothing
-pub core_empty : (pages : ℕ) (limits : Bound) → (1 ≤ pages) × (pages ≤ MAX_PAGES) →
-    IsCore (record { size = pages; held = [] }) (empty_state pages limits)
-core_empty pages limits sized = record { gone = []; whole = whole_empty pages limits sized }
+-- a core that saw only calls that it refused forgot nothing
+pub core_empty : (pages : ℕ) (limits : Bound) (events : ℕ) → (1 ≤ pages) × (pages ≤ MAX_PAGES) → events ≤ limits.events →
+    events < 2 ^ 53 → IsCore (record { size = pages; held = [] }) (empty_state pages limits events)
+core_empty pages limits events sized within few = record { gone = []; whole = whole_empty pages limits events sized within few }
 
 -- after an event the core shows the history with that event
 pub core_goes_on : (before : Holdings) (old new : State) (client : ℕ) (call : Call) (reply : Reply) →

@@ -1,6 +1,6 @@
 -- What several events lead to, one after another.
-use Rattle.std.proofs.Common.{ℕ, ◌≡◌, ◌<◌, ◌≤◌, ◌↔◌, refl, ap, sym, ◌∙◌, subst, Bool, true, false, nat_le, List}
-use Rattle.std.proofs.Common.{[], ◌∷◌, ◌++◌, length, get_or, append_assoc, Option, Some, None, Result, Ok, Err}
+use Rattle.std.proofs.Common.{ℕ, zero, suc, ◌+◌, ◌≡◌, ◌<◌, ◌≤◌, ◌↔◌, refl, ap, sym, ◌∙◌, subst, Bool, true, false, nat_le, List}
+use Rattle.std.proofs.Common.{[], ◌∷◌, ◌++◌, length, get_or, append_assoc, replicate, Option, Some, None, Result, Ok, Err, arith}
 use Rattle.std.proofs.lemmas.Bool.{leb-false, leb-true}
 use Rattle.std.proofs.lemmas.List.{append-nil}
 use Rattle.std.specs.List.{cons_option}
@@ -12,13 +12,14 @@ use Rattle.sm_names.specs.Answers.{IsAnswer, key_told}
 use Rattle.sm_names.specs.Bounds.{Bound}
 use Rattle.sm_names.specs.Marks.{Entry}
 use Rattle.trackers.specs.declared.waiting.Waiting.{Waiting}
-use Rattle.trackers.specs.Table.{TrackerTable}
+use Rattle.trackers.specs.Table.{TrackerTable, empty}
+use Rattle.forest_store.specs.Forest.{empty_forest}
 use Rattle.forest_store.specs.Settling.{no_key}
 use Rattle.core_state.specs.Kinds.{fits_call}
 use Rattle.core_state.specs.Reads.{readings_of}
-use Rattle.core_state.specs.State.{IsSame, State}
+use Rattle.core_state.specs.State.{IsSame, State, empty_state}
 use Rattle.core_state.specs.Steps.{Follows, GainsTracker, tracker_by}
-use Rattle.core_state.specs.Theorem.{Leads, Makes, Stops, entries, tracker_told, trackers_told}
+use Rattle.core_state.specs.Theorem.{Leads, Makes, Stops, entries, refused_call, tracker_told, trackers_told}
 use Rattle.core_state.proofs.answers.Kinds.{reply-fits}
 use Rattle.core_state.proofs.theorem.Runs.{entries-none, entries-push}
 use Rattle.core_state.proofs.forced.Whole.{Named, named}
@@ -64,6 +65,33 @@ pub leads_on : (old mid new : State) (made : List Entry) (entry : Entry) → Lea
     Leads old (made ++ entry ∷ []) new
 leads_on old mid new [] entry same makes = (new, subst (λ (s : State). Makes s new entry) same makes, refl)
 leads_on old mid new (first ∷ more) entry leads makes = (leads.0, leads.1, leads_on leads.0 mid new more entry leads.2 makes)
+
+-- by induction: each call that a core without clients refuses is one event more, and changes nothing else
+pub leads_refused : (pool : ℕ) (limits : Bound) (start n end : ℕ) → start + n ≡ end → end ≤ limits.events →
+    Leads (empty_state pool limits start) (replicate n refused_call) (empty_state pool limits end)
+leads_refused pool limits start zero end all within = ap (empty_state pool limits) (omega (arith, all))
+leads_refused pool limits start (suc n) end all within = (
+  empty_state pool limits (start + 1),
+  record {
+    room = omega (arith, all, within);
+    answer = record { told = refl; is_new = refl };
+    after = record {
+      pool = refl;
+      limits = refl;
+      events = refl;
+      clients = refl;
+      handles = refl;
+      worked = empty_forest limits.nodes;
+      work = refl;
+      collections = refl;
+      keys = record { limit = refl; keys = λ key. refl };
+      attached = empty limits.trackers;
+      gains = refl;
+      trackers = refl;
+    };
+  },
+  leads_refused pool limits (start + 1) n end (omega (arith, all)) within,
+)
 
 -- they leave the pool and the limits
 pub leads_pool : (old new : State) (made : List Entry) → Leads old made new → new.pool ≡ old.pool

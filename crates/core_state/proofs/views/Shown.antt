@@ -76,14 +76,6 @@ module _ (s : State) (history : List Entry) (shows : Shows s history) where
       ap (flat_map (λ (c : Collection). c.nodes)) shows.shown.collections
       ∙ flat_map-map (λ (c : Collection). c.nodes) (collection_after s.pool (timeline s.pool history)) (kept_ids (timeline s.pool history))
 
-  -- the kept collections
-  pub kept_ids_shown : map (λ (c : Collection). c.id) s.forest.collections ≡ kept_ids (timeline s.pool history)
-  kept_ids_shown = ap (map (λ (c : Collection). c.id)) shows.shown.collections ∙ ids (kept_ids (timeline s.pool history))
-    where
-      ids : (ns : List ℕ) → map (λ (c : Collection). c.id) (map (collection_after s.pool (timeline s.pool history)) ns) ≡ ns
-      ids [] = refl
-      ids (n ∷ ns) = ap (λ (l : List ℕ). n ∷ l) (ids ns)
-
   -- the pages beside a collection
   pub beside_shown : (id : ℕ) → beside s.forest id ≡ pages_beside_after s.pool (timeline s.pool history) id
   beside_shown id =
@@ -104,19 +96,23 @@ module _ (s : State) (history : List Entry) (shows : Shows s history) where
             | false ↦ ap (λ (is : List Interval). pages_in (of n) ++ is) (others ns)
           ]
 
+  -- what is read of a collection, if it is kept
+  pub collection_shown : {X : Type 0} (read : Option Collection → X) (id : ℕ) → read (collection_at s.forest id)
+      ≡ cond (is_kept_collection (timeline s.pool history) id) (read (Some (collection_after s.pool (timeline s.pool history) id))) (read None)
+  collection_shown read id =
+      ap read (collection_is s (timeline s.pool history) shows.shown s.limits grown id)
+      ∙ inside (is_kept_collection (timeline s.pool history) id)
+    where
+      -- by cases
+      inside : (k : Bool) → read (cond k (Some (collection_after s.pool (timeline s.pool history) id)) None)
+          ≡ cond k (read (Some (collection_after s.pool (timeline s.pool history) id))) (read None)
+      inside true = refl
+      inside false = refl
+
   -- what a collection was given
   pub given_shown : (id : ℕ) → buffers_in s id
       ≡ cond (is_kept_collection (timeline s.pool history) id) (buffers_of (timeline s.pool history) id) None
-  given_shown id =
-      ap (λ (o : Option Collection). option_map_or (λ (c : Collection). c.buffers) o None)
-      (collection_is s (timeline s.pool history) shows.shown s.limits grown id)
-      ∙ inside (is_kept_collection (timeline s.pool history) id)
-    where
-      inside : (k : Bool) → option_map_or (λ (c : Collection). c.buffers)
-          (cond k (Some (collection_after s.pool (timeline s.pool history) id)) None) None
-          ≡ cond k (buffers_of (timeline s.pool history) id) None
-      inside true = refl
-      inside false = refl
+  given_shown = collection_shown (λ o. option_map_or (λ (c : Collection). c.buffers) o None)
 
   -- the clients
   pub clients_shown : map (λ (c : Client). c.id) s.clients ≡ reverse (clients (timeline s.pool history))
@@ -140,11 +136,6 @@ module _ (s : State) (history : List Entry) (shows : Shows s history) where
   pub total_shown : (buffer : BufferName) (strength : Strength) →
       total s.holds buffer strength ≡ open_total (timeline s.pool history) buffer strength
   total_shown buffer strength = ap (λ (h : HandleCounts). h.total buffer strength) shows.shown.handles
-
-  -- a collection, if it is kept
-  pub collection_shown : (id : ℕ) → collection_at s.forest id
-      ≡ cond (is_kept_collection (timeline s.pool history) id) (Some (collection_after s.pool (timeline s.pool history) id)) None
-  collection_shown id = collection_is s (timeline s.pool history) shows.shown s.limits grown id
 
   -- a node, if it is kept
   pub node_shown : (key : NodeKey) → node_at s.forest key

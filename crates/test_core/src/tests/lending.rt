@@ -1,5 +1,6 @@
 //! Cores and players that are lent to what plays on them. Each is owned here alone: at each exit of an
 //! owner the check shows its drop.
+use super::late::LATE;
 use super::player::{Player, limits_of};
 use super::plays::plays;
 use super::running::ends_well;
@@ -22,11 +23,16 @@ pub fn on_core<F: FnOnce(&mut Core) -> bool>(alloc: Global, limits: [u32; 5], pl
     }
 }
 
-/// The same for a player of a core that has seen nothing.
-pub fn on_player<F: FnOnce(&mut Player) -> bool>(alloc: Global, limits: [u32; 5], play: F) -> bool
+/// The same for a player of a core that has seen nothing but so many refused calls.
+pub fn on_player<F: FnOnce(&mut Player) -> bool>(
+    alloc: Global,
+    limits: [u32; 5],
+    start: u64,
+    play: F,
+) -> bool
     requires { F.IsAlwaysCallable play }
 {
-    match Player::new(alloc, limits) {
+    match Player::new(alloc, limits, start) {
         Some(mut player) => play(&mut player),
         None => false,
     }
@@ -55,7 +61,13 @@ impl Question<'_> {
     }
 }
 
-/// Whether that holds of a player of a core that has seen nothing, with these limits.
+/// Whether that holds of a player of a core that has seen nothing, with these limits, and of one whose events soon
+/// have numbers of more than 32 bits.
 pub fn holds(alloc: Global, limits: [u32; 5], question: Question) -> bool {
-    on_player(alloc, limits, |player| question.holds(alloc, player))
+    for start in [0, LATE] {
+        if !on_player(alloc, limits, start, |player| question.holds(alloc, player)) {
+            return false;
+        }
+    }
+    true
 }

@@ -1,9 +1,11 @@
 //! A core that is asked row by row.
 use super::acts::{Act, Row, Said};
 use super::holdings::{Holdings, NO_HOLDINGS};
+use super::late::{earlier_reply, later, later_call};
 use lifetime_core::Core;
-use sm_names::{Call, ClientId, Limits, NodeKey, Parcel, Reply, StepFault};
+use sm_names::{Call, ClientId, Limits, NodeKey, Parcel, Reply, StepFault, TrackerId};
 use std::alloc::Global;
+use trackers::Tracker;
 
 /// This many calls are kept, and this many nodes are noted by the numbers of their calls.
 pub const ROOM: usize = 64;
@@ -22,10 +24,13 @@ pub struct Log {
     pub count: usize,
 }
 
-/// A core of 16 pages, and what it was asked. But for the core it takes no memory.
+/// A core of 16 pages, and what it was asked. But for the core it takes no memory. Its rows, and all that it tells
+/// but the core, number events from 1, whatever came before.
 #[derive(Drop)]
 pub struct Player {
     core: Core,
+    // How many events came before.
+    start: u64,
     // The node of each call that made one.
     nodes: [NodeKey; ROOM],
     holdings: Holdings,
@@ -44,11 +49,14 @@ pub fn limits_of(numbers: [u32; 5]) -> Option<Limits> {
     Limits::new(events, nodes, collections, trackers, handles)
 }
 
-// A core that has seen nothing. Where memory is refused, it is asked for again.
-fn new_core(alloc: Global, limits: Limits) -> Option<Core> {
-    match Core::with_seed(alloc, 16, limits, [3; 16]) {
+// A core that has seen nothing but so many refused calls. Where memory is refused, it is asked for again.
+fn new_core(alloc: Global, limits: Limits, start: u64) -> Option<Core> {
+    if start > limits.events() {
+        return None;
+    }
+    match Core::starting_at(alloc, 16, limits, [3; 16], start) {
         Ok(core) => Some(core),
-        Err(_) => Core::with_seed(alloc, 16, limits, [3; 16]).ok(),
+        Err(_) => Core::starting_at(alloc, 16, limits, [3; 16], start).ok(),
     }
 }
 
@@ -72,12 +80,17 @@ impl Log {
 }
 
 impl Player {
-    /// A player of a core that has seen nothing, with these limits.
-    pub fn new(alloc: Global, limits: [u32; 5]) -> Option<Player> {
-        let limits = limits_of(limits)?;
-        let core = new_core(alloc, limits)?;
+    /// A player of a core with these limits that has seen nothing; or nothing but so many refused calls, and then takes
+    /// as many events as any.
+    pub fn new(alloc: Global, limits: [u32; 5], start: u64) -> Option<Player> {
+        let mut limits = limits_of(limits)?;
+        if start > 0 {
+            limits = limits.lasting();
+        }
+        let core = new_core(alloc, limits, start)?;
         Some(Player {
             core,
+            start,
             nodes: [NO_NODE; ROOM],
             holdings: NO_HOLDINGS,
             log: Log {
@@ -94,9 +107,28 @@ impl Player {
         &self.core
     }
 
-    /// The core, to be asked by itself.
-    pub fn core_mut(&mut self) -> &mut Core {
-        &mut self.core
+    /// How many events came before the first row.
+    pub fn start(&self) -> u64 {
+        self.start
+    }
+
+    /// How many calls were made.
+    pub fn made(&self) -> u64 {
+        self.core.events().saturating_sub(self.start)
+    }
+
+    /// The reader of the tracker that the call of this number made.
+    pub fn take_tracker(&mut self, id: TrackerId) -> Option<Tracker> {
+        self.core.take_tracker(later(self.start, id))
+    }
+
+    // Makes the call.
+    fn step(&mut self, client: ClientId, call: Call) -> Result<Reply, StepFault> {
+        let client = later(self.start, client);
+        match self.core.step(client, later_call(self.start, call)) {
+            Ok(reply) => Ok(earlier_reply(self.start, reply)),
+            Err(fault) => Err(fault),
+        }
     }
 
     /// The first calls, each with its reply.
@@ -130,7 +162,8 @@ impl Player {
     // Notes the new node. `false` where it has the key of another.
     fn name(&mut self, key: NodeKey) -> bool {
         let is_new = !self.nodes.contains(&key);
-        match self.nodes.get_mut(self.core.events() as usize) {
+        let made = self.made();
+        match self.nodes.get_mut(made as usize) {
             Some(node) => {
                 *node = key;
                 is_new
@@ -144,7 +177,7 @@ impl Player {
         match said {
             Said::Just(reply) => reply,
             Said::Token(collection) => Reply::Token {
-                key: self.key_of(self.core.events()),
+                key: self.key_of(self.made()),
                 collection,
             },
             Said::End(number, kind, collection) => Reply::Collected {
@@ -165,7 +198,7 @@ impl Player {
         let Some(call) = act.call(self.key_of(act.node())) else {
             return Ok(false);
         };
-        match self.core.step(client, call) {
+        match self.step(client, call) {
             Ok(reply) => Ok(self.note(client, &call, &reply) && reply == self.reply_of(said)),
             Err(fault) => Err(fault),
         }
@@ -183,7 +216,7 @@ impl Player {
 
     // Makes the call, and answers the reply, if it is taken and can be noted.
     fn ask(&mut self, client: ClientId, call: Call) -> Option<Reply> {
-        match self.core.step(client, call) {
+        match self.step(client, call) {
             Ok(reply) if self.note(client, &call, &reply) => Some(reply),
             _ => None,
         }

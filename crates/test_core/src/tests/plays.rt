@@ -56,9 +56,9 @@ pub fn scripts() -> &'static [&'static Script] {
 
 // Whether the player sees what one sees that made this many of the calls.
 fn has_made(alloc: Global, player: &Player, script: &Script, made: usize) -> bool {
-    on_player(alloc, script.limits, |other| {
+    on_player(alloc, script.limits, player.start(), |other| {
         other.keeps_to(script.rows, made)
-            && player.core().events() == other.core().events()
+            && player.made() == other.made()
             && see_the_same(player.core(), other.core())
     })
 }
@@ -78,7 +78,7 @@ fn takes(alloc: Global, player: &mut Player, script: &Script, place: usize, row:
 /// Whether the player goes through the script, and all is as the script says.
 pub fn plays(alloc: Global, player: &mut Player, script: &Script) -> bool {
     for (place, row) in script.rows.iter().enumerate() {
-        if !takes(alloc, player, script, place, row) || !looks_so(player.core(), script.looks) {
+        if !takes(alloc, player, script, place, row) || !looks_so(player, script.looks) {
             return false;
         }
     }

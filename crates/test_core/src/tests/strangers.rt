@@ -132,8 +132,8 @@ fn change_nothing(player: &mut Player, idle: &mut Player, asked: &[Asked]) -> bo
 
 // The same for two new players.
 fn is_all_refused(alloc: Global, asked: &[Asked]) -> bool {
-    on_player(alloc, FULL, |player| {
-        on_player(alloc, FULL, |idle| change_nothing(player, idle, asked))
+    on_player(alloc, FULL, 0, |player| {
+        on_player(alloc, FULL, 0, |idle| change_nothing(player, idle, asked))
     })
 }
 

@@ -1,9 +1,10 @@
 //! Trackers that are taken before and after they fire.
 use super::acts::{Act, Deed, Row, Said};
+use super::late::later_firing;
 use super::lending::{Question, holds};
 use super::player::Player;
 use super::scripts::{DONE, FULL};
-use lifetime_core::Core;
+use super::views::are_fired;
 use sm_names::{Fired, Reply, TrackerId};
 use std::alloc::Global;
 use trackers::Tracker;
@@ -50,9 +51,9 @@ const FIRED: [Fired; 3] = [
 ];
 
 // Whether these trackers were taken before, or were never made.
-fn are_taken(core: &mut Core, ids: &[TrackerId]) -> bool {
+fn are_taken(player: &mut Player, ids: &[TrackerId]) -> bool {
     for id in ids {
-        if core.take_tracker(*id).is_some() {
+        if player.take_tracker(*id).is_some() {
             return false;
         }
     }
@@ -60,30 +61,31 @@ fn are_taken(core: &mut Core, ids: &[TrackerId]) -> bool {
 }
 
 // Whether the tracker that is taken now fired so.
-fn is_taken_fired(core: &mut Core, fired: Fired) -> bool {
-    match core.take_tracker(fired.tracker) {
-        Some(mut tracker) => tracker.poll() == Some(fired),
+fn is_taken_fired(player: &mut Player, fired: Fired) -> bool {
+    match player.take_tracker(fired.tracker) {
+        Some(mut tracker) => tracker.poll() == Some(later_firing(player.start(), fired)),
         None => false,
     }
 }
 
 // Whether a tracker that was taken before it fires fires with the next calls.
 fn fires(player: &mut Player, early: &mut Tracker) -> bool {
+    let first = Some(later_firing(player.start(), FIRED[0]));
     early.poll().is_none()
         && player.keeps_to(CLOSED, CLOSED.len())
-        && [early.poll(), early.poll()] == [Some(FIRED[0]), Some(FIRED[0])]
-        && is_taken_fired(player.core_mut(), FIRED[1])
-        && is_taken_fired(player.core_mut(), FIRED[2])
-        && are_taken(player.core_mut(), &[4, 5, 6])
-        && player.core().fired() == FIRED.as_slice()
+        && [early.poll(), early.poll()] == [first, first]
+        && is_taken_fired(player, FIRED[1])
+        && is_taken_fired(player, FIRED[2])
+        && are_taken(player, &[4, 5, 6])
+        && are_fired(player, &FIRED)
 }
 
 /// Whether trackers are taken once, and tell of their firings, before and after they fire.
 pub fn tells(player: &mut Player) -> bool {
-    if !player.keeps_to(TRACKED, TRACKED.len()) || !are_taken(player.core_mut(), &[0, 2, 7, 99]) {
+    if !player.keeps_to(TRACKED, TRACKED.len()) || !are_taken(player, &[0, 2, 7, 99]) {
         return false;
     }
-    match player.core_mut().take_tracker(5) {
+    match player.take_tracker(5) {
         Some(mut early) => fires(player, &mut early),
         None => false,
     }

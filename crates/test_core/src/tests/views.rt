@@ -1,8 +1,9 @@
 //! What is seen of a core.
+use super::late::{later_firing, later_held};
 use super::player::Player;
 use super::scripts::{Look, Script};
 use lifetime_core::Core;
-use sm_names::{Cause, HeldBuffer, NodeKey};
+use sm_names::{Cause, Fired, HeldBuffer, NodeKey};
 
 // The live nodes. Where memory is refused, it is asked for again.
 fn live(core: &Core) -> Option<Vec<NodeKey>> {
@@ -64,14 +65,39 @@ pub fn see_the_same(core: &Core, other: &Core) -> bool {
         && core.fired() == other.fired()
 }
 
+// Whether these buffers hold pages.
+fn are_held(player: &Player, wanted: &[HeldBuffer]) -> bool {
+    let Some(held) = held(player.core()) else {
+        return false;
+    };
+    for (seen, one) in held.iter().zip(wanted) {
+        if *seen != later_held(player.start(), *one) {
+            return false;
+        }
+    }
+    held.len() == wanted.len()
+}
+
 /// Whether all is seen that is to be seen after this many calls.
-pub fn looks_so(core: &Core, looks: &[Look]) -> bool {
-    for (event, free, held) in looks {
-        if *event == core.events() && !sees_pages(core, held, *free) {
+pub fn looks_so(player: &Player, looks: &[Look]) -> bool {
+    for (made, free, held) in looks {
+        let is_then = *made == player.made();
+        if is_then && !(are_held(player, held) && player.core().free_pages() == *free) {
             return false;
         }
     }
     true
+}
+
+/// Whether these are all firings.
+pub fn are_fired(player: &Player, wanted: &[Fired]) -> bool {
+    let fired = player.core().fired();
+    for (seen, one) in fired.iter().zip(wanted) {
+        if *seen != later_firing(player.start(), *one) {
+            return false;
+        }
+    }
+    fired.len() == wanted.len()
 }
 
 // Whether the calls of these numbers made these nodes.
@@ -120,7 +146,5 @@ fn are_nodes(player: &Player, script: &Script) -> bool {
 
 /// Whether the core ends as the script says.
 pub fn ends_so(player: &Player, script: &Script) -> bool {
-    are_live(player, script.live)
-        && are_nodes(player, script)
-        && player.core().fired() == script.fired
+    are_live(player, script.live) && are_nodes(player, script) && are_fired(player, script.fired)
 }

@@ -1,12 +1,10 @@
-use Rattle.std.proofs.Common.{◌≡◌, refl, ap, sym, ◌∙◌, Bool, true, false, cond, ℕ, List, [], ◌∷◌, ◌++◌, length, drop}
-use Rattle.std.proofs.Common.{Option, Some, None}
+use Rattle.std.proofs.Common.{◌≡◌, refl, ap, sym, ◌∙◌, List, [], ◌∷◌, ◌++◌, length, drop}
 use Rattle.std.specs.Option.{option_map}
-use Rattle.sm_names.specs.Kept.{is_kept_collection}
 use Rattle.sm_names.specs.declared.tracking.Fired.{Fired}
 use Rattle.sm_names.specs.Timelines.{timeline}
 use Rattle.history_laws.proofs.GrowthLaws.{legal_grows}
 use Rattle.forest_store.specs.Forest.{Collection}
-use Rattle.core_state.specs.Shown.{collection_after, recalling}
+use Rattle.core_state.specs.Shown.{recalling}
 use Rattle.core_state.proofs.views.Live.{fault_is}
 use Rattle.core_state.proofs.views.Readings.{readings_are}
 use Rattle.core_state.proofs.views.Shown.{collection_shown, events_shown, free_shown, live_keys_shown}
@@ -17,12 +15,6 @@ rest_of : (gone more : List Fired) → drop (length gone) (gone ++ more) ≡ mor
 rest_of [] more = refl
 rest_of (f ∷ gone) more = rest_of gone more
 
--- a collection that is kept or not holds pages
-held_if : (kept : Bool) (c : Collection) →
-    option_map (λ (d : Collection). d.held) (cond kept (Some c) None) ≡ cond kept (Some c.held) None
-held_if true c = refl
-held_if false c = refl
-
 pub returns-clause-live : goal.returns-clause-live
 returns-clause-live c gone s history shows = live_keys_shown (recalling gone s) history shows
 
@@ -31,9 +23,7 @@ returns-clause-causes c gone s history shows =
     fault_is (recalling gone s) (timeline s.pool history) shows.shown s.limits (legal_grows s.pool s.limits history shows.legal)
 
 pub returns-clause-held : goal.returns-clause-held
-returns-clause-held c gone s history shows id =
-    ap (option_map (λ (d : Collection). d.held)) (collection_shown (recalling gone s) history shows id)
-    ∙ held_if (is_kept_collection (timeline s.pool history) id) (collection_after s.pool (timeline s.pool history) id)
+returns-clause-held c gone s history shows = collection_shown (recalling gone s) history shows (option_map (λ (d : Collection). d.held))
 
 pub returns-clause-free : goal.returns-clause-free
 returns-clause-free c gone s history shows = free_shown (recalling gone s) history shows

@@ -36,6 +36,10 @@ invariant_of-self c =
     c.forget_fired.ensures.ok c.forget_fired.ensures.err
     (core_forgot c.self.inside.contents.pool (core_with c.self.inside old) c.self.invariant) c.self.invariant
 
+-- the table forgets in each case
+pub returns-clause-done : goal.returns-clause-done
+returns-clause-done c = c.forget_fired.ensures.done
+
 pub returns-clause-forgot : goal.returns-clause-forgot
 returns-clause-forgot c =
     on_ok_weaker c.forget_fired.result (λ new. ap (core_with c.self.inside) new ∙ ap forgetting c.self.view_is) c.forget_fired.ensures.ok

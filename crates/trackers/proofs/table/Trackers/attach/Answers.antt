@@ -11,6 +11,10 @@ pub add-requires-clause-rising : goal.add-requires-clause-rising
 add-requires-clause-rising c =
     all_below c.args.tracker.id c.self.inside.rows.rows (recursion_from_All _ _ (rw (← c.self.view_is) at c.requires.rising))
 
+-- each fired or waits
+pub add-requires-clause-placed : goal.add-requires-clause-placed
+add-requires-clause-placed c = omega (arith, c.waiting-waiting.ensures)
+
 -- with one row more, or with more room alone
 pub invariant_of-self : goal.invariant_of-self
 invariant_of-self c =
@@ -24,7 +28,8 @@ invariant_of-self c =
           (omega (arith, w.in-Ok.ensures.room, held.counted, c.waiting-waiting.ensures))
           (omega (arith, w.in-Ok.ensures.spare, held.counted, c.waiting-waiting.ensures))
           w.in-Ok.ensures.row.1
-          w.in-Ok.ensures.indexed
+          w.in-Ok.ensures.indexed.0
+          w.in-Ok.ensures.indexed.1
       | in-Err w ↦ sound_grown _ _ _ _ _ _ _ _ _ _ _ c.self.invariant c.add.ensures.fired c.add.ensures.capacity c.add.ensures.more_spare
           w.in-Err.ensures.rows_kept w.in-Err.ensures.index_kept
     ]

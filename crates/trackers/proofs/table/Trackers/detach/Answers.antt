@@ -11,7 +11,7 @@ invariant_of-self c =
     last.0
     last.1
     last.2
-    (rw (last.3, ← c.len.ensures) c.remove_row.ensures))
+    (rw last.3 c.remove_last.ensures))
 
 -- the table is as it was
 pub returns : goal.returns

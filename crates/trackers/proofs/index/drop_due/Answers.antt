@@ -1,0 +1,10 @@
+use Rattle.std.proofs.Common.{not, rules}
+use Rattle.std.proofs.lemmas.Fn.{filter_same}
+use Rattle.trackers.specs.declared.index.Waiter.{Waiter}
+use Rattle.trackers.specs.WaitIndex.{is_waiter_due}
+use Rattle.trackers.proofs.index.drop_due.Goals as goal
+
+-- the closure computes the test
+pub returns : goal.returns
+returns g c = filter_same _ (λ (x : Waiter). not (is_waiter_due (g.W.World.seen c.args.world.now) x)) _ (λ x b f' h. search rules) _ _
+    c.retain.ensures.filtered

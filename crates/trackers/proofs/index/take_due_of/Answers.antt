@@ -1,0 +1,24 @@
+use Rattle.std.proofs.Common.{◌≡◌, true, false, not, ◌==◌, if◌then◌else◌, List, refl, sym, ap, ◌∙◌, arith}
+use Rattle.std.specs.List.{filter}
+use Rattle.std.proofs.lemmas.Bool.{eqb-true}
+use Rattle.std.proofs.lemmas.Grind.{common_steps}
+use Rattle.sm_names.specs.Trackers.{World}
+use Rattle.trackers.specs.declared.index.Waiter.{Waiter}
+use Rattle.trackers.specs.WaitIndex.{is_waiter_due, waiters_of}
+use Rattle.trackers.proofs.index.take_due_of.Goals as goal
+
+-- the list of the collection is the one without those that are due
+pub returns-else-is_empty-clause-kept : goal.returns-else-is_empty-clause-kept
+returns-else-is_empty-clause-kept g c = λ k.
+    let w : World = g.W.World.seen c.args.world.now in
+    let left : List Waiter → List Waiter = λ l. filter (λ (x : Waiter). not (is_waiter_due w x)) l in
+    let put : waiters_of (c.get_mut.follows.lender c.take_due.new.list) k
+    ≡ (if k == c.args.collection then c.take_due.new.list.items else waiters_of c.args.index.now k) = grind (arith, common_steps) in
+    let was : waiters_of c.args.index.now c.args.collection ≡ c.in-Some.list.now.items = grind (arith, common_steps) in
+    put ∙ elim (k == c.args.collection) as (λ b. (k == c.args.collection) ≡ b →
+    (if b then c.take_due.new.list.items else waiters_of c.args.index.now k)
+    ≡ (if b then left (waiters_of c.args.index.now k) else waiters_of c.args.index.now k)) [
+      | true ↦ λ same. c.take_due.ensures.kept
+          ∙ ap left (sym (ap (waiters_of c.args.index.now) (eqb-true k c.args.collection same) ∙ was))
+      | false ↦ λ other. refl
+    ] refl
