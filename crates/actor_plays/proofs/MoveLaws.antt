@@ -1,6 +1,6 @@
 -- How a play's position goes on.
 use Rattle.std.proofs.Common.{ℕ, zero, suc, ◌≡◌, ◌↔◌, ◌+◌, ◌≤◌, refl, ap, sym, subst, ◌∙◌, true, false, ◌&&◌, List, [], ◌∷◌, ◌++◌}
-use Rattle.std.proofs.Common.{add-one, length, length-append, map, Option, Some, None, slice_get, slice_set}
+use Rattle.std.proofs.Common.{add-one, length, length-append, map, Option, Some, slice_get, slice_set}
 use Rattle.std.proofs.Math.Nat.{lt_of_not-le}
 use Rattle.std.specs.Prelude.{IfOk, IfSome, Result, Ok, Err}
 use Rattle.std.specs.Option.{option_and_then, option_map_or}
@@ -18,10 +18,10 @@ use Rattle.forced_marks.specs.Marks.{AreStages}
 use Rattle.forest_store.specs.Settling.{no_key}
 use Rattle.actor_scripts.specs.ActorStates.{step_call}
 use Rattle.actor_plays.specs.declared.falls.GoneNode.{GoneNode}
-use Rattle.actor_plays.specs.declared.plan.Plan.{Plan}
+use Rattle.explore_model.specs.declared.plan.Plan.{Plan}
 use Rattle.actor_plays.specs.declared.play.Asked.{Asked}
 use Rattle.actor_plays.specs.declared.play.Play.{Play}
-use Rattle.actor_plays.specs.declared.play.Turn.{Turn}
+use Rattle.explore_model.specs.declared.found.Turn.{Turn}
 use Rattle.actor_plays.specs.declared.play.Turned.{Turned}
 use Rattle.actor_plays.specs.Moves.{HasCome, HasComeTo, HasRest, HavePassed, IsOfSetup, LeavesBetween, TakesLeave}
 use Rattle.actor_plays.specs.Moves.{TakesLeaveUntold, TakesTurn, TakesTurnUntold, TurnsBetween, may_go_at, position_at, position_of}
@@ -84,11 +84,6 @@ asks_none_at setup plans p falls actor is nothing a = nothing (record { next = a
       ∙ (ap (λ (cs : List ℕ). step_call cs a.stage.known a.next.step) is.clients ∙ a.call);
   caller = ap (λ (cs : List ℕ). slice_get cs actor) is.clients ∙ a.caller;
 })
-
--- The same where the play tells.
-pub asks_none : (setup : Setup) (plans : List Plan) (p : Play) (actor : ℕ) → IsOfSetup setup plans p → AsksNothing plans p actor →
-    Asks setup actor (position_of p) → ⊥
-asks_none setup plans p actor is nothing a = asks_none_at setup plans p p.falls.items actor is nothing a
 
 -- the actor makes the call that it asks for
 module _ (plans : List Plan) (old mid new : Play) (actor : ℕ) (asks : Asked) (reply : Reply) (so : AsksFor plans old actor asks)
@@ -298,24 +293,6 @@ module _ (plans : List Plan) (old mid new : Play) (actor client : ℕ) (call : C
   pub takes_leave_untold : TakesLeaveUntold plans old new actor true
   takes_leave_untold before =
       let then = fell_untold old mid client call reply makes before in (then.0, leaves_between before then.0 then.1)
-
--- It has no such call, whatever fell.
-leaves_none : (plans : List Plan) (p : Play) (actor : ℕ) → option_and_then leaves_by (slice_get (stages_of p) actor) ≡ None →
-    (falls : List GoneNode) → LeavesBetween plans p p actor false falls falls
-leaves_none plans p actor none falls setup is = (
-  is,
-  λ goes. let there : Some goes.call ≡ None = sym goes.by ∙ (sym (ap (option_and_then leaves_by) goes.at) ∙ none) in cc,
-)
-
--- The same where the play tells.
-pub takes_none : (plans : List Plan) (p : Play) (actor : ℕ) → option_and_then leaves_by (slice_get (stages_of p) actor) ≡ None →
-    TakesLeave plans p p actor false
-takes_none plans p actor none = leaves_none plans p actor none p.falls.items
-
--- And where it need not.
-pub takes_none_untold : (plans : List Plan) (p : Play) (actor : ℕ) →
-    option_and_then leaves_by (slice_get (stages_of p) actor) ≡ None → TakesLeaveUntold plans p p actor false
-takes_none_untold plans p actor none before = (before, leaves_none plans p actor none before)
 
 -- ---- the start
 

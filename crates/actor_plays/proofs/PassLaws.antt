@@ -6,14 +6,14 @@ use Rattle.std.proofs.Math.Nat.{eq-or-lt_of_le}
 use Rattle.std.specs.Prelude.{IfSome}
 use Rattle.std.specs.Option.{option_and_then, option_map_or}
 use Rattle.actor_scripts.specs.ActorStates.{step_call}
-use Rattle.actor_plays.specs.declared.plan.Plan.{Plan}
-use Rattle.actor_plays.specs.declared.plan.Planned.{Planned}
+use Rattle.explore_model.specs.declared.plan.Plan.{Plan}
+use Rattle.explore_model.specs.declared.plan.Planned.{Planned}
 use Rattle.actor_plays.specs.declared.play.Play.{Play}
 use Rattle.actor_plays.specs.Moves.{HasPassed, HasRest, HavePassed, IsOfSetup, position_of}
-use Rattle.actor_plays.specs.Plans.{steps_of}
+use Rattle.explore_model.specs.Plans.{steps_of}
 use Rattle.actor_plays.specs.Plays.{Stage, next_step, passed, polls, stages_of}
 use Rattle.actor_plays.specs.Positions.{PassOn, Passes, Position, Setup}
-use Rattle.actor_plays.proofs.PositionLaws.{done_rests, further, get-set, no_next, rests_on, stuck_rests}
+use Rattle.actor_plays.proofs.PositionLaws.{done_rests, further, get-set, no_next, rests_on}
 
 -- ---- setups
 
@@ -100,17 +100,6 @@ pub rests_done : (plans : List Plan) (p : Play) (actor : ℕ) →
 rests_done plans p actor none setup is = done_rests setup (position_of p) actor
     (ap (λ (ps : List Plan). option_and_then (next_step ps actor) (slice_get (stages_of p) actor)) is.plans_are ∙ none)
 
--- And so does one that can't pass its next step.
-pub rests_stuck : (plans : List Plan) (p : Play) (actor : ℕ) (next : Planned) →
-    option_and_then (next_step plans actor) (slice_get (stages_of p) actor) ≡ Some next →
-    (option_and_then (λ (stage : Stage). step_call p.clients.items stage.known next.step) (slice_get (stages_of p) actor) ≡ None →
-    option_map_or (λ (stage : Stage). polls p.core.trackers.fired stage.known next) (slice_get (stages_of p) actor) false ≡ true) →
-    HasRest plans p actor
-rests_stuck plans p actor next there stays setup is = stuck_rests setup (position_of p) actor next
-    (ap (λ (ps : List Plan). option_and_then (next_step ps actor) (slice_get (stages_of p) actor)) is.plans_are ∙ there)
-    (λ none. stays (ap (λ (cs : List ℕ). option_and_then (λ (stage : Stage). step_call cs stage.known next.step)
-    (slice_get (stages_of p) actor)) is.clients ∙ none))
-
 -- An actor beyond the plans rests.
 pub rests_beyond : (plans : List Plan) (p : Play) (actor : ℕ) → slice_get plans actor ≡ None → HasRest plans p actor
 rests_beyond plans p actor none = rests_done plans p actor (by (slice_get (stages_of p) actor))
@@ -138,12 +127,6 @@ pub more_further : (plans : List Plan) (old mid new : Play) → HavePassed plans
     HavePassed plans mid new → HavePassed plans old new
 more_further plans old mid new before same more setup is =
     further setup (position_of old) (position_of mid) (position_of new) (before setup is) (more setup (setup_on setup plans old mid is same))
-
--- The last actor passed nothing more.
-pub none_further : (plans : List Plan) (old mid new : Play) → HavePassed plans old mid → position_of new ≡ position_of mid →
-    HavePassed plans old new
-none_further plans old mid new before same setup is =
-    subst (λ (p : Position). PassOn setup (position_of old) p) (sym same) (before setup is)
 
 -- Who rests does so while others pass.
 pub rests_further : (plans : List Plan) (old new : Play) (actor : ℕ) → HavePassed plans old new → new ≡ record old { actors = new.actors } →

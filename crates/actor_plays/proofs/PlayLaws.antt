@@ -19,10 +19,10 @@ use Rattle.forced_marks.specs.declared.moment.Moment.{Moment}
 use Rattle.forced_marks.specs.Marks.{AreStages, Stage as MarkStage}
 use Rattle.forced_marks.specs.Moments.{stage_of as stage_told}
 use Rattle.actor_plays.specs.declared.actor.Actor.{Actor}
-use Rattle.actor_plays.specs.declared.plan.Plan.{Plan}
-use Rattle.actor_plays.specs.declared.plan.Planned.{Planned}
+use Rattle.explore_model.specs.declared.plan.Plan.{Plan}
+use Rattle.explore_model.specs.declared.plan.Planned.{Planned}
 use Rattle.actor_plays.specs.declared.play.Play.{Play}
-use Rattle.actor_plays.specs.declared.play.Turn.{Turn}
+use Rattle.explore_model.specs.declared.found.Turn.{Turn}
 use Rattle.actor_plays.specs.declared.play.Turned.{Turned}
 use Rattle.actor_plays.specs.declared.falls.GoneNode.{GoneNode}
 use Rattle.actor_plays.specs.Fates.{AreFalls, AreTold, falls_at}

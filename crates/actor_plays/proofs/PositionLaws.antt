@@ -3,14 +3,11 @@ use Rattle.std.proofs.Common.{ℕ, zero, suc, ◌≡◌, ◌≤◌, refl, ap, sy
 use Rattle.std.proofs.Common.{length, Option, Some, None, is_some, slice_get, slice_set}
 use Rattle.std.proofs.lemmas.Option.{slice_get_past}
 use Rattle.std.specs.Option.{option_and_then, option_map_or}
-use Rattle.sm_names.proofs.SamenessLaws.{some-injective}
 use Rattle.core_state.specs.State.{State}
-use Rattle.actor_scripts.specs.ActorStates.{step_call}
 use Rattle.actor_plays.specs.declared.falls.GoneNode.{GoneNode}
-use Rattle.actor_plays.specs.declared.plan.Plan.{Plan}
-use Rattle.actor_plays.specs.declared.plan.Planned.{Planned}
-use Rattle.actor_plays.specs.declared.play.Turn.{Turn}
-use Rattle.actor_plays.specs.Plans.{steps_of}
+use Rattle.explore_model.specs.declared.plan.Plan.{Plan}
+use Rattle.explore_model.specs.declared.found.Turn.{Turn}
+use Rattle.explore_model.specs.Plans.{steps_of}
 use Rattle.actor_plays.specs.Plays.{Stage, next_step, passed, polls}
 use Rattle.actor_plays.specs.Positions.{PassOn, Passes, Position, Reached, ReachedBy, Rests, Setup}
 
@@ -125,23 +122,6 @@ module _ (setup : Setup) where
   done_rests p actor none new pass =
       let there : Some pass.next ≡ None =
       sym pass.step ∙ (sym (ap (option_and_then (next_step setup.plans actor)) pass.at) ∙ none) in
-      cc
-
-  -- An actor rests whose next step makes a call, or waits for a tracker to fire.
-  pub stuck_rests : (p : Position) (actor : ℕ) (next : Planned) →
-      option_and_then (next_step setup.plans actor) (slice_get p.stages actor) ≡ Some next →
-      (option_and_then (λ (stage : Stage). step_call setup.clients stage.known next.step) (slice_get p.stages actor) ≡ None →
-      option_map_or (λ (stage : Stage). polls p.core.trackers.fired stage.known next) (slice_get p.stages actor) false ≡ true) →
-      Rests setup p actor
-  stuck_rests p actor next there stays new pass =
-      let same : pass.next ≡ next = some-injective pass.next next
-      (sym pass.step ∙ (sym (ap (option_and_then (next_step setup.plans actor)) pass.at) ∙ there)) in
-      let none : option_and_then (λ (stage : Stage). step_call setup.clients stage.known next.step) (slice_get p.stages actor) ≡ None =
-      ap (option_and_then (λ (stage : Stage). step_call setup.clients stage.known next.step)) pass.at
-      ∙ (ap (λ (n : Planned). step_call setup.clients pass.stage.known n.step) (sym same) ∙ pass.silent) in
-      let quiet : false ≡ true = sym pass.looks
-      ∙ (ap (polls p.core.trackers.fired pass.stage.known) same
-      ∙ (sym (ap (λ o. option_map_or (λ (stage : Stage). polls p.core.trackers.fired stage.known next) o false) pass.at) ∙ stays none)) in
       cc
 
 -- A stage that has all steps of the plan behind it has no next one: nor has one of no plan.

@@ -1,7 +1,7 @@
--- What became of nodes.
-use Rattle.std.specs.Prelude.{ℕ, ◌≡◌, Bool, true, false, if◌then◌else◌, List, [], ◌∷◌, ◌++◌, map, Option, Some, None, Vec}
+-- Which nodes fell.
+use Rattle.std.specs.Prelude.{ℕ, ◌≡◌, List, [], ◌∷◌, ◌++◌, map, Option, Some, None, Vec}
 use Rattle.std.specs.List.{filter, find, flat_map}
-use Rattle.std.specs.Option.{option_map, option_map_or}
+use Rattle.std.specs.Option.{option_map}
 use Rattle.sm_names.specs.declared.keys.NodeKey.{NodeKey}
 use Rattle.sm_names.specs.declared.messages.Call.{Call}
 use Rattle.sm_names.specs.declared.messages.Reply.{Reply}
@@ -9,7 +9,6 @@ use Rattle.sm_names.specs.declared.outcomes.Fault.{Fault}
 use Rattle.sm_names.specs.Marks.{Entry, Mark, Loss, Ended}
 use Rattle.sm_names.specs.Sameness.{same_key}
 use Rattle.forest_store.specs.declared.node.Node.{Node}
-use Rattle.forest_store.specs.Forest.{node_at}
 use Rattle.forest_store.specs.Nodes.{after_loss}
 use Rattle.core_state.specs.Shown.{Shows}
 use Rattle.core_state.specs.State.{State}
@@ -18,7 +17,6 @@ use Rattle.forced_marks.specs.declared.moment.Moment.{Moment}
 use Rattle.forced_marks.specs.Marks.{AreStages, Stage}
 use Rattle.forced_marks.specs.Moments.{stage_of}
 use Rattle.event_facts.specs.Facts.{is_lost_with}
-use Rattle.actor_plays.specs.declared.ending.Fate.{Fate}
 use Rattle.actor_plays.specs.declared.falls.GoneNode.{GoneNode}
 use Rattle.actor_plays.specs.Plays.{joins}
 
@@ -55,23 +53,6 @@ pub data AreFalls : List Entry → List GoneNode → Type 0 where
       AreStages old new client call reply stages →
       AreFalls (history ++ (client, call, reply) ∷ []) (falls ++ flat_map falls_at stages)
 
--- a node that was released, or is live
-abbrev pub fate_there : Bool → Bool → Fate
-fate_there true allocated = Fate.Released allocated
-fate_there false allocated = Fate.Live allocated
-
--- a node that failed, or ended
-abbrev pub fate_gone : Option Fault → Fate
-fate_gone fault = option_map_or Fate.Failed fault Fate.Ended
-
--- what became of a node that is kept
-abbrev pub fate_of : Node → Fate
-fate_of n = if n.gone then fate_gone n.fault else fate_there n.released n.allocated
-
--- what became of a node that is not: as it fell first
-abbrev pub fate_fallen : List GoneNode → NodeKey → Option Fate
-fate_fallen falls key = option_map (λ (f : GoneNode). fate_gone f.fault) (find (λ (f : GoneNode). same_key f.key key) falls)
-
--- what became of a node
-abbrev pub fate_in : State → List GoneNode → NodeKey → Option Fate
-fate_in s falls key = option_map_or (λ (n : Node). Some (fate_of n)) (node_at s.forest key) (fate_fallen falls key)
+-- how the node of this key fell first, if it did: by its fault, or without one
+abbrev pub fault_fallen : List GoneNode → NodeKey → Option (Option Fault)
+fault_fallen falls key = option_map (λ (f : GoneNode). f.fault) (find (λ (f : GoneNode). same_key f.key key) falls)

@@ -14,14 +14,14 @@ use Rattle.actor_scripts.specs.Tables.{known}
 use Rattle.core_state.specs.Shown.{Shows}
 use Rattle.core_state.specs.State.{State}
 use Rattle.actor_plays.specs.declared.actor.Actor.{Actor}
-use Rattle.actor_plays.specs.declared.plan.Plan.{Plan}
-use Rattle.actor_plays.specs.declared.plan.Planned.{Planned}
+use Rattle.explore_model.specs.declared.plan.Plan.{Plan}
+use Rattle.explore_model.specs.declared.plan.Planned.{Planned}
 use Rattle.actor_plays.specs.declared.play.Asked.{Asked}
 use Rattle.actor_plays.specs.declared.play.Play.{Play}
-use Rattle.actor_plays.specs.declared.play.Turn.{Turn}
+use Rattle.explore_model.specs.declared.found.Turn.{Turn}
 use Rattle.actor_plays.specs.declared.play.Turned.{Turned}
 use Rattle.actor_plays.specs.Leaves.{Leave, leave_after, leave_call, vanish_of}
-use Rattle.actor_plays.specs.Plans.{steps_of}
+use Rattle.explore_model.specs.Plans.{steps_of}
 
 -- how far an actor is: how many steps of its plan are behind it, what it knows, the replies to the calls of its steps, each with
 -- the place of its step, and how far it is in leaving, if it leaves

@@ -3,13 +3,14 @@ ghost use Rattle.std.specs.Prelude.{◌≡◌, ◌≤◌, length, false, true, I
 ghost use Rattle.sm_names.specs.declared.outcomes.StepFault.{StepFault as Fault};
 ghost use Rattle.actor_scripts.specs.ActorStates.{step_call};
 ghost use Rattle.actor_scripts.specs.Tables.{known};
-ghost use Rattle.actor_plays.specs.Plans.{steps_of};
+ghost use Rattle.explore_model.specs.Plans.{steps_of};
+ghost use Rattle.actor_plays.specs.Endings.{birth_in, is_birth as births};
 ghost use Rattle.actor_plays.specs.Plays.{first_stage, leaves_by, left, passed, stage_after, stage_of};
 
-use crate::plan::{Plan, Planned};
 use crate::vanish::{VanishProgress, leave_call, note_leave};
 use actor_scripts::{ActorState, Step, StepCall};
-use sm_names::{Call, ClientId, Reply, StepFault};
+use explore_model::{Plan, Planned};
+use sm_names::{Call, ClientId, NodeKey, Reply, StepFault};
 use std::alloc::{AllocError, Global};
 
 /// An actor in a play: its client, how many steps of its plan are behind it, what it knows, the replies to the
@@ -21,6 +22,16 @@ pub struct Actor {
     pub state: ActorState,
     pub made: Vec<(usize, Reply)>,
     pub vanish: Option<VanishProgress>,
+}
+
+// Whether the call with this reply made the node.
+fn is_birth(key: NodeKey, reply: Reply) -> bool
+    ensures { result ≡ births key reply }
+{
+    match reply {
+        Reply::Token { key: other, .. } => other == key,
+        _ => false,
+    }
 }
 
 impl Actor {
@@ -36,6 +47,16 @@ impl Actor {
             state,
             made,
             vanish: None,
+        }
+    }
+
+    // The place of the first of its steps whose call made the node.
+    pub(crate) fn birth(&self, key: NodeKey) -> Option<usize>
+        ensures { result ≡ birth_in key self.now.made.items }
+    {
+        match self.made.iter().find(|made| is_birth(key, made.1)) {
+            Some((at, _)) => Some(*at),
+            None => None,
         }
     }
 

@@ -2,13 +2,13 @@
 ghost use Rattle.std.specs.Prelude.{◌≡◌, ◌≤◌, ◌∷◌, ◌++◌, [], slice_get, slice_set, true, Err, Some, IfErr, IfOk, IfSome, OnOk};
 ghost use Rattle.std.specs.Option.{option_and_then};
 ghost use Rattle.sm_names.specs.declared.outcomes.StepFault.{StepFault as Fault};
-ghost use Rattle.actor_plays.specs.declared.play.Turn.{Turn as Made};
+ghost use Rattle.explore_model.specs.declared.found.Turn.{Turn as Made};
 ghost use Rattle.actor_plays.specs.Fates.{AreFalls};
 ghost use Rattle.actor_plays.specs.Moves.{TakesLeave, TakesLeaveUntold};
 ghost use Rattle.actor_plays.specs.Plays.{IsLeave, IsPlay, leaves_by, left, stages_of};
 
-use crate::plan::Plan;
-use crate::play::{Play, Turn};
+use crate::play::Play;
+use explore_model::{Plan, Turn};
 use sm_names::{Call, ClientId, Reply, StepFault};
 use std::alloc::{AllocError, Global};
 

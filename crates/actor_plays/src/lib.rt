@@ -5,16 +5,11 @@ mod actor;
 mod departure;
 mod ending;
 mod falls;
-mod found;
 mod passing;
-mod plan;
 mod play;
 mod vanish;
 
 pub use actor::Actor;
-pub use ending::Fate;
 pub use falls::GoneNode;
-pub use found::{ActorOutcome, Became, Doubt, Exploration, Figures, Found, Outcome, Vanishing};
-pub use plan::{Plan, Planned, Waiting, plan_of};
-pub use play::{Play, Turn, Turned};
+pub use play::{Play, Turned};
 pub use vanish::VanishProgress;

@@ -3,14 +3,14 @@ ghost use Rattle.std.specs.Prelude.{ℕ, ◌≡◌, length, slice_get, slice_set
 ghost use Rattle.std.specs.Option.{option_and_then, option_map_or};
 ghost use Rattle.actor_scripts.specs.ActorStates.{step_call};
 ghost use Rattle.actor_scripts.specs.Tables.{known};
-ghost use Rattle.actor_plays.specs.declared.plan.Plan.{Plan as Planning};
+ghost use Rattle.explore_model.specs.declared.plan.Plan.{Plan as Planning};
 ghost use Rattle.actor_plays.specs.Moves.{HasPassed, HasRest, HavePassed, position_of};
-ghost use Rattle.actor_plays.specs.Plans.{steps_of};
+ghost use Rattle.explore_model.specs.Plans.{steps_of};
 ghost use Rattle.actor_plays.specs.Plays.{IsPlay, Stage, has_fired as has_fired_among, next_step, passed, polls as polls_for, stages_of};
 
-use crate::plan::{Plan, Planned};
 use crate::play::Play;
 use actor_scripts::{ActorState, Step};
+use explore_model::{Plan, Planned};
 use sm_names::{Fired, TrackerId};
 
 // Whether the tracker is among those that fired.

@@ -7,8 +7,8 @@ ghost use Rattle.sm_names.specs.declared.outcomes.StepFault.{StepFault as Fault}
 ghost use Rattle.core_state.specs.Shown.{Shows};
 ghost use Rattle.core_state.specs.Theorem.{Makes};
 ghost use Rattle.actor_plays.specs.declared.play.Asked.{Asked as AskedFor};
-ghost use Rattle.actor_plays.specs.declared.play.Turn.{Turn as Made};
-ghost use Rattle.actor_plays.specs.Fates.{AreFalls, fate_fallen, fate_in};
+ghost use Rattle.explore_model.specs.declared.found.Turn.{Turn as Made};
+ghost use Rattle.actor_plays.specs.Fates.{AreFalls};
 ghost use Rattle.actor_plays.specs.Moves.{IsOfSetup, TakesTurn, TakesTurnUntold, position_of};
 ghost use Rattle.actor_plays.specs.Plays.{AreJoining, Asks, AsksNothing, IsPlay, IsTurn, Stage};
 ghost use Rattle.actor_plays.specs.Plays.{first_clients, first_stage, is_wait as is_waiting, next_step, stage_after, stage_of, stages_of};
@@ -16,13 +16,12 @@ ghost use Rattle.actor_plays.specs.Positions.{Begins, Fell, Setup};
 ghost use Rattle.actor_scripts.specs.ActorStates.{step_call};
 
 use crate::actor::Actor;
-use crate::ending::{Fate, fallen, fate_of};
 use crate::falls::{GoneNode, note_falls};
-use crate::plan::{Plan, Planned};
 use actor_scripts::{Step, StepCall};
 use event_facts::step_with_marks;
+use explore_model::{Plan, Planned, Turn};
 use lifetime_core::Core;
-use sm_names::{Call, ClientId, Limits, NoMemory, NodeKey, Reply, StepFault};
+use sm_names::{Call, ClientId, Limits, NoMemory, Reply, StepFault};
 use std::alloc::Global;
 
 /// What came of an actor's turn.
@@ -34,15 +33,6 @@ pub enum Turned {
     Waits,
     /// It has no call to make: it is behind its last step, or waits for a tracker to fire.
     Rests,
-}
-
-/// A turn, which makes one call: of the actor of this place.
-#[derive(Clone, Copy, PartialEq, Eq)]
-pub enum Turn {
-    /// The call of its next step.
-    Step(usize),
-    /// The call by which it leaves, or goes on to leave.
-    Leave(usize),
 }
 
 /// A play of actors on a core: the clients, what each actor knows, the turns, the calls with their replies,
@@ -453,24 +443,5 @@ impl Play {
         ensures { result.now ≡ self.now.falls.items }
     {
         &self.falls
-    }
-
-    /// How the node fell, the first time, in calls that were told. `None` where it did not. Costs O(n) for the n nodes
-    /// that fell.
-    pub fn fallen(&self, key: NodeKey) -> Option<Fate>
-        ensures { result ≡ fate_fallen self.now.falls.items key }
-    {
-        fallen(&self.falls, key)
-    }
-
-    /// What became of the node: what the core has of it, or else how it fell. `None` where it is neither kept
-    /// nor fell. Costs O(n) for the n nodes that fell.
-    pub fn fate(&self, key: NodeKey) -> Option<Fate>
-        ensures { result ≡ fate_in self.now.core self.now.falls.items key }
-    {
-        match self.core.node(key) {
-            Some(node) => Some(fate_of(&node)),
-            None => fallen(&self.falls, key),
-        }
     }
 }

@@ -10,10 +10,10 @@ use Rattle.sm_names.proofs.ListLaws.{In, In-map}
 use Rattle.sm_names.proofs.SamenessLaws.{none_is, some-injective}
 use Rattle.actor_scripts.specs.declared.object.ActorObject.{ActorObject}
 use Rattle.actor_scripts.specs.ActorStates.{new_objects, nothing_known}
-use Rattle.actor_plays.specs.declared.plan.Plan.{Plan}
-use Rattle.actor_plays.specs.declared.plan.Planned.{Planned}
+use Rattle.explore_model.specs.declared.plan.Plan.{Plan}
+use Rattle.explore_model.specs.declared.plan.Planned.{Planned}
 use Rattle.actor_plays.specs.Leaves.{Leave, all_objects, leave_after, leave_call, vanishing_call}
-use Rattle.actor_plays.specs.Plans.{steps_of}
+use Rattle.explore_model.specs.Plans.{steps_of}
 use Rattle.actor_plays.specs.Plays.{Stage, leaves_by, left, next_step}
 use Rattle.alike_plays.specs.Actors.{AreAlikeStages, leave_renamed, made_of, made_renamed, object_renamed}
 use Rattle.alike_plays.specs.Ahead.{ahead_by, ahead_of, going_on}

@@ -17,7 +17,7 @@ use Rattle.core_state.specs.Shown.{IsAfter, Shows, collection_after, kept_ids, t
 use Rattle.core_state.specs.State.{HandleCounts, State}
 use Rattle.actor_scripts.specs.declared.object.StepCall.{StepCall}
 use Rattle.actor_plays.specs.declared.falls.GoneNode.{GoneNode}
-use Rattle.actor_plays.specs.Fates.{fate_fallen}
+use Rattle.actor_plays.specs.Fates.{fault_fallen}
 use Rattle.actor_plays.specs.Plays.{Stage, first_stage, is_wait, joins}
 use Rattle.actor_plays.specs.Positions.{Asks, Begins, Calls, HasToWait, PassOn, Position, Reached, Rests, Setup}
 use Rattle.actor_plays.proofs.PositionLaws.{all_rest, further, reached_on}
@@ -28,7 +28,7 @@ use Rattle.alike_cores.proofs.Composing.{alike-same}
 use Rattle.alike_plays.specs.AlikePlays.{AreAlikeAll, AreAlikePlays}
 use Rattle.alike_plays.specs.Closed.{IsClosed, IsMet, IsSimulation}
 use Rattle.alike_plays.specs.Names.{KnownCall}
-use Rattle.alike_plays.specs.Outcomes.{fate_renamed}
+use Rattle.alike_plays.specs.Falls.{fall_renamed}
 use Rattle.alike_plays.proofs.Composing.{plays-composed}
 use Rattle.alike_plays.proofs.Passing.{call_on, leave_on, past}
 use Rattle.alike_plays.proofs.Reaching.{IsSeen, asks_known, reached_seen}
@@ -101,8 +101,8 @@ starts_alike setup one other a b = record {
   stages = subst (λ (ss : List Stage). AreAlikeAll (λ key. key) (λ i. i) (λ n. n) ss other.stages) (sym a.stages)
       (subst (AreAlikeAll (λ key. key) (λ i. i) (λ n. n) (map (λ (client : ℕ). first_stage) setup.clients)) (sym b.stages)
       (first_alike (λ key. key) (λ i. i) (λ n. n) setup.clients));
-  fallen = λ key. ap (λ (falls : List GoneNode). fate_fallen falls key) b.falls
-      ∙ sym (ap (λ (falls : List GoneNode). option_map (fate_renamed (λ k. k)) (fate_fallen falls key)) a.falls);
+  fallen = λ key. ap (λ (falls : List GoneNode). fault_fallen falls key) b.falls
+      ∙ sym (ap (λ (falls : List GoneNode). option_map (fall_renamed (λ k. k)) (fault_fallen falls key)) a.falls);
 }
 
 module _ (setup : Setup) where

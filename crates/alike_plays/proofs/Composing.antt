@@ -5,17 +5,17 @@ use Rattle.sm_names.specs.declared.keys.NodeKey.{NodeKey}
 use Rattle.sm_names.specs.declared.messages.Reply.{Reply}
 use Rattle.actor_scripts.specs.declared.object.ActorObject.{ActorObject}
 use Rattle.actor_scripts.specs.ActorStates.{Known}
-use Rattle.actor_plays.specs.declared.ending.Fate.{Fate}
-use Rattle.actor_plays.specs.Fates.{fate_fallen}
+use Rattle.actor_plays.specs.Fates.{fault_fallen}
 use Rattle.actor_plays.specs.Leaves.{Leave}
 use Rattle.actor_plays.specs.Plays.{Stage}
 use Rattle.actor_plays.specs.Positions.{Position}
 use Rattle.alike_cores.specs.Alike.{reply_renamed}
+use Rattle.alike_cores.specs.Renamed.{fault_renamed}
 use Rattle.alike_cores.proofs.Composing.{alike-alike}
 use Rattle.alike_plays.specs.Actors.{AreAlikeKnown, AreAlikeStages, leave_renamed, made_of, made_renamed, object_renamed}
 use Rattle.alike_plays.specs.Actors.{place_renamed}
 use Rattle.alike_plays.specs.AlikePlays.{AreAlikeAll, AreAlikePlays}
-use Rattle.alike_plays.specs.Outcomes.{fate_renamed}
+use Rattle.alike_plays.specs.Falls.{fall_renamed}
 
 -- Element by element.
 twice-map : {A B C : Type 0} (f : A → B) (g : B → C) (h : A → C) → ((x : A) → g (f x) ≡ h x) → (xs : List A) → map g (map f xs) ≡ map h xs
@@ -105,12 +105,6 @@ module _ (to more : NodeKey → NodeKey) (id on number next : ℕ → ℕ) where
   all-composed (a ∷ rest) (b ∷ bs) (c ∷ cs) first then =
       (stage-composed a b c first.0 then.0, all-composed rest bs cs first.1 then.1)
 
--- By the fate.
-twice-fate : (to more : NodeKey → NodeKey) (fate : Fate) →
-    fate_renamed more (fate_renamed to fate) ≡ fate_renamed (λ key. more (to key)) fate
-twice-fate to more (Fate.Failed fault) = refl
-twice-fate to more _ = refl
-
 -- Being alike composes.
 pub plays-composed : (one other third : Position) → AreAlikePlays one other → AreAlikePlays other third → AreAlikePlays one third
 plays-composed one other third first then = record {
@@ -123,7 +117,8 @@ plays-composed one other third first then = record {
   cores = alike-alike first.to then.to first.id then.id first.number then.number one.core other.core third.core first.cores then.cores;
   stages = all-composed first.to then.to first.id then.id first.number then.number one.stages other.stages third.stages first.stages
       then.stages;
-  fallen = λ key. then.fallen (first.to key) ∙ (ap (option_map (fate_renamed then.to)) (first.fallen key)
-      ∙ twice-option (fate_renamed first.to) (fate_renamed then.to) (fate_renamed (λ k. then.to (first.to k)))
-      (twice-fate first.to then.to) (fate_fallen one.falls key));
+  fallen = λ key. then.fallen (first.to key) ∙ (ap (option_map (fall_renamed then.to)) (first.fallen key)
+      ∙ twice-option (fall_renamed first.to) (fall_renamed then.to) (fall_renamed (λ k. then.to (first.to k)))
+      (twice-option (fault_renamed first.to) (fault_renamed then.to) (fault_renamed (λ k. then.to (first.to k))) (λ f. refl))
+      (fault_fallen one.falls key));
 }

@@ -35,7 +35,7 @@ use Rattle.alike_cores.proofs.Settling.{SamePages, beside-alike}
 use Rattle.alike_cores.proofs.Worked.{start}
 use Rattle.alike_cores.proofs.Working.{start-alike, work-alike, work_renamed, work_undated}
 use Rattle.alike_plays.specs.Names.{KnownGone}
-use Rattle.alike_plays.specs.Outcomes.{gone_renamed}
+use Rattle.alike_plays.specs.Falls.{gone_renamed}
 use Rattle.alike_plays.proofs.Falling.{own-alike, settles-alike}
 use Rattle.alike_plays.proofs.FallsKnown.{AllKnown, changed_known, own_known, settles_known}
 

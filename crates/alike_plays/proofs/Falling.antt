@@ -19,16 +19,15 @@ use Rattle.forest_store.specs.Nodes.{after_loss, member_of}
 use Rattle.forest_store.specs.Questions.{is_below}
 use Rattle.forest_store.specs.Settling.{Handles, made, standing}
 use Rattle.forced_marks.specs.Marks.{SettlesBy, own_stage, stages}
-use Rattle.actor_plays.specs.declared.ending.Fate.{Fate}
 use Rattle.actor_plays.specs.declared.falls.GoneNode.{GoneNode}
-use Rattle.actor_plays.specs.Fates.{end_told, fall_told, falls_at, falls_by, fate_fallen, fate_gone}
+use Rattle.actor_plays.specs.Fates.{end_told, fall_told, falls_at, falls_by, fault_fallen}
 use Rattle.alike_cores.specs.Renamed.{CountsAlike, KeepsKeys, change_renamed, collection_renamed, fault_renamed, mark_renamed, node_renamed}
 use Rattle.alike_cores.proofs.Forcings.{filter_alike, find_alike, forced-renamed}
 use Rattle.alike_cores.proofs.Renamings.{any-renamed, loss-renamed, member-renamed}
 use Rattle.alike_cores.proofs.Settlings.{made-renamed, standing-renamed}
 use Rattle.alike_cores.specs.Cores.{node_undated, undated}
 use Rattle.alike_cores.proofs.Settling.{SamePages, forced-others, made-others}
-use Rattle.alike_plays.specs.Outcomes.{FellAlike, fate_renamed, gone_renamed}
+use Rattle.alike_plays.specs.Falls.{FellAlike, fall_renamed, gone_renamed}
 
 -- ---- by a mark
 
@@ -175,36 +174,31 @@ first_of None o = o
 
 -- By whether it fell among the first.
 pub fallen-append : (xs ys : List GoneNode) (key : NodeKey) →
-    fate_fallen (xs ++ ys) key ≡ first_of (fate_fallen xs key) (fate_fallen ys key)
+    fault_fallen (xs ++ ys) key ≡ first_of (fault_fallen xs key) (fault_fallen ys key)
 fallen-append [] ys key = refl
 fallen-append (x ∷ xs) ys key = by (same_key x.key key) (fallen-append xs ys key)
   where
     -- by whether it is this one
-    by : (b : Bool) → fate_fallen (xs ++ ys) key ≡ first_of (fate_fallen xs key) (fate_fallen ys key) →
-        option_map (λ (f : GoneNode). fate_gone f.fault) (cond b (Some x) (find (λ (f : GoneNode). same_key f.key key) (xs ++ ys)))
-        ≡ first_of (option_map (λ (f : GoneNode). fate_gone f.fault) (cond b (Some x) (find (λ (f : GoneNode). same_key f.key key) xs)))
-        (fate_fallen ys key)
+    by : (b : Bool) → fault_fallen (xs ++ ys) key ≡ first_of (fault_fallen xs key) (fault_fallen ys key) →
+        option_map (λ (f : GoneNode). f.fault) (cond b (Some x) (find (λ (f : GoneNode). same_key f.key key) (xs ++ ys)))
+        ≡ first_of (option_map (λ (f : GoneNode). f.fault) (cond b (Some x) (find (λ (f : GoneNode). same_key f.key key) xs)))
+        (fault_fallen ys key)
     by true more = refl
     by false more = more
-
--- By whether it failed.
-pub gone-renamed : (to : NodeKey → NodeKey) (o : Option Fault) → fate_gone (option_map (fault_renamed to) o) ≡ fate_renamed to (fate_gone o)
-gone-renamed to None = refl
-gone-renamed to (Some fault) = refl
 
 -- What is renamed fell alike.
 pub fallen-renamed : (to : NodeKey → NodeKey) → KeepsKeys to → (falls : List GoneNode) → FellAlike to falls (map (gone_renamed to) falls)
 fallen-renamed to keeps falls key =
-    ap (option_map (λ (f : GoneNode). fate_gone f.fault))
+    ap (option_map (λ (f : GoneNode). f.fault))
     (find_alike (λ (f : GoneNode). same_key f.key (to key)) (λ (f : GoneNode). same_key f.key key) (gone_renamed to)
     (λ f. keeps f.key key) falls)
     ∙ from (find (λ (f : GoneNode). same_key f.key key) falls)
   where
     -- by cases on the node
-    from : (o : Option GoneNode) → option_map (λ (f : GoneNode). fate_gone f.fault) (option_map (gone_renamed to) o)
-        ≡ option_map (fate_renamed to) (option_map (λ (f : GoneNode). fate_gone f.fault) o)
+    from : (o : Option GoneNode) → option_map (λ (f : GoneNode). f.fault) (option_map (gone_renamed to) o)
+        ≡ option_map (fall_renamed to) (option_map (λ (f : GoneNode). f.fault) o)
     from None = refl
-    from (Some f) = ap Some (gone-renamed to f.fault)
+    from (Some f) = refl
 
 -- Those that fell before, and then those that fall now.
 pub both-fell : (to : NodeKey → NodeKey) (falls later more again : List GoneNode) → FellAlike to falls later → FellAlike to more again →
@@ -212,10 +206,10 @@ pub both-fell : (to : NodeKey → NodeKey) (falls later more again : List GoneNo
 both-fell to falls later more again one other key =
     fallen-append later again (to key)
     ∙ ((λ i. first_of (one key i) (other key i))
-    ∙ (from (fate_fallen falls key) ∙ ap (option_map (fate_renamed to)) (sym (fallen-append falls more key))))
+    ∙ (from (fault_fallen falls key) ∙ ap (option_map (fall_renamed to)) (sym (fallen-append falls more key))))
   where
     -- by whether it fell before
-    from : (o : Option Fate) → first_of (option_map (fate_renamed to) o) (option_map (fate_renamed to) (fate_fallen more key))
-        ≡ option_map (fate_renamed to) (first_of o (fate_fallen more key))
+    from : (o : Option (Option Fault)) → first_of (option_map (fall_renamed to) o) (option_map (fall_renamed to) (fault_fallen more key))
+        ≡ option_map (fall_renamed to) (first_of o (fault_fallen more key))
     from None = refl
     from (Some f) = refl

@@ -7,13 +7,12 @@ use Rattle.sm_names.specs.declared.outcomes.Fault.{Fault}
 use Rattle.sm_names.specs.Sameness.{same_key}
 use Rattle.sm_names.proofs.ListLaws.{In, In-find}
 use Rattle.sm_names.proofs.SamenessLaws.{none_or_some, same_key-true, some-injective}
-use Rattle.actor_plays.specs.declared.ending.Fate.{Fate}
 use Rattle.actor_plays.specs.declared.falls.GoneNode.{GoneNode}
-use Rattle.actor_plays.specs.Fates.{fate_fallen, fate_gone}
+use Rattle.actor_plays.specs.Fates.{fault_fallen}
 use Rattle.alike_cores.specs.Renamed.{KeepsKeys, fault_renamed}
 use Rattle.alike_cores.proofs.Moving.{keys_moved, keys_same}
 use Rattle.alike_plays.specs.Names.{KnownGone}
-use Rattle.alike_plays.specs.Outcomes.{FellAlike, fate_renamed}
+use Rattle.alike_plays.specs.Falls.{FellAlike, fall_renamed}
 use Rattle.alike_plays.proofs.Renaming.{far_keys}
 
 module _ (Key : NodeKey → Type 0) (falls : List GoneNode) (known : (g : GoneNode) → In g falls → KnownGone Key g) (key : NodeKey) where
@@ -22,39 +21,27 @@ module _ (Key : NodeKey → Type 0) (falls : List GoneNode) (known : (g : GoneNo
   found = find (λ (f : GoneNode). same_key f.key key) falls
 
   -- A key that is not known fell nowhere.
-  fell_nowhere : (Key key → ⊥) → fate_fallen falls key ≡ None
+  fell_nowhere : (Key key → ⊥) → fault_fallen falls key ≡ None
   fell_nowhere other = by (none_or_some found)
     where
       -- by whether it fell
-      by : (found ≡ None) ⊎ ((g : GoneNode) × (found ≡ Some g)) → fate_fallen falls key ≡ None
-      by (inl none) = ap (option_map (λ (f : GoneNode). fate_gone f.fault)) none
+      by : (found ≡ None) ⊎ ((g : GoneNode) × (found ≡ Some g)) → fault_fallen falls key ≡ None
+      by (inl none) = ap (option_map (λ (f : GoneNode). f.fault)) none
       by (inr fell) =
           let at = In-find (λ (f : GoneNode). same_key f.key key) falls fell.0 fell.1 in
           absurd (other (subst Key (same_key-true fell.0.key key at.1) (known fell.0 at.0).key))
 
   -- The node at which a failure began is known.
-  origin_known : (fault : Fault) → fate_fallen falls key ≡ Some (Fate.Failed fault) → Key fault.origin
+  origin_known : (fault : Fault) → fault_fallen falls key ≡ Some (Some fault) → Key fault.origin
   origin_known fault failed = by (none_or_some found)
     where
-      -- the fault, if it is one
-      fault_in : Option Fate → Option Fault
-      fault_in (Some (Fate.Failed f)) = Some f
-      fault_in _ = None
-
-      -- by the fault of the node
-      its : (o : Option Fault) → ((f : Fault) → o ≡ Some f → Key f.origin) → Some (fate_gone o) ≡ Some (Fate.Failed fault) →
-          Key fault.origin
-      its None origins is = let no : None ≡ Some fault = ap fault_in is in cc
-      its (Some f) origins is = subst (λ (x : Fault). Key x.origin) (some-injective f fault (ap fault_in is)) (origins f refl)
-
       -- by whether it fell
       by : (found ≡ None) ⊎ ((g : GoneNode) × (found ≡ Some g)) → Key fault.origin
-      by (inl none) =
-          let no : None ≡ Some (Fate.Failed fault) = sym (ap (option_map (λ (f : GoneNode). fate_gone f.fault)) none) ∙ failed in cc
+      by (inl none) = let no : None ≡ Some (Some fault) = sym (ap (option_map (λ (f : GoneNode). f.fault)) none) ∙ failed in cc
       by (inr fell) =
           let at = In-find (λ (f : GoneNode). same_key f.key key) falls fell.0 fell.1 in
-          its fell.0.fault (known fell.0 at.0).origin
-          (sym (ap (option_map (λ (f : GoneNode). fate_gone f.fault)) fell.1) ∙ failed)
+          (known fell.0 at.0).origin fault
+          (some-injective fell.0.fault (Some fault) (sym (ap (option_map (λ (f : GoneNode). f.fault)) fell.1) ∙ failed))
 
 -- Names of new nodes make no difference to what fell before.
 pub fell-agrees : (to : NodeKey → NodeKey) → KeepsKeys to → (o p : Option NodeKey) (Key Other : NodeKey → Type 0) →
@@ -62,27 +49,24 @@ pub fell-agrees : (to : NodeKey → NodeKey) → KeepsKeys to → (o p : Option 
     (falls later : List GoneNode) → ((g : GoneNode) → In g falls → KnownGone Key g) → ((g : GoneNode) → In g later → KnownGone Other g) →
     FellAlike to falls later → FellAlike (keys_moved to o p) falls later
 fell-agrees to keeps o p Key Other new new_too falls later known known_too alike key =
-    far_keys to keeps o p Key Other new new_too (λ k. option_map (fate_renamed to) (fate_fallen falls k)) (fate_fallen later) alike
-    (λ k none. ap (option_map (fate_renamed to)) (fell_nowhere Key falls known k none)) (λ k none. fell_nowhere Other later known_too k none)
+    far_keys to keeps o p Key Other new new_too (λ k. option_map (fall_renamed to) (fault_fallen falls k)) (fault_fallen later) alike
+    (λ k none. ap (option_map (fall_renamed to)) (fell_nowhere Key falls known k none)) (λ k none. fell_nowhere Other later known_too k none)
     key
-    ∙ by (fate_fallen falls key) refl
+    ∙ by (fault_fallen falls key) refl
   where
     -- the node at which a failure began keeps its name
-    origin : (fault : Fault) → fate_fallen falls key ≡ Some (Fate.Failed fault) → keys_moved to o p fault.origin ≡ to fault.origin
+    origin : (fault : Fault) → fault_fallen falls key ≡ Some (Some fault) → keys_moved to o p fault.origin ≡ to fault.origin
     origin fault failed = keys_same to keeps o p fault.origin
         (λ is. new fault.origin is (origin_known Key falls known key fault failed))
         (λ is. new_too (to fault.origin) is (origin_known Other later known_too (to key) (fault_renamed to fault)
-        (alike key ∙ ap (option_map (fate_renamed to)) failed)))
+        (alike key ∙ ap (option_map (fall_renamed to)) failed)))
 
-    -- by its fate
-    by : (f : Option Fate) → fate_fallen falls key ≡ f →
-        option_map (fate_renamed to) (fate_fallen falls key) ≡ option_map (fate_renamed (keys_moved to o p)) (fate_fallen falls key)
-    by None is = ap (option_map (fate_renamed to)) is ∙ sym (ap (option_map (fate_renamed (keys_moved to o p))) is)
-    by (Some (Fate.Failed fault)) is =
-        ap (option_map (fate_renamed to)) is
-        ∙ ((λ i. Some (Fate.Failed (record fault { origin = sym (origin fault is) i })))
-        ∙ sym (ap (option_map (fate_renamed (keys_moved to o p))) is))
-    by (Some Fate.Ended) is = ap (option_map (fate_renamed to)) is ∙ sym (ap (option_map (fate_renamed (keys_moved to o p))) is)
-    by (Some (Fate.Live allocated)) is = ap (option_map (fate_renamed to)) is ∙ sym (ap (option_map (fate_renamed (keys_moved to o p))) is)
-    by (Some (Fate.Released allocated)) is =
-        ap (option_map (fate_renamed to)) is ∙ sym (ap (option_map (fate_renamed (keys_moved to o p))) is)
+    -- by how it fell
+    by : (f : Option (Option Fault)) → fault_fallen falls key ≡ f →
+        option_map (fall_renamed to) (fault_fallen falls key) ≡ option_map (fall_renamed (keys_moved to o p)) (fault_fallen falls key)
+    by None is = ap (option_map (fall_renamed to)) is ∙ sym (ap (option_map (fall_renamed (keys_moved to o p))) is)
+    by (Some None) is = ap (option_map (fall_renamed to)) is ∙ sym (ap (option_map (fall_renamed (keys_moved to o p))) is)
+    by (Some (Some fault)) is =
+        ap (option_map (fall_renamed to)) is
+        ∙ ((λ i. Some (Some (record fault { origin = sym (origin fault is) i })))
+        ∙ sym (ap (option_map (fall_renamed (keys_moved to o p))) is))

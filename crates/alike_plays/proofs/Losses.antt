@@ -1,5 +1,5 @@
 -- Whether the same became of the nodes that fell, found by what both lists have.
-use Rattle.std.proofs.Common.{◌≡◌, ◌⊎◌, inl, inr, ap, sym, subst, ◌∙◌, true, false, List, Option, Some, None}
+use Rattle.std.proofs.Common.{◌≡◌, ◌⊎◌, inl, inr, ap, sym, subst, ◌∙◌, true, false, List, Some, None}
 use Rattle.std.specs.List.{find}
 use Rattle.std.specs.Option.{option_map}
 use Rattle.sm_names.specs.declared.keys.NodeKey.{NodeKey}
@@ -7,33 +7,33 @@ use Rattle.sm_names.specs.Sameness.{same_key}
 use Rattle.sm_names.proofs.ListLaws.{In, In-any, In-find, none-find}
 use Rattle.sm_names.proofs.SamenessLaws.{none_or_some, same_key-refl, same_key-true}
 use Rattle.actor_plays.specs.declared.falls.GoneNode.{GoneNode}
-use Rattle.actor_plays.specs.Fates.{fate_fallen, fate_gone}
+use Rattle.actor_plays.specs.Fates.{fault_fallen}
 use Rattle.alike_cores.specs.Renamed.{KeepsKeys}
-use Rattle.alike_plays.specs.Outcomes.{FellAlike, fate_renamed}
+use Rattle.alike_plays.specs.Falls.{FellAlike, fall_renamed}
 
 -- A node fell nowhere, where none with its key did.
 fell_nowhere : (falls : List GoneNode) (key : NodeKey) → ((g : GoneNode) → In g falls → g.key ≡ key → ⊥) →
-    fate_fallen falls key ≡ None
+    fault_fallen falls key ≡ None
 fell_nowhere falls key other = by (none_or_some (find (λ (f : GoneNode). same_key f.key key) falls))
   where
     -- by whether one did
     by : (find (λ (f : GoneNode). same_key f.key key) falls ≡ None)
-        ⊎ ((g : GoneNode) × (find (λ (f : GoneNode). same_key f.key key) falls ≡ Some g)) → fate_fallen falls key ≡ None
-    by (inl none) = ap (option_map (λ (f : GoneNode). fate_gone f.fault)) none
+        ⊎ ((g : GoneNode) × (find (λ (f : GoneNode). same_key f.key key) falls ≡ Some g)) → fault_fallen falls key ≡ None
+    by (inl none) = ap (option_map (λ (f : GoneNode). f.fault)) none
     by (inr fell) =
         let at = In-find (λ (f : GoneNode). same_key f.key key) falls fell.0 fell.1 in
         absurd (other fell.0 at.0 (same_key-true fell.0.key key at.1))
 
 -- By whether the node fell: each that fell did so in both, and no other fell in the second.
 pub fell-alike : (to : NodeKey → NodeKey) → KeepsKeys to → (falls later : List GoneNode) →
-    ((g : GoneNode) → In g falls → fate_fallen later (to g.key) ≡ option_map (fate_renamed to) (fate_fallen falls g.key)) →
+    ((g : GoneNode) → In g falls → fault_fallen later (to g.key) ≡ option_map (fall_renamed to) (fault_fallen falls g.key)) →
     ((h : GoneNode) → In h later → (g : GoneNode) × In g falls × (to g.key ≡ h.key)) → FellAlike to falls later
 fell-alike to keeps falls later there back key = by (none_or_some (find (λ (f : GoneNode). same_key f.key key) falls))
   where
     -- by whether it fell
     by : (find (λ (f : GoneNode). same_key f.key key) falls ≡ None)
         ⊎ ((g : GoneNode) × (find (λ (f : GoneNode). same_key f.key key) falls ≡ Some g)) →
-        fate_fallen later (to key) ≡ option_map (fate_renamed to) (fate_fallen falls key)
+        fault_fallen later (to key) ≡ option_map (fall_renamed to) (fault_fallen falls key)
     by (inl none) =
         fell_nowhere later (to key) (λ h on is.
         let g = back h on in
@@ -41,8 +41,8 @@ fell-alike to keeps falls later there back key = by (none_or_some (find (λ (f :
         same_key-refl (to key)) in
         let no : true ≡ false = sym (In-any (λ (f : GoneNode). same_key f.key key) falls g.0 g.1 same)
         ∙ none-find (λ (f : GoneNode). same_key f.key key) falls none in cc)
-        ∙ sym (ap (option_map (fate_renamed to)) (ap (option_map (λ (f : GoneNode). fate_gone f.fault)) none))
+        ∙ sym (ap (option_map (fall_renamed to)) (ap (option_map (λ (f : GoneNode). f.fault)) none))
     by (inr fell) =
         let at = In-find (λ (f : GoneNode). same_key f.key key) falls fell.0 fell.1 in
-        subst (λ (k : NodeKey). fate_fallen later (to k) ≡ option_map (fate_renamed to) (fate_fallen falls k))
+        subst (λ (k : NodeKey). fault_fallen later (to k) ≡ option_map (fall_renamed to) (fault_fallen falls k))
         (same_key-true fell.0.key key at.1) (there fell.0 at.0)

@@ -20,12 +20,12 @@ use Rattle.core_state.specs.Theorem.{Makes}
 use Rattle.forced_marks.specs.Marks.{AreStages}
 use Rattle.actor_scripts.specs.declared.step.Step.{Step}
 use Rattle.actor_scripts.specs.ActorStates.{Known, step_call}
-use Rattle.actor_plays.specs.declared.plan.Plan.{Plan}
-use Rattle.actor_plays.specs.declared.plan.Planned.{Planned}
+use Rattle.explore_model.specs.declared.plan.Plan.{Plan}
+use Rattle.explore_model.specs.declared.plan.Planned.{Planned}
 use Rattle.actor_plays.specs.declared.falls.GoneNode.{GoneNode}
 use Rattle.actor_plays.specs.Fates.{falls_at}
 use Rattle.actor_plays.specs.Leaves.{Leave}
-use Rattle.actor_plays.specs.Plans.{steps_of}
+use Rattle.explore_model.specs.Plans.{steps_of}
 use Rattle.actor_plays.specs.Plays.{Stage, has_fired, is_silent, left, next_step, passed, polls, stage_after}
 use Rattle.actor_plays.specs.Positions.{Asks, Calls, Fell, Leaves, PassOn, Passes, Position, Rests, Setup, left_at}
 use Rattle.actor_plays.proofs.PositionLaws.{get-other, rests_on, rests_stay}

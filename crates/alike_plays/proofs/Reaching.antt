@@ -13,7 +13,7 @@ use Rattle.core_state.specs.State.{State}
 use Rattle.core_state.specs.Theorem.{Makes}
 use Rattle.core_state.proofs.theorem.GoesOn.{goes_on}
 use Rattle.actor_plays.specs.declared.falls.GoneNode.{GoneNode}
-use Rattle.actor_plays.specs.declared.play.Turn.{Turn}
+use Rattle.explore_model.specs.declared.found.Turn.{Turn}
 use Rattle.actor_plays.specs.Fates.{AreFalls, falls_at}
 use Rattle.actor_plays.specs.Plays.{Plays, Stage, first_stage, joins, left, passed, stage_after}
 use Rattle.actor_plays.specs.Positions.{Asks, Begins, Calls, Fell, Goes, Leaves, Passes, Position, Reached, Setup}

@@ -1,9 +1,9 @@
 -- Plays by the same turns are alike, and closed ways are closed positions.
-use Rattle.std.proofs.Common.{ℕ, ◌≡◌, ◌<◌, ◌⊎◌, inl, inr, refl, ap, sym, subst, ◌∙◌, List, [], ◌∷◌, ◌++◌, length}
+use Rattle.std.proofs.Common.{ℕ, ◌≡◌, ◌⊎◌, inl, inr, refl, ap, sym, subst, List, [], ◌∷◌, ◌++◌}
 use Rattle.std.proofs.lemmas.Option.{slice_get_within}
 use Rattle.sm_names.proofs.ListLaws.{In}
-use Rattle.actor_plays.specs.declared.play.Turn.{Turn}
-use Rattle.actor_plays.specs.Positions.{Asks, Begins, Calls, Goes, HasToWait, Leaves, PassOn, Passes, Position, Reached, ReachedBy}
+use Rattle.explore_model.specs.declared.found.Turn.{Turn}
+use Rattle.actor_plays.specs.Positions.{Asks, Begins, Calls, HasToWait, Leaves, PassOn, Passes, Position, Reached, ReachedBy}
 use Rattle.actor_plays.specs.Positions.{Rests, Setup}
 use Rattle.actor_plays.proofs.PositionLaws.{all_rest, by_turns, further, reached_on}
 use Rattle.alike_plays.specs.Closed.{IsClosed, IsMet, IsSimulation}

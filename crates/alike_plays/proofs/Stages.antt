@@ -17,7 +17,7 @@ use Rattle.actor_scripts.specs.declared.step.Step.{Step}
 use Rattle.actor_scripts.specs.ActorStates.{Fits, FitsThere, Known, call_at, is_bound, new_objects, node_label}
 use Rattle.actor_scripts.specs.ActorStates.{object_at, step_call, tracker_label}
 use Rattle.actor_scripts.proofs.FitLaws.{fits_step}
-use Rattle.actor_plays.specs.declared.plan.Planned.{Planned}
+use Rattle.explore_model.specs.declared.plan.Planned.{Planned}
 use Rattle.actor_plays.specs.Leaves.{Leave, all_objects, leave_after, leave_call, vanishing_call}
 use Rattle.actor_plays.specs.Plays.{Stage, first_stage, leaves_by, left, passed, stage_after}
 use Rattle.alike_cores.proofs.Known.{In-flat}

@@ -20,7 +20,7 @@ use Rattle.core_state.specs.Theorem.{Makes}
 use Rattle.forced_marks.specs.Marks.{AreStages, Stage as Marked}
 use Rattle.actor_scripts.specs.declared.object.StepCall.{StepCall}
 use Rattle.actor_scripts.specs.ActorStates.{step_call}
-use Rattle.actor_plays.specs.declared.plan.Planned.{Planned}
+use Rattle.explore_model.specs.declared.plan.Planned.{Planned}
 use Rattle.actor_plays.specs.declared.falls.GoneNode.{GoneNode}
 use Rattle.actor_plays.specs.Fates.{falls_at}
 use Rattle.actor_plays.specs.Leaves.{Leave}
@@ -37,7 +37,7 @@ use Rattle.alike_cores.proofs.Views.{fired-alike}
 use Rattle.alike_plays.specs.Actors.{AreAlikeStages, asked_renamed, leave_renamed}
 use Rattle.alike_plays.specs.AlikePlays.{AreAlikeAll, AreAlikePlays}
 use Rattle.alike_plays.specs.Names.{KnownCall, KnownGone}
-use Rattle.alike_plays.specs.Outcomes.{FellAlike, gone_renamed}
+use Rattle.alike_plays.specs.Falls.{FellAlike, gone_renamed}
 use Rattle.alike_plays.proofs.Asking.{asks-alike}
 use Rattle.alike_plays.proofs.EventFalls.{event_falls}
 use Rattle.alike_plays.proofs.Falling.{both-fell, fallen-renamed}

@@ -14,10 +14,10 @@ use Rattle.actor_scripts.specs.declared.object.ActorObject.{ActorObject}
 use Rattle.actor_scripts.specs.declared.object.StepCall.{StepCall}
 use Rattle.actor_scripts.specs.declared.step.Step.{Step}
 use Rattle.actor_scripts.specs.ActorStates.{Known, new_objects}
-use Rattle.actor_plays.specs.declared.plan.Plan.{Plan}
-use Rattle.actor_plays.specs.declared.plan.Planned.{Planned}
+use Rattle.explore_model.specs.declared.plan.Plan.{Plan}
+use Rattle.explore_model.specs.declared.plan.Planned.{Planned}
 use Rattle.actor_plays.specs.Leaves.{Leave, all_objects, leave_after, leave_call, vanishing_call, waiting_told}
-use Rattle.actor_plays.specs.Plans.{steps_of}
+use Rattle.explore_model.specs.Plans.{steps_of}
 use Rattle.actor_plays.specs.Plays.{Stage, has_fired, is_silent, leaves_by, left, next_step, passed, polls, stage_after}
 use Rattle.alike_cores.specs.Alike.{KeepsIds, call_renamed, reply_renamed}
 use Rattle.alike_cores.specs.Renamed.{KeepsKeys}

@@ -1,5 +1,5 @@
 -- Actors that are alike but for names.
-use Rattle.std.specs.Prelude.{◌≡◌, ℕ, Bool, true, false, List, map}
+use Rattle.std.specs.Prelude.{◌≡◌, ℕ, Bool, List, map, is_some}
 use Rattle.std.specs.List.{filter}
 use Rattle.std.specs.Option.{option_map}
 use Rattle.sm_names.specs.declared.keys.BufferName.{BufferName}
@@ -9,6 +9,7 @@ use Rattle.sm_names.specs.declared.messages.Reply.{Reply}
 use Rattle.actor_scripts.specs.declared.object.ActorObject.{ActorObject}
 use Rattle.actor_scripts.specs.declared.object.StepCall.{StepCall}
 use Rattle.actor_scripts.specs.ActorStates.{Known, NodePlace}
+use Rattle.actor_plays.specs.Endings.{made_by}
 use Rattle.actor_plays.specs.Leaves.{Leave}
 use Rattle.actor_plays.specs.Plays.{Stage}
 use Rattle.alike_cores.specs.Alike.{call_renamed, reply_renamed}
@@ -46,9 +47,7 @@ made_renamed to id number m = (m.0, reply_renamed to id number m.1)
 
 -- the reply tells of a node or a tracker that the step made
 abbrev pub tells_made : Reply → Bool
-tells_made (Reply.Token key collection) = true
-tells_made (Reply.Tracker tracker) = true
-tells_made _ = false
+tells_made reply = is_some (made_by reply)
 
 -- of the replies those that tell what their steps made, each with the place of its step
 abbrev pub made_of : List (ℕ × Reply) → List (ℕ × Reply)

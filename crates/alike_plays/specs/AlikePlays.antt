@@ -7,7 +7,7 @@ use Rattle.alike_cores.specs.Alike.{KeepsIds}
 use Rattle.alike_cores.specs.Renamed.{KeepsKeys}
 use Rattle.alike_cores.specs.Cores.{AreAlikeCores}
 use Rattle.alike_plays.specs.Actors.{AreAlikeStages}
-use Rattle.alike_plays.specs.Outcomes.{FellAlike}
+use Rattle.alike_plays.specs.Falls.{FellAlike}
 
 -- each actor of the second is where the one of its place in the first is, under other names
 abbrev pub AreAlikeAll : (NodeKey → NodeKey) → (ℕ → ℕ) → (ℕ → ℕ) → List Stage → List Stage → Type 0

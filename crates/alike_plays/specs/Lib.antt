@@ -1,6 +1,6 @@
 pub mod Actors
 pub mod Names
-pub mod Outcomes
+pub mod Falls
 pub mod AlikePlays
 pub mod Closed
 pub mod Ahead

@@ -1,7 +1,7 @@
 -- Ways: the turns of plays, out of which no turn leads, but to what is like where one of them leads.
 use Rattle.std.specs.Prelude.{◌≡◌, ◌⊎◌, ◌<◌, ℕ, List, length}
 use Rattle.sm_names.specs.Elements.{In}
-use Rattle.actor_plays.specs.declared.play.Turn.{Turn}
+use Rattle.explore_model.specs.declared.found.Turn.{Turn}
 use Rattle.actor_plays.specs.Positions.{Asks, Begins, Calls, Goes, HasToWait, Leaves, PassOn, Position, ReachedBy, Rests, Setup}
 
 -- a play came here by this way, and all actors rest

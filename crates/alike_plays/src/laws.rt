@@ -1,31 +1,30 @@
 //! What is proved of actors that are alike but for names. `to` gives each key a new one, `id` each
 //! collection a new number, and `number` each tracker.
-ghost use Rattle.std.specs.Prelude.{◌≡◌, Bool, List, Option, Some, false, is_some, map, slice_get, true, ℕ};
+ghost use Rattle.std.specs.Prelude.{◌≡◌, Bool, List, Option, Some, false, is_some, slice_get, true, ℕ};
 ghost use Rattle.std.specs.Option.{option_map};
 ghost use Rattle.sm_names.specs.declared.keys.NodeKey.{NodeKey};
 ghost use Rattle.sm_names.specs.declared.messages.Reply.{Reply};
 ghost use Rattle.sm_names.specs.declared.tracking.Fired.{Fired};
 ghost use Rattle.sm_names.specs.Elements.{In};
 ghost use Rattle.sm_names.specs.Marks.{Entry};
-ghost use Rattle.core_state.specs.Reads.{views_of};
 ghost use Rattle.core_state.specs.Shown.{Shows};
 ghost use Rattle.actor_scripts.specs.declared.object.StepCall.{StepCall};
 ghost use Rattle.actor_scripts.specs.declared.step.Step.{Step};
 ghost use Rattle.actor_scripts.specs.ActorStates.{Known, state_after, step_call};
-ghost use Rattle.actor_plays.specs.declared.plan.Plan.{Plan};
-ghost use Rattle.actor_plays.specs.declared.plan.Planned.{Planned};
-ghost use Rattle.actor_plays.specs.declared.play.Turn.{Turn};
-ghost use Rattle.actor_plays.specs.Fates.{AreFalls, fate_in};
+ghost use Rattle.explore_model.specs.declared.plan.Plan.{Plan};
+ghost use Rattle.explore_model.specs.declared.plan.Planned.{Planned};
+ghost use Rattle.explore_model.specs.declared.found.Turn.{Turn};
+ghost use Rattle.actor_plays.specs.Fates.{AreFalls};
+ghost use Rattle.actor_plays.specs.Endings.{ends_in};
 ghost use Rattle.actor_plays.specs.Plays.{Plays, Stage, has_fired, leaves_by, left, next_step, passed, polls, stage_after};
 ghost use Rattle.actor_plays.specs.Positions.{Asks, Calls, HasToWait, Leaves, Passes, Position, Reached, Rests, Setup, left_at};
 ghost use Rattle.alike_cores.specs.Alike.{KeepsIds, call_renamed, reply_renamed};
 ghost use Rattle.alike_cores.specs.Renamed.{KeepsKeys};
-ghost use Rattle.alike_plays.specs.Actors.{AreAlikeKnown, AreAlikeStages, asked_renamed, made_of, made_renamed};
+ghost use Rattle.alike_plays.specs.Actors.{AreAlikeKnown, AreAlikeStages, asked_renamed};
 ghost use Rattle.alike_plays.specs.Ahead.{AreAlikeAhead, GoesByEarly, count_early};
 ghost use Rattle.alike_plays.specs.AlikePlays.{AreAlikePlays};
 ghost use Rattle.alike_plays.specs.Closed.{IsClosed, IsMet, IsSimulation};
 ghost use Rattle.alike_plays.specs.Names.{KnownActor, KnownCall, KnownReply, KnownStage, NamesAgree};
-ghost use Rattle.alike_plays.specs.Outcomes.{fate_kept, fate_renamed};
 ghost use Rattle.alike_plays.specs.Ways.{AreClosedWays, IsAt};
 
 /// Actors that are alike are at the same step, which asks for the same under their names, and leave
@@ -121,22 +120,10 @@ pub fn alike_plays_stay_alike()
         Leaves setup actor one new → Leaves setup actor other again → AreAlikePlays new again }
 {}
 
-/// Two plays that are alike come to alike ends: of each node, kept or fallen, of each tracker, and of the pool.
-/// How far each actor is, and what was made by which step, stands in `AreAlikePlays`.
+/// Two plays that are alike end the same: outcomes name nodes and trackers by the steps that made them.
 pub fn alike_plays_end_alike()
-    ensures fates { (setup : Setup) (one other : Position) → Reached setup one →
-        (alike : AreAlikePlays one other) (key : NodeKey) →
-        fate_kept other.core (alike.to key)
-        ≡ option_map (fate_renamed alike.to) (fate_kept one.core key) }
-    ensures became { (setup : Setup) (one other : Position) → Reached setup one →
-        (alike : AreAlikePlays one other) (key : NodeKey) →
-        fate_in other.core other.falls (alike.to key)
-        ≡ option_map (fate_renamed alike.to) (fate_in one.core one.falls key) }
-    ensures fired { (one other : Position) (alike : AreAlikePlays one other) (tracker : ℕ) →
-        has_fired other.core.trackers.fired (alike.number tracker)
-        ≡ has_fired one.core.trackers.fired tracker }
-    ensures free { (one other : Position) → AreAlikePlays one other →
-        (views_of other.core).free ≡ (views_of one.core).free }
+    ensures { (setup : Setup) (one other : Position) → Reached setup one →
+        AreAlikePlays one other → ends_in other ≡ ends_in one }
 {}
 
 /// Of an actor that leaves only what it has still to do makes a difference: plays that are alike but for
@@ -152,29 +139,11 @@ pub fn what_lies_behind_makes_no_difference()
         IsSimulation setup (AreAlikeAhead early) }
 {}
 
-/// Two plays that are alike but for what lies behind actors that leave come to alike ends, as plays do that
-/// are alike. Of each actor the same steps made the same nodes and trackers, but for names. It is at the same
-/// step in both, or leaves in both, and began to early or not.
+/// Two plays that are alike but for what lies behind actors that leave end the same, as plays do that are alike. Each actor is
+/// at the same step in both, or leaves in both, and began to early or not.
 pub fn plays_alike_ahead_end_alike()
-    ensures fates { (setup : Setup) (early : ℕ → ℕ → Bool) (one other : Position) → Reached setup one →
-        (like : AreAlikeAhead early one other) (key : NodeKey) →
-        fate_kept other.core (like.alike.to key)
-        ≡ option_map (fate_renamed like.alike.to) (fate_kept one.core key) }
-    ensures became { (setup : Setup) (early : ℕ → ℕ → Bool) (one other : Position) → Reached setup one →
-        (like : AreAlikeAhead early one other) (key : NodeKey) →
-        fate_in other.core other.falls (like.alike.to key)
-        ≡ option_map (fate_renamed like.alike.to) (fate_in one.core one.falls key) }
-    ensures fired { (early : ℕ → ℕ → Bool) (one other : Position) (like : AreAlikeAhead early one other)
-        (tracker : ℕ) →
-        has_fired other.core.trackers.fired (like.alike.number tracker)
-        ≡ has_fired one.core.trackers.fired tracker }
-    ensures free { (early : ℕ → ℕ → Bool) (one other : Position) → AreAlikeAhead early one other →
-        (views_of other.core).free ≡ (views_of one.core).free }
-    ensures made { (early : ℕ → ℕ → Bool) (one other : Position) (like : AreAlikeAhead early one other)
-        (actor : ℕ) (stage same : Stage) → slice_get one.stages actor ≡ Some stage →
-        slice_get other.stages actor ≡ Some same →
-        made_of same.made
-        ≡ map (made_renamed like.alike.to like.alike.id like.alike.number) (made_of stage.made) }
+    ensures ends { (setup : Setup) (early : ℕ → ℕ → Bool) (one other : Position) → Reached setup one →
+        AreAlikeAhead early one other → ends_in other ≡ ends_in one }
     ensures steps { (early : ℕ → ℕ → Bool) (one other : Position) (like : AreAlikeAhead early one other)
         (actor : ℕ) (stage same : Stage) → slice_get one.stages actor ≡ Some stage →
         slice_get other.stages actor ≡ Some same →

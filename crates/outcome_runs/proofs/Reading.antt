@@ -1,18 +1,16 @@
 -- The actors of a script that is read from a slice.
-use Rattle.std.proofs.Common.{◌≡◌, ℕ, List, ◌++◌, Option, Some, None, Ok, Err, append-nil, sym, ap, subst, map, inl, inr, ◌∙◌}
+use Rattle.std.proofs.Common.{◌≡◌, ℕ, List, ◌++◌, Option, Some, None, Ok, append-nil, sym, ap, subst, map, inl, inr, ◌∙◌}
 use Rattle.actor_scripts.specs.declared.actor_list.ActorList.{ActorList}
 use Rattle.actor_scripts.specs.ActorLists.{actors_of, script_actors}
-use Rattle.actor_scripts.specs.Reads.{IsBad, ReadsActors, ReadsWhole}
+use Rattle.actor_scripts.specs.Reads.{ReadsActors, ReadsWhole}
 use Rattle.report_io.specs.declared.fault.ReportFault.{ReportFault}
-use Rattle.report_io.specs.Faults.{HasReason, IsBadLine}
 use Rattle.actor_scripts.specs.declared.step.ActorScript.{ActorScript}
-use Rattle.actor_plays.specs.declared.plan.Plan.{Plan}
-use Rattle.actor_plays.specs.Plans.{planned, steps_of}
+use Rattle.explore_model.specs.declared.plan.Plan.{Plan}
+use Rattle.explore_model.specs.Plans.{planned, steps_of}
 use Rattle.outcome_texts.specs.declared.telling.Telling.{Telling}
 use Rattle.outcome_texts.specs.ClaimLines.{Text, claim_texts_of}
 use Rattle.outcome_runs.specs.declared.job.SearchJob.{SearchJob}
-use Rattle.outcome_runs.specs.Reasons.{reason_at}
-use Rattle.outcome_runs.specs.Searches.{IsBadAmong, IsTelling, IsUnfound, IsUnheld, IsUnheldBy, IsUnjudged, IsUnlisted, IsUnsearched, IsUntold}
+use Rattle.outcome_runs.specs.Searches.{IsTelling, IsUnfound, IsUnheld, IsUnheldBy, IsUnjudged, IsUnlisted, IsUnsearched, IsUntold}
 
 -- what came is all that there was
 all_came : (script came : List ℕ) (after : Option (List ℕ)) → ReadsWhole (Some script) after came → came ≡ script
@@ -25,24 +23,6 @@ pub its_actors : (script : List ℕ) (after : Option (List ℕ)) (list : ActorLi
     script_actors script ≡ Ok (actors_of list)
 its_actors script after list so =
     subst (λ (came : List ℕ). script_actors came ≡ Ok (actors_of list)) (all_came script so.script after so.whole) so.is_list
-
--- the bad line is its first one
-pub its_bad : (script : List ℕ) (after : Option (List ℕ)) (number : ℕ) →
-    IsBad (Some script) after number → script_actors script ≡ Err number
-its_bad script after number so =
-    subst (λ (came : List ℕ). script_actors came ≡ Err number) (all_came script so.script after so.whole) so.bad
-
--- a bad line is told by its number, with its reason
-pub bad_told : (script : List ℕ) (number : ℕ) (fault : ReportFault) → script_actors script ≡ Err number → IsBadLine number fault →
-    HasReason (reason_at script number) fault → IsUnlisted script fault
-bad_told script number ReportFault.ReadFault bad line reason = absurd line
-bad_told script number ReportFault.TooLong bad line reason = absurd line
-bad_told script number ReportFault.WriteFault bad line reason = absurd line
-bad_told script number (ReportFault.BadLine n words) bad line reason =
-    (bad ∙ ap Err (sym line), reason ∙ ap (reason_at script) (sym line))
-bad_told script number ReportFault.HistoryFull bad line reason = absurd line
-bad_told script number ReportFault.NoMemory bad line reason = tt
-bad_told script number (ReportFault.Missing sought n) bad line reason = absurd line
 
 -- why there are no actors is why nothing is told
 pub unlisted_told : (job : SearchJob) (script : List ℕ) (fault : ReportFault) → IsUnlisted script fault → IsUntold job script fault
@@ -109,14 +89,3 @@ unsearched_found texts telling (ReportFault.BadLine n reason) why = absurd why
 unsearched_found texts telling ReportFault.HistoryFull why = tt
 unsearched_found texts telling ReportFault.NoMemory why = tt
 unsearched_found texts telling (ReportFault.Missing sought n) why = absurd why
-
--- a bad claim is told by its number, with its reason
-pub claim_bad : (telling : Telling) (texts : List Text) (number : ℕ) (words : List ℕ) (fault : ReportFault) →
-    IsBadAmong telling texts number words → IsBadLine number fault → HasReason words fault → IsUnjudged telling texts fault
-claim_bad telling texts number words ReportFault.ReadFault bad line is = absurd line
-claim_bad telling texts number words ReportFault.TooLong bad line is = absurd line
-claim_bad telling texts number words ReportFault.WriteFault bad line is = absurd line
-claim_bad telling texts number words (ReportFault.BadLine n reason) bad line is = rw line (rw is bad)
-claim_bad telling texts number words ReportFault.HistoryFull bad line is = absurd line
-claim_bad telling texts number words ReportFault.NoMemory bad line is = tt
-claim_bad telling texts number words (ReportFault.Missing sought n) bad line is = absurd line

@@ -3,14 +3,14 @@ use Rattle.std.specs.Prelude.{ℕ, ◌≡◌, ◌-◌, ◌==◌, if◌then◌els
 use Rattle.actor_scripts.specs.declared.actor_list.ActorList.{ActorList}
 use Rattle.actor_scripts.specs.declared.step.ActorScript.{ActorScript}
 use Rattle.actor_scripts.specs.ActorLists.{actors_of, script_actors}
-use Rattle.actor_plays.specs.declared.plan.Plan.{Plan}
-use Rattle.actor_plays.specs.Plans.{planned, steps_of}
-use Rattle.actor_plays.specs.declared.found.Doubt.{Doubt}
-use Rattle.actor_plays.specs.declared.found.Exploration.{Exploration}
-use Rattle.actor_plays.specs.declared.found.Found.{Found}
+use Rattle.explore_model.specs.declared.plan.Plan.{Plan}
+use Rattle.explore_model.specs.Plans.{planned, steps_of}
+use Rattle.explore_model.specs.declared.found.Doubt.{Doubt}
+use Rattle.explore_model.specs.declared.found.Exploration.{Exploration}
+use Rattle.explore_model.specs.declared.found.Found.{Found}
 use Rattle.play_search.specs.declared.fault.ExploreFault.{ExploreFault}
 use Rattle.play_search.specs.declared.replay.Setting.{Setting}
-use Rattle.actor_plays.specs.declared.found.Vanishing.{Vanishing}
+use Rattle.explore_model.specs.declared.found.Vanishing.{Vanishing}
 use Rattle.play_search.specs.Ends.{NoneIsMissing}
 use Rattle.play_search.specs.Searches.{IsFound, setup_of}
 use Rattle.script_lines.specs.declared.label.Label.{Label}

@@ -1,6 +1,6 @@
 //! What a search through the orders of a script is asked for.
 
-use actor_plays::Waiting;
+use explore_model::Waiting;
 use std::alloc::Global;
 
 /// What is searched, and what is written of it.

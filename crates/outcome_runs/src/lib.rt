@@ -3,6 +3,7 @@
 
 mod explore;
 mod job;
+pub mod laws;
 mod program;
 mod reasons;
 mod telling;

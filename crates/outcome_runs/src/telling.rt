@@ -4,7 +4,7 @@ ghost use Rattle.sm_names.specs.declared.rules.TheConstants.{MAX_PAGES};
 ghost use Rattle.script_lines.specs.declared.TheConstants.{MOST_BYTES};
 ghost use Rattle.actor_scripts.specs.declared.step.ActorScript.{ActorScript as Script};
 ghost use Rattle.actor_scripts.specs.ActorLists.{actors_of, script_actors};
-ghost use Rattle.actor_plays.specs.Plans.{planned, steps_of};
+ghost use Rattle.explore_model.specs.Plans.{planned, steps_of};
 ghost use Rattle.outcome_texts.specs.ClaimLines.{claims_in, is_good_list, judged, texts_in};
 ghost use Rattle.outcome_texts.specs.Lines.{step_lines_of, steps_in};
 ghost use Rattle.outcome_runs.specs.declared.job.Ending.{Ending as EndingTold};
@@ -12,8 +12,8 @@ ghost use Rattle.outcome_runs.specs.Searches.{HasSearched, IsFoundBy, IsFoundWit
 
 use crate::job::{DoubtLine, Ending, SearchHost, SearchJob};
 use crate::reasons::reason_of;
-use actor_plays::{Doubt, Exploration, Found, Plan, Vanishing};
 use actor_scripts::{ActorList, ActorScriptFault, read_actors};
+use explore_model::{Doubt, Exploration, Found, Plan, Vanishing};
 use outcome_texts::{
     BadClaim, ClaimLine, ClaimText, LabelNames, StepLine, Telling, claim_texts, has_broken,
     is_list_of, judged_claims, names_of, push_claims, push_play, push_report, step_lines, who_of,

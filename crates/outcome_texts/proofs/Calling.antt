@@ -1,7 +1,7 @@
 -- The calls of the turns that are left.
 use Rattle.std.proofs.Common.{◌≡◌, ◌∙◌, ◌++◌, ◌<◌, ℕ, suc, List, take, drop, get_or, length, ap, sym, take-suc, drop-cons}
-use Rattle.actor_plays.specs.declared.play.Turn.{Turn}
-use Rattle.actor_plays.specs.declared.found.Found.{Found}
+use Rattle.explore_model.specs.declared.found.Turn.{Turn}
+use Rattle.explore_model.specs.declared.found.Found.{Found}
 use Rattle.outcome_texts.specs.Calls.{at_most_one, call_told, calls_from}
 
 -- that of the next turn comes first

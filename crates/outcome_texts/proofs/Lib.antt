@@ -2,6 +2,5 @@ pub mod Calling
 pub mod Claiming
 pub mod Counting
 pub mod Joining
-pub mod Judging
 pub mod Letting
 pub mod Stepping

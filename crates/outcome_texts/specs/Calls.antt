@@ -1,11 +1,9 @@
 -- The calls of an outcome's play.
-use Rattle.std.specs.Prelude.{ℕ, ◌+◌, ◌-◌, ◌==◌, Bool, false, List, [], ◌∷◌, ◌++◌, count_by, length, slice_get, take, Option, Some}
+use Rattle.std.specs.Prelude.{ℕ, ◌+◌, ◌-◌, ◌==◌, Bool, false, List, [], ◌∷◌, ◌++◌, count_by, length, slice_get, take, Option, Some, Vec}
 use Rattle.std.specs.Option.{option_and_then, option_map, option_map_or}
-use Rattle.actor_plays.specs.declared.play.Turn.{Turn}
-use Rattle.actor_plays.specs.declared.found.Found.{Found}
-use Rattle.actor_plays.specs.declared.found.ActorOutcome.{ActorOutcome}
-use Rattle.actor_plays.specs.declared.found.Became.{Became}
-use Rattle.actor_plays.specs.declared.found.Outcome.{Outcome}
+use Rattle.std.specs.declared.alloc.Global.{Global}
+use Rattle.explore_model.specs.declared.found.Turn.{Turn}
+use Rattle.explore_model.specs.declared.found.Found.{Found}
 use Rattle.outcome_texts.specs.declared.calls.PlayCall.{PlayCall}
 
 -- the turn is a step of the actor
@@ -14,23 +12,22 @@ is_step_of actor (Turn.Step of) = of == actor
 is_step_of actor (Turn.Leave of) = false
 
 -- the place of the step of the actor's call of this number, in its plan
-abbrev pub place_told : Outcome → ℕ → ℕ → Option ℕ
-place_told outcome actor call = option_and_then
-    (λ (one : ActorOutcome). option_map (λ (made : ℕ × Became). made.0) (slice_get one.made.items call))
-    (slice_get outcome.actors.items actor)
+abbrev pub place_told : Found → ℕ → ℕ → Option ℕ
+place_told found actor call =
+    option_and_then (λ (places : Vec ℕ Global). slice_get places.items call) (slice_get found.steps.items actor)
 
 -- the call of this number of those that the actor's steps make: it makes them in order
-abbrev pub step_told : Outcome → ℕ → ℕ → Option PlayCall
-step_told outcome actor call = option_map (λ (place : ℕ). PlayCall.Step actor place) (place_told outcome actor call)
+abbrev pub step_told : Found → ℕ → ℕ → Option PlayCall
+step_told found actor call = option_map (λ (place : ℕ). PlayCall.Step actor place) (place_told found actor call)
 
 -- the number of the call behind these turns: all clients join before
-abbrev pub number_told : Outcome → List Turn → ℕ
-number_told outcome before = length outcome.actors.items + length before
+abbrev pub number_told : Found → List Turn → ℕ
+number_told found before = length found.steps.items + length before
 
 -- the call of the turn behind these
 abbrev pub call_told : Found → List Turn → Turn → Option PlayCall
-call_told found before (Turn.Step actor) = step_told found.outcome actor (count_by (is_step_of actor) before)
-call_told found before (Turn.Leave actor) = Some (PlayCall.Leave actor (number_told found.outcome before))
+call_told found before (Turn.Step actor) = step_told found actor (count_by (is_step_of actor) before)
+call_told found before (Turn.Leave actor) = Some (PlayCall.Leave actor (number_told found before))
 
 -- the call, if there is one, as a list
 abbrev pub at_most_one : Option PlayCall → List PlayCall
@@ -52,4 +49,4 @@ call_in found at = option_and_then (λ (turn : Turn). call_told found (take at f
 
 -- the call of this number, joins among them
 abbrev pub entry_call : Found → ℕ → Option PlayCall
-entry_call found number = call_in found (number - length found.outcome.actors.items)
+entry_call found number = call_in found (number - length found.steps.items)

@@ -3,13 +3,11 @@ use Rattle.std.specs.Prelude.{ℕ, zero, suc, ◌+◌, ◌==◌, ◌&&◌, ◌||
 use Rattle.std.specs.List.{list_any}
 use Rattle.std.specs.Option.{option_and_then, option_map_or}
 use Rattle.sm_names.specs.declared.call_parts.Product.{Product}
-use Rattle.sm_names.specs.declared.keys.NodeKey.{NodeKey}
 use Rattle.sm_names.specs.declared.outcomes.Cause.{Cause}
 use Rattle.sm_names.specs.declared.outcomes.Failure.{Failure}
 use Rattle.sm_names.specs.declared.outcomes.Misuse.{Misuse}
 use Rattle.sm_names.specs.CallRows.{is_tracker, row_of}
 use Rattle.sm_names.specs.Numbers.{misuse_number}
-use Rattle.sm_names.specs.Sameness.{same_key}
 use Rattle.script_lines.specs.declared.label.Label.{Label}
 use Rattle.script_lines.specs.declared.line.Line.{Line}
 use Rattle.script_lines.specs.Labels.{same_label}
@@ -19,13 +17,13 @@ use Rattle.script_lines.specs.declared.claim.NodeFact.{NodeFact}
 use Rattle.script_lines.specs.declared.claim.NodeName.{NodeName}
 use Rattle.script_lines.specs.declared.claim.SaidCause.{SaidCause}
 use Rattle.actor_scripts.specs.declared.step.Step.{Step}
-use Rattle.actor_plays.specs.declared.ending.Fate.{Fate}
-use Rattle.actor_plays.specs.declared.plan.Plan.{Plan}
-use Rattle.actor_plays.specs.declared.plan.Planned.{Planned}
-use Rattle.actor_plays.specs.Plans.{steps_of}
-use Rattle.actor_plays.specs.declared.found.ActorOutcome.{ActorOutcome}
-use Rattle.actor_plays.specs.declared.found.Became.{Became}
-use Rattle.actor_plays.specs.declared.found.Outcome.{Outcome}
+use Rattle.explore_model.specs.declared.outcome.Fate.{Fate}
+use Rattle.explore_model.specs.declared.plan.Plan.{Plan}
+use Rattle.explore_model.specs.declared.plan.Planned.{Planned}
+use Rattle.explore_model.specs.Plans.{steps_of}
+use Rattle.explore_model.specs.declared.outcome.Became.{Became}
+use Rattle.explore_model.specs.declared.outcome.StepPlace.{StepPlace}
+use Rattle.explore_model.specs.Outcomes.{End, Ends}
 use Rattle.outcome_texts.specs.Plays.{line_told}
 use Rattle.outcome_texts.specs.declared.lines.StepLine.{StepLine}
 use Rattle.outcome_texts.specs.declared.telling.Telling.{Telling}
@@ -123,26 +121,19 @@ abbrev pub is_caused : Option SaidCause → Cause → Bool
 is_caused None cause = true
 is_caused (Some said) cause = is_so_caused said cause
 
--- the call made the node of this key
-abbrev pub is_node : NodeKey → Became → Bool
-is_node key (Became.Node other fate) = same_key other key
-is_node key _ = false
+-- the step is one that binds the label, of a client that is meant
+abbrev pub is_step_of : Telling → NodeName → StepPlace → Bool
+is_step_of telling name step = is_meant telling.labels.now name.client step.actor && binds telling step.actor name.label step.at
 
--- the actor of this place is meant, and a call whose line binds the label made the node of this key
-abbrev pub made_key : Telling → Outcome → NodeName → NodeKey → ℕ → Bool
-made_key telling outcome name key actor = is_meant telling.labels.now name.client actor && option_map_or
-    (λ (one : ActorOutcome). list_any (λ (made : ℕ × Became). is_node key made.1 && binds telling actor name.label made.0) one.made.items)
-    (slice_get outcome.actors.items actor) false
-
--- the node of this key is one that is named, if one is
-abbrev pub is_origin : Telling → Outcome → Option NodeName → NodeKey → Bool
-is_origin telling outcome None key = true
-is_origin telling outcome (Some name) key = any_below (made_key telling outcome name key) (length outcome.actors.items)
+-- the step made the node that is named, if one is
+abbrev pub is_origin : Telling → Option NodeName → Option StepPlace → Bool
+is_origin telling None by = true
+is_origin telling (Some name) by = option_map_or (is_step_of telling name) by false
 
 -- the fate is a failure by such a cause, through such a node
-abbrev pub is_failed : Telling → Outcome → Option SaidCause → Option NodeName → Fate → Bool
-is_failed telling outcome cause origin (Fate.Failed fault) = is_caused cause fault.cause && is_origin telling outcome origin fault.origin
-is_failed telling outcome cause origin _ = false
+abbrev pub is_failed : Telling → Option SaidCause → Option NodeName → Fate → Bool
+is_failed telling cause origin (Fate.Failed why by) = is_caused cause why && is_origin telling origin by
+is_failed telling cause origin _ = false
 
 -- the node ended
 abbrev pub is_ended : Fate → Bool
@@ -161,51 +152,53 @@ is_pending (Fate.Released allocated) = not allocated
 is_pending _ = false
 
 -- the fate is as it is said
-abbrev pub is_fate : Telling → Outcome → NodeFact → Fate → Bool
-is_fate telling outcome (NodeFact.Fails cause origin) fate = is_failed telling outcome cause origin fate
-is_fate telling outcome NodeFact.Ends fate = is_ended fate
-is_fate telling outcome NodeFact.Lives fate = is_live fate
-is_fate telling outcome NodeFact.Pending fate = is_pending fate
+abbrev pub is_fate : Telling → NodeFact → Fate → Bool
+is_fate telling (NodeFact.Fails cause origin) fate = is_failed telling cause origin fate
+is_fate telling NodeFact.Ends fate = is_ended fate
+is_fate telling NodeFact.Lives fate = is_live fate
+is_fate telling NodeFact.Pending fate = is_pending fate
 
 -- so is what became of what a call made: a node
-abbrev pub became_so : Telling → Outcome → NodeFact → Became → Bool
-became_so telling outcome fact (Became.Node key fate) = option_map_or (is_fate telling outcome fact) fate false
-became_so telling outcome fact _ = false
+abbrev pub became_so : Telling → NodeFact → Became → Bool
+became_so telling fact (Became.Node fate) = option_map_or (is_fate telling fact) fate false
+became_so telling fact Became.Fired = false
 
 -- the actor of this place is meant, and a call whose line binds the label made a node that became so
-abbrev pub has_node : Telling → Outcome → NodeName → NodeFact → ℕ → Bool
-has_node telling outcome name fact actor = is_meant telling.labels.now name.client actor && option_map_or
-    (λ (one : ActorOutcome). list_any (λ (made : ℕ × Became). became_so telling outcome fact made.1 && binds telling actor name.label made.0)
-    one.made.items)
-    (slice_get outcome.actors.items actor) false
+abbrev pub has_node : Telling → List End → NodeName → NodeFact → ℕ → Bool
+has_node telling ends name fact actor = is_meant telling.labels.now name.client actor && option_map_or
+    (λ (end : End). list_any (λ (made : ℕ × Became). became_so telling fact made.1 && binds telling actor name.label made.0) end.made)
+    (slice_get ends actor) false
 
 -- the call made a tracker that fired
 abbrev pub is_fired : Became → Bool
-is_fired (Became.Tracker fired) = fired
-is_fired _ = false
+is_fired (Became.Node fate) = false
+is_fired Became.Fired = true
 
 -- the actor of this place is meant, and a call whose line binds the label made a tracker that fired
-abbrev pub has_fired : Telling → Outcome → NodeName → ℕ → Bool
-has_fired telling outcome name actor = is_meant telling.labels.now name.client actor && option_map_or
-    (λ (one : ActorOutcome). list_any (λ (made : ℕ × Became). is_fired made.1 && binds telling actor name.label made.0) one.made.items)
-    (slice_get outcome.actors.items actor) false
+abbrev pub has_fired : Telling → List End → NodeName → ℕ → Bool
+has_fired telling ends name actor = is_meant telling.labels.now name.client actor && option_map_or
+    (λ (end : End). list_any (λ (made : ℕ × Became). is_fired made.1 && binds telling actor name.label made.0) end.made)
+    (slice_get ends actor) false
+
+-- the place in the plan of this actor is not behind its last step
+abbrev pub is_before : Telling → ℕ → ℕ → Bool
+is_before telling actor at = option_map_or (λ (plan : Plan). nat_lt at (length (steps_of plan))) (slice_get telling.plans.now actor) false
 
 -- the actor of this place did not leave, and is not behind its last step
-abbrev pub is_left : Telling → Outcome → ℕ → Bool
-is_left telling outcome actor = option_map_or
-    (λ (one : ActorOutcome). not one.left && option_map_or (λ (plan : Plan). nat_lt one.at (length (steps_of plan))) (slice_get telling.plans.now actor) false)
-    (slice_get outcome.actors.items actor) false
+abbrev pub is_left : Telling → List End → ℕ → Bool
+is_left telling ends actor =
+    option_map_or (λ (end : End). option_map_or (is_before telling actor) end.at false) (slice_get ends actor) false
 
 -- it is meant, and waits for ever
-abbrev pub waits : Telling → Outcome → Label → ℕ → Bool
-waits telling outcome client actor = is_meant telling.labels.now (Some client) actor && is_left telling outcome actor
+abbrev pub waits : Telling → List End → Label → ℕ → Bool
+waits telling ends client actor = is_meant telling.labels.now (Some client) actor && is_left telling ends actor
 
--- the fact is so in the outcome
-abbrev pub has_fact : Telling → Fact → Outcome → Bool
-has_fact telling (Fact.Node name fact) outcome = any_below (has_node telling outcome name fact) (length outcome.actors.items)
-has_fact telling (Fact.Waits client) outcome = any_below (waits telling outcome client) (length outcome.actors.items)
-has_fact telling (Fact.Fires name) outcome = any_below (has_fired telling outcome name) (length outcome.actors.items)
-has_fact telling (Fact.Free pages) outcome = outcome.free == pages
+-- the fact is so where plays end so
+abbrev pub has_fact : Telling → Fact → Ends → Bool
+has_fact telling (Fact.Node name fact) ends = any_below (has_node telling ends.actors name fact) (length ends.actors)
+has_fact telling (Fact.Waits client) ends = any_below (waits telling ends.actors client) (length ends.actors)
+has_fact telling (Fact.Fires name) ends = any_below (has_fired telling ends.actors name) (length ends.actors)
+has_fact telling (Fact.Free pages) ends = ends.free == pages
 
 -- ---- what can be said
 

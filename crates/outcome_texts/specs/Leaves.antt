@@ -16,7 +16,7 @@ use Rattle.script_lines.specs.declared.label.Label.{Label}
 use Rattle.script_lines.specs.declared.line.Line.{Line}
 use Rattle.script_lines.specs.declared.line.Request.{Request}
 use Rattle.script_lines.specs.LineTexts.{line_text}
-use Rattle.actor_plays.specs.declared.found.Found.{Found}
+use Rattle.explore_model.specs.declared.found.Found.{Found}
 use Rattle.outcome_texts.specs.Calls.{entry_call}
 use Rattle.outcome_texts.specs.Plays.{bound_at}
 use Rattle.outcome_texts.specs.declared.calls.PlayCall.{PlayCall}

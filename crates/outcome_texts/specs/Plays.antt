@@ -12,9 +12,9 @@ use Rattle.script_lines.specs.declared.line.Request.{Request}
 use Rattle.script_lines.specs.Labels.{same_label}
 use Rattle.script_lines.specs.LineTexts.{line_text}
 use Rattle.script_lines.specs.Lines.{line_of}
-use Rattle.actor_plays.specs.declared.plan.Plan.{Plan}
-use Rattle.actor_plays.specs.declared.plan.Planned.{Planned}
-use Rattle.actor_plays.specs.Plans.{steps_of}
+use Rattle.explore_model.specs.declared.plan.Plan.{Plan}
+use Rattle.explore_model.specs.declared.plan.Planned.{Planned}
+use Rattle.explore_model.specs.Plans.{steps_of}
 use Rattle.script_lines.specs.Parts.{plural_end}
 use Rattle.outcome_texts.specs.Lines.{actor_line}
 use Rattle.outcome_texts.specs.declared.labels.LabelNames.{LabelNames}

@@ -1,9 +1,9 @@
 -- The report of all outcomes.
 use Rattle.std.specs.Prelude.{ℕ, ◌≡◌, ◌+◌, ◌-◌, ◌^◌, min, Bool, if◌then◌else◌, is_some, List, [], ◌∷◌, ◌++◌, codes, length, vec_len}
 use Rattle.std.specs.List.{fold}
-use Rattle.actor_plays.specs.declared.found.Exploration.{Exploration}
-use Rattle.actor_plays.specs.declared.plan.Plan.{Plan}
-use Rattle.actor_plays.specs.Plans.{steps_of}
+use Rattle.explore_model.specs.declared.found.Exploration.{Exploration}
+use Rattle.explore_model.specs.declared.plan.Plan.{Plan}
+use Rattle.explore_model.specs.Plans.{steps_of}
 use Rattle.outcome_texts.specs.declared.telling.Telling.{Telling}
 use Rattle.outcome_texts.specs.Plays.{counted, pieces}
 use Rattle.outcome_texts.specs.Vanishing.{how_text}

@@ -3,7 +3,7 @@ use Rattle.std.specs.Prelude.{◌≡◌, ℕ, Bool, true, ◌&&◌, nat_le, nat_
 use Rattle.std.specs.Fmt.{decimal}
 use Rattle.std.specs.List.{flat_map}
 use Rattle.std.specs.Option.{option_map_or}
-use Rattle.actor_plays.specs.declared.found.Found.{Found}
+use Rattle.explore_model.specs.declared.found.Found.{Found}
 use Rattle.outcome_texts.specs.Calls.{calls_told}
 use Rattle.outcome_texts.specs.Leaves.{leave_text}
 use Rattle.outcome_texts.specs.Plays.{counted, joins_text, line_told, pieces, step_text}

@@ -6,9 +6,10 @@ use Rattle.std.specs.Option.{option_map_or}
 use Rattle.script_lines.specs.declared.claim.Claim.{Claim}
 use Rattle.script_lines.specs.declared.claim.Fact.{Fact}
 use Rattle.script_lines.specs.declared.claim.Often.{Often}
-use Rattle.actor_plays.specs.declared.found.Exploration.{Exploration}
-use Rattle.actor_plays.specs.declared.found.Found.{Found}
+use Rattle.explore_model.specs.declared.found.Exploration.{Exploration}
+use Rattle.explore_model.specs.declared.found.Found.{Found}
 use Rattle.outcome_texts.specs.Calls.{calls_told}
+use Rattle.explore_model.specs.Outcomes.{ends_of}
 use Rattle.outcome_texts.specs.Facts.{has_fact}
 use Rattle.outcome_texts.specs.Plays.{counted, line_told, pieces}
 use Rattle.outcome_texts.specs.Scripts.{call_text}
@@ -30,7 +31,7 @@ is_as false so = not so
 
 -- the place of the first outcome with the fact, or of the first without it
 abbrev pub first_with : Telling → Fact → Bool → List Found → Option ℕ
-first_with telling fact wanted outcomes = position (λ (found : Found). is_as wanted (has_fact telling fact found.outcome)) outcomes
+first_with telling fact wanted outcomes = position (λ (found : Found). is_as wanted (has_fact telling fact (ends_of found.outcome))) outcomes
 
 -- what is said where no outcome breaks a claim
 abbrev pub unbroken : Bool → Verdict

@@ -2,7 +2,7 @@
 ghost use Rattle.std.specs.Prelude.{◌≡◌, ◌++◌, ◌+◌, [], IfOk, OnOk, count_by};
 ghost use Rattle.outcome_texts.specs.Calls.{at_most_one, call_told, calls_from, calls_told, entry_call, is_step_of, number_told, place_told, step_told};
 
-use actor_plays::{Found, Outcome, Turn};
+use explore_model::{Found, Turn};
 use std::alloc::{AllocError, Global};
 
 /// A call of a play, with its actor.
@@ -32,33 +32,30 @@ fn steps_of(turns: &[Turn], actor: usize) -> usize
 }
 
 // The place of the step of the actor's call of this number, in its plan.
-fn place_of(outcome: &Outcome, actor: usize, call: usize) -> Option<usize>
-    ensures { result ≡ place_told outcome.now actor call }
+fn place_of(found: &Found, actor: usize, call: usize) -> Option<usize>
+    ensures { result ≡ place_told found.now actor call }
 {
-    match outcome.actors.get(actor) {
-        Some(one) => match one.made.get(call) {
-            Some((place, _)) => Some(*place),
-            None => None,
-        },
+    match found.steps.get(actor) {
+        Some(places) => places.get(call).copied(),
         None => None,
     }
 }
 
 // The call of this number of those that the actor's steps make.
-fn step_of(outcome: &Outcome, actor: usize, call: usize) -> Option<PlayCall>
-    ensures { result ≡ step_told outcome.now actor call }
+fn step_of(found: &Found, actor: usize, call: usize) -> Option<PlayCall>
+    ensures { result ≡ step_told found.now actor call }
 {
-    match place_of(outcome, actor, call) {
+    match place_of(found, actor, call) {
         Some(at) => Some(PlayCall::Step { actor, at }),
         None => None,
     }
 }
 
 // The number of the call behind these turns: all clients join before.
-fn number_of(outcome: &Outcome, before: &[Turn]) -> usize
-    ensures { result ≡ number_told outcome.now before.now }
+fn number_of(found: &Found, before: &[Turn]) -> usize
+    ensures { result ≡ number_told found.now before.now }
 {
-    outcome.actors.len() + before.len()
+    found.steps.len() + before.len()
 }
 
 // The call of the turn behind these.
@@ -66,10 +63,10 @@ fn call_at(found: &Found, before: &[Turn], turn: Turn) -> Option<PlayCall>
     ensures { result ≡ call_told found.now before.now turn }
 {
     match turn {
-        Turn::Step(actor) => step_of(&found.outcome, actor, steps_of(before, actor)),
+        Turn::Step(actor) => step_of(found, actor, steps_of(before, actor)),
         Turn::Leave(actor) => Some(PlayCall::Leave {
             actor,
-            number: number_of(&found.outcome, before),
+            number: number_of(found, before),
         }),
     }
 }
@@ -111,7 +108,7 @@ pub fn calls_of(alloc: Global, found: &Found) -> Result<Vec<PlayCall>, AllocErro
 pub(crate) fn call_of_entry(found: &Found, number: usize) -> Option<PlayCall>
     ensures { result ≡ entry_call found.now number }
 {
-    let at = number.saturating_sub(found.outcome.actors.len());
+    let at = number.saturating_sub(found.steps.len());
     match found.turns.get(at) {
         Some(turn) => call_at(found, &found.turns[..at], *turn),
         None => None,

@@ -1,17 +1,15 @@
 //! What is so in an outcome, as claims say it.
-ghost use Rattle.std.specs.Prelude.{◌≡◌, ◌&&◌, false, length, nat_lt, slice_get, ℕ};
-ghost use Rattle.std.specs.Option.{option_map_or};
+ghost use Rattle.std.specs.Prelude.{◌≡◌, ◌&&◌, length, ℕ};
 ghost use Rattle.std.specs.List.{list_any};
-ghost use Rattle.actor_plays.specs.declared.plan.Plan.{Plan as PlanTold};
-ghost use Rattle.actor_plays.specs.Plans.{steps_of};
-ghost use Rattle.actor_plays.specs.declared.found.Became.{Became as BecameTold};
-ghost use Rattle.outcome_texts.specs.Facts.{any_below, became_so as so_told, binds as binds_told, has_fact as fact_told, has_fired as fired_told, has_node as node_told, is_caused as caused_told, is_ended as ended_told, is_failed as failed_told, is_failure as failure_told, is_fate as fate_told, is_fired as fires_told, is_left as left_told, is_live as live_told, is_misuse as misuse_told, is_node as is_node_told, is_origin as origin_told, is_pending as pending_told, is_so_caused as so_caused_told, made_key as key_told, same_failure as same_told, waits as waits_told};
+ghost use Rattle.explore_model.specs.Outcomes.{ends_of};
+ghost use Rattle.explore_model.specs.declared.outcome.Became.{Became as BecameTold};
+ghost use Rattle.outcome_texts.specs.Facts.{any_below, became_so as so_told, binds as binds_told, has_fact as fact_told, has_fired as fired_told, has_node as node_told, is_before as before_told, is_caused as caused_told, is_ended as ended_told, is_failed as failed_told, is_failure as failure_told, is_fate as fate_told, is_fired as fires_told, is_left as left_told, is_live as live_told, is_misuse as misuse_told, is_origin as origin_told, is_pending as pending_told, is_so_caused as so_caused_told, is_step_of as step_told, same_failure as same_told, waits as waits_told};
 
 use crate::makers::{binds, is_meant};
 use crate::telling::Telling;
-use actor_plays::{Became, Fate, Outcome};
+use explore_model::{Became, Fate, Outcome, StepPlace};
 use script_lines::{Fact, Label, NodeFact, NodeName, SaidCause};
-use sm_names::{Cause, Failure, Misuse, NodeKey};
+use sm_names::{Cause, Failure, Misuse};
 
 // Whether both are the same.
 fn same_failure(one: Failure, other: Failure) -> bool
@@ -68,68 +66,23 @@ fn is_caused(said: Option<SaidCause>, cause: Cause) -> bool
     }
 }
 
-// Whether the call made the node of this key.
-fn is_node(key: NodeKey, became: Became) -> bool
-    ensures { result ≡ is_node_told key became }
+// Whether the step is one that binds the label, of a client that is meant.
+fn is_step_of(telling: &Telling<'_>, name: NodeName, step: StepPlace) -> bool
+    ensures { result ≡ step_told telling.now name step }
 {
-    match became {
-        Became::Node(other, _) => other == key,
-        _ => false,
-    }
+    is_meant(telling.labels, name.client, step.actor)
+        && binds(telling, step.actor, name.label, step.at)
 }
 
-// Whether a call whose line binds the label made the node of this key.
-fn makes_key(
-    telling: &Telling<'_>,
-    actor: usize,
-    made: &[(usize, Became)],
-    label: Label,
-    key: NodeKey,
-) -> bool
-    ensures { result ≡ list_any
-        (λ (one : ℕ × BecameTold). is_node_told key one.1 && binds_told telling.now actor label one.0)
-        made.now }
-{
-    made.iter().any(|(at, became)| is_node(key, *became) && binds(telling, actor, label, *at))
-}
-
-// Whether the actor of this place is meant, and so it is of its calls.
-fn made_key(
-    telling: &Telling<'_>,
-    outcome: &Outcome,
-    name: NodeName,
-    key: NodeKey,
-    actor: usize,
-) -> bool
-    ensures { result ≡ key_told telling.now outcome.now name key actor }
-{
-    if !is_meant(telling.labels, name.client, actor) {
-        return false;
-    }
-    match outcome.actors.get(actor) {
-        Some(one) => makes_key(telling, actor, &one.made, name.label, key),
-        None => false,
-    }
-}
-
-// Whether the node of this key is one that is named.
-fn is_one_of(telling: &Telling<'_>, outcome: &Outcome, name: NodeName, key: NodeKey) -> bool
-    ensures { result ≡ any_below (key_told telling.now outcome.now name key)
-        (length outcome.now.actors.items) }
-{
-    let mut found = false;
-    'actors: for actor in 0..outcome.actors.len() {
-        found = found || made_key(telling, outcome, name, key, actor);
-    }
-    found
-}
-
-// The same, if one is named.
-fn is_origin(telling: &Telling<'_>, outcome: &Outcome, name: Option<NodeName>, key: NodeKey) -> bool
-    ensures { result ≡ origin_told telling.now outcome.now name key }
+// Whether the step made the node that is named, if one is.
+fn is_origin(telling: &Telling<'_>, name: Option<NodeName>, by: Option<StepPlace>) -> bool
+    ensures { result ≡ origin_told telling.now name by }
 {
     match name {
-        Some(name) => is_one_of(telling, outcome, name, key),
+        Some(name) => match by {
+            Some(step) => is_step_of(telling, name, step),
+            None => false,
+        },
         None => true,
     }
 }
@@ -137,17 +90,14 @@ fn is_origin(telling: &Telling<'_>, outcome: &Outcome, name: Option<NodeName>, k
 // Whether the fate is a failure by such a cause, through such a node.
 fn is_failed(
     telling: &Telling<'_>,
-    outcome: &Outcome,
     cause: Option<SaidCause>,
     origin: Option<NodeName>,
     fate: Fate,
 ) -> bool
-    ensures { result ≡ failed_told telling.now outcome.now cause origin fate }
+    ensures { result ≡ failed_told telling.now cause origin fate }
 {
     match fate {
-        Fate::Failed(fault) => {
-            is_caused(cause, fault.cause) && is_origin(telling, outcome, origin, fault.origin)
-        }
+        Fate::Failed { cause: why, by } => is_caused(cause, why) && is_origin(telling, origin, by),
         _ => false,
     }
 }
@@ -175,11 +125,11 @@ fn is_pending(fate: Fate) -> bool
 }
 
 // Whether the fate is as it is said.
-fn is_fate(telling: &Telling<'_>, outcome: &Outcome, fact: NodeFact, fate: Fate) -> bool
-    ensures { result ≡ fate_told telling.now outcome.now fact fate }
+fn is_fate(telling: &Telling<'_>, fact: NodeFact, fate: Fate) -> bool
+    ensures { result ≡ fate_told telling.now fact fate }
 {
     match fact {
-        NodeFact::Fails { cause, origin } => is_failed(telling, outcome, cause, origin, fate),
+        NodeFact::Fails { cause, origin } => is_failed(telling, cause, origin, fate),
         NodeFact::Ends => is_ended(fate),
         NodeFact::Lives => is_live(fate),
         NodeFact::Pending => is_pending(fate),
@@ -187,12 +137,12 @@ fn is_fate(telling: &Telling<'_>, outcome: &Outcome, fact: NodeFact, fate: Fate)
 }
 
 // Whether what became of what a call made is so.
-fn became_so(telling: &Telling<'_>, outcome: &Outcome, fact: NodeFact, became: Became) -> bool
-    ensures { result ≡ so_told telling.now outcome.now fact became }
+fn became_so(telling: &Telling<'_>, fact: NodeFact, became: Became) -> bool
+    ensures { result ≡ so_told telling.now fact became }
 {
     match became {
-        Became::Node(_, fate) => match fate {
-            Some(fate) => is_fate(telling, outcome, fact, fate),
+        Became::Node(fate) => match fate {
+            Some(fate) => is_fate(telling, fact, fate),
             None => false,
         },
         _ => false,
@@ -202,18 +152,17 @@ fn became_so(telling: &Telling<'_>, outcome: &Outcome, fact: NodeFact, became: B
 // Whether a call whose line binds the label made a node that became so.
 fn makes_so(
     telling: &Telling<'_>,
-    outcome: &Outcome,
     actor: usize,
     made: &[(usize, Became)],
     label: Label,
     fact: NodeFact,
 ) -> bool
     ensures { result ≡ list_any
-        (λ (one : ℕ × BecameTold). so_told telling.now outcome.now fact one.1 && binds_told telling.now actor label one.0)
+        (λ (one : ℕ × BecameTold). so_told telling.now fact one.1 && binds_told telling.now actor label one.0)
         made.now }
 {
     made.iter().any(|(at, became)| {
-        became_so(telling, outcome, fact, *became) && binds(telling, actor, label, *at)
+        became_so(telling, fact, *became) && binds(telling, actor, label, *at)
     })
 }
 
@@ -225,21 +174,21 @@ fn has_node_of(
     fact: NodeFact,
     actor: usize,
 ) -> bool
-    ensures { result ≡ node_told telling.now outcome.now name fact actor }
+    ensures { result ≡ node_told telling.now (ends_of outcome.now).actors name fact actor }
 {
     if !is_meant(telling.labels, name.client, actor) {
         return false;
     }
     match outcome.actors.get(actor) {
-        Some(one) => makes_so(telling, outcome, actor, &one.made, name.label, fact),
+        Some(one) => makes_so(telling, actor, &one.made, name.label, fact),
         None => false,
     }
 }
 
 // Whether a node of this name became so.
 fn has_node(telling: &Telling<'_>, outcome: &Outcome, name: NodeName, fact: NodeFact) -> bool
-    ensures { result ≡ any_below (node_told telling.now outcome.now name fact)
-        (length outcome.now.actors.items) }
+    ensures { result ≡ any_below (node_told telling.now (ends_of outcome.now).actors name fact)
+        (length (ends_of outcome.now).actors) }
 {
     let mut found = false;
     'actors: for actor in 0..outcome.actors.len() {
@@ -252,10 +201,7 @@ fn has_node(telling: &Telling<'_>, outcome: &Outcome, name: NodeName, fact: Node
 fn is_fired(became: Became) -> bool
     ensures { result ≡ fires_told became }
 {
-    match became {
-        Became::Tracker(fired) => fired,
-        _ => false,
-    }
+    matches!(became, Became::Fired)
 }
 
 // Whether a call whose line binds the label made a tracker that fired.
@@ -269,7 +215,7 @@ fn makes_fired(telling: &Telling<'_>, actor: usize, made: &[(usize, Became)], la
 
 // Whether the actor of this place is meant, and so it is of its calls.
 fn has_fired_of(telling: &Telling<'_>, outcome: &Outcome, name: NodeName, actor: usize) -> bool
-    ensures { result ≡ fired_told telling.now outcome.now name actor }
+    ensures { result ≡ fired_told telling.now (ends_of outcome.now).actors name actor }
 {
     if !is_meant(telling.labels, name.client, actor) {
         return false;
@@ -282,8 +228,8 @@ fn has_fired_of(telling: &Telling<'_>, outcome: &Outcome, name: NodeName, actor:
 
 // Whether a tracker of this name fired.
 fn has_fired(telling: &Telling<'_>, outcome: &Outcome, name: NodeName) -> bool
-    ensures { result ≡ any_below (fired_told telling.now outcome.now name)
-        (length outcome.now.actors.items) }
+    ensures { result ≡ any_below (fired_told telling.now (ends_of outcome.now).actors name)
+        (length (ends_of outcome.now).actors) }
 {
     let mut found = false;
     'actors: for actor in 0..outcome.actors.len() {
@@ -293,9 +239,8 @@ fn has_fired(telling: &Telling<'_>, outcome: &Outcome, name: NodeName) -> bool
 }
 
 // Whether the place in the actor's plan is not behind its last step.
-fn is_before(telling: &Telling<'_>, at: usize, actor: usize) -> bool
-    ensures { result ≡ option_map_or (λ (plan : PlanTold). nat_lt at (length (steps_of plan)))
-        (slice_get telling.now.plans.now actor) false }
+fn is_before(telling: &Telling<'_>, actor: usize, at: usize) -> bool
+    ensures { result ≡ before_told telling.now actor at }
 {
     match telling.plans.get(actor) {
         Some(plan) => at < plan.steps.len(),
@@ -305,25 +250,28 @@ fn is_before(telling: &Telling<'_>, at: usize, actor: usize) -> bool
 
 // Whether the actor of this place did not leave, and is not behind its last step.
 fn is_left(telling: &Telling<'_>, outcome: &Outcome, actor: usize) -> bool
-    ensures { result ≡ left_told telling.now outcome.now actor }
+    ensures { result ≡ left_told telling.now (ends_of outcome.now).actors actor }
 {
     match outcome.actors.get(actor) {
-        Some(one) => !one.left && is_before(telling, one.at, actor),
+        Some(one) => match one.at {
+            Some(at) => is_before(telling, actor, at),
+            None => false,
+        },
         None => false,
     }
 }
 
 // Whether it is meant, and waits for ever.
 fn waits_at(telling: &Telling<'_>, outcome: &Outcome, client: Label, actor: usize) -> bool
-    ensures { result ≡ waits_told telling.now outcome.now client actor }
+    ensures { result ≡ waits_told telling.now (ends_of outcome.now).actors client actor }
 {
     is_meant(telling.labels, Some(client), actor) && is_left(telling, outcome, actor)
 }
 
 // Whether the client waits for ever.
 fn waits(telling: &Telling<'_>, outcome: &Outcome, client: Label) -> bool
-    ensures { result ≡ any_below (waits_told telling.now outcome.now client)
-        (length outcome.now.actors.items) }
+    ensures { result ≡ any_below (waits_told telling.now (ends_of outcome.now).actors client)
+        (length (ends_of outcome.now).actors) }
 {
     let mut found = false;
     'actors: for actor in 0..outcome.actors.len() {
@@ -334,7 +282,7 @@ fn waits(telling: &Telling<'_>, outcome: &Outcome, client: Label) -> bool
 
 /// Whether the fact is so in the outcome. Costs O(n) for n lines, for each call of the outcome's play.
 pub fn has_fact(telling: &Telling<'_>, outcome: &Outcome, fact: Fact) -> bool
-    ensures { result ≡ fact_told telling.now fact outcome.now }
+    ensures { result ≡ fact_told telling.now fact (ends_of outcome.now) }
 {
     match fact {
         Fact::Node(name, said) => has_node(telling, outcome, name, said),

@@ -7,7 +7,7 @@ ghost use Rattle.outcome_texts.specs.Leaves.{actor_text, asked_text, bound_in, b
 
 use crate::calls::{PlayCall, call_of_entry};
 use crate::telling::Telling;
-use actor_plays::Found;
+use explore_model::Found;
 use script_lines::{BufferLabel, Label, Line, Request, push, push_line};
 use sm_names::{
     Argument, BufferName, Call, CallKind, ClientId, CollectionId, NodeKey, Object, Reply, Strength,

@@ -1,11 +1,11 @@
 //! Which client makes what a claim names.
 ghost use Rattle.std.specs.Prelude.{◌≡◌, ◌||◌, length, Some};
-ghost use Rattle.actor_plays.specs.Plans.{steps_of};
+ghost use Rattle.explore_model.specs.Plans.{steps_of};
 ghost use Rattle.outcome_texts.specs.Facts.{any_below, binds as binds_told, count_below, is_known as known_told, is_maker as maker_told, is_meant as meant_told, is_named as named_told, knows_origin as origin_told, line_label as label_told, makes as makes_told, makes_at as made_at, makes_node as node_made};
 
 use crate::telling::Telling;
-use actor_plays::Plan;
 use actor_scripts::Step;
+use explore_model::Plan;
 use script_lines::{Fact, Label, Line, NodeFact, NodeName, read_line};
 use sm_names::{Product, row_of};
 

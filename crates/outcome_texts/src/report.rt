@@ -6,11 +6,11 @@ ghost use Rattle.outcome_texts.specs.Vanishing.{how_text};
 use crate::numbers::push_great;
 use crate::row_names::RowNames;
 use crate::rows::{Among, Occurrences, ReportRow, push_rows};
-use crate::telling::{Makers, Subject, Telling, subject_at};
+use crate::telling::{Subject, Telling, subject_at};
 use crate::unmade::push_unmade;
 use crate::vanishing::{can_vanish, has_vanished, how_words, is_alike, push_gone};
 use crate::words::MadeOutcome;
-use actor_plays::{Exploration, Found, Plan};
+use explore_model::{Exploration, Found, Plan};
 use indexmap::IndexSet;
 use script_lines::{Label, LabelHash, Part, push, push_parts};
 use std::alloc::{AllocError, Global};
@@ -104,15 +104,6 @@ fn client_subjects(all: &Outcomes<'_>) -> Result<Vec<Subject>, AllocError> {
     Ok(subjects)
 }
 
-// The steps that made the nodes of each outcome.
-fn makers_of(alloc: Global, outcomes: &[Found]) -> Result<Vec<Makers>, AllocError> {
-    let mut makers = Vec::new(alloc);
-    for found in outcomes {
-        makers.push(Makers::of(alloc, found)?)?;
-    }
-    Ok(makers)
-}
-
 // What rows tell of: outcomes in which the same clients vanished, the first of which has this place among all.
 #[derive(Clone, Copy)]
 struct Outcomes<'a> {
@@ -120,7 +111,6 @@ struct Outcomes<'a> {
     telling: &'a Telling<'a>,
     first: usize,
     outcomes: &'a [Found],
-    makers: &'a [Makers],
     names: &'a RowNames,
 }
 
@@ -141,11 +131,10 @@ fn add_outcome(
     subject: Subject,
     at: usize,
 ) -> Result<(), AllocError> {
-    if at < all.outcomes.len() && at < all.makers.len() {
+    if at < all.outcomes.len() {
         let found = &all.outcomes[at];
         let made = MadeOutcome {
             found,
-            makers: &all.makers[at],
             names: all.names,
         };
         let mut what = Vec::new(all.alloc);
@@ -405,13 +394,11 @@ fn push_group(
     outcomes: &[Found],
     have_shares: bool,
 ) -> Result<(), AllocError> {
-    let makers = makers_of(alloc, outcomes)?;
     let all = Outcomes {
         alloc,
         telling,
         first,
         outcomes,
-        makers: &makers,
         names,
     };
     let mut rows = Vec::new(alloc);

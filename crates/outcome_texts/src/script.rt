@@ -12,7 +12,7 @@ use crate::leaves::push_leave;
 use crate::numbers::share_words;
 use crate::telling::Telling;
 use crate::vanishing::{can_vanish, push_gone};
-use actor_plays::Found;
+use explore_model::Found;
 use script_lines::{Label, Line, Part, push, push_line, push_number, push_parts, read_line};
 use std::alloc::{AllocError, Global};
 

@@ -4,12 +4,10 @@ ghost use Rattle.outcome_texts.specs.Plays.{bound_at, line_told, step_told};
 
 use crate::labels::LabelNames;
 use crate::lines::{StepLine, line_at};
-use actor_plays::{ActorOutcome, Became, Found, Plan, Vanishing};
 use actor_scripts::Step;
+use explore_model::{Became, Found, Plan, Vanishing};
 use script_lines::{Label, LabelHash};
-use sm_names::{NodeKey, Product, row_of};
-use std::alloc::{AllocError, Global};
-use std::collections::HashMap;
+use sm_names::{Product, row_of};
 
 /// What a report is made of: the clients' labels, what nodes and trackers are called, the lines that are steps, the
 /// plans, and who may vanish. Its tables of texts hash from the seed.
@@ -95,44 +93,5 @@ fn made_at(made: &[(usize, Became)], at: usize) -> Option<Became> {
     match made.binary_search_by_key(&at, |one| one.0) {
         Ok(place) if place < made.len() => Some(made[place].1),
         _ => None,
-    }
-}
-
-// The steps that made the nodes of an outcome.
-#[derive(Drop)]
-pub(crate) struct Makers {
-    makers: HashMap<NodeKey, (usize, usize)>,
-}
-
-impl Makers {
-    // Adds the nodes that the actor made.
-    fn note(&mut self, actor: usize, made: &[(usize, Became)]) -> Result<(), AllocError> {
-        for (at, became) in made {
-            if let Became::Node(key, _) = *became {
-                self.makers.insert(key, (actor, *at))?;
-            }
-        }
-        Ok(())
-    }
-
-    fn note_all(&mut self, actors: &[ActorOutcome]) -> Result<(), AllocError> {
-        for actor in 0..actors.len() {
-            self.note(actor, &actors[actor].made)?;
-        }
-        Ok(())
-    }
-
-    // Those of the outcome.
-    pub(crate) fn of(alloc: Global, found: &Found) -> Result<Makers, AllocError> {
-        let mut makers = Makers {
-            makers: HashMap::new(alloc),
-        };
-        makers.note_all(&found.outcome.actors)?;
-        Ok(makers)
-    }
-
-    // The actor and the place of the step that made the node.
-    pub(crate) fn maker(&self, key: NodeKey) -> Option<(usize, usize)> {
-        self.makers.get(&key).copied()
     }
 }

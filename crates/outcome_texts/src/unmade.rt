@@ -1,6 +1,6 @@
 //! The steps that no order makes, in words.
 use crate::telling::Telling;
-use actor_plays::Exploration;
+use explore_model::Exploration;
 use script_lines::{Part, push, push_parts};
 use std::alloc::{AllocError, Global};
 

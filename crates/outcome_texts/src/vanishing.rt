@@ -4,7 +4,7 @@ ghost use Rattle.std.specs.List.{flat_map, list_any};
 ghost use Rattle.outcome_texts.specs.Facts.{count_below};
 ghost use Rattle.outcome_texts.specs.Vanishing.{all_may as all_told, also_text, can_vanish as can_told, end_text, gone_end, gone_text, how_text, may_vanish as may_told, most_text, none_text, of_text, one_text, whom_below};
 
-use actor_plays::{Found, Vanishing};
+use explore_model::{Found, Vanishing};
 use script_lines::{Label, Part, push, push_label, push_parts};
 use std::alloc::{AllocError, Global};
 

@@ -8,7 +8,7 @@ use crate::calls::{PlayCall, calls_of};
 use crate::facts::has_fact;
 use crate::script::push_call;
 use crate::telling::Telling;
-use actor_plays::{Exploration, Found};
+use explore_model::{Exploration, Found};
 use script_lines::{Claim, Fact, Often, Part, push, push_parts};
 use std::alloc::{AllocError, Global};
 

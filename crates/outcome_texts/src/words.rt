@@ -1,27 +1,31 @@
 //! What is said of nodes, trackers and clients.
 use crate::row_names::RowNames;
-use crate::telling::{Makers, Subject, Telling, became_at};
-use actor_plays::{Became, Fate, Found};
+use crate::telling::{Subject, Telling, became_at};
+use explore_model::{Became, Fate, Found, StepPlace};
 use script_labels::push_cause;
 use script_lines::{Part, push, push_label, push_number, push_parts};
-use sm_names::Fault;
+use sm_names::Cause;
 use std::alloc::AllocError;
 
-// An outcome, with the steps that made its nodes, and what rows call what steps make.
+// An outcome, and what rows call what steps make.
 #[derive(Clone, Copy)]
 pub(crate) struct MadeOutcome<'a> {
     pub(crate) found: &'a Found,
-    pub(crate) makers: &'a Makers,
     pub(crate) names: &'a RowNames,
 }
 
 impl MadeOutcome<'_> {
-    fn push_fault(&self, text: &mut Vec<u8>, fault: Fault) -> Result<(), AllocError> {
+    fn push_failed(
+        &self,
+        text: &mut Vec<u8>,
+        cause: Cause,
+        by: Option<StepPlace>,
+    ) -> Result<(), AllocError> {
         push(text, "fails, ")?;
-        push_cause(text, fault.cause)?;
+        push_cause(text, cause)?;
         push(text, " ")?;
-        match self.makers.maker(fault.origin) {
-            Some((actor, at)) => self.names.push(text, actor, at),
+        match by {
+            Some(step) => self.names.push(text, step.actor, step.at),
             None => Ok(()),
         }
     }
@@ -30,7 +34,7 @@ impl MadeOutcome<'_> {
         match fate {
             None => push(text, "is not kept"),
             Some(Fate::Ended) => push(text, "ends"),
-            Some(Fate::Failed(fault)) => self.push_fault(text, fault),
+            Some(Fate::Failed { cause, by }) => self.push_failed(text, cause, by),
             Some(Fate::Live { allocated: true }) => push(text, "is live, with buffers"),
             Some(Fate::Live { allocated: false }) => push(text, "is live, without buffers"),
             Some(Fate::Released { allocated: true }) => push(text, "is released, with buffers"),
@@ -43,7 +47,7 @@ impl MadeOutcome<'_> {
     // Appends what became of the node that a step makes.
     fn push_node(&self, text: &mut Vec<u8>, actor: usize, at: usize) -> Result<(), AllocError> {
         match became_at(self.found, actor, at) {
-            Some(Became::Node(_, fate)) => self.push_fate(text, fate),
+            Some(Became::Node(fate)) => self.push_fate(text, fate),
             _ => push(text, "is not made"),
         }
     }
@@ -51,7 +55,7 @@ impl MadeOutcome<'_> {
     // Appends whether the tracker that a step makes fires. One that is not made does not.
     fn push_tracker(&self, text: &mut Vec<u8>, actor: usize, at: usize) -> Result<(), AllocError> {
         match became_at(self.found, actor, at) {
-            Some(Became::Tracker(true)) => push(text, "fires"),
+            Some(Became::Fired) => push(text, "fires"),
             _ => push(text, "does not fire"),
         }
     }
@@ -84,10 +88,8 @@ impl Telling<'_> {
         let Some(outcome) = found.outcome.actors.get(actor) else {
             return Ok(());
         };
-        match self.plans.get(actor) {
-            Some(plan) if outcome.at < plan.steps.len() => {
-                self.push_waits(text, actor, outcome.at)
-            }
+        match (self.plans.get(actor), outcome.at) {
+            (Some(plan), Some(at)) if at < plan.steps.len() => self.push_waits(text, actor, at),
             _ => push(text, "comes to its end"),
         }
     }

@@ -4,8 +4,8 @@ ghost use Rattle.std.specs.List.{find};
 ghost use Rattle.sm_names.specs.Elements.{In};
 ghost use Rattle.sm_names.specs.Sameness.{same_key};
 ghost use Rattle.actor_plays.specs.declared.falls.GoneNode.{GoneNode as Gone};
-ghost use Rattle.actor_plays.specs.Fates.{fate_fallen, fate_gone};
-ghost use Rattle.alike_plays.specs.Outcomes.{FellAlike, fate_renamed};
+ghost use Rattle.actor_plays.specs.Fates.{fault_fallen};
+ghost use Rattle.alike_plays.specs.Falls.{FellAlike, fall_renamed};
 ghost use Rattle.core_likeness.specs.Naming.{new_key};
 
 use actor_plays::GoneNode;
@@ -21,9 +21,9 @@ fn fall_of(falls: &[GoneNode], key: NodeKey) -> Option<GoneNode>
 
 // Whether the other fall is by the same as the one, or neither is there.
 fn is_new_fall(one: Option<GoneNode>, other: Option<GoneNode>, names: &Names) -> bool
-    ensures { result ≡ true → option_map (λ (f : Gone). fate_gone f.fault) other
-        ≡ option_map (fate_renamed (new_key names.now))
-        (option_map (λ (f : Gone). fate_gone f.fault) one) }
+    ensures { result ≡ true → option_map (λ (f : Gone). f.fault) other
+        ≡ option_map (fall_renamed (new_key names.now))
+        (option_map (λ (f : Gone). f.fault) one) }
 {
     match one {
         Some(fall) => match other {
@@ -37,8 +37,8 @@ fn is_new_fall(one: Option<GoneNode>, other: Option<GoneNode>, names: &Names) ->
 // Whether each of the ones fell alike among the others.
 fn have_fallen(names: &Names, one: &[GoneNode], other: &[GoneNode]) -> bool
     ensures { result ≡ true → (g : Gone) → In g one.now →
-        fate_fallen other.now (new_key names.now g.key)
-        ≡ option_map (fate_renamed (new_key names.now)) (fate_fallen one.now g.key) }
+        fault_fallen other.now (new_key names.now g.key)
+        ≡ option_map (fall_renamed (new_key names.now)) (fault_fallen one.now g.key) }
 {
     for gone in one {
         let new = names.key(gone.key);

@@ -10,9 +10,9 @@ use Rattle.sm_names.proofs.SamenessLaws.{both_ways, some-injective}
 use Rattle.core_state.specs.Reads.{readings_of}
 use Rattle.forest_store.specs.Settling.{no_key}
 use Rattle.actor_scripts.specs.ActorStates.{step_call}
-use Rattle.actor_plays.specs.declared.plan.Plan.{Plan}
+use Rattle.explore_model.specs.declared.plan.Plan.{Plan}
 use Rattle.actor_plays.specs.declared.play.Play.{Play}
-use Rattle.actor_plays.specs.declared.play.Turn.{Turn}
+use Rattle.explore_model.specs.declared.found.Turn.{Turn}
 use Rattle.actor_plays.specs.declared.play.Turned.{Turned}
 use Rattle.actor_plays.specs.Moves.{HavePassed, IsOfSetup, TakesLeave, TakesTurn, may_go_at, position_of}
 use Rattle.actor_plays.specs.Plays.{AsksNothing, Stage, first_clients, is_wait, next_step}
@@ -25,7 +25,7 @@ use Rattle.alike_plays.proofs.AheadTurns.{ahead_simulates}
 use Rattle.alike_plays.proofs.SameTurns.{last_none, same_turns, way_met}
 use Rattle.play_search.specs.declared.graph.Row.{Row}
 use Rattle.play_search.specs.declared.replay.Setting.{Setting}
-use Rattle.actor_plays.specs.declared.found.Vanishing.{Vanishing}
+use Rattle.explore_model.specs.declared.found.Vanishing.{Vanishing}
 use Rattle.play_search.specs.Closing.{AlikeIn, AreAllMet, AreClosedIn, IsBack, IsBackIn, IsRowTriedIn, way_to, ways_first, ways_of}
 use Rattle.play_search.specs.Searches.{IsReplay, is_made, setup_of}
 use Rattle.play_search.specs.Vanishings.{began_early, may_begin}

@@ -1,58 +1,31 @@
 -- Where no turn leads out of what a search met, and each play of it that is over ends as one of these outcomes says, none is missing.
-use Rattle.std.proofs.Common.{ℕ, ◌≡◌, subst, ◌∙◌, Bool, true, List, length, map}
-use Rattle.sm_names.specs.declared.keys.NodeKey.{NodeKey}
+use Rattle.std.proofs.Common.{ℕ, ◌≡◌, subst, ◌∙◌, Bool, true, List, length}
 use Rattle.sm_names.proofs.SamenessLaws.{both_ways}
-use Rattle.actor_plays.specs.declared.plan.Plan.{Plan}
+use Rattle.explore_model.specs.declared.plan.Plan.{Plan}
 use Rattle.actor_plays.specs.declared.play.Play.{Play}
-use Rattle.actor_plays.specs.declared.play.Turn.{Turn}
+use Rattle.explore_model.specs.declared.found.Turn.{Turn}
 use Rattle.actor_plays.specs.declared.play.Turned.{Turned}
 use Rattle.actor_plays.specs.Moves.{TakesTurn, position_of}
 use Rattle.actor_plays.specs.Plays.{stages_of}
 use Rattle.actor_plays.specs.Positions.{Calls, Position, Reached, Rests, Setup}
 use Rattle.actor_plays.proofs.PositionLaws.{all_rest, by_turns}
-use Rattle.alike_cores.proofs.Views.{fired-alike, free-alike}
-use Rattle.alike_plays.specs.Ahead.{AreAlikeAhead, ahead}
-use Rattle.alike_plays.proofs.AheadActors.{both_at, both_leave, made_there, same_step, seen_ahead}
+use Rattle.alike_plays.specs.Ahead.{AreAlikeAhead}
 use Rattle.alike_plays.specs.Ways.{IsAt}
-use Rattle.alike_plays.proofs.Ending.{became_alike}
+use Rattle.alike_plays.proofs.Ending.{ends-same}
 use Rattle.alike_plays.proofs.Reaching.{reached_seen}
 use Rattle.alike_plays.proofs.SameTurns.{same_turns, way_met}
-use Rattle.actor_plays.specs.declared.found.Found.{Found}
+use Rattle.explore_model.specs.declared.found.Found.{Found}
 use Rattle.play_search.specs.declared.graph.Row.{Row}
-use Rattle.actor_plays.specs.declared.found.Outcome.{Outcome}
 use Rattle.play_search.specs.declared.replay.Setting.{Setting}
-use Rattle.actor_plays.specs.declared.found.Vanishing.{Vanishing}
+use Rattle.explore_model.specs.declared.found.Vanishing.{Vanishing}
 use Rattle.play_search.specs.Closing.{AlikeIn, AreClosedIn, way_to, ways_of}
-use Rattle.play_search.specs.Ends.{AreRowsEnded, EndsAsOne, EndsUnderNames, HasToLeave, IsOver, NoneIsMissing, end_in}
+use Rattle.play_search.specs.Ends.{AreRowsEnded, EndsAsOne, HasToLeave, IsOver, NoneIsMissing}
 use Rattle.play_search.specs.Searches.{IsOnWay, is_made, setup_of}
 use Rattle.play_search.specs.Vanishings.{began_early, must_leave}
 use Rattle.play_search.proofs.ClosingLaws.{do_the_same, in_way}
-use Rattle.play_search.proofs.EndLaws.{all_same, all_vanished, end_again, over_alike}
+use Rattle.play_search.proofs.EndLaws.{all_vanished, over_alike}
 
--- What ends the second play ends the first, under names that lead from the first to the second and on.
-pub ends_alike : (setup : Setup) (early : ℕ → ℕ → Bool) (p r : Position) → Reached setup p → AreAlikeAhead early p r →
-    (outcome : Outcome) → EndsUnderNames r outcome → EndsUnderNames p outcome
-ends_alike setup early p r reached like outcome ends = (
-  λ (key : NodeKey). ends.0 (like.alike.to key),
-  λ a b. ends.1 (like.alike.to a) (like.alike.to b) ∙ like.alike.keeps a b,
-  record { actors = ends.2.actors ∙ same; free = ends.2.free ∙ free-alike like.alike.to like.alike.id like.alike.number p.core r.core like.alike.cores },
-)
-  where
-    -- the actors end alike
-    same : map (end_in ends.0 r.core r.falls) r.stages
-        ≡ map (end_in (λ (key : NodeKey). ends.0 (like.alike.to key)) p.core p.falls) p.stages
-    same = all_same early p r like (end_in ends.0 r.core r.falls)
-        (end_in (λ (key : NodeKey). ends.0 (like.alike.to key)) p.core p.falls)
-        (λ place stage other at at_too. let both = both_at early place p r like stage other at at_too in
-        end_again like.alike.to ends.0 like.alike.id like.alike.number p.core r.core p.falls r.falls
-        (became_alike (ahead p) (ahead r) (seen_ahead p (reached_seen setup p reached)) like.alike)
-        (λ tracker. fired-alike like.alike.to like.alike.id like.alike.number p.core r.core like.alike.cores like.alike.counted tracker)
-        stage other
-        (both_leave early place p r like stage other both)
-        (same_step early place p r like stage other both)
-        (made_there early place p r like stage other at at_too))
-
--- The same with those that left before their end.
+-- What ends the second play ends the first: they end the same, and the same ones left before their end.
 pub ends_as_alike : (setup : Setup) (at_end : Bool) (p r : Position) → Reached setup p →
     AreAlikeAhead (began_early at_end setup.plans) p r → (outcomes : List Found) → EndsAsOne at_end setup.plans outcomes r →
     EndsAsOne at_end setup.plans outcomes p
@@ -60,7 +33,7 @@ ends_as_alike setup at_end p r reached like outcomes one = (
   one.0,
   one.1,
   record {
-    ends = ends_alike setup (began_early at_end setup.plans) p r reached like one.0.outcome one.2.ends;
+    ends = one.2.ends ∙ ends-same (began_early at_end setup.plans) p r (reached_seen setup p reached) like;
     vanished_are = one.2.vanished_are ∙ all_vanished at_end setup.plans p r like;
   },
 )

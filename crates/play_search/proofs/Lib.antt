@@ -1,6 +1,5 @@
 pub mod ClosingLaws
 pub mod EndLaws
 pub mod EndingLaws
-pub mod EndsByOutcome
 pub mod OnWay
 pub mod WayLaws

@@ -4,9 +4,9 @@ use Rattle.std.proofs.Common.{cond, length, length-append, map, Option, Some, No
 use Rattle.std.proofs.lemmas.List.{length-map}
 use Rattle.std.proofs.lemmas.Option.{slice_get-map, slice_get_within}
 use Rattle.std.specs.Option.{option_map, option_map_or}
-use Rattle.actor_plays.specs.declared.plan.Plan.{Plan}
+use Rattle.explore_model.specs.declared.plan.Plan.{Plan}
 use Rattle.actor_plays.specs.declared.play.Play.{Play}
-use Rattle.actor_plays.specs.declared.play.Turn.{Turn}
+use Rattle.explore_model.specs.declared.found.Turn.{Turn}
 use Rattle.actor_plays.specs.Leaves.{Leave}
 use Rattle.actor_plays.specs.Moves.{HasRest, HavePassed, IsOfSetup, TakesLeave, may_go_at, position_of}
 use Rattle.actor_plays.specs.Plays.{IsLeave, IsPlay, Stage, first_clients, stages_of}
@@ -14,7 +14,7 @@ use Rattle.actor_plays.specs.Positions.{Begins, ReachedBy, Setup, left_at, may_g
 use Rattle.actor_plays.proofs.MoveLaws.{come_leave, come_on, come_start}
 use Rattle.alike_plays.specs.Ahead.{count_early, early_first, early_in, is_early_in}
 use Rattle.play_search.specs.declared.replay.Setting.{Setting}
-use Rattle.actor_plays.specs.declared.found.Vanishing.{Vanishing}
+use Rattle.explore_model.specs.declared.found.Vanishing.{Vanishing}
 use Rattle.play_search.specs.Searches.{IsOnWay, IsReplay, setup_of}
 use Rattle.play_search.specs.Vanishings.{began_early, began_in, early_at, early_place, is_done, is_early, may_begin, may_go, vanished}
 use Rattle.play_search.specs.Vanishings.{vanished_first}

@@ -1,6 +1,6 @@
 -- How many times the actor changes in a play.
 use Rattle.std.specs.Prelude.{ℕ, suc, zero, Bool, true, not, ◌==◌, if◌then◌else◌, List, [], ◌∷◌, Option, None, Some}
-use Rattle.actor_plays.specs.declared.play.Turn.{Turn}
+use Rattle.explore_model.specs.declared.found.Turn.{Turn}
 
 -- the actor whose turn it is
 abbrev pub mover : Turn → ℕ

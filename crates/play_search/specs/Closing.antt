@@ -2,14 +2,14 @@
 use Rattle.std.specs.Prelude.{◌≡◌, ◌<◌, ℕ, zero, suc, ◌==◌, ◌/◌, ◌%◌, if◌then◌else◌, List, [], ◌∷◌, ◌++◌, length, slice_get}
 use Rattle.std.specs.Option.{option_map_or}
 use Rattle.sm_names.specs.Elements.{In}
-use Rattle.actor_plays.specs.declared.plan.Plan.{Plan}
-use Rattle.actor_plays.specs.declared.play.Turn.{Turn}
+use Rattle.explore_model.specs.declared.plan.Plan.{Plan}
+use Rattle.explore_model.specs.declared.found.Turn.{Turn}
 use Rattle.actor_plays.specs.Positions.{Position, Reached, Rests, Setup}
 use Rattle.alike_plays.specs.Ahead.{AreAlikeAhead}
 use Rattle.alike_plays.specs.Ways.{AreClosedWays, IsAt, IsCallTried, IsLeaveTried}
 use Rattle.play_search.specs.declared.graph.Row.{Row}
 use Rattle.play_search.specs.declared.replay.Setting.{Setting}
-use Rattle.actor_plays.specs.declared.found.Vanishing.{Vanishing}
+use Rattle.explore_model.specs.declared.found.Vanishing.{Vanishing}
 use Rattle.play_search.specs.Searches.{setup_of}
 use Rattle.play_search.specs.Vanishings.{began_early}
 

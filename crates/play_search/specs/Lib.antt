@@ -2,6 +2,5 @@ pub mod Changes
 pub mod Closing
 pub mod Ends
 pub mod Faults
-pub mod Outcomes
 pub mod Searches
 pub mod Vanishings

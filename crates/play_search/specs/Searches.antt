@@ -1,21 +1,23 @@
 -- What a search answers.
-use Rattle.std.specs.Prelude.{ℕ, ◌≡◌, ◌≤◌, ◌<◌, Bool, true, false, List, length, slice_get, vec_len}
+use Rattle.std.specs.Prelude.{ℕ, ◌≡◌, ◌≤◌, ◌<◌, Bool, true, false, List, length, map, slice_get, Vec, vec_len}
 use Rattle.std.specs.Option.{option_map_or}
+use Rattle.std.specs.declared.alloc.Global.{Global}
+use Rattle.sm_names.specs.declared.messages.Reply.{Reply}
 use Rattle.sm_names.specs.declared.rules.TheConstants.{MAX_PAGES}
-use Rattle.actor_plays.specs.declared.plan.Plan.{Plan}
+use Rattle.explore_model.specs.declared.plan.Plan.{Plan}
 use Rattle.actor_plays.specs.declared.play.Play.{Play}
-use Rattle.actor_plays.specs.declared.play.Turn.{Turn}
+use Rattle.explore_model.specs.declared.found.Turn.{Turn}
 use Rattle.actor_plays.specs.declared.play.Turned.{Turned}
+use Rattle.actor_plays.specs.Endings.{EndsSo}
 use Rattle.actor_plays.specs.Fates.{AreFalls}
 use Rattle.actor_plays.specs.Moves.{HasCome, IsOfSetup, TakesTurn, position_of}
-use Rattle.actor_plays.specs.Plays.{IsPlay, IsTurn, first_clients, stages_of}
+use Rattle.actor_plays.specs.Plays.{IsPlay, IsTurn, Stage, first_clients, stages_of}
 use Rattle.actor_plays.specs.Positions.{ReachedBy, Rests, Setup}
 use Rattle.play_search.specs.declared.graph.Graph.{Graph}
 use Rattle.play_search.specs.declared.replay.Setting.{Setting}
-use Rattle.actor_plays.specs.declared.found.Found.{Found}
-use Rattle.actor_plays.specs.declared.found.Vanishing.{Vanishing}
+use Rattle.explore_model.specs.declared.found.Found.{Found}
+use Rattle.explore_model.specs.declared.found.Vanishing.{Vanishing}
 use Rattle.play_search.specs.Changes.{changes}
-use Rattle.play_search.specs.Outcomes.{IsOutcome}
 use Rattle.play_search.specs.Vanishings.{is_allowed, may_leave, must_leave, vanished}
 
 -- a pool can have so many pages
@@ -81,15 +83,24 @@ abbrev pub HaveNoTurn : List Plan → Vanishing → Setting → List Turn → �
 HaveNoTurn plans vanishing setting turns actors =
     (actor : ℕ) → actor < actors → HasNoTurn plans vanishing setting turns actor
 
--- a play with these turns and entries has this outcome, and no actor has another turn. Those that left before their end are
+-- the places of steps
+abbrev pub places_of : Vec ℕ Global → List ℕ
+places_of places = places.items
+
+-- the places of an actor's steps whose calls were made
+abbrev pub steps_made : Stage → List ℕ
+steps_made stage = map (λ (m : ℕ × Reply). m.0) stage.made
+
+-- a play with these turns, entries and steps has this outcome, and no actor has another turn. Those that left before their end are
 -- these, and they might. So many times the actor changes
 pub record IsFound (plans : List Plan) (vanishing : Vanishing) (setting : Setting) (found : Found) : Type 0 where
   pub play : Play
   pub replay : IsReplay plans vanishing setting found.turns.items play
   pub told : IsTold play
-  pub outcome : IsOutcome play found.outcome
+  pub outcome : EndsSo (position_of play) found.outcome
   pub ended : HaveNoTurn plans vanishing setting found.turns.items (length plans)
   pub entries : found.entries.items ≡ play.entries.items
+  pub steps : map places_of found.steps.items ≡ map steps_made (stages_of play)
   pub vanished_are : found.vanished.items ≡ vanished vanishing.at_end plans (stages_of play)
   pub allowed : is_allowed vanishing found.vanished.items ≡ true
   pub changes_are : found.figures.changes ≡ changes found.turns.items

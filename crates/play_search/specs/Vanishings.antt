@@ -3,12 +3,12 @@ use Rattle.std.specs.Prelude.{ℕ, zero, suc, Bool, true, false, ◌&&◌, ◌||
 use Rattle.std.specs.Prelude.{nat_lt, if◌then◌else◌, List, [], ◌∷◌, ◌++◌, length, slice_get, Option, is_some}
 use Rattle.std.specs.List.{list_all}
 use Rattle.std.specs.Option.{option_map, option_map_or}
-use Rattle.actor_plays.specs.declared.plan.Plan.{Plan}
-use Rattle.actor_plays.specs.Plans.{steps_of}
+use Rattle.explore_model.specs.declared.plan.Plan.{Plan}
+use Rattle.explore_model.specs.Plans.{steps_of}
 use Rattle.actor_plays.specs.Plays.{Stage, leaves_by}
 use Rattle.actor_plays.specs.Positions.{left_at}
 use Rattle.alike_plays.specs.Ahead.{count_early}
-use Rattle.actor_plays.specs.declared.found.Vanishing.{Vanishing}
+use Rattle.explore_model.specs.declared.found.Vanishing.{Vanishing}
 
 -- so many steps are all of the plan of this place
 abbrev pub is_done : List Plan → ℕ → ℕ → Bool

@@ -1,8 +1,9 @@
 //! The steps that made nodes and collections, each by its number.
 use crate::numbers::small;
 use crate::replay::Ground;
-use actor_plays::{Actor, Plan, Play};
+use actor_plays::{Actor, Play};
 use actor_scripts::Step;
+use explore_model::Plan;
 use sm_names::{CallKind, CollectionId, NodeKey, Reply};
 use std::alloc::{AllocError, Global};
 use std::collections::HashMap;

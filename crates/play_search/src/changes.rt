@@ -2,7 +2,7 @@
 ghost use Rattle.std.specs.Prelude.{◌≡◌};
 ghost use Rattle.play_search.specs.Changes.{changes, is_other as is_another, mover};
 
-use actor_plays::Turn;
+use explore_model::Turn;
 
 // The actor whose turn it is.
 fn mover_of(turn: Turn) -> usize

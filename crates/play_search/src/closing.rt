@@ -11,7 +11,8 @@ use crate::likeness::are_alike;
 use crate::replay::{Ground, is_made, replay};
 use crate::turns::code_of;
 use crate::vanishing::may_go;
-use actor_plays::{Doubt, Play, Turn};
+use actor_plays::Play;
+use explore_model::{Doubt, Turn};
 use std::alloc::{AllocError, Global};
 
 // How much a play of this many calls costs that is made again, in calls, and a look whether it is like another: as many looks

@@ -12,7 +12,8 @@ use crate::graph::Graph;
 use crate::next::is_left_open;
 use crate::replay::{Ground, is_made, replay};
 use crate::turns::{actor_of, is_step};
-use actor_plays::{Doubt, Found, Play};
+use actor_plays::Play;
+use explore_model::{Doubt, Found};
 use std::alloc::AllocError;
 
 // The outcomes that were found, and for each ending its place among them.

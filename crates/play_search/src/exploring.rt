@@ -1,12 +1,13 @@
 //! The search, from the plans of a script to its outcomes.
-ghost use Rattle.std.specs.Prelude.{◌≡◌, ◌≤◌, ◌&&◌, [], All, IfOk, None, OnOk, false, is_some, length, not, true, vec_len};
+ghost use Rattle.std.specs.Prelude.{◌≡◌, ◌≤◌, ◌&&◌, [], All, IfOk, None, false, is_some, length, map, not, true, vec_len};
 ghost use Rattle.sm_names.specs.declared.rules.TheConstants.{MAX_PAGES};
+ghost use Rattle.actor_plays.specs.Endings.{EndsSo};
+ghost use Rattle.actor_plays.specs.Moves.{position_of};
 ghost use Rattle.actor_plays.specs.Plays.{stages_of};
 ghost use Rattle.play_search.specs.Changes.{changes};
 ghost use Rattle.play_search.specs.Closing.{AreAllMet};
 ghost use Rattle.play_search.specs.Ends.{NoneIsMissing};
-ghost use Rattle.play_search.specs.Outcomes.{IsOutcome};
-ghost use Rattle.play_search.specs.Searches.{HaveNoTurn, IsFound, IsPool, IsReplay, IsTold, setup_of};
+ghost use Rattle.play_search.specs.Searches.{HaveNoTurn, IsFound, IsPool, IsReplay, IsTold, places_of as places_told, setup_of, steps_made};
 ghost use Rattle.play_search.specs.Vanishings.{is_allowed, vanished};
 
 use crate::births::bases_of;
@@ -17,14 +18,15 @@ use crate::fault::ExploreFault;
 use crate::graph::{Graph, graph_of};
 use crate::next::Group;
 use crate::order::{Ordered, endings_of, met_of, order_of};
-use crate::outcome::outcome_of;
+use crate::outcome::{outcome_of, steps_of};
 use crate::progress::Progress;
 use crate::replay::{Ground, Setting, have_no_turn, replay};
 use crate::shares::{left_at, lefts_of, number_at, shares_of};
 use crate::unmade::unmade_in;
 use crate::vanishing::{are_allowed, vanished_of};
 use crate::witness::{WayTurn, Ways, goals_of, ways_of};
-use actor_plays::{Doubt, Exploration, Figures, Found, Outcome, Plan, Play, Turn, Vanishing};
+use actor_plays::Play;
+use explore_model::{Doubt, Exploration, Figures, Found, Plan, Turn, Vanishing};
 use script_lines::LabelHash;
 use sm_names::{Call, ClientId, Reply};
 use std::alloc::{AllocError, Global};
@@ -207,11 +209,14 @@ fn found_of(
     ensures turns { IfOk result (λ found. found.turns.items ≡ goal.now.turns.items) }
     ensures entries { IfOk result (λ found. found.entries.items ≡ play.now.entries.items) }
     ensures vanished { IfOk result (λ found. found.vanished.items ≡ vanished.items) }
-    ensures outcome { IfOk result (λ found. IsOutcome play.now found.outcome) }
+    ensures steps { IfOk result
+        (λ found. map places_told found.steps.items ≡ map steps_made (stages_of play.now)) }
+    ensures outcome { IfOk result (λ found. EndsSo (position_of play.now) found.outcome) }
     ensures changes { IfOk result (λ found. found.figures.changes ≡ changes goal.now.turns.items) }
 {
     let turns = goal.turns.clone()?;
     let entries = entries_of(alloc, play)?;
+    let steps = steps_of(alloc, play.actors())?;
     let outcome = outcome_of(alloc, play)?;
     let figures = Figures {
         changes: changes_in(&goal.turns),
@@ -221,6 +226,7 @@ fn found_of(
     Ok(Found {
         turns,
         entries,
+        steps,
         vanished,
         outcome,
         figures,
@@ -407,7 +413,7 @@ fn explored<P: Progress>(
 /// 1,048,576 pages. Actors leave as `vanishing` says. Each outcome has a play in which no actor has another turn, unless one
 /// more may leave before its end, and which comes to it. Where the answer is certified, no outcome is missing: each play in
 /// which all actors have passed what they can is like one of as many plays as values were met, and if no actor has another turn
-/// in it, it ends as one of the outcomes says, but for the names of nodes.
+/// in it, it ends as one of the outcomes says.
 ///
 /// It meets at most `effort.most` values of plays, and stops at the first one more, or where the bytes of the values and
 /// the calls of all plays are 1,024 times as many: the answer is then not complete. `NoMemory` where memory is refused,

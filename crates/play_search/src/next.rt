@@ -10,7 +10,8 @@ use crate::idle::is_idle;
 use crate::replay::Ground;
 use crate::value::{ending_of, level_of, value_of};
 use crate::vanishing::{may_leave, must_leave, vanished_of};
-use actor_plays::{Actor, Play, Turn, Turned};
+use actor_plays::{Actor, Play, Turned};
+use explore_model::Turn;
 use sm_names::StepFault;
 use std::alloc::AllocError;
 

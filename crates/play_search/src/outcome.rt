@@ -1,55 +1,71 @@
 //! What a play comes to.
-ghost use Rattle.std.specs.Prelude.{◌≡◌, map, IfOk};
-ghost use Rattle.actor_plays.specs.Plays.{has_fired as has_fired_among};
-ghost use Rattle.play_search.specs.Outcomes.{IsOutcome, became_in, made_in, told, told_in};
+ghost use Rattle.std.specs.Prelude.{◌≡◌, ℕ, map, IfOk};
+ghost use Rattle.std.specs.List.{flat_map};
+ghost use Rattle.sm_names.specs.declared.messages.Reply.{Reply as Answer};
+ghost use Rattle.explore_model.specs.Outcomes.{end_of};
+ghost use Rattle.actor_plays.specs.Endings.{EndsSo, became_in, end_in, told_of};
+ghost use Rattle.actor_plays.specs.Moves.{position_of};
+ghost use Rattle.actor_plays.specs.Plays.{has_fired as has_fired_among, stage_of};
+ghost use Rattle.play_search.specs.Searches.{places_of, steps_made};
 
-use actor_plays::{Actor, ActorOutcome, Became, Fate, Outcome, Play};
-use sm_names::{Fired, NodeKey, Reply, TrackerId};
+use actor_plays::{Actor, Play};
+use explore_model::{ActorOutcome, Became, Outcome};
+use sm_names::{Fired, Reply, TrackerId};
 use std::alloc::{AllocError, Global};
 
 // Whether the tracker fired.
-fn has_fired(fired: &[Fired], tracker: TrackerId) -> bool
+pub(crate) fn has_fired(fired: &[Fired], tracker: TrackerId) -> bool
     ensures { result ≡ has_fired_among fired.now tracker }
 {
     fired.iter().any(|one| one.tracker == tracker)
 }
 
 // What became of what a call with this reply made.
-fn became_by(play: &Play, reply: Reply) -> Became
-    ensures { result ≡ became_in play.now reply }
+fn became_by(play: &Play, reply: Reply) -> Option<Became>
+    ensures { result ≡ became_in (position_of play.now) reply }
 {
     match reply {
-        Reply::Token { key, .. } => Became::Node(key, play.fate(key)),
-        Reply::Tracker(tracker) => Became::Tracker(has_fired(play.core().fired(), tracker)),
-        _ => Became::Nothing,
+        Reply::Token { key, .. } => Some(Became::Node(play.fate(key))),
+        Reply::Tracker(tracker) => {
+            if has_fired(play.core().fired(), tracker) {
+                Some(Became::Fired)
+            } else {
+                None
+            }
+        }
+        _ => None,
     }
 }
 
-// The same of calls, each with the place of its step.
+// What became of what calls made, each with the place of its step.
 fn made_by(
     alloc: Global,
     play: &Play,
     replies: &[(usize, Reply)],
 ) -> Result<Vec<(usize, Became)>, AllocError>
-    ensures { IfOk result (λ made. made.items ≡ map (made_in play.now) replies.now) }
+    ensures { IfOk result
+        (λ made. made.items ≡ flat_map (told_of (position_of play.now)) replies.now) }
 {
     let mut made = Vec::new(alloc);
     'replies: for (at, reply) in replies {
-        made.push((*at, became_by(play, *reply)))?;
+        if let Some(became) = became_by(play, *reply) {
+            made.push((*at, became))?;
+        }
     }
     Ok(made)
 }
 
 // What came of the actor.
 fn actor_outcome(alloc: Global, play: &Play, actor: &Actor) -> Result<ActorOutcome, AllocError>
-    ensures { IfOk result (λ outcome. told outcome ≡ told_in play.now actor.now) }
+    ensures { IfOk result
+        (λ outcome. end_of outcome ≡ end_in (position_of play.now) (stage_of actor.now)) }
 {
     let made = made_by(alloc, play, &actor.made)?;
-    Ok(ActorOutcome {
-        at: actor.at,
-        left: actor.vanish.is_some(),
-        made,
-    })
+    let at = match actor.vanish {
+        Some(_) => None,
+        None => Some(actor.at),
+    };
+    Ok(ActorOutcome { at, made })
 }
 
 // What came of these actors.
@@ -58,7 +74,8 @@ fn actor_outcomes(
     play: &Play,
     actors: &[Actor],
 ) -> Result<Vec<ActorOutcome>, AllocError>
-    ensures { IfOk result (λ outcomes. map told outcomes.items ≡ map (told_in play.now) actors.now) }
+    ensures { IfOk result (λ outcomes. map end_of outcomes.items
+        ≡ map (end_in (position_of play.now)) (map stage_of actors.now)) }
 {
     let mut outcomes = Vec::new(alloc);
     'actors: for actor in actors {
@@ -69,11 +86,41 @@ fn actor_outcomes(
 
 // What the play comes to.
 pub(crate) fn outcome_of(alloc: Global, play: &Play) -> Result<Outcome, AllocError>
-    ensures { IfOk result (IsOutcome play.now) }
+    ensures { IfOk result (EndsSo (position_of play.now)) }
 {
     let actors = actor_outcomes(alloc, play, play.actors())?;
     Ok(Outcome {
         actors,
         free: play.core().free_pages(),
     })
+}
+
+// The places of the steps that made these calls.
+fn steps_in(alloc: Global, made: &[(usize, Reply)]) -> Result<Vec<usize>, AllocError>
+    ensures { IfOk result (λ places. places.items ≡ map (λ (m : ℕ × Answer). m.0) made.now) }
+{
+    let mut places = Vec::new(alloc);
+    'made: for (at, _) in made {
+        places.push(*at)?;
+    }
+    Ok(places)
+}
+
+// The places of the actor's steps whose calls were made.
+fn actor_steps(alloc: Global, actor: &Actor) -> Result<Vec<usize>, AllocError>
+    ensures { IfOk result (λ places. places_of places ≡ steps_made (stage_of actor.now)) }
+{
+    steps_in(alloc, &actor.made)
+}
+
+// For each of these actors, the places of its steps whose calls were made.
+pub(crate) fn steps_of(alloc: Global, actors: &[Actor]) -> Result<Vec<Vec<usize>>, AllocError>
+    ensures { IfOk result (λ steps. map places_of steps.items
+        ≡ map steps_made (map stage_of actors.now)) }
+{
+    let mut steps = Vec::new(alloc);
+    'actors: for actor in actors {
+        steps.push(actor_steps(alloc, actor)?)?;
+    }
+    Ok(steps)
 }

@@ -1,15 +1,16 @@
 //! Plays that are made again from their turns.
 ghost use Rattle.std.specs.Prelude.{◌≡◌, ◌++◌, ◌∷◌, [], map, length, true, IfOk, OnOk};
 ghost use Rattle.actor_scripts.specs.declared.step.ActorScript.{ActorScript as Script};
-ghost use Rattle.actor_plays.specs.declared.play.Turn.{Turn as Made};
-ghost use Rattle.actor_plays.specs.Plans.{planned, steps_of};
+ghost use Rattle.explore_model.specs.declared.found.Turn.{Turn as Made};
+ghost use Rattle.explore_model.specs.Plans.{planned, steps_of};
 ghost use Rattle.actor_plays.specs.Plays.{AreJoining, IsPlay};
 ghost use Rattle.play_search.specs.Searches.{HasNoTurn, HaveNoTurn, IsOnWay, IsPool, IsReplay, IsTold, MayStay, is_made as is_made_turn};
 
 use crate::fault::ExploreFault;
 use crate::vanishing::{may_go, must_leave};
-use actor_plays::{Plan, Play, Turn, Turned, Vanishing, Waiting, plan_of};
+use actor_plays::{Play, Turned};
 use actor_scripts::ActorScript;
+use explore_model::{Plan, Turn, Vanishing, Waiting, plan_of};
 use sm_names::Limits;
 use std::alloc::{AllocError, Global};
 

@@ -3,7 +3,7 @@ ghost use Rattle.std.specs.Prelude.{◌≡◌, ◌==◌, ◌%◌};
 ghost use Rattle.play_search.specs.Closing.{turn_numbered};
 
 use crate::numbers::small;
-use actor_plays::Turn;
+use explore_model::Turn;
 
 // The number of a turn: two for each actor.
 pub(crate) fn code_of(turn: Turn) -> u32 {

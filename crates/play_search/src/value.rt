@@ -4,14 +4,14 @@ use crate::births::{Births, gains, number_at};
 use crate::core_value::{bit, put_core};
 use crate::falls::{NamedFall, has_name};
 use crate::numbers::{small, small_of};
+use crate::outcome::has_fired;
 use crate::replay::Ground;
 use crate::vanishing::is_early;
-use actor_plays::{Actor, Plan, Play, VanishProgress};
+use actor_plays::{Actor, Play, VanishProgress};
 use actor_scripts::ActorObject;
+use explore_model::Plan;
 use lifetime_core::Core;
-use sm_names::{
-    BufferName, Call, ClientId, CollectionId, Fired, NodeKey, Parcel, Reply, Strength, TrackerId,
-};
+use sm_names::{BufferName, Call, ClientId, CollectionId, NodeKey, Parcel, Reply, Strength};
 use std::alloc::{AllocError, Global};
 
 // How far an actor is that is gone: further than any by its steps.
@@ -58,10 +58,6 @@ fn put_handle(
         Strength::Weak => put(text, 4)?,
     }
     put_buffer(text, births, buffer)
-}
-
-fn has_fired(fired: &[Fired], tracker: TrackerId) -> bool {
-    fired.iter().any(|one| one.tracker == tracker)
 }
 
 // Puts how many handles on the buffer the client has.

@@ -6,7 +6,8 @@ ghost use Rattle.actor_plays.specs.Plays.{stage_of, stages_of};
 ghost use Rattle.play_search.specs.Vanishings.{early_at, early_place, is_allowed, is_done as done_told, is_early as early_told};
 ghost use Rattle.play_search.specs.Vanishings.{may_begin as begin_told, may_go as go_told, may_vanish as may_told, must_leave as must_told, vanished as vanished_told};
 
-use actor_plays::{Actor, Plan, Play, Vanishing};
+use actor_plays::{Actor, Play};
+use explore_model::{Plan, Vanishing};
 use std::alloc::{AllocError, Global};
 
 // Whether so many steps are all of the plan of this place.

@@ -3,7 +3,7 @@ use crate::graph::Graph;
 use crate::numbers::small;
 use crate::order::Ordered;
 use crate::turns::{actor_of, turn_of};
-use actor_plays::Turn;
+use explore_model::Turn;
 use std::alloc::{AllocError, Global};
 
 // A way to a value whose last turn was an actor's: how many calls, how many times another actor took over, where it

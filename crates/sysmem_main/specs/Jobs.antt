@@ -9,7 +9,7 @@ use Rattle.command_line.specs.declared.task.Format.{Format as AskedFormat}
 use Rattle.command_line.specs.declared.task.Search.{Search}
 use Rattle.command_line.specs.declared.task.ScriptTask.{ScriptTask}
 use Rattle.command_line.specs.declared.task.Until.{Until as AskedUntil}
-use Rattle.actor_plays.specs.declared.plan.Waiting.{Waiting}
+use Rattle.explore_model.specs.declared.plan.Waiting.{Waiting}
 use Rattle.outcome_runs.specs.declared.job.SearchJob.{SearchJob}
 use Rattle.outcome_runs.specs.Endings.{EndsExplored}
 use Rattle.script_draw.specs.Draws.{EndsDrawn}

@@ -13,10 +13,10 @@ ghost use Rattle.clap.specs.Words.{kind_of};
 ghost use Rattle.sysmem_main.specs.Jobs.{IsAnswered, IsPlayed, IsRead, format_for, job_for, output_for, repeats_for, streams, until_for, waiting_for};
 ghost use Rattle.sysmem_main.specs.Statuses.{IsRefused, IsUnreadStatus, help_status, refusal_status, unread_status};
 
-use actor_plays::Waiting;
 use clap::error::ErrorKind;
 use clap::{ArgMatches, Error};
 use command_line::{CommandLine, Format, ScriptTask, Search, Until, View, command, request_of};
+use explore_model::Waiting;
 use messages::{Misplaced, NAME, NO_COMMAND, Unopened, misplaced_file, reason_of};
 use outcome_runs::{SearchHost, explore_to_exit};
 use progress::ProgressLine;

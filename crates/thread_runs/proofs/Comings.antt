@@ -8,10 +8,10 @@ use Rattle.actor_scripts.specs.declared.object.StepCall.{StepCall}
 use Rattle.actor_scripts.specs.declared.step.Step.{Step}
 use Rattle.actor_scripts.specs.ActorStates.{Known, state_after, step_call}
 use Rattle.actor_scripts.specs.ScriptRuns.{RunsScript}
-use Rattle.actor_plays.specs.declared.plan.Plan.{Plan}
-use Rattle.actor_plays.specs.declared.plan.Planned.{Planned}
-use Rattle.actor_plays.specs.declared.plan.Waiting.{Waiting}
-use Rattle.actor_plays.specs.Plans.{planned, steps_of}
+use Rattle.explore_model.specs.declared.plan.Plan.{Plan}
+use Rattle.explore_model.specs.declared.plan.Planned.{Planned}
+use Rattle.explore_model.specs.declared.plan.Waiting.{Waiting}
+use Rattle.explore_model.specs.Plans.{planned, steps_of}
 use Rattle.actor_plays.specs.Plays.{Stage, first_stage, leaves_by, left, next_step, passed, stage_after}
 use Rattle.actor_plays.specs.Positions.{Setup}
 use Rattle.thread_runs.proofs.OncePlanLaws.{get-behind, get-end, once, planned-at-once, planned-length}

@@ -16,10 +16,10 @@ use Rattle.client_ends.specs.Clients.{Seen, calls_of, replies_of}
 use Rattle.client_vanish.specs.Vanishings.{HeldObject, Holds, IsGone, Remains, all_objects as all_held, parcels_told, vanishing_call}
 use Rattle.client_actors.specs.ActorSteps.{HasFinished, holds_by_state, pairs_of}
 use Rattle.client_actors.proofs.OnceLaws.{runs-once}
-use Rattle.actor_plays.specs.declared.plan.Plan.{Plan}
-use Rattle.actor_plays.specs.declared.plan.Waiting.{Waiting}
+use Rattle.explore_model.specs.declared.plan.Plan.{Plan}
+use Rattle.explore_model.specs.declared.plan.Waiting.{Waiting}
 use Rattle.actor_plays.specs.Leaves.{Leave, all_objects, going_after, vanishing_call as parting_call, waiting_told}
-use Rattle.actor_plays.specs.Plans.{planned, steps_of}
+use Rattle.explore_model.specs.Plans.{planned, steps_of}
 use Rattle.actor_plays.specs.Plays.{Stage, first_stage, next_step}
 use Rattle.actor_plays.specs.Positions.{Setup}
 use Rattle.thread_runs.proofs.Comings.{ComesThrough, none-next, runs-through, staying}

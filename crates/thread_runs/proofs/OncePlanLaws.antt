@@ -5,9 +5,9 @@ use Rattle.std.proofs.lemmas.Option.{slice_get_cases, slice_get_past, slice_get_
 use Rattle.std.proofs.Math.Nat.{eq-or-lt_of_le}
 use Rattle.std.specs.Option.{option_map_or}
 use Rattle.actor_scripts.specs.declared.step.Step.{Step}
-use Rattle.actor_plays.specs.declared.plan.Planned.{Planned}
-use Rattle.actor_plays.specs.declared.plan.Waiting.{Waiting}
-use Rattle.actor_plays.specs.Plans.{planned, planned_at, planned_first, planned_step}
+use Rattle.explore_model.specs.declared.plan.Planned.{Planned}
+use Rattle.explore_model.specs.declared.plan.Waiting.{Waiting}
+use Rattle.explore_model.specs.Plans.{planned, planned_at, planned_first, planned_step}
 
 -- the step at this place, as it is planned where none waits
 abbrev pub once : ℕ → Step → Planned

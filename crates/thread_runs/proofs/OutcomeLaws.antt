@@ -19,15 +19,15 @@ use Rattle.core_state.proofs.theorem.Leads.{leads_limits, leads_pool}
 use Rattle.service_lock.specs.Comings.{SomeCoreCame}
 use Rattle.actor_scripts.specs.declared.step.Step.{Step}
 use Rattle.client_actors.specs.ActorSteps.{HasFinished, pairs_of}
-use Rattle.actor_plays.specs.declared.plan.Plan.{Plan}
-use Rattle.actor_plays.specs.declared.plan.Waiting.{Waiting}
-use Rattle.actor_plays.specs.Plans.{planned, steps_of}
+use Rattle.explore_model.specs.declared.plan.Plan.{Plan}
+use Rattle.explore_model.specs.declared.plan.Waiting.{Waiting}
+use Rattle.explore_model.specs.Plans.{planned, steps_of}
 use Rattle.actor_plays.specs.Plays.{first_clients, first_stage, joins, leaves_by}
 use Rattle.actor_plays.specs.Positions.{Begins, Position, Setup}
 use Rattle.alike_plays.specs.Ahead.{count_early}
-use Rattle.actor_plays.specs.declared.found.Found.{Found}
+use Rattle.explore_model.specs.declared.found.Found.{Found}
 use Rattle.play_search.specs.declared.replay.Setting.{Setting}
-use Rattle.actor_plays.specs.declared.found.Vanishing.{Vanishing}
+use Rattle.explore_model.specs.declared.found.Vanishing.{Vanishing}
 use Rattle.play_search.specs.Ends.{EndsAsOne, NoneIsMissing}
 use Rattle.play_search.specs.Searches.{setup_of}
 use Rattle.play_search.specs.Vanishings.{began_early, is_done, may_vanish}

@@ -9,9 +9,9 @@ use Rattle.sm_names.specs.Marks.{Entry}
 use Rattle.sm_names.proofs.SamenessLaws.{some-injective}
 use Rattle.core_state.specs.State.{State}
 use Rattle.core_state.specs.Theorem.{Leads, Makes}
-use Rattle.actor_plays.specs.declared.plan.Plan.{Plan}
-use Rattle.actor_plays.specs.declared.plan.Planned.{Planned}
-use Rattle.actor_plays.specs.Plans.{steps_of}
+use Rattle.explore_model.specs.declared.plan.Plan.{Plan}
+use Rattle.explore_model.specs.declared.plan.Planned.{Planned}
+use Rattle.explore_model.specs.Plans.{steps_of}
 use Rattle.actor_plays.specs.Plays.{Stage, leaves_by, next_step}
 use Rattle.actor_plays.specs.Positions.{Asks, Position, Rests, Setup}
 use Rattle.actor_plays.proofs.PositionLaws.{done_rests}

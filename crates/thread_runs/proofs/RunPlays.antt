@@ -12,8 +12,8 @@ use Rattle.core_state.specs.Theorem.{Makes}
 use Rattle.core_state.proofs.theorem.GoesOn.{goes_on}
 use Rattle.actor_scripts.specs.declared.object.StepCall.{StepCall}
 use Rattle.actor_scripts.specs.ActorStates.{step_call}
-use Rattle.actor_plays.specs.declared.play.Turn.{Turn}
-use Rattle.actor_plays.specs.declared.plan.Planned.{Planned}
+use Rattle.explore_model.specs.declared.found.Turn.{Turn}
+use Rattle.explore_model.specs.declared.plan.Planned.{Planned}
 use Rattle.actor_plays.specs.Fates.{AreFalls, falls_at}
 use Rattle.actor_plays.specs.Plays.{Plays, Stage, is_silent, is_wait, joins, leaves_by, left, next_step, passed, stage_after}
 use Rattle.actor_plays.specs.Positions.{Begins, Calls, Fell, Leaves, Passes, Position, Reached, Setup, left_at}

@@ -3,7 +3,7 @@ use Rattle.std.specs.Prelude.{ℕ, ◌≡◌, ◌≤◌, List, ◌++◌}
 use Rattle.std.specs.List.{All}
 use Rattle.sm_names.specs.Marks.{Entry}
 use Rattle.core_state.specs.Shown.{Shows}
-use Rattle.actor_plays.specs.declared.play.Turn.{Turn}
+use Rattle.explore_model.specs.declared.found.Turn.{Turn}
 use Rattle.actor_plays.specs.Fates.{AreFalls}
 use Rattle.actor_plays.specs.Plays.{Plays, first_clients, joins}
 use Rattle.actor_plays.specs.Positions.{Position, Reached, Setup}

@@ -2,13 +2,13 @@
 ghost use Rattle.std.specs.Prelude.{◌≡◌, ℕ, true, List, map};
 ghost use Rattle.sm_names.specs.Bounds.{Bound};
 ghost use Rattle.actor_scripts.specs.ActorLists.{Actors};
-ghost use Rattle.actor_plays.specs.declared.plan.Plan.{Plan};
-ghost use Rattle.actor_plays.specs.declared.plan.Waiting.{Waiting};
-ghost use Rattle.actor_plays.specs.Plans.{planned, steps_of};
+ghost use Rattle.explore_model.specs.declared.plan.Plan.{Plan};
+ghost use Rattle.explore_model.specs.declared.plan.Waiting.{Waiting};
+ghost use Rattle.explore_model.specs.Plans.{planned, steps_of};
 ghost use Rattle.actor_plays.specs.Positions.{Position};
-ghost use Rattle.actor_plays.specs.declared.found.Found.{Found};
+ghost use Rattle.explore_model.specs.declared.found.Found.{Found};
 ghost use Rattle.play_search.specs.declared.replay.Setting.{Setting};
-ghost use Rattle.actor_plays.specs.declared.found.Vanishing.{Vanishing};
+ghost use Rattle.explore_model.specs.declared.found.Vanishing.{Vanishing};
 ghost use Rattle.play_search.specs.Ends.{EndsAsOne, NoneIsMissing};
 ghost use Rattle.play_search.specs.Searches.{setup_of};
 ghost use Rattle.thread_runs.specs.declared.job.Output.{Output};

@@ -1,7 +1,7 @@
 use Rattle.std.proofs.Common.{◌∙◌, List, ap, subst}
 use Rattle.std.proofs.lemmas.Result.{IfErr-weaker, IfOk-weaker}
 use Rattle.std.specs.Prelude.{IfErr, IfOk}
-use Rattle.actor_plays.specs.declared.found.Vanishing.{Vanishing}
+use Rattle.explore_model.specs.declared.found.Vanishing.{Vanishing}
 use Rattle.outcome_texts.specs.ClaimLines.{Text, claim_texts_of, texts_in, who_told}
 use Rattle.outcome_texts.specs.Lines.{steps_in}
 use Rattle.outcome_runs.specs.Searches.{IsFoundBy, IsUnfound, list_asked}

@@ -1,7 +1,7 @@
 use Rattle.std.proofs.Common.{◌∙◌, List, ap, map}
 use Rattle.std.proofs.lemmas.Result.{IfErr-weaker, IfOk-weaker}
 use Rattle.actor_scripts.specs.declared.step.ActorScript.{ActorScript}
-use Rattle.actor_plays.specs.Plans.{planned}
+use Rattle.explore_model.specs.Plans.{planned}
 use Rattle.outcome_runs.proofs.Reading.{unheld_in}
 use Rattle.outcome_runs.proofs.telling.told_in.Goals as goal
 

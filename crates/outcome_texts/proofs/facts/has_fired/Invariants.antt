@@ -1,7 +1,8 @@
 use Rattle.std.proofs.Common.{◌≡◌}
+use Rattle.explore_model.specs.Outcomes.{ends_of}
 use Rattle.outcome_texts.specs.Facts.{any_below, has_fired}
 use Rattle.outcome_texts.proofs.facts.has_fired.Given as goal
 
 -- so far one of the actors did, or none
 abbrev pub invariant-actors : goal.invariant-actors
-invariant-actors l = l.found ≡ any_below (has_fired l.telling l.outcome l.name) l.actor
+invariant-actors l = l.found ≡ any_below (has_fired l.telling (ends_of l.outcome).actors l.name) l.actor

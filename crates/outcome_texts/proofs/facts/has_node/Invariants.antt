@@ -1,7 +1,8 @@
 use Rattle.std.proofs.Common.{◌≡◌}
+use Rattle.explore_model.specs.Outcomes.{ends_of}
 use Rattle.outcome_texts.specs.Facts.{any_below, has_node}
 use Rattle.outcome_texts.proofs.facts.has_node.Given as goal
 
 -- so far one of the actors did, or none
 abbrev pub invariant-actors : goal.invariant-actors
-invariant-actors l = l.found ≡ any_below (has_node l.telling l.outcome l.name l.fact) l.actor
+invariant-actors l = l.found ≡ any_below (has_node l.telling (ends_of l.outcome).actors l.name l.fact) l.actor

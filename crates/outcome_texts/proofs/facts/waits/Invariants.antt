@@ -1,7 +1,8 @@
 use Rattle.std.proofs.Common.{◌≡◌}
+use Rattle.explore_model.specs.Outcomes.{ends_of}
 use Rattle.outcome_texts.specs.Facts.{any_below, waits}
 use Rattle.outcome_texts.proofs.facts.waits.Given as goal
 
 -- so far one of the actors does, or none
 abbrev pub invariant-actors : goal.invariant-actors
-invariant-actors l = l.found ≡ any_below (waits l.telling l.outcome l.client) l.actor
+invariant-actors l = l.found ≡ any_below (waits l.telling (ends_of l.outcome).actors l.client) l.actor

@@ -6,7 +6,7 @@ use Rattle.actor_plays.specs.Plays.{stage_of}
 use Rattle.alike_cores.specs.Cores.{AreAlikeCores}
 use Rattle.alike_plays.specs.Ahead.{ahead_of}
 use Rattle.alike_plays.specs.AlikePlays.{AreAlikeAll}
-use Rattle.alike_plays.specs.Outcomes.{FellAlike}
+use Rattle.alike_plays.specs.Falls.{FellAlike}
 use Rattle.core_likeness.specs.Naming.{new_id, new_key, new_number}
 use Rattle.core_likeness.proofs.Swapping.{ids-apart, keys-apart, numbers-apart}
 use Rattle.play_likeness.proofs.plays.plays_are_alike.Goals as goal

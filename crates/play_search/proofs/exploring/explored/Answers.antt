@@ -1,5 +1,5 @@
 use Rattle.std.proofs.Common.{List, subst}
-use Rattle.actor_plays.specs.declared.found.Found.{Found}
+use Rattle.explore_model.specs.declared.found.Found.{Found}
 use Rattle.play_search.specs.Ends.{NoneIsMissing}
 use Rattle.play_search.specs.Searches.{setup_of}
 use Rattle.play_search.proofs.exploring.explored.Goals as goal

@@ -19,6 +19,7 @@ returns c =
       outcome = shown.outcome;
       ended = subst (λ turns. HaveNoTurn plans vanishing setting turns (length plans)) (sym shown.turns) c.requires.ended;
       entries = shown.entries;
+      steps = shown.steps;
       vanished_are = shown.vanished ∙ c.in_ok-vanished.ensures.are;
       allowed = subst (λ places. is_allowed vanishing places ≡ true) (sym shown.vanished) c.in_ok-vanished.ensures.allowed;
       changes_are = shown.changes ∙ ap changes (sym shown.turns);

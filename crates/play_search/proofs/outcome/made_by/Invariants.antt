@@ -1,7 +1,9 @@
-use Rattle.std.proofs.Common.{◌≡◌, map, take}
-use Rattle.play_search.specs.Outcomes.{made_in}
+use Rattle.std.proofs.Common.{◌≡◌, take}
+use Rattle.std.specs.List.{flat_map}
+use Rattle.actor_plays.specs.Endings.{told_of}
+use Rattle.actor_plays.specs.Moves.{position_of}
 use Rattle.play_search.proofs.outcome.made_by.Given as goal
 
--- so far what became of these calls
+-- so far what became of what these calls made
 abbrev pub invariant-replies : goal.invariant-replies
-invariant-replies l = l.made.items ≡ map (made_in l.play) (take l.at-index l.replies)
+invariant-replies l = l.made.items ≡ flat_map (told_of (position_of l.play)) (take l.at-index l.replies)

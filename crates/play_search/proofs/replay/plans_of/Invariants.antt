@@ -1,6 +1,6 @@
 use Rattle.std.proofs.Common.{◌≡◌, map, take}
 use Rattle.actor_scripts.specs.declared.step.ActorScript.{ActorScript}
-use Rattle.actor_plays.specs.Plans.{planned, steps_of}
+use Rattle.explore_model.specs.Plans.{planned, steps_of}
 use Rattle.play_search.proofs.replay.plans_of.Given as goal
 
 -- so far the plans of these scripts

@@ -1,5 +1,5 @@
 use Rattle.std.proofs.Common.{◌∙◌, List, Ok, ap, subst}
-use Rattle.actor_plays.specs.declared.play.Turn.{Turn}
+use Rattle.explore_model.specs.declared.found.Turn.{Turn}
 use Rattle.actor_plays.specs.Moves.{position_of}
 use Rattle.actor_plays.specs.Positions.{ReachedBy}
 use Rattle.play_search.specs.Searches.{setup_of}

@@ -1,0 +1,8 @@
+use Rattle.std.proofs.Common.{◌≡◌, map, take}
+use Rattle.actor_plays.specs.Plays.{stage_of}
+use Rattle.play_search.specs.Searches.{places_of, steps_made}
+use Rattle.play_search.proofs.outcome.steps_of.Given as goal
+
+-- so far the steps of these actors
+abbrev pub invariant-actors : goal.invariant-actors
+invariant-actors l = map places_of l.steps.items ≡ map steps_made (map stage_of (take l.actor-index l.actors))
