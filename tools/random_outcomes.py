@@ -3,13 +3,13 @@
 
   tools/random_outcomes.py [-j LANES] PROGRAM [COUNT] [SEED]
 
-PROGRAM is a built `sysmem`. It explores FIXED and then COUNT random scripts (500 if not given), with the words of WAYS in turn;
-so does `plain-explore` of `bench/plain`, which joins only orders after which all is the same, over the plain core.
+PROGRAM is a built `sysmem`. It explores FIXED and then COUNT random scripts (500 if not given), these with the words of WAYS in
+turn; so does `plain-explore` of `bench/plain`, which joins only orders after which all is the same, over the plain core.
 
 The plain core must come through each schedule of `--outcome` to its end, and the outcomes of these schedules must be all of
 the plain search and no others. The rows of the report must agree with them, and so must the shares of the runs, the numbers of
 orders and of calls, the lines that no order makes, and what is said of each claim. `sysmem run` must answer each line of a
-schedule, and `sysmem check` accept it with these replies. Scripts with too many states are skipped. Equal seeds give equal
+schedule, and `sysmem check` accept it with these replies. Random scripts with too many states are skipped. Equal seeds give equal
 scripts. The last line counts; the status is 1 if something differs."""
 import os
 import random
@@ -32,29 +32,12 @@ WAYS = [
     )
 ]
 
-# So many states of the plain search at most, and so many times the outcomes.
+# So many states of the plain search of a random script at most, and so many times the outcomes.
 MOST_STATES, MOST_PLAYED = 3000, 40_000
 
-# Scripts of which an exploration once lost an outcome, called a false claim true, stopped, or said that a tracker is not made
-# which some orders make.
-FIXED = [
-    (["--pages", "16"], "open n1; weak n1; dup n1 m; give m b; bind n1; constrain n1 1 0 4096",
-     "collect n3; bind n3; constrain n3 2 3 9000; take n3; take n3"),
-    (["--end", "#! never n2 fails misused"], "open m; weak m; dup m n2; give n2 b",
-     "collect m; bind m; constrain m 0 3 20000; take m; take m"),
-    ([], "open r; weak r; dup r k; bind k; constrain k 1 0 4096; take k; take k", ""),
-    (["--vanish", "b"], "open r; dup r k; dispensable k; give k b; bind r; constrain r 1 0 4096",
-     "collect m; collect m; bind m; constrain m 1 0 4096; tracklife m 0 w"),
-    (["--certify"], "open r; give r b", "collect s; tracknode s g"),
-]
-
-
-def fixed(number):
-    """The fixed script of this number, and how it is explored."""
-    words, *steps = FIXED[number]
-    lines = [word for word in words if word.startswith("#")] + ["a join", "b join"]
-    lines += [f"{client} {step}" for client, line in zip("ab", steps) for step in line.split("; ") if step]
-    return "\n".join(lines) + "\n", [word for word in words if not word.startswith("#")]
+# Scripts that are explored each time, behind `= WORDS`. The first ones are those of which an exploration once lost an outcome,
+# called a false claim true, stopped, or said that a tracker is not made which some orders make.
+FIXED = [part.split("\n", 1) for part in ("\n" + (Path(__file__).parent / "outcome_scripts").read_text()).split("\n=")[1:]]
 
 
 class Writer:
@@ -370,7 +353,8 @@ class Trial:
 def trial_of(program, plain, number, seed):
     """The script of this number: one of FIXED below 0."""
     if number < 0:
-        return Trial(program, plain, *fixed(number))
+        words, script = FIXED[number]
+        return Trial(program, plain, script.rstrip("\n") + "\n", words.split())
     draw = random.Random(f"{seed} {number}")
     way = WAYS[number % len(WAYS)] + ["--pages", draw.choice(["3", "6", "16", "64"])]
     script = Writer(draw).script(can_shut="--vanish" not in way, has_claims=True)
@@ -390,8 +374,8 @@ def main():
     with ThreadPoolExecutor(lanes) as pool:
         for number, (trial, fault) in enumerate(pool.map(lambda trial: (trial, trial.verdict()), trials), -len(FIXED)):
             tried += trial.outcomes
-            skipped += fault == "skipped"
-            if fault and fault != "skipped":
+            skipped += fault == "skipped" and number >= 0
+            if fault and (number < 0 or fault != "skipped"):
                 faults += 1
                 print(f"script {number}: explore {' '.join(trial.way)}: {fault}\n{trial.script}", flush=True)
     print(f"{count + len(FIXED)} scripts, {skipped} skipped, {tried} outcomes, {faults} faults")

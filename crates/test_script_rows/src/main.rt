@@ -4,30 +4,17 @@
 //!     = explain WORDS, = check WORDS    begins a script that is explained; a transcript that is checked
 //!     = failures WORDS                  begins a script of which only the failures are explained
 //!     = summary WORDS                   begins a script that is explained, with a summary
-//!     = explore WORDS, = explore K      begins a script of actors that is explored; one of which outcome K is played
-//!     = once WORDS, = once K            the same, where no line waits
-//!     = plain WAYS                      begins one whose orders are all played one by one, as these words say: `once`, `patient`,
-//!                                       `end` where actors leave at their end, a number of those that leave at any point, and
-//!                                       `certify` where the search has to
 //!     = text EVENT, = dot EVENT, = svg EVENT
 //!                                       begins a script whose trees are drawn after this event, or after its last line
 //!     = text line N, = text failure K   begins one whose trees are drawn after this line, or this failure
 //!     @ pages N                         sets the pages of its pool, 16 by default
-//!     @ states N                        sets how many states a search meets at most, 1,000 by default
-//!     @ most N, @ end                   sets how many clients vanish at most where a line lets them; each vanishes at its end
-//!     @ certify                         lets a search certify its report
 //!     @ limits EVENTS NODES COLLECTIONS TRACKERS HANDLES
 //!                                       sets its limits, the greatest by default
 #![tactic(auto)]
 
-mod plain;
 mod setting;
 mod task;
 
-use actor_plays::Waiting;
-use outcome_runs::{DoubtLine, Ending, SearchHost, SearchJob, explore_script};
-use plain::push_plain;
-use play_search::Silent;
 use report_io::behind;
 use script_draw::{DrawJob, View, draw_script};
 use script_explain::{ExplainJob, ReportFault, Scope, check_script, explain_script};
@@ -79,68 +66,6 @@ fn draw(
     let Setting { pages, limits, .. } = setting;
     let job = DrawJob { pages, view };
     draw_script(alloc, [0; 16], &mut reader, out, job, limits)
-}
-
-// Appends what is told of the outcomes of the script.
-fn explore(
-    alloc: Global,
-    setting: Setting,
-    once: bool,
-    outcome: Option<u64>,
-    script: &[u8],
-    out: &mut Vec<u8>,
-) -> Result<(), ReportFault> {
-    let mut reader = script;
-    let job = SearchJob {
-        pages: setting.pages.count,
-        waiting: if once {
-            Waiting::Never
-        } else {
-            Waiting::Repeated
-        },
-        at_end: setting.at_end,
-        vanish: None,
-        most: u64::from(setting.most),
-        outcome,
-        states: u64::from(setting.states),
-        certifies: setting.certifies,
-    };
-    let host = SearchHost {
-        alloc,
-        progress: &Silent,
-    };
-    let ending = explore_script(host, [0; 16], &mut reader, out, job)?;
-    Ok(push_ending(alloc, ending, out)?)
-}
-
-// Why a search did not certify, if it was to.
-fn doubt_of(ending: Ending) -> Option<DoubtLine> {
-    match ending {
-        Ending::Unsure(doubt) => Some(doubt),
-        Ending::Broken(doubt) => doubt,
-        _ => None,
-    }
-}
-
-// Appends how a search ended.
-fn push_ending(alloc: Global, ending: Ending, out: &mut Vec<u8>) -> Result<(), AllocError> {
-    if let Some(doubt) = doubt_of(ending) {
-        let text = format!(in alloc; "! {doubt}\n")?;
-        out.extend_from_slice(text.as_bytes())?;
-    }
-    out.extend_from_slice(end_text(ending))
-}
-
-// What else is told of it.
-fn end_text(ending: Ending) -> &'static [u8] {
-    match ending {
-        Ending::Whole | Ending::Unsure(_) => b"",
-        Ending::Part => b"! not all orders were gone through\n",
-        Ending::Broken(_) => b"! a claim does not hold\n",
-        Ending::Missing => b"! there is no such outcome\n",
-        Ending::Unknown => b"! a client that is to vanish does not join\n",
-        Ending::Unlike => b"! a play went on otherwise\n",
-    }
 }
 
 // Appends the replies to the script with this seed of its tables, and its fault, if it has one.
@@ -207,11 +132,9 @@ fn push_played(
 ) -> Result<(), AllocError> {
     let ended = match task {
         Task::Run => return run(alloc, setting, script, out),
-        Task::Plain(manner) => return push_plain(out, alloc, *setting, manner, script),
         Task::Explain(scope) => explain(alloc, *setting, scope, script, out),
         Task::Check => check(alloc, *setting, script, out),
         Task::Draw(view) => draw(alloc, *setting, view, script, out),
-        Task::Explore { once, outcome } => explore(alloc, *setting, once, outcome, script, out),
     };
     push_end(ended, out)
 }

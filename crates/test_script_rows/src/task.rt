@@ -1,6 +1,4 @@
 //! What is done with a script.
-use crate::plain::Manner;
-use actor_plays::Waiting;
 use script_draw::{Format, Until, View};
 use script_explain::Scope;
 use test_streams::decimal;
@@ -12,12 +10,10 @@ pub enum Task {
     Explain(Scope),
     Check,
     Draw(View),
-    Explore { once: bool, outcome: Option<u64> },
-    Plain(Manner),
 }
 
-/// What the title says: `run`, `explain`, `failures`, `summary` or `check`, and any words; `explore` or `once`, and an outcome; `plain`, and a manner; or
-/// `text`, `dot` or `svg`, and an event, or `line` or `failure` and its number.
+/// What the title says: `run`, `explain`, `failures`, `summary` or `check`, and any words; or `text`, `dot` or `svg`, and an
+/// event, or `line` or `failure` and its number.
 pub fn task_of(title: &str) -> Task {
     let (verb, rest) = title.split_once(' ').unwrap_or((title, ""));
     match verb {
@@ -26,9 +22,6 @@ pub fn task_of(title: &str) -> Task {
         "failures" => explained(true, false),
         "summary" => explained(false, true),
         "check" => Task::Check,
-        "explore" => explored(false, rest),
-        "once" => explored(true, rest),
-        "plain" => Task::Plain(manner_of(rest)),
         _ => drawn(verb, rest),
     }
 }
@@ -52,35 +45,6 @@ fn explained(only_failures: bool, has_summary: bool) -> Task {
         only_failures,
         has_summary,
     })
-}
-
-// A search for the outcome of this number, or for all.
-fn explored(once: bool, number: &str) -> Task {
-    let outcome = match decimal(number) {
-        Some(number) => Some(u64::from(number)),
-        None => None,
-    };
-    Task::Explore { once, outcome }
-}
-
-// The manner of these words: `once`, `patient`, `end`, `certify`, and how many leave at any point.
-fn manner_of(words: &str) -> Manner {
-    let mut manner = Manner {
-        waiting: Waiting::Repeated,
-        at_end: false,
-        most: 0,
-        certifies: false,
-    };
-    for word in words.split_whitespace() {
-        match word {
-            "once" => manner.waiting = Waiting::Never,
-            "patient" => manner.waiting = Waiting::Always,
-            "end" => manner.at_end = true,
-            "certify" => manner.certifies = true,
-            _ => manner.most = decimal(word).unwrap_or(0) as usize,
-        }
-    }
-    manner
 }
 
 // Behind what the trees are drawn: an event, a line or a failure; the last line where there is no number.
