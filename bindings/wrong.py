@@ -42,8 +42,8 @@ WRONG = [
     ('state','the core goes with the Service','if (--state.users == 0) last','if (state.users-- > 0) last'),
     ('state','gifts wake nobody','        (*at)->given.tell();',''),
     ('state','gifts are not counted','        (*at)->parcels++;',''),
-    ('state','labels of live nodes go first','at = kept.has(at->first) ? std::next(at) : labels.erase(at);','at = kept.has(at->first) ? labels.erase(at) : std::next(at);'),
-    ('state','labels are never dropped','at = kept.has(at->first) ? std::next(at) : labels.erase(at);','++at;'),
+    ('record','labels of live nodes go first','at = has(kept, at->first) ? std::next(at) : labels.erase(at);','at = has(kept, at->first) ? labels.erase(at) : std::next(at);'),
+    ('state','labels are never dropped','        keep_only(labels, kept.nodes);\n',''),
     ('state','the origin has no label','        error.label = label(error.origin);\n',''),
     ('hpp','a given end stays ours','        a.state->erase(a, row);\n        a.state->tell_gift(to, detail::Post(node));\n        account = nullptr;\n        return {};\n    }\n    /// Spends the end','        a.state->tell_gift(to, detail::Post(node));\n        account = nullptr;\n        return {};\n    }\n    /// Spends the end'),
     ('hpp','a given end closes','        a.state->erase(a, row);\n        a.state->tell_gift(to, detail::Post(node));\n        account = nullptr;\n        return {};\n    }\n    /// Spends the end','        a.state->tell_gift(to, detail::Post(node));\n        guard.stay();\n        return {};\n    }\n    /// Spends the end'),
@@ -129,7 +129,11 @@ WRONG = [
     ('words','a copied result has no value','        if (has_value) ::new (static_cast<void *>(&value)) T(other.value);','        if (false) ::new (static_cast<void *>(&value)) T(other.value);'),
     ('words','an assigned result keeps its kind','        has_value = true;\n','        has_value = false;\n'),
     ('words','a result leaves its value','        if (has_value) value.~T();\n        else error.~Error();','        if (!has_value) error.~Error();'),
-    ('record','labels of forgotten nodes stay','at = kept.has(at->first) ? std::next(at) : nodes.erase(at);','++at;'),
+    ('words','all events are kept','ring->events.size())] = lines;','ring->events.size())] += lines;'),
+    ('words','the last events begin too early','if (count - from > events.size()) from','if (count - from > events.size() + 1) from'),
+    ('words','no failure is written','lines.compare(reply, 7, "closed ") && ','true || '),
+    ('words','a failure is written again','        ring->written = ring->count;\n',''),
+    ('record','labels of forgotten nodes stay','            keep_only(nodes, kept.nodes);\n',''),
 ]
 
 

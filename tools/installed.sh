@@ -1,7 +1,8 @@
 #!/usr/bin/env bash
 # Installs the bindings into a temporary prefix, and builds there a program of fifteen lines in C, C++ and Rust as their users
 # would: by pkg-config (against the shared library and the static one), by CMake (both) and by cargo; and the program of
-# docs/TUTORIAL.md. Then it unpacks what `make dist` packs, checks its checksums, and builds the C++ program against that. It
+# docs/TUTORIAL.md. Then it unpacks what `make dist` packs, twice the same, checks its checksums, and builds the C++ program
+# against that. With dpkg-buildpackage it also makes the packages for Debian, and installs, uses and removes them in a folder. It
 # needs cc, c++, make, pkg-config, cmake and cargo, and crates/sysmem/out/libsysmem.a, which `rt lib` leaves.
 set -euo pipefail
 cd "$(dirname "$0")/.."
@@ -70,9 +71,16 @@ expect() { # what is wanted, the program and its words
   [ "$told" = "$wanted" ] || { echo "$1: $told"; exit 1; }
 }
 
+# One version stands everywhere.
+version=$(sed -n 's/^version := //p' bindings/Makefile)
+for file in bindings/rust/Cargo.toml bindings/packaging/debian/changelog README.md; do
+  grep -qwF "$version" $file || { echo "$file is of another version than $version" && exit 1; }
+done
+[ "$version" = "$(sed -n 's/^#define SYSMEM_VERSION_M*[A-Z]* //p' include/sysmem.h | paste -sd .)" ]
+
 make -s -C bindings install prefix="$prefix" >"$room/log"
 export PKG_CONFIG_PATH=$prefix/lib/pkgconfig
-[ "$(pkg-config --modversion sysmem)" = 0.1.0 ]
+[ "$(pkg-config --modversion sysmem)" = "$version" ]
 # The library lies in no folder that the loader looks in by itself.
 c++ -std=c++17 "$room/app.cpp" $(pkg-config --cflags --libs sysmem) -Wl,-rpath,"$prefix/lib" -o "$room/app"
 expect "$lost" "$room/app"
@@ -81,6 +89,19 @@ expect NoSuchClient "$room/app"
 c++ -std=c++17 "$room/app.cpp" $(pkg-config --cflags sysmem) "$prefix/lib/libsysmem.a" -o "$room/app"
 expect "$lost" "$room/app"
 say "pkg-config: C and C++, shared and static"
+
+# A library of another version than the header: `open` says so.
+cat >"$room/open.cpp" <<'END'
+#include <sysmem.hpp>
+#include <cstdio>
+int main() { std::puts(sysmem::Service::open().error().message().c_str()); }
+END
+cp -r "$prefix/include" "$room/newer"
+sed -i 's/^#define SYSMEM_VERSION_MAJOR .*/#define SYSMEM_VERSION_MAJOR 7/' "$room/newer/sysmem.h"
+c++ -std=c++17 "$room/open.cpp" -I"$room/newer" $(pkg-config --libs sysmem) -Wl,-rpath,"$prefix/lib" -o "$room/app"
+is=$(printf '%d%02d%02d' ${version//./ } | sed 's/^0*//') least=$(echo "$version" | cut -d . -f 2)
+expect "bad limits: the library's version is $is, and must be $((70000 + 100 * least)) to 79999" "$room/app"
+say "the versions of header and library"
 
 # The program of the tutorial prints what its page shows.
 blocks() { # the code blocks of this language on the page of the tutorial
@@ -120,6 +141,8 @@ expect "$lost" "$room/rust/target/debug/app"
 say "cargo"
 
 make -s -C bindings dist >"$room/log"
+make -s -C bindings dist build="$room/again" >"$room/log"
+cmp bindings/build/sysmem-*.tar.gz "$room"/again/sysmem-*.tar.gz
 mkdir "$room/dist"
 tar -C "$room/dist" -xzf bindings/build/sysmem-*.tar.gz
 cd "$room/dist"/sysmem-*
@@ -133,4 +156,21 @@ expect "$lost" "$room/app"
 exported=$(nm -D --defined-only lib/libsysmem.so | awk '$2 == "T" { sub(/@.*/, "", $3); print $3 }' | sort)
 declared=$(grep -o '^uint32_t sysmem_[a-z_]*' "$top/include/sysmem.h" | cut -d ' ' -f 2 | sort)
 [ "$exported" = "$declared" ] || { diff <(echo "$exported") <(echo "$declared"); exit 1; }
-say "the archive that is passed on, its licences, and the names that the shared library exports"
+say "the archive that is passed on, twice the same, its licences, and the names that the shared library exports"
+
+command -v dpkg-buildpackage >/dev/null || { say "no dpkg-buildpackage: the packages for Debian were left out"; exit 0; }
+make -s -C "$top/bindings" deb build="$room/again" >"$room/log" 2>&1 || { tail "$room/log"; exit 1; }
+root=$room/root
+mkdir -p "$root"/var/lib/dpkg/{info,updates,triggers}
+touch "$root"/var/lib/dpkg/{status,available}
+in_root() { # words of dpkg
+  $([ "$(id -u)" = 0 ] || echo fakeroot) dpkg --root="$root" --force-not-root --force-depends --log=/dev/null "$@" \
+    >"$room/log" 2>&1 || { cat "$room/log"; exit 1; }
+}
+in_root -i "$room"/again/deb/*.deb
+export PKG_CONFIG_PATH=$root/usr/lib/pkgconfig
+c++ -std=c++17 "$room/app.cpp" $(pkg-config --cflags --libs sysmem) -Wl,-rpath,"$root/usr/lib" -o "$room/app"
+expect "$lost" "$room/app"
+in_root -P $(cd "$room/again/deb" && for file in *.deb; do echo "${file%%_*}"; done)
+[ -z "$(find "$root" -type f ! -path "$root/var/*")" ]
+say "packages for Debian, installed, used and removed"

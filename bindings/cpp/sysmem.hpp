@@ -79,10 +79,10 @@ public:
     /// mutex: in the thread whose call fires the tracker, or in this call if the tracker has fired.
     /// It stays when the Tracker is destroyed, and must not throw. Threads that wait for the tracker
     /// may return before or while the callback runs, so it must own what it uses.
-    void on_fired(std::function<void(Event)> then) {
+    void on_fired(Callback<Event> then) {
         std::unique_lock<std::mutex> lock(reader->state->mutex);
         if (!poll()) {
-            watch().then.swap(then);
+            std::swap(watch().then, then);
             return lock.unlock(); // the earlier callback is destroyed without the mutex
         }
         lock.unlock();
@@ -228,7 +228,7 @@ public:
     /// the others; at once if this is so now. It runs as a tracker's callback does, and stays when
     /// the Handle or its client is gone. Without `then` the client's pending() names the buffer, and
     /// its fd() becomes readable.
-    Result<void> on_idle(std::uint32_t most, std::function<void(Buffer)> then = nullptr) const {
+    Result<void> on_idle(std::uint32_t most, Callback<Buffer> then = nullptr) const {
         if (!account) return spent();
         auto idle = std::make_shared<detail::Idle>();
         idle->most = most;
@@ -604,19 +604,21 @@ private:
             auto at = std::find_if(kept->begin(), kept->end(), [&](const auto &n) { return key_of(n.key) == key; });
             return at == kept->end() ? nullptr : &*at;
         };
-        std::vector<Waits> all;
+        std::vector<std::uint64_t> heads; // of the node's unit, and of the pending units above it
         const sysmem_node *n = find(node);
         while (n && detail::State::state_of(*n) == 0) {
             Key head = key_of(n->head);
-            for (const sysmem_node &m : *kept)
-                if (key_of(m.head) == head && m.collection == tree &&
-                    !(m.flags & (SYSMEM_NODE_GONE | SYSMEM_NODE_RELEASED | SYSMEM_NODE_CONSTRAINED)))
-                    all.push_back(waits(s, m));
+            heads.push_back(detail::number_of(head));
             const sysmem_node *top = find(head);
             if (!top || key_of(top->parent) == head) break;
             n = find(key_of(top->parent));
         }
-        std::sort(all.begin(), all.end(), [](const Waits &a, const Waits &b) { return a.event < b.event; });
+        std::sort(heads.begin(), heads.end());
+        std::vector<Waits> all; // by birth, as the kept nodes of a collection are
+        for (const sysmem_node &m : *kept)
+            if (m.collection == tree && detail::has(heads, detail::number_of(key_of(m.head))) &&
+                !(m.flags & (SYSMEM_NODE_GONE | SYSMEM_NODE_RELEASED | SYSMEM_NODE_CONSTRAINED)))
+                all.push_back(waits(s, m));
         return all;
     }
     /// Called under the mutex. Empty if memory is refused: the wait goes on.
@@ -856,7 +858,8 @@ private:
     detail::Account *account;
 };
 
-/// One core, which all copies share.
+/// One core, which all copies share. It has no bytes of its own: those of its buffers are in Options::memory, or are the
+/// program's, who then looks them up by their Buffer.
 class Service {
     friend struct Raw; // any call as any client, for tests
 
@@ -865,8 +868,13 @@ public:
     Service(const Service &) = default;
     /// The same service as the other.
     Service &operator=(const Service &) = default;
-    /// Opens a core without an event.
+    /// Opens a core without an event. SYSMEM_BAD_LIMITS, with a note, if a number is out of its range, or if the
+    /// library's version has another major number than this header, or is earlier.
     static Result<Service> open(const Options &o = {}) {
+        constexpr std::uint32_t mine = 10000 * SYSMEM_VERSION_MAJOR + 100 * SYSMEM_VERSION_MINOR;
+        constexpr std::uint32_t last = 10000 * (SYSMEM_VERSION_MAJOR + 1) - 1;
+        if (std::uint32_t its = sysmem_version(); its < mine || its > last)
+            return Error::outside(SYSMEM_BAD_LIMITS, "the library's version", its, mine, last);
         auto state = std::make_shared<detail::State>();
 #ifdef __linux__
         if (o.memory && o.memory->pages() < o.pages)

@@ -21,17 +21,30 @@ namespace sysmem {
 inline namespace SYSMEM_INLINE {
 namespace detail {
 
+// Labels of clients or collections, by their number, or of nodes. (Each further type of a map would take the compiler
+// as long as a tenth of these headers.)
+using Labels = std::map<std::uint64_t, std::string>;
+
+// A node as a number.
+inline std::uint64_t number_of(Key key) noexcept { return std::uint64_t(key.slot) << 32 | key.generation; }
+
+// Whether a list in order has it.
+inline bool has(const std::vector<std::uint64_t> &list, std::uint64_t number) {
+    return std::binary_search(list.begin(), list.end(), number);
+}
+
 // The nodes that are kept or that made a kept one fail, and the collections that have a kept node or a buffer
 // with pages; each by number.
 struct Kept {
     bool is_known = false; // false if memory was refused
-    std::vector<Key> nodes;
-    std::vector<CollectionId> collections;
-    bool has(Key key) const { return std::binary_search(nodes.begin(), nodes.end(), key); }
-    bool has(CollectionId id) const {
-        return std::binary_search(collections.begin(), collections.end(), id);
-    }
+    std::vector<std::uint64_t> nodes, collections;
 };
+
+// Drops all labels but these.
+inline void keep_only(Labels &labels, const std::vector<std::uint64_t> &kept) {
+    for (auto at = labels.begin(); at != labels.end();)
+        at = has(kept, at->first) ? std::next(at) : labels.erase(at);
+}
 
 // A recorder that adds the lines to this text, and hands them on if there is another recorder.
 inline Record keep(std::string &text, Record then) {
@@ -71,10 +84,8 @@ public:
     std::size_t size() const noexcept { return nodes.size() + roots.size(); }
     void forget(const Kept &kept) noexcept {
         if (kept.is_known) {
-            for (auto at = nodes.begin(); at != nodes.end();)
-                at = kept.has(at->first) ? std::next(at) : nodes.erase(at);
-            for (auto at = roots.begin(); at != roots.end();)
-                at = kept.has(at->first) ? std::next(at) : roots.erase(at);
+            keep_only(nodes, kept.nodes);
+            keep_only(roots, kept.collections);
         }
         most = 4096 + 2 * size();
     }
@@ -104,14 +115,14 @@ private:
                     (kind != 'c' || *wanted != "show") && used.count(*wanted) == 0;
         return fits ? *wanted : by_event(kind);
     }
-    template <class K> std::string find(const std::map<K, std::string> &in, K key) {
-        auto at = in.find(key);
+    std::string find(const Labels &in, std::uint64_t number) {
+        auto at = in.find(number);
         if (at != in.end()) return at->second;
         is_known = false;
         return "?";
     }
     std::string client(ClientId id) { return find(clients, id); }
-    std::string node(const sysmem_call &c) { return find(nodes, Key{c.slot, c.generation}); }
+    std::string node(const sysmem_call &c) { return find(nodes, number_of({c.slot, c.generation})); }
     std::string buffer(CollectionId tree, unsigned index) {
         return find(roots, tree) + "." + std::to_string(index);
     }
@@ -137,7 +148,7 @@ private:
         made = fresh('n', node_labels);
         if (r.kind == SYSMEM_NEW_TOKEN) {
             if (!is_generated(made, 'n')) node_labels.insert(made);
-            nodes.emplace(Key{r.slot, r.generation}, made);
+            nodes.emplace(number_of({r.slot, r.generation}), made);
             if (is_root) roots.emplace(r.id, made);
         }
         return made;
@@ -195,7 +206,7 @@ private:
         case SYSMEM_MISUSED: return "misused " + detail + name(Misuse(r.detail));
         case SYSMEM_PEER_CLOSED:
             return "closed " + name(Cause(r.detail)) + " " +
-                   find(nodes, Key{r.slot, r.generation});
+                   find(nodes, number_of({r.slot, r.generation}));
         default: return "done";
         }
     }
@@ -206,9 +217,7 @@ private:
     bool is_over = false, is_known = true;
     const std::string *wanted = nullptr;
     std::string made;
-    std::map<ClientId, std::string> clients;
-    std::map<Key, std::string> nodes;
-    std::map<CollectionId, std::string> roots;
+    Labels clients, nodes, roots;
     std::set<std::string> client_labels, node_labels;
 };
 

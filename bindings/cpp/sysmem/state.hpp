@@ -52,10 +52,10 @@ public:
         self.run_all();
     }
     // Calls it at once, or after the callback that this thread runs. Takes memory only for that.
-    static void call(std::function<void(Event)> then, Event event) {
+    static void call(Callback<Event> then, Event event) {
         struct Told : Due {
             Event event = 0;
-            std::function<void(Event)> then;
+            Callback<Event> then;
             void run() override { then(event); }
         };
         if (!then) return;
@@ -101,7 +101,7 @@ struct Watch : Due {
     ClientId owner = 0;
     std::atomic<Event> event{0}; // 0: it has not fired yet
     Bell bell;
-    std::function<void(Event)> then;
+    Callback<Event> then;
     std::shared_ptr<Watch> told; // the next one that the owner's pending() will name
     void run() override {
         if (then) then(event.load(std::memory_order_relaxed));
@@ -124,7 +124,7 @@ struct Idle : Due {
     Buffer buffer;
     bool is_told = false;             // a thread waits, and may go on
     Bell *bell = nullptr;             // the thread's
-    std::function<void(Buffer)> then; // if neither, pending() names the buffer
+    Callback<Buffer> then;            // if neither, pending() names the buffer
     std::shared_ptr<Idle> after;      // the next one of this buffer, or of this client
     void run() override {
         if (then) then(buffer);
@@ -331,7 +331,7 @@ struct State : std::enable_shared_from_this<State> {
     std::uint64_t lost = 0;      // the number of calls of destructors that were refused for good
     std::chrono::milliseconds slow{0};
     Account *late = nullptr;                              // the accounts with calls put off
-    std::map<Key, std::string> labels;
+    Labels labels; // of nodes
     std::map<CollectionId, Tree> trees;
     std::map<CollectionId, Tree>::node_type spare; // of a collection that is gone: saves an allocation
     std::map<CollectionId, Key> roots;             // those that were born with a label
@@ -611,7 +611,7 @@ struct State : std::enable_shared_from_this<State> {
     }
 
     std::string label(Key key) const noexcept {
-        auto at = labels.find(key);
+        auto at = labels.find(number_of(key));
         SYSMEM_TRY {
             return at == labels.end() ? std::string() : at->second;
         } SYSMEM_CATCH {
@@ -623,8 +623,8 @@ struct State : std::enable_shared_from_this<State> {
     void set_label(Key key, std::string text, CollectionId root_of = 0) noexcept {
         if (text.empty()) return;
         SYSMEM_TRY {
-            if (labels.size() >= 4096 && labels.count(key) == 0) drop_labels();
-            labels[key] = std::move(text);
+            if (labels.size() >= 4096 && labels.count(number_of(key)) == 0) drop_labels();
+            labels[number_of(key)] = std::move(text);
             if (root_of != 0) roots[root_of] = key;
         } SYSMEM_CATCH {
         }
@@ -632,10 +632,9 @@ struct State : std::enable_shared_from_this<State> {
     SYSMEM_SELDOM void drop_labels() {
         Kept kept = find_kept();
         if (!kept.is_known) return;
-        for (auto at = labels.begin(); at != labels.end();)
-            at = kept.has(at->first) ? std::next(at) : labels.erase(at);
+        keep_only(labels, kept.nodes);
         for (auto at = roots.begin(); at != roots.end();)
-            at = kept.has(at->first) ? std::next(at) : roots.erase(at);
+            at = has(kept.collections, at->first) ? std::next(at) : roots.erase(at);
     }
     SYSMEM_SELDOM Kept find_kept() noexcept {
         Kept kept;
@@ -647,10 +646,10 @@ struct State : std::enable_shared_from_this<State> {
             std::vector<sysmem_held_buffer> held(std::size_t(count) + 1);
             if (sysmem_held(&core, held.data(), std::size_t(count), &count)) return kept;
             for (const sysmem_node &n : *nodes) {
-                kept.nodes.push_back({n.key.slot, n.key.generation});
+                kept.nodes.push_back(number_of({n.key.slot, n.key.generation}));
                 kept.collections.push_back(n.collection);
                 if (n.flags & SYSMEM_NODE_FAILED)
-                    kept.nodes.push_back({n.origin.slot, n.origin.generation});
+                    kept.nodes.push_back(number_of({n.origin.slot, n.origin.generation}));
             }
             for (std::size_t i = 0; i < count; i++) kept.collections.push_back(held[i].collection);
             std::sort(kept.nodes.begin(), kept.nodes.end());

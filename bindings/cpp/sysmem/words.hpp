@@ -5,6 +5,7 @@
 
 #include "sysmem.h"
 
+#include <algorithm>
 #include <array>
 #include <chrono>
 #include <cstdint>
@@ -13,6 +14,7 @@
 #include <functional>
 #include <iosfwd>
 #include <memory>
+#include <mutex>
 #include <new>
 #include <optional>
 #include <stdexcept>
@@ -211,9 +213,12 @@ struct Firings {
     std::vector<Fired> all;  ///< the firings
 };
 
+/// What is called back, or nothing.
+template <class... A> using Callback = std::function<void(A...)>;
+
 /// A recorder: it is called with each event, as two lines of a transcript (docs/SCRIPT.md): the
 /// call, and the reply, indented by two spaces.
-using Record = std::function<void(std::string_view)>;
+using Record = Callback<std::string_view>;
 
 /// A node that an allocation waits for: it has no constraints yet.
 struct Waits {
@@ -293,12 +298,13 @@ struct Options {
     /// 16 random bytes, if clients may be hostile: see sysmem_open_seeded.
     std::optional<std::array<std::uint8_t, 16>> seed = std::nullopt;
     /// Called under the mutex, in the order of the events: it must be quick, and must neither call
-    /// the service nor throw. record_to(file) makes a recorder. Without one, and with SYSMEM_DEBUG=1 in
-    /// the environment, the events are written to standard error.
+    /// the service nor throw. record_to(file) and record_last(n) make recorders. Without one, and with
+    /// SYSMEM_DEBUG=1 in the environment, the events are written to standard error.
     Record record = nullptr;
     /// Whether the service keeps its transcript for Service::transcript(): some 40 bytes an event.
     bool transcript = false;
-    /// The pool's memory: see Memory::open. It has at least as many pages as the pool.
+    /// The pool's memory: see Memory::open. It has at least as many pages as the pool. Without one the service knows no
+    /// bytes: a Buffer is a name, of pages that are numbers or of the program's own buffers (examples/own.cpp).
     std::shared_ptr<Memory> memory = nullptr;
     /// After so long in Collection::wait_allocated, a line on standard error says for whom it waits. With
     /// 0 none does.
@@ -309,6 +315,59 @@ struct Options {
 /// ends by a signal. The caller keeps the file open as long as the service.
 inline Record record_to(std::FILE *file) {
     return [file](std::string_view lines) { std::fwrite(lines.data(), 1, lines.size(), file); };
+}
+
+/// The last events of a service, which record_last keeps. Copies share them, and any thread may use them.
+///
+/// If no event was left out, text() is a transcript that the program reads. Else it is for people only: `sysmem explain`
+/// and `sysmem check` play a transcript from the first event on, and refuse the first line with a label that they did not
+/// see made. A label means the same as in the whole transcript; of a generated one the number is that of the event
+/// that made what it names.
+class LastEvents {
+public:
+    /// Notes one event: so this is a Record. Writes the events to the file, if there is one, where the reply says that
+    /// a node failed: `closed` or `misused`; those that were written are not written again.
+    void operator()(std::string_view lines) const {
+        std::lock_guard<std::mutex> lock(ring->mutex);
+        ring->events[std::size_t(ring->count++ % ring->events.size())] = lines;
+        std::size_t reply = lines.find_first_not_of("# ", lines.find('\n') + 1);
+        if (!ring->file || (lines.compare(reply, 7, "closed ") && lines.compare(reply, 8, "misused "))) return;
+        std::fputs(ring->text(ring->written).c_str(), ring->file);
+        std::fflush(ring->file);
+        ring->written = ring->count;
+    }
+    /// The events, two lines each, after a remark that says which they are. O(its length).
+    std::string text() const {
+        std::lock_guard<std::mutex> lock(ring->mutex);
+        return ring->text(0);
+    }
+
+private:
+    friend LastEvents record_last(std::size_t count, std::FILE *at_failure);
+    struct Ring {
+        std::mutex mutex;
+        std::vector<std::string> events;
+        std::uint64_t count = 0, written = 0;
+        std::FILE *file;
+        // Those after the first so many.
+        std::string text(std::uint64_t from) const {
+            if (count - from > events.size()) from = count - events.size();
+            std::string all = "# events " + std::to_string(from + 1) + " to " + std::to_string(count) + "\n";
+            for (; from < count; from++) all += events[std::size_t(from % events.size())];
+            return all;
+        }
+    };
+    std::shared_ptr<Ring> ring = std::make_shared<Ring>();
+};
+
+/// A recorder that keeps the last so many events, at least one: some 100 bytes each, or as many as their two lines have.
+/// With a file it writes them there when a call fails because its node did; the caller keeps the file open as long as the
+/// service. The labels that a recorder needs are kept in any case: of each client, and of each node that had one.
+inline LastEvents record_last(std::size_t count, std::FILE *at_failure = nullptr) {
+    LastEvents made;
+    made.ring->events.resize(std::max<std::size_t>(count, 1));
+    made.ring->file = at_failure;
+    return made;
 }
 
 namespace detail {
@@ -703,17 +762,17 @@ public:
     template <class F> auto and_then(F &&f) const {
         using Made = std::decay_t<std::invoke_result_t<F>>;
         if (held) return Made(*held);
-        return std::invoke(std::forward<F>(f));
+        return std::forward<F>(f)();
     }
     /// A Result with f of nothing; or the error.
     template <class F> auto transform(F &&f) const {
         using Made = Result<std::remove_cv_t<std::invoke_result_t<F>>>;
         if (held) return Made(*held);
         if constexpr (std::is_void_v<std::invoke_result_t<F>>) {
-            std::invoke(std::forward<F>(f));
+            std::forward<F>(f)();
             return Made();
         } else {
-            return Made(std::invoke(std::forward<F>(f)));
+            return Made(std::forward<F>(f)());
         }
     }
 

@@ -4,6 +4,7 @@
 
 #include <cstring>
 #include <fcntl.h>
+#include <functional>
 #include <poll.h>
 #include <sstream>
 #include <thread>

@@ -3,6 +3,7 @@
 
 #include <cstdio>
 #include <cstdlib>
+#include <functional>
 #include <limits>
 #include <thread>
 #ifdef __linux__
@@ -469,6 +470,34 @@ static void a_transcript() {
     EXPECT(Service::open().value().transcript().empty());
 }
 
+// The last events, with their labels; and at a failure those that were not written before.
+static void a_ring() {
+    std::FILE *file = std::tmpfile();
+    LastEvents last = record_last(4, file), one = record_last(0);
+    EXPECT(last.text() == "# events 1 to 0\n");
+    EXPECT(Record([](std::string_view) {}) && !Record(nullptr) && !Record(std::function<void(std::string_view)>()));
+    Options options;
+    options.record = [last, one](std::string_view lines) { last(lines), one(lines); };
+    Service service = Service::open(options).value();
+    Client app = service.join("app").value();
+    Token root = app.open_root("root").value();
+    EXPECT(last.text() == "# events 1 to 2\napp join\n  joined\napp open root\n  token root\n");
+    EXPECT(one.text() == "# events 2 to 2\napp open root\n  token root\n");
+    Token child = root.duplicate("child").value(), other = root.duplicate().value();
+    child.close();
+    std::string told = "# events 2 to 5\napp open root\n  token root\napp dup root child\n  token child\n"
+                       "app dup root n4\n  token n4\napp close child\n  done\n";
+    EXPECT(last.text() == told);
+    EXPECT(std::ftell(file) == 0 && !root.sync() && !other.sync());
+    told = told.substr(told.find("app dup root child")) + "app sync root\n  closed lost child\n";
+    std::string more = "# events 7 to 7\napp sync n4\n  closed lost child\n";
+    std::string written(std::size_t(std::ftell(file)), '?');
+    std::rewind(file);
+    EXPECT(std::fread(&written[0], 1, written.size(), file) == written.size());
+    EXPECT(written == "# events 3 to 6\n" + told + more);
+    std::fclose(file);
+}
+
 #ifdef __cpp_exceptions
 // A recorder that throws ends the transcript. What is kept stays.
 static void a_transcript_that_ends() {
@@ -562,6 +591,7 @@ int main() {
     callbacks();
     gifts();
     a_transcript();
+    a_ring();
 #ifdef __cpp_exceptions
     a_transcript_that_ends();
 #endif

@@ -1,12 +1,12 @@
-//! How long a wait lasts, how it ends, and what it answers.
-use crate::descriptors::Descriptor;
+//! What threads wait for.
 use crate::state::{Shared, State};
-use std::sync::atomic::{AtomicBool, AtomicUsize, Ordering};
-use std::sync::{Arc, Condvar, Mutex, MutexGuard, PoisonError};
-use std::time::{Duration, Instant};
+use std::sync::atomic::{AtomicUsize, Ordering};
+use std::sync::{Condvar, Mutex, MutexGuard, PoisonError};
+use std::time::Duration;
+use sysmem_words::Ring;
 
-/// The longest wait, short enough that an `Instant` can be so far off.
-const FOREVER: Duration = Duration::from_secs(1 << 31);
+/// A wait of a thread. It ends after the lock is released.
+pub(crate) type Waiting<'a> = sysmem_words::Waiting<'a, Bell>;
 
 /// What threads wait for. A thread that waits has a service's lock, and gives it up while it sleeps, when it
 /// holds the bell's own. So that who wakes it need not have the service's lock, nor be without it.
@@ -18,13 +18,14 @@ pub(crate) struct Bell {
     waiting: AtomicUsize,
 }
 
-impl Bell {
-    /// Wakes all who wait. What they look at is set by then.
-    pub fn ring(&self) {
+impl Ring for Bell {
+    fn ring(&self) {
         drop(self.lock()); // they sleep by now, or have not looked yet
         self.rung.notify_all();
     }
+}
 
+impl Bell {
     /// Wakes all who wait. Called under the service's lock.
     pub fn tell(&self) {
         if self.waiting.load(Ordering::Relaxed) > 0 {
@@ -54,184 +55,5 @@ impl Bell {
 
     fn lock(&self) -> MutexGuard<'_, ()> {
         self.own.lock().unwrap_or_else(PoisonError::into_inner)
-    }
-}
-
-/// Ends waits from another thread. Clones are the same.
-#[derive(Clone, Debug, Default)]
-pub struct Cancel(Arc<Ends>);
-
-#[derive(Debug, Default)]
-struct Ends {
-    is_over: AtomicBool,
-    waits: Mutex<Waits>,
-}
-
-#[derive(Debug, Default)]
-struct Waits {
-    bells: Vec<Arc<Bell>>,
-    fd: Option<Descriptor>,
-}
-
-impl Cancel {
-    /// A value that has not ended anything.
-    pub fn new() -> Cancel {
-        Cancel::default()
-    }
-
-    /// Ends each wait that was given this value, and each that will be: it answers
-    /// [`Waited::Cancelled`]. Takes no service's lock: a recorder may call it.
-    pub fn cancel(&self) {
-        let waits = self.waits();
-        self.0.is_over.store(true, Ordering::SeqCst);
-        waits.bells.iter().for_each(|bell| bell.ring());
-        waits.fd.iter().for_each(Descriptor::light);
-    }
-
-    /// Whether `cancel` was called.
-    pub fn is_cancelled(&self) -> bool {
-        self.0.is_over.load(Ordering::SeqCst)
-    }
-
-    /// A file descriptor for `poll` or `epoll`, which becomes readable when `cancel` is called, and stays
-    /// so. Each call answers a clone of one descriptor.
-    #[cfg(target_os = "linux")]
-    pub fn fd(&self) -> std::io::Result<Descriptor> {
-        let mut waits = self.waits();
-        if let Some(fd) = &waits.fd {
-            return Ok(fd.clone());
-        }
-        let made = Descriptor::new()?;
-        if self.is_cancelled() {
-            made.light();
-        }
-        waits.fd = Some(made.clone());
-        Ok(made)
-    }
-
-    /// A wait that this value can end, and that lasts so long at most.
-    pub fn within(&self, time: Duration) -> Patience<'_> {
-        Patience { time, cancel: Some(self) }
-    }
-
-    fn waits(&self) -> MutexGuard<'_, Waits> {
-        self.0.waits.lock().unwrap_or_else(PoisonError::into_inner)
-    }
-}
-
-/// How long a wait lasts: a `Duration`, until a `&Cancel` ends it, or, by [`Cancel::within`], what comes
-/// first.
-#[derive(Clone, Copy, Debug)]
-pub struct Patience<'a> {
-    time: Duration,
-    cancel: Option<&'a Cancel>,
-}
-
-impl From<Duration> for Patience<'_> {
-    fn from(time: Duration) -> Self {
-        Patience { time, cancel: None }
-    }
-}
-
-impl<'a> From<&'a Cancel> for Patience<'a> {
-    fn from(cancel: &'a Cancel) -> Self {
-        Patience { time: FOREVER, cancel: Some(cancel) }
-    }
-}
-
-impl<'a> Patience<'a> {
-    pub(crate) fn forever() -> Self {
-        Patience::from(FOREVER)
-    }
-
-    /// Begins a wait for this, before the lock is taken.
-    pub(crate) fn begin(self, bell: &Arc<Bell>) -> Waiting<'a> {
-        if let Some(cancel) = self.cancel {
-            cancel.waits().bells.push(bell.clone());
-        }
-        let until = Instant::now() + self.time.min(FOREVER);
-        Waiting { until, cancel: self.cancel, bell: bell.clone() }
-    }
-}
-
-/// A wait. It ends after the lock is released.
-pub(crate) struct Waiting<'a> {
-    pub until: Instant,
-    cancel: Option<&'a Cancel>,
-    pub bell: Arc<Bell>,
-}
-
-impl Waiting<'_> {
-    pub fn is_cancelled(&self) -> bool {
-        self.cancel.map_or(false, Cancel::is_cancelled)
-    }
-
-    /// What a wait answers that is over without a value.
-    pub fn none<T>(&self) -> Waited<T> {
-        if self.is_cancelled() {
-            Waited::Cancelled
-        } else {
-            Waited::TimeOver
-        }
-    }
-}
-
-impl Drop for Waiting<'_> {
-    fn drop(&mut self) {
-        if let Some(cancel) = self.cancel {
-            let bells = &mut cancel.waits().bells;
-            let mine = bells.iter().position(|bell| Arc::ptr_eq(bell, &self.bell));
-            mine.map(|place| bells.swap_remove(place));
-        }
-    }
-}
-
-/// What a wait answers.
-#[derive(Clone, Copy, Debug, PartialEq, Eq, Hash)]
-pub enum Waited<T> {
-    /// What it waited for.
-    Done(T),
-    /// Its time was over first.
-    TimeOver,
-    /// A [`Cancel`] ended it first.
-    Cancelled,
-}
-
-impl<T> Waited<T> {
-    /// What it waited for, if that is there.
-    pub fn done(self) -> Option<T> {
-        match self {
-            Waited::Done(value) => Some(value),
-            Waited::TimeOver | Waited::Cancelled => None,
-        }
-    }
-
-    /// Whether what it waited for is there.
-    pub fn is_done(&self) -> bool {
-        matches!(self, Waited::Done(_))
-    }
-
-    /// Whether a [`Cancel`] ended it first.
-    pub fn is_cancelled(&self) -> bool {
-        matches!(self, Waited::Cancelled)
-    }
-
-    /// What it waited for.
-    ///
-    /// # Panics
-    /// If that is not there.
-    #[track_caller]
-    pub fn unwrap(self) -> T {
-        match self {
-            Waited::Done(value) => value,
-            Waited::TimeOver => panic!("the time of a wait was over"),
-            Waited::Cancelled => panic!("a wait was cancelled"),
-        }
-    }
-}
-
-impl<T> From<Waited<T>> for Option<T> {
-    fn from(waited: Waited<T>) -> Option<T> {
-        waited.done()
     }
 }

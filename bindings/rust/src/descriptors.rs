@@ -1,75 +1,13 @@
-//! File descriptors for event loops.
+//! What the file descriptors of clients tell.
 use crate::account::{Account, Post, Row};
 use crate::ffi::flag;
 use crate::state::{Place, State};
 use crate::words::*;
+use sysmem_words::Descriptor;
 
 /// What happened to the node of an end, as bits.
 const ALLOCATED: u8 = 1;
 const FAILED: u8 = 2;
-
-/// A file descriptor for `poll` or `epoll`, which its last clone closes. It must only be polled.
-#[cfg(target_os = "linux")]
-#[derive(Clone, Debug)]
-pub struct Descriptor(std::sync::Arc<std::fs::File>);
-
-#[cfg(target_os = "linux")]
-mod linux {
-    use super::Descriptor;
-    use std::fs::File;
-    use std::io::{Error, Read, Write};
-    use std::os::raw::{c_int, c_uint};
-    use std::os::unix::io::{AsFd, AsRawFd, BorrowedFd, FromRawFd, RawFd};
-    use std::sync::Arc;
-
-    extern "C" {
-        fn eventfd(first: c_uint, flags: c_int) -> c_int;
-    }
-
-    impl Descriptor {
-        pub(crate) fn new() -> Result<Descriptor, Error> {
-            // SAFETY: 0o2004000 is EFD_CLOEXEC and EFD_NONBLOCK. The descriptor is new, and nobody else's.
-            let file = unsafe {
-                match eventfd(0, 0o2_004_000) {
-                    -1 => return Err(Error::last_os_error()),
-                    fd => File::from_raw_fd(fd),
-                }
-            };
-            Ok(Descriptor(Arc::new(file)))
-        }
-
-        pub(crate) fn light(&self) {
-            let _ = (&*self.0).write(&1u64.to_ne_bytes());
-        }
-
-        pub(crate) fn dim(&self) {
-            let _ = (&*self.0).read(&mut [0; 8]);
-        }
-    }
-
-    impl AsFd for Descriptor {
-        fn as_fd(&self) -> BorrowedFd<'_> {
-            self.0.as_fd()
-        }
-    }
-
-    impl AsRawFd for Descriptor {
-        fn as_raw_fd(&self) -> RawFd {
-            self.0.as_raw_fd()
-        }
-    }
-}
-
-/// Elsewhere there is none.
-#[cfg(not(target_os = "linux"))]
-#[derive(Clone, Debug)]
-pub(crate) enum Descriptor {}
-
-#[cfg(not(target_os = "linux"))]
-impl Descriptor {
-    pub fn light(&self) {}
-    pub fn dim(&self) {}
-}
 
 /// What a client's descriptor tells of.
 #[derive(Default)]
@@ -224,7 +162,7 @@ impl State {
                 None => continue,
             };
             if let Row::End { key, is, told, .. } = &mut account.rows[row as usize] {
-                let now = self.core.node(key.words()).map_or(*is, |node| state_of(node.flags));
+                let now = self.core.node((*key).into()).map_or(*is, |node| state_of(node.flags));
                 if now == *is {
                     continue;
                 }

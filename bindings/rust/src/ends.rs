@@ -213,7 +213,7 @@ impl End<OfCollection> {
 
     /// Whether a Check would tell more than that nothing is allocated.
     fn is_decided(&self, state: &mut State) -> bool {
-        let node = state.core.node(self.key.words());
+        let node = state.core.node(self.key.into());
         !state.is_here(self.owner.place) || node.map_or(true, |node| state_of(node.flags) != 0)
     }
 

@@ -79,20 +79,7 @@ pub(crate) struct NodeWords {
     pub size: u32,
 }
 
-/// The bits of a node's flags.
-pub(crate) mod flag {
-    pub const ATTACHED: u32 = 1;
-    pub const ALLOCATED: u32 = 2;
-    pub const GONE: u32 = 4;
-    pub const FAILED: u32 = 8;
-    pub const RELEASED: u32 = 16;
-    pub const DISPENSABLE: u32 = 32;
-    pub const WEAK: u32 = 64;
-    pub const WEAK_OK: u32 = 128;
-    pub const CONSTRAINED: u32 = 256;
-    pub const BOUND: u32 = 512;
-    pub const IN_TRANSIT: u32 = 1024;
-}
+pub(crate) use sysmem_words::numbers::flag;
 
 // The library's sizes, as `tools/layout.c` has them; the order of the fields is the header's.
 const _: () = {
@@ -184,8 +171,10 @@ extern "C" {
         strength: u32,
         count: *mut u32,
     ) -> u32;
+    #[cfg(test)]
     fn sysmem_name(about: u32, number: u32, out: *mut u8, room: usize, count: *mut u64) -> u32;
     fn sysmem_close(handle: *mut Handle) -> u32;
+    fn sysmem_version() -> u32;
 }
 
 /// An open core. Each function takes `&mut self`, so that at most one call at a time is made on it.
@@ -377,10 +366,35 @@ impl Drop for Core {
     }
 }
 
-/// The name of a code (`about` 0), a refusal (1), a misuse (2) or a cause (3).
-pub(crate) fn name(about: u32, number: u32) -> String {
-    let (mut text, mut count) = ([0; 33], 0);
-    // SAFETY: `text` has as many bytes as `room` says.
-    unsafe { sysmem_name(about, number, text.as_mut_ptr(), text.len(), &mut count) };
-    String::from_utf8_lossy(&text[..count as usize]).into_owned()
+/// The library's version: 10,000 * major + 100 * minor + patch.
+pub(crate) fn version() -> u32 {
+    // SAFETY: it may always be called.
+    unsafe { sysmem_version() }
+}
+
+#[cfg(test)]
+mod tests {
+    use crate::{Cause, Error, Misuse, Refusal};
+
+    /// Whether the library has this name: of a code (`about` 0), a refusal (1), a misuse (2) or a cause (3).
+    fn is_named(about: u32, number: u32, name: String) -> bool {
+        let (mut text, mut count) = ([0; 33], 0);
+        let out = text.as_mut_ptr();
+        // SAFETY: `text` has as many bytes as `room` says.
+        unsafe { super::sysmem_name(about, number, out, text.len(), &mut count) };
+        text[..count as usize] == *name.as_bytes()
+    }
+
+    #[test]
+    fn names_are_the_library_s() {
+        assert!(Refusal::ALL.iter().all(|one| is_named(1, *one as u32, one.to_string())));
+        assert!(Misuse::ALL.iter().all(|one| is_named(2, *one as u32, one.to_string())));
+        assert!(Cause::ALL.iter().all(|one| is_named(3, *one as u32, one.to_string())));
+        for (about, all) in [(1, 10), (2, 5), (3, 13)] {
+            let named = (0..100).filter(|number| !is_named(about, *number, String::new()));
+            assert_eq!(named.count(), all, "the library has more names");
+        }
+        assert!(is_named(0, 5, Error::HistoryFull.to_string()));
+        assert!(is_named(0, 6, Error::NoMemory.to_string()));
+    }
 }

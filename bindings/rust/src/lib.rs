@@ -71,13 +71,15 @@ mod told_tests;
 mod tracker;
 mod words;
 
-pub use cancel::{Cancel, Patience, Waited};
-#[cfg(target_os = "linux")]
-pub use descriptors::Descriptor;
 pub use ends::{Collection, End, OfCollection, OfToken, Token};
 pub use handle::Handle;
 #[cfg(target_os = "linux")]
 pub use memory::Memory;
+#[cfg(target_os = "linux")]
+#[doc(inline)]
+pub use sysmem_words::Descriptor;
+#[doc(inline)]
+pub use sysmem_words::{Cancel, Patience, Waited};
 pub use tracker::Tracker;
 pub use words::*;
 
@@ -89,7 +91,8 @@ use std::fmt;
 use std::marker::PhantomData;
 use std::sync::{Arc, Mutex};
 
-/// One core, which all clones share.
+/// One core, which all clones share. It has no bytes of its own: those of its buffers are in
+/// `Options::memory`, or are the program's, who then looks them up by their [`Buffer`].
 #[derive(Clone)]
 pub struct Service(Arc<Shared>);
 
@@ -145,9 +148,14 @@ impl Owner {
     }
 }
 
+const VERSION_MAJOR: &str = env!("CARGO_PKG_VERSION_MAJOR");
+const VERSION_MINOR: &str = env!("CARGO_PKG_VERSION_MINOR");
+
 impl Service {
-    /// Opens a core without an event. `BadLimits` if a number is out of its range.
+    /// Opens a core without an event. `BadLimits` if a number is out of its range, or if the library's
+    /// version has another major number than this crate, or is earlier.
     pub fn open(options: Options) -> Result<Service, Error> {
+        words::expect_version(ffi::version(), VERSION_MAJOR, VERSION_MINOR)?;
         let Options { pages, events, nodes, collections, trackers, handles, seed, .. } = options;
         #[cfg(target_os = "linux")]
         if let Some(memory) = options.memory.as_ref().filter(|memory| memory.pages() < pages) {
@@ -285,13 +293,13 @@ impl Service {
 
     /// Whether the node is live: neither gone nor released.
     pub fn is_live(&self, key: Key) -> bool {
-        self.0.lock().core.is_live(key.words())
+        self.0.lock().core.is_live(key.into())
     }
 
     /// Why the node failed, and the origin: the node whose loss reached it. `None` if the node has
     /// not failed, or was forgotten.
     pub fn cause(&self, key: Key) -> Option<(Cause, Key)> {
-        let (cause, origin) = self.0.lock().core.cause(key.words())?;
+        let (cause, origin) = self.0.lock().core.cause(key.into())?;
         Some((Cause::of(cause), Key::from(origin)))
     }
 
@@ -372,41 +380,7 @@ pub struct Client {
 }
 
 /// The content of a parcel.
-#[derive(Debug)]
-pub enum Parcel {
-    /// An end that is not bound.
-    Token(Token),
-    /// A bound end.
-    Collection(Collection),
-    /// A handle.
-    Handle(Handle),
-}
-
-impl Parcel {
-    /// The content, if it is of this kind; else the parcel comes back.
-    pub fn token(self) -> Result<Token, Parcel> {
-        match self {
-            Parcel::Token(token) => Ok(token),
-            other => Err(other),
-        }
-    }
-
-    /// The content, if it is of this kind; else the parcel comes back.
-    pub fn collection(self) -> Result<Collection, Parcel> {
-        match self {
-            Parcel::Collection(collection) => Ok(collection),
-            other => Err(other),
-        }
-    }
-
-    /// The content, if it is of this kind; else the parcel comes back.
-    pub fn handle(self) -> Result<Handle, Parcel> {
-        match self {
-            Parcel::Handle(handle) => Ok(handle),
-            other => Err(other),
-        }
-    }
-}
+pub type Parcel = sysmem_words::Parcel<Token, Collection, Handle>;
 
 impl Client {
     /// The client's number.

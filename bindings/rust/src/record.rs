@@ -1,7 +1,7 @@
 //! A transcript of the events, in the language of `docs/SCRIPT.md`.
-use crate::ffi::{name, CallWords, ReplyWords};
+use crate::ffi::{CallWords, ReplyWords};
 use crate::state::{kind, reply, Kept};
-use crate::{ClientId, CollectionId, Event, Key, Record};
+use crate::{Cause, ClientId, CollectionId, Event, Key, Misuse, Record, Refusal};
 use std::collections::{HashMap, HashSet};
 
 const VERBS: [&str; 23] = [
@@ -217,10 +217,10 @@ impl Recorder {
                 text
             }
             reply::TRACKER => format!("tracker {}", self.by_event('t')),
-            reply::REFUSED => format!("refused {detail} {}", name(1, detail)),
-            reply::MISUSED => format!("misused {detail} {}", name(2, detail)),
+            reply::REFUSED => format!("refused {detail} {}", Refusal::of(detail)),
+            reply::MISUSED => format!("misused {detail} {}", Misuse::of(detail)),
             reply::PEER_CLOSED => {
-                format!("closed {} {}", name(3, detail), self.node(told.slot, told.generation))
+                format!("closed {} {}", Cause::of(detail), self.node(told.slot, told.generation))
             }
             _ => "done".to_string(),
         }

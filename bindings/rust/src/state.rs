@@ -5,7 +5,7 @@ use crate::callbacks::{run, Due};
 use crate::calls::may_change;
 pub(crate) use crate::calls::{kind, of_buffer, of_key, of_kind, reply};
 use crate::cancel::{Bell, Waiting};
-use crate::descriptors::{Descriptor, News};
+use crate::descriptors::News;
 use crate::ffi::{flag, CallWords, Core, ReplyWords};
 use crate::record::Recorder;
 use crate::words::*;
@@ -15,6 +15,7 @@ use std::panic::{catch_unwind, AssertUnwindSafe};
 use std::sync::atomic::{AtomicU64, Ordering};
 use std::sync::{Arc, Mutex, MutexGuard, PoisonError};
 use std::time::{Duration, Instant};
+use sysmem_words::Descriptor;
 
 /// A tracker's firing.
 #[derive(Default)]

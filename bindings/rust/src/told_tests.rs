@@ -38,7 +38,7 @@ fn compare_descriptors(state: &mut State) -> (u64, u64) {
         for row in rows {
             if let Row::End { key, is, told, is_late: false, .. } = row {
                 has |= is != told;
-                let node = state.core.node(key.words());
+                let node = state.core.node(key.into());
                 assert!(node.map_or(true, |node| state_of(node.flags) == is), "the state of {key}");
             }
         }
@@ -60,7 +60,7 @@ fn compare_parcels(state: &mut State) {
         for post in account.posted.clone() {
             if let Post::End(key) = post {
                 assert_eq!(state.receiver_of(key).map(|to| to.0), Some(client), "who gets {key}");
-                let node = state.core.node(key.words()).unwrap();
+                let node = state.core.node(key.into()).unwrap();
                 assert!(node.flags & flag::IN_TRANSIT != 0);
                 ends -= 1;
             }

@@ -1,159 +1,23 @@
 //! Names, numbers and errors.
-use crate::ffi::{name, KeyWords};
+use crate::ffi::KeyWords;
+use std::collections::VecDeque;
 use std::fmt;
 use std::fs::File;
 use std::io::{BufWriter, Write};
-use std::sync::{Arc, Mutex};
+use std::sync::{Arc, Mutex, MutexGuard, PoisonError};
 use std::time::Duration;
+#[doc(inline)]
+pub use sysmem_words::{
+    Allocation, Buffer, Cause, CollectionId, Constraints, Event, Key, Misuse, OutOfRange, Pending,
+    Refusal, Strength, TrackerId,
+};
 
 /// The number of a client.
 pub type ClientId = u64;
-/// The number of a collection.
-pub type CollectionId = u64;
-/// The number of a tracker.
-pub type TrackerId = u64;
-/// The number of an event, from 1 on.
-pub type Event = u64;
 
-macro_rules! numbers {
-    ($(#[$doc:meta])* $kind:ident, $about:expr, $($(#[$of:meta])* $name:ident = $number:expr),+) => {
-        $(#[$doc])*
-        #[derive(Clone, Copy, Debug, PartialEq, Eq, PartialOrd, Ord, Hash)]
-        #[repr(u32)]
-        pub enum $kind { $($(#[$of])* $name = $number),+ }
-
-        impl $kind {
-            pub(crate) fn of(number: u32) -> $kind {
-                match number {
-                    $($number => $kind::$name,)+
-                    _ => unreachable!("the library tells no {} {number}", stringify!($kind)),
-                }
-            }
-        }
-
-        impl fmt::Display for $kind {
-            fn fmt(&self, f: &mut fmt::Formatter<'_>) -> fmt::Result {
-                f.write_str(&name($about, *self as u32))
-            }
-        }
-    };
-}
-
-numbers!(
-    /// Why a call was refused. A refused call changes nothing but the number of events.
-    Refusal, 1,
-    /// The caller or the receiver never joined.
-    NoSuchClient = 1,
-    /// The receiver is shut; or the caller is, and the call makes a node or a tracker.
-    ClientShut = 2,
-    /// The end was spent, or another client holds it.
-    NoSuchEnd = 3,
-    /// The end is in a parcel.
-    InTransit = 4,
-    /// The call is for the other kind of end.
-    WrongKind = 5,
-    /// The limit allows no more nodes.
-    TooManyNodes = 6,
-    /// The limit allows no more collections.
-    TooManyCollections = 7,
-    /// The limit allows no more trackers that wait.
-    TrackersFull = 8,
-    /// The caller has no such handle open.
-    NoSuchHandle = 9,
-    /// The limit allows no more handles of the buffer and strength.
-    TooManyHandles = 10
-);
-
-numbers!(
-    /// The misuses: calls that fail the caller's own node.
-    Misuse, 2,
-    /// `set_constraints` on a node that has constraints.
-    SecondConstraints = 1,
-    /// `set_weak` on a collection that has constraints.
-    LateWeak = 2,
-    /// `set_weak_ok` after a `take` that gave handles.
-    LateWeakOk = 3,
-    /// `take` on a weak node that does not take weak handles.
-    WeakNotOk = 4,
-    /// `track_node` on a node that has 64 such trackers.
-    TooManyNodeTrackers = 5
-);
-
-numbers!(
-    /// Why a node failed.
-    Cause, 3,
-    /// An end was closed without a release.
-    Lost = 0,
-    /// Nothing strong keeps the buffers any more.
-    NoStrong = 1,
-    /// The misuse of this name.
-    SecondConstraints = 11,
-    /// The misuse of this name.
-    LateWeak = 12,
-    /// The misuse of this name.
-    LateWeakOk = 13,
-    /// The misuse of this name.
-    WeakNotOk = 14,
-    /// The misuse of this name.
-    TooManyNodeTrackers = 15,
-    /// At the initial allocation no strong node of the collection was live.
-    FailedNoStrong = 20,
-    /// Nobody asked for a buffer.
-    FailedNoBuffers = 21,
-    /// More than 64 buffers were asked for.
-    FailedTooManyBuffers = 22,
-    /// Some buffer had no place in the pool.
-    FailedPoolFull = 23,
-    /// The collection has too few buffers for an attached unit.
-    FailedTooFew = 24,
-    /// The collection's buffers are too small for an attached unit.
-    FailedTooSmall = 25
-);
-
-/// Whether a node or a handle keeps buffers alive.
-#[derive(Clone, Copy, Debug, PartialEq, Eq, PartialOrd, Ord, Hash)]
-#[repr(u32)]
-pub enum Strength {
-    /// It does.
-    Strong = 0,
-    /// It does not.
-    Weak = 1,
-}
-
-impl fmt::Display for Strength {
-    fn fmt(&self, f: &mut fmt::Formatter<'_>) -> fmt::Result {
-        f.write_str(if *self == Strength::Strong { "strong" } else { "weak" })
-    }
-}
-
-impl Strength {
-    pub(crate) fn of(number: u32) -> Strength {
-        if number == 0 {
-            Strength::Strong
-        } else {
-            Strength::Weak
-        }
-    }
-}
-
-/// The name of a node. No two nodes of a service ever have the same key.
-#[derive(Clone, Copy, Debug, PartialEq, Eq, PartialOrd, Ord, Hash)]
-pub struct Key {
-    /// The node's place in the core's table, which later nodes have too.
-    pub slot: u32,
-    /// How many nodes had the place before.
-    pub generation: u32,
-}
-
-impl fmt::Display for Key {
-    fn fmt(&self, f: &mut fmt::Formatter<'_>) -> fmt::Result {
-        write!(f, "{}.{}", self.slot, self.generation)
-    }
-}
-
-impl Key {
-    pub(crate) fn words(self) -> KeyWords {
-        KeyWords { slot: self.slot, generation: self.generation }
+impl From<Key> for KeyWords {
+    fn from(key: Key) -> KeyWords {
+        KeyWords { slot: key.slot, generation: key.generation }
     }
 }
 
@@ -161,42 +25,6 @@ impl From<KeyWords> for Key {
     fn from(words: KeyWords) -> Key {
         Key { slot: words.slot, generation: words.generation }
     }
-}
-
-/// One of a collection's buffers.
-#[derive(Clone, Copy, Debug, PartialEq, Eq, PartialOrd, Ord, Hash)]
-pub struct Buffer {
-    /// Its collection.
-    pub collection: CollectionId,
-    /// Its index in the collection, from 0 on.
-    pub index: u8,
-}
-
-impl fmt::Display for Buffer {
-    fn fmt(&self, f: &mut fmt::Formatter<'_>) -> fmt::Result {
-        write!(f, "{}.{}", self.collection, self.index)
-    }
-}
-
-/// The number of a collection's buffers, and the size of each in bytes.
-#[derive(Clone, Copy, Debug, PartialEq, Eq, Hash)]
-pub struct Allocation {
-    /// How many buffers.
-    pub count: u32,
-    /// Bytes of each.
-    pub size: u32,
-}
-
-/// What a participant asks for: the buffers that it camps on, the least number of buffers (each 0
-/// to 64), and their size in bytes (1 to 1 << 30).
-#[derive(Clone, Copy, Debug, PartialEq, Eq, Hash)]
-pub struct Constraints {
-    /// The buffers that it camps on.
-    pub camping: u8,
-    /// The least number of buffers.
-    pub at_least: u8,
-    /// Their size in bytes.
-    pub size: u32,
 }
 
 /// A buffer that holds pages of the pool: the first page, and how many.
@@ -339,28 +167,6 @@ impl fmt::Display for Waits {
     }
 }
 
-/// What [`Client::pending`](crate::Client::pending) tells.
-#[derive(Clone, Debug, Default, PartialEq, Eq)]
-pub struct Pending {
-    /// How many parcels wait.
-    pub parcels: u64,
-    /// The nodes whose units were allocated.
-    pub allocated: Vec<Key>,
-    /// The nodes that failed.
-    pub failed: Vec<Key>,
-    /// The trackers that fired.
-    pub fired: Vec<TrackerId>,
-    /// The buffers of `Handle::tell_idle`.
-    pub idle: Vec<Buffer>,
-}
-
-impl Pending {
-    /// Whether there is nothing to tell.
-    pub fn is_empty(&self) -> bool {
-        *self == Pending::default()
-    }
-}
-
 /// A recorder: it is called with each event, as two lines of a transcript (`docs/SCRIPT.md`): the
 /// call, and the reply, indented by two spaces.
 pub type Record = Arc<dyn Fn(&str) + Send + Sync>;
@@ -374,6 +180,88 @@ pub fn record_to(file: File) -> Record {
             let _ = to.write_all(lines.as_bytes());
         }
     })
+}
+
+/// The last events of a service, which [`record_last`] keeps. Clones share them.
+///
+/// If no event was left out, [`text`](LastEvents::text) is a transcript that the program reads. Else it is
+/// for people only: `sysmem explain` and `sysmem check` play a transcript from the first event on, and
+/// refuse the first line with a label that they did not see made. A label means the same as in the whole
+/// transcript; of a generated one the number is that of the event that made what it names.
+#[derive(Clone)]
+pub struct LastEvents(Arc<Mutex<Ring>>);
+
+struct Ring {
+    events: VecDeque<String>,
+    most: usize,
+    /// How many events there were, and were when some were written to the file.
+    count: u64,
+    written: u64,
+    file: Option<File>,
+}
+
+impl Ring {
+    /// Those after the first so many.
+    fn text(&self, from: u64) -> String {
+        let left_out = (self.count - self.events.len() as u64).max(from);
+        let mut all = format!("# events {} to {}\n", left_out + 1, self.count);
+        all.extend(
+            self.events.range(self.events.len() - (self.count - left_out) as usize..).cloned(),
+        );
+        all
+    }
+
+    fn note(&mut self, lines: &str) {
+        let mut line = String::new();
+        if self.events.len() == self.most {
+            line = self.events.pop_front().unwrap_or_default();
+            line.clear();
+        }
+        line.push_str(lines);
+        self.events.push_back(line);
+        self.count += 1;
+        let reply = lines.lines().nth(1).unwrap_or("").trim_start_matches(&['#', ' '][..]);
+        if !(reply.starts_with("closed ") || reply.starts_with("misused ")) {
+            return;
+        }
+        let text = self.text(self.written);
+        if let Some(file) = &mut self.file {
+            let _ = file.write_all(text.as_bytes());
+            self.written = self.count;
+        }
+    }
+}
+
+impl LastEvents {
+    fn ring(&self) -> MutexGuard<'_, Ring> {
+        self.0.lock().unwrap_or_else(PoisonError::into_inner)
+    }
+
+    /// The recorder, for [`Options::record`].
+    pub fn record(&self) -> Record {
+        let last = self.clone();
+        Arc::new(move |lines| last.ring().note(lines))
+    }
+
+    /// The events, two lines each, after a remark that says which they are. O(its length).
+    pub fn text(&self) -> String {
+        self.ring().text(0)
+    }
+}
+
+impl fmt::Debug for LastEvents {
+    fn fmt(&self, f: &mut fmt::Formatter<'_>) -> fmt::Result {
+        f.debug_struct("LastEvents").field("count", &self.ring().count).finish_non_exhaustive()
+    }
+}
+
+/// Keeps the last so many events, at least one: some 100 bytes each, or as many as their two lines have.
+/// With a file it writes them there when the reply says that a node failed, `closed` or `misused`; those
+/// that were written are not written again. The labels that a recorder needs are kept in any case: of each
+/// client, and of each node that had one.
+pub fn record_last(count: usize, at_failure: Option<File>) -> LastEvents {
+    let (events, most) = (VecDeque::new(), count.max(1));
+    LastEvents(Arc::new(Mutex::new(Ring { events, most, count: 0, written: 0, file: at_failure })))
 }
 
 /// A recorder that adds the lines to this text, and hands them on if there is another recorder.
@@ -416,13 +304,14 @@ pub struct Options {
     /// 16 random bytes, if clients may be hostile: see `sysmem_open_seeded`.
     pub seed: Option<[u8; 16]>,
     /// Called under the lock, in the order of the events: it must be quick, and must not call the
-    /// service. Where it panics, the transcript ends. [`record_to`] makes a recorder. Without one, and
-    /// with SYSMEM_DEBUG=1 in the environment, the events are written to standard error.
+    /// service. Where it panics, the transcript ends. [`record_to`] and [`record_last`] make recorders.
+    /// Without one, and with SYSMEM_DEBUG=1 in the environment, the events are written to standard error.
     pub record: Option<Record>,
     /// Whether the service keeps its transcript for [`Service::transcript`](crate::Service::transcript):
     /// some 40 bytes an event.
     pub transcript: bool,
-    /// The pool's memory. It has at least as many pages as the pool.
+    /// The pool's memory. It has at least as many pages as the pool. Without one the service knows no bytes: a
+    /// [`Buffer`] is a name, of pages that are numbers or of the program's own buffers (`examples/own.rs`).
     #[cfg(target_os = "linux")]
     pub memory: Option<Arc<crate::Memory>>,
     /// After so long in `Collection::wait_allocated`, a line on standard error says for whom it waits.
@@ -483,36 +372,15 @@ impl Options {
     }
 }
 
-/// A number that is out of its range.
-#[derive(Clone, Copy, Debug, PartialEq, Eq, Hash)]
-pub struct OutOfRange {
-    /// Which number.
-    pub what: &'static str,
-    /// What it is.
-    pub is: u64,
-    /// The least that it may be.
-    pub least: u64,
-    /// The most that it may be.
-    pub most: u64,
-}
-
-impl OutOfRange {
-    /// Which of the constraints it is.
-    pub(crate) fn of_constraints(camping: u8, at_least: u8, size: u32) -> OutOfRange {
-        let few = |what, is: u8| OutOfRange { what, is: is.into(), least: 0, most: 64 };
-        match (camping, at_least) {
-            (65..=u8::MAX, _) => few("camping", camping),
-            (_, 65..=u8::MAX) => few("at_least", at_least),
-            _ => OutOfRange { what: "size", is: size.into(), least: 1, most: 1 << 30 },
-        }
+/// Whether the library's version is one for this crate, of which these are the major and the minor number.
+pub(crate) fn expect_version(is: u32, major: &str, minor: &str) -> Result<(), Error> {
+    let number = |text: &str| text.parse::<u64>().unwrap_or(0);
+    let (major, is) = (10_000 * number(major), u64::from(is));
+    let (least, most) = (major + 100 * number(minor), major + 9_999);
+    if (least..=most).contains(&is) {
+        return Ok(());
     }
-}
-
-impl fmt::Display for OutOfRange {
-    fn fmt(&self, f: &mut fmt::Formatter<'_>) -> fmt::Result {
-        let OutOfRange { what, is, least, most } = self;
-        write!(f, "{what} is {is}, and must be {least} to {most}")
-    }
+    Err(Error::BadLimits(OutOfRange { what: "the library's version", is, least, most }))
 }
 
 /// Why a call did not succeed.
@@ -550,7 +418,7 @@ impl Error {
         match code {
             5 => Error::HistoryFull,
             6 => Error::NoMemory,
-            _ => unreachable!("the core is open: {}", name(0, code)),
+            _ => unreachable!("the core is open: code {code}"),
         }
     }
 }
@@ -564,12 +432,12 @@ impl fmt::Display for Error {
                 write!(f, "closed: {cause}, by node {origin}")?;
                 label.as_ref().map_or(Ok(()), |label| write!(f, " ({label})"))
             }
-            Error::BadLimits(range) => write!(f, "{}: {range}", name(0, 3)),
-            Error::BadCall(range) => write!(f, "{}: {range}", name(0, 4)),
+            Error::BadLimits(range) => write!(f, "bad limits: {range}"),
+            Error::BadCall(range) => write!(f, "bad call: {range}"),
             Error::MemoryInUse => f.write_str("the memory is of another service"),
             Error::Vanished => f.write_str("refused: the client vanished"),
-            Error::HistoryFull => f.write_str(&name(0, 5)),
-            Error::NoMemory => f.write_str(&name(0, 6)),
+            Error::HistoryFull => f.write_str("history full"),
+            Error::NoMemory => f.write_str("no memory"),
         }
     }
 }
@@ -578,24 +446,10 @@ impl std::error::Error for Error {}
 
 /// A value that a refused call would have spent, and the error. The operator `?` turns it into an
 /// [`Error`] and drops the value: a token or a collection is then closed, and its node fails.
-#[derive(Debug)]
-pub struct Back<T> {
-    /// Why the call was refused.
-    pub error: Error,
-    /// What it would have spent.
-    pub value: T,
-}
+pub type Back<T> = sysmem_words::Back<T, Error>;
 
 impl<T> From<Back<T>> for Error {
     fn from(back: Back<T>) -> Error {
         back.error
     }
 }
-
-impl<T> fmt::Display for Back<T> {
-    fn fmt(&self, f: &mut fmt::Formatter<'_>) -> fmt::Result {
-        self.error.fmt(f)
-    }
-}
-
-impl<T: fmt::Debug> std::error::Error for Back<T> {}
