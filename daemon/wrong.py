@@ -7,6 +7,7 @@
 A wrong one is a text of a file that is replaced by another, with the tests that should catch it. With words, those whose
 names have one of them are tried. The last line counts."""
 import concurrent.futures
+import glob
 import os
 import shutil
 import subprocess
@@ -15,33 +16,32 @@ import tempfile
 
 HERE = os.path.dirname(os.path.abspath(__file__))
 LIBRARY = os.environ.get("LIBRARY", f"{HERE}/../bindings/build/libsysmem.a")
-WRAPS = "sysmem_step send sendmsg setsockopt fallocate"
 
 # To serve an event of a former socket for its successor is not among them: it reads where nothing is, and does no harm.
 # the file, what is wrong, the text, what stands in its place, the tests
 WRONG = [
     ("src/hangups.cpp", "late calls are forgotten", "if (!give_up(o)) put_off(o);", "(void)give_up(o);", "late_calls"),
     ("src/hangups.cpp", "late calls are not tried again", "        if (give_up(*o)) continue;\n        put_off(*o);\n        return;", "        return;", "late_calls"),
-    ("src/messages.cpp", "sends wait", "sendmsg(o.fd, &m, MSG_DONTWAIT | MSG_NOSIGNAL)", "sendmsg(o.fd, &m, MSG_NOSIGNAL)", "late_calls"),
-    ("src/messages.cpp", "sends raise signals", "sendmsg(o.fd, &m, MSG_DONTWAIT | MSG_NOSIGNAL)", "sendmsg(o.fd, &m, MSG_DONTWAIT)", "late_calls"),
-    ("src/messages.cpp", "a full socket stays", "if (why == EAGAIN) cut(o, SYSMEMD_UNREAD);", "", "full_sockets"),
+    ("src/messages.cpp", "sends wait", "sendmsg(o.fd, &goes.head, MSG_DONTWAIT | MSG_NOSIGNAL)", "sendmsg(o.fd, &goes.head, MSG_NOSIGNAL)", "late_calls"),
+    ("src/messages.cpp", "sends raise signals", "sendmsg(o.fd, &goes.head, MSG_DONTWAIT | MSG_NOSIGNAL)", "sendmsg(o.fd, &goes.head, MSG_DONTWAIT)", "late_calls"),
+    ("src/messages.cpp", "a full socket stays", "if (why == EAGAIN || count == 0) cut(o, SYSMEMD_UNREAD);", "", "full_sockets"),
     ("src/sockets.cpp", "hangups of former sockets end new ones", "if (!o || o->stamp != stamp) return;", "(void)stamp;\n    if (!o) return;\n    if (events & EPOLLHUP) return hang_up(*o), sweep();", "stale_events"),
     ("src/requests.cpp", "a claim finds what is cut", "at == by_cookie.end() || at->second->is_cut ? nullptr", "at == by_cookie.end() ? nullptr", "cut_and_claimed"),
     ("src/requests.cpp", "a claim needs no offer", "found && number != 0 && found->offer == number ? found : nullptr", "found", "stolen"),
     ("src/requests.cpp", "a claim moves before it delivers", "    ::close(two[1]);\n    move_to", "    move_to", "exhausted travels crowd"),
-    ("src/requests.cpp", "copies of a claimed socket stay", "    ::close(o.fd);\n    o.fd = fd;", "    o.fd = fd;", "stolen"),
+    ("src/requests.cpp", "copies of a claimed socket stay", "    close_side(o);\n    files++;\n    o.domain->descriptors++;", "    by_fd[std::size_t(o.fd)] = nullptr;", "stolen"),
     ("src/requests.cpp", "a claimed end is not told of its failure", "    if (o.is == Is::End && (static_cast", "    if (false && (static_cast", "stolen"),
     ("src/requests.cpp", "a claimed tracker is not told that it fired", "    if (o.is == Is::Tracker && static_cast", "    if (false && static_cast", "trackers"),
     ("src/requests.cpp", "unread fields may be anything", "    return ((reads & SIZE) || !q.size) && ", "    return true || ", "malformed"),
     ("src/requests.cpp", "labels of ops without one", "    if (!(reads & LABEL))\n", "    if (false)\n", "malformed"),
-    ("src/requests.cpp", "requests before Hello", "if (!o.domain && q.op != SYSMEMD_HELLO) return false;", "", "fuzzed malformed"),
+    ("src/requests.cpp", "requests before Hello", "(!o.domain && all[i].op != SYSMEMD_HELLO) || ", "", "fuzzed malformed"),
     ("src/hangups.cpp", "silent connections stay", "        cut(c, SYSMEMD_LATE);", "", "half_open"),
     ("src/connections.cpp", "any version", "if (q.left != SYSMEMD_VERSION) return", "if (false) return", "malformed"),
-    ("src/connections.cpp", "a uid may have all descriptors", "return d.descriptors + more <= left;", "return more <= left;", "exhausted"),
+    ("src/connections.cpp", "a uid may have all descriptors", "return d.descriptors + more <= left && may_send(d, 2);", "return more <= left;", "exhausted"),
     ("src/connections.cpp", "connections are not counted", "callers[peer.uid]++;", "callers[peer.uid] = 1;", "uid_limits half_open"),
     ("src/sockets.cpp", "no shares of a round", "if (spent >= options.share) return;", "", "shares"),
     ("src/sockets.cpp", "descriptors are received", "    setsockopt(fd, SOL_SOCKET, SO_PASSRIGHTS, &off, sizeof off);", "    (void)off;", "lingering malformed"),
-    ("src/sockets.cpp", "nothing is choked", "return ioctl(o.fd, SIOCOUTQ, &unread) == 0 && (unread + 1) * 4 > room;", "return false && unread;", "unread"),
+    ("src/sockets.cpp", "nothing is choked", "return (unread(o) + 1) * 4 > room || o.aloft >= 64;", "return o.aloft >= 64;", "unread"),
     ("src/hangups.cpp", "a hangup releases", "call_on(e.is_undelivered ? SYSMEM_RELEASE : SYSMEM_CLOSE, e.key)", "call_on(SYSMEM_RELEASE, e.key)", "travels"),
     ("src/hangups.cpp", "a hangup of a lease drops nothing", "Answer a = raw_step(d, c);\n    if (a.code == SYSMEM_NO_MEMORY) return false;\n    if (a.code != SYSMEM_DONE) say(\"uid %u: a handle", "Answer a;\n    if (a.code == SYSMEM_NO_MEMORY) return false;\n    if (a.code != SYSMEM_DONE) say(\"uid %u: a handle", "life"),
     ("src/hangups.cpp", "who waits is not told of a drop", "    tell_idle(t, index);\n    settle", "    settle", "life"),
@@ -52,8 +52,8 @@ WRONG = [
     ("src/leases.cpp", "others may be sealed out", "F_SEAL_SHRINK | F_SEAL_GROW | F_SEAL_SEAL", "F_SEAL_SHRINK | F_SEAL_GROW", "life"),
     ("src/leases.cpp", "memory stays", "        if (!(set >> i & 1)) forget_memory", "        if (false) forget_memory", "life"),
     ("src/leases.cpp", "memory goes while it is held", "        if (!(set >> i & 1)) forget_memory", "        if (true || !(set >> i & 1)) forget_memory", "life killed"),
-    ("src/leases.cpp", "memory is wiped", "    ::close(b.memory);\n", "    fallocate(b.memory, FALLOC_FL_PUNCH_HOLE | FALLOC_FL_KEEP_SIZE, 0, 4096);\n    ::close(b.memory);\n", "locked_file"),
-    ("src/leases.cpp", "nothing is reserved", "(options.reserves && fallocate(file, 0, 0, off_t(length)))", "false", "reserved"),
+    ("src/leases.cpp", "memory is wiped", "    if (t.bytes() < (1 << 20)", "    fallocate(b.memory, FALLOC_FL_PUNCH_HOLE | FALLOC_FL_KEEP_SIZE, 0, 4096);\n    if (t.bytes() < (1 << 20)", "locked_file"),
+    ("src/leases.cpp", "nothing is reserved", "    if (options.reserves) {", "    if (false) {", "reserved"),
     ("src/leases.cpp", "a strong handle tracks", "if (l.strength != SYSMEM_WEAK) return", "if (false) return", "answers"),
     ("src/events.cpp", "failures are not told", "        tell_failed(e);\n    }\n}", "    }\n}", "travels"),
     ("src/events.cpp", "allocations are not told", "        sysmem_given(&e.domain->core, e.tree->id, &r.count, &r.size);\n        send(e, r);", "        sysmem_given(&e.domain->core, e.tree->id, &r.count, &r.size);", "life"),
@@ -62,7 +62,7 @@ WRONG = [
     ("src/ends.cpp", "a refused release closes", "        e.is_undelivered = true; // it is released once there is memory\n", "", "late_calls"),
     ("src/lists.cpp", "lists begin anew", "std::min<std::size_t>(q.left, all.size())", "std::size_t(0)", "lists"),
     ("src/listener.cpp", "an old kernel does not matter", "if (options.is_old_ok) return made;", "return made;", "old_kernel"),
-    ("src/listener.cpp", "files are removed", "if (lstat(path.c_str(), &is) == 0 && !S_ISSOCK(is.st_mode)) {", "if (false) {", "options"),
+    ("src/listener.cpp", "files are removed", "&& !S_ISSOCK(is.st_mode)) {", "&& S_ISDIR(is.st_mode)) {", "options"),
     ("include/sysmem_remote/link.hpp", "an old IDLE answers", "if (r.set != armed) return false;", "", "idle"),
     ("include/sysmem_remote/link.hpp", "waits are not armed again", "is_to_arm |= !i->is_done;", "", "many_idle"),
     ("include/sysmem_remote/link.hpp", "what calls read lights nothing", "    void note() {\n        is_untold = is_news = true;\n        hub->light();", "    void note() {\n        is_untold = is_news = true;", "pending"),
@@ -73,6 +73,41 @@ WRONG = [
     ("include/sysmem_remote.hpp", "strangers are written to", "return peer.pid == daemon.pid && peer.uid == daemon.uid;", "return true;", "strangers"),
     ("include/sysmem_remote.hpp", "no look for room", "if (spare < 0 || getrandom", "if (getrandom", "full_table"),
     ("include/sysmem_remote.hpp", "a fault loses what came", "inbox->keep(socket, fd);", "::close(fd);", "full_table"),
+    ("rust/src/handle.rs", "Rust: a dropped handle's socket stays", "        Handle { mapping", "        std::mem::forget(link.clone());\n        Handle { mapping", "life"),
+    ("rust/src/sys.rs", "Rust: mappings stay", "            unsafe { munmap(start.cast(), self.length) };\n        }\n    }\n}", "        }\n    }\n}", "descriptors"),
+    ("rust/src/link.rs", "Rust: who reads sees no Cancel", "ends.as_ref().map(|fd| fd.as_fd())", "None", "waits"),
+    ("rust/src/link.rs", "Rust: a Cancel wakes nobody", "        self.changed.notify_all();\n    }\n}", "    }\n}", "waits"),
+    ("rust/src/link.rs", "Rust: a reply is the first request's", "waits.find(|slot| slot.0 == message.serial)", "waits.next()", "waits"),
+    ("rust/src/link.rs", "Rust: an old IDLE answers", "            told::IDLE if message.set != self.armed => return false, // of an earlier wait\n", "", "waits"),
+    ("rust/src/link.rs", "Rust: what calls read lights nothing", "        state.is_news = true;\n        self.hub.light();", "        state.is_news = true;", "waits"),
+    ("rust/src/hub.rs", "Rust: ended sockets are watched", "if is_to_unwatch {", "if false && is_to_unwatch {", "waits"),
+    ("rust/src/lib.rs", "Rust: a fault loses what came", "inbox.push((number, value));", "drop(value);", "passing"),
+    ("rust/src/lib.rs", "Rust: no look for room before what comes", "            self.link.has_room()?;\n            match sys::receive", "            match sys::receive", "passing"),
+    ("src/requests.cpp", "anything may stand before more", "((ops[i]->reads & LAST) && i + 1 < count)", "false", "several"),
+    ("src/requests.cpp", "the first of a message alone", "for (std::size_t i = 0; i < count && !o.is_cut; i++)\n        if (!ops", "for (std::size_t i = 0; i < 1 && !o.is_cut; i++)\n        if (!ops", "several"),
+    ("src/messages.cpp", "a reply that can't go is lost", "if (why == EAGAIN || count == 0) cut", "if (why == EAGAIN) cut", "refused_in_turn"),
+    ("src/inspect.cpp", "anyone inspects", "return c.who.uid == 0 || c.who.uid == geteuid();", "return c.who.uid == 0 || c.who.uid != 0;", "inspectors"),
+    ("src/inspect.cpp", "root alone inspects", "return c.who.uid == 0 || c.who.uid == geteuid();", "return c.who.uid == 0;", "inspectors"),
+    ("src/inspect.cpp", "objects of the first message alone", "    if (at < by_fd.size()) m.reply.set = at;\n", "", "inspected"),
+    ("src/connections.cpp", "root stays outside", " && uid != 0 && uid != geteuid()", "", "inspectors"),
+    ("src/transcript.cpp", "a transcript may be written", "O_RDONLY", "O_RDWR", "ctl"),
+    ("src/sockets.cpp", "descriptors under way without end", " || o.aloft >= 64;", ";", "unread_files"),
+    ("src/sockets.cpp", "a uid has all descriptors under way", "    return is_in();\n", "    return true;\n", "in_flight"),
+    ("src/sockets.cpp", "what was read is still under way", "!is_in() && i < 256 && d.aloft_first", "false && i < 256 && d.aloft_first", "in_flight"),
+    ("src/sockets.cpp", "what is cut counts no more", "auto *rest = count > 0 ?", "auto *rest = count > 1000000 ?", "unread_files"),
+    ("src/sockets.cpp", "a Rest stays", "return is_read(*o) ? destroy(o) : void(), sweep();", "return;", "unread_files"),
+    ("src/sockets.cpp", "who waits for memory does not hang up", "if (is_over && o->is_held) o->is_held = false, o->taking = 0;", "if (is_over && o->is_held) return;", "slow_memory"),
+    ("src/leases.cpp", "the loop gives large memory back", "if (t.bytes() < (1 << 20) && b.reserved != Buffer::UNDER_WAY)", "if (t.bytes() > 0 && b.reserved != Buffer::UNDER_WAY)", "large"),
+    ("src/leases.cpp", "memory is handed out before it is there", "        if (b.reserved == Buffer::UNDER_WAY) all = Buffer::UNDER_WAY;\n", "", "slow_memory reserved"),
+    ("src/leases.cpp", "a Take that waited is forgotten", "if (std::exchange(e->is_held, false)) choke(*e, false);", "if (std::exchange(e->is_held, false)) e->taking = 0, choke(*e, false);", "slow_memory"),
+    ("src/worker.cpp", "the first slice is all", "if (is != 0 || e.from == e.length)", "if (true)", "slow_memory"),
+    ("src/worker.cpp", "a refusal is a success", "finish(turn, 0, is == 0)", "finish(turn, 0, true)", "reserved"),
+    ("src/worker.cpp", "files stay open", "        ::close(file);\n        lock.lock();", "        lock.lock();", "large"),
+    ("src/main.cpp", "accept is tried at once", "if ((errno == EMFILE || errno == ENFILE) && turn_one_away()) return;", "if (errno == EMFILE || errno == ENFILE) return void(turn_one_away());", "accept_errors"),
+    ("src/listener.cpp", "any descriptor listens", " || option_of(3, SO_ACCEPTCONN) != 1", "", "activated"),
+    ("src/listener.cpp", "descriptors for another process", "std::strtol(pid, nullptr, 10) == getpid()", "std::strtol(pid, nullptr, 10) != 0", "activated"),
+    ("src/listener.cpp", "more descriptors stay open", "    for (int other = 4; other < 3 + count; other++) close(other);\n", "    (void)count;\n", "activated"),
+    ("include/sysmem_remote.hpp", "one message of objects", "} while (q.left != 0);", "} while (false);", "inspected"),
 ]
 
 
@@ -85,7 +120,7 @@ def run(words, **more):
 def try_one(room, number, path, name, old, new, tests):
     """Says which test catches it."""
     folder = f"{room}/{number}"
-    shutil.copytree(HERE, folder, ignore=shutil.ignore_patterns("build"))
+    shutil.copytree(HERE, folder, ignore=shutil.ignore_patterns("build", "target"))
     if path.startswith("src") and os.path.isdir(f"{HERE}/build/plain"):  # make compiles what is newer
         shutil.copytree(f"{HERE}/build/plain", f"{folder}/build/plain")
     with open(f"{folder}/{path}") as file:
@@ -95,22 +130,43 @@ def try_one(room, number, path, name, old, new, tests):
     with open(f"{folder}/{path}", "w") as file:
         file.write(text.replace(old, new, 1))
     top = os.path.realpath(f"{HERE}/..")
+    if path.startswith("rust"):
+        return try_rust(f"{folder}/rust", tests.split())
     make = ["make", "-s", "-C", folder, f"top={top}", f"lib={LIBRARY}"]
     if path.startswith("src"):  # the tests stay as they are
         made = run([*make, "build/sysmemd", "build/sysmemd.wrapped"])
         program, daemon = f"{HERE}/build/tests", f"{folder}/build"
-    else:
-        made = run([*make, "build/tests"])
-        program, daemon = f"{folder}/build/tests", f"{HERE}/build"
+    else:  # the tests in one piece: the headers are read once
+        with open(f"{folder}/tests.cpp", "w") as file:
+            file.writelines(f'#include "{one}"\n' for one in sorted(glob.glob(f"{folder}/tests/*.cpp")))
+        program, daemon = f"{folder}/tests.all", f"{HERE}/build"
+        made = run(["c++", "-std=c++17", *[f"-I{it}" for it in (f"{folder}/include", f"{folder}/tests", f"{top}/include",
+                                                               f"{top}/bindings/cpp")],
+                    f"{folder}/tests.cpp", LIBRARY, "-pthread", "-o", program])
     if made:
         return f"DOES NOT BUILD: {made}"
-    environment = dict(os.environ, SYSMEMD=f"{daemon}/sysmemd", WRAPPED=f"{daemon}/sysmemd.wrapped")
+    environment = dict(os.environ, SYSMEMD=f"{daemon}/sysmemd", WRAPPED=f"{daemon}/sysmemd.wrapped",
+                       SYSMEMCTL=f"{HERE}/build/sysmemctl", REFUSE=f"{HERE}/build/refuse.so")
     for test in tests.split():
         try:
             if run([program, test], env=environment, timeout=100):
                 return f"caught by {test}"
         except subprocess.TimeoutExpired:
             return f"caught by {test}, which hangs"
+    return "SURVIVES"
+
+
+def try_rust(folder, tests):
+    """Says which test catches it, of the crate in this folder."""
+    environment = dict(os.environ, SYSMEMD=f"{HERE}/build/sysmemd", SYSMEM_LIB_DIR=os.path.dirname(LIBRARY), CARGO_TARGET_DIR=f"{folder}/target")
+    # `timeout` ends what the tests have started, too.
+    cargo = ["timeout", "150", "cargo", "test", "--offline", "--quiet", "--manifest-path", f"{folder}/Cargo.toml", "--test"]
+    for test in tests:
+        made = run(["timeout", "600", *cargo[2:], test, "--no-run"], env=environment)
+        if made:
+            return f"DOES NOT BUILD: {made}"
+        if run([*cargo, test], env=environment):
+            return f"caught by {test}"
     return "SURVIVES"
 
 
@@ -129,6 +185,7 @@ def main():
     wanted = [it for it in WRONG if len(sys.argv) < 2 or any(word in it[1] for word in sys.argv[1:])]
     caught = 0
     with tempfile.TemporaryDirectory() as room:
+        os.symlink(os.path.realpath(f"{HERE}/../bindings"), f"{room}/bindings")
         with concurrent.futures.ThreadPoolExecutor(int(os.environ.get("LANES", "3"))) as pool:
             told = [pool.submit(try_one, room, number, *it) for number, it in enumerate(wanted)]
             for it, one in zip(wanted, told):

@@ -124,14 +124,33 @@ public:
         return detail::refused(Refusal::WrongKind);
     }
     /// Numbers of the core of this process's uid.
-    Result<Status> status() const {
-        auto got = detail::ask(link, detail::request(SYSMEMD_STATUS), Refusal::NoSuchClient);
-        if (!got) return std::move(got).error();
-        const sysmemd_reply &r = got->reply();
-        return Status{r.count, r.index, r.size, r.id, r.set, r.detail, r.event};
-    }
+    Result<Status> status() const { return ask_status(SYSMEMD_STATUS, 0); }
     /// The kept nodes of the same.
     Result<std::vector<Node>> nodes() const { return detail::read_nodes(link, SYSMEMD_NODES, Refusal::NoSuchClient); }
+    /// All objects of the daemon, of whatever uid. Refused, as the two that follow, to all but root and the daemon's own uid.
+    Result<std::vector<sysmemd_seen>> objects() const {
+        std::vector<sysmemd_seen> all;
+        sysmemd_request q = detail::request(SYSMEMD_INSPECT);
+        do {
+            auto got = detail::ask(link, q, Refusal::NoSuchClient);
+            if (!got) return std::move(got).error();
+            sysmemd_inspected some;
+            std::memcpy(&some, &got->words, sizeof some);
+            all.insert(all.end(), some.seen, some.seen + std::min<std::uint32_t>(some.reply.count, SYSMEMD_SEEN_AT_ONCE));
+            q.left = std::uint32_t(some.reply.set);
+        } while (q.left != 0);
+        return all;
+    }
+    /// As status(), of the core of this uid.
+    Result<Status> status_of(std::uint32_t uid) const { return ask_status(SYSMEMD_STATUS_OF, uid); }
+    /// The transcript of this core so far, as a file open for reading, which the caller closes.
+    Result<int> transcript_of(std::uint32_t uid) const {
+        sysmemd_request q = detail::request(SYSMEMD_TRANSCRIPT);
+        q.left = uid;
+        auto got = detail::ask(link, q, Refusal::NoSuchClient);
+        if (!got) return std::move(got).error();
+        return got->fds.take(0);
+    }
     /// One descriptor for an event loop: readable as long as pending() has something to tell of the values that this
     /// connection made or adopted, or the daemon is gone; at times also when there is nothing. -1 if the system gives none.
     int fd() const { return link ? link->hub->open() : -1; }
@@ -204,6 +223,14 @@ private:
         ::close(fd);
         errno = why;
         return -1;
+    }
+    Result<Status> ask_status(std::uint32_t op, std::uint32_t uid) const {
+        sysmemd_request q = detail::request(op);
+        q.left = uid;
+        auto got = detail::ask(link, q, Refusal::NoSuchClient);
+        if (!got) return std::move(got).error();
+        const sysmemd_reply &r = got->reply();
+        return Status{r.count, r.index, r.size, r.id, r.set, r.detail, r.event};
     }
     static void tell(detail::Link &link, Pending &told) {
         std::unique_lock<std::mutex> lock(link.mutex);

@@ -1,10 +1,12 @@
 /** \file
- * What goes over the sockets of sysmemd: one struct a message, AF_UNIX SOCK_SEQPACKET, in the machine's own byte order.
+ * What goes over the sockets of sysmemd: structs over AF_UNIX SOCK_SEQPACKET, in the machine's own byte order.
  *
- * A client sends sysmemd_request. The daemon answers each but OFFER by one sysmemd_reply with its serial, and sends events,
- * which are replies with serial 0. No message of a client carries a descriptor, and none names another object: a
- * request is about the object whose socket it comes on. A message of another length, with a descriptor, with a field
- * that is not zero although its op does not read it, or with an op that the object does not have, ends the socket.
+ * A client sends messages of one sysmemd_request, or of several, SYSMEMD_AT_ONCE at most, one behind the other. The daemon
+ * answers each request but OFFER by one message, a sysmemd_reply with its serial, in their order, and sends events,
+ * which are replies with serial 0. What one request is answered does not stop those behind it. No message of a client
+ * carries a descriptor, and none names another object: a request is about the object whose socket it comes on. A message of
+ * another length, with a descriptor, with a field that is not zero although its op does not read it, or with an op that the
+ * object does not have, ends the socket, and nothing of it is done.
  *
  * Objects are sockets: a connection (the path), an end (a token, then a collection), a lease (an open handle), a
  * tracker. To close the last copy of a descriptor is SYSMEM_CLOSE of an end, SYSMEM_DROP_HANDLE of a lease. */
@@ -21,6 +23,8 @@ extern "C" {
 #define SYSMEMD_VERSION 1
 /** "sysm", in a Hello's field `size`. */
 #define SYSMEMD_MAGIC 0x6d737973u
+/** How many requests a message has at most. TAKE, RELEASE, HELLO, CLAIM, and those that are answered by a list, are its last. */
+#define SYSMEMD_AT_ONCE 16
 
 /** The ops beside those numbers of sysmem_kind that go over a socket: OPEN_ROOT (label) on a connection; DUPLICATE and
  * ATTACH_TOKEN (label), SYNC, BIND, SET_DISPENSABLE, SET_WEAK, SET_WEAK_OK (children), SET_CONSTRAINTS (camping, at_least,
@@ -38,8 +42,11 @@ enum sysmemd_op {
     SYSMEMD_OPEN_HANDLES = 71, /**< lease: how many leases of this buffer are open */
     SYSMEMD_ON_IDLE = 72,      /**< lease; left: tell once at most so many leases of this buffer are open; cookie: a
                                     number that the event repeats, so that one of an earlier wait is known as such */
-    SYSMEMD_OFFER = 73         /**< end, lease, tracker; size, left: a random number, not 0 both, for CLAIM. It has no
+    SYSMEMD_OFFER = 73,        /**< end, lease, tracker; size, left: a random number, not 0 both, for CLAIM. It has no
                                     reply */
+    SYSMEMD_INSPECT = 74,      /**< connection of the daemon's own uid, or root: the objects of all uids, from number `left` on */
+    SYSMEMD_STATUS_OF = 75,    /**< the same: numbers of the core of the uid `left` */
+    SYSMEMD_TRANSCRIPT = 76    /**< the same: the transcript of this core, open for reading */
 };
 
 /** A request: 64 bytes. What an op does not read is zero. */
@@ -70,12 +77,20 @@ enum sysmemd_reply_kind {
     SYSMEMD_LIST = 67,       /**< count: how many sysmemd_node follow in this message, SYSMEMD_NODES_AT_ONCE at most; set: how
                                 many there are in all; event: while it is the same, so is the list */
     SYSMEMD_WELCOME = 68,    /**< to HELLO; detail: the daemon's version of the protocol */
+    SYSMEMD_OBJECTS = 69,    /**< count: how many sysmemd_seen follow in this message, SYSMEMD_SEEN_AT_ONCE at most; set: the
+                                number to begin with next, 0 at the end. Objects that come or go meanwhile may be missing */
     SYSMEMD_ALLOCATED = 128, /**< event on an end: its unit is allocated; count buffers of size bytes */
     SYSMEMD_FAILED = 129,    /**< event on an end: detail: cause; key, label, pid: the origin */
     SYSMEMD_IDLE = 130,      /**< event on a lease: count leases are open, as few as ON_IDLE asked; set: its number */
     SYSMEMD_FIRED = 131,     /**< event on a tracker; id: the tracker, set: the event at which it fired */
     SYSMEMD_ENDING = 132     /**< event on any socket, which then ends; detail: a sysmemd_ending, count: the daemon's
                                 version of the protocol. A socket that ends without it: the daemon is gone */
+};
+
+/** A refusal beside those of sysmem_refusal. */
+enum sysmemd_refusal {
+    SYSMEMD_NOT_ALLOWED = 64, /**< only the daemon's own uid and root may ask this */
+    SYSMEMD_NO_SUCH_CORE = 65 /**< the uid has no core, or that has no transcript */
 };
 
 /** Why the daemon ends a socket. */
@@ -85,7 +100,7 @@ enum sysmemd_ending {
     SYSMEMD_VERSION_IS = 3, /**< the daemon does not speak the version of the Hello */
     SYSMEMD_CROWDED = 4,   /**< a limit allows no more connections, uids or descriptors */
     SYSMEMD_LATE = 5,      /**< no Hello came */
-    SYSMEMD_UNREAD = 6     /**< the socket was full of unread replies; this one may be missing, too */
+    SYSMEMD_UNREAD = 6     /**< the socket was full of unread replies, or the system refused one; this may be missing, too */
 };
 
 /** What a socket is. */
@@ -98,8 +113,8 @@ enum sysmemd_object {
     SYSMEMD_TRACKER = 5     /**< a tracker */
 };
 
-/** A reply or an event: 96 bytes. Descriptors come along: one with NEW_TOKEN, TRACKER, the OK of MEMORY and a CLAIM that
- * succeeded; a lease and a memfd for each buffer of TAKEN, by index, and the same two with the OK of DUP_HANDLE. */
+/** A reply or an event: 96 bytes. Descriptors come along: one with NEW_TOKEN, TRACKER, the OK of MEMORY and TRANSCRIPT and a
+ * CLAIM that succeeded; a lease and a memfd for each buffer of TAKEN, by index, and the same two with the OK of DUP_HANDLE. */
 typedef struct sysmemd_reply {
     uint32_t kind;       /**< a sysmem_reply_kind, or a sysmemd_reply_kind */
     uint32_t serial;     /**< of the request; 0: an event */
@@ -129,6 +144,52 @@ SYSMEM_SIZE(sysmemd_node, 112);
 
 /** How many elements a message has at most. */
 #define SYSMEMD_NODES_AT_ONCE 32
+
+/** The bits of a sysmemd_seen's state. */
+enum sysmemd_seen_state {
+    SYSMEMD_SEEN_SILENT = 1, /**< a connection that said no Hello yet */
+    SYSMEMD_SEEN_UNREAD = 2, /**< its replies are unread: its requests wait */
+    SYSMEMD_SEEN_WAITS = 4,  /**< a lease whose holder waits until few are open; a tracker that did not fire */
+    SYSMEMD_SEEN_ENDS = 8    /**< it was cut off */
+};
+
+/** An element of OBJECTS: an object of the daemon. What its kind does not have is zero. */
+typedef struct sysmemd_seen {
+    uint8_t is;          /**< a sysmemd_object */
+    uint8_t state;       /**< bits of sysmemd_seen_state */
+    uint8_t camping;     /**< of an end: the buffers that its node camps on */
+    uint8_t at_least;    /**< of an end: the least number of buffers that it asked for */
+    uint8_t cause;       /**< of an end whose node failed: why */
+    uint8_t index;       /**< of a lease: its buffer */
+    uint8_t strength;    /**< of a lease */
+    uint8_t count;       /**< of an end, a lease: buffers of the collection; 0: not allocated */
+    uint32_t core;       /**< the uid whose core it is of */
+    uint32_t pid;        /**< of the process that sent the last message on it; 0: none did */
+    uint32_t uid;        /**< of the same */
+    uint32_t flags;      /**< of an end: bits of sysmem_node_flag */
+    char label[32];      /**< its label */
+    sysmem_key key;      /**< of an end: its node */
+    sysmem_key parent;   /**< of an end: the node's parent; a root is its own */
+    sysmem_key head;     /**< of an end: the head of its unit */
+    sysmem_key above;    /**< of an end: the head of the unit above; its own if there is none */
+    sysmem_key origin;   /**< of an end whose node failed: the node whose loss reached it */
+    uint64_t id;         /**< its collection, or the tracker */
+    uint64_t held;       /**< of an end, a lease: bit i: buffer i of the collection holds pages. Of a tracker: the event at
+                              which it fired */
+    uint32_t asked;      /**< of an end: bytes of each buffer that it asked for */
+    uint32_t size;       /**< of an end, a lease: bytes of each buffer of the collection */
+} sysmemd_seen;
+SYSMEM_SIZE(sysmemd_seen, 120);
+
+/** How many of them a message has at most. */
+#define SYSMEMD_SEEN_AT_ONCE 29
+
+/** A message of OBJECTS. */
+typedef struct sysmemd_inspected {
+    sysmemd_reply reply;                     /**< OBJECTS */
+    sysmemd_seen seen[SYSMEMD_SEEN_AT_ONCE]; /**< `count` of them are sent */
+} sysmemd_inspected;
+SYSMEM_SIZE(sysmemd_inspected, 96 + 120 * SYSMEMD_SEEN_AT_ONCE);
 
 /** The longest message of the daemon. */
 typedef struct sysmemd_list {

@@ -24,7 +24,7 @@ Daemon::~Daemon() {
     for (auto &d : domains) {
         while (Object *o = d.second->late) d.second->late = o->next_late, delete o;
         for (auto &t : d.second->trees)
-            for (Buffer &b : t.second->buffers) forget_memory(*d.second, b);
+            for (Buffer &b : t.second->buffers) forget_memory(*d.second, *t.second, b);
     }
 }
 
@@ -91,8 +91,9 @@ bool Daemon::greet(Connection &c, const sysmemd_request &q) {
     return true;
 }
 
-bool Daemon::tell_status(Connection &c, const sysmemd_request &q) {
-    Domain &d = *c.domain;
+bool Daemon::tell_own_status(Connection &c, const sysmemd_request &q) { return tell_status(c, q, *c.domain); }
+
+bool Daemon::tell_status(Connection &c, const sysmemd_request &q, Domain &d) {
     sysmemd_reply r = empty_reply(c, q, SYSMEMD_STATE);
     std::uint64_t live = 0;
     sysmem_key no_key;
@@ -111,7 +112,7 @@ bool Daemon::tell_status(Connection &c, const sysmemd_request &q) {
 Domain *Daemon::domain_of(std::uint32_t uid) {
     auto at = domains.find(uid);
     if (at != domains.end()) return at->second.get();
-    if (domains.size() >= options.uids) return nullptr;
+    if (domains.size() >= options.uids && uid != 0 && uid != geteuid()) return nullptr;
     try {
         auto made = make_domain(uid);
         if (!made) return nullptr;
@@ -150,9 +151,9 @@ void Daemon::sweep() {
         at = at->second->objects == 0 && !at->second->late ? domains.erase(at) : std::next(at);
 }
 
-bool Daemon::has_room(const Domain &d, std::size_t more) const {
-    std::uint64_t left = options.files > files ? options.files - files : 0;
-    return d.descriptors + more <= left;
+bool Daemon::has_room(Domain &d, std::size_t more) {
+    std::uint64_t mine = files + worker.closing(), left = options.files > mine ? options.files - mine : 0;
+    return d.descriptors + more <= left && may_send(d, 2);
 }
 
 } // namespace sysmemd

@@ -10,6 +10,7 @@
 
 #include "objects.hpp"
 #include "options.hpp"
+#include "worker.hpp"
 
 namespace sysmemd {
 
@@ -30,19 +31,23 @@ public:
     // many milliseconds there is more to do; -1 if nothing is left.
     int catch_up();
 
+    // Readable once memory is there that requests wait for; they go on by finish_errands.
+    int errands_fd() const { return worker.fd(); }
+    void finish_errands();
     // Tells a peer whom we turn away.
     static void turn_away(int fd);
 
 private:
     // ---- Connections and uids: connections.cpp ----
     bool greet(Connection &c, const sysmemd_request &q);
-    bool tell_status(Connection &c, const sysmemd_request &q);
+    bool tell_own_status(Connection &c, const sysmemd_request &q);
+    bool tell_status(Connection &c, const sysmemd_request &q, Domain &d);
     void forget_waiting(Connection &c);
     Domain *domain_of(std::uint32_t uid);
     std::unique_ptr<Domain> make_domain(std::uint32_t uid);
     void sweep();
-    // Whether the uid may have so many descriptors more: no uid has more than what it leaves to the others.
-    bool has_room(const Domain &d, std::size_t more) const;
+    // Whether the uid may have so many descriptors more, and send one: no uid has more than what it leaves to the others.
+    bool has_room(Domain &d, std::size_t more);
 
     // ---- Sockets: sockets.cpp ----
     std::uint32_t next_stamp() { return ++stamps == 0 ? ++stamps : stamps; } // 0 is the listener's
@@ -56,10 +61,14 @@ private:
     }
     bool open_pair(Domain &d, Object &o, int &theirs);
     void leave(Object &o);
+    void close_side(Object &o);
     void destroy(Object *o);
     void cut(Object &o, std::uint32_t why);
     void choke(Object &o, bool is_choked);
-    bool is_full(const Object &o) const;
+    bool is_full(Object &o);
+    void launch(Object &o, std::size_t count);
+    void land(Object &o);
+    bool may_send(Domain &d, std::size_t more);
 
     // ---- Messages: messages.cpp ----
     void read_one(Object &o, bool is_over);
@@ -74,7 +83,7 @@ private:
     // ---- Requests: requests.cpp. False: the message is malformed ----
     struct Op;
     static const Op *find_op(std::uint32_t op, Is on);
-    bool serve(Object &o, const sysmemd_request &q);
+    bool serve(Object &o, const sysmemd_request *all, std::size_t count);
     bool offer(Object &o, const sysmemd_request &q);
     bool describe(Object &o, const sysmemd_request &q);
     sysmemd_reply description(const Object &to, const sysmemd_request &q, const Object &o);
@@ -105,13 +114,21 @@ private:
     void keep_lease(Lease &l, Tree &t, std::uint8_t index, std::uint32_t strength, const Who &who);
     void tell_idle(Tree &t, std::uint8_t index);
     bool place_memory(Domain &d, const Tree &t, Buffer &b);
-    void forget_memory(Domain &d, Buffer &b);
+    void forget_memory(Domain &d, const Tree &t, Buffer &b);
+    std::uint8_t reserve(Domain &d, Tree &t, Taking &taking);
+    void resume(End &e);
     void bring_home(Domain &d, Tree &t);
 
     // ---- Lists: lists.cpp ----
     bool list_nodes(Connection &c, const sysmemd_request &q);
     bool waits_for(End &e, const sysmemd_request &q);
     bool list(Object &o, const sysmemd_request &q, const std::vector<sysmem_node> &all);
+
+    // ---- What root and the daemon's own uid may ask: inspect.cpp ----
+    bool inspect(Connection &c, const sysmemd_request &q);
+    Domain *inspected(Connection &c, const sysmemd_request &q);
+    bool tell_status_of(Connection &c, const sysmemd_request &q);
+    bool send_transcript(Connection &c, const sysmemd_request &q);
 
     // ---- Events: events.cpp ----
     Answer step(Domain &d, const sysmem_call &c, const std::string *label = nullptr);
@@ -135,11 +152,14 @@ private:
 
     Options options;
     int epoll;
+    Worker worker;
+    std::uint64_t errands = 0; // given to the worker so far
     int room = 0; // what the system made of options.room
     std::uint32_t stamps = 0;
     std::uint64_t round = 0;
     std::uint64_t strangers_round = 0, strangers_spent = 0; // nanoseconds of those without a Hello
     std::uint64_t transcripts = 0;
+    std::size_t aloft = 0; // descriptors that were sent, and may be unread
     std::uint64_t files = 16; // that the process has, and some that it needs for a moment
     bool is_to_sweep = false;
     // Of the last event that failed ends: all of them mostly have one origin.

@@ -112,6 +112,7 @@ bool Daemon::track(Object &o, Tree &t, const sysmemd_request &q, const sysmem_ca
     Tracker *made = make<Tracker>(d, theirs);
     try {
         if (!made) return fault(o, q, SYSMEM_NO_MEMORY);
+        made->who = o.who;
         d.trackers.reserve(d.trackers.size() + 2);
         d.trackers.emplace(0, nullptr); // it gets its number after the event
     } catch (const std::bad_alloc &) {

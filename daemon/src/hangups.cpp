@@ -81,6 +81,7 @@ int Daemon::catch_up() {
     int wait = -1;
     for (auto &d : domains) {
         catch_up(*d.second);
+        if (d.second->transcript) d.second->transcript->flush();
         if (d.second->late) wait = 10;
     }
     std::uint64_t time = first_waiting ? now() : 0;
@@ -112,7 +113,7 @@ void Daemon::remember(Tree &t, const End &e) {
 
 void Daemon::drop_if_empty(Domain &d, Tree &t) {
     if (!t.ends.empty() || !t.leases.empty()) return;
-    for (Buffer &b : t.buffers) forget_memory(d, b);
+    for (Buffer &b : t.buffers) forget_memory(d, t, b);
     d.trees.erase(t.id);
 }
 

@@ -6,6 +6,7 @@
 #include <new>
 #include <sys/mman.h>
 #include <unistd.h>
+#include <utility>
 
 namespace sysmemd {
 
@@ -65,9 +66,15 @@ bool Daemon::take(End &e, const sysmemd_request &q) {
     sysmem_given(&d.core, t.id, &count, &size);
     if (count > 0) sysmem_held_of(&d.core, t.id, taking.held, 64, &taking.count);
     if (d.descriptors + taking.count > options.descriptors) return refuse(e, q, SYSMEM_TOO_MANY_HANDLES);
+    if (!make_room(t, count, size) || !may_send(d, 2 * taking.count)) return fault(e, q, SYSMEM_NO_MEMORY);
+    if (options.reserves) {
+        auto is = reserve(d, t, taking);
+        if (is == Buffer::REFUSED) return fault(e, q, SYSMEM_NO_MEMORY);
+        if (is == Buffer::UNDER_WAY) return e.taking = q.serial, e.is_held = true, choke(e, true), true;
+    }
     sysmem_call c = call_on(SYSMEM_TAKE, e.key);
     Answer a;
-    if (make_room(t, count, size) && prepare(d, t, taking)) a = step(d, c);
+    if (prepare(d, t, taking)) a = step(d, c);
     else a.code = SYSMEM_NO_MEMORY;
     keep_taken(e, taking, a);
     sysmemd_reply r = reply_of(e, &t, q, a);
@@ -76,6 +83,54 @@ bool Daemon::take(End &e, const sysmemd_request &q) {
     for (std::size_t i = 0; i < taking.handed; i += 2) ::close(taking.fds[i]);
     settle(d, t, c, a);
     return true;
+}
+
+// Whether the memory of all buffers that may be taken is there. If not, the worker takes it from the system: memory of one that
+// somebody has is there, so nobody else has the file. What was refused is tried again at the next Take.
+std::uint8_t Daemon::reserve(Domain &d, Tree &t, Taking &taking) {
+    std::uint8_t all = Buffer::THERE;
+    for (std::uint64_t i = 0; i < taking.count; i++) {
+        Buffer &b = t.buffers[taking.held[i].index];
+        if (b.reserved == Buffer::REFUSED) b.reserved = Buffer::NONE, all = Buffer::REFUSED;
+    }
+    for (std::uint64_t i = 0; i < taking.count && all != Buffer::REFUSED; i++) {
+        Buffer &b = t.buffers[taking.held[i].index];
+        if (!place_memory(d, t, b)) return Buffer::REFUSED;
+        if (b.reserved == Buffer::NONE) {
+            b.errand = ++errands;
+            if (!worker.reserve({b.errand, d.uid, t.id, b.memory, t.bytes()})) return Buffer::REFUSED;
+            b.reserved = Buffer::UNDER_WAY;
+        }
+        if (b.reserved == Buffer::UNDER_WAY) all = Buffer::UNDER_WAY;
+    }
+    return all;
+}
+
+// Lets Takes go on that waited for memory, each in its uid's share of a round.
+void Daemon::finish_errands() {
+    for (Worker::Errand done; worker.next(done);) {
+        auto d = domains.find(done.uid);
+        if (d == domains.end()) continue;
+        auto t = d->second->trees.find(done.tree);
+        if (t == d->second->trees.end()) continue;
+        bool is_more = false;
+        for (Buffer &b : t->second->buffers) {
+            if (b.errand == done.number && b.reserved == Buffer::UNDER_WAY)
+                b.reserved = done.is_there ? Buffer::THERE : Buffer::REFUSED;
+            is_more |= b.reserved == Buffer::UNDER_WAY;
+        }
+        if (is_more) continue;
+        for (End *e : t->second->ends)
+            if (std::exchange(e->is_held, false)) choke(*e, false);
+    }
+}
+
+void Daemon::resume(End &e) {
+    sysmemd_request q{};
+    q.op = SYSMEM_TAKE;
+    q.serial = std::exchange(e.taking, 0);
+    choke(e, false);
+    take(e, q);
 }
 
 bool Daemon::duplicate(Lease &l, const sysmemd_request &q) {
@@ -124,7 +179,7 @@ bool Daemon::track_weak(Lease &l, const sysmemd_request &q) {
 
 bool Daemon::send_memory(Lease &l, const sysmemd_request &q) {
     Buffer &b = l.tree->buffers[l.index];
-    if (!place_memory(*l.domain, *l.tree, b)) return fault(l, q, SYSMEM_NO_MEMORY);
+    if (!may_send(*l.domain, 1) || !place_memory(*l.domain, *l.tree, b)) return fault(l, q, SYSMEM_NO_MEMORY);
     sysmemd_reply r = empty_reply(l, q, SYSMEM_OK);
     r.size = l.tree->size;
     deliver(l, q, r, &b.memory, 1);
@@ -167,11 +222,9 @@ void Daemon::tell_idle(Tree &t, std::uint8_t index) {
 bool Daemon::place_memory(Domain &d, const Tree &t, Buffer &b) {
     if (b.memory >= 0) return true;
     if (d.descriptors >= options.descriptors || !has_room(d, 1)) return false;
-    std::size_t length = (std::size_t(t.size) + 4095) / 4096 * 4096;
     int file = memfd_create("sysmem buffer", MFD_CLOEXEC | MFD_ALLOW_SEALING);
     if (file < 0) return false;
-    if (ftruncate(file, off_t(length)) || (options.reserves && fallocate(file, 0, 0, off_t(length))) ||
-        fcntl(file, F_ADD_SEALS, F_SEAL_SHRINK | F_SEAL_GROW | F_SEAL_SEAL)) {
+    if (ftruncate(file, off_t(t.bytes())) || fcntl(file, F_ADD_SEALS, F_SEAL_SHRINK | F_SEAL_GROW | F_SEAL_SEAL)) {
         ::close(file);
         return false;
     }
@@ -184,10 +237,13 @@ bool Daemon::place_memory(Domain &d, const Tree &t, Buffer &b) {
 
 // Forgets a buffer's memory, which no later buffer gets. Its pages go with the last mapping; they are not punched out: that
 // waits for the file's lock, which a holder who sits in write() has for as long as it likes, in a sleep that no signal ends.
-void Daemon::forget_memory(Domain &d, Buffer &b) {
+// What is large goes by the worker: the last close of a gigabyte takes 40 ms.
+void Daemon::forget_memory(Domain &d, const Tree &t, Buffer &b) {
     if (b.memory < 0) return;
-    ::close(b.memory);
+    if (t.bytes() < (1 << 20) && b.reserved != Buffer::UNDER_WAY) ::close(b.memory);
+    else worker.close(b.memory);
     b.memory = -1;
+    b.reserved = Buffer::NONE;
     d.memories--;
     d.descriptors--;
     files--;
@@ -201,7 +257,7 @@ void Daemon::bring_home(Domain &d, Tree &t) {
     if (sysmem_held_of(&d.core, t.id, held, 64, &all)) return;
     for (std::uint64_t i = 0; i < all; i++) set |= std::uint64_t(1) << held[i].index;
     for (std::size_t i = 0; i < t.buffers.size(); i++)
-        if (!(set >> i & 1)) forget_memory(d, t.buffers[i]);
+        if (!(set >> i & 1)) forget_memory(d, t, t.buffers[i]);
 }
 
 } // namespace sysmemd

@@ -50,13 +50,14 @@ struct Loop {
         watch(listener);
         watch(signals);
     }
-    // Without a descriptor for a connection: turns one away, and pauses a moment.
-    void turn_one_away() {
+    // Without a descriptor for a connection: turns one away; false if even that is refused.
+    bool turn_one_away() {
         say("no descriptor for a connection");
         close(spare);
         int one = accept4(listener, nullptr, nullptr, SOCK_CLOEXEC);
         if (one >= 0) sysmemd::Daemon::turn_away(one);
         spare = ::open("/dev/null", O_RDONLY | O_CLOEXEC);
+        return one >= 0;
     }
     void take_connections(sysmemd::Daemon &daemon) {
         for (int i = 0; i < 16; i++) {
@@ -65,8 +66,8 @@ struct Loop {
                 daemon.accept(one);
                 continue;
             }
-            if (errno == EMFILE || errno == ENFILE) return turn_one_away();
             if (errno == EAGAIN || errno == EINTR || errno == ECONNABORTED) return;
+            if ((errno == EMFILE || errno == ENFILE) && turn_one_away()) return;
             say("accept: %s", std::strerror(errno)); // e.g. ENOMEM: it would be told again at once
             epoll_ctl(epoll, EPOLL_CTL_DEL, listener, nullptr);
             is_paused = true;
@@ -85,6 +86,7 @@ struct Loop {
             std::uint32_t stamp = std::uint32_t(some[i].data.u64 >> 32);
             if (stamp != 0) daemon.wake(fd, stamp, some[i].events);
             else if (fd == signals) return false;
+            else if (fd == daemon.errands_fd()) daemon.finish_errands();
             else take_connections(daemon);
         }
         return true;
@@ -107,6 +109,7 @@ int main(int count, char **words) {
     loop.open(listener.fd);
     {
         sysmemd::Daemon daemon(options, loop.epoll);
+        loop.watch(daemon.errands_fd());
         sysmemd::notify_ready();
         while (loop.serve(daemon, daemon.catch_up())) {}
     }

@@ -2,8 +2,8 @@
 #include "daemon.hpp"
 
 #include "log.hpp"
+#include "sysmem_remote/envelope.hpp"
 
-#include <algorithm>
 #include <cerrno>
 #include <cstring>
 #include <sys/socket.h>
@@ -11,70 +11,44 @@
 
 namespace sysmemd {
 
-// Notes who sent a message; false if descriptors came along, which are closed. There is no room for one, but who knows.
-static bool read_control(msghdr &m, Who &who) {
-    bool is_good = true;
-    for (cmsghdr *c = CMSG_FIRSTHDR(&m); c; c = CMSG_NXTHDR(&m, c)) {
-        if (c->cmsg_level != SOL_SOCKET) continue;
-        if (c->cmsg_type == SCM_CREDENTIALS) {
-            ucred from;
-            std::memcpy(&from, CMSG_DATA(c), sizeof from);
-            who.pid = std::uint32_t(from.pid);
-            who.uid = from.uid;
-        } else if (c->cmsg_type == SCM_RIGHTS) {
-            int fds[8];
-            std::size_t count = std::min<std::size_t>(8, (c->cmsg_len - CMSG_LEN(0)) / sizeof(int));
-            std::memcpy(fds, CMSG_DATA(c), count * sizeof(int));
-            for (std::size_t i = 0; i < count; i++) ::close(fds[i]);
-            is_good = false;
-        }
-    }
-    return is_good;
-}
+using sysmem::remote::detail::Envelope;
 
-// Reads and serves one request. With many replies unread it waits, by the condition that EPOLLOUT has.
+// Reads and serves one message. With many replies unread it waits.
 void Daemon::read_one(Object &o, bool is_over) {
     if (o.is_cut) return hang_up(o);
     if (!is_over && is_full(o)) return choke(o, true);
-    sysmemd_request q;
-    iovec part{&q, sizeof q};
-    alignas(cmsghdr) char space[CMSG_SPACE(sizeof(ucred))];
-    msghdr m{};
-    m.msg_iov = &part;
-    m.msg_iovlen = 1;
-    m.msg_control = space;
-    m.msg_controllen = sizeof space;
-    ssize_t got = recvmsg(o.fd, &m, MSG_DONTWAIT | MSG_CMSG_CLOEXEC);
+    if (o.taking) return resume(static_cast<End &>(o));
+    sysmemd_request all[SYSMEMD_AT_ONCE];
+    Envelope<0> came(all, sizeof all);
+    ssize_t got = recvmsg(o.fd, &came.head, MSG_DONTWAIT | MSG_CMSG_CLOEXEC);
     if (got < 0 && (errno == EAGAIN || errno == EINTR || errno == ENOMEM || errno == ECONNRESET)) return; // then comes the end
     if (got <= 0) return hang_up(o); // also by an empty message
     Who who = o.who;
-    bool is_good = read_control(m, who) && got == ssize_t(sizeof q) && !(m.msg_flags & (MSG_TRUNC | MSG_CTRUNC));
+    bool is_good = got % ssize_t(sizeof *all) == 0 && !(came.head.msg_flags & (MSG_TRUNC | MSG_CTRUNC));
+    came.each([&](int type, const unsigned char *what, std::size_t length) {
+        ucred from;
+        if (type == SCM_CREDENTIALS) std::memcpy(&from, what, sizeof from), who.pid = std::uint32_t(from.pid), who.uid = from.uid;
+        for (int fd; type == SCM_RIGHTS && length >= sizeof fd; length -= sizeof fd, what += sizeof fd) {
+            std::memcpy(&fd, what, sizeof fd); // there is no room for one beside the credentials, but who knows
+            ::close(fd);
+            is_good = false;
+        }
+    });
     // A connection keeps the uid that it counts for; its messages may come from others.
     o.who.pid = who.pid;
     if (o.is != Is::Connection) o.who.uid = who.uid;
-    if (!is_good || q.serial == 0 || !serve(o, q)) cut(o, SYSMEMD_MALFORMED);
+    if (!is_good || !serve(o, all, std::size_t(got) / sizeof *all)) cut(o, SYSMEMD_MALFORMED);
 }
 
-// Sends it, or cuts off a client that has too much unread. ETOOMANYREFS and the like: the number.
+// Sends it, or cuts off a client that would wait for it in vain: too much is unread, or the system has no memory. Descriptors
+// may be refused: the error's number.
 int Daemon::send(Object &o, const sysmemd_reply &r, const int *fds, std::size_t count, std::size_t length) {
     if (o.fd < 0) return 0;
-    iovec part{const_cast<sysmemd_reply *>(&r), length};
-    alignas(cmsghdr) char space[CMSG_SPACE(sizeof(int) * 128)];
-    msghdr m{};
-    m.msg_iov = &part;
-    m.msg_iovlen = 1;
-    if (count > 0) {
-        m.msg_control = space;
-        m.msg_controllen = CMSG_SPACE(sizeof(int) * count);
-        cmsghdr *c = CMSG_FIRSTHDR(&m);
-        c->cmsg_level = SOL_SOCKET;
-        c->cmsg_type = SCM_RIGHTS;
-        c->cmsg_len = CMSG_LEN(sizeof(int) * count);
-        std::memcpy(CMSG_DATA(c), fds, sizeof(int) * count);
-    }
-    if (sendmsg(o.fd, &m, MSG_DONTWAIT | MSG_NOSIGNAL) >= 0) return 0;
+    Envelope<128> goes(&r, length);
+    goes.attach(fds, count);
+    if (sendmsg(o.fd, &goes.head, MSG_DONTWAIT | MSG_NOSIGNAL) >= 0) return launch(o, count), 0;
     int why = errno;
-    if (why == EAGAIN) cut(o, SYSMEMD_UNREAD);
+    if (why == EAGAIN || count == 0) cut(o, SYSMEMD_UNREAD);
     return why;
 }
 

@@ -23,7 +23,8 @@ struct Who {
     std::uint32_t pid = 0, uid = 0;
 };
 
-enum class Is : std::uint8_t { Connection, End, Lease, Tracker };
+// A Rest is a socket whose object is gone, while descriptors that went over it are unread.
+enum class Is : std::uint8_t { Connection, End, Lease, Tracker, Rest };
 
 // One socket, whose other side whoever has it may use. Five verbs end it, from the outside to the inside:
 //  - cut: tells the peer why, and shuts the socket down; epoll then tells of a hangup
@@ -37,6 +38,8 @@ struct Object {
     const Is is;
     bool is_cut = false;     // no request of it is served any more
     bool is_choked = false;  // it is served again once its replies were read
+    bool is_held = false;    // it is choked until the memory is there that its Take waits for
+    std::uint32_t taking = 0; // the serial of that
     bool is_in_core = false; // an end with a node, a lease with a handle
     int fd = -1;             // our side of the socket
     std::uint32_t stamp = 0; // tells it from an earlier object with the same descriptor
@@ -45,6 +48,8 @@ struct Object {
     std::uint64_t offer = 0;  // what a claimant sent over this socket
     Who who;
     Object *next_late = nullptr;
+    std::uint32_t aloft = 0; // descriptors that were sent, and may be unread
+    Object *aloft_next = nullptr, *aloft_before = nullptr; // the uid's others with such
 };
 
 struct Connection : Object {
@@ -86,12 +91,15 @@ struct Buffer {
     int memory = -1;           // its memfd, once somebody asked for it
     std::uint32_t open = 0;    // leases
     std::uint32_t waiting = 0; // those that wait until few are open
+    std::uint64_t errand = 0;  // of the worker that takes its memory from the system
+    enum : std::uint8_t { NONE, UNDER_WAY, THERE, REFUSED } reserved = NONE;
 };
 
 // A collection with an end or a lease.
 struct Tree {
     std::uint64_t id = 0;
     std::uint32_t size = 0; // bytes of a buffer
+    std::size_t bytes() const { return (std::size_t(size) + 4095) / 4096 * 4096; } // of its memory
     std::vector<End *> ends;
     std::vector<Lease *> leases;
     std::vector<Buffer> buffers;
@@ -109,6 +117,8 @@ struct Domain {
     std::uint64_t client = 0;
     std::uint32_t descriptors = 0, memories = 0; // descriptors: of objects and memories
     std::size_t objects = 0;
+    std::size_t aloft = 0;                        // the sum of its objects
+    Object *aloft_first = nullptr, *aloft_last = nullptr; // those with some, the earliest first
     std::unordered_map<std::uint64_t, std::unique_ptr<Tree>> trees;
     std::unordered_map<std::uint64_t, Tracker *> trackers; // those that wait; null if nobody listens any more
     std::uint64_t round = 0, spent = 0; // nanoseconds in this round

@@ -24,8 +24,9 @@ sysmem_call call_on(std::uint32_t kind, const Lease &lease) {
     return c;
 }
 
-// The fields that an op reads beside op and serial. All others must be zero.
-enum : std::uint8_t { SIZE = 1, LEFT = 2, COUNTS = 4, CHILDREN = 8, COOKIE = 16, LABEL = 32 };
+// The fields that an op reads beside op and serial. All others must be zero. LAST: nothing follows it in its message, since its
+// reply is long, it is dear, or it ends the object.
+enum : std::uint8_t { SIZE = 1, LEFT = 2, COUNTS = 4, CHILDREN = 8, COOKIE = 16, LABEL = 32, LAST = 64 };
 
 struct Daemon::Op {
     std::uint32_t op;
@@ -43,11 +44,17 @@ static bool is_clean(const sysmemd_request &q, std::uint8_t reads) {
            ((reads & CHILDREN) || !q.children) && ((reads & COOKIE) || !q.cookie);
 }
 
-bool Daemon::serve(Object &o, const sysmemd_request &q) {
-    const Op *op = find_op(q.op, o.is);
-    if (!op || !is_clean(q, op->reads)) return false;
-    if (!o.domain && q.op != SYSMEMD_HELLO) return false;
-    return op->serve(*this, o, q);
+// All requests of a message, once each of them is seen to be well-formed.
+bool Daemon::serve(Object &o, const sysmemd_request *all, std::size_t count) {
+    const Op *ops[SYSMEMD_AT_ONCE];
+    for (std::size_t i = 0; i < count; i++) {
+        ops[i] = find_op(all[i].op, o.is);
+        if (!ops[i] || all[i].serial == 0 || !is_clean(all[i], ops[i]->reads)) return false;
+        if ((!o.domain && all[i].op != SYSMEMD_HELLO) || ((ops[i]->reads & LAST) && i + 1 < count)) return false;
+    }
+    for (std::size_t i = 0; i < count && !o.is_cut; i++)
+        if (!ops[i]->serve(*this, o, all[i])) return false;
+    return true;
 }
 
 // A row's function, for its kind of object.
@@ -55,11 +62,14 @@ bool Daemon::serve(Object &o, const sysmemd_request &q) {
 
 const Daemon::Op *Daemon::find_op(std::uint32_t number, Is on) {
     static const Op all[] = {
-        {SYSMEMD_HELLO, Is::Connection, SIZE | LEFT | LABEL, SERVE(Connection, greet)},
+        {SYSMEMD_HELLO, Is::Connection, SIZE | LEFT | LABEL | LAST, SERVE(Connection, greet)},
         {SYSMEM_OPEN_ROOT, Is::Connection, LABEL, SERVE(Connection, open_root)},
-        {SYSMEMD_CLAIM, Is::Connection, SIZE | LEFT | COOKIE, SERVE(Connection, claim)},
-        {SYSMEMD_STATUS, Is::Connection, 0, SERVE(Connection, tell_status)},
-        {SYSMEMD_NODES, Is::Connection, LEFT, SERVE(Connection, list_nodes)},
+        {SYSMEMD_CLAIM, Is::Connection, SIZE | LEFT | COOKIE | LAST, SERVE(Connection, claim)},
+        {SYSMEMD_STATUS, Is::Connection, 0, SERVE(Connection, tell_own_status)},
+        {SYSMEMD_NODES, Is::Connection, LEFT | LAST, SERVE(Connection, list_nodes)},
+        {SYSMEMD_INSPECT, Is::Connection, LEFT | LAST, SERVE(Connection, inspect)},
+        {SYSMEMD_STATUS_OF, Is::Connection, LEFT, SERVE(Connection, tell_status_of)},
+        {SYSMEMD_TRANSCRIPT, Is::Connection, LEFT, SERVE(Connection, send_transcript)},
         {SYSMEMD_OFFER, Is::Connection, SIZE | LEFT, SERVE(Object, offer)}, // no claim finds it: who adopts one's own keeps it
         {SYSMEM_DUPLICATE, Is::End, LABEL, SERVE(End, birth)},
         {SYSMEM_ATTACH_TOKEN, Is::End, LABEL, SERVE(End, birth)},
@@ -70,11 +80,11 @@ const Daemon::Op *Daemon::find_op(std::uint32_t number, Is on) {
         {SYSMEM_SET_WEAK_OK, Is::End, CHILDREN, SERVE(End, call_on_end)},
         {SYSMEM_SET_CONSTRAINTS, Is::End, SIZE | COUNTS, SERVE(End, call_on_end)},
         {SYSMEM_CHECK, Is::End, 0, SERVE(End, call_on_end)},
-        {SYSMEM_TAKE, Is::End, 0, SERVE(End, take)},
-        {SYSMEM_RELEASE, Is::End, 0, SERVE(End, release)},
+        {SYSMEM_TAKE, Is::End, LAST, SERVE(End, take)},
+        {SYSMEM_RELEASE, Is::End, LAST, SERVE(End, release)},
         {SYSMEM_TRACK_NODE, Is::End, 0, SERVE(End, track_on_end)},
         {SYSMEM_TRACK_LIFETIME, Is::End, LEFT, SERVE(End, track_on_end)},
-        {SYSMEMD_WAITS_FOR, Is::End, LEFT, SERVE(End, waits_for)},
+        {SYSMEMD_WAITS_FOR, Is::End, LEFT | LAST, SERVE(End, waits_for)},
         {SYSMEMD_DESCRIBE, Is::End, 0, SERVE(Object, describe)},
         {SYSMEMD_OFFER, Is::End, SIZE | LEFT, SERVE(Object, offer)},
         {SYSMEM_DUP_HANDLE, Is::Lease, 0, SERVE(Lease, duplicate)},
@@ -132,7 +142,8 @@ bool Daemon::describe(Object &o, const sysmemd_request &q) {
 
 // The object that this claim may have; null if it must not, or not yet: then `found` is the object of the cookie, if there is
 // one. The offer was sent before the claim, so it is there, behind what was sent before it. That is served first, unless
-// much is unread there. A claimant asks again while there is more. An object that is cut ends soon, and is not found.
+// much is unread there, for a share of time. A claimant asks again while there is more. An object that is cut ends soon, and is
+// not found.
 Object *Daemon::claimed(const sysmemd_request &q, Object *&found) {
     std::uint64_t number = number_of(q);
     auto look = [&] {
@@ -140,7 +151,8 @@ Object *Daemon::claimed(const sysmemd_request &q, Object *&found) {
         found = at == by_cookie.end() || at->second->is_cut ? nullptr : at->second;
         return found && found->offer != number;
     };
-    for (int i = 0; look() && i < 16 && !found->is_choked; i++) read_one(*found, false);
+    std::uint64_t from = now();
+    for (int i = 0; look() && i < 16 && !found->is_choked && now() - from < options.share; i++) read_one(*found, false);
     return found && number != 0 && found->offer == number ? found : nullptr;
 }
 
@@ -179,14 +191,16 @@ void Daemon::move_to(Object &o, int fd, std::uint64_t cookie, std::uint32_t stam
     r.count = SYSMEMD_VERSION;
     // Not by send(), which would cut the object off if nobody reads its former socket.
     ::send(o.fd, &r, sizeof r, MSG_DONTWAIT | MSG_NOSIGNAL);
-    by_fd[std::size_t(o.fd)] = nullptr;
     by_cookie.erase(o.cookie);
-    ::close(o.fd);
+    close_side(o);
+    files++;
+    o.domain->descriptors++;
     o.fd = fd;
     o.cookie = cookie;
     o.stamp = stamp;
     o.offer = 0;
-    o.is_choked = false;
+    o.is_choked = o.is_held = false;
+    o.taking = 0;
     by_fd[std::size_t(fd)] = &o;
     origin.is_known = false;
     if (o.is == Is::End && (static_cast<End &>(o).fate & End::FAILED)) tell_failed(static_cast<End &>(o));

@@ -10,8 +10,17 @@
 #include <sys/ioctl.h>
 #include <sys/socket.h>
 #include <unistd.h>
+#include <utility>
 
 namespace sysmemd {
+
+// How many bytes of memory our messages take that the other side did not receive.
+static int unread(const Object &o) {
+    int bytes = 0;
+    return ioctl(o.fd, SIOCOUTQ, &bytes) ? 0 : bytes;
+}
+// While the kernel frees the last message it wakes us, and still counts a byte of it. A whole one has more than these.
+static bool is_read(const Object &o) { return unread(o) < 256; }
 
 static epoll_event watch(std::uint32_t events, int fd, std::uint32_t stamp) {
     epoll_event e{};
@@ -23,14 +32,18 @@ static epoll_event watch(std::uint32_t events, int fd, std::uint32_t stamp) {
 void Daemon::wake(int fd, std::uint32_t stamp, std::uint32_t events) {
     Object *o = std::size_t(fd) < by_fd.size() ? by_fd[std::size_t(fd)] : nullptr;
     if (!o || o->stamp != stamp) return; // the event was of an earlier object
+    bool is_over = events & (EPOLLHUP | EPOLLERR);
+    if (o->is == Is::Rest) return is_read(*o) ? destroy(o) : void(), sweep();
+    // Of a choked socket epoll tells once each time that something was read there, so this comes before the share.
+    if (o->is_choked && !is_over && (o->is_held || is_full(*o))) return;
+    if (is_over && o->is_held) o->is_held = false, o->taking = 0;
+    if (o->is_choked) choke(*o, false);
     Domain *d = o->domain;
     std::uint64_t &last = d ? d->round : strangers_round, &spent = d ? d->spent : strangers_spent;
     if (last != round) last = round, spent = 0;
     if (spent >= options.share) return; // epoll tells again: others come first
     std::uint64_t from = now();
-    if (o->is_choked && (events & EPOLLOUT)) choke(*o, false);
-    bool is_over = events & (EPOLLHUP | EPOLLERR);
-    if (!o->is_choked || is_over) read_one(*o, is_over);
+    read_one(*o, is_over);
     spent += now() - from;
     sweep();
 }
@@ -95,16 +108,38 @@ bool Daemon::open_pair(Domain &d, Object &o, int &theirs) {
 
 void Daemon::leave(Object &o) {
     if (o.fd < 0) return;
-    by_fd[std::size_t(o.fd)] = nullptr;
     if (o.cookie) by_cookie.erase(o.cookie);
-    ::close(o.fd);
-    o.fd = -1;
-    files--;
-    if (o.domain) o.domain->descriptors--;
+    close_side(o);
     if (o.is != Is::Connection) return;
     forget_waiting(static_cast<Connection &>(o));
     auto at = callers.find(o.who.uid);
     if (--at->second == 0) callers.erase(at);
+}
+
+// Closes our side of an object's socket; what was sent over it can still be read. If descriptors are, it stays as a Rest, so that
+// they count, until they are received or closed.
+void Daemon::close_side(Object &o) {
+    std::uint32_t count = o.aloft > 0 && !is_read(o) ? o.aloft : 0;
+    land(o);
+    by_fd[std::size_t(o.fd)] = nullptr;
+    int fd = std::exchange(o.fd, -1);
+    auto *rest = count > 0 ? new (std::nothrow) Object(Is::Rest) : nullptr;
+    if (!rest) {
+        ::close(fd);
+        files--;
+        if (o.domain) o.domain->descriptors--;
+        return;
+    }
+    shutdown(fd, SHUT_RDWR);
+    rest->fd = fd;
+    rest->stamp = next_stamp();
+    rest->domain = o.domain;
+    rest->who = o.who;
+    rest->is_cut = true;
+    o.domain->objects++;
+    by_fd[std::size_t(fd)] = rest;
+    launch(*rest, count);
+    choke(*rest, true);
 }
 
 void Daemon::destroy(Object *o) {
@@ -126,17 +161,57 @@ void Daemon::cut(Object &o, std::uint32_t why) {
     shutdown(o.fd, SHUT_RDWR);
 }
 
-// While replies are unread, a socket waits until there is room, and not for requests.
+// While it is choked, a socket waits, and not for requests. Each time that its peer reads, epoll tells once.
 void Daemon::choke(Object &o, bool is_choked) {
     o.is_choked = is_choked;
-    epoll_event e = watch(is_choked ? EPOLLOUT : EPOLLIN, o.fd, o.stamp);
+    std::uint32_t reads = o.taking ? EPOLLIN | EPOLLOUT : EPOLLIN; // a Take whose memory is there goes on at once
+    epoll_event e = watch(is_choked ? EPOLLOUT | EPOLLET : reads, o.fd, o.stamp);
     epoll_ctl(epoll, EPOLL_CTL_MOD, o.fd, &e);
 }
 
-// Whether a quarter of the socket's room is unread: the condition under which epoll tells of no EPOLLOUT.
-bool Daemon::is_full(const Object &o) const {
-    int unread = 0;
-    return ioctl(o.fd, SIOCOUTQ, &unread) == 0 && (unread + 1) * 4 > room;
+// Whether a quarter of the socket's room is unread: the condition under which epoll tells of no EPOLLOUT. Or descriptors for
+// a whole Take: they take no room.
+bool Daemon::is_full(Object &o) {
+    if (o.aloft > 0 && is_read(o)) land(o);
+    return (unread(o) + 1) * 4 > room || o.aloft >= 64;
+}
+
+// Counts descriptors that were sent and are not received: they are the daemon's as long as that.
+void Daemon::launch(Object &o, std::size_t count) {
+    if (count == 0) return;
+    Domain &d = *o.domain;
+    if (o.aloft == 0) {
+        o.aloft_before = d.aloft_last;
+        o.aloft_next = nullptr;
+        (d.aloft_last ? d.aloft_last->aloft_next : d.aloft_first) = &o;
+        d.aloft_last = &o;
+    }
+    o.aloft += std::uint32_t(count);
+    d.aloft += count;
+    aloft += count;
+}
+
+void Daemon::land(Object &o) {
+    if (o.aloft == 0) return;
+    Domain &d = *o.domain;
+    (o.aloft_before ? o.aloft_before->aloft_next : d.aloft_first) = o.aloft_next;
+    (o.aloft_next ? o.aloft_next->aloft_before : d.aloft_last) = o.aloft_before;
+    d.aloft -= o.aloft;
+    aloft -= o.aloft;
+    o.aloft = 0;
+}
+
+// Whether so many more may be sent. No uid has more under way than it leaves to the others, and than its limit. Only if it
+// seems to have, the sockets are looked at, some at a time.
+bool Daemon::may_send(Domain &d, std::size_t more) {
+    auto is_in = [&] { return d.aloft + more <= options.descriptors && d.aloft + more + aloft <= options.files; };
+    for (int i = 0; !is_in() && i < 256 && d.aloft_first; i++) {
+        Object &o = *d.aloft_first;
+        std::uint32_t count = is_read(o) ? 0 : o.aloft;
+        land(o);
+        launch(o, count); // to the end of the list
+    }
+    return is_in();
 }
 
 } // namespace sysmemd

@@ -2,10 +2,13 @@
 
 #include "sysmem/record.hpp"
 
+#include <fcntl.h>
+
 namespace sysmemd {
 
 using sysmem::Key;
 using sysmem::detail::Kept;
+using sysmem::detail::number_of;
 
 // The bindings' recorder.
 struct Transcript::Recorder : sysmem::detail::Recorder {
@@ -25,6 +28,12 @@ std::unique_ptr<Transcript> Transcript::begin(const std::string &name, std::uint
     return std::unique_ptr<Transcript>(new Transcript(file));
 }
 
+int Transcript::open_again() const {
+    char path[40];
+    std::snprintf(path, sizeof path, "/proc/self/fd/%d", fileno(file)); // whatever its name leads to by now
+    return ::open(path, O_RDONLY | O_CLOEXEC);
+}
+
 // What may still be named in a later line, for the recorder's tables.
 static Kept kept_of(sysmem_core &core) {
     Kept kept;
@@ -37,9 +46,10 @@ static Kept kept_of(sysmem_core &core) {
     if (sysmem_nodes(&core, all.data(), std::size_t(nodes), &nodes)) return kept;
     if (sysmem_held(&core, held.data(), std::size_t(buffers), &buffers)) return kept;
     for (std::size_t i = 0; i < nodes; i++) {
-        kept.nodes.push_back({all[i].key.slot, all[i].key.generation});
+        kept.nodes.push_back(number_of({all[i].key.slot, all[i].key.generation}));
         kept.collections.push_back(all[i].collection);
-        if (all[i].flags & SYSMEM_NODE_FAILED) kept.nodes.push_back({all[i].origin.slot, all[i].origin.generation});
+        if (all[i].flags & SYSMEM_NODE_FAILED)
+            kept.nodes.push_back(number_of({all[i].origin.slot, all[i].origin.generation}));
     }
     for (std::size_t i = 0; i < buffers; i++) kept.collections.push_back(held[i].collection);
     std::sort(kept.nodes.begin(), kept.nodes.end());

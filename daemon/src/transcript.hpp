@@ -15,6 +15,10 @@ public:
     // Begins the file of this name; null if it can't be made.
     static std::unique_ptr<Transcript> begin(const std::string &name, std::uint32_t pages);
     ~Transcript();
+    // Writes what was noted to the file.
+    void flush() { std::fflush(file); }
+    // A new descriptor of the file, for reading; -1 if the system gives none.
+    int open_again() const;
     // Writes one event; the label is that of what it makes, or null.
     void note(sysmem_core &core, std::uint64_t client, const sysmem_call &call, const sysmem_reply &reply,
               const std::string *label);

@@ -109,7 +109,8 @@ TEST(killed_anywhere) {
     Daemon d;
     Client c = d.join("witness");
     std::mt19937 rng(1);
-    for (int round = 0; round < 150; round++) {
+    const char *rounds = std::getenv("KILLS");
+    for (int round = 0; round < (rounds ? std::atoi(rounds) : 150); round++) {
         Child child([&](int) {
             std::mt19937 own(std::uint32_t(round) + 100);
             Client mine = d.join("victim");

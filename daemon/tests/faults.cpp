@@ -158,3 +158,111 @@ TEST(reserved) {
     b.close();
     CHECK(is_whole(c));
 }
+
+// While a Take waits for memory, all others are served, and what follows on its socket waits. Who hangs up waits no more.
+TEST(slow_memory) {
+    char folder[] = "/tmp/sysmemd-test-XXXXXX";
+    CHECK(mkdtemp(folder));
+    std::string gate = std::string(folder) + "/gate";
+    Daemon d({"--reserve"}, 0, {"SYSMEMD_GATE=" + gate});
+    Client c = d.join();
+    Token other = c.open_root("other").value();
+    auto allocate = [&](std::uint32_t size) {
+        Collection a = c.open_root("a").value().bind().value();
+        a.set_constraints({2, 0, size}).value();
+        CHECK(a.wait_allocated(soon).value());
+        return std::move(a).detach();
+    };
+    int stays = allocate(100 << 20), goes = allocate(4096), claimed = allocate(4096);
+    for (int fd : {stays, goes, claimed}) {
+        auto q = words_of(SYSMEM_TAKE, 1), more = words_of(SYSMEM_SYNC, 2);
+        CHECK(raw_send(fd, &q, sizeof q) && raw_send(fd, &more, sizeof more));
+    }
+    for (int i = 0; i < 100; i++) CHECK(other.sync() && c.open_root("b"));
+    CHECK(comes([&] { return c.status().value().memories == 6; }));
+    pollfd none[] = {{stays, POLLIN, 0}, {goes, POLLIN, 0}, {claimed, POLLIN, 0}};
+    CHECK(poll(none, 3, 50) == 0);
+    ::close(goes);
+    CHECK(comes([&] { return c.status().value().live == 3 && c.status().value().memories == 4; }) && other.sync());
+    CHECK(std::fclose(std::fopen(gate.c_str(), "w")) == 0);
+    std::vector<int> leases;
+    for (int fd : {stays, claimed}) {
+        CHECK(raw_receive(fd, 60000, &leases)->kind == SYSMEM_TAKEN && raw_receive(fd)->kind == SYSMEM_OK);
+        auto q = words_of(SYSMEM_TAKE);
+        CHECK(raw_ask(fd, q).kind == SYSMEM_TAKEN); // what is there need not come again
+    }
+    struct stat s;
+    CHECK(leases.size() == 8 && fstat(leases[1], &s) == 0 && s.st_blocks * 512 >= 100 << 20);
+    for (int fd : leases) ::close(fd);
+    ::close(stays), ::close(claimed);
+    other.close();
+    CHECK(is_whole(c));
+    unlink(gate.c_str()), rmdir(folder);
+}
+
+// Each allocation, and each system call, of a life is refused in turn: the daemon lives, and nothing is left.
+TEST(refused_in_turn) {
+    const char *refuse = std::getenv("REFUSE");
+    if (!refuse || !*refuse) return void(std::puts("  not run: REFUSE is not set"));
+    char name[] = "/tmp/sysmemd-test-XXXXXX";
+    int file = mkstemp(name);
+    CHECK(file >= 0 && ftruncate(file, 4096) == 0);
+    auto *numbers = static_cast<std::atomic<int> *>(mmap(nullptr, 4096, PROT_READ | PROT_WRITE, MAP_SHARED, file, 0));
+    Daemon d({"--reserve"}, 0, {std::string("LD_PRELOAD=") + refuse, std::string("REFUSE_AT=") + name});
+    auto join = [&] {
+        for (;;) {
+            auto one = Client::open(d.path);
+            if (one) return std::move(*one);
+        }
+    };
+    Client witness = d.join();
+    Token mine = witness.open_root("mine").value();
+    auto life = [&] {
+        Client c = join();
+        auto root = c.open_root("r");
+        if (!root) return;
+        auto kid = root->duplicate("k");
+        if (kid) {
+            int fd = std::move(*kid).detach();
+            auto got = c.adopt_token(fd);
+            if (!got && got.error().kind == Error::Kind::Fault) ::close(fd);
+        }
+        std::mt19937 rng(11);
+        random_life(c, rng, 80);
+    };
+    life(); // the daemon's tables have their sizes
+    for (int which : {0, 1}) {
+        int n = 0;
+        do {
+            numbers[which] = ++n;
+            life();
+            CHECK(d.lives());
+        } while (numbers[which].exchange(0) <= 0 && is_whole(witness, 1, 1));
+        std::printf("  %d %s refused in turn\n", n - 1, which ? "system calls" : "allocations");
+        CHECK(n > 30 && is_whole(witness, 1, 1));
+    }
+    CHECK(mine.sync());
+    mine.close();
+    CHECK(is_whole(witness));
+    ::close(file), unlink(name);
+}
+
+// Where accept fails, the daemon neither spins nor stops.
+TEST(accept_errors) {
+    char folder[] = "/tmp/sysmemd-test-XXXXXX";
+    CHECK(mkdtemp(folder));
+    std::string gate = std::string(folder) + "/gate";
+    for (int error : {EMFILE, ENFILE, ENOMEM, EPROTO}) {
+        Daemon d({}, 0, {"SYSMEMD_ACCEPT=" + std::to_string(error), "SYSMEMD_GATE=" + gate});
+        int waits = raw_connect(d.path); // nobody accepts it
+        usleep(300000);
+        std::uint64_t ran = 0;
+        CHECK(std::ifstream("/proc/" + std::to_string(d.pid) + "/schedstat") >> ran);
+        CHECK(waits >= 0 && ran < 100000000 && d.says(std::strerror(error)));
+        CHECK(std::fclose(std::fopen(gate.c_str(), "w")) == 0);
+        Client c = d.join();
+        CHECK(c.open_root("r"));
+        ::close(waits), unlink(gate.c_str());
+    }
+    rmdir(folder);
+}

@@ -102,10 +102,64 @@ TEST(malformed) {
     CHECK(d.files_open() == files); // none of what came along stayed
 }
 
+// Several requests in one message: each has its reply, in order, or nothing of it is done.
+TEST(several) {
+    Daemon d;
+    Client c = d.join();
+    int fd = std::move(c.open_root("r").value()).detach();
+    auto list = [](std::vector<std::uint32_t> ops) {
+        std::vector<sysmemd_request> all;
+        for (std::uint32_t op : ops) all.push_back(words_of(op, std::uint32_t(all.size()) + 1));
+        return all;
+    };
+    auto send = [&](const std::vector<sysmemd_request> &all) { return raw_send(fd, all.data(), all.size() * sizeof all[0]); };
+    auto all = list({SYSMEM_SYNC, SYSMEM_CHECK, SYSMEM_BIND, SYSMEM_BIND, SYSMEM_SET_CONSTRAINTS, SYSMEM_TAKE});
+    all[4].camping = 2, all[4].size = 4096;
+    CHECK(send(all));
+    std::uint32_t kinds[] = {SYSMEM_OK, SYSMEM_REFUSED, SYSMEM_OK, SYSMEM_REFUSED, SYSMEM_OK, SYSMEMD_ALLOCATED, SYSMEM_TAKEN};
+    std::uint32_t serial = 0; // what is refused stops nothing; the event has none
+    for (std::uint32_t kind : kinds) {
+        auto told = raw_receive(fd);
+        CHECK(told && told->kind == kind && told->serial == (kind == SYSMEMD_ALLOCATED ? 0 : ++serial));
+    }
+    CHECK(send(std::vector<sysmemd_request>(16, words_of(SYSMEM_SYNC))));
+    for (int i = 0; i < 16; i++) CHECK(raw_receive(fd)->kind == SYSMEM_OK);
+    ::close(fd);
+    for (int what = 0; what < 6; what++) {
+        Collection a = c.open_root("a").value().bind().value();
+        Token kid = a.attach_token("kid").value(); // hears if its parent fails
+        std::uint64_t events = c.status().value().events;
+        fd = a.fd();
+        all = list({SYSMEM_SYNC, SYSMEM_SYNC});
+        if (what == 0) all = std::vector<sysmemd_request>(17, words_of(SYSMEM_SYNC));
+        if (what == 1) all[1].zero = 1;
+        if (what == 2) all[1].serial = 0;
+        if (what == 3) all = list({SYSMEM_TAKE, SYSMEM_SYNC});
+        if (what == 4) all = list({SYSMEM_RELEASE, SYSMEM_SYNC});
+        if (what == 5) all = list({SYSMEMD_WAITS_FOR, SYSMEM_SYNC});
+        CHECK(send(all) && is_cut(fd, SYSMEMD_MALFORMED) && kid.wait_failed(soon));
+        CHECK(c.status().value().events == events + 1); // the Close alone
+    }
+    { // the daemon tells of the fault of a part
+        auto [mine, handles] = c.open_root("r").value().bind_and_take({65, 0, 1}).value();
+        CHECK(!handles && handles.error().is_bad_call() && handles.error().note.find("camping") == 0 && mine.sync());
+    }
+    Token root = c.open_root("r").value(), other = root.duplicate("o").value();
+    auto [mine, none] = std::move(root).bind_and_take({1, 0, 4096}).value();
+    CHECK(none && !*none && !root); // pending
+    auto [its, taken] = std::move(other).bind_and_take({1, 0, 4096}).value();
+    CHECK(taken && (*taken)->size() == 2 && (**taken)[1].bytes().size() == 4096 && mine.take().value()->size() == 2);
+    auto spent = std::move(other).bind_and_take({1, 0, 4096});
+    CHECK(!spent && spent.error().is(Refusal::NoSuchEnd));
+    taken->reset();
+    mine.close(), its.close();
+    CHECK(is_whole(c));
+}
+
 // Any op, with the fields that it reads, and once in a while with others.
 static sysmemd_request random_request(std::mt19937 &rng) {
-    static const std::uint32_t ops[] = {2, 3, 4, 5, 8, 9, 10, 11, 12, 13, 14, 15, 17, 20, 21, 22, 65, 66, 67, 68, 69, 70, 71, 72, 73};
-    sysmemd_request q = words_of(ops[rng() % 25], 1 + rng() % 1000);
+    static const std::uint32_t ops[] = {2, 3, 4, 5, 8, 9, 10, 11, 12, 13, 14, 15, 17, 20, 21, 22, 65, 66, 67, 68, 69, 70, 71, 72, 73, 74, 75, 76};
+    sysmemd_request q = words_of(ops[rng() % 28], 1 + rng() % 1000);
     bool is_all = rng() % 100 == 0;
     if (is_all || q.op == SYSMEM_SET_CONSTRAINTS) {
         q.size = rng() % 3 ? 1 + rng() % 5000 : std::uint32_t(rng());
@@ -113,7 +167,7 @@ static sysmemd_request random_request(std::mt19937 &rng) {
         q.at_least = std::uint8_t(rng() % 3);
     }
     if (is_all || q.op == SYSMEM_SET_WEAK_OK) q.children = std::uint8_t(rng() % 2);
-    if (is_all || q.op == SYSMEM_TRACK_LIFETIME || q.op == SYSMEMD_ON_IDLE || q.op == SYSMEMD_NODES) q.left = rng() % 4;
+    if (is_all || q.op == SYSMEM_TRACK_LIFETIME || q.op == SYSMEMD_ON_IDLE || q.op == SYSMEMD_NODES || q.op >= SYSMEMD_INSPECT) q.left = rng() % 4;
     if (q.op == SYSMEMD_OFFER || q.op == SYSMEMD_CLAIM) q.size = rng() % 2, q.left = rng() % 2;
     if (is_all || q.op == SYSMEMD_CLAIM || q.op == SYSMEMD_ON_IDLE) q.cookie = rng();
     return q;
@@ -124,7 +178,8 @@ TEST(fuzzed) {
     Client c = d.join("witness");
     std::mt19937 rng(3);
     std::size_t sent = 0, live = 0;
-    for (int round = 0; round < 60; round++) {
+    const char *messages = std::getenv("MESSAGES"); // `make random` has millions
+    for (std::size_t round = 0; sent < (messages ? std::size_t(std::atoll(messages)) : 17000); round++) {
         std::vector<int> fds;
         for (int i = 0; i < 400; i++) {
             if (fds.empty() || rng() % 50 == 0) {
@@ -133,24 +188,27 @@ TEST(fuzzed) {
                 CHECK(fds.back() >= 0 && raw_send(fds.back(), &hello, sizeof hello));
             }
             std::size_t at = rng() % fds.size();
-            sysmemd_request q = random_request(rng);
+            sysmemd_request all[4];
+            std::size_t count = rng() % 8 ? 1 : 1 + rng() % 4;
+            for (std::size_t n = 0; n < count; n++) all[n] = random_request(rng);
             if (rng() % 50 == 0)
-                for (std::size_t b = 0; b < sizeof q; b++) reinterpret_cast<unsigned char *>(&q)[b] ^= rng() % 64 ? 0 : rng();
-            if (!raw_send(fds[at], &q, sizeof q, {}, MSG_DONTWAIT)) {
+                for (std::size_t b = 0; b < sizeof all; b++) reinterpret_cast<unsigned char *>(all)[b] ^= rng() % 64 ? 0 : rng();
+            if (!raw_send(fds[at], all, count * sizeof *all, {}, MSG_DONTWAIT)) {
                 ::close(fds[at]);
                 fds.erase(fds.begin() + std::ptrdiff_t(at));
                 continue;
             }
             sent++;
-            if (rng() % 4 == 0) continue; // its reply is read by a later one, or never
+            if (all[0].op == SYSMEMD_OFFER || rng() % 4 == 0) continue; // its reply is read by a later one, or never
             std::vector<int> more;
-            auto told = raw_receive(fds[at], 5, &more);
+            auto told = raw_receive(fds[at], 1, &more);
             live += told && (told->kind == SYSMEM_NEW_TOKEN || told->kind == SYSMEM_TAKEN);
             for (int fd : more) fds.push_back(fd); // memfds among them: a request on one fails
             while (fds.size() > 200) ::close(fds.back()), fds.pop_back();
         }
         for (int fd : fds) ::close(fd);
         if (round % 10 == 9) CHECK(is_whole(c));
+        if (round % 1000 == 999) std::printf("  %zu messages\n", sent);
     }
     CHECK(is_whole(c) && d.lives());
     std::printf("  %zu requests, %zu made or took something\n", sent, live);

@@ -12,18 +12,20 @@ run=$(mktemp -d)
 trap 'rm -rf "$run"' EXIT
 make -s -C "$top/bindings" install prefix="$run/p" "$@" >"$run/log"
 make -s install prefix="$run/p" build="$build" >>"$run/log"
-for file in bin/sysmemd lib/systemd/user/sysmemd.service share/man/man1/sysmemd.1 share/fish/vendor_completions.d/sysmemd.fish; do
+for file in bin/sysmemd bin/sysmemctl lib/systemd/user/sysmemd.service share/man/man1/sysmemd.1 share/fish/vendor_completions.d/sysmemd.fish; do
   [ -s "$run/p/$file" ]
 done
 grep -q "^ExecStart=$run/p/bin/sysmemd" "$run/p/lib/systemd/user/sysmemd.service"
-# Each option of the help is in the manual page and the completions.
-"$run/p/bin/sysmemd" --help | grep -o -- '--[a-z-]*' | sort -u >"$run/options"
-while read -r option; do
-  for file in man/man1/sysmemd.1 bash-completion/completions/sysmemd zsh/site-functions/_sysmemd fish/vendor_completions.d/sysmemd.fish; do
-    sed 's/\\-/-/g' "$run/p/share/$file" | grep -q -e "$option" -e "-l ${option#--} " -e "-l ${option#--}\$" ||
-      { echo "$file lacks $option"; exit 1; }
-  done
-done <"$run/options"
+# Each option and command of the helps is in the manual pages and the completions.
+for name in sysmemd sysmemctl; do
+  "$run/p/bin/$name" --help | grep -o -e '--[a-z-]*' -e '[a-z|]*|[a-z|]*' | tr '|' '\n' | sort -u >"$run/options"
+  while read -r option; do
+    for file in man/man1/$name.1 bash-completion/completions/$name zsh/site-functions/_$name fish/vendor_completions.d/$name.fish; do
+      sed 's/\\-/-/g' "$run/p/share/$file" | grep -q -e "$option" -e "-l ${option#--} " -e "-l ${option#--}\$" ||
+        { echo "$file lacks $option"; exit 1; }
+    done
+  done <"$run/options"
+done
 export PKG_CONFIG_PATH="$run/p/lib/pkgconfig"
 c++ -std=c++17 examples/first.cpp $(pkg-config --cflags --libs sysmemd) -Wl,-rpath,"$run/p/lib" -o "$run/first"
 cp examples/first.cpp "$run"
@@ -43,6 +45,14 @@ while [ ! -S "$run/s" ]; do sleep 0.05; done
 for program in "$run/first" "$run/cmake/first"; do
   SYSMEM_SOCKET="$run/s" "$program" 2>"$run/log" | tail -1 | grep -q 'closed: lost, by node 1.0 (display)'
 done
+if command -v cargo >/dev/null; then
+  mkdir -p "$run/rust/src"
+  cp rust/examples/three.rs "$run/rust/src/main.rs"
+  printf '[package]\nname = "app"\nversion = "0.0.0"\nedition = "2021"\n[dependencies]\nsysmem_remote = { path = "%s" }\n[workspace]\n' \
+    "$run/p/share/sysmemd/rust" >"$run/rust/Cargo.toml"
+  (cd "$run/rust" && CARGO_TARGET_DIR="$run/rust/target" cargo build --offline --quiet)
+  SYSMEM_SOCKET="$run/s" "$run/rust/target/debug/app" | sort | diff examples/three.out -
+fi
 kill $daemon
 wait $daemon
 echo "installed ok"

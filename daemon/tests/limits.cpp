@@ -3,15 +3,6 @@
 
 #include "random_life.hpp"
 
-static void as(uid_t uid, const std::function<void()> &run) {
-    Child child([&](int) {
-        CHECK(setgid(uid) == 0 && setuid(uid) == 0);
-        run();
-    });
-    int is = child.end();
-    CHECK(WIFEXITED(is) && WEXITSTATUS(is) == 0);
-}
-
 TEST(exhausted) {
     { // the daemon's own descriptors
         Daemon d({}, 64);
@@ -265,28 +256,37 @@ TEST(shares) {
     CHECK(comes([&] { return d.lives() && bool(mine.sync()); }));
 }
 
-// Descriptors under way that nobody receives count against the daemon's user. A claim that can't be delivered leaves the
-// object where it was.
+// Descriptors under way that nobody receives count against the daemon's user. No uid has more of them than it leaves to others.
+// A claim that can't be delivered, since another process of that user has all, leaves the object where it was.
 TEST(in_flight) {
     if (getuid() != 0) return void(std::puts("  not run: not root"));
     Daemon d({"--mode", "666"}, 400, {}, 65534);
     Client c = d.join();
     Token root = c.open_root("root").value();
     int kid = std::move(root.duplicate("kid").value()).detach(), claims = raw_join(d.path);
-    std::vector<Handle> all;
-    {
-        Collection a = c.open_root("a").value().bind().value();
+    Child hostile([&](int m) {
+        CHECK(setgid(1) == 0 && setuid(1) == 0);
+        Client its = d.join();
+        Collection a = its.open_root("a").value().bind().value();
         a.set_constraints({1, 0, 4096}).value();
-        all = std::move(*a.take().value());
-        std::move(a).release().value();
+        std::vector<Handle> all = std::move(*a.take().value());
+        for (int i = 0; i < 60; i++) all.push_back(all[0].duplicate().value());
+        auto q = words_of(SYSMEMD_MEMORY);
+        for (Handle &one : all)
+            for (int i = 0; i < 14; i++) CHECK(raw_send(one.fd(), &q, sizeof q));
+        CHECK(comes([&] { return !its.open_root("b"); })); // it has no more
+        mark(m, 'f');
+        pause();
+    });
+    CHECK(hostile.await() == 'f');
+    {
+        Collection k = c.open_root("k").value().bind().value();
+        k.set_constraints({16, 0, 1}).value();
+        for (int i = 0; i < 50; i++) CHECK(comes([&] { return bool(k.take()); })); // others are served
     }
-    for (int i = 0; i < 60; i++) all.push_back(all[0].duplicate().value());
-    auto q = words_of(SYSMEMD_MEMORY);
-    for (Handle &one : all)
-        for (int i = 0; i < 14; i++) CHECK(raw_send(one.fd(), &q, sizeof q));
-    CHECK(comes([&] { return d.says("can't be sent"); }));
+    hostile.end(SIGKILL);
     auto claim = [&] {
-        q = words_of(SYSMEMD_OFFER);
+        auto q = words_of(SYSMEMD_OFFER);
         q.size = 5;
         CHECK(raw_send(kid, &q, sizeof q));
         q = words_of(SYSMEMD_CLAIM);
@@ -297,15 +297,109 @@ TEST(in_flight) {
         for (int fd : got) ::close(fd);
         return told;
     };
+    Child same([&](int m) {
+        CHECK(setgid(65534) == 0 && setuid(65534) == 0);
+        for (int i = 0; i < 2; i++) {
+            int two[2];
+            CHECK(socketpair(AF_UNIX, SOCK_STREAM, 0, two) == 0 && raw_send(two[0], "x", 1, std::vector<int>(250, two[0])));
+        }
+        mark(m, 'f');
+        pause();
+    });
+    CHECK(same.await() == 'f');
     sysmemd_reply told = claim();
-    CHECK(told.kind == SYSMEMD_FAULT && told.detail == SYSMEM_NO_MEMORY);
+    CHECK(told.kind == SYSMEMD_FAULT && told.detail == SYSMEM_NO_MEMORY && d.says("can't be sent"));
     CHECK(raw_ask(kid, words_of(SYSMEM_SYNC)).kind == SYSMEM_OK && root.sync());
-    all.clear();
-    CHECK(comes([&] { return c.status().value().held == 0; }));
-    told = claim();
-    CHECK(told.kind == SYSMEMD_DESCRIBED && told.detail == SYSMEMD_TOKEN);
+    same.end(SIGKILL);
+    CHECK(comes([&] { return (told = claim()).kind == SYSMEMD_DESCRIBED; }) && told.detail == SYSMEMD_TOKEN);
     CHECK(is_cut(kid, SYSMEMD_CLAIMED) && root.wait_failed(soon)); // the claimant closed it
     ::close(kid), ::close(claims);
     root.close();
     CHECK(is_whole(c));
+}
+
+// A socket whose descriptors are unread gets no more of them, and one that is cut off meanwhile counts as long as they are
+// unread.
+TEST(unread_files) {
+    Daemon d;
+    Client c = d.join();
+    rlimit files{20000, 20000};
+    setrlimit(RLIMIT_NOFILE, &files);
+    auto allocate = [&] {
+        Collection a = c.open_root("a").value().bind().value();
+        a.set_constraints({64, 0, 1}).value();
+        CHECK(a.wait_allocated(soon).value());
+        return std::move(a).detach();
+    };
+    auto q = words_of(SYSMEM_TAKE, 1);
+    int fd = allocate();
+    std::uint64_t events = c.status().value().events;
+    for (; q.serial <= 5; q.serial++) CHECK(raw_send(fd, &q, sizeof q));
+    std::vector<int> got;
+    for (std::uint32_t n = 1; n <= 5; n++) { // one at a time, each once the one before was read
+        CHECK(comes([&] { return c.status().value().events == events + n; }));
+        usleep(20000);
+        CHECK(c.status().value().events == events + n && c.status().value().descriptors == 2 + 64 + 64 * n);
+        auto told = raw_receive(fd, 60000, &got);
+        CHECK(told && told->kind == SYSMEM_TAKEN && told->serial == n);
+    }
+    for (int one : got) ::close(one);
+    ::close(fd);
+    CHECK(is_whole(c));
+    for (bool is_received : {false, true}) {
+        Collection k = c.open_root("k").value().bind().value();
+        k.set_constraints({1, 0, 1}).value();
+        int lease = std::move((*k.take().value())[0]).detach();
+        std::move(k).release().value();
+        q = words_of(SYSMEMD_MEMORY);
+        for (int i = 0; i < 5; i++) CHECK(raw_send(lease, &q, sizeof q));
+        CHECK(raw_send(lease, "nonsense", 8) && comes([&] { return c.status().value().held == 0; }));
+        usleep(20000);
+        CHECK(c.status().value().descriptors == 1 + 1); // the socket's other side is still open, with the buffer's file
+        for (int i = 0; i < 5 && is_received; i++) CHECK(raw_receive(lease)->kind == SYSMEM_OK);
+        if (is_received) CHECK(is_cut(lease, SYSMEMD_MALFORMED));
+        else ::close(lease);
+        CHECK(is_whole(c));
+        if (is_received) ::close(lease);
+    }
+}
+
+// Nanoseconds that the daemon's threads ran: the loop, and the others, once these have nothing to do.
+static std::pair<std::uint64_t, std::uint64_t> times(const Daemon &d) {
+    std::pair<std::uint64_t, std::uint64_t> sum;
+    bool is_busy = false;
+    std::string tasks = "/proc/" + std::to_string(d.pid) + "/task";
+    DIR *dir = opendir(tasks.c_str());
+    CHECK(dir);
+    while (dirent *one = readdir(dir)) {
+        std::uint64_t time = 0;
+        if (one->d_name[0] == '.' || !(std::ifstream(tasks + "/" + one->d_name + "/schedstat") >> time)) continue;
+        bool is_loop = one->d_name == std::to_string(d.pid);
+        (is_loop ? sum.first : sum.second) += time;
+        is_busy |= !is_loop && state_of(tasks + "/" + one->d_name) != 'S';
+    }
+    closedir(dir);
+    if (!is_busy) return sum;
+    usleep(10000);
+    return times(d);
+}
+
+// A large buffer's memory is given back by another thread than that which serves. Not measured by the clock, but by who works.
+TEST(large) {
+    constexpr std::uint32_t size = 256 << 20;
+    Daemon d;
+    Client c = d.join();
+    std::size_t files = d.files_open();
+    Collection a = c.open_root("a").value().bind().value();
+    a.set_constraints({1, 0, size}).value();
+    auto handles = *a.take().value();
+    std::memset(handles[0].bytes().data(), 1, size);
+    auto before = times(d);
+    handles.clear();
+    a.close();
+    CHECK(comes([&] { return d.files_open() == files; }));
+    auto after = times(d);
+    std::uint64_t loop = after.first - before.first, others = after.second - before.second;
+    std::printf("  256 MiB given back: the loop ran %.1f ms, the other thread %.1f ms\n", double(loop) / 1e6, double(others) / 1e6);
+    CHECK(loop < others && loop < 20000000 && is_whole(c));
 }

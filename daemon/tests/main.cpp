@@ -7,7 +7,7 @@ static bool run(const Test &test) {
     auto start = std::chrono::steady_clock::now();
     pid_t pid = fork();
     if (pid == 0) {
-        alarm(600);
+        if (!std::getenv("MESSAGES")) alarm(600);
         test.run();
         std::fflush(nullptr);
         _exit(0);

@@ -64,6 +64,12 @@ inline bool is_sanitized() {
 }
 inline const char *program() { return std::getenv("SYSMEMD") ? std::getenv("SYSMEMD") : "build/sysmemd"; }
 
+// The state of a process or a thread.
+inline char state_of(const std::string &folder) {
+    std::ifstream file(folder + "/stat");
+    std::string all((std::istreambuf_iterator<char>(file)), {});
+    return all.at(all.rfind(')') + 2);
+}
 // A daemon of the test's own. It ends with the value.
 class Daemon {
 public:
@@ -124,11 +130,7 @@ public:
     }
     bool says(const std::string &words) const { return log().find(words) != std::string::npos; }
     // Its state, as in /proc: R runs, S sleeps, D can't be interrupted, T is stopped.
-    char state() const {
-        std::ifstream file("/proc/" + std::to_string(pid) + "/stat");
-        std::string all((std::istreambuf_iterator<char>(file)), {});
-        return all.at(all.rfind(')') + 2);
-    }
+    char state() const { return state_of("/proc/" + std::to_string(pid)); }
     // Stops it, so that what is sent meanwhile comes in one round.
     void pause() const {
         kill(pid, SIGSTOP);
@@ -222,6 +224,15 @@ struct Child {
         return is;
     }
 };
+// Runs this as another uid, in a child.
+inline void as(uid_t uid, const std::function<void()> &run) {
+    Child child([&](int) {
+        CHECK(setgid(uid) == 0 && setuid(uid) == 0);
+        run();
+    });
+    int is = child.end();
+    CHECK(WIFEXITED(is) && WEXITSTATUS(is) == 0);
+}
 inline void mark(int fd, char c) { CHECK(write(fd, &c, 1) == 1); }
 
 inline int raw_connect(const std::string &path) {
@@ -243,21 +254,9 @@ inline sysmemd_request words_of(std::uint32_t op, std::uint32_t serial = 7) {
     return q;
 }
 inline bool raw_send(int fd, const void *bytes, std::size_t length, const std::vector<int> &fds = {}, int flags = 0) {
-    iovec part{const_cast<void *>(bytes), length};
-    std::vector<char> space(CMSG_SPACE(sizeof(int) * fds.size()) + sizeof(cmsghdr));
-    msghdr m{};
-    m.msg_iov = &part;
-    m.msg_iovlen = 1;
-    if (!fds.empty()) {
-        m.msg_control = space.data();
-        m.msg_controllen = CMSG_SPACE(sizeof(int) * fds.size());
-        cmsghdr *c = CMSG_FIRSTHDR(&m);
-        c->cmsg_level = SOL_SOCKET;
-        c->cmsg_type = SCM_RIGHTS;
-        c->cmsg_len = CMSG_LEN(sizeof(int) * fds.size());
-        std::memcpy(CMSG_DATA(c), fds.data(), sizeof(int) * fds.size());
-    }
-    return sendmsg(fd, &m, MSG_NOSIGNAL | flags) == ssize_t(length);
+    sysmem::remote::detail::Envelope<253> goes(bytes, length);
+    goes.attach(fds.data(), fds.size());
+    return sendmsg(fd, &goes.head, MSG_NOSIGNAL | flags) == ssize_t(length);
 }
 // The next reply; nothing at the end, or after the time. Descriptors that come along are closed, or kept in `fds`.
 inline std::optional<sysmemd_reply> raw_receive(int fd, int ms = 60000, std::vector<int> *fds = nullptr) {
@@ -265,24 +264,18 @@ inline std::optional<sysmemd_reply> raw_receive(int fd, int ms = 60000, std::vec
         pollfd one{fd, POLLIN, 0};
         if (poll(&one, 1, ms) != 1) return std::nullopt;
         sysmemd_reply r{};
-        iovec part{&r, sizeof r};
-        alignas(cmsghdr) char space[CMSG_SPACE(sizeof(int) * 128)];
-        msghdr m{};
-        m.msg_iov = &part;
-        m.msg_iovlen = 1;
-        m.msg_control = space;
-        m.msg_controllen = sizeof space;
-        ssize_t n = recvmsg(fd, &m, MSG_CMSG_CLOEXEC);
+        sysmem::remote::detail::Envelope<128> came(&r, sizeof r);
+        ssize_t n = recvmsg(fd, &came.head, MSG_CMSG_CLOEXEC);
         if (n < 0 && errno == ECONNRESET && resets++ == 0) continue;
         if (n != ssize_t(sizeof r)) return std::nullopt;
-        for (cmsghdr *c = CMSG_FIRSTHDR(&m); c; c = CMSG_NXTHDR(&m, c))
-            if (c->cmsg_type == SCM_RIGHTS) {
-                std::vector<int> got((c->cmsg_len - CMSG_LEN(0)) / sizeof(int));
-                std::memcpy(got.data(), CMSG_DATA(c), got.size() * sizeof(int));
-                for (int one : got)
-                    if (fds) fds->push_back(one);
-                    else ::close(one);
-            }
+        came.each([&](int type, const unsigned char *what, std::size_t length) {
+            if (type != SCM_RIGHTS) return;
+            std::vector<int> got(length / sizeof(int));
+            std::memcpy(got.data(), what, got.size() * sizeof(int));
+            for (int one : got)
+                if (fds) fds->push_back(one);
+                else ::close(one);
+        });
         return r;
     }
 }

@@ -117,15 +117,13 @@ class Token;
 /// A bound end.
 class Collection : public End {
 public:
+    /// Handles, by index, or nothing before the allocation.
+    using Taken = std::optional<std::vector<Handle>>;
     /// Makes an attached child token.
     Result<Token> attach_token(std::string label = {}) const;
     /// Sends the node's constraints.
     Result<void> set_constraints(Constraints wanted) const {
-        sysmemd_request q = detail::request(SYSMEM_SET_CONSTRAINTS);
-        q.camping = wanted.camping;
-        q.at_least = wanted.at_least;
-        q.size = wanted.size;
-        auto made = detail::make(link, q, Refusal::NoSuchEnd);
+        auto made = detail::make(link, request(wanted), Refusal::NoSuchEnd);
         if (!made && made.error().is_bad_call()) return sysmem::detail::outside(wanted);
         return made;
     }
@@ -153,21 +151,10 @@ public:
         return detail::read_nodes(link, SYSMEMD_WAITS_FOR, Refusal::NoSuchEnd);
     }
     /// Opens a handle on each buffer that something strong keeps; nothing if none is allocated yet.
-    Result<std::optional<std::vector<Handle>>> take() const {
-        using Taken = std::optional<std::vector<Handle>>;
+    Result<Taken> take() const {
         auto got = detail::ask(link, detail::request(SYSMEM_TAKE), Refusal::NoSuchEnd);
         if (!got) return std::move(got).error();
-        const sysmemd_reply &r = got->reply();
-        if (r.kind == SYSMEM_PENDING) return Taken();
-        std::vector<Handle> handles;
-        handles.reserve(64);
-        std::size_t n = 0;
-        for (std::uint8_t i = 0; i < 64; i++)
-            if (r.set >> i & 1) {
-                int lease = got->fds.take(n++), file = got->fds.take(n++);
-                handles.push_back(Handle(lease, file, link->hub, {r.id, i}, Strength(r.detail), r.size));
-            }
-        return Taken(std::move(handles));
+        return taken(*got);
     }
     /// Makes a tracker that fires once the unit is allocated and at most `left` buffers hold pages, or the node is
     /// gone before.
@@ -183,6 +170,26 @@ private:
     friend class End;
     using End::End;
     explicit Collection(End &&end) noexcept : End(std::move(end)) {}
+    static sysmemd_request request(Constraints wanted) {
+        sysmemd_request q = detail::request(SYSMEM_SET_CONSTRAINTS);
+        q.camping = wanted.camping;
+        q.at_least = wanted.at_least;
+        q.size = wanted.size;
+        return q;
+    }
+    Taken taken(detail::Message &got) const {
+        const sysmemd_reply &r = got.reply();
+        if (r.kind == SYSMEM_PENDING) return Taken();
+        std::vector<Handle> handles;
+        handles.reserve(64);
+        std::size_t n = 0;
+        for (std::uint8_t i = 0; i < 64; i++)
+            if (r.set >> i & 1) {
+                int lease = got.fds.take(n++), file = got.fds.take(n++);
+                handles.push_back(Handle(lease, file, link->hub, {r.id, i}, Strength(r.detail), r.size));
+            }
+        return Taken(std::move(handles));
+    }
 };
 
 /// An end that is not bound.
@@ -199,6 +206,24 @@ public:
         auto made = make(SYSMEM_BIND);
         if (!made) return std::move(made).error();
         return Collection(std::move(*this));
+    }
+    /// bind(), set_constraints() and take() in one message. If the first is refused, it stays a token in this value; if another
+    /// is, there are no handles.
+    Result<std::pair<Collection, Result<Collection::Taken>>> bind_and_take(Constraints wanted) && {
+        if (!link) return Error::spent(Refusal::NoSuchEnd);
+        auto got = link->ask(std::array<sysmemd_request, 3>{detail::request(SYSMEM_BIND), Collection::request(wanted),
+                                                            detail::request(SYSMEM_TAKE)});
+        if (!got) return std::move(got).error();
+        if (!detail::is_good((*got)[0].reply())) return detail::why((*got)[0].reply());
+        using Both = std::pair<Collection, Result<Collection::Taken>>;
+        Collection mine(std::move(*this));
+        for (std::size_t i : {1, 2}) {
+            if (detail::is_good((*got)[i].reply())) continue;
+            Error error = detail::why((*got)[i].reply());
+            return Both(std::move(mine), error.is_bad_call() ? sysmem::detail::outside(wanted) : std::move(error));
+        }
+        auto handles = mine.taken((*got)[2]);
+        return Both(std::move(mine), std::move(handles));
     }
 
 private:

@@ -6,6 +6,7 @@
 #include "socket.hpp"
 
 #include <algorithm>
+#include <array>
 #include <atomic>
 #include <condition_variable>
 #include <map>
@@ -88,26 +89,16 @@ public:
     // Sends a request, and waits for its reply. A list that comes is copied there.
     Result<Message> ask(sysmemd_request q) {
         Slot slot;
-        auto until = hub->until();
-        std::unique_lock<std::mutex> lock(mutex);
-        if (end != Ending::None) return ended(end);
-        while (++serial == 0) {}
-        q.serial = slot.serial = serial;
-        slot.next = std::exchange(slots, &slot);
-        lock.unlock();
-        ssize_t sent;
-        do sent = ::send(fd, &q, sizeof q, MSG_NOSIGNAL | MSG_DONTWAIT);
-        while (sent < 0 && (errno == EINTR || (errno == EAGAIN && await(fd, POLLOUT, until) > 0)));
-        bool is_refused = sent < 0 && (errno == ENOBUFS || errno == ENOMEM), is_late = sent < 0 && errno == EAGAIN;
-        lock.lock();
-        // If the daemon is gone, what came before that is read.
-        if (!is_refused && !is_late) read_until(lock, until, [&] { return slot.is_done; });
-        Slot **at = &slots;
-        while (*at != &slot) at = &(*at)->next;
-        *at = slot.next;
-        if (is_refused) return Error::fault(SYSMEM_NO_MEMORY);
-        if (!slot.is_done) return ended(end == Ending::None ? Ending::TimeOver : end);
+        if (auto none = ask(&q, &slot, 1)) return std::move(*none);
         return std::move(slot.got);
+    }
+    // Sends several in one message, and waits for all replies.
+    template <std::size_t N> Result<std::array<Message, N>> ask(std::array<sysmemd_request, N> all) {
+        Slot slots[N];
+        if (auto none = ask(all.data(), slots, N)) return std::move(*none);
+        std::array<Message, N> got;
+        for (std::size_t i = 0; i < N; i++) got[i] = std::move(slots[i].got);
+        return got;
     }
     // Waits until the events that came make this true; false if the time is over first, or the socket ended.
     template <class F> bool wait(Clock::time_point until, const F &is_so) {
@@ -186,6 +177,32 @@ private:
         Message got;
         Slot *next = nullptr;
     };
+    // An error if not all came.
+    std::optional<Error> ask(sysmemd_request *all, Slot *its, std::size_t count) {
+        auto until = hub->until();
+        std::unique_lock<std::mutex> lock(mutex);
+        if (end != Ending::None) return ended(end);
+        for (std::size_t i = 0; i < count; i++) {
+            while (++serial == 0) {}
+            all[i].serial = its[i].serial = serial;
+            its[i].next = std::exchange(slots, &its[i]);
+        }
+        lock.unlock();
+        ssize_t sent;
+        do sent = ::send(fd, all, count * sizeof *all, MSG_NOSIGNAL | MSG_DONTWAIT);
+        while (sent < 0 && (errno == EINTR || (errno == EAGAIN && await(fd, POLLOUT, until) > 0)));
+        bool is_refused = sent < 0 && (errno == ENOBUFS || errno == ENOMEM), is_late = sent < 0 && errno == EAGAIN;
+        auto are_done = [&] { return std::all_of(its, its + count, [](const Slot &s) { return s.is_done; }); };
+        lock.lock();
+        // If the daemon is gone, what came before that is read.
+        if (!is_refused && !is_late) read_until(lock, until, are_done);
+        for (Slot **at = &slots; *at;)
+            if (std::any_of(its, its + count, [&](Slot &s) { return &s == *at; })) *at = (*at)->next;
+            else at = &(*at)->next;
+        if (is_refused) return Error::fault(SYSMEM_NO_MEMORY);
+        if (!are_done()) return ended(end == Ending::None ? Ending::TimeOver : end);
+        return std::nullopt;
+    }
     template <class F>
     bool read_until(std::unique_lock<std::mutex> &lock, Clock::time_point until, const F &is_so) {
         for (;;) {

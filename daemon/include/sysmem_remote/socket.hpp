@@ -2,12 +2,12 @@
 #ifndef SYSMEM_REMOTE_SOCKET_HPP
 #define SYSMEM_REMOTE_SOCKET_HPP
 
+#include "envelope.hpp"
 #include "words.hpp"
 
 #include <cerrno>
 #include <fcntl.h>
 #include <poll.h>
-#include <sys/socket.h>
 #include <sys/un.h>
 #include <unistd.h>
 
@@ -42,10 +42,10 @@ public:
     }
     ~Fds() { close(); }
     int take(std::size_t i) { return i < count ? std::exchange(all[i], -1) : -1; }
-    void read(const cmsghdr &c) {
+    void read(const void *fds, std::size_t length) {
         close();
-        count = std::min<std::size_t>(128, (c.cmsg_len - CMSG_LEN(0)) / sizeof(int));
-        std::memcpy(all, CMSG_DATA(&c), sizeof(int) * count);
+        count = std::min<std::size_t>(128, length / sizeof(int));
+        std::memcpy(all, fds, sizeof(int) * count);
     }
 
 private:
@@ -81,24 +81,17 @@ inline int read_message(int fd, Message &m, Clock::time_point until) {
     for (int resets = 0;;) {
         int is = await(fd, POLLIN, until); // before recvmsg, since the program's event loop may have set O_NONBLOCK
         if (is <= 0) return is;
-        iovec part{&m.words, sizeof m.words};
-        alignas(cmsghdr) char space[CMSG_SPACE(sizeof(int) * 128) + CMSG_SPACE(sizeof(ucred))];
-        msghdr h{};
-        h.msg_iov = &part;
-        h.msg_iovlen = 1;
-        h.msg_control = space;
-        h.msg_controllen = sizeof space;
-        m.length = recvmsg(fd, &h, MSG_CMSG_CLOEXEC | MSG_DONTWAIT);
+        Envelope<128> came(&m.words, sizeof m.words);
+        m.length = recvmsg(fd, &came.head, MSG_CMSG_CLOEXEC | MSG_DONTWAIT);
         if (m.length < 0 && (errno == EINTR || errno == EAGAIN)) continue;
         if (m.length < 0 && errno == ECONNRESET && resets++ == 0) continue; // what was sent before it follows
         if (m.length <= 0) return -1;
-        for (cmsghdr *c = CMSG_FIRSTHDR(&h); c; c = CMSG_NXTHDR(&h, c)) {
-            if (c->cmsg_level != SOL_SOCKET) continue;
-            if (c->cmsg_type == SCM_RIGHTS) m.fds.read(*c);
-            if (c->cmsg_type == SCM_CREDENTIALS) std::memcpy(&m.sender, CMSG_DATA(c), sizeof m.sender);
-        }
+        came.each([&](int type, const unsigned char *what, std::size_t length) {
+            if (type == SCM_RIGHTS) m.fds.read(what, length);
+            if (type == SCM_CREDENTIALS) std::memcpy(&m.sender, what, sizeof m.sender);
+        });
         if (m.length < ssize_t(sizeof m.words.reply)) return -1; // no daemon of this version
-        if (h.msg_flags & MSG_CTRUNC) {                          // this process has no descriptor left
+        if (came.head.msg_flags & MSG_CTRUNC) {                  // this process has no descriptor left
             m.words.reply.kind = SYSMEMD_FAULT;
             m.words.reply.detail = SYSMEM_NO_MEMORY;
         }
@@ -109,20 +102,10 @@ inline int read_message(int fd, Message &m, Clock::time_point until) {
 // Sends one descriptor over a socket of whatever kind.
 inline Result<void> send_fd(int socket, int fd) {
     char byte = 's';
-    iovec part{&byte, 1};
-    alignas(cmsghdr) char space[CMSG_SPACE(sizeof(int))];
-    msghdr m{};
-    m.msg_iov = &part;
-    m.msg_iovlen = 1;
-    m.msg_control = space;
-    m.msg_controllen = sizeof space;
-    cmsghdr *c = CMSG_FIRSTHDR(&m);
-    c->cmsg_level = SOL_SOCKET;
-    c->cmsg_type = SCM_RIGHTS;
-    c->cmsg_len = CMSG_LEN(sizeof(int));
-    std::memcpy(CMSG_DATA(c), &fd, sizeof fd);
+    Envelope<1> goes(&byte, 1);
+    goes.attach(&fd, 1);
     ssize_t n;
-    do n = sendmsg(socket, &m, MSG_NOSIGNAL);
+    do n = sendmsg(socket, &goes.head, MSG_NOSIGNAL);
     while (n < 0 && errno == EINTR);
     if (n == 1) return {};
     return ended(Ending::NoReceiver, std::strerror(errno));
@@ -135,19 +118,15 @@ inline int receive_fd(int socket, Clock::time_point until) {
         int is = await(socket, POLLIN, until);
         if (is <= 0) return is == 0 ? -2 : -1;
         char byte = 0;
-        iovec part{&byte, 1};
-        alignas(cmsghdr) char space[CMSG_SPACE(sizeof(int))];
-        msghdr m{};
-        m.msg_iov = &part;
-        m.msg_iovlen = 1;
-        m.msg_control = space;
-        m.msg_controllen = sizeof space;
-        ssize_t n = recvmsg(socket, &m, MSG_CMSG_CLOEXEC | MSG_DONTWAIT);
+        Envelope<1> came(&byte, 1);
+        ssize_t n = recvmsg(socket, &came.head, MSG_CMSG_CLOEXEC | MSG_DONTWAIT);
         if (n < 0 && (errno == EINTR || errno == EAGAIN)) continue;
         if (n <= 0) return -1;
-        int fd = -1;
-        cmsghdr *c = CMSG_FIRSTHDR(&m);
-        if (c && c->cmsg_level == SOL_SOCKET && c->cmsg_type == SCM_RIGHTS) std::memcpy(&fd, CMSG_DATA(c), sizeof fd);
+        Fds fds; // more than one would be closed
+        came.each([&](int type, const unsigned char *what, std::size_t length) {
+            if (type == SCM_RIGHTS) fds.read(what, length);
+        });
+        int fd = fds.take(0);
         if (fd >= 0) return fd;
     }
 }

@@ -109,7 +109,7 @@ inline Error ended(Ending why, const std::string &more = {}) {
 }
 inline std::string label_of(const char (&text)[32]) { return std::string(text, strnlen(text, 32)); }
 inline bool is_good(const sysmemd_reply &r) {
-    return r.kind < SYSMEM_REFUSED || (r.kind > SYSMEMD_FAULT && r.kind <= SYSMEMD_WELCOME);
+    return r.kind < SYSMEM_REFUSED || (r.kind > SYSMEMD_FAULT && r.kind <= SYSMEMD_OBJECTS);
 }
 inline Error why(const sysmemd_reply &r) {
     if (r.kind == SYSMEM_REFUSED) return Error{Error::Kind::Refused, r.detail, {}, {}, false, {}};

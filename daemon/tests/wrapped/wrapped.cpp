@@ -5,6 +5,8 @@
 //   SYSMEMD_FULL=N      each Nth message finds its socket full
 //   SYSMEMD_OLD=1       there is no SO_PASSRIGHTS
 //   SYSMEMD_MEMORY=N    fallocate has memory N times
+//   SYSMEMD_GATE=FILE   it waits until there is this file
+//   SYSMEMD_ACCEPT=N    accept4 fails by error N until there is the file $SYSMEMD_GATE
 #include "sysmem.h"
 
 #include <cerrno>
@@ -12,6 +14,7 @@
 #include <cstdlib>
 #include <sys/socket.h>
 #include <sys/types.h>
+#include <unistd.h>
 
 extern "C" {
 uint32_t __real_sysmem_step(sysmem_core *, uint64_t, const sysmem_call *, sysmem_reply *);
@@ -19,6 +22,8 @@ ssize_t __real_send(int, const void *, size_t, int);
 ssize_t __real_sendmsg(int, const msghdr *, int);
 int __real_setsockopt(int, int, int, const void *, socklen_t);
 int __real_fallocate(int, int, off_t, off_t);
+int __real_accept4(int, sockaddr *, socklen_t *, int);
+int __wrap_accept4(int, sockaddr *, socklen_t *, int);
 uint32_t __wrap_sysmem_step(sysmem_core *, uint64_t, const sysmem_call *, sysmem_reply *);
 ssize_t __wrap_send(int, const void *, size_t, int);
 ssize_t __wrap_sendmsg(int, const msghdr *, int);
@@ -61,7 +66,15 @@ int __wrap_setsockopt(int fd, int level, int name, const void *value, socklen_t 
     return __real_setsockopt(fd, level, name, value, length);
 }
 
+static bool is_gate_shut() { return std::getenv("SYSMEMD_GATE") && access(std::getenv("SYSMEMD_GATE"), F_OK) != 0; }
+
+int __wrap_accept4(int fd, sockaddr *to, socklen_t *length, int flags) {
+    if (number("SYSMEMD_ACCEPT") && is_gate_shut()) return errno = int(number("SYSMEMD_ACCEPT")), -1;
+    return __real_accept4(fd, to, length, flags);
+}
+
 int __wrap_fallocate(int fd, int mode, off_t from, off_t length) {
+    while (is_gate_shut()) usleep(1000);
     static long times = 0;
     if (std::getenv("SYSMEMD_MEMORY") && times++ >= number("SYSMEMD_MEMORY")) return errno = ENOSPC, -1;
     return __real_fallocate(fd, mode, from, length);
