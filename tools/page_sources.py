@@ -5,7 +5,7 @@
   tools/page_sources.py --check      status 1 if docs/try.html was made of something else: tools/web.sh makes it anew
 
 The sources are the code of the crates whose functions the page calls and of all crates below them, the page's own files, and
-the examples. The toolchain isn't among them.
+the examples. The toolchain isn't among them. Marks of inlining are left out: they change no answer.
 """
 import hashlib
 import pathlib
@@ -46,7 +46,7 @@ def digest():
     """The hash of their names and texts."""
     whole = hashlib.sha256()
     for file in sources():
-        text = (TOP / file).read_bytes()
+        text = re.sub(rb"^ *#\[inline[^]\n]*\]\n", b"", (TOP / file).read_bytes(), flags=re.M)
         whole.update(f"{file} {len(text)}\n".encode() + text)
     return whole.hexdigest()
 

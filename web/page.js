@@ -4,9 +4,12 @@ const $ = (id) => document.getElementById(id);
 const FORMAT = { text: 0, svg: 2 };
 const MOST_NODES = 200;
 const MOST_LINK = 8192;
-// `compiled` is the module; `script` the text of the last run; `steps` its lines, as far as they were played, of which one is
-// shown; `pictured` the event whose picture is.
-let compiled, examples = {}, script = '', steps = [], at = 0, pages = 16, pictured;
+// A script that is typed runs by itself once no key was pressed for so many milliseconds, if it has so many lines at most.
+const REST = 400;
+const MOST_TYPED = 2000;
+// `compiled` is the module; `script` the text of the last run, and `opened` the name of its file, if it has one; `steps` its
+// lines, as far as they were played, of which one is shown; `pictured` the event whose picture is.
+let compiled, examples = {}, script = '', opened = '', steps = [], at = 0, pages = 16, pictured, resting;
 
 // ---- the core
 
@@ -148,7 +151,18 @@ function picture(event) {
   svg.setAttribute('aria-label', name);
   svg.classList.toggle('fit', Number(svg.getAttribute('width')) <= 1.5 * $('tree').clientWidth);
   $('tree').replaceChildren(svg);
+  scroll_to_change(svg);
   return all;
+}
+
+// Scrolls a picture that is wider than its frame to what the event made fail, or to what else it changed: boxes of thick lines,
+// of which that of the origin is filled.
+function scroll_to_change(svg) {
+  const boxes = [...svg.querySelectorAll('rect[stroke-width="3.5"]')];
+  const box = boxes.find((one) => one.getAttribute('fill') === one.getAttribute('stroke')) ?? boxes[0];
+  if (!box) return;
+  const frame = $('tree').getBoundingClientRect(), { left, right } = box.getBoundingClientRect();
+  $('tree').scrollLeft += (left + right - frame.left - frame.right) / 2;
 }
 
 // ---- the page
@@ -270,7 +284,7 @@ function save() {
     ? [new XMLSerializer().serializeToString(svg), 'image/svg+xml', 'svg'] : [$('rows').textContent, 'text/plain', 'txt'];
   const a = document.createElement('a');
   a.href = URL.createObjectURL(new Blob([text], { type }));
-  a.download = `${$('pick').value || 'script'}.${steps[at]?.event ?? 0}.${ending}`;
+  a.download = `${opened.replace(/\.\w+$/, '') || $('pick').value || 'script'}.${steps[at]?.event ?? 0}.${ending}`;
   a.click();
   URL.revokeObjectURL(a.href);
 }
@@ -278,7 +292,17 @@ function save() {
 // Plays a script from a file.
 async function open_file(file) {
   $('script').value = await file.text();
+  opened = file.name;
   run(first_failure);
+}
+
+// Plays the script that is typed, as far as the line of the cursor, once no more keys come.
+function typed() {
+  clearTimeout(resting);
+  const { value, selectionStart } = $('script');
+  resting = setTimeout(() => {
+    if (value.split('\n').length <= MOST_TYPED) run(() => value.slice(0, selectionStart).split('\n').length - 1);
+  }, REST);
 }
 
 // Plays the script, and shows this line of it.
@@ -286,20 +310,41 @@ function run(line = last) {
   const begun = performance.now();
   pages = $('pages').value = Math.min(1048576, Math.max(1, Math.trunc(Number($('pages').value)) || 16));
   script = $('script').value.replace(/\n?$/, '\n');
+  clearTimeout(resting);
   drawn.clear();
   pictured = undefined;
   with_core(() => {
     steps = play(script);
     $('lines').replaceChildren(...steps.map(listed));
     $('slide').max = Math.max(0, last());
+    $('failure').disabled = !steps.some(fails);
+    $('failure').textContent = $('failure').disabled ? 'Nothing fails' : 'Next failure';
     show(line());
-    $('time').textContent = `${steps.length} lines in ${(performance.now() - begun).toFixed(0)} ms`;
+    $('time').textContent = `${opened && `${opened}: `}${steps.length} lines in ${(performance.now() - begun).toFixed(0)} ms`;
   });
 }
 
+// Puts the example that is chosen in the place of the script.
+function pick() {
+  $('script').value = examples[$('pick').value] ?? '';
+  opened = '';
+}
+
+// Plays what the address names, and shows its line.
+function run_address() {
+  const wanted = new URLSearchParams(location.hash.slice(1));
+  if (examples[wanted.get('example')] !== undefined) $('pick').value = wanted.get('example');
+  pick();
+  if (wanted.has('script')) $('script').value = decode(wanted.get('script'));
+  $('pages').value = wanted.get('pages') ?? 16;
+  const line = Math.trunc(Number(wanted.get('line')));
+  run(line >= 1 ? () => line - 1 : wanted.has('line') || wanted.has('script') ? last : first_failure);
+}
+
 function begin_controls() {
-  const pick = () => { $('script').value = examples[$('pick').value] ?? ''; };
+  window.addEventListener('hashchange', run_address);
   $('pick').addEventListener('change', () => { pick(); run(first_failure); });
+  $('script').addEventListener('input', typed);
   $('run').addEventListener('click', () => run());
   $('script').addEventListener('keydown', (e) => { if (e.key === 'Enter' && (e.ctrlKey || e.metaKey)) { e.preventDefault(); run(); } });
   $('slide').addEventListener('input', () => show(Number($('slide').value)));
@@ -317,7 +362,6 @@ function begin_controls() {
     const to = { ArrowUp: at - 1, ArrowDown: at + 1, Home: 0, End: last() }[e.key];
     if (to !== undefined) { e.preventDefault(); show(to); }
   });
-  return pick;
 }
 
 async function begin() {
@@ -329,15 +373,9 @@ async function begin() {
     return;
   }
   examples = JSON.parse($('examples').textContent);
-  const wanted = new URLSearchParams(location.hash.slice(1));
   Object.keys(examples).forEach((name) => $('pick').append(new Option(name, name)));
-  const pick = begin_controls();
-  if (examples[wanted.get('example')] !== undefined) $('pick').value = wanted.get('example');
-  pick();
-  if (wanted.has('script')) $('script').value = decode(wanted.get('script'));
-  if (wanted.has('pages')) $('pages').value = wanted.get('pages');
-  const line = Math.trunc(Number(wanted.get('line')));
-  run(line >= 1 ? () => line - 1 : wanted.has('line') || wanted.has('script') ? last : first_failure);
+  begin_controls();
+  run_address();
   document.documentElement.dataset.ready = 'yes';
 }
 begin();

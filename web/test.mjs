@@ -110,6 +110,30 @@ async function controls({ value, open }) {
   await value("open_file(new File(['a join\\na open r\\na close r\\n'], 'own.script')).then(() => { document.title = 'opened'; })");
   while (await value('document.title') !== 'opened');
   assert.deepEqual(await value("[$('script').value, $('at').textContent]"), ['a join\na open r\na close r\n', '3']);
+  assert.match(await value("$('time').textContent"), /^own\.script: 3 lines in \d+ ms$/);
+  assert.deepEqual(await value("[$('failure').disabled, $('failure').textContent]"), [false, 'Next failure']);
+  await value("$('script').value = 'a join\\n'; $('run').click()");
+  assert.deepEqual(await value("[$('failure').disabled, $('failure').textContent]"), [true, 'Nothing fails']);
+  await open(page);
+  assert.match(await value("$('time').textContent"), /^50 lines in \d+ ms$/);
+}
+
+// What is typed runs by itself, as far as the cursor, unless it is long.
+async function typing({ value, open }) {
+  const type = (script, cursor) => value(`(() => { $('script').value = ${JSON.stringify(script)}; $('script').setSelectionRange(${cursor}, ${cursor});
+    $('script').dispatchEvent(new Event('input')); return new Promise((yes) => setTimeout(() => yes([steps.length, $('at').textContent]), REST + 300)); })()`);
+  assert.deepEqual(await type('a join\na open r\na close r\n', 10), [3, '2']);
+  assert.deepEqual(await type('#\n'.repeat(2001), 0), [3, '2']);
+  await open(page);
+}
+
+// A picture that is wider than its frame shows the origin of the failure.
+async function wide_picture({ value, open }) {
+  const nodes = Array.from({ length: 40 }, (_, i) => `a dup r n${i}`).join('\n');
+  const [from, left, right, to] = await value(`(() => { $('script').value = ${JSON.stringify(`a join\na open r\n${nodes}\na close n39\n`)}; $('run').click();
+    const frame = $('tree').getBoundingClientRect(), box = [...document.querySelectorAll('#tree rect[stroke-width="3.5"]')].find((r) => r.getAttribute('fill') === r.getAttribute('stroke')).getBoundingClientRect();
+    return [frame.left, box.left, box.right, frame.right]; })()`);
+  assert.ok(from <= left && right <= to, `the origin is at ${left} to ${right} in a frame from ${from} to ${to}`);
   await open(page);
 }
 
@@ -155,6 +179,9 @@ async function links({ value, open }) {
   assert.match(await value('location.hash'), /^#script=YSBqb2luCg&line=1&pages=4$/);
   await open(page, '#script=YSBqb2luCg&pages=4');
   assert.deepEqual(await value("[$('script').value, $('pages').value, $('pool').textContent]"), ['a join\n', '4', 'Pool: ░░░░ 4 of 4 pages free']);
+  // A new fragment in the same tab.
+  await value("location.hash = '#example=weak&line=24'");
+  while (await value("$('pick').value + $('at').textContent") !== 'weak24');
   for (const [line, shown] of [['2', '2'], ['999', '50'], ['1.5', '1'], ['0', '50'], ['x', '50']]) {
     await open(page, `#example=camera&line=${line}`);
     assert.equal(await value("$('at').textContent"), shown, `line=${line}`);
@@ -227,8 +254,8 @@ async function screenshots({ say, value }) {
   }
 }
 
-const tests = { chromium: [example_texts, display_failure, keyboard, links, controls, sizes, names_and_contrasts, faults_told],
-  firefox: [example_texts, display_failure, keyboard, links, controls, sizes, faults_told] }[kind];
+const tests = { chromium: [example_texts, display_failure, keyboard, links, controls, typing, wide_picture, sizes, names_and_contrasts, faults_told],
+  firefox: [example_texts, display_failure, keyboard, links, controls, typing, wide_picture, sizes, faults_told] }[kind];
 const begun = performance.now();
 const browser = await start();
 try {
