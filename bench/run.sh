@@ -3,6 +3,7 @@
 #
 #   run.sh [--no-build] [--rounds N]                            all rows, into TABLE.md
 #   run.sh [--no-build] [--rounds N] [--allocations] NAME..     some rows, and no file
+#   run.sh [--no-build] [--rounds N] --from EVENTS [NAME..]     the same after so many events, as 4294967290
 #
 # Names are prefixes of rows, as a1 or h.
 # --no-build takes what build_core.sh built last.

@@ -1,10 +1,11 @@
 //! The proved core and the plain one, side by side on the same streams of calls.
 //!
-//!     core-bench [--rounds N] [--only ours|plain] [--count] [--keep FILE] [NAME..]
+//!     core-bench [--rounds N] [--only ours|plain] [--count] [--keep FILE] [--from EVENTS] [NAME..]
 //!     core-bench --table SECONDS [INSTRUCTIONS]
 //!
 //! Names are prefixes of rows. `--count` is for callgrind: each row's instructions go into a file of
 //! their own, under its name. `--keep` writes the rows into a file, from which `--table` makes TABLE.md.
+//! `--from` starts each core after so many events, and leaves out the rows of threads.
 mod clock;
 mod count;
 mod locks;
@@ -19,12 +20,13 @@ use plain_core::*;
 use std::collections::HashMap;
 use std::fmt::Write;
 use std::hint::black_box;
-use stream::Stream;
+use std::sync::atomic::Ordering::Relaxed;
+use stream::{START, Stream};
 
 /// Plays the stream on the plain core. These are the nanoseconds and allocations of its timed stretches.
 fn play(s: &Stream, out: &mut Vec<Reply>) -> (f64, f64) {
     out.clear();
-    let mut core = Core::new(s.pages, s.limits());
+    let mut core = s.core();
     let mut from = 0;
     clock::begin();
     clock::tick();
@@ -128,6 +130,7 @@ fn main() {
             "--only" => o.only = args.next(),
             "--count" => (o.counts, o.rounds) = (true, 1),
             "--keep" => o.keep = args.next(),
+            "--from" => START.store(args.next().unwrap().parse().unwrap(), Relaxed),
             "--table" => return print!("{}", table::table(&args.collect::<Vec<_>>())),
             n => o.names.push(n.to_string()),
         }
@@ -149,7 +152,7 @@ fn main() {
             writeln!(kept, "{name}|{x}|{y}").unwrap();
         }
     }
-    if !o.counts && !counts && o.only.is_none() {
+    if !o.counts && !counts && o.only.is_none() && START.load(Relaxed) == 0 {
         for (name, x, y, z) in locks::measure(o.rounds, |name| o.wants(name)) {
             println!("{name:<30} {x:>10.1} {y:>10.1} {:>7.1}   {z:.1} without the lists", x / y);
             writeln!(kept, "{name}|{x}|{y}|{z}").unwrap();

@@ -1,7 +1,8 @@
 //! The proved core, through two exported functions that play calls in numbers.
 use crate::clock;
-use crate::stream::Stream;
+use crate::stream::{START, Stream};
 use plain_core::*;
+use std::sync::atomic::Ordering::Relaxed;
 
 #[repr(C)]
 #[derive(Clone, Copy)]
@@ -28,9 +29,9 @@ pub struct Told {
 
 #[rustfmt::skip]
 unsafe extern "C" {
-    fn core_calls_by_birth(pages: u32, nodes: u32, collections: u32, trackers: u32, handles: u32,
+    fn core_calls_by_birth(pages: u32, nodes: u32, collections: u32, trackers: u32, handles: u32, start: u64,
         asked: *const Asked, count: usize, told: *mut Told, room: usize) -> u64;
-    fn core_calls_timed(pages: u32, nodes: u32, collections: u32, trackers: u32, handles: u32,
+    fn core_calls_timed(pages: u32, nodes: u32, collections: u32, trackers: u32, handles: u32, start: u64,
         asked: *const Asked, count: usize, ends: *const u64, stretches: usize, told: *mut Told, room: usize) -> u64;
 }
 
@@ -125,7 +126,9 @@ impl Ours {
         let mut told = vec![Told::default(); calls.len()];
         let [n, c, t, h] = s.limits;
         let made = unsafe {
-            core_calls_by_birth(s.pages, n, c, t, h, calls.as_ptr(), calls.len(), told.as_mut_ptr(), told.len())
+            core_calls_by_birth(
+                s.pages, n, c, t, h, START.load(Relaxed), calls.as_ptr(), calls.len(), told.as_mut_ptr(), told.len(),
+            )
         };
         assert_eq!(made as usize, calls.len(), "the proved core stopped at {:?}", s.calls.get(made as usize));
         let births: Vec<Told> = told.iter().filter(|t| t.kind == 3).copied().collect();
@@ -144,7 +147,7 @@ impl Ours {
         clock::begin();
         let made = unsafe {
             core_calls_timed(
-                s.pages, n, c, t, h, self.asked.as_ptr(), self.asked.len(), s.ends.as_ptr(), s.ends.len(),
+                s.pages, n, c, t, h, START.load(Relaxed), self.asked.as_ptr(), self.asked.len(), s.ends.as_ptr(), s.ends.len(),
                 out.as_mut_ptr(), out.len(),
             )
         };

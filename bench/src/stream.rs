@@ -1,6 +1,10 @@
 //! A fixed stream of calls, recorded while the plain core answers it.
 use std::collections::HashMap;
+use std::sync::atomic::{AtomicU64, Ordering::Relaxed};
 use plain_core::*;
+
+/// How many refused calls each core has seen before its stream.
+pub static START: AtomicU64 = AtomicU64::new(0);
 
 pub struct Stream {
     pub pages: u32,
@@ -17,9 +21,15 @@ pub struct Stream {
 }
 
 impl Stream {
-    pub fn limits(&self) -> Limits {
+    fn limits(&self) -> Limits {
         let [n, c, t, h] = self.limits;
-        Limits::new(u32::MAX, n, c, t, h).unwrap()
+        Limits::new(u32::MAX, n, c, t, h).unwrap().lasting()
+    }
+    /// A plain core that is to play it.
+    pub fn core(&self) -> Core {
+        let mut core = Core::new(self.pages, self.limits());
+        core.refuse(START.load(Relaxed));
+        core
     }
 }
 
@@ -49,7 +59,7 @@ impl Driver {
             ends: Vec::new(),
             events: 0,
         };
-        let core = Core::new(pages, s.limits());
+        let core = s.core();
         let mut d = Driver { core, me: 0, of_key: HashMap::new(), born: 0, s };
         d.me = d.join();
         d

@@ -1610,7 +1610,7 @@ mod tests {
         let (mut taken, mut collected) = (0, 0);
         for seed in 0..40 {
             let mut rng = Rng(seed);
-            let (mut young, mut old) = (Core::new(64, Limits::lasting()), Core::new(64, Limits::lasting()));
+            let (mut young, mut old) = (Core::new(64, Limits::full().lasting()), Core::new(64, Limits::full().lasting()));
             let root = NodeKey { slot: 0, generation: 0 };
             let mut seen = Seen { clients: vec![1, 2], ends: vec![(root, 1)], handles: vec![(3, 1)] };
             let asks = Constraints::new(2, 0, 4096).unwrap();

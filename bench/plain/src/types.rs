@@ -80,8 +80,8 @@ impl Limits {
     pub fn full() -> Limits {
         Limits { events: u32::MAX.into(), nodes: 1024, collections: 256, trackers: 4096, handles: u32::MAX }
     }
-    pub fn lasting() -> Limits {
-        Limits { events: (1 << 53) - 1, ..Limits::full() }
+    pub fn lasting(self) -> Limits {
+        Limits { events: (1 << 53) - 1, ..self }
     }
     pub fn new(events: u32, nodes: u32, collections: u32, trackers: u32, handles: u32) -> Option<Limits> {
         let f = Limits::full();
