@@ -29,6 +29,9 @@ else
   (cd crates/sysmem && rt lib --jobs "$lanes") >"$log" 2>&1 || { tail -n 40 "$log"; exit 1; }
   tail -n 1 "$log"
 fi
+# The toolchain drops `inline(always)` from a function that grew too large, and says nothing: each event is then a fifth slower.
+nm crates/sysmem/out/libsysmem.a >"$log"
+grep -q 'machine::Core::commit_early$' "$log" && ! grep 'machine::Core::commit$' "$log" || { echo 'Core::commit is not in line'; exit 1; }
 bindings/wrong.py --apply
 tools/c_interface.sh 100000 crates/sysmem/out/libsysmem.a
 tools/long_history.sh 1000000

@@ -10,31 +10,35 @@ ghost use Rattle.sm_names.specs.declared.messages.Call.{Call as Made};
 ghost use Rattle.core_state.specs.Theorem.{Stepped};
 
 use crate::machine::Core;
+use core_state::reading::with_end;
 use core_state::traits::key_of;
 use sm_names::{Call, ClientId, Reply, StepFault};
 
-/// Makes the call that the closure answers, as `Core::step_into` says. Each closure has a type of its own,
-/// so this function is compiled once for each.
+/// Makes the call, as `Core::step_into` says. The closure answers this call too. Each closure has a type of
+/// its own, so this function is compiled once for each. `made` itself is read only out of the way: no call is
+/// put into memory here.
 #[inline(never)]
 fn step_kind<F: FnOnce() -> Call>(
     core: &mut Core,
     client: ClientId,
+    made: &Call,
     known: F,
     out: &mut Reply,
 ) -> Result<(), StepFault>
-    requires { F.pre known }
-    ensures stepped { (call : Made) → ((made : Made) → F.post known made → made ≡ call) →
-        Stepped core.old core.new client call
+    requires may { F.pre known }
+    requires same { (call : Made) → F.post known call → call ≡ made.now }
+    ensures stepped { Stepped core.old core.new client made.now
         (result_map_both (λ _. out.new) (λ fault. fault) result) }
     ensures kept { OnErr result (out.new ≡ out.old) }
 {
     let call = known();
     let named = key_of(&call);
     let node = core.named(named);
-    if let Some(reply) = core.early_answer(client, &call, named, node) {
-        return core.commit_early(client, &call, reply, out);
+    let unspent = with_end(node);
+    if core.early_answer(client, &call, unspent).is_some() {
+        return core.commit_early(client, made, out);
     }
-    let decision = core.decide_effect(client, &call, named, node);
+    let decision = core.decide_effect(client, &call, named, node, unspent);
     core.commit(client, &call, decision, out)
 }
 
@@ -51,44 +55,65 @@ pub(crate) fn dispatch(
     ensures kept { OnErr result (out.new ≡ out.old) }
 {
     match *call {
-        Call::Join => step_kind(core, client, || Call::Join, out),
-        Call::Shut => step_kind(core, client, || Call::Shut, out),
-        Call::OpenRoot => step_kind(core, client, || Call::OpenRoot, out),
-        Call::Duplicate(key) => step_kind(core, client, move || Call::Duplicate(key), out),
-        Call::AttachToken(key) => step_kind(core, client, move || Call::AttachToken(key), out),
-        Call::Sync(key) => step_kind(core, client, move || Call::Sync(key), out),
-        Call::Give(key, to) => step_kind(core, client, move || Call::Give(key, to), out),
-        Call::Collect => step_kind(core, client, || Call::Collect, out),
-        Call::Bind(key) => step_kind(core, client, move || Call::Bind(key), out),
+        Call::Join => step_kind(core, client, call, || Call::Join, out),
+        Call::Shut => step_kind(core, client, call, || Call::Shut, out),
+        Call::OpenRoot => step_kind(core, client, call, || Call::OpenRoot, out),
+        Call::Duplicate(key) => step_kind(core, client, call, move || Call::Duplicate(key), out),
+        Call::AttachToken(key) => step_kind(
+            core,
+            client,
+            call,
+            move || Call::AttachToken(key),
+            out,
+        ),
+        Call::Sync(key) => step_kind(core, client, call, move || Call::Sync(key), out),
+        Call::Give(key, to) => step_kind(core, client, call, move || Call::Give(key, to), out),
+        Call::Collect => step_kind(core, client, call, || Call::Collect, out),
+        Call::Bind(key) => step_kind(core, client, call, move || Call::Bind(key), out),
         Call::SetDispensable(key) => step_kind(
             core,
             client,
+            call,
             move || Call::SetDispensable(key),
             out,
         ),
-        Call::SetWeak(key) => step_kind(core, client, move || Call::SetWeak(key), out),
+        Call::SetWeak(key) => step_kind(core, client, call, move || Call::SetWeak(key), out),
         Call::SetWeakOk(key, children) => {
-            step_kind(core, client, move || Call::SetWeakOk(key, children), out)
+            step_kind(
+                core,
+                client,
+                call,
+                move || Call::SetWeakOk(key, children),
+                out,
+            )
         }
         Call::SetConstraints(key, constraints) => {
             step_kind(
                 core,
                 client,
+                call,
                 move || Call::SetConstraints(key, constraints),
                 out,
             )
         }
-        Call::Check(key) => step_kind(core, client, move || Call::Check(key), out),
-        Call::Take(key) => step_kind(core, client, move || Call::Take(key), out),
-        Call::Release(key) => step_kind(core, client, move || Call::Release(key), out),
-        Call::Close(key) => step_kind(core, client, move || Call::Close(key), out),
+        Call::Check(key) => step_kind(core, client, call, move || Call::Check(key), out),
+        Call::Take(key) => step_kind(core, client, call, move || Call::Take(key), out),
+        Call::Release(key) => step_kind(core, client, call, move || Call::Release(key), out),
+        Call::Close(key) => step_kind(core, client, call, move || Call::Close(key), out),
         Call::DupHandle(buffer, strength) => {
-            step_kind(core, client, move || Call::DupHandle(buffer, strength), out)
+            step_kind(
+                core,
+                client,
+                call,
+                move || Call::DupHandle(buffer, strength),
+                out,
+            )
         }
         Call::DropHandle(buffer, strength) => {
             step_kind(
                 core,
                 client,
+                call,
                 move || Call::DropHandle(buffer, strength),
                 out,
             )
@@ -97,14 +122,27 @@ pub(crate) fn dispatch(
             step_kind(
                 core,
                 client,
+                call,
                 move || Call::GiveHandle(buffer, strength, to),
                 out,
             )
         }
-        Call::TrackNode(key) => step_kind(core, client, move || Call::TrackNode(key), out),
+        Call::TrackNode(key) => step_kind(core, client, call, move || Call::TrackNode(key), out),
         Call::TrackLifetime(key, most) => {
-            step_kind(core, client, move || Call::TrackLifetime(key, most), out)
+            step_kind(
+                core,
+                client,
+                call,
+                move || Call::TrackLifetime(key, most),
+                out,
+            )
         }
-        Call::TrackWeak(buffer) => step_kind(core, client, move || Call::TrackWeak(buffer), out),
+        Call::TrackWeak(buffer) => step_kind(
+            core,
+            client,
+            call,
+            move || Call::TrackWeak(buffer),
+            out,
+        ),
     }
 }

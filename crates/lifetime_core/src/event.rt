@@ -1,10 +1,11 @@
 //! The part of an event that may be refused memory: all of it is done, or nothing.
-ghost use Rattle.std.specs.Prelude.{◌≡◌, ◌<◌, IfOk, IfSome, OnErr, None, length, map, true};
+ghost use Rattle.std.specs.Prelude.{◌≡◌, ◌<◌, IfOk, IfSome, OnErr, None, length, map, true, false};
 ghost use Rattle.std.specs.List.{All};
+ghost use Rattle.sm_names.specs.Marks.{Called};
 ghost use Rattle.trackers.specs.Table.{Cell};
 ghost use Rattle.forest_store.specs.Forest.{IsPoolOf};
-ghost use Rattle.buffer_holds.specs.Counts.{HasPlaces, total};
-ghost use Rattle.core_state.specs.Hands.{MayMove, collects_handle};
+ghost use Rattle.buffer_holds.specs.Counts.{Counts, HasPlaces, total};
+ghost use Rattle.core_state.specs.Hands.{CanUndo, MayMove, MovesHandles, collects_handle};
 ghost use Rattle.core_state.specs.State.{Client as Row, counts_of};
 ghost use Rattle.core_state.specs.Tasks.{AsksOnly, MayDo, TakesEffect, may_take_memory, takes_room};
 ghost use Rattle.core_state.specs.Tasks.{with_key};
@@ -30,6 +31,22 @@ pub(crate) struct Contents {
     pub(crate) pool: Pool,
     pub(crate) holds: Holds,
     pub(crate) trackers: Trackers,
+}
+
+// Undoes what `apply_handles` did, as `undo_handles` does. The copies are made here, so that a call that is not
+// refused memory makes none.
+#[inline(always)]
+fn undo(holds: &mut Holds, client: ClientId, call: &Call, reply: &Reply)
+    requires undo { CanUndo holds.old client call.now reply.now }
+    requires stands { collects_handle call.now reply.now ≡ false }
+    requires places { HasPlaces holds.old }
+    ensures counts { (before : Counts) →
+        MovesHandles before holds.old (Called client reply.now call.now) →
+        counts_of holds.new ≡ counts_of before }
+    ensures places { HasPlaces holds.new }
+    ensures limit { holds.new.limit ≡ holds.old.limit }
+{
+    undo_handles(holds, client, *call, *reply);
 }
 
 /// Changes the contents as this call with this reply does, and answers the key of the new node, if there
@@ -89,7 +106,7 @@ pub(crate) fn take_effect(
 {
     apply_handles(&mut contents.holds, client, call, asked)?;
     let Ok(()) = attach(&mut contents.trackers, tracking) else {
-        undo_handles(&mut contents.holds, client, *call, *asked);
+        undo(&mut contents.holds, client, call, asked);
         return Err(NoMemory);
     };
     let Ok(key) = make_change(
@@ -99,12 +116,12 @@ pub(crate) fn take_effect(
         task,
         call,
     ) else {
-        detach(&mut contents.trackers, tracking);
-        undo_handles(&mut contents.holds, client, *call, *asked);
+        detach(&mut contents.trackers, &tracking);
+        undo(&mut contents.holds, client, call, asked);
         return Err(NoMemory);
     };
     let Ok(()) = note_client(&mut contents.clients, client, call, asked) else {
-        undo_handles(&mut contents.holds, client, *call, *asked);
+        undo(&mut contents.holds, client, call, asked);
         return Err(NoMemory);
     };
     tidy_up(&mut contents.holds, client, call);

@@ -6,7 +6,7 @@ ghost use Rattle.sm_names.specs.declared.keys.NodeKey.{NodeKey as Key};
 ghost use Rattle.sm_names.specs.declared.tracking.Fired.{Fired};
 ghost use Rattle.sm_names.specs.declared.messages.Reply.{Reply};
 ghost use Rattle.sm_names.specs.Answers.{IsAnswer};
-ghost use Rattle.sm_names.specs.Answers.{answer as answer_of, effect as effect_of};
+ghost use Rattle.sm_names.specs.Answers.{answer as answer_of, effect as effect_of, end_named};
 ghost use Rattle.sm_names.specs.Marks.{Entry};
 ghost use Rattle.sm_names.specs.Timelines.{timeline};
 ghost use Rattle.sm_names.specs.Trackers.{Tracked, tracked};
@@ -15,10 +15,10 @@ ghost use Rattle.std.specs.Option.{option_and_then};
 ghost use Rattle.std.specs.Result.{result_map_both};
 ghost use Rattle.trackers.specs.Table.{is_untaken, reader_of, cell_of, without_id};
 ghost use Rattle.forest_store.specs.Forest.{given, node_at};
-ghost use Rattle.forest_store.specs.Nodes.{is_of};
+ghost use Rattle.forest_store.specs.Nodes.{is_of, is_spent};
 ghost use Rattle.forest_store.specs.Settling.{MayChange, collection_or_new, no_key};
 ghost use Rattle.core_state.specs.Kinds.{fits_call, takes_no_memory};
-ghost use Rattle.core_state.specs.Reads.{node_named, readings_of};
+ghost use Rattle.core_state.specs.Reads.{node_named, open_end_of, readings_of};
 ghost use Rattle.sm_names.specs.Timelines.{key_of as key_named};
 ghost use Rattle.core_state.specs.Shown.{Shows, ShowsBut, forgetting};
 ghost use Rattle.core_state.specs.Steps.{Follows, Work, leaves_tracker_room, work_of};
@@ -209,25 +209,24 @@ impl Core {
     }
 
     // The answer that comes before the effect of the call, if there is one. `None` for a Close that is
-    // answered Done, since it takes effect. `named` is the key of the node that the call names, `node`
-    // this node, if it is kept.
+    // answered Done, since it takes effect. `unspent` is the node that the call names, if its end is not spent.
     #[inline(always)]
     pub(crate) fn early_answer(
         &self,
         client: ClientId,
         call: &Call,
-        named: Option<NodeKey>,
-        node: Option<&Node>,
+        unspent: Option<&Node>,
     ) -> Option<Reply>
-        requires key { named ≡ key_named call.now }
-        requires node { option_copied node ≡ option_and_then (node_at self.now.forest) named }
+        requires end { end_named (readings_of self.now) call.now
+            ≡ option_map (open_end_of self.now) (option_copied unspent) }
+        requires end_there { IfSome unspent (λ n. is_spent n.now.end ≡ false) }
         ensures answer { IfSome result (λ reply. reply
             ≡ answer_of self.now.limits (readings_of self.now) client no_key call.now) }
         ensures effect { IfNone result (effect_of (readings_of self.now) client no_key call.now
             ≡ answer_of self.now.limits (readings_of self.now) client no_key call.now) }
     {
         let traits = traits_of(call);
-        let reply = first_answer(self, client, call, &traits, with_end(node))?;
+        let reply = first_answer(self, client, call, &traits, unspent)?;
         match (*call, reply) {
             (Call::Close(_), Reply::Done) => None,
             _ => Some(reply),
@@ -235,7 +234,8 @@ impl Core {
     }
 
     // Decides a call that no answer before its effect answers. Tests nothing that `early_answer` tested,
-    // and takes the node that this was given.
+    // and takes the node `unspent` that this was given. `named` is the key of the node that the call names,
+    // `node` this node, if it is kept.
     #[inline(always)]
     pub(crate) fn decide_effect(
         &self,
@@ -243,14 +243,17 @@ impl Core {
         call: &Call,
         named: Option<NodeKey>,
         node: Option<&Node>,
+        unspent: Option<&Node>,
     ) -> Decision
-        requires key { named ≡ key_named call.now }
-        requires node { option_copied node ≡ option_and_then (node_at self.now.forest) named }
+        requires key { key_named call.now ≡ named }
+        requires node { option_copied node ≡ node_named self.now call.now }
+        requires end { end_named (readings_of self.now) call.now
+            ≡ option_map (open_end_of self.now) (option_copied unspent) }
         requires effect { effect_of (readings_of self.now) client no_key call.now
             ≡ answer_of self.now.limits (readings_of self.now) client no_key call.now }
         ensures { IsDecision self.now client call.now result }
     {
-        let reply = effect(self, client, NO_KEY, call, with_end(node));
+        let reply = effect(self, client, NO_KEY, call, unspent);
         self.decide_answered(client, call, reply, named, node)
     }
 
@@ -303,26 +306,22 @@ impl Core {
         }
     }
 
-    // Makes a call with an answer that came before its effect, as `step_into` says. Compiled once, so that
-    // no kind of call has its code beside that of the effect.
+    // Makes a call that is answered before its effect, as `step_into` says. Compiled once, so that no kind of
+    // call has its code beside that of the effect. It decides anew: what a caller had decided would have to
+    // lie in memory, also where the call takes effect.
     #[cold]
     #[inline(never)]
     pub(crate) fn commit_early(
         &mut self,
         client: ClientId,
         call: &Call,
-        reply: Reply,
         out: &mut Reply,
     ) -> Result<(), StepFault>
-        requires { reply
-            ≡ answer_of self.old.limits (readings_of self.old) client no_key call.now }
         ensures stepped { Stepped self.old self.new client call.now
             (result_map_both (λ _. out.new) (λ fault. fault) result) }
         ensures kept { OnErr result (out.new ≡ out.old) }
     {
-        let named = key_of(call);
-        let node = self.named(named);
-        let decision = self.decide_answered(client, call, reply, named, node);
+        let decision = self.decide(client, call);
         self.commit(client, call, decision, out)
     }
 

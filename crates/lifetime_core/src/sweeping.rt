@@ -69,10 +69,11 @@ pub(crate) fn attach(trackers: &mut Trackers, tracking: Option<Waiting>) -> Resu
 }
 
 /// Undoes the attachment of this tracker, if there is one. Takes no memory.
-pub(crate) fn detach(trackers: &mut Trackers, tracking: Option<Waiting>)
-    requires { (before : TrackerTable) × GainsTracker before tracking trackers.old }
+#[inline(always)]
+pub(crate) fn detach(trackers: &mut Trackers, tracking: &Option<Waiting>)
+    requires { (before : TrackerTable) × GainsTracker before tracking.now trackers.old }
     ensures { (before : TrackerTable) →
-        GainsTracker before tracking trackers.old → trackers.new ≡ before }
+        GainsTracker before tracking.now trackers.old → trackers.new ≡ before }
 {
     if let Some(tracker) = tracking {
         trackers.detach(tracker.collection);

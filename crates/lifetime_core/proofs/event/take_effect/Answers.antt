@@ -38,8 +38,8 @@ attach-requires-clause-rising c = search rules
 pub attach-requires-clause-room : goal.attach-requires-clause-room
 attach-requires-clause-room c = search rules
 
-pub undo_handles-requires-clause-undo : goal.undo_handles-requires-clause-undo
-undo_handles-requires-clause-undo c = search rules
+pub undo-requires-clause-undo : goal.undo-requires-clause-undo
+undo-requires-clause-undo c = search rules
 
 pub make_change-requires-clause-may : goal.make_change-requires-clause-may
 make_change-requires-clause-may c = search rules
@@ -50,11 +50,11 @@ make_change-requires-clause-asks c = search rules
 pub make_change-requires-clause-pool : goal.make_change-requires-clause-pool
 make_change-requires-clause-pool c = search rules
 
-pub undo_handles-requires-in_default-make_change-clause-undo : goal.undo_handles-requires-in_default-make_change-clause-undo
-undo_handles-requires-in_default-make_change-clause-undo c = search rules
+pub undo-requires-in_default-make_change-clause-undo : goal.undo-requires-in_default-make_change-clause-undo
+undo-requires-in_default-make_change-clause-undo c = search rules
 
-pub undo_handles-requires-in_default-note_client-clause-undo : goal.undo_handles-requires-in_default-note_client-clause-undo
-undo_handles-requires-in_default-note_client-clause-undo c = search rules
+pub undo-requires-in_default-note_client-clause-undo : goal.undo-requires-in_default-note_client-clause-undo
+undo-requires-in_default-note_client-clause-undo c = search rules
 
 pub returns-clause-err : goal.returns-clause-err
 returns-clause-err c = search rules
@@ -125,11 +125,11 @@ returns-in_default-note_client-clause-size c = search rules
 pub returns-in_default-note_client-clause-why : goal.returns-in_default-note_client-clause-why
 returns-in_default-note_client-clause-why c = search rules
 
-pub undo_handles-requires-clause-stands : goal.undo_handles-requires-clause-stands
-undo_handles-requires-clause-stands c = search rules
+pub undo-requires-clause-stands : goal.undo-requires-clause-stands
+undo-requires-clause-stands c = search rules
 
-pub undo_handles-requires-in_default-make_change-clause-stands : goal.undo_handles-requires-in_default-make_change-clause-stands
-undo_handles-requires-in_default-make_change-clause-stands c = search rules
+pub undo-requires-in_default-make_change-clause-stands : goal.undo-requires-in_default-make_change-clause-stands
+undo-requires-in_default-make_change-clause-stands c = search rules
 
-pub undo_handles-requires-in_default-note_client-clause-stands : goal.undo_handles-requires-in_default-note_client-clause-stands
-undo_handles-requires-in_default-note_client-clause-stands c = search rules
+pub undo-requires-in_default-note_client-clause-stands : goal.undo-requires-in_default-note_client-clause-stands
+undo-requires-in_default-note_client-clause-stands c = search rules
