@@ -120,7 +120,25 @@ def mixed():
         yield f"{c} release root{i}"
 
 
-KINDS = [joins, opens, syncs, checks, gifts, handles, trackers, remarks, labels, mixed]
+def weakoks():
+    yield from ("a join", "a open n0")
+    yield from (f"a dup n{(i - 1) // 2} n{i}" for i in range(1, 1000))
+    while True:
+        yield from (f"a weakok n{i}" for i in range(1000))
+
+
+def units():
+    yield from ("a join", "a open r", "a bind r", "a constrain r 4 0 4096")
+    for i in range(MOST):
+        yield f"a attach r u{i}"
+        yield f"a bind u{i}"
+        yield f"a constrain u{i} 0 1 4096"
+        yield f"a check u{i}"
+        if i >= 900:
+            yield f"a close u{i - 900}"
+
+
+KINDS = [joins, opens, syncs, checks, gifts, handles, trackers, remarks, labels, mixed, weakoks, units]
 
 
 def main():

@@ -24,13 +24,14 @@ use Rattle.forest_store.specs.Settling.{Handles, changed, collection_or_new, is_
 use Rattle.forest_store.specs.Snapshots.{collection_of}
 use Rattle.core_state.specs.Reads.{readings_of}
 use Rattle.core_state.specs.State.{State}
-use Rattle.core_state.specs.Steps.{Work, at_collection, at_node, leaves_tracker_room, work_of}
+use Rattle.core_state.specs.Steps.{Follows, Work, at_collection, at_node, leaves_tracker_room, work_of}
 use Rattle.core_state.proofs.forced.Dropping.{took_last}
 use Rattle.core_state.proofs.forced.Losing.{losing, no_work}
 use Rattle.event_facts.specs.declared.marked_steps.Start.{Start}
 use Rattle.forced_marks.specs.Marks.{SettlesInStages, Stage, StagesIn, StagesOf, own_stage}
 use Rattle.event_facts.specs.Walks.{IsCopied, IsStart}
 use Rattle.forced_marks.proofs.Sound.{changed_sound}
+use Rattle.forced_marks.proofs.Unforced.{unforced}
 
 -- a work as a pair
 abbrev pub pair : Work → ℕ × Change
@@ -142,10 +143,12 @@ walked old new reply (Some w) b st same copy by =
     (subst (λ (pool : ℕ). StagesOf pool (total new.holds) b.others.items b.change (collection_of b.scene)
     (changed b.change (unwrap_or (new_key reply) no_key) (collection_of b.scene)) st) same by)))
 
--- and where nothing was copied, there is none
-pub unwalked : (old new : State) (reply : Reply) (o : Option Work) → IsStart old o None → StagesIn old (total new.holds) reply o []
-unwalked old new reply None none = refl
-unwalked old new reply (Some w) absent = absurd absent
+-- and where nothing was copied, there is none: nothing is changed, or nothing forced
+pub unwalked : (old new : State) (client : ℕ) (call : Call) (reply : Reply) → Follows old new client call reply → (o : Option Work) →
+    work_of old client call reply ≡ o → IsStart old o None → StagesIn old (total new.holds) reply o []
+unwalked old new client call reply follows None is none = refl
+unwalked old new client call reply follows (Some w) is none =
+    unforced old new none.gone none.history client call reply none.shows follows w is none.may none.still
 
 -- what a walk made of equal things are the stages of the change
 pub stages_walked : (pool size : ℕ) (counted handles : Handles) (others beyond : List Interval) (change : Change)

@@ -14,6 +14,7 @@ use Rattle.forest_store.specs.declared.snapshot.Snapshot.{Snapshot}
 use Rattle.forest_store.specs.Forest.{collection_at}
 use Rattle.forest_store.specs.Snapshots.{collection_of}
 use Rattle.forced_marks.specs.declared.moment.Moment.{Moment}
+use Rattle.forced_marks.specs.Marks.{forces_nothing}
 use Rattle.core_state.specs.Reads.{is_live_in}
 use Rattle.core_state.specs.State.{State}
 use Rattle.core_state.specs.Steps.{Work, work_of}
@@ -29,11 +30,13 @@ dropped_on holds client (Call.DropHandle buffer strength) = if nat_lt 0 (of hold
     else None
 dropped_on holds client _ = None
 
--- the collection of which a call with this reply changes a node
+-- the collection of which a call with this reply changes a node, unless the change forces nothing: by such a one no live node
+-- leaves, and no buffer loses a keeper
 abbrev pub changed_on : State → ℕ → Call → Reply → Option ℕ
-changed_on s client call reply = option_map (λ (w : Work). w.collection) (work_of s client call reply)
+changed_on s client call reply =
+    option_and_then (λ (w : Work). if forces_nothing w.change then None else Some w.collection) (work_of s client call reply)
 
--- the collection that an event concerns: of the handle that is dropped, or else of the node that is changed
+-- the collection that an event concerns: of the handle that is dropped, or else of the node by whose change something may be forced
 abbrev pub concerned_by : State → ℕ → Call → Reply → Option ℕ
 concerned_by s client call reply = option_map_or Some (dropped_on s.holds client call) (changed_on s client call reply)
 

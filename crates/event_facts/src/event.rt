@@ -20,12 +20,12 @@ use lifetime_core::Core;
 use sm_names::{Buffers, Call, ClientId, Fired, HeldBuffer, NoMemory, Reply, StepFault};
 use std::alloc::Global;
 
-/// A call and its reply, and what it did to the collection that it changed, if it changed one.
+/// A call and its reply, and what it did to the collection that it concerns, if it concerns one.
 #[derive(Drop)]
 pub struct Event {
     pub call: Call,
     pub reply: Reply,
-    /// The collection before the event.
+    /// The collection before the event, if that drops a handle or may force something.
     pub before: Option<Before>,
     /// The marks that the event made, in order, each with the collection before it.
     pub moments: Vec<Moment>,
@@ -40,7 +40,7 @@ pub struct Event {
 ///
 /// `HistoryFull` exactly if as many events were made as may be: nothing was done. `NoMemory` where memory was
 /// refused: then the call may have been made. Costs what `step_with_marks` costs, and two copies of the
-/// collection.
+/// collection that the event concerns, if it concerns one.
 pub fn take_event(
     alloc: Global,
     core: &mut Core,

@@ -19,7 +19,7 @@ ghost use Rattle.forced_marks.specs.Steps.{mark_told};
 ghost use Rattle.event_facts.specs.Walks.{IsStart, reply_of};
 
 use forced_marks::moment::own_moment;
-use forced_marks::own_change::apply;
+use forced_marks::own_change::{apply, forces_nothing};
 use forced_marks::{Moment, settle};
 use forest_store::{Change, Snapshot};
 use lifetime_core::Core;
@@ -48,9 +48,9 @@ pub(crate) struct Start {
 /// collection before it.
 ///
 /// Where memory for the marks is refused, the call is taken all the same, and they are `None`. A call
-/// that changes no collection has none, and costs what the step costs. Any other costs besides a copy
-/// of its collection, one more for each mark, a walk over the kept collections, and for each mark
-/// what `settle` says.
+/// that changes no collection, or only makes a node or writes of one what no step reads, has none, and
+/// costs what the step costs. Any other costs besides a copy of its collection, one more for each mark, a
+/// walk over the kept collections, and for each mark what `settle` says.
 pub fn step_with_marks(
     core: &mut Core,
     alloc: Global,
@@ -83,7 +83,7 @@ pub fn step_with_marks(
     Ok(Told { reply, moments })
 }
 
-/// The collection that the call changes, if it changes one, as it stands now.
+/// The collection that the call changes, if it changes one and that may force something, as it stands now.
 fn copy_before(core: &Core, client: ClientId, call: &Call) -> Result<Option<Start>, NoMemory>
     ensures { IfOk result (λ before. (reply : Reply) →
         IsAnswer core.now.limits (readings_of core.now) client call.now reply →
@@ -92,6 +92,11 @@ fn copy_before(core: &Core, client: ClientId, call: &Call) -> Result<Option<Star
     let Some((id, change)) = core.change_of(client, call) else {
         return Ok(None);
     };
+    if forces_nothing(&change) {
+        // Every core shows a history, so that its collections rest.
+        let _events = core.events();
+        return Ok(None);
+    }
     let others = core.pages_beside(id)?;
     let scene = copy_or_empty(core, *others.allocator(), id)?;
     Ok(Some(Start {

@@ -1,5 +1,5 @@
 //! The marks of an event are those that the history has for it.
-ghost use Rattle.std.specs.Prelude.{◌≡◌, ◌∷◌, ◌⊎◌, ◌||◌, ℕ, Bool, List, Some, None, is_some, length, nat_lt, not, true, false};
+ghost use Rattle.std.specs.Prelude.{◌≡◌, ◌∷◌, ◌⊎◌, ◌||◌, [], ℕ, Bool, List, Some, None, is_some, length, nat_lt, not, true, false};
 ghost use Rattle.std.specs.List.{cons_option, list_any};
 ghost use Rattle.sm_names.specs.declared.messages.Call.{Call};
 ghost use Rattle.sm_names.specs.declared.messages.Reply.{Reply};
@@ -19,11 +19,13 @@ ghost use Rattle.sm_names.specs.Timelines.{after, own_loss, timeline};
 ghost use Rattle.buffer_holds.specs.Counts.{total};
 ghost use Rattle.forest_store.specs.Forest.{Collection, beside};
 ghost use Rattle.core_state.specs.Reads.{readings_of};
-ghost use Rattle.core_state.specs.Shown.{Shows};
+ghost use Rattle.core_state.specs.Shown.{Shows, ShowsBut};
 ghost use Rattle.core_state.specs.State.{State};
 ghost use Rattle.core_state.specs.Steps.{Follows, Work, work_of};
 ghost use Rattle.forced_marks.specs.Explanations.{Handing, Moment, climb, handings, holders, keepers, last_or, taken_at, way_of_loss};
-ghost use Rattle.forced_marks.specs.Marks.{SettlesBy, changed_by, laid_on};
+ghost use Rattle.forced_marks.specs.Marks.{AreStages, SettlesBy, changed_by, forces_nothing, laid_on};
+ghost use Rattle.forest_store.specs.Settling.{MayChange};
+ghost use Rattle.sm_names.specs.declared.tracking.Fired.{Fired};
 
 /// Where a core takes a call, the marks that are found by a walk over the collection that the call
 /// changes are those that the history has for this event, all of them and in order, behind the loss
@@ -45,6 +47,15 @@ pub fn told_marks_are_the_historys()
         Follows old new client call reply → work_of old client call reply ≡ None →
         after old.pool (timeline old.pool history) (client, call, reply)
         ≡ Called client reply call ∷ timeline old.pool history }
+{}
+
+/// An event whose change forces nothing has no mark but its own, since its collection rested before.
+pub fn some_changes_force_nothing()
+    ensures { (old new : State) (gone : List Fired) (history : List Entry) (client : ℕ)
+        (call : Call) (reply : Reply) → ShowsBut gone old history →
+        Follows old new client call reply → (w : Work) → work_of old client call reply ≡ Some w →
+        MayChange old.forest w.collection w.change → forces_nothing w.change ≡ true →
+        AreStages old new client call reply [] }
 {}
 
 /// The way up of a loss ends at the highest node that the failure reaches, and each node that the

@@ -6,13 +6,27 @@ ghost use Rattle.forest_store.specs.Settling.{changed, with_birth};
 ghost use Rattle.forest_store.specs.Snapshots.{collection_of};
 ghost use Rattle.core_state.specs.Steps.{leaves_tracker_room};
 ghost use Rattle.forest_store.specs.Scenes.{has_tracker_room};
+ghost use Rattle.forced_marks.specs.Marks.{forces_nothing};
 
 use crate::losses::lose;
+use forest_steps::node_effect::keeps_counts;
 use forest_store::births::{new_child, new_root};
 use forest_store::effects::affect_one;
 use forest_store::{Change, Effect, Node, Snapshot};
 use sm_names::{ClientId, Fault, NodeKey};
 use std::alloc::AllocError;
+
+/// Whether the change forces nothing, whatever stands in its collection: it makes a node, or writes of one what
+/// no step reads. Costs O(1).
+pub fn forces_nothing(change: &Change) -> bool
+    ensures { result ≡ forces_nothing change.now }
+{
+    match change {
+        Change::Birth { .. } => true,
+        Change::Effect(_, effect) => keeps_counts(effect),
+        Change::Loss(_, _) | Change::Nothing => false,
+    }
+}
 
 /// Makes the change to the collection; a new node gets this key. What it forces is not made.
 ///

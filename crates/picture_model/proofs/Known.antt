@@ -27,8 +27,7 @@ use Rattle.forced_marks.specs.Marks.{laid_on}
 use Rattle.forced_marks.specs.Steps.{mark_told}
 use Rattle.event_facts.specs.declared.event.Event.{Event}
 use Rattle.picture_model.specs.Seen.{seen_in}
-use Rattle.picture_model.specs.PictureStates.{forgotten, known_after, refreshed, seen_again}
-use Rattle.picture_model.specs.PictureStates.{seen_for, walked, with_named, with_seen, with_told}
+use Rattle.picture_model.specs.PictureStates.{forgotten, known_after, marked_in, refreshed, seen_again, walked, with_named, with_told}
 
 -- ---- which nodes are kept
 
@@ -123,40 +122,20 @@ seen_again_key s later n = by (n.gone && is_spent n.end)
     by true = refl
     by false = key_or (all_nodes s.forest) n.key (forgotten later n) (key_or later n.key n refl)
 
--- and as another with its key replaces it
-seen_for_key : (n other : Node) → (seen_for n other).key ≡ other.key
-seen_for_key n other = by (is_of n.key other) refl
-  where
-    -- by cases: the node that replaces it has its key
-    by : (t : Bool) → is_of n.key other ≡ t → (if t then n else other).key ≡ other.key
-    by true e = sym (same_key-true other.key n.key e)
-    by false e = refl
-
 -- what was known is known with one more
 seen_more : (n : Node) (nodes : List Node) (key : NodeKey) → list_any (is_of key) nodes ≡ true →
-    list_any (is_of key) (with_seen n nodes) ≡ true
-seen_more n nodes key h = by (list_any (is_of n.key) nodes)
-  where
-    -- by cases: replacing keeps the keys, and one more node hides none
-    by : (t : Bool) → list_any (is_of key) (if t then map (seen_for n) nodes else nodes ++ n ∷ []) ≡ true
-    by true = any_map (seen_for n) (seen_for_key n) key nodes ∙ h
-    by false = list_any-append (is_of key) nodes (n ∷ []) ∙ ap (λ (t : Bool). t || list_any (is_of key) (n ∷ [])) h
+    list_any (is_of key) (nodes ++ n ∷ []) ≡ true
+seen_more n nodes key h = list_any-append (is_of key) nodes (n ∷ []) ∙ ap (λ (t : Bool). t || list_any (is_of key) (n ∷ [])) h
 
 -- and that one is
-seen_self : (n : Node) (nodes : List Node) → list_any (is_of n.key) (with_seen n nodes) ≡ true
-seen_self n nodes = by (list_any (is_of n.key) nodes) refl
+seen_self : (n : Node) (nodes : List Node) → list_any (is_of n.key) (nodes ++ n ∷ []) ≡ true
+seen_self n nodes = list_any-append (is_of n.key) nodes (n ∷ [])
+    ∙ ap (λ (t : Bool). list_any (is_of n.key) nodes || (t || false)) (same_key-refl n.key) ∙ or_last (list_any (is_of n.key) nodes)
   where
     -- by cases on the switch
     or_last : (t : Bool) → (t || true) ≡ true
     or_last true = refl
     or_last false = refl
-
-    -- by cases: the node is there already, or it is the last
-    by : (t : Bool) → list_any (is_of n.key) nodes ≡ t →
-        list_any (is_of n.key) (if t then map (seen_for n) nodes else nodes ++ n ∷ []) ≡ true
-    by true e = any_map (seen_for n) (seen_for_key n) n.key nodes ∙ e
-    by false e = list_any-append (is_of n.key) nodes (n ∷ [])
-        ∙ ap (λ (t : Bool). list_any (is_of n.key) nodes || (t || false)) (same_key-refl n.key) ∙ or_last (list_any (is_of n.key) nodes)
 
 module _ (s : State) where
   -- what was known is known with the node of the reply
@@ -165,16 +144,15 @@ module _ (s : State) where
   named_more new collection id nodes key h = by (collection == id) (node_at s.forest new)
     where
       by : (t : Bool) (o : Option Node) →
-          list_any (is_of key) (if t then option_map_or (λ n. with_seen n nodes) o nodes else nodes) ≡ true
+          list_any (is_of key) (if t then option_map_or (λ n. nodes ++ n ∷ []) o nodes else nodes) ≡ true
       by true None = h
       by true (Some n) = seen_more n nodes key h
       by false o = h
 
-  -- by cases on the reply: only a token and a collected end name a node
+  -- by cases on the reply: only a token names a new node
   told_more : (reply : Reply) (id : ℕ) (nodes : List Node) (key : NodeKey) → list_any (is_of key) nodes ≡ true →
       list_any (is_of key) (with_told s reply id nodes) ≡ true
   told_more (Reply.Token new collection) id nodes key h = named_more new collection id nodes key h
-  told_more (Reply.Collected new kind collection) id nodes key h = named_more new collection id nodes key h
   told_more _ id nodes key h = h
 
   -- what was known is known as it is seen again
@@ -190,24 +168,25 @@ module _ (s : State) where
   pub known_more : (named : Option ℕ) (e : Event) (id : ℕ) (nodes : List Node) (key : NodeKey) → list_any (is_of key) nodes ≡ true →
       list_any (is_of key) (known_after s named e id nodes) ≡ true
   known_more named e id nodes key h =
-      told_more e.reply id (refreshed s named e.moments.items id nodes) key (refreshed_more named e.moments.items id nodes key h)
+      told_more e.reply id (refreshed s (marked_in named e.moments.items) e.moments.items id nodes) key
+      (refreshed_more (marked_in named e.moments.items) e.moments.items id nodes key h)
 
   -- the node that the event made is known, if it is kept
   pub known_new : (named : Option ℕ) (e : Event) (nodes : List Node) (key : NodeKey) (collection : ℕ) (n : Node) →
       e.reply ≡ Reply.Token key collection → node_at s.forest key ≡ Some n →
       list_any (is_of key) (known_after s named e collection nodes) ≡ true
   known_new named e nodes key collection n is there =
-      subst (λ (reply : Reply). list_any (is_of key) (with_told s reply collection (refreshed s named e.moments.items collection nodes))
-      ≡ true)
+      subst (λ (reply : Reply). list_any (is_of key) (with_told s reply collection
+      (refreshed s (marked_in named e.moments.items) e.moments.items collection nodes)) ≡ true)
       (sym is) (by (collection == collection) (eq-eqb collection collection refl))
     where
       known : List Node
-      known = refreshed s named e.moments.items collection nodes
+      known = refreshed s (marked_in named e.moments.items) e.moments.items collection nodes
 
       by : (t : Bool) → t ≡ true →
-          list_any (is_of key) (if t then option_map_or (λ m. with_seen m known) (node_at s.forest key) known else known) ≡ true
+          list_any (is_of key) (if t then option_map_or (λ m. known ++ m ∷ []) (node_at s.forest key) known else known) ≡ true
       by false e = absurd (cc)
-      by true e = rw there (subst (λ (k : NodeKey). list_any (is_of k) (with_seen n known) ≡ true)
+      by true e = rw there (subst (λ (k : NodeKey). list_any (is_of k) (known ++ n ∷ []) ≡ true)
           (found_key (all_nodes s.forest) key n there) (seen_self n known))
 
 -- a node that is seen has the key of the one that was known

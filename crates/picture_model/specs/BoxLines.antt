@@ -12,12 +12,10 @@ use Rattle.event_texts.specs.FactTexts.{concat}
 use Rattle.picture_model.specs.declared.features.Class.{Class}
 use Rattle.picture_model.specs.Features.{class_of, kind_text, sign_text}
 
--- the number of the event and its line
+-- the number of the event and its line, or that there was no event
 abbrev pub header_text : ℕ → List ℕ → List ℕ
 header_text event line =
-    let said = concat (codes "event " ∷ decimal event ∷ []) in
-    let more = concat (said ∷ codes ": " ∷ line ∷ []) in
-    if event == 0 then said else more
+    if event == 0 then codes "no event" else concat (codes "event " ∷ decimal event ∷ codes ": " ∷ line ∷ [])
 
 -- the label of the node, behind the sign of what it is drawn as
 abbrev pub gap_behind_sign : Class → List ℕ

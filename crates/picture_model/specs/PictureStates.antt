@@ -83,28 +83,25 @@ abbrev pub refreshed : State → Option ℕ → List Moment → ℕ → List Nod
 refreshed s named moments id nodes =
     if option_map_or (λ other. other == id) named false then map (seen_again s (walked moments)) nodes else nodes
 
--- the node in the place of the one with its key, or behind all
-abbrev pub seen_for : Node → Node → Node
-seen_for n other = if is_of n.key other then n else other
+-- the collection that the call named, if the event has a mark: no node leaves by one that has none
+abbrev pub marked_in : Option ℕ → List Moment → Option ℕ
+marked_in named [] = None
+marked_in named (m ∷ more) = named
 
--- the nodes with this one as it is seen now, in its place or last
-abbrev pub with_seen : Node → List Node → List Node
-with_seen n nodes = if list_any (is_of n.key) nodes then map (seen_for n) nodes else nodes ++ n ∷ []
-
--- the nodes of this collection, with the one of this key, if that is of it, and kept
+-- the nodes of this collection, with the one of this key behind them, if that is of it, and kept
 abbrev pub with_named : State → NodeKey → ℕ → ℕ → List Node → List Node
 with_named s key collection id nodes =
-    if collection == id then option_map_or (λ n. with_seen n nodes) (node_at s.forest key) nodes else nodes
+    if collection == id then option_map_or (λ n. nodes ++ n ∷ []) (node_at s.forest key) nodes else nodes
 
--- the same with the one that the reply tells of
+-- the same with the one that the reply tells of, if it is new
 abbrev pub with_told : State → Reply → ℕ → List Node → List Node
 with_told s (Reply.Token key collection) id nodes = with_named s key collection id nodes
-with_told s (Reply.Collected key kind collection) id nodes = with_named s key collection id nodes
 with_told s _ id nodes = nodes
 
 -- the nodes of this collection behind the event, whose call named that one
 abbrev pub known_after : State → Option ℕ → Event → ℕ → List Node → List Node
-known_after s named event id nodes = with_told s event.reply id (refreshed s named event.moments.items id nodes)
+known_after s named event id nodes =
+    with_told s event.reply id (refreshed s (marked_in named event.moments.items) event.moments.items id nodes)
 
 -- the picture state knows each node that the core keeps, in the node's collection
 pub record KnowsKept (s : State) (picture_state : PictureState) : Type 0 where

@@ -13,15 +13,22 @@ use script_lines::{Part, push, push_parts};
 use sm_names::{Constraints, Fault, Fired, NodeKey};
 use std::alloc::AllocError;
 
-/// Appends the number of the event and its line. Costs O(n) for n bytes of text.
+/// Appends the number of the event and its line, or that there was no event. Costs O(n) for n bytes of text.
 pub fn push_header(text: &mut Vec<u8>, event: u64, line: &[u8]) -> Result<(), AllocError>
     ensures { OnOk result (text.new.items ≡ text.old.items ++ header_text event line.now) }
 {
-    push_parts(text, &[Part::Word("event "), Part::Number(event)])?;
     if event == 0 {
-        return Ok(());
+        return push(text, "no event");
     }
-    push_parts(text, &[Part::Word(": "), Part::Bytes(line)])
+    push_parts(
+        text,
+        &[
+            Part::Word("event "),
+            Part::Number(event),
+            Part::Word(": "),
+            Part::Bytes(line),
+        ],
+    )
 }
 
 /// Appends the state of the node. Costs O(n) for n bytes of text, and a look-up.

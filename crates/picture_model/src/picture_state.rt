@@ -1,6 +1,5 @@
 //! All nodes that were ever born, as they were last seen, collection by collection.
 ghost use Rattle.std.specs.Prelude.{◌≡◌, ◌==◌, ◌&&◌, ◌++◌, ◌∷◌, [], Bool, IfOk, List, OnOk, Some, if◌then◌else◌, map, ℕ, IfErr};
-ghost use Rattle.std.specs.List.{list_any};
 ghost use Rattle.std.specs.Option.{option_map};
 ghost use Rattle.sm_names.specs.declared.keys.NodeKey.{NodeKey as Key};
 ghost use Rattle.sm_names.specs.declared.messages.Call.{Call as CallMade};
@@ -9,12 +8,12 @@ ghost use Rattle.core_state.specs.Shown.{Shows};
 ghost use Rattle.core_state.specs.State.{State};
 ghost use Rattle.forest_store.specs.declared.node.Node.{Node as NodeValue};
 ghost use Rattle.forest_store.specs.Forest.{node_at};
-ghost use Rattle.forest_store.specs.Nodes.{is_of, is_spent};
+ghost use Rattle.forest_store.specs.Nodes.{is_spent};
 ghost use Rattle.forced_marks.specs.declared.decision.Forced.{Forced};
 ghost use Rattle.forced_marks.specs.KeySets.{has};
 ghost use Rattle.event_texts.specs.EventLines.{IsEventOf};
-ghost use Rattle.picture_model.specs.PictureStates.{KnowsKept, after_mark, forgotten, known_after, known_in, left_below, left_if as left_as, marked};
-ghost use Rattle.picture_model.specs.PictureStates.{refreshed, seen_again, seen_for, top_of, walked, with_named, with_seen, with_told};
+ghost use Rattle.picture_model.specs.PictureStates.{KnowsKept, after_mark, forgotten, known_after, known_in, left_below, left_if as left_as, marked, marked_in};
+ghost use Rattle.picture_model.specs.PictureStates.{refreshed, seen_again, top_of, walked, with_named, with_told};
 ghost use Rattle.picture_model.specs.Kin.{FindsNodes};
 ghost use Rattle.picture_model.specs.Seen.{named_in};
 
@@ -69,13 +68,13 @@ impl PictureState {
         }
     }
 
-    /// Takes in what an event changed, whose call named this collection: its nodes are brought to their present
-    /// state, those among them that the core forgot to the state that the walk of the event gave them last; and
-    /// the node in the reply is added, or brought to its present state. So the picture state knows each node
-    /// that the core keeps, if it did before.
+    /// Takes in what an event changed, whose call named this collection. If the event has a mark, its nodes are
+    /// brought to their present state, those among them that the core forgot to the state that the walk of the
+    /// event gave them last. A new node in the reply is added. So the picture state knows each node that the
+    /// core keeps, if it did before.
     ///
-    /// `NoMemory` where memory is refused: then some of this may be left out. Costs O(n log n) for
-    /// the n nodes that were ever born in these collections, and O(log m) for m collections.
+    /// `NoMemory` where memory is refused: then some of this may be left out. Costs O(log m) for m collections,
+    /// and where there is a mark O(n log n) for the n nodes that were ever born in the collection.
     pub fn update(
         &mut self,
         alloc: Global,
@@ -93,7 +92,8 @@ impl PictureState {
             KnowsKept old self.old → KnowsKept core.now self.new) }
         ensures err { IfErr result (λ stop. stop ≡ LineStop.NoMemory) }
     {
-        self.refresh_named(alloc, core, named, &event.moments)?;
+        let marked = marked_in(named, &event.moments);
+        self.refresh_named(alloc, core, marked, &event.moments)?;
         self.add_told(alloc, core, event.reply)?;
         Ok(())
     }
@@ -136,23 +136,18 @@ impl PictureState {
         }
     }
 
-    // Adds the node in the reply, or brings it to its present state.
+    // Adds the node in the reply, if it is new.
     fn add_told(&mut self, alloc: Global, core: &Core, reply: Reply) -> Result<(), AllocError>
         ensures { OnOk result ((id : ℕ) →
             known_in self.new id ≡ with_told core.now reply id (known_in self.old id)) }
     {
         match reply {
             Reply::Token { key, collection } => self.add(alloc, core, key, collection),
-            Reply::Collected {
-                key,
-                collection,
-                ..
-            } => self.add(alloc, core, key, collection),
             _ => Ok(()),
         }
     }
 
-    // Puts the node among those of its collection, in its present state.
+    // Puts the node behind those of its collection, in its present state.
     fn add(
         &mut self,
         alloc: Global,
@@ -169,13 +164,13 @@ impl PictureState {
         }
     }
 
-    // Puts the node among those of this collection.
+    // Puts the node behind those of this collection.
     fn add_node(&mut self, alloc: Global, id: CollectionId, node: &Node) -> Result<(), AllocError>
         ensures { OnOk result ((other : ℕ) → known_in self.new other
-            ≡ (if id == other then with_seen node.now (known_in self.old other) else known_in self.old other)) }
+            ≡ (if id == other then known_in self.old other ++ node.now ∷ [] else known_in self.old other)) }
     {
         let nodes = self.cut(alloc, id);
-        let more = with_node(nodes, node)?;
+        let more = with_last(nodes, *node)?;
         self.put(id, more)
     }
 
@@ -201,49 +196,23 @@ impl PictureState {
     }
 }
 
-// The nodes, where this one replaces the one with its key, or is appended if there is none.
-fn with_node(nodes: Vec<Node>, node: &Node) -> Result<Vec<Node>, AllocError>
-    ensures { IfOk result (λ more. more.items ≡ with_seen node.now nodes.items) }
+// The values, and this one behind them.
+fn with_last<V: Copy + Drop>(values: Vec<V>, last: V) -> Result<Vec<V>, AllocError>
+    ensures { IfOk result (λ more. more.items ≡ values.items ++ last ∷ []) }
 {
-    if is_there(&nodes, node) {
-        return replaced(&nodes, node);
-    }
-    let mut more = nodes;
-    more.push(*node)?;
+    let mut more = values;
+    more.push(last)?;
     Ok(more)
 }
 
-// Whether one of the nodes has this one's key.
-fn is_there(nodes: &[Node], node: &Node) -> bool
-    ensures { result ≡ list_any (is_of node.now.key) nodes.now }
+// The collection that the call named, if its event has a mark.
+fn marked_in(named: Option<CollectionId>, moments: &[Moment]) -> Option<CollectionId>
+    ensures { result ≡ marked_in named moments.now }
 {
-    nodes.iter().any(|other| is_same(node, other))
-}
-
-// Whether the nodes have one key.
-fn is_same(node: &Node, other: &Node) -> bool
-    ensures { result ≡ is_of node.now.key other.now }
-{
-    other.key == node.key
-}
-
-// The nodes with this one in the place of each with its key.
-fn replaced(nodes: &Vec<Node>, node: &Node) -> Result<Vec<Node>, AllocError>
-    ensures { IfOk result (λ more. more.items
-        ≡ map (seen_for node.now) nodes.now.items) }
-{
-    let mut more = Vec::new(*nodes.allocator());
-    for other in nodes {
-        more.push(either(node, other))?;
+    match moments.first() {
+        Some(_) => named,
+        None => None,
     }
-    Ok(more)
-}
-
-// The first node, if the second has its key, and else that one.
-fn either(node: &Node, other: &Node) -> Node
-    ensures { result ≡ seen_for node.now other.now }
-{
-    if is_same(node, other) { *node } else { *other }
 }
 
 // The nodes behind the last of these marks, each as the walk has it; none where there is no mark.

@@ -14,6 +14,20 @@ returns-in_default c reply is =
     subst (λ o. IsStart c.args.core.now o None)
     (sym (none_paired (work_of c.args.core.now c.args.client c.args.call.now reply) (c.in_default.ensures.value reply is))) tt
 
+-- the change forces nothing
+pub returns-then-forces_nothing : goal.returns-then-forces_nothing
+returns-then-forces_nothing c reply is =
+    let o : Option Work = work_of c.args.core.now c.args.client c.args.call.now reply in
+    subst (λ (x : Option Work). IsStart c.args.core.now x None)
+    (sym (some_paired o c.in-Some.id c.in-Some.change (c.in-Some.ensures.value reply is)))
+    (record {
+      gone = c.events-events.ensures.legal.0;
+      history = c.events-events.ensures.legal.1;
+      shows = c.events-events.ensures.legal.2;
+      may = c.in-Some.ensures.may;
+      still = sym c.forces_nothing.ensures ∙ c.if-forces_nothing.true;
+    })
+
 -- the collection that is changed was copied
 pub returns : goal.returns
 returns c reply is =

@@ -1,4 +1,4 @@
-use Rattle.std.proofs.Common.{◌∙◌, ◌∷◌, [], ap, sym, subst, map, List, Option}
+use Rattle.std.proofs.Common.{◌∙◌, ◌∷◌, [], ap, refl, sym, subst, map, List, Option}
 use Rattle.sm_names.specs.Marks.{Called, Mark}
 use Rattle.sm_names.specs.Timelines.{timeline}
 use Rattle.core_state.specs.Steps.{work_of}
@@ -19,8 +19,8 @@ pub returns-in_default-before-clause-stages : goal.returns-in_default-before-cla
 returns-in_default-before-clause-stages c =
     subst (λ (l : List Moment). AreStages c.args.core.now c.step.new.self c.args.client c.args.call c.in_ok-reply.reply (map stage_of l))
     (sym c.new.ensures.items)
-    (unwalked c.args.core.now c.step.new.self c.in_ok-reply.reply
-    (work_of c.args.core.now c.args.client c.args.call c.in_ok-reply.reply)
+    (unwalked c.args.core.now c.step.new.self c.args.client c.args.call c.in_ok-reply.reply c.in_ok-reply.ensures.after
+    (work_of c.args.core.now c.args.client c.args.call c.in_ok-reply.reply) refl
     (subst (λ (o : Option Start). IsStart c.args.core.now (work_of c.args.core.now c.args.client c.args.call c.in_ok-reply.reply) o)
     c.in_default-before.is (c.in-Ok.ensures c.in_ok-reply.reply c.in_ok-reply.ensures.answer)))
 
@@ -28,8 +28,8 @@ pub returns-in_default-before-clause-shown : goal.returns-in_default-before-clau
 returns-in_default-before-clause-shown c history shows =
     told_of_stages c.args.core.now c.step.new.self history c.args.client c.args.call c.in_ok-reply.reply shows
     c.in_ok-reply.ensures.answer c.in_ok-reply.ensures.after []
-    (unwalked c.args.core.now c.step.new.self c.in_ok-reply.reply
-    (work_of c.args.core.now c.args.client c.args.call c.in_ok-reply.reply)
+    (unwalked c.args.core.now c.step.new.self c.args.client c.args.call c.in_ok-reply.reply c.in_ok-reply.ensures.after
+    (work_of c.args.core.now c.args.client c.args.call c.in_ok-reply.reply) refl
     (subst (λ (o : Option Start). IsStart c.args.core.now (work_of c.args.core.now c.args.client c.args.call c.in_ok-reply.reply) o)
     c.in_default-before.is (c.in-Ok.ensures c.in_ok-reply.reply c.in_ok-reply.ensures.answer)))
     ∙ ap (λ (l : List Moment). laid_on (map (λ (m : Moment). mark_told m.mark) l)
