@@ -44,10 +44,11 @@ hears() {
 # Scripts.
 try 0 '' '' '' run
 try 0 'joined\n' '' 'a join\n' run
-try 3 'joined\n' 'bad line 2' 'a join\nshow free' run
-try 3 'joined\n' 'bad line 2' 'a join\na ope' run
-try 3 'joined\n' 'bad line 2' 'a join\na fly\n' run
-try 3 '' 'bad line 1' 'a  join\n' run
+try 3 'joined\n' 'bad line 2: the last line lacks a newline' 'a join\nshow free' run
+try 3 'joined\n' 'bad line 2: the last line lacks a newline' 'a join\na ope' run
+try 3 'joined\n' 'bad line 2: no such word: fly' 'a join\na fly\n' run
+try 3 'joined\n' 'bad line 3: the label b is not bound' 'a join\n\nb open r\na open r\n' run
+try 3 '' 'bad line 1: put one space between words, and none elsewhere' 'a  join\n' run
 
 # Standard input has a name.
 try 0 'joined\n' '' 'a join\n' run -
@@ -57,21 +58,21 @@ try 0 'agrees: 1 line, 1 reply\n' '' 'a join\n  joined\n' check -
 try 0 'a join\n  joined\n' '' 'a join\n' explain
 try 0 'a join\n  joined\n' '' 'a join\n  joined\n    a remark\n' explain
 try 0 '' '' '' explain
-try 3 'a join\n  joined\n' 'bad line 2: the last line has no end' 'a join\nshow free' explain
+try 3 'a join\n  joined\n' 'bad line 2: the last line lacks a newline' 'a join\nshow free' explain
 try 3 'a join\n  joined\n' 'bad line 3: no such word: opne' 'a join\n  joined\na opne r\n' explain
 try 3 'a join\n  joined\n' 'bad line 2: the label cam is not bound' 'a join\ncam open r\n' explain
 try 3 'a join\n  joined\n' 'bad line 2: the label a is bound already' 'a join\na join\n' explain
 try 3 '' 'bad line 1: the line ends in CR' 'a join\r\n' explain
-try 3 '' 'bad line 1: one space stands between words, and none before or behind them' 'a  join\n' explain
+try 3 '' 'bad line 1: put one space between words, and none elsewhere' 'a  join\n' explain
 try 3 '' 'bad line 1: no label: A' 'A join\n' explain
 try 3 '' 'bad line 1: no such view: all' 'show all\n' explain
 bad='a join\na open r\na bind r\n'
 told='a join\n  joined\na open r\n  token r\na bind r\n  done\n'
 try 3 "$told" 'bad line 4: camping is 0 to 64' "${bad}a constrain r 65 0 1\\n" explain
 try 3 "$told" 'bad line 4: the size is 1 to 1073741824' "${bad}a constrain r 1 0 0\\n" explain
-try 3 "$told" 'bad line 4: a word is missing behind 0' "${bad}a constrain r 1 0\\n" explain
+try 3 "$told" 'bad line 4: a word is missing after 0' "${bad}a constrain r 1 0\\n" explain
 try 3 "$told" 'bad line 4: a word too many: now' "${bad}a check r now\\n" explain
-try 3 "$told" 'bad line 4: strong or weak is to stand here: hard' "${bad}a duph r.0 hard\\n" explain
+try 3 "$told" 'bad line 4: expected strong or weak: hard' "${bad}a duph r.0 hard\\n" explain
 try 3 "$told" 'bad line 4: no buffer: r.64' "${bad}a duph r.64 weak\\n" explain
 
 # Only failures.
@@ -91,7 +92,7 @@ try 0 "$(printf "$sum" '0 events' '0 events' '0 of 1 page')\\n$none" '' '' expla
 
 # Pictures.
 empty='pool ░░░░░░░░░░░░░░░░ 16 of 16 pages free\n'
-try 0 "event 0\\n\\n$empty" '' '' draw
+try 0 "no event\\n\\n$empty" '' '' draw
 try 0 "event 1: a join\\n\\n$empty" '' 'a join\n' draw
 try 0 "event 1: a join\\n\\n$empty" '' 'a join\na fly\n' draw --at 1
 try 0 'event 1: a join\n\npool 65 of 65 pages free\n' '' 'a join\n' draw --pages 65 --format text
@@ -126,16 +127,17 @@ try 0 'events 5\na events 4 strong 0 weak 0\ngather ok\n' '' 'a join\na open r\n
 told='a join\n  joined\na open n2\n  token n2\na close n2\n  done\na shut\n  shut 0\n'
 report='# events 4\n# a events 3 strong 0 weak 0\n# gather ok\n'
 try 0 "$told$report" '' 'a join\na open r\na close r\na sync r\na open r\n' threads --record
-try 3 '' 'bad line 2' 'a join\nshow live\n' threads --record
+try 3 '' 'bad line 2: a script of actors has no show' 'a join\nshow live\n' threads --record
 try 2 '' '*' 'a join\n' threads --record --record
 try 2 '' '*' 'a join\n' run --record
 try 0 'events 4\na events 3 strong 0 weak 0\ngather ok\n' '' 'a join\na open r\na close r\na sync r\na open r\n' threads --patient
 try 2 '' '*' 'a join\n' threads --patient --patient
 try 2 '' '*' 'a join\n' run --patient
-try 3 '' 'bad line 1' '' threads
-try 3 '' 'bad line 1' 'a open r\n' threads
-try 3 '' 'bad line 2' 'a join\nshow live\n' threads
-try 3 '' 'bad line 3' 'a join\na open r\nb join\n' threads
+try 3 '' 'bad line 1: no client joins' '' threads
+try 3 '' 'bad line 1: it names a client that does not join' 'a open r\n' threads
+try 3 '' 'bad line 2: a script of actors has no show' 'a join\nshow live\n' threads
+try 3 '' 'bad line 2: the last line lacks a newline' 'a join\na open r' threads
+try 3 '' 'bad line 3: each client joins once, before all steps' 'a join\na open r\nb join\n' threads
 
 # The number of pages.
 try 0 'free 16\n' '' 'show free\n' run
@@ -156,29 +158,32 @@ pair='a join\nb join\na open r\na give r b\nb collect s\nb release s\n'
 try 0 '# outcome 1 of 2: 75 of 100 runs; 3 calls in 2 turns\na join\nb join\nb collect s\n# from here on every order leads to outcome 1\na open r\na give r b\n' '' "$pair" explore --outcome 1
 try 2 '' 'sysmem: there is no outcome 3' "$pair" explore --outcome 3
 try 2 '' 'sysmem: there is no outcome 0' "$pair" explore --outcome 0
-try 3 '' 'bad line 3: it names a client that did not join' 'a join\na open r\nb open s\n' explore
+try 7 '' 'sysmem: not all explored: try a larger --states' "$pair" explore --outcome 1 --states 3
+try 3 '' 'bad line 3: it names a client that does not join' 'a join\na open r\nb open s\n' explore
 try 3 '' 'bad line 3: each client joins once, before all steps' 'a join\na open r\nb join\n' explore
 try 3 '' 'bad line 2: a script of actors has no show' 'a join\nshow free\n' explore
-try 3 '' 'bad line 2: it has none of the forms of a line' 'a join\na opne r\n' explore
-try 3 '' 'bad line 2: the last line has no end' 'a join\na open r' explore
+try 3 '' 'bad line 2: no such word: opne' 'a join\na opne r\n' explore
+try 3 '' 'bad line 3: camping is 0 to 64' 'a join\na open r\na constrain q 65 0 1\n' explore
+try 3 '' 'bad line 2: no label: Root' 'a join\na open Root\n' threads
+try 3 '' 'bad line 2: the last line lacks a newline' 'a join\na open r' explore
 try 3 '' 'bad line 2: the line ends in CR' 'a join\na open r\r\n' explore
 try 3 '' 'bad line 1: no client joins' '' explore
 try 2 '' '*' "$pair" explore --states no
 try 2 '' '*' "$pair" explore --once --patient
 # Clients that vanish: by an option or a line, all of them, at their end, and clients that are not there.
-try 2 '' 'sysmem: --vanish names a client that does not join' "$pair" explore --vanish a,c
-try 2 '' 'sysmem: --vanish names a client that does not join' "$pair" explore --vanish 'a b'
-try 2 '' 'sysmem: --vanish names a client that does not join' "$pair" explore --vanish ''
+try 2 '' 'sysmem: a client of --vanish does not join' "$pair" explore --vanish a,c
+try 2 '' 'sysmem: a client of --vanish does not join' "$pair" explore --vanish 'a b'
+try 2 '' 'sysmem: a client of --vanish does not join' "$pair" explore --vanish ''
 try 2 '' '*' "$pair" explore --vanish
 for words in '--vanish a --most two' '--vanish a --most 0' '--vanish all --most -1' '--most 1' '--most 2'; do
   # shellcheck disable=SC2086
   try 2 '' '*' "$pair" explore $words
 done
 try 2 '' '*' "#! vanish all\n$pair" explore --most 2
-try 3 '' 'bad line 1: vanish is followed by all, or by clients that join' "#! vanish a c\n$pair" explore
-try 3 '' 'bad line 1: vanish is followed by all, or by clients that join' "#! vanish all b\n$pair" explore
-try 3 '' 'bad line 1: a claim is never, always or sometimes, and a fact; or vanish, and clients' "#! vanish\n$pair" explore
-try 3 '' 'bad line 1: a claim is never, always or sometimes, and a fact; or vanish, and clients' "#!never r fails\n$pair" explore
+try 3 '' 'bad line 1: expected all, or clients that join, after vanish' "#! vanish a c\n$pair" explore
+try 3 '' 'bad line 1: expected all, or clients that join, after vanish' "#! vanish all b\n$pair" explore
+try 3 '' 'bad line 1: expected never, always or sometimes and a fact, or vanish and clients' "#! vanish\n$pair" explore
+try 3 '' 'bad line 1: expected never, always or sometimes and a fact, or vanish and clients' "#!never r fails\n$pair" explore
 says_who() {
   local wanted=$1 script=$2
   shift 2
@@ -193,7 +198,7 @@ too_few_states() {
   for most in 0 1 2 3; do
     printf "$pair" | "$program" explore --states "$most" >"$room/out" 2>"$room/told"
     [ $? = 7 ] && grep -q "^not all explored: $most states*, " "$room/out" &&
-      hears 'sysmem: not all explored: a greater --states may do' || return 1
+      hears 'sysmem: not all explored: try a larger --states' || return 1
   done
 }
 # A report is certified where it is asked for: those of the examples, which are the same but for this word, and that of a pair.
@@ -210,11 +215,11 @@ certifies() {
     grep -q ' outcomes, certified$' "$room/out" || return 1
   printf "$pair" | "$program" explore --certify --states 3 >"$room/out" 2>"$room/told"
   [ $? = 7 ] && sed -n 2p "$room/out" | grep -q ', not certified$' &&
-    hears 'sysmem: not certified: not all explored: a greater --states may do' || return 1
+    hears 'sysmem: not certified: not all explored: try a larger --states' || return 1
   { printf 'a join\na open r\n' && yes 'a sync r' | head -n 400; } >"$room/script"
   "$program" explore --certify --states 402 "$room/script" >"$room/out" 2>"$room/told"
   [ $? = 7 ] && sed -n 2p "$room/out" | grep -q ', 1 outcome, not certified$' &&
-    hears 'sysmem: not certified: too many calls to repeat: a greater --states may do'
+    hears 'sysmem: not certified: too many calls to repeat: try a larger --states'
 }
 # On a terminal, and there alone, a line counts the states. It is gone at the end, and the report is the same.
 counts_states() {
@@ -289,9 +294,24 @@ for words in --help --version 'explore --help'; do
   # shellcheck disable=SC2086
   count help_fails $words
 done
+too_long() {
+  head -c 16777217 /dev/zero | "$program" "$1" >"$room/out" 2>"$room/told"
+  [ $? = 1 ] && [ ! -s "$room/out" ] && hears 'sysmem: the script is longer than 16777216 bytes'
+}
 for command in run threads explain draw check explore; do
   count read_fails "$command"
   count write_fails "$command"
+  count too_long "$command"
+done
+# Where nobody reads any more what is written, nothing is told of it.
+reader_goes() {
+  { printf 'a join\na open r\n' && yes 'a sync r' | head -n 20000; } >"$room/script"
+  "$program" "$@" <"$room/script" 2>"$room/told" | head -n 1 >"$room/out"
+  [ "${PIPESTATUS[0]}" = 1 ] && [ "$(wc -l <"$room/out")" = 1 ] && hears ''
+}
+for words in run explain 'threads --record'; do
+  # shellcheck disable=SC2086
+  count reader_goes $words
 done
 
 # No memory for what is read, and none for the stack of a thread, by limits on the process. The second
@@ -385,6 +405,7 @@ unopened() {
   [ $? = 1 ] && [ ! -s "$room/out" ] && hears "sysmem: $2: $3"
 }
 for command in run threads explain draw check explore; do count unopened "$command" examples/none.script 'no such file'; done
+try 1 '' "sysmem: '': no such file" '' run ''
 count unopened run examples/first.script/none 'a part of its path is no directory'
 for command in run threads explain draw check explore; do count unopened "$command" examples 'it is a directory'; done
 count unopened run "$(printf 'n%.0s' {1..300})" 'the name is too long'

@@ -32,7 +32,7 @@ for (const name of readdirSync(examples).filter((f) => f.endsWith('.script'))) {
   count += 1;
 }
 assert.equal(ask('sysmem_explain', 0, Buffer.from('')).status, 2);
-assert.deepEqual(ask('sysmem_explain', 16, Buffer.from('a join\nhum\n')), { status: 3, line: 2, text: 'a join\n  joined\n', reason: 'a word is missing behind hum' });
+assert.deepEqual(ask('sysmem_explain', 16, Buffer.from('a join\nhum\n')), { status: 3, line: 2, text: 'a join\n  joined\n', reason: 'a word is missing after hum' });
 
 // What the program and the module make of the script: its explanation, and the trees behind its last line.
 function compare(name) {

@@ -141,7 +141,7 @@ async function wide_picture({ value, open }) {
 async function faults_told({ value, open }) {
   const ran = (script) => value(`(() => { $('script').value = ${JSON.stringify(script)}; $('run').click();
     return [steps.length, steps.at(-1).bad ?? '', $('said').textContent]; })()`);
-  assert.deepEqual((await ran('a join\na open r\nhum\na bind r\n')).slice(0, 2), [3, 'bad line 3: a word is missing behind hum']);
+  assert.deepEqual((await ran('a join\na open r\nhum\na bind r\n')).slice(0, 2), [3, 'bad line 3: a word is missing after hum']);
   assert.equal(await value("document.querySelector('#lines li.bad').innerText.split('\\n')[1]"), 'hum');
   const verbs = await value("$('words').textContent.match(/(?<=^CLIENT )[a-z]+/gm)");
   assert.equal(verbs.length, 24);

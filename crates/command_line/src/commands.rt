@@ -143,7 +143,7 @@ fn failure_word<'a>(alloc: Global) -> Result<Arg<'a>, AllocError> {
         alloc,
         FAILURE,
         "K",
-        "The trees after the first event in which a node failed, or after the Kth such event",
+        "The trees after the first event at which a node failed, or with =K after the Kth",
     )
     .num_args(0..=1)
     .require_equals(true)
@@ -157,7 +157,7 @@ fn failures_word<'a>(alloc: Global) -> Arg<'a> {
     flag(
         alloc,
         FAILURES,
-        "Tells only the lines whose event made a node fail",
+        "Writes only the lines at which a node failed",
     )
 }
 
@@ -166,7 +166,7 @@ fn summary_word<'a>(alloc: Global) -> Arg<'a> {
     flag(
         alloc,
         SUMMARY,
-        "Tells at the end in which events nodes failed, who keeps pages, and which trackers wait",
+        "Says at the end in which events nodes failed, who keeps pages, and which trackers wait",
     )
 }
 
@@ -195,13 +195,13 @@ fn outcome_word<'a>(alloc: Global) -> Arg<'a> {
         alloc,
         OUTCOME,
         "K",
-        "Writes a shortest play of outcome K as a script, instead of the report",
+        "Writes a shortest schedule that ends in outcome K, as a script, instead of the report",
     )
 }
 
 // The option `--states N`.
 fn states_word<'a>(alloc: Global) -> Arg<'a> {
-    number(alloc, STATES, "N", "How many states are met at most").default_value("1000000")
+    number(alloc, STATES, "N", "Searches at most N states").default_value("1000000")
 }
 
 // The option `--certify`.
@@ -209,7 +209,7 @@ fn certify_word<'a>(alloc: Global) -> Arg<'a> {
     flag(
         alloc,
         CERTIFY,
-        "Plays every state again, and says `certified` if surely no outcome is missing",
+        "Repeats every state, and says `certified` if no outcome is missing, or why not",
     )
 }
 
@@ -219,7 +219,7 @@ fn vanish_word<'a>(alloc: Global) -> Arg<'a> {
         alloc,
         VANISH,
         "CLIENTS",
-        "Which clients may vanish at any point: labels with commas between them, or all",
+        "These clients may vanish at any point: labels with commas between them, or all",
     )
 }
 
@@ -229,7 +229,7 @@ fn most_word<'a>(alloc: Global) -> Result<Arg<'a>, AllocError> {
         alloc,
         MOST,
         "N",
-        "How many of the clients of --vanish vanish in a run at most, before they are done, from 1",
+        "At most N clients of --vanish vanish early in one run, from 1",
     )
     .value_parser(value_parser!(u64).range(1..))
     .default_value("1")
@@ -259,7 +259,7 @@ fn patient_word<'a>(alloc: Global) -> Arg<'a> {
     flag(
         alloc,
         PATIENT,
-        "Makes a collect, check, take or poll again until it is answered otherwise",
+        "Repeats a collect, check, take or poll until its answer changes",
     )
 }
 

@@ -12,7 +12,7 @@ Each command reads a script from FILE, or else from standard input:
     sysmem explain < camera.script
 
 `sysmem run --help` lists the lines of a script. If FILE can't be opened, the
-program names it with the reason, and ends with status 1.";
+program names it and the reason, and ends with status 1.";
 
 pub(crate) const RUN_ABOUT: &str = "Answers each line of a script";
 
@@ -59,11 +59,12 @@ nodes, T is a tracker, B a buffer such as r.0, S is strong or weak.
     show free               how many pages are free
 
 Empty lines and lines that begin with # are skipped. A line is bad if it is
-longer than 256 bytes, or is the last one and has no end; if it has two spaces
-between words, or one before the first or after the last; if it has a byte 13
-before its end, or a remark after a call; if it has none of the forms above; or
-if a label has more than 16 letters and digits, a number is out of its range, or
-an index is over 63. docs/SCRIPT.md has the whole language, examples/ scripts.";
+longer than 256 bytes, or is the last one and lacks a newline; if it has two
+spaces between words, or one before the first or after the last; if it has a
+byte 13 before its end, or a remark after a call; if it has none of the forms
+above; or if a label has more than 16 letters and digits, a number is out of its
+range, or an index is over 63. docs/SCRIPT.md has the whole language, examples/
+scripts.";
 
 pub(crate) const RUN_HELP: &str = "\
 Example:
@@ -138,10 +139,10 @@ label of a node is n and the number of the event of its birth:
 `sysmem threads --record shared.actors | sysmem explain` explains these events,
 if both commands have the same --pages.
 
-With --patient an actor waits: it makes a collect that is answered empty, a check
-or take that is answered pending, and a poll of a tracker that has not fired
-again, at most 100000 times, with a pause of a millisecond behind each but the
-first hundred. Each such call is an event.
+With --patient an actor waits: it repeats a collect that is answered empty, a
+check or take that is answered pending, and a poll of a tracker that has not
+fired, at most 100000 times, with a pause of a millisecond after each but the
+first hundred; then it goes on. Each such call is an event.
 
 Status: 0 the report was written; 1 FILE can't be opened, or read or write fault;
 2 the command line was refused; 3 a bad line: also a show, a join after a step
@@ -174,8 +175,8 @@ event: the numbers of the event and of its line, for `sysmem draw`. up: the
 failure climbs from node to parent, along links that are not blocked.
 down: all children fail too. stops: why it climbs no further. kept: who keeps
 pages that are not free yet. camps: how many buffers each node camps on. waits:
-the nodes for which an allocation waits. why: what a refused call failed at.
-since: the line that made the loss, or that the refusal or misuse rests on.
+the nodes for which an allocation waits. why: the reason of a refusal. since:
+the line that caused the failure, refusal or misuse.
 
 Lines that begin with two spaces are skipped, and count as lines.
 
@@ -208,8 +209,8 @@ draws the trees after the last line of camera.script by Graphviz.
 
 Status: 0 the picture was written; 1 FILE can't be opened, or read or write
 fault; 2 the command line was refused, or there is no such event, line or
-failure; 3 a bad line; 4 no memory, or history full. A fault is one line on standard error; a bad line
-has its reason.";
+failure; 3 a bad line; 4 no memory, or history full. A fault is one line on
+standard error; a bad line has its reason.";
 
 pub(crate) const CHECK_ABOUT: &str = "Compares the replies of a transcript with the machine's";
 
@@ -236,10 +237,10 @@ reply differs; 7 no reply is recorded. A fault is one line on standard error; a
 bad line has its reason.";
 
 pub(crate) const EXPLORE_ABOUT: &str =
-    "Goes through all orders of the clients' steps, and tells the outcomes";
+    "Searches all orders of the clients' steps, and reports the outcomes";
 
 pub(crate) const EXPLORE_HELP: &str = "\
-Goes through all orders of the clients' steps, and tells the outcomes
+Searches all orders of the clients' steps, and reports the outcomes
 
     sysmem explore pair.actors
 
@@ -267,41 +268,40 @@ has an outcome in which b looks for the token before it is given:
       a b   comes to its end              always
       free  16                            always
 
-A line that stands twice or more in a row waits: a collect, check, take or poll
-is then made once its answer is no longer empty or pending. With --once it is
+A collect, check, take or poll line that stands twice or more in a row waits: it
+is made once its answer is no longer empty, pending or quiet. With --once it is
 made as often as it stands, and no line waits; with --patient each such line
 waits. A client stays when its steps are done.
 
-An outcome says of each node whether it ends, fails (and why), or is left, of
-each client whether it comes to its end or waits for ever, of each tracker
-whether it fires, and how many pages are free. N of 100: the share of the runs
-in which each turn is drawn evenly among the clients that have one. A label that
-several clients use has the client in front: a.m. One that a client binds twice
-has the line behind it: m (line 9). `never made` names the lines whose call no
-order makes.
+An outcome says of each node whether it ends, fails (and why), is live or
+released, with or without buffers, or is not made; of each client whether it
+comes to its end or waits for ever; of each tracker whether it fires; and how
+many pages are free. N of 100: the share of the runs in which each step is drawn
+evenly among the clients that have one. A label that several clients use has the
+client in front: a.m. If a client binds a label twice, its line follows: m (line
+9). `never made` names the lines that no order makes.
 
     sysmem explore --outcome 2 pair.actors | sysmem explain
 
-explains a play that comes to outcome 2, of the fewest calls. What the report
-calls a.m is am there, or x1 if that is taken.
+explains a shortest schedule that ends in outcome 2. What the report calls a.m
+is am there, or x1 if that is taken.
 
     sysmem explore --vanish a,b pair.actors
 
 lets a or b vanish at any point, at most one of them, or as many as --most says:
 the client is shut, collects its parcels, closes its tokens and collections, and
-drops its handles. `all` stands for all clients. The outcomes are told apart by
-who vanishes. A line of the script lets at most one vanish, unless --vanish is
-given:
+drops its handles. `all` stands for all clients. The report has a part for each
+set of clients that vanish. Lines of the script let at most one vanish, unless
+--vanish is given:
 
     #! vanish a b
 
-With --end each client vanishes once its steps are done. While it runs, a line on
-standard error counts the states, if that is a terminal.
+With --end each client vanishes once its steps are done. While it runs, a line
+on standard error counts the states, if that is a terminal.
 
-With --certify every state is played again, and each turn from it. If no turn
-leads to what was not met, `certified` stands behind the number of outcomes: then
-for sure none is missing. Else `not certified` stands there, and a line on
-standard error says why.
+With --certify every state is repeated, and each step from it. If no step leads
+to a new state, the report says `certified` after the number of outcomes: none
+is missing. Otherwise it says `not certified`, and a line on standard error why.
 
 A script may have claims, which other commands skip, such as
 
@@ -310,15 +310,15 @@ A script may have claims, which other commands skip, such as
     #! sometimes b waits
 
 A fact is: NODE fails [CAUSE] [by NODE], NODE ends, NODE lives, NODE pending
-(it is left without buffers), CLIENT waits, TRACKER fires, or free PAGES. The
-report tells which claims hold, and which outcome breaks one that does not.";
+(it remains, without buffers), CLIENT waits, TRACKER fires, or free PAGES. The
+report says which claims hold, and which outcome breaks one that does not.";
 
 pub(crate) const EXPLORE_STATUS: &str = "\
-Status: 0 all orders were gone through, and all claims hold; 1 FILE can't be
-opened, or read or write fault; 2 the command line was refused, there is no
-such outcome, or a client that is to vanish does not join; 3 a bad line, as for
-`sysmem threads`, or a bad claim; 4 no memory, or history full; 5 a mistake of
-the program; 6 a claim does not hold; 7 not all orders were gone through, since
-there are more states than --states, or --certify could not certify.
+Status: 0 all orders were searched, and all claims hold; 1 FILE can't be opened,
+or read or write fault; 2 the command line was refused, there is no such
+outcome, or a client of --vanish does not join; 3 a bad line, as for `sysmem
+threads`, or a bad claim; 4 no memory, or history full; 5 a mistake of the
+program; 6 a claim does not hold; 7 not all orders were searched, since there
+are more states than --states, or --certify could not certify.
 A fault, or why the status is 7, is one line on standard error; a bad line has
 its reason.";

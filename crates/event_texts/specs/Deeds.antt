@@ -26,14 +26,19 @@ abbrev pub deed_if_done : Reply → Deed → Option Deed
 deed_if_done Reply.Done deed = Some deed
 deed_if_done _ deed = None
 
+-- the deed, if the end was released, or its node had failed: a Release spends the end then too
+abbrev pub deed_if_released : Reply → Deed → Option Deed
+deed_if_released (Reply.PeerClosed cause origin) deed = Some deed
+deed_if_released reply deed = deed_if_done reply deed
+
 -- the deed, if the call opened handles
 abbrev pub deed_if_taken : Reply → Deed → Option Deed
 deed_if_taken (Reply.Taken collection strength set) deed = Some deed
 deed_if_taken _ deed = None
 
--- what the call did to an end, if it took effect: only these calls can spend, give, bind or constrain an end, or take by it
+-- what the call did to an end: only these calls can spend, give, bind or constrain an end, or take by it
 abbrev pub deed_of : Call → Reply → Option Deed
-deed_of (Call.Release key) reply = deed_if_done reply (deed_on SPENT key)
+deed_of (Call.Release key) reply = deed_if_released reply (deed_on SPENT key)
 deed_of (Call.Close key) reply = deed_if_done reply (deed_on SPENT key)
 deed_of (Call.Give key to) reply = deed_if_done reply (deed_on GIVEN key)
 deed_of (Call.Bind key) reply = deed_if_done reply (deed_on BOUND key)

@@ -43,15 +43,15 @@ shut_text names None = codes "why     the caller is shut\n"
 
 -- ---- ends
 
+-- that there is no such end any more
+unfoldable pub no_end_text : Names → NodeKey → List ℕ
+no_end_text names key = named_text names (codes "why     the end of ") key (codes " is spent\n")
+
 -- that the end is spent, by this line
 unfoldable pub spent_by_text : Names → NodeKey → NumberedLine → List ℕ
-spent_by_text names key l = named_text names (codes "why     the end of ") key (codes " is spent\n") ++ since_text l.0 l.1
+spent_by_text names key l = no_end_text names key ++ since_text l.0 l.1
 
--- that there is no such end
-unfoldable pub no_end_text : Names → NodeKey → List ℕ
-no_end_text names key = named_text names (codes "why     there is no end of ") key (codes "\n")
-
--- that the end is spent, by this line; or that there is none, where no line spent it
+-- that the end is spent, by this line if one spent it
 abbrev pub spent_text : Names → NodeKey → Option NumberedLine → List ℕ
 spent_text names key (Some l) = spent_by_text names key l
 spent_text names key None = no_end_text names key

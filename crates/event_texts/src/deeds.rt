@@ -1,6 +1,6 @@
 //! What the call of a line did to an end.
 ghost use Rattle.std.specs.Prelude.{◌≡◌};
-ghost use Rattle.event_texts.specs.Deeds.{deed_if_done, deed_if_taken, deed_of as deed_told, deed_on as deed_at};
+ghost use Rattle.event_texts.specs.Deeds.{deed_if_done, deed_if_released, deed_if_taken, deed_of as deed_told, deed_on as deed_at};
 
 use sm_names::{Call, NodeKey, Reply};
 
@@ -29,12 +29,12 @@ pub(crate) fn deed_on(kind: u8, node: NodeKey) -> Deed
     Deed { node, kind }
 }
 
-// What the call did to an end, if it took effect.
+// What the call did to an end.
 pub(crate) fn deed_of(call: Call, reply: Reply) -> Option<Deed>
     ensures { result ≡ deed_told call reply }
 {
     match call {
-        Call::Release(key) => if_done(reply, deed_on(SPENT, key)),
+        Call::Release(key) => if_released(reply, deed_on(SPENT, key)),
         Call::Close(key) => if_done(reply, deed_on(SPENT, key)),
         Call::Give(key, _) => if_done(reply, deed_on(GIVEN, key)),
         Call::Bind(key) => if_done(reply, deed_on(BOUND, key)),
@@ -50,6 +50,16 @@ fn if_done(reply: Reply, deed: Deed) -> Option<Deed>
 {
     match reply {
         Reply::Done => Some(deed),
+        _ => None,
+    }
+}
+
+// The deed, if the reply is that the end was released, or that its node had failed: a Release spends the end then too.
+fn if_released(reply: Reply, deed: Deed) -> Option<Deed>
+    ensures { result ≡ deed_if_released reply deed }
+{
+    match reply {
+        Reply::Done | Reply::PeerClosed { .. } => Some(deed),
         _ => None,
     }
 }

@@ -16,7 +16,7 @@ pub stopped_same : (job : SearchJob) (old : Option (List ℕ)) (script : List �
     TellingStops job old old script fault
 stopped_same job old script ReportFault.ReadFault why = Keeps-refl old
 stopped_same job old script ReportFault.TooLong why = absurd why
-stopped_same job old script ReportFault.WriteFault why = absurd why
+stopped_same job old script (ReportFault.WriteFault fault) why = absurd why
 stopped_same job old script (ReportFault.BadLine n reason) why = (why, Keeps-refl old)
 stopped_same job old script ReportFault.HistoryFull why = Keeps-refl old
 stopped_same job old script ReportFault.NoMemory why = Keeps-refl old
@@ -28,7 +28,7 @@ module _ (job : SearchJob) (left_before left old : Option (List ℕ)) where
   explores_unread ReportFault.ReadFault came = record { script = came.bytes; taken = came.taken; outcome = (came.within, Keeps-refl old) }
   explores_unread ReportFault.TooLong came = record { script = came.bytes; taken = came.taken; outcome = (came.beyond, Keeps-refl old) }
   explores_unread ReportFault.NoMemory came = record { script = came.bytes; taken = came.taken; outcome = Keeps-refl old }
-  explores_unread ReportFault.WriteFault came = absurd came
+  explores_unread (ReportFault.WriteFault fault) came = absurd came
   explores_unread (ReportFault.BadLine n reason) came = absurd came
   explores_unread ReportFault.HistoryFull came = absurd came
   explores_unread (ReportFault.Missing sought n) came = absurd came
@@ -40,7 +40,7 @@ module _ (job : SearchJob) (left_before left old : Option (List ℕ)) where
     explores_stopped ReportFault.ReadFault stop = record { script = script; taken = taken; outcome = (within, stop) }
     explores_stopped ReportFault.TooLong stop = absurd stop
     explores_stopped (ReportFault.Missing sought n) stop = absurd stop
-    explores_stopped ReportFault.WriteFault stop = record { script = script; taken = taken; outcome = (end, stop) }
+    explores_stopped (ReportFault.WriteFault fault) stop = record { script = script; taken = taken; outcome = (end, stop) }
     explores_stopped (ReportFault.BadLine n reason) stop = record { script = script; taken = taken; outcome = (end, stop) }
     explores_stopped ReportFault.HistoryFull stop = record { script = script; taken = taken; outcome = (end, stop) }
     explores_stopped ReportFault.NoMemory stop = record { script = script; taken = taken; outcome = stop }

@@ -1,3 +1,2 @@
 pub mod Exploring
-pub mod Numbering
 pub mod Reading

@@ -28,7 +28,7 @@ its_actors script after list so =
 pub unlisted_told : (job : SearchJob) (script : List ℕ) (fault : ReportFault) → IsUnlisted script fault → IsUntold job script fault
 unlisted_told job script ReportFault.ReadFault why = tt
 unlisted_told job script ReportFault.TooLong why = absurd why
-unlisted_told job script ReportFault.WriteFault why = absurd why
+unlisted_told job script (ReportFault.WriteFault fault) why = absurd why
 unlisted_told job script (ReportFault.BadLine n reason) why = inl why
 unlisted_told job script ReportFault.HistoryFull why = absurd why
 unlisted_told job script ReportFault.NoMemory why = tt
@@ -40,7 +40,7 @@ pub unheld_told : (job : SearchJob) (script : List ℕ) (list : ActorList) (faul
     IsUnheld job script list fault → IsUntold job script fault
 unheld_told job script list ReportFault.ReadFault is why = absurd why
 unheld_told job script list ReportFault.TooLong is why = absurd why
-unheld_told job script list ReportFault.WriteFault is why = absurd why
+unheld_told job script list (ReportFault.WriteFault fault) is why = absurd why
 unheld_told job script list (ReportFault.BadLine n reason) is why = inr (list, is, why)
 unheld_told job script list ReportFault.HistoryFull is why = tt
 unheld_told job script list ReportFault.NoMemory is why = tt
@@ -52,7 +52,7 @@ pub unheld_in : (job : SearchJob) (script : List ℕ) (list : ActorList) (plans 
     IsUnheldBy script list plans fault → IsUnheld job script list fault
 unheld_in job script list plans ReportFault.ReadFault is why = absurd why
 unheld_in job script list plans ReportFault.TooLong is why = absurd why
-unheld_in job script list plans ReportFault.WriteFault is why = absurd why
+unheld_in job script list plans (ReportFault.WriteFault fault) is why = absurd why
 unheld_in job script list plans (ReportFault.BadLine n reason) is why = record { plans = plans; planned_steps = is; claim = why }
 unheld_in job script list plans ReportFault.HistoryFull is why = tt
 unheld_in job script list plans ReportFault.NoMemory is why = tt
@@ -63,7 +63,7 @@ pub unfound_held : (script : List ℕ) (list : ActorList) (plans : List Plan) (t
     IsTelling script list plans telling → IsUnfound (claim_texts_of script) telling fault → IsUnheldBy script list plans fault
 unfound_held script list plans telling ReportFault.ReadFault is why = absurd why
 unfound_held script list plans telling ReportFault.TooLong is why = absurd why
-unfound_held script list plans telling ReportFault.WriteFault is why = absurd why
+unfound_held script list plans telling (ReportFault.WriteFault fault) is why = absurd why
 unfound_held script list plans telling (ReportFault.BadLine n reason) is why = record { telling = telling; is_telling = is; bad = why }
 unfound_held script list plans telling ReportFault.HistoryFull is why = tt
 unfound_held script list plans telling ReportFault.NoMemory is why = tt
@@ -74,7 +74,7 @@ pub unjudged_found : (texts : List Text) (telling : Telling) (fault : ReportFaul
     IsUnfound texts telling fault
 unjudged_found texts telling ReportFault.ReadFault why = absurd why
 unjudged_found texts telling ReportFault.TooLong why = absurd why
-unjudged_found texts telling ReportFault.WriteFault why = absurd why
+unjudged_found texts telling (ReportFault.WriteFault fault) why = absurd why
 unjudged_found texts telling (ReportFault.BadLine n reason) why = why
 unjudged_found texts telling ReportFault.HistoryFull why = absurd why
 unjudged_found texts telling ReportFault.NoMemory why = tt
@@ -84,7 +84,7 @@ unjudged_found texts telling (ReportFault.Missing sought n) why = absurd why
 pub unsearched_found : (texts : List Text) (telling : Telling) (fault : ReportFault) → IsUnsearched fault → IsUnfound texts telling fault
 unsearched_found texts telling ReportFault.ReadFault why = absurd why
 unsearched_found texts telling ReportFault.TooLong why = absurd why
-unsearched_found texts telling ReportFault.WriteFault why = absurd why
+unsearched_found texts telling (ReportFault.WriteFault fault) why = absurd why
 unsearched_found texts telling (ReportFault.BadLine n reason) why = absurd why
 unsearched_found texts telling ReportFault.HistoryFull why = tt
 unsearched_found texts telling ReportFault.NoMemory why = tt

@@ -27,7 +27,7 @@ missing_line (Some number) = codes "sysmem: there is no outcome " ++ decimal num
 
 -- what is told where a client that may vanish does not join
 abbrev pub unknown_line : List ℕ
-unknown_line = codes "sysmem: --vanish names a client that does not join" ++ 10 ∷ []
+unknown_line = codes "sysmem: a client of --vanish does not join" ++ 10 ∷ []
 
 -- what is told where a play that was made again went on otherwise
 abbrev pub unlike_line : List ℕ
@@ -35,12 +35,12 @@ unlike_line = codes "explore: a play went on otherwise" ++ 10 ∷ []
 
 -- where not all orders were gone through
 abbrev pub part_line : List ℕ
-part_line = codes "sysmem: not all explored: a greater --states may do" ++ 10 ∷ []
+part_line = codes "sysmem: not all explored: try a larger --states" ++ 10 ∷ []
 
 -- where a search was to certify and did not, why
 abbrev pub doubt_text : DoubtLine → List ℕ
-doubt_text DoubtLine.Incomplete = codes "sysmem: not certified: not all explored: a greater --states may do"
-doubt_text DoubtLine.Costly = codes "sysmem: not certified: too many calls to repeat: a greater --states may do"
+doubt_text DoubtLine.Incomplete = codes "sysmem: not certified: not all explored: try a larger --states"
+doubt_text DoubtLine.Costly = codes "sysmem: not certified: too many calls to repeat: try a larger --states"
 doubt_text (DoubtLine.Step calls line) = codes "sysmem: not certified: after " ++
     (decimal calls ++ (codes " calls line " ++ (decimal line ++ codes " leads to a state that was not met")))
 doubt_text (DoubtLine.Leave calls) = codes "sysmem: not certified: after " ++ decimal calls

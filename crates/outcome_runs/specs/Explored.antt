@@ -24,7 +24,7 @@ pub record IsCutOff (job : SearchJob) (old new : Option (List ℕ)) (script : Li
 -- why a script that was read is not told of to its end
 abbrev pub TellingStops : SearchJob → Option (List ℕ) → Option (List ℕ) → List ℕ → ReportFault → Type 0
 TellingStops job old new script ReportFault.ReadFault = Keeps old new
-TellingStops job old new script ReportFault.WriteFault = IsCutOff job old new script
+TellingStops job old new script (ReportFault.WriteFault fault) = IsCutOff job old new script
 TellingStops job old new script (ReportFault.BadLine number reason) = IsBadOf job script number reason.items × Keeps old new
 TellingStops job old new script ReportFault.HistoryFull = Keeps old new
 TellingStops job old new script ReportFault.NoMemory = Keeps old new

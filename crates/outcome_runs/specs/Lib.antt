@@ -1,4 +1,3 @@
 pub mod Endings
 pub mod Explored
-pub mod Reasons
 pub mod Searches

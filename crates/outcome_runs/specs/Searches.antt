@@ -28,7 +28,7 @@ use Rattle.outcome_texts.specs.Verdicts.{claims_text, has_broken}
 use Rattle.outcome_runs.specs.declared.job.DoubtLine.{DoubtLine}
 use Rattle.outcome_runs.specs.declared.job.Ending.{Ending}
 use Rattle.outcome_runs.specs.declared.job.SearchJob.{SearchJob}
-use Rattle.outcome_runs.specs.Reasons.{reason_at}
+use Rattle.report_io.specs.ActorReasons.{reason_at}
 
 -- a core with the pages that are asked for, and the greatest limits; the seed of its tables changes no reply
 abbrev pub setting_of : SearchJob → List ℕ → Setting
@@ -80,6 +80,10 @@ abbrev pub whole_ending : Bool → Option DoubtLine → Ending
 whole_ending complete None = if complete then Ending.Whole else Ending.Part
 whole_ending complete (Some doubt) = Ending.Unsure doubt
 
+-- how a search ended that found no outcome of the number that is asked for: there is none only if all orders were gone through
+abbrev pub missing_ending : Bool → Option DoubtLine → Ending
+missing_ending complete doubt = if complete then Ending.Missing else whole_ending complete doubt
+
 -- the outcome of this number, from 1
 abbrev pub outcome_at : List Found → ℕ → Option Found
 outcome_at outcomes number = if number == 0 then None else slice_get outcomes (number - 1)
@@ -99,7 +103,7 @@ pub record IsJudged (telling : Telling) (found : Exploration) (claims : List Cla
 -- the text is the play of the outcome of this number; if there is none, nothing is told
 abbrev pub IsPlayed : Telling → Exploration → ℕ → List ℕ → Ending → Type 0
 IsPlayed telling found number text ending = MatchOption (outcome_at found.outcomes.items number)
-    ((text ≡ []) × (ending ≡ Ending.Missing))
+    ((text ≡ []) × (ending ≡ missing_ending found.complete (doubts_told telling found)))
     (λ one. IsPlayText telling one number (vec_len found.outcomes) text
     × (ending ≡ whole_ending found.complete (doubts_told telling found)))
 

@@ -51,13 +51,13 @@ pub enum DoubtLine {
 pub enum Ending {
     /// All orders were gone through, and if it was asked for, no outcome is missing for sure.
     Whole,
-    /// Not all orders were gone through.
+    /// Not all orders were gone through. Nothing was written if the outcome that is asked for was not met.
     Part,
     /// The search was to certify and did not, for this reason.
     Unsure(DoubtLine),
     /// A claim does not hold; and the search was to certify and did not, if there is a reason.
     Broken(Option<DoubtLine>),
-    /// There is no outcome of the number that is asked for, and nothing was written.
+    /// All orders were gone through, and there is no outcome of the number that is asked for. Nothing was written.
     Missing,
     /// The clients that may vanish are asked for, and one of them does not join. Nothing was written.
     Unknown,

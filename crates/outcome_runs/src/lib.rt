@@ -5,7 +5,6 @@ mod explore;
 mod job;
 pub mod laws;
 mod program;
-mod reasons;
 mod telling;
 
 pub use explore::explore_script;

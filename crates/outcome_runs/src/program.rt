@@ -59,7 +59,7 @@ fn tell_missing<F: Write>(faults: &mut F, outcome: Option<u64>)
 fn tell_unknown<F: Write>(faults: &mut F)
     ensures { WritesPart (F.contents faults.old) (F.contents faults.new) unknown_line }
 {
-    let _ = write_line(faults, "sysmem: --vanish names a client that does not join");
+    let _ = write_line(faults, "sysmem: a client of --vanish does not join");
 }
 
 // Says that a play that was made again went on otherwise than before, as far as the writer takes it.
@@ -73,10 +73,7 @@ fn tell_unlike<F: Write>(faults: &mut F)
 fn tell_part<F: Write>(faults: &mut F)
     ensures { WritesPart (F.contents faults.old) (F.contents faults.new) part_line }
 {
-    let _ = write_line(
-        faults,
-        "sysmem: not all explored: a greater --states may do",
-    );
+    let _ = write_line(faults, "sysmem: not all explored: try a larger --states");
 }
 
 impl fmt::Display for DoubtLine {
@@ -89,11 +86,11 @@ impl fmt::Display for DoubtLine {
         match *self {
             DoubtLine::Incomplete => write!(
                 f,
-                "sysmem: not certified: not all explored: a greater --states may do"
+                "sysmem: not certified: not all explored: try a larger --states"
             ),
             DoubtLine::Costly => write!(
                 f,
-                "sysmem: not certified: too many calls to repeat: a greater --states may do"
+                "sysmem: not certified: too many calls to repeat: try a larger --states"
             ),
             DoubtLine::Step { calls, line } => write!(
                 f,

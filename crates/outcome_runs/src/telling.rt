@@ -8,10 +8,9 @@ ghost use Rattle.explore_model.specs.Plans.{planned, steps_of};
 ghost use Rattle.outcome_texts.specs.ClaimLines.{claims_in, is_good_list, judged, texts_in};
 ghost use Rattle.outcome_texts.specs.Lines.{step_lines_of, steps_in};
 ghost use Rattle.outcome_runs.specs.declared.job.Ending.{Ending as EndingTold};
-ghost use Rattle.outcome_runs.specs.Searches.{HasSearched, IsFoundBy, IsFoundWith, IsJudged, IsPlayed, IsSearch, IsText, IsTold, IsToldBy, IsToldWith, IsUnfound, IsUnheld, IsUnheldBy, IsUnjudged, IsUnlike, IsUnlisted, IsUnsearched, IsUntold, doubt_told, doubts_told, judged_ending, list_asked, outcome_at, stop_told, turn_told, whole_ending};
+ghost use Rattle.outcome_runs.specs.Searches.{HasSearched, IsFoundBy, IsFoundWith, IsJudged, IsPlayed, IsSearch, IsText, IsTold, IsToldBy, IsToldWith, IsUnfound, IsUnheld, IsUnheldBy, IsUnjudged, IsUnlike, IsUnlisted, IsUnsearched, IsUntold, doubt_told, doubts_told, judged_ending, list_asked, missing_ending, outcome_at, stop_told, turn_told, whole_ending};
 
 use crate::job::{DoubtLine, Ending, SearchHost, SearchJob};
-use crate::reasons::reason_of;
 use actor_scripts::{ActorList, ActorScriptFault, read_actors};
 use explore_model::{Doubt, Exploration, Found, Plan, Vanishing};
 use outcome_texts::{
@@ -19,7 +18,7 @@ use outcome_texts::{
     is_list_of, judged_claims, names_of, push_claims, push_play, push_report, step_lines, who_of,
 };
 use play_search::{Effort, ExploreFault, Progress, Setting, explore, plans_of};
-use report_io::{ReportFault, bad_line};
+use report_io::{ReportFault, bad_actor_line, bad_line};
 use script_lines::{Label, LabelHash};
 use sm_names::Limits;
 use std::alloc::{AllocError, Global};
@@ -41,9 +40,7 @@ fn list_of(alloc: Global, hash: LabelHash, script: &[u8]) -> Result<ActorList, R
         Ok(list) => Ok(list),
         Err(ActorScriptFault::ReadFault) => Err(ReportFault::ReadFault),
         Err(ActorScriptFault::NoMemory) => Err(ReportFault::NoMemory),
-        Err(ActorScriptFault::BadLine(number)) => {
-            Err(bad_line(alloc, number, reason_of(script, number)))
-        }
+        Err(ActorScriptFault::BadLine(number)) => Err(bad_actor_line(alloc, number, script)),
     }
 }
 
@@ -158,6 +155,16 @@ fn ending_of(complete: bool, doubt: Option<DoubtLine>) -> Ending
     }
 }
 
+// How a search ended that found no outcome of the number that is asked for: it may come later, if not all orders were gone through.
+fn missing_end(complete: bool, doubt: Option<DoubtLine>) -> Ending
+    ensures { result ≡ missing_ending complete doubt }
+{
+    if !complete {
+        return ending_of(complete, doubt);
+    }
+    Ending::Missing
+}
+
 // The outcome of this number, from 1.
 fn outcome_of(outcomes: &[Found], number: u64) -> Option<&Found>
     ensures { option_map (λ found. found.now) result ≡ outcome_at outcomes.now number }
@@ -222,7 +229,7 @@ fn play_of(
     let Some(one) = outcome_of(&found.outcomes, number) else {
         return Ok(SearchReport {
             text,
-            ending: Ending::Missing,
+            ending: missing_end(found.complete, doubt_of(telling, found)),
         });
     };
     push_play(alloc, &mut text, telling, one, number, found.outcomes.len())?;

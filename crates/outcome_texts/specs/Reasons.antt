@@ -11,7 +11,7 @@ use Rattle.outcome_texts.specs.declared.telling.Telling.{Telling}
 
 -- a client is named that does not join
 abbrev pub stranger_reason : List ℕ
-stranger_reason = codes "it names a client that did not join"
+stranger_reason = codes "it names a client that does not join"
 
 -- the name begins with such a client
 abbrev pub is_stranger : Telling → NodeName → Bool
@@ -20,14 +20,14 @@ is_stranger telling name =
 
 -- no line makes what is named
 abbrev pub none_reason : Bool → List ℕ
-none_reason true = codes "no line makes a tracker of this label"
-none_reason false = codes "no line makes a node of this label"
+none_reason true = codes "no line makes a tracker with this label"
+none_reason false = codes "no line makes a node with this label"
 
 -- why a name is bad if so many clients make what is named
 abbrev pub count_reason : Bool → ℕ → Option (List ℕ)
 count_reason trackers count =
     let several : Option (List ℕ) = if count == 1
-    then None else Some (codes "several clients make one of this label: put the client's and a point in front") in
+    then None else Some (codes "several clients make one with this label: put the client's and a point in front") in
     if count == 0 then Some (none_reason trackers) else several
 
 -- why the name is bad: it begins with a client that does not join, or not just one client makes what is named
@@ -55,11 +55,11 @@ fact_reason telling (Fact.Free pages) = None
 
 -- it has not the form of a claim
 abbrev pub form_reason : List ℕ
-form_reason = codes "a claim is never, always or sometimes, and a fact; or vanish, and clients"
+form_reason = codes "expected never, always or sometimes and a fact, or vanish and clients"
 
 -- it lets clients vanish of whom one does not join
 abbrev pub list_reason : List ℕ
-list_reason = codes "vanish is followed by all, or by clients that join"
+list_reason = codes "expected all, or clients that join, after vanish"
 
 -- these words, if there are any, or those of the form
 abbrev pub or_form : Option (List ℕ) → List ℕ

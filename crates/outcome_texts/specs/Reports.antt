@@ -1,5 +1,5 @@
 -- The report of all outcomes.
-use Rattle.std.specs.Prelude.{ℕ, ◌≡◌, ◌+◌, ◌-◌, ◌^◌, min, Bool, if◌then◌else◌, is_some, List, [], ◌∷◌, ◌++◌, codes, length, vec_len}
+use Rattle.std.specs.Prelude.{ℕ, ◌≡◌, ◌+◌, ◌-◌, ◌^◌, ◌==◌, min, Bool, if◌then◌else◌, is_some, List, [], ◌∷◌, ◌++◌, codes, length, vec_len}
 use Rattle.std.specs.List.{fold}
 use Rattle.explore_model.specs.declared.found.Exploration.{Exploration}
 use Rattle.explore_model.specs.declared.plan.Plan.{Plan}
@@ -20,13 +20,17 @@ extent_text complete = if complete then codes ", " else codes "not all explored:
 abbrev pub certificate_text : Exploration → List ℕ
 certificate_text found = if found.certified then codes ", certified" else if is_some found.doubt then codes ", not certified" else []
 
+-- what ends these counts: an empty line stands before the rows, if there are some
+abbrev pub counts_end : Exploration → List ℕ
+counts_end found = if vec_len found.outcomes == 0 then codes "\n" else codes "\n\n"
+
 -- how many clients, steps, orders, states and outcomes there are, with words on who vanishes
 abbrev pub counts_with : ℕ → ℕ → List ℕ → Exploration → List ℕ → List ℕ
 counts_with clients steps how found orders = pieces (counted clients (codes "client") ∷ codes ", "
     ∷ counted steps (codes "step") ∷ codes "; " ∷ how ∷ codes "\n"
     ∷ orders_text found.complete orders ∷ extent_text found.complete ∷ counted found.states (codes "state")
     ∷ codes ", " ∷ counted (vec_len found.outcomes) (codes "outcome") ∷ certificate_text found
-    ∷ codes "\n\n" ∷ [])
+    ∷ counts_end found ∷ [])
 
 -- so many steps and those of one more plan, or the greatest number that is told
 abbrev pub more_steps : ℕ → Plan → ℕ

@@ -105,7 +105,7 @@ breaking_text telling outcomes at = option_map_or (broken_text telling (at + 1))
 -- what is said of a claim
 abbrev pub verdict_text : Telling → List Found → Verdict → List ℕ
 verdict_text telling outcomes Verdict.Holds = codes "    holds\n"
-verdict_text telling outcomes Verdict.Open = codes "    is not broken, but not all was explored\n"
+verdict_text telling outcomes Verdict.Open = codes "    is open: not all was explored\n"
 verdict_text telling outcomes Verdict.Missing = codes "    does not hold: no outcome has it\n"
 verdict_text telling outcomes (Verdict.Broken at) = breaking_text telling outcomes at
 

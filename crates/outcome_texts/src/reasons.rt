@@ -21,9 +21,9 @@ fn none_reason(trackers: bool) -> &'static str
     ensures { result.now ≡ none_told trackers }
 {
     if trackers {
-        "no line makes a tracker of this label"
+        "no line makes a tracker with this label"
     } else {
-        "no line makes a node of this label"
+        "no line makes a node with this label"
     }
 }
 
@@ -37,7 +37,7 @@ fn reason_of_count(trackers: bool, count: usize) -> Option<&'static str>
     if count == 1 {
         return None;
     }
-    Some("several clients make one of this label: put the client's and a point in front")
+    Some("several clients make one with this label: put the client's and a point in front")
 }
 
 // Why the name is bad, or nothing if it is good.
@@ -45,7 +45,7 @@ fn name_reason(telling: &Telling<'_>, trackers: bool, name: NodeName) -> Option<
     ensures { option_map (λ reason. reason.now) result ≡ name_told telling.now trackers name }
 {
     if is_stranger(telling, name) {
-        return Some("it names a client that did not join");
+        return Some("it names a client that does not join");
     }
     reason_of_count(trackers, makers(telling, trackers, name))
 }
@@ -72,7 +72,7 @@ fn fact_reason(telling: &Telling<'_>, fact: Fact) -> Option<&'static str>
             Some(reason) => Some(reason),
             None => origin_reason(telling, said),
         },
-        Fact::Waits(_) => Some("it names a client that did not join"),
+        Fact::Waits(_) => Some("it names a client that does not join"),
         Fact::Fires(name) => name_reason(telling, true, name),
         Fact::Free(_) => None,
     }
@@ -82,14 +82,14 @@ fn fact_reason(telling: &Telling<'_>, fact: Fact) -> Option<&'static str>
 pub(crate) fn list_reason() -> &'static str
     ensures { result.now ≡ list_told }
 {
-    "vanish is followed by all, or by clients that join"
+    "expected all, or clients that join, after vanish"
 }
 
 // Why a line is bad that has not the form of a claim.
 fn form_reason() -> &'static str
     ensures { result.now ≡ form_told }
 {
-    "a claim is never, always or sometimes, and a fact; or vanish, and clients"
+    "expected never, always or sometimes and a fact, or vanish and clients"
 }
 
 // Why the line, a bad claim, is bad.

@@ -1,6 +1,6 @@
 //! The report of all outcomes.
 ghost use Rattle.std.specs.Prelude.{◌≡◌, ◌++◌, OnOk};
-ghost use Rattle.outcome_texts.specs.Reports.{AppendsReport, all_steps, certificate_text, counts_text, counts_with, extent_text, orders_text};
+ghost use Rattle.outcome_texts.specs.Reports.{AppendsReport, all_steps, certificate_text, counts_end, counts_text, counts_with, extent_text, orders_text};
 ghost use Rattle.outcome_texts.specs.Vanishing.{how_text};
 
 use crate::numbers::push_great;
@@ -311,6 +311,17 @@ fn certificate(found: &Exploration) -> &'static str
     }
 }
 
+// What ends the counts: an empty line stands before the rows, if there are some.
+fn end_of_counts(found: &Exploration) -> &'static str
+    ensures { result.now ≡ counts_end found.now }
+{
+    if found.outcomes.is_empty() {
+        "\n"
+    } else {
+        "\n\n"
+    }
+}
+
 // What a report says first of a search: how many steps its clients have, who may vanish, and how many orders there are.
 #[derive(Clone, Copy)]
 struct ReportHead<'a> {
@@ -345,7 +356,7 @@ fn push_counts<'a>(
             Part::Word(", "),
             Part::Counted(found.outcomes.len() as u64, "outcome"),
             Part::Word(certificate(found)),
-            Part::Word("\n\n"),
+            Part::Word(end_of_counts(found)),
         ],
     )
 }

@@ -271,7 +271,7 @@ fn push_verdict(
 {
     match verdict {
         Verdict::Holds => push(text, "    holds\n"),
-        Verdict::Open => push(text, "    is not broken, but not all was explored\n"),
+        Verdict::Open => push(text, "    is open: not all was explored\n"),
         Verdict::Missing => push(text, "    does not hold: no outcome has it\n"),
         Verdict::Broken(at) => push_breaking(alloc, text, telling, outcomes, at),
     }

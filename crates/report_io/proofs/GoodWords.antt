@@ -93,6 +93,10 @@ label_is : (word : List ℕ) (rest : List (List ℕ)) (label : Label) → label_
 label_is word rest label first last = rw (first, last) refl
 
 module _ (names : Names) where
+  -- what labels stand for is known
+  abbrev known : Option Names
+  known = Some names
+
   -- ---- what the call is made on
 
   -- this is what a call on such a target is made on
@@ -113,12 +117,12 @@ module _ (names : Names) where
     named : object_named names object ≡ Some key
     fits : is_on on key ≡ true
     last : List ℕ
-    left : words_reason names last wanted rest ≡ None
+    left : words_reason known last wanted rest ≡ None
 
   module _ (a b c : Wanted) where
     -- a fourth word that is to be none adds nothing: a word there is too many in both lists
-    three_left : (last : List ℕ) (words : List (List ℕ)) → words_reason names last (a ∷ b ∷ c ∷ Wanted.End ∷ []) words ≡ None →
-        words_reason names last (a ∷ b ∷ c ∷ []) words ≡ None
+    three_left : (last : List ℕ) (words : List (List ℕ)) → words_reason known last (a ∷ b ∷ c ∷ Wanted.End ∷ []) words ≡ None →
+        words_reason known last (a ∷ b ∷ c ∷ []) words ≡ None
     three_left last [] e = e
     three_left last (w ∷ []) e = e
     three_left last (w ∷ x ∷ []) e = e
@@ -129,11 +133,11 @@ module _ (names : Names) where
     object_node : (on : Target) (last : List ℕ) (words : List (List ℕ)) →
         ((ws : List (List ℕ)) → object_read on ws ≡ first_read (λ word. option_map Object.Node (label_of word)) ws) →
         ((key : NodeKey) → is_on on (Object.Node key) ≡ true) →
-        words_reason names last (Wanted.Node ∷ a ∷ b ∷ c ∷ []) words ≡ None → ObjectRead on words (a ∷ b ∷ c ∷ [])
+        words_reason known last (Wanted.Node ∷ a ∷ b ∷ c ∷ []) words ≡ None → ObjectRead on words (a ∷ b ∷ c ∷ [])
     object_node on last [] reads fits e = absurd (cc)
     object_node on last (word ∷ rest) reads fits e =
-        let both = none_both (word_reason names Wanted.Node word) (words_reason names word (a ∷ b ∷ c ∷ []) rest) e in
-        let label = passed_so (λ label. bound_reason names Wanted.Node label word) (label_of word) _ both.0 in
+        let both = none_both (word_reason known Wanted.Node word) (words_reason known word (a ∷ b ∷ c ∷ []) rest) e in
+        let label = passed_so (λ label. bound_reason known Wanted.Node label word) (label_of word) _ both.0 in
         let key = there (labelled_node names label.0) (holds_so _ _ label.1.1) in
         record {
           object = Object.Node label.0;
@@ -149,10 +153,10 @@ module _ (names : Names) where
 
     -- a first word for a handle is read by its buffer, of which its own test finds the node bound
     object_buffer : (last : List ℕ) (words : List (List ℕ)) →
-        words_reason names last (Wanted.Buffer ∷ a ∷ b ∷ c ∷ []) words ≡ None → ObjectRead Target.Handle words (a ∷ b ∷ c ∷ [])
+        words_reason known last (Wanted.Buffer ∷ a ∷ b ∷ c ∷ []) words ≡ None → ObjectRead Target.Handle words (a ∷ b ∷ c ∷ [])
     object_buffer last [] e = absurd (cc)
     object_buffer last (word ∷ rest) e =
-        let both = none_both (word_reason names Wanted.Buffer word) (words_reason names word (a ∷ b ∷ c ∷ []) rest) e in
+        let both = none_both (word_reason known Wanted.Buffer word) (words_reason known word (a ∷ b ∷ c ∷ []) rest) e in
         let label = passed_so _ (buffer_label_of word) _ both.0 in
         let key = there (labelled_node names label.0.node) (holds_so _ _ label.1.1) in
         let place = mapped (labelled_place names label.0.node) key.0 key.1 in
@@ -174,7 +178,7 @@ module _ (names : Names) where
 
   -- by the target: the first word is what the call is made on, and the three others follow
   object_so : (on : Target) (a b c : Wanted) (last : List ℕ) (words : List (List ℕ)) →
-      words_reason names last (wanted_on on a b c) words ≡ None → ObjectRead on words (a ∷ b ∷ c ∷ [])
+      words_reason known last (wanted_on on a b c) words ≡ None → ObjectRead on words (a ∷ b ∷ c ∷ [])
   object_so Target.Nothing a b c last words e = record {
     object = Object.Nothing;
     rest = words;
@@ -228,30 +232,30 @@ module _ (names : Names) where
     named : argument_named names argument ≡ Some given
     fits : is_said says given ≡ true
     last : List ℕ
-    left : words_reason names last (new ∷ []) rest ≡ None
+    left : words_reason known last (new ∷ []) rest ≡ None
 
   -- where no word is left, an end is no reason either
-  ended_so : (last : List ℕ) (rest : List (List ℕ)) → rest_reason rest ≡ None → words_reason names last (Wanted.End ∷ []) rest ≡ None
+  ended_so : (last : List ℕ) (rest : List (List ℕ)) → rest_reason rest ≡ None → words_reason known last (Wanted.End ∷ []) rest ≡ None
   ended_so last [] e = refl
   ended_so last (word ∷ more) e = absurd (cc)
 
   -- words that are to be none add nothing: a word there is too many in both lists
   one_left : (new : Wanted) (last : List ℕ) (words : List (List ℕ)) →
-      words_reason names last (new ∷ Wanted.End ∷ []) words ≡ None → words_reason names last (new ∷ []) words ≡ None
+      words_reason known last (new ∷ Wanted.End ∷ []) words ≡ None → words_reason known last (new ∷ []) words ≡ None
   one_left new last [] e = e
   one_left new last (w ∷ []) e = e
   one_left new last (w ∷ x ∷ more) e = e
 
   -- a word for a client is read by its label, which its own test finds bound
-  client_so : (word : List ℕ) → word_reason names Wanted.Client word ≡ None →
+  client_so : (word : List ℕ) → word_reason known Wanted.Client word ≡ None →
       (label : Label) × ((label_of word ≡ Some label) × ((client : ℕ) × (labelled_client names label ≡ Some client)))
   client_so word e =
-      let label = passed_so (λ label. bound_reason names Wanted.Client label word) (label_of word) _ e in
+      let label = passed_so (λ label. bound_reason known Wanted.Client label word) (label_of word) _ e in
       (label.0, (label.1.0, there (labelled_client names label.0) (holds_so _ _ label.1.1)))
 
   -- nothing else is said, so that no word is read
   says_nothing : (new : Wanted) (last : List ℕ) (words : List (List ℕ)) →
-      words_reason names last (new ∷ Wanted.End ∷ Wanted.End ∷ []) words ≡ None → ArgumentRead ArgumentForm.Nothing words new
+      words_reason known last (new ∷ Wanted.End ∷ Wanted.End ∷ []) words ≡ None → ArgumentRead ArgumentForm.Nothing words new
   says_nothing new last words e = record {
     argument = Argument.Nothing;
     rest = words;
@@ -264,17 +268,17 @@ module _ (names : Names) where
   }
     where
       none_left : (last : List ℕ) (words : List (List ℕ)) →
-          words_reason names last (new ∷ Wanted.End ∷ Wanted.End ∷ []) words ≡ None → words_reason names last (new ∷ []) words ≡ None
+          words_reason known last (new ∷ Wanted.End ∷ Wanted.End ∷ []) words ≡ None → words_reason known last (new ∷ []) words ≡ None
       none_left last [] e = e
       none_left last (w ∷ []) e = e
       none_left last (w ∷ x ∷ more) e = e
 
   -- a word for a client is read as that
   says_client : (new : Wanted) (last : List ℕ) (words : List (List ℕ)) →
-      words_reason names last (Wanted.Client ∷ new ∷ Wanted.End ∷ []) words ≡ None → ArgumentRead ArgumentForm.Client words new
+      words_reason known last (Wanted.Client ∷ new ∷ Wanted.End ∷ []) words ≡ None → ArgumentRead ArgumentForm.Client words new
   says_client new last [] e = absurd (cc)
   says_client new last (word ∷ rest) e =
-      let both = none_both (word_reason names Wanted.Client word) (words_reason names word (new ∷ Wanted.End ∷ []) rest) e in
+      let both = none_both (word_reason known Wanted.Client word) (words_reason known word (new ∷ Wanted.End ∷ []) rest) e in
       let client = client_so word both.0 in
       record {
         argument = Argument.Client client.0;
@@ -289,7 +293,7 @@ module _ (names : Names) where
 
   -- `children` is read as that, and no word as none
   says_children : (last : List ℕ) (words : List (List ℕ)) →
-      words_reason names last (Wanted.Children ∷ Wanted.End ∷ Wanted.End ∷ []) words ≡ None →
+      words_reason known last (Wanted.Children ∷ Wanted.End ∷ Wanted.End ∷ []) words ≡ None →
       ArgumentRead ArgumentForm.Children words Wanted.End
   says_children last [] e = record {
     argument = Argument.Children false;
@@ -302,7 +306,7 @@ module _ (names : Names) where
     left = refl;
   }
   says_children last (word ∷ rest) e =
-      let both = none_both (word_reason names Wanted.Children word) (words_reason names word (Wanted.End ∷ Wanted.End ∷ []) rest) e in
+      let both = none_both (word_reason known Wanted.Children word) (words_reason known word (Wanted.End ∷ Wanted.End ∷ []) rest) e in
       let is : bytes_eq word (codes "children") ≡ true = holds_so _ _ both.0 in
       record {
         argument = Argument.Children true;
@@ -317,15 +321,15 @@ module _ (names : Names) where
 
   -- three words for numbers are read, since each is within its bounds
   says_constraints : (last : List ℕ) (words : List (List ℕ)) →
-      words_reason names last (Wanted.Camping ∷ Wanted.AtLeast ∷ Wanted.Size ∷ []) words ≡ None →
+      words_reason known last (Wanted.Camping ∷ Wanted.AtLeast ∷ Wanted.Size ∷ []) words ≡ None →
       ArgumentRead ArgumentForm.Constraints words Wanted.End
   says_constraints last [] e = absurd (cc)
   says_constraints last (camping ∷ []) e = absurd (never_missing _ _ e)
   says_constraints last (camping ∷ at_least ∷ []) e = absurd (never_missing _ _ (none_both _ _ e).1)
   says_constraints last (camping ∷ at_least ∷ size ∷ rest) e =
-      let one = none_both (word_reason names Wanted.Camping camping) _ e in
-      let two = none_both (word_reason names Wanted.AtLeast at_least) _ one.1 in
-      let all = none_both (word_reason names Wanted.Size size) (rest_reason rest) two.1 in
+      let one = none_both (word_reason known Wanted.Camping camping) _ e in
+      let two = none_both (word_reason known Wanted.AtLeast at_least) _ one.1 in
+      let all = none_both (word_reason known Wanted.Size size) (rest_reason rest) two.1 in
       let c = numbered (number_of camping) 0 MAX_CAMPING (holds_so _ _ one.0) in
       let l = numbered (number_of at_least) 0 MAX_AT_LEAST (holds_so _ _ two.0) in
       let s = numbered (number_of size) 1 MAX_SIZE (holds_so _ _ all.0) in
@@ -345,10 +349,10 @@ module _ (names : Names) where
 
   -- a word for a number is read, since it is within bounds that 32 bits have
   says_most : (new : Wanted) (last : List ℕ) (words : List (List ℕ)) →
-      words_reason names last (Wanted.Number ∷ new ∷ Wanted.End ∷ []) words ≡ None → ArgumentRead ArgumentForm.Most words new
+      words_reason known last (Wanted.Number ∷ new ∷ Wanted.End ∷ []) words ≡ None → ArgumentRead ArgumentForm.Most words new
   says_most new last [] e = absurd (cc)
   says_most new last (word ∷ rest) e =
-      let both = none_both (word_reason names Wanted.Number word) (words_reason names word (new ∷ Wanted.End ∷ []) rest) e in
+      let both = none_both (word_reason known Wanted.Number word) (words_reason known word (new ∷ Wanted.End ∷ []) rest) e in
       let most = numbered (number_of word) 0 4294967295 (holds_so _ _ both.0) in
       record {
         argument = Argument.Most most.0;
@@ -363,10 +367,10 @@ module _ (names : Names) where
 
   -- a word for a strength is read as that
   says_strength : (new : Wanted) (last : List ℕ) (words : List (List ℕ)) →
-      words_reason names last (Wanted.Strength ∷ new ∷ Wanted.End ∷ []) words ≡ None → ArgumentRead ArgumentForm.Strength words new
+      words_reason known last (Wanted.Strength ∷ new ∷ Wanted.End ∷ []) words ≡ None → ArgumentRead ArgumentForm.Strength words new
   says_strength new last [] e = absurd (cc)
   says_strength new last (word ∷ rest) e =
-      let both = none_both (word_reason names Wanted.Strength word) (words_reason names word (new ∷ Wanted.End ∷ []) rest) e in
+      let both = none_both (word_reason known Wanted.Strength word) (words_reason known word (new ∷ Wanted.End ∷ []) rest) e in
       let strength = there (strength_named word) (holds_so _ _ both.0) in
       record {
         argument = Argument.Strength strength.0;
@@ -381,12 +385,12 @@ module _ (names : Names) where
 
   -- two words for a strength and a client are read, each by its own test
   says_gift : (new : Wanted) (last : List ℕ) (words : List (List ℕ)) →
-      words_reason names last (Wanted.Strength ∷ Wanted.Client ∷ new ∷ []) words ≡ None → ArgumentRead ArgumentForm.Gift words new
+      words_reason known last (Wanted.Strength ∷ Wanted.Client ∷ new ∷ []) words ≡ None → ArgumentRead ArgumentForm.Gift words new
   says_gift new last [] e = absurd (cc)
   says_gift new last (word ∷ []) e = absurd (never_missing _ _ e)
   says_gift new last (word ∷ to ∷ rest) e =
-      let one = none_both (word_reason names Wanted.Strength word) _ e in
-      let both = none_both (word_reason names Wanted.Client to) (words_reason names to (new ∷ []) rest) one.1 in
+      let one = none_both (word_reason known Wanted.Strength word) _ e in
+      let both = none_both (word_reason known Wanted.Client to) (words_reason known to (new ∷ []) rest) one.1 in
       let strength = there (strength_named word) (holds_so _ _ one.0) in
       let client = client_so to both.0 in
       record {
@@ -402,12 +406,12 @@ module _ (names : Names) where
 
   -- by the form: what else the call says is read of the words that it wants
   argument_so : (says : ArgumentForm) (new : Wanted) (last : List ℕ) (words : List (List ℕ)) → Ends says new →
-      words_reason names last (three says new) words ≡ None → ArgumentRead says words new
+      words_reason known last (three says new) words ≡ None → ArgumentRead says words new
   argument_so ArgumentForm.Nothing new last words ends e = says_nothing new last words e
   argument_so ArgumentForm.Client new last words ends e = says_client new last words e
   argument_so ArgumentForm.Children new last words ends e =
       subst (λ (w : Wanted). ArgumentRead ArgumentForm.Children words w) (sym ends)
-      (says_children last words (subst (λ (w : Wanted). words_reason names last (three ArgumentForm.Children w) words ≡ None) ends e))
+      (says_children last words (subst (λ (w : Wanted). words_reason known last (three ArgumentForm.Children w) words ≡ None) ends e))
   argument_so ArgumentForm.Constraints new last words ends e =
       subst (λ (w : Wanted). ArgumentRead ArgumentForm.Constraints words w) (sym ends) (says_constraints last words e)
   argument_so ArgumentForm.Most new last words ends e = says_most new last words e
@@ -425,18 +429,18 @@ module _ (names : Names) where
   -- what brings nothing with a label reads no word, and none is left
   brings_nothing : (brings : Product) (last : List ℕ) (words : List (List ℕ)) →
       ((ws : List (List ℕ)) → binds_read brings ws ≡ Some (None, ws)) →
-      words_reason names last (Wanted.End ∷ []) words ≡ None → BindsRead brings words
+      words_reason known last (Wanted.End ∷ []) words ≡ None → BindsRead brings words
   brings_nothing brings last [] reads e = record { binds = None; read = reads []; acts = λ client call. refl }
   brings_nothing brings last (word ∷ more) reads e = absurd (cc)
 
   -- a word for a new node is read by its label, which its own test finds free
   brings_node : (brings : Product) (last : List ℕ) (words : List (List ℕ)) →
       ((ws : List (List ℕ)) → binds_read brings ws ≡ first_read (λ word. option_map Some (label_of word)) ws) → is_tracker brings ≡ false →
-      words_reason names last (Wanted.NewNode ∷ []) words ≡ None → BindsRead brings words
+      words_reason known last (Wanted.NewNode ∷ []) words ≡ None → BindsRead brings words
   brings_node brings last [] reads none e = absurd (cc)
   brings_node brings last (word ∷ rest) reads none e =
-      let both = none_both (word_reason names Wanted.NewNode word) (rest_reason rest) e in
-      let label = passed_so (λ label. bound_reason names Wanted.NewNode label word) (label_of word) _ both.0 in
+      let both = none_both (word_reason known Wanted.NewNode word) (rest_reason rest) e in
+      let label = passed_so (λ label. bound_reason known Wanted.NewNode label word) (label_of word) _ both.0 in
       let free : labelled_node names label.0 ≡ None = not_there _ (holds_so _ _ label.1.1) in
       record {
         binds = Some label.0;
@@ -446,11 +450,11 @@ module _ (names : Names) where
 
   -- a word for a new tracker is read by its label, which its own test finds free
   brings_tracker : (last : List ℕ) (words : List (List ℕ)) →
-      words_reason names last (Wanted.NewTracker ∷ []) words ≡ None → BindsRead Product.Tracker words
+      words_reason known last (Wanted.NewTracker ∷ []) words ≡ None → BindsRead Product.Tracker words
   brings_tracker last [] e = absurd (cc)
   brings_tracker last (word ∷ rest) e =
-      let both = none_both (word_reason names Wanted.NewTracker word) (rest_reason rest) e in
-      let label = passed_so (λ label. bound_reason names Wanted.NewTracker label word) (label_of word) _ both.0 in
+      let both = none_both (word_reason known Wanted.NewTracker word) (rest_reason rest) e in
+      let label = passed_so (λ label. bound_reason known Wanted.NewTracker label word) (label_of word) _ both.0 in
       let free : labelled_tracker names label.0 ≡ None = not_there _ (holds_so _ _ label.1.1) in
       record {
         binds = Some label.0;
@@ -460,7 +464,7 @@ module _ (names : Names) where
 
   -- by what the call brings: its label is read, and none is left
   binds_so : (brings : Product) (last : List ℕ) (words : List (List ℕ)) →
-      words_reason names last (new_wanted brings ∷ []) words ≡ None → BindsRead brings words
+      words_reason known last (new_wanted brings ∷ []) words ≡ None → BindsRead brings words
   binds_so Product.Nothing last words e = brings_nothing Product.Nothing last words (λ ws. refl) e
   binds_so Product.Client last words e = brings_nothing Product.Client last words (λ ws. refl) e
   binds_so Product.Collection last words e = brings_node Product.Collection last words (λ ws. refl) refl e
@@ -501,7 +505,7 @@ module _ (names : Names) where
 
   -- by the form: behind what the call is made on follow its three words
   first_so : (says : ArgumentForm) (on : Target) (new : Wanted) (last : List ℕ) (words : List (List ℕ)) →
-      words_reason names last (wanted_by says on new) words ≡ None → ObjectRead on words (three says new)
+      words_reason known last (wanted_by says on new) words ≡ None → ObjectRead on words (three says new)
   first_so ArgumentForm.Nothing on new last words e = object_so on new Wanted.End Wanted.End last words e
   first_so ArgumentForm.Client on new last words e = object_so on Wanted.Client new Wanted.End last words e
   first_so ArgumentForm.Children on new last words e = object_so on Wanted.Children new Wanted.End last words e
@@ -525,7 +529,7 @@ module _ (names : Names) where
 
   -- good words behind a verb ask for something: object, argument and label are read one after another
   pub request_so : (kind : CallKind) (last : List ℕ) (words : List (List ℕ)) →
-      words_reason names last (wanted_of_kind kind) words ≡ None → RequestRead kind words
+      words_reason known last (wanted_of_kind kind) words ≡ None → RequestRead kind words
   request_so kind last words e =
       let row = row_of kind in
       let o = first_so row.says row.on (new_wanted row.brings) last words e in

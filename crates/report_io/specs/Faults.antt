@@ -1,5 +1,5 @@
 -- The statuses and the texts of faults, and why a line has one.
-use Rattle.std.specs.Prelude.{ℕ, ◌≡◌, ◌≢◌, List, [], ◌∷◌, ◌++◌, codes, decimal, Option, Result, MatchResult, ◌⊎◌, ⊤}
+use Rattle.std.specs.Prelude.{ℕ, ◌≡◌, ◌≢◌, Bool, true, false, List, [], ◌∷◌, ◌++◌, codes, decimal, Option, Ok, Err, Result, MatchResult, ◌⊎◌, ⊤}
 use Rattle.script_lines.specs.Written.{WritesPart}
 use Rattle.script_labels.specs.declared.stop.LineStop.{LineStop}
 use Rattle.script_labels.specs.Names.{Names}
@@ -12,7 +12,7 @@ use Rattle.report_io.specs.Reasons.{IsReason}
 abbrev pub fault_status : ReportFault → ℕ
 fault_status ReportFault.ReadFault = 1
 fault_status ReportFault.TooLong = 1
-fault_status ReportFault.WriteFault = 1
+fault_status (ReportFault.WriteFault fault) = 1
 fault_status (ReportFault.BadLine number reason) = 3
 fault_status ReportFault.HistoryFull = 4
 fault_status ReportFault.NoMemory = 4
@@ -28,7 +28,7 @@ sought_name Sought.Failure = codes "failure "
 abbrev pub fault_text : ReportFault → List ℕ
 fault_text ReportFault.ReadFault = codes "read fault"
 fault_text ReportFault.TooLong = codes "the script is longer than 16777216 bytes"
-fault_text ReportFault.WriteFault = codes "write fault"
+fault_text (ReportFault.WriteFault fault) = codes "write fault"
 fault_text (ReportFault.BadLine number reason) = codes "bad line " ++ decimal number ++ codes ": " ++ reason.items
 fault_text ReportFault.HistoryFull = codes "history full"
 fault_text ReportFault.NoMemory = codes "no memory"
@@ -45,12 +45,43 @@ abbrev pub fault_line : ReportFault → List ℕ
 fault_line fault = fault_start fault ++ fault_text fault ++ 10 ∷ []
 
 -- the line of the fault was written, as far as it could be, or that of refused memory
+abbrev pub IsTried : Option (List ℕ) → Option (List ℕ) → ReportFault → Type 0
+IsTried before after fault = WritesPart before after (fault_line fault) ⊎ WritesPart before after (fault_line ReportFault.NoMemory)
+
+-- the writer failed, or took nothing
+abbrev pub IsWriteFault : ReportFault → Type 0
+IsWriteFault (ReportFault.WriteFault fault) = ⊤
+IsWriteFault _ = ⊥
+
+-- nothing is told of the fault: nobody reads any more what the program writes
+abbrev pub is_silent : ReportFault → Bool
+is_silent (ReportFault.WriteFault fault) = fault.is_reader_gone
+is_silent _ = false
+
+-- the fault was told, unless nothing is told of it
+abbrev pub IsToldUnless : Bool → Option (List ℕ) → Option (List ℕ) → ReportFault → Type 0
+IsToldUnless true before after fault = after ≡ before
+IsToldUnless false before after fault = IsTried before after fault
+
+-- the fault was told, as far as it could be
 abbrev pub IsTold : Option (List ℕ) → Option (List ℕ) → ReportFault → Type 0
-IsTold before after fault = WritesPart before after (fault_line fault) ⊎ WritesPart before after (fault_line ReportFault.NoMemory)
+IsTold before after fault = IsToldUnless (is_silent fault) before after fault
 
 -- without a fault nothing was told
 abbrev pub IsReported : {A : Type 0} → Option (List ℕ) → Option (List ℕ) → Result A ReportFault → Type 0
 IsReported before after result = MatchResult result (λ _. after ≡ before) (IsTold before after)
+
+-- the status that a program ends with: 0 where the report was made
+abbrev pub report_status : Result (Unit {0}) ReportFault → ℕ
+report_status (Ok done) = 0
+report_status (Err fault) = fault_status fault
+
+-- a report was made, with an outcome of which this holds: the status is its status, and its fault, if there is one, was told
+pub record EndsReport (Comes : Result (Unit {0}) ReportFault → Type 0) (told_before told : Option (List ℕ)) (status : ℕ) : Type 0 where
+  pub outcome : Result (Unit {0}) ReportFault
+  pub comes : Comes outcome
+  pub status_is : status ≡ report_status outcome
+  pub reported : IsReported told_before told outcome
 
 -- the fault of the line of this number, which stopped so. Memory for the reason of a bad line may be refused
 abbrev pub IsFaultOf : ℕ → LineStop → ReportFault → Type 0

@@ -1,3 +1,4 @@
+pub mod ActorReasons
 pub mod Faults
 pub mod IndentedLines
 pub mod Reasons

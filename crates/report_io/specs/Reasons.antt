@@ -1,6 +1,6 @@
 -- Why a line is bad: a reason for each test of a line, in the order in which the tests are tried. Where no test fails there
 -- is no reason.
-use Rattle.std.specs.Prelude.{ℕ, ◌≡◌, Bool, false, ◌==◌, ◌-◌, ◌&&◌, nat_le, nat_lt, not, if◌then◌else◌, List, [], ◌∷◌, ◌++◌, length, map, take, codes, slice_get, Option, Some, None, is_some}
+use Rattle.std.specs.Prelude.{ℕ, ◌≡◌, Bool, false, ◌==◌, ◌-◌, ◌&&◌, nat_le, nat_lt, not, if◌then◌else◌, List, [], ◌∷◌, ◌++◌, length, map, take, codes, slice_get, Option, Some, None, is_some, ⊤}
 use Rattle.std.specs.List.{list_any, position}
 use Rattle.std.specs.Option.{option_map, option_map_or}
 use Rattle.std.specs.Str.{bytes_eq}
@@ -17,6 +17,8 @@ use Rattle.script_lines.specs.Labels.{label_of}
 use Rattle.script_lines.specs.Lines.{strength_named, view_of}
 use Rattle.script_lines.specs.Numbers.{number_of}
 use Rattle.script_lines.specs.Words.{words}
+use Rattle.script_labels.specs.declared.tables.Tables.{Tables}
+use Rattle.script_labels.specs.Tables.{Keeps}
 use Rattle.script_labels.specs.Names.{Names, labelled_client, labelled_node, labelled_tracker}
 use Rattle.report_io.specs.declared.reasons.Reason.{Reason as Kept}
 use Rattle.report_io.specs.declared.wanted.Wanted.{Wanted}
@@ -51,7 +53,7 @@ before_word before word = record { before = before; word = word; behind = [] }
 
 -- the word that is to follow this one is missing
 abbrev pub missing : List ℕ → Reason
-missing last = before_word (codes "a word is missing behind ") last
+missing last = before_word (codes "a word is missing after ") last
 
 -- the word is one too many
 abbrev pub too_many : List ℕ → Reason
@@ -122,26 +124,31 @@ abbrev pub label_reason : (Label → Option Reason) → List ℕ → Option Reas
 label_reason test word = option_map_or test (label_of word) (Some (before_word (codes "no label: ") word))
 
 -- the label is bound, or is not, as it is to be
-abbrev pub bound_reason : Names → Wanted → Label → List ℕ → Option Reason
-bound_reason names Wanted.Client label word = reason_unless (is_some (labelled_client names label)) (unbound word)
-bound_reason names Wanted.Node label word = reason_unless (is_some (labelled_node names label)) (unbound word)
-bound_reason names Wanted.NewNode label word = reason_unless (not (is_some (labelled_node names label))) (bound word)
-bound_reason names Wanted.Tracker label word = reason_unless (is_some (labelled_tracker names label)) (unbound word)
-bound_reason names Wanted.NewTracker label word = reason_unless (not (is_some (labelled_tracker names label))) (bound word)
-bound_reason names _ label word = None
+abbrev pub named_reason : Names → Wanted → Label → List ℕ → Option Reason
+named_reason names Wanted.Client label word = reason_unless (is_some (labelled_client names label)) (unbound word)
+named_reason names Wanted.Node label word = reason_unless (is_some (labelled_node names label)) (unbound word)
+named_reason names Wanted.NewNode label word = reason_unless (not (is_some (labelled_node names label))) (bound word)
+named_reason names Wanted.Tracker label word = reason_unless (is_some (labelled_tracker names label)) (unbound word)
+named_reason names Wanted.NewTracker label word = reason_unless (not (is_some (labelled_tracker names label))) (bound word)
+named_reason names _ label word = None
+
+-- the same, if it is known what labels stand for
+abbrev pub bound_reason : Option Names → Wanted → Label → List ℕ → Option Reason
+bound_reason None wanted label word = None
+bound_reason (Some names) wanted label word = named_reason names wanted label word
 
 -- what stands before the point, or the whole word
 abbrev pub before_point : List ℕ → List ℕ
 before_point word = option_map_or (λ at. take at word) (position (λ byte. byte == 46) word) word
 
 -- the word is the name of a buffer, and its label stands for a node
-abbrev pub buffer_reason : Names → List ℕ → Option Reason
+abbrev pub buffer_reason : Option Names → List ℕ → Option Reason
 buffer_reason names word = option_map_or
-    (λ buffer. reason_unless (is_some (labelled_node names buffer.node)) (unbound (before_point word)))
+    (λ buffer. bound_reason names Wanted.Node buffer.node (before_point word))
     (buffer_label_of word) (Some (before_word (codes "no buffer: ") word))
 
 -- the word is what it is to be
-abbrev pub word_reason : Names → Wanted → List ℕ → Option Reason
+abbrev pub word_reason : Option Names → Wanted → List ℕ → Option Reason
 word_reason names Wanted.End word = Some (too_many word)
 word_reason names Wanted.Client word = label_reason (λ label. bound_reason names Wanted.Client label word) word
 word_reason names Wanted.Node word = label_reason (λ label. bound_reason names Wanted.Node label word) word
@@ -150,7 +157,7 @@ word_reason names Wanted.Tracker word = label_reason (λ label. bound_reason nam
 word_reason names Wanted.NewTracker word = label_reason (λ label. bound_reason names Wanted.NewTracker label word) word
 word_reason names Wanted.Buffer word = buffer_reason names word
 word_reason names Wanted.Strength word =
-    reason_unless (is_some (strength_named word)) (before_word (codes "strong or weak is to stand here: ") word)
+    reason_unless (is_some (strength_named word)) (before_word (codes "expected strong or weak: ") word)
 word_reason names Wanted.Children word = reason_unless (bytes_eq word (codes "children")) (no_word word)
 word_reason names Wanted.Camping word = reason_unless (is_within 0 MAX_CAMPING word) (plain (codes "camping is 0 to 64"))
 word_reason names Wanted.AtLeast word = reason_unless (is_within 0 MAX_AT_LEAST word) (plain (codes "at least is 0 to 64"))
@@ -170,7 +177,7 @@ rest_reason [] = None
 rest_reason (word ∷ more) = Some (too_many word)
 
 -- the words behind the last one are what they are to be, one by one
-abbrev pub words_reason : Names → List ℕ → List Wanted → List (List ℕ) → Option Reason
+abbrev pub words_reason : Option Names → List ℕ → List Wanted → List (List ℕ) → Option Reason
 words_reason names last [] words = rest_reason words
 words_reason names last (wanted ∷ more) [] = missing_reason last wanted
 words_reason names last (wanted ∷ more) (word ∷ rest) =
@@ -183,11 +190,16 @@ abbrev pub client_reason : List ℕ → Bool → Bool → Option Reason
 client_reason first joins is_bound =
     if joins then reason_unless (not is_bound) (bound first) else reason_unless is_bound (unbound first)
 
+-- the same, if it is known what labels stand for
+abbrev pub caller_reason : Option Names → List ℕ → Label → Bool → Option Reason
+caller_reason None first client joins = None
+caller_reason (Some names) first client joins = client_reason first joins (is_some (labelled_client names client))
+
 -- there is such a verb, the client is as it must be, and then the words behind the verb are
-abbrev pub verb_reason : Names → List ℕ → Label → List (List ℕ) → Option Reason
+abbrev pub verb_reason : Option Names → List ℕ → Label → List (List ℕ) → Option Reason
 verb_reason names first client [] = Some (missing first)
 verb_reason names first client (verb ∷ rest) = option_map_or
-    (λ wanted. reason_or (client_reason first (bytes_eq verb (codes "join")) (is_some (labelled_client names client)))
+    (λ wanted. reason_or (caller_reason names first client (bytes_eq verb (codes "join")))
     (words_reason names verb wanted rest))
     (wanted_behind verb) (Some (no_word verb))
 
@@ -198,7 +210,7 @@ view_reason (view ∷ rest) =
     reason_or (reason_unless (is_some (view_of view)) (before_word (codes "no such view: ") view)) (rest_reason rest)
 
 -- `show` and a view, or a client's label and what it asks
-abbrev pub said_reason : Names → List (List ℕ) → Option Reason
+abbrev pub said_reason : Option Names → List (List ℕ) → Option Reason
 said_reason names [] = None
 said_reason names (first ∷ rest) =
     let asked : Option Reason = label_reason (λ client. verb_reason names first client rest) first in
@@ -212,23 +224,36 @@ is_empty word = length word == 0
 abbrev pub ends_in : ℕ → List ℕ → Bool
 ends_in byte bytes = option_map_or (λ last. last == byte) (slice_get bytes (length bytes - 1)) false
 
--- why the line, which says something, is bad where labels stand for these: the first test that fails
-abbrev pub line_reason : Names → List ℕ → Option Reason
+-- the tables keep what labels stand for, if there are tables
+abbrev pub KeepsIf : Option Tables → Names → Type 0
+KeepsIf None names = ⊤
+KeepsIf (Some tables) names = Keeps tables names
+
+-- what labels stand for, if there are tables
+abbrev pub names_if : Option Tables → Names → Option Names
+names_if tables names = option_map (λ t. names) tables
+
+-- the reason is this one, by what labels stand for, if there are tables
+abbrev pub IsFor : Option Tables → (Option Names → Option Reason) → Option Reason → Type 0
+IsFor tables by reason = (names : Names) → KeepsIf tables names → reason ≡ by (names_if tables names)
+
+-- why the line, which says something, is bad where labels stand for these, or for anything: the first test that fails
+abbrev pub line_reason : Option Names → List ℕ → Option Reason
 line_reason names line =
     let said : Option Reason = said_reason names (words line) in
     let spaced : Option Reason = if list_any is_empty (words line)
-    then Some (plain (codes "one space stands between words, and none before or behind them")) else said in
+    then Some (plain (codes "put one space between words, and none elsewhere")) else said in
     let ended : Option Reason = if ends_in 13 line then Some (plain (codes "the line ends in CR")) else spaced in
     if nat_lt MOST_LINE_BYTES (length line) then Some (plain (codes "the line is longer than 256 bytes")) else ended
 
 -- the words are the reason of the line: that of the first test that fails, and one does
 abbrev pub IsReason : Names → List ℕ → List ℕ → Type 0
-IsReason names line words = (reason : Reason) × ((line_reason names line ≡ Some reason) × (words ≡ reason_text reason))
+IsReason names line words = (reason : Reason) × ((line_reason (Some names) line ≡ Some reason) × (words ≡ reason_text reason))
 
 -- what is told of a last line that has no end
 abbrev pub unended_reason : List ℕ
-unended_reason = codes "the last line has no end"
+unended_reason = codes "the last line lacks a newline"
 
 -- what is told of a line that was called bad: the reason, or these words where no test fails
 abbrev pub bad_text : Names → List ℕ → List ℕ
-bad_text names line = option_map_or reason_text (line_reason names line) (codes "no such line")
+bad_text names line = option_map_or reason_text (line_reason (Some names) line) (codes "no such line")

@@ -3,11 +3,11 @@ ghost use Rattle.std.specs.Prelude.{◌≡◌, ◌++◌, None, OnOk};
 ghost use Rattle.script_labels.specs.Names.{Names, act_in};
 ghost use Rattle.script_labels.specs.Tables.{Keeps};
 ghost use Rattle.report_io.specs.Reasons.{bad_text, unended_reason};
-ghost use Rattle.report_io.specs.Faults.{GivesReason, HasReason, IsBadLine, IsFaultOf, fault_status, fault_text, sought_name};
+ghost use Rattle.report_io.specs.Faults.{GivesReason, HasReason, IsBadLine, IsFaultOf, fault_status, fault_text, is_silent, sought_name};
 
 use crate::reasons::line_fault;
 use script_labels::{LineStop, Tables};
-use script_lines::{Part, push, push_parts};
+use script_lines::{Part, WriteFault, push, push_parts};
 use sm_names::NoMemory;
 use std::alloc::{AllocError, Global};
 
@@ -43,7 +43,7 @@ pub enum ReportFault {
     /// The script has more than `MOST_BYTES` bytes.
     TooLong,
     /// The writer failed, or took nothing.
-    WriteFault,
+    WriteFault(WriteFault),
     /// The line of this number, from 1, is the first bad one.
     BadLine {
         number: u64,
@@ -69,10 +69,20 @@ impl ReportFault {
         ensures { result ≡ fault_status self.now }
     {
         match self {
-            ReportFault::ReadFault | ReportFault::TooLong | ReportFault::WriteFault => 1,
+            ReportFault::ReadFault | ReportFault::TooLong | ReportFault::WriteFault(_) => 1,
             ReportFault::Missing { .. } => 2,
             ReportFault::BadLine { .. } => 3,
             ReportFault::HistoryFull | ReportFault::NoMemory => 4,
+        }
+    }
+
+    // Whether nothing is told of the fault: nobody reads any more what the program writes.
+    pub(crate) fn is_silent(&self) -> bool
+        ensures { result ≡ is_silent self.now }
+    {
+        match self {
+            ReportFault::WriteFault(fault) => fault.is_reader_gone,
+            _ => false,
         }
     }
 
@@ -84,7 +94,7 @@ impl ReportFault {
         match self {
             ReportFault::ReadFault => push(text, "read fault"),
             ReportFault::TooLong => push(text, "the script is longer than 16777216 bytes"),
-            ReportFault::WriteFault => push(text, "write fault"),
+            ReportFault::WriteFault(_) => push(text, "write fault"),
             ReportFault::BadLine { number, reason } => {
                 push_parts(
                     text,
@@ -146,7 +156,7 @@ fn push_reason(text: &mut Vec<u8>, tables: &Tables, line: &[u8]) -> Result<(), A
     ensures { (names : Names) → Keeps tables.now names →
         OnOk result (text.new.items ≡ text.old.items ++ bad_text names line.now) }
 {
-    match line_fault(tables, line) {
+    match line_fault(Some(tables), line) {
         Some(reason) => reason.push_text(text),
         None => push(text, "no such line"),
     }
@@ -169,7 +179,7 @@ pub fn unended(alloc: Global, number: u64) -> ReportFault
     ensures line { IsBadLine number result }
     ensures reason { HasReason unended_reason result }
 {
-    bad_line(alloc, number, "the last line has no end")
+    bad_line(alloc, number, "the last line lacks a newline")
 }
 
 impl From<AllocError> for ReportFault {

@@ -1,6 +1,7 @@
 //! The faults of reports on scripts, how a script is read, and how a report is written.
 #![tactic(auto)]
 
+mod actor_reasons;
 mod ending;
 mod fault;
 mod indents;
@@ -11,8 +12,9 @@ mod wanted;
 mod words;
 mod writing;
 
-pub use ending::end_with;
+pub use actor_reasons::bad_actor_line;
+pub use ending::{end_report, end_with};
 pub use fault::{ReportFault, Sought, bad_line, fault_of, unended};
 pub use indents::{behind_indent, is_indented, push_indented};
 pub use reading::{behind, read_script};
-pub use writing::put_out;
+pub use writing::{flush, put_out};

@@ -1,12 +1,12 @@
 //! Why a line is bad: the first of the tests of a line that fails.
-ghost use Rattle.std.specs.Prelude.{◌≡◌, ◌++◌, ◌∷◌, OnOk, codes, is_some, not, option_map};
+ghost use Rattle.std.specs.Prelude.{◌≡◌, ◌++◌, ◌∷◌, None, OnOk, codes, is_some, not, option_map};
 ghost use Rattle.std.specs.Str.{bytes_eq};
 ghost use Rattle.script_lines.specs.Lines.{strength_named};
 ghost use Rattle.script_lines.specs.Words.{words_left};
 ghost use Rattle.script_labels.specs.Names.{Names};
 ghost use Rattle.script_labels.specs.Tables.{Keeps};
 ghost use Rattle.report_io.specs.declared.wanted.Wanted.{Wanted as Word};
-ghost use Rattle.report_io.specs.Reasons.{before_word, bound, bound_reason, client_reason, is_within, label_reason, line_reason, missing_reason, no_word, plain, reason_text, reason_unless, rest_reason, said_reason, told, unbound, verb_reason, view_reason, word_reason, words_reason};
+ghost use Rattle.report_io.specs.Reasons.{IsFor, before_word, bound, bound_reason, caller_reason, client_reason, is_within, label_reason, line_reason, missing_reason, named_reason, no_word, plain, reason_text, reason_unless, rest_reason, said_reason, told, unbound, verb_reason, view_reason, word_reason, words_reason};
 
 use crate::wanted::{Wanted, wanted_words};
 use crate::words::{
@@ -95,9 +95,9 @@ fn used_label<'a>(word: &'a [u8], is_bound: bool) -> Option<Reason<'a>>
 
 // Why the line, which says something, is bad, where the labels of the lines before stand so: the first test
 // that fails. Costs a walk over the line, and a look-up of each label.
-pub(crate) fn line_fault<'a>(tables: &Tables, line: &'a [u8]) -> Option<Reason<'a>>
-    ensures { (names : Names) → Keeps tables.now names →
-        option_map told result ≡ line_reason names line.now }
+pub(crate) fn line_fault<'a>(tables: Option<&Tables>, line: &'a [u8]) -> Option<Reason<'a>>
+    ensures { IsFor (option_map (λ t. t.now) tables.entry) (λ known. line_reason known line.now)
+        (option_map told result) }
 {
     if MOST_LINE_BYTES < line.len() {
         return Some(alone("the line is longer than 256 bytes"));
@@ -106,16 +106,27 @@ pub(crate) fn line_fault<'a>(tables: &Tables, line: &'a [u8]) -> Option<Reason<'
         return Some(alone("the line ends in CR"));
     }
     if has_empty_word(line) {
-        return Some(alone("one space stands between words, and none before or behind them"));
+        return Some(alone("put one space between words, and none elsewhere"));
     }
     let (first, rest) = cut(line);
     said_fault(tables, first, rest)
 }
 
+// Why the line, which says something, is bad whatever labels stand for.
+pub(crate) fn form_fault<'a>(line: &'a [u8]) -> Option<Reason<'a>>
+    ensures { option_map told result ≡ line_reason None line.now }
+{
+    line_fault(None, line)
+}
+
 // `show` and a view, or a client's label and what it asks.
-fn said_fault<'a>(tables: &Tables, first: &'a [u8], rest: Option<&'a [u8]>) -> Option<Reason<'a>>
-    ensures { (names : Names) → Keeps tables.now names →
-        option_map told result ≡ said_reason names (first.now ∷ words_left rest.entry) }
+fn said_fault<'a>(
+    tables: Option<&Tables>,
+    first: &'a [u8],
+    rest: Option<&'a [u8]>,
+) -> Option<Reason<'a>>
+    ensures { IsFor (option_map (λ t. t.now) tables.entry) (λ known. said_reason known (first.now ∷ words_left rest.entry))
+        (option_map told result) }
 {
     if is_word(first, "show") {
         return view_fault(rest);
@@ -131,7 +142,7 @@ fn view_fault<'a>(rest: Option<&'a [u8]>) -> Option<Reason<'a>>
     ensures { option_map told result ≡ view_reason (words_left rest.entry) }
 {
     let Some((view, rest)) = next_word(rest) else {
-        return Some(with_word("a word is missing behind ", b"show"));
+        return Some(with_word("a word is missing after ", b"show"));
     };
     if !is_view(view) {
         return Some(with_word("no such view: ", view));
@@ -151,21 +162,20 @@ fn rest_fault<'a>(rest: Option<&'a [u8]>) -> Option<Reason<'a>>
 
 // There is such a verb.
 fn verb_fault<'a>(
-    tables: &Tables,
+    tables: Option<&Tables>,
     first: &'a [u8],
     client: Label,
     rest: Option<&'a [u8]>,
 ) -> Option<Reason<'a>>
-    ensures { (names : Names) → Keeps tables.now names →
-        option_map told result ≡ verb_reason names first.now client (words_left rest.entry) }
+    ensures { IsFor (option_map (λ t. t.now) tables.entry) (λ known. verb_reason known first.now client (words_left rest.entry))
+        (option_map told result) }
 {
     let Some((verb, rest)) = next_word(rest) else {
-        return Some(with_word("a word is missing behind ", first));
+        return Some(with_word("a word is missing after ", first));
     };
     match wanted_words(verb) {
         Some(wanted) => {
-            let is_bound = tables.client(client).is_some();
-            let fault = client_fault(first, is_word(verb, "join"), is_bound);
+            let fault = caller_fault(tables, first, client, is_word(verb, "join"));
             if fault.is_some() {
                 return fault;
             }
@@ -186,15 +196,32 @@ fn client_fault<'a>(first: &'a [u8], joins: bool, is_bound: bool) -> Option<Reas
     }
 }
 
+// The same of the caller, if there are tables.
+fn caller_fault<'a>(
+    tables: Option<&Tables>,
+    first: &'a [u8],
+    client: Label,
+    joins: bool,
+) -> Option<Reason<'a>>
+    ensures { IsFor (option_map (λ t. t.now) tables.entry) (λ known. caller_reason known first.now client joins)
+        (option_map told result) }
+{
+    match tables {
+        Some(tables) => client_fault(first, joins, tables.client(client).is_some()),
+        None => None,
+    }
+}
+
 // The words behind the last one are what they are to be, one by one.
 fn words_fault<'a>(
-    tables: &Tables,
+    tables: Option<&Tables>,
     verb: &'a [u8],
     wanted: &[Wanted],
     rest: Option<&'a [u8]>,
 ) -> Option<Reason<'a>>
-    ensures { (names : Names) → Keeps tables.now names →
-        option_map told result ≡ words_reason names verb.now wanted.now (words_left rest.entry) }
+    ensures { IsFor (option_map (λ t. t.now) tables.entry) (λ known.
+        words_reason known verb.now wanted.now (words_left rest.entry))
+        (option_map told result) }
 {
     let mut last = verb;
     let mut left = rest;
@@ -220,14 +247,14 @@ fn missing_fault<'a>(last: &'a [u8], wanted: Wanted) -> Option<Reason<'a>>
 {
     match wanted {
         Wanted::End | Wanted::Children => None,
-        _ => Some(with_word("a word is missing behind ", last)),
+        _ => Some(with_word("a word is missing after ", last)),
     }
 }
 
 // The word is what it is to be.
-fn word_fault<'a>(tables: &Tables, wanted: Wanted, word: &'a [u8]) -> Option<Reason<'a>>
-    ensures { (names : Names) → Keeps tables.now names →
-        option_map told result ≡ word_reason names wanted word.now }
+fn word_fault<'a>(tables: Option<&Tables>, wanted: Wanted, word: &'a [u8]) -> Option<Reason<'a>>
+    ensures { IsFor (option_map (λ t. t.now) tables.entry) (λ known. word_reason known wanted word.now)
+        (option_map told result) }
 {
     match wanted {
         Wanted::End => Some(with_word("a word too many: ", word)),
@@ -247,9 +274,9 @@ fn word_fault<'a>(tables: &Tables, wanted: Wanted, word: &'a [u8]) -> Option<Rea
 // The word is `strong` or `weak`.
 fn strength_fault<'a>(word: &'a [u8]) -> Option<Reason<'a>>
     ensures { option_map told result ≡ reason_unless (is_some (strength_named word.now))
-        (before_word (codes "strong or weak is to stand here: ") word.now) }
+        (before_word (codes "expected strong or weak: ") word.now) }
 {
-    let reason = with_word("strong or weak is to stand here: ", word);
+    let reason = with_word("expected strong or weak: ", word);
     unless(is_strength(word), reason)
 }
 
@@ -277,14 +304,30 @@ fn number_fault<'a>(
 }
 
 // The word is a label, and the label is bound, or is not, as it is to be.
-fn name_fault<'a>(tables: &Tables, wanted: Wanted, word: &'a [u8]) -> Option<Reason<'a>>
-    ensures { (names : Names) → Keeps tables.now names →
-        option_map told result
-        ≡ label_reason (λ label. bound_reason names wanted label word.now) word.now }
+fn name_fault<'a>(tables: Option<&Tables>, wanted: Wanted, word: &'a [u8]) -> Option<Reason<'a>>
+    ensures { IsFor (option_map (λ t. t.now) tables.entry) (λ known.
+        label_reason (λ label. bound_reason known wanted label word.now) word.now)
+        (option_map told result) }
 {
     match Label::new(word) {
-        Some(label) => label_fault(tables, wanted, label, word),
+        Some(label) => bound_fault(tables, wanted, label, word),
         None => Some(with_word("no label: ", word)),
+    }
+}
+
+// The label is bound, or is not, as it is to be, if there are tables.
+fn bound_fault<'a>(
+    tables: Option<&Tables>,
+    wanted: Wanted,
+    label: Label,
+    word: &'a [u8],
+) -> Option<Reason<'a>>
+    ensures { IsFor (option_map (λ t. t.now) tables.entry) (λ known. bound_reason known wanted label word.now)
+        (option_map told result) }
+{
+    match tables {
+        Some(tables) => label_fault(tables, wanted, label, word),
+        None => None,
     }
 }
 
@@ -296,7 +339,7 @@ fn label_fault<'a>(
     word: &'a [u8],
 ) -> Option<Reason<'a>>
     ensures { (names : Names) → Keeps tables.now names →
-        option_map told result ≡ bound_reason names wanted label word.now }
+        option_map told result ≡ named_reason names wanted label word.now }
 {
     match wanted {
         Wanted::Client => used_label(word, tables.client(label).is_some()),
@@ -309,12 +352,12 @@ fn label_fault<'a>(
 }
 
 // The word is the name of a buffer, and its label stands for a node.
-fn buffer_fault<'a>(tables: &Tables, word: &'a [u8]) -> Option<Reason<'a>>
-    ensures { (names : Names) → Keeps tables.now names →
-        option_map told result ≡ word_reason names Word.Buffer word.now }
+fn buffer_fault<'a>(tables: Option<&Tables>, word: &'a [u8]) -> Option<Reason<'a>>
+    ensures { IsFor (option_map (λ t. t.now) tables.entry) (λ known. word_reason known Word.Buffer word.now)
+        (option_map told result) }
 {
     match BufferLabel::new(word) {
-        Some(buffer) => { used_label(part_before_point(word), tables.node(buffer.node).is_some()) }
+        Some(buffer) => bound_fault(tables, Wanted::Node, buffer.node, part_before_point(word)),
         None => Some(with_word("no buffer: ", word)),
     }
 }

@@ -52,7 +52,7 @@ module _ (setting : Setting) (until : Until) (scroll : Scroll) (lines all more :
   halted-more : (fault : ReportFault) → PlayHalts setting until scroll lines fault → PlayHalts setting until scroll all fault
   halted-more ReportFault.ReadFault stop = absurd stop
   halted-more ReportFault.TooLong stop = absurd stop
-  halted-more ReportFault.WriteFault stop = absurd stop
+  halted-more (ReportFault.WriteFault failed) stop = absurd stop
   halted-more (ReportFault.Missing sought n) stop = absurd stop
   halted-more (ReportFault.BadLine n reason) stop = halted-on (ReportFault.BadLine n reason) stop
   halted-more ReportFault.HistoryFull stop = halted-on ReportFault.HistoryFull stop
@@ -63,7 +63,7 @@ halted-lines : (setting : Setting) (until : Until) (scroll : Scroll) (script : L
     PlayHalts setting until scroll (whole_lines script) fault → PlayLinesHalt setting until scroll script fault
 halted-lines setting until scroll script ReportFault.ReadFault stop = stop
 halted-lines setting until scroll script ReportFault.TooLong stop = stop
-halted-lines setting until scroll script ReportFault.WriteFault stop = stop
+halted-lines setting until scroll script (ReportFault.WriteFault failed) stop = stop
 halted-lines setting until scroll script (ReportFault.Missing sought n) stop = stop
 halted-lines setting until scroll script (ReportFault.BadLine n reason) stop = inl stop
 halted-lines setting until scroll script ReportFault.HistoryFull stop = stop
@@ -77,7 +77,7 @@ halted-at-end : (setting : Setting) (until : Until) (scroll : Scroll) (script : 
     PlayLinesHalt setting until scroll script fault
 halted-at-end setting until scroll script number ReportFault.ReadFault far ahead some numbered is told = absurd is
 halted-at-end setting until scroll script number ReportFault.TooLong far ahead some numbered is told = absurd is
-halted-at-end setting until scroll script number ReportFault.WriteFault far ahead some numbered is told = absurd is
+halted-at-end setting until scroll script number (ReportFault.WriteFault failed) far ahead some numbered is told = absurd is
 halted-at-end setting until scroll script number ReportFault.HistoryFull far ahead some numbered is told = absurd is
 halted-at-end setting until scroll script number (ReportFault.Missing sought n) far ahead some numbered is told = absurd is
 halted-at-end setting until scroll script number (ReportFault.BadLine n reason) far ahead some numbered is told =

@@ -8,7 +8,6 @@ use Rattle.script_lines.specs.declared.TheConstants.{MOST_BYTES}
 use Rattle.script_lines.specs.Pieces.{whole_lines}
 use Rattle.report_io.specs.declared.fault.ReportFault.{ReportFault}
 use Rattle.report_io.specs.declared.fault.Sought.{Sought}
-use Rattle.report_io.specs.Faults.{IsReported}
 use Rattle.report_io.specs.Streams.{IsUnread}
 use Rattle.script_labels.specs.Names.{Names}
 use Rattle.sm_script.specs.Scenes.{Setting}
@@ -17,8 +16,8 @@ use Rattle.event_texts.specs.Called.{Calls}
 use Rattle.script_draw.specs.declared.draw.Format.{Format}
 use Rattle.script_draw.specs.declared.draw.Scroll.{Scroll}
 use Rattle.script_draw.specs.declared.draw.View.{View}
-use Rattle.script_draw.specs.Draws.{AreAll, Draws, EndsDrawn, PictureBefore, IsMissing, IsPicture, IsPictured}
-use Rattle.script_draw.specs.Draws.{IsUnplayed, IsUnwritten, LinesDrawn, PictureLinesStop, Pictures, drawing_status}
+use Rattle.script_draw.specs.Draws.{AreAll, Draws, PictureBefore, IsMissing, IsPicture, IsPictured}
+use Rattle.script_draw.specs.Draws.{IsUnplayed, IsUnwritten, LinesDrawn, PictureLinesStop, Pictures}
 use Rattle.script_draw.specs.declared.draw.Until.{Until}
 use Rattle.script_draw.specs.Played.{ComesBefore, IsAhead, LeadsToScene, asked_number, found, is_reached, wanted}
 use Rattle.script_draw.specs.Reached.{PlayEnds, PlayHalted, IsPlayedOn, PlayLinesHalt, Reached, stops_at_line}
@@ -66,7 +65,7 @@ module _ (setting : Setting) (view : View) (scroll : Scroll) (old new : Option (
     cut-off (ReportFault.BadLine n reason) stop = absurd stop
     cut-off ReportFault.HistoryFull stop = absurd stop
     cut-off (ReportFault.Missing sought n) stop = absurd stop
-    cut-off ReportFault.WriteFault stop = record {
+    cut-off (ReportFault.WriteFault failed) stop = record {
       lines = lines;
       after = after;
       split = split;
@@ -124,7 +123,7 @@ module _ (setting : Setting) (view : View) (scroll : Scroll) (old new : Option (
       PictureLinesStop setting view old new script fault
   stop-left ReportFault.ReadFault test stop left = absurd stop
   stop-left ReportFault.TooLong test stop left = absurd stop
-  stop-left ReportFault.WriteFault test stop left = absurd stop
+  stop-left (ReportFault.WriteFault failed) test stop left = absurd stop
   stop-left (ReportFault.Missing sought n) test stop left = absurd stop
   stop-left (ReportFault.BadLine n reason) test (inl stop) left = inl (halted-left (ReportFault.BadLine n reason) stop left)
   stop-left (ReportFault.BadLine n reason) test (inr stop) left = inr (record {
@@ -153,7 +152,7 @@ module _ (setting : Setting) (view : View) (scroll : Scroll) (old new : Option (
       IsRefused view.format scroll old new other → PictureLinesStop setting view old new script other
   none-refused ReportFault.ReadFault other test stop err = absurd stop
   none-refused ReportFault.TooLong other test stop err = absurd stop
-  none-refused ReportFault.WriteFault other test stop err = absurd stop
+  none-refused (ReportFault.WriteFault failed) other test stop err = absurd stop
   none-refused (ReportFault.Missing sought n) other test stop err = absurd stop
   none-refused (ReportFault.BadLine n reason) other test (inl stop) err =
       cut-off stop.before (stop.line ∷ stop.after) stop.split stop.reached other (err setting view.until stop.before stop.reached)
@@ -182,7 +181,7 @@ module _ (setting : Setting) (view : View) (scroll : Scroll) (old : Option (List
       PictureLinesStop setting view old old script fault
   no-line ReportFault.ReadFault test stop = absurd stop
   no-line ReportFault.TooLong test stop = absurd stop
-  no-line ReportFault.WriteFault test stop = absurd stop
+  no-line (ReportFault.WriteFault failed) test stop = absurd stop
   no-line (ReportFault.Missing sought n) test stop = absurd stop
   no-line (ReportFault.BadLine n reason) test stop = absurd (cc)
   no-line ReportFault.HistoryFull test stop = absurd (cc)
@@ -259,7 +258,7 @@ module _ (setting : Setting) (view : View) (left_before left old : Option (List 
   draws-unread ReportFault.TooLong came =
       record { script = came.bytes; taken = came.taken; outcome = (came.beyond, Keeps-refl old) }
   draws-unread ReportFault.NoMemory came = record { script = came.bytes; taken = came.taken; outcome = Keeps-refl old }
-  draws-unread ReportFault.WriteFault came = absurd came
+  draws-unread (ReportFault.WriteFault failed) came = absurd came
   draws-unread (ReportFault.BadLine n reason) came = absurd came
   draws-unread ReportFault.HistoryFull came = absurd came
   draws-unread (ReportFault.Missing sought n) came = absurd came
@@ -272,16 +271,8 @@ module _ (setting : Setting) (view : View) (left_before left old : Option (List 
     draws-told (Ok done) drawn = record { script = script; taken = taken; outcome = (end, within, drawn) }
     draws-told (Err ReportFault.ReadFault) drawn = absurd drawn
     draws-told (Err ReportFault.TooLong) drawn = absurd drawn
-    draws-told (Err ReportFault.WriteFault) drawn = record { script = script; taken = taken; outcome = (end, drawn) }
+    draws-told (Err (ReportFault.WriteFault failed)) drawn = record { script = script; taken = taken; outcome = (end, drawn) }
     draws-told (Err (ReportFault.BadLine n reason)) drawn = record { script = script; taken = taken; outcome = (end, drawn) }
     draws-told (Err ReportFault.HistoryFull) drawn = record { script = script; taken = taken; outcome = (end, drawn) }
     draws-told (Err (ReportFault.Missing sought n)) drawn = record { script = script; taken = taken; outcome = (end, drawn) }
     draws-told (Err ReportFault.NoMemory) drawn = record { script = script; taken = taken; outcome = drawn }
-
--- a status that tells the outcome, and a line that tells its fault
-pub ends_drawn : (setting : Setting) (view : View) (left_before left old new told_before told : Option (List ℕ))
-    (outcome : Result (Unit {0}) ReportFault) (status : ℕ) → Draws setting view left_before left old new outcome →
-    status ≡ drawing_status outcome → IsReported told_before told outcome →
-    EndsDrawn setting view left_before left old new told_before told status
-ends_drawn setting view left_before left old new told_before told outcome status draws is reported =
-    record { outcome = outcome; draws = draws; status_is = is; reported = reported }

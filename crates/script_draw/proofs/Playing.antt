@@ -277,7 +277,7 @@ module _ (setting : Setting) (until : Until) (old new : Scroll) (lines : List (L
       PlayHalts setting until new (lines ++ line ∷ []) fault
   far-stop ReportFault.ReadFault is told = absurd is
   far-stop ReportFault.TooLong is told = absurd is
-  far-stop ReportFault.WriteFault is told = absurd is
+  far-stop (ReportFault.WriteFault failed) is told = absurd is
   far-stop (ReportFault.Missing sought n) is told = absurd is
   far-stop (ReportFault.BadLine n reason) is told =
       let held = subst (IsHeldUp setting far.scene line) is.0 why in

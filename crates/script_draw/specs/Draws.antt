@@ -12,7 +12,7 @@ use Rattle.script_lines.specs.Pieces.{whole_lines, last_part}
 use Rattle.script_lines.specs.Written.{WritesPart}
 use Rattle.report_io.specs.declared.fault.ReportFault.{ReportFault}
 use Rattle.report_io.specs.declared.fault.Sought.{Sought}
-use Rattle.report_io.specs.Faults.{IsReported, fault_status}
+use Rattle.report_io.specs.Faults.{EndsReport}
 use Rattle.report_io.specs.IndentedLines.{is_indented}
 use Rattle.report_io.specs.Reasons.{IsReason, unended_reason}
 use Rattle.script_labels.specs.Names.{Names, act_in}
@@ -89,7 +89,7 @@ pub record IsPicturedInPart (format : Format) (setting : Setting) (scene : Scene
 
 -- why no picture was written
 abbrev pub IsUnwritten : Format → Setting → Scene → List ℕ → Option (List ℕ) → Option (List ℕ) → ReportFault → Type 0
-IsUnwritten format setting scene last old new ReportFault.WriteFault = IsPicturedInPart format setting scene last old new
+IsUnwritten format setting scene last old new (ReportFault.WriteFault failed) = IsPicturedInPart format setting scene last old new
 IsUnwritten format setting scene last old new ReportFault.NoMemory = Keeps old new
 IsUnwritten format setting scene last old new _ = ⊥
 
@@ -175,7 +175,7 @@ pub record IsMissing (setting : Setting) (view : View) (old new : Option (List �
 
 -- why no picture was drawn, or one of some first lines
 abbrev pub PictureLinesStop : Setting → View → Option (List ℕ) → Option (List ℕ) → List ℕ → ReportFault → Type 0
-PictureLinesStop setting view old new script ReportFault.WriteFault = PictureCutOff setting view old new script
+PictureLinesStop setting view old new script (ReportFault.WriteFault failed) = PictureCutOff setting view old new script
 PictureLinesStop setting view old new script (ReportFault.BadLine n reason) =
     IsUnplayed setting view old new script (ReportFault.BadLine n reason)
     ⊎ PictureUnended setting view old new script n reason.items
@@ -206,15 +206,8 @@ pub record Draws (setting : Setting) (view : View) (left_before left old new : O
       (λ _. IsAtEnd left × (length script ≤ MOST_BYTES) × IsDrawn setting view old new script)
       (DrawStops setting view left old new script)
 
--- the status that the program ends with: 0 where a picture was drawn
-abbrev pub drawing_status : Result (Unit {0}) ReportFault → ℕ
-drawing_status (Ok done) = 0
-drawing_status (Err fault) = fault_status fault
-
 -- a script was drawn, with this outcome: the status is its status, and its fault, if there is one, was told
-pub record EndsDrawn (setting : Setting) (view : View) (left_before left old new told_before told : Option (List ℕ)) (status : ℕ) : Type 0
-  where
-    pub outcome : Result (Unit {0}) ReportFault
-    pub draws : Draws setting view left_before left old new outcome
-    pub status_is : status ≡ drawing_status outcome
-    pub reported : IsReported told_before told outcome
+abbrev pub EndsDrawn : Setting → View → Option (List ℕ) → Option (List ℕ) → Option (List ℕ) → Option (List ℕ) →
+    Option (List ℕ) → Option (List ℕ) → ℕ → Type 0
+EndsDrawn setting view left_before left old new told_before told status =
+    EndsReport (Draws setting view left_before left old new) told_before told status

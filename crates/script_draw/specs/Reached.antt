@@ -131,6 +131,6 @@ stops_at_line (ReportFault.BadLine number reason) = true
 stops_at_line ReportFault.HistoryFull = true
 stops_at_line ReportFault.ReadFault = false
 stops_at_line ReportFault.TooLong = false
-stops_at_line ReportFault.WriteFault = false
+stops_at_line (ReportFault.WriteFault failed) = false
 stops_at_line ReportFault.NoMemory = false
 stops_at_line (ReportFault.Missing sought number) = false

@@ -184,7 +184,7 @@ fn is_line_fault(fault: &ReportFault) -> bool
         ReportFault::BadLine { .. } | ReportFault::HistoryFull => true,
         ReportFault::ReadFault
         | ReportFault::TooLong
-        | ReportFault::WriteFault
+        | ReportFault::WriteFault(_)
         | ReportFault::NoMemory
         | ReportFault::Missing { .. } => false,
     }

@@ -4,7 +4,7 @@ ghost use Rattle.std.specs.Process.{exit_status};
 ghost use Rattle.script_draw.specs.Draws.{EndsDrawn};
 
 use crate::draw::{DrawJob, draw_script};
-use report_io::end_with;
+use report_io::end_report;
 use sm_names::{Limits, MAX_COLLECTIONS, MAX_EVENTS, MAX_HANDLES, MAX_NODES, MAX_TRACKERS};
 use std::alloc::Global;
 use std::io::{Read, Write};
@@ -37,8 +37,6 @@ pub fn draw_to_exit<R: Read, W: Write, F: Write>(
         (W.contents writer.old) (W.contents writer.new)
         (F.contents faults.old) (F.contents faults.new) (exit_status result) }
 {
-    match draw_script(alloc, seed, reader, writer, job, Limits::full()) {
-        Ok(()) => ExitCode::SUCCESS,
-        Err(fault) => end_with(alloc, faults, &fault),
-    }
+    let ended = draw_script(alloc, seed, reader, writer, job, Limits::full());
+    end_report(alloc, faults, &ended)
 }

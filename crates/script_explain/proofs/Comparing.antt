@@ -226,7 +226,7 @@ module _ (setting : Setting) (c : Comparison) (lines : List (List ℕ)) (far : C
       number ≡ length lines + 1 → CheckHalted setting (lines ++ line ∷ []) fault
   far-unplayed line stop number ReportFault.ReadFault whole why is told numbered = absurd is
   far-unplayed line stop number ReportFault.TooLong whole why is told numbered = absurd is
-  far-unplayed line stop number ReportFault.WriteFault whole why is told numbered = absurd is
+  far-unplayed line stop number (ReportFault.WriteFault failed) whole why is told numbered = absurd is
   far-unplayed line stop number (ReportFault.Missing sought n) whole why is told numbered = absurd is
   far-unplayed line stop number (ReportFault.BadLine n reason) whole why is told numbered = record {
     before = lines;
@@ -264,7 +264,7 @@ module _ (setting : Setting) (c : Comparison) (lines : List (List ℕ)) (far : C
       IsBadLine number fault → HasReason early_reason fault → number ≡ length lines + 1 → CheckHalted setting (lines ++ line ∷ []) fault
   far-unasked line reply number ReportFault.ReadFault records none is told numbered = absurd is
   far-unasked line reply number ReportFault.TooLong records none is told numbered = absurd is
-  far-unasked line reply number ReportFault.WriteFault records none is told numbered = absurd is
+  far-unasked line reply number (ReportFault.WriteFault failed) records none is told numbered = absurd is
   far-unasked line reply number ReportFault.HistoryFull records none is told numbered = absurd is
   far-unasked line reply number (ReportFault.Missing sought n) records none is told numbered = absurd is
   far-unasked line reply number (ReportFault.BadLine n reason) records none is told numbered = record {
@@ -295,7 +295,7 @@ module _ (setting : Setting) (lines all more : List (List ℕ)) (is : all ≡ li
   pub unchecked-more : (fault : ReportFault) → CheckHalted setting lines fault → CheckHalted setting all fault
   unchecked-more ReportFault.ReadFault stop = stop
   unchecked-more ReportFault.TooLong stop = stop
-  unchecked-more ReportFault.WriteFault stop = stop
+  unchecked-more (ReportFault.WriteFault failed) stop = stop
   unchecked-more (ReportFault.Missing sought n) stop = stop
   unchecked-more (ReportFault.BadLine n reason) stop = unchecked-on (ReportFault.BadLine n reason) stop
   unchecked-more ReportFault.HistoryFull stop = unchecked-on ReportFault.HistoryFull stop
@@ -322,7 +322,7 @@ pub unchecked-lines : (setting : Setting) (script : List ℕ) (fault : ReportFau
     CheckHalted setting (whole_lines script) fault → ComparisonLinesStop setting script fault
 unchecked-lines setting script ReportFault.ReadFault stop = stop
 unchecked-lines setting script ReportFault.TooLong stop = stop
-unchecked-lines setting script ReportFault.WriteFault stop = stop
+unchecked-lines setting script (ReportFault.WriteFault failed) stop = stop
 unchecked-lines setting script (ReportFault.Missing sought n) stop = stop
 unchecked-lines setting script (ReportFault.BadLine n reason) stop = inl stop
 unchecked-lines setting script ReportFault.HistoryFull stop = stop
@@ -334,7 +334,7 @@ pub unchecked-at-end : (setting : Setting) (c : Comparison) (script : List ℕ) 
     IsBadLine number fault → HasReason unended_reason fault → ComparisonLinesStop setting script fault
 unchecked-at-end setting c script number ReportFault.ReadFault far some numbered is told = absurd is
 unchecked-at-end setting c script number ReportFault.TooLong far some numbered is told = absurd is
-unchecked-at-end setting c script number ReportFault.WriteFault far some numbered is told = absurd is
+unchecked-at-end setting c script number (ReportFault.WriteFault failed) far some numbered is told = absurd is
 unchecked-at-end setting c script number ReportFault.HistoryFull far some numbered is told = absurd is
 unchecked-at-end setting c script number (ReportFault.Missing sought n) far some numbered is told = absurd is
 unchecked-at-end setting c script number (ReportFault.BadLine n reason) far some numbered is told = inr (record {
@@ -351,7 +351,7 @@ pub stopped-same : (setting : Setting) (old : Option (List ℕ)) (script : List 
     ComparisonLinesStop setting script fault → ComparisonStopped setting old old script fault
 stopped-same setting old script ReportFault.ReadFault stop = absurd stop
 stopped-same setting old script ReportFault.TooLong stop = absurd stop
-stopped-same setting old script ReportFault.WriteFault stop = absurd stop
+stopped-same setting old script (ReportFault.WriteFault failed) stop = absurd stop
 stopped-same setting old script (ReportFault.Missing sought n) stop = absurd stop
 stopped-same setting old script (ReportFault.BadLine n reason) stop = (stop, Keeps-refl old)
 stopped-same setting old script ReportFault.HistoryFull stop = (stop, Keeps-refl old)
@@ -371,7 +371,7 @@ module _ (setting : Setting) (left_before left old : Option (List ℕ)) where
       record { script = came.bytes; taken = came.taken; outcome = (came.beyond, Keeps-refl old) }
   checks-unread ReportFault.NoMemory came =
       record { script = came.bytes; taken = came.taken; outcome = Keeps-refl old }
-  checks-unread ReportFault.WriteFault came = absurd came
+  checks-unread (ReportFault.WriteFault failed) came = absurd came
   checks-unread (ReportFault.BadLine n reason) came = absurd came
   checks-unread ReportFault.HistoryFull came = absurd came
   checks-unread (ReportFault.Missing sought n) came = absurd came
@@ -384,7 +384,7 @@ module _ (setting : Setting) (left_before left old : Option (List ℕ)) where
     checks-stopped ReportFault.ReadFault stop = absurd stop.0
     checks-stopped ReportFault.TooLong stop = absurd stop.0
     checks-stopped (ReportFault.Missing sought n) stop = absurd stop.0
-    checks-stopped ReportFault.WriteFault stop = record { script = script; taken = taken; outcome = (end, stop) }
+    checks-stopped (ReportFault.WriteFault failed) stop = record { script = script; taken = taken; outcome = (end, stop) }
     checks-stopped (ReportFault.BadLine n reason) stop = record { script = script; taken = taken; outcome = (end, stop) }
     checks-stopped ReportFault.HistoryFull stop = record { script = script; taken = taken; outcome = (end, stop) }
     checks-stopped ReportFault.NoMemory stop = record { script = script; taken = taken; outcome = stop.1 }

@@ -8,14 +8,14 @@ use Rattle.script_lines.specs.declared.TheConstants.{MOST_BYTES}
 use Rattle.script_lines.specs.Pieces.{whole_lines, last_part}
 use Rattle.script_lines.specs.Written.{WritesPart}
 use Rattle.report_io.specs.declared.fault.ReportFault.{ReportFault}
-use Rattle.report_io.specs.Faults.{HasReason, IsBadLine, IsReported}
+use Rattle.report_io.specs.Faults.{HasReason, IsBadLine}
 use Rattle.report_io.specs.Streams.{IsUnread}
 use Rattle.sm_script.specs.Scenes.{Rests, Setting, first_scene}
 use Rattle.event_texts.specs.Deeds.{no_lines}
 use Rattle.script_explain.specs.declared.explain.Scope.{Scope}
 use Rattle.script_explain.specs.declared.seen.Seen.{Seen}
-use Rattle.script_explain.specs.Explanations.{EndsExplained, Explains, ExplanationCutOff, IsExplained, IsUnexplained}
-use Rattle.script_explain.specs.Explanations.{ExplanationLinesStop, LinesTold, WholeTold, explaining_status}
+use Rattle.script_explain.specs.Explanations.{Explains, ExplanationCutOff, IsExplained, IsUnexplained}
+use Rattle.script_explain.specs.Explanations.{ExplanationLinesStop, LinesTold, WholeTold}
 use Rattle.script_explain.specs.Progress.{Halted, IsHalted, LinesHalted, ExplainedSoFar}
 use Rattle.script_explain.specs.ExplainedLines.{Begins}
 use Rattle.script_explain.proofs.Telling.{far-pending, pending-cut, pending-told}
@@ -81,7 +81,7 @@ module _ (setting : Setting) (only : Bool) (old new : Option (List ℕ)) (pendin
   halted-more ReportFault.ReadFault stop = absurd stop
   halted-more ReportFault.TooLong stop = absurd stop
   halted-more (ReportFault.Missing sought n) stop = absurd stop
-  halted-more ReportFault.WriteFault stop = (stop.0, cut-more setting only old new lines all more is stop.1)
+  halted-more (ReportFault.WriteFault failed) stop = (stop.0, cut-more setting only old new lines all more is stop.1)
   halted-more (ReportFault.BadLine n reason) stop = halted-on (ReportFault.BadLine n reason) stop
   halted-more ReportFault.HistoryFull stop = halted-on ReportFault.HistoryFull stop
   halted-more ReportFault.NoMemory stop = record {
@@ -97,7 +97,7 @@ pub halted-lines : (setting : Setting) (only : Bool) (old new : Option (List ℕ
 halted-lines setting only old new pending script ReportFault.ReadFault stop = stop
 halted-lines setting only old new pending script ReportFault.TooLong stop = stop
 halted-lines setting only old new pending script (ReportFault.Missing sought n) stop = stop
-halted-lines setting only old new pending script ReportFault.WriteFault stop = stop
+halted-lines setting only old new pending script (ReportFault.WriteFault failed) stop = stop
 halted-lines setting only old new pending script (ReportFault.BadLine n reason) stop = inl stop
 halted-lines setting only old new pending script ReportFault.HistoryFull stop = stop
 halted-lines setting only old new pending script ReportFault.NoMemory stop = stop
@@ -109,7 +109,7 @@ pub halted-at-end : (setting : Setting) (only : Bool) (seen : Seen) (old new : O
     LinesHalted setting only old new pending script fault
 halted-at-end setting only seen old new pending script number ReportFault.ReadFault far some numbered is told = absurd is
 halted-at-end setting only seen old new pending script number ReportFault.TooLong far some numbered is told = absurd is
-halted-at-end setting only seen old new pending script number ReportFault.WriteFault far some numbered is told = absurd is
+halted-at-end setting only seen old new pending script number (ReportFault.WriteFault failed) far some numbered is told = absurd is
 halted-at-end setting only seen old new pending script number ReportFault.HistoryFull far some numbered is told = absurd is
 halted-at-end setting only seen old new pending script number (ReportFault.Missing sought n) far some numbered is told = absurd is
 halted-at-end setting only seen old new pending script number (ReportFault.BadLine n reason) far some numbered is told = inr (record {
@@ -145,7 +145,7 @@ module _ (setting : Setting) (only : Bool) (old mid new : Option (List ℕ)) (pe
   lines-stop ReportFault.ReadFault stop out = absurd stop
   lines-stop ReportFault.TooLong stop out = absurd stop
   lines-stop (ReportFault.Missing sought n) stop out = absurd stop
-  lines-stop ReportFault.WriteFault stop out =
+  lines-stop (ReportFault.WriteFault failed) stop out =
       cut-same setting only old mid new (whole_lines script) stop.1 (subst (Appends mid new) stop.0 out)
   lines-stop (ReportFault.BadLine n reason) (inl stop) out = inl (stop-told (ReportFault.BadLine n reason) stop out)
   lines-stop (ReportFault.BadLine n reason) (inr stop) out = inr (record {
@@ -174,7 +174,7 @@ module _ (setting : Setting) (only : Bool) (old mid new : Option (List ℕ)) (pe
   lines-cut ReportFault.ReadFault stop part = absurd stop
   lines-cut ReportFault.TooLong stop part = absurd stop
   lines-cut (ReportFault.Missing sought n) stop part = absurd stop
-  lines-cut ReportFault.WriteFault stop part =
+  lines-cut (ReportFault.WriteFault failed) stop part =
       cut-same setting only old mid new (whole_lines script) stop.1 (part-none mid new pending stop.0 part)
   lines-cut (ReportFault.BadLine n reason) (inl stop) part = stop-cut (ReportFault.BadLine n reason) stop part
   lines-cut (ReportFault.BadLine n reason) (inr stop) part =
@@ -245,7 +245,7 @@ module _ (setting : Setting) (scope : Scope) (left_before left old : Option (Lis
   explains-unread ReportFault.TooLong came =
       record { script = came.bytes; taken = came.taken; outcome = (came.beyond, Keeps-refl old) }
   explains-unread ReportFault.NoMemory came = explains-refused came.bytes ReportFault.NoMemory refl came.taken
-  explains-unread ReportFault.WriteFault came = absurd came
+  explains-unread (ReportFault.WriteFault failed) came = absurd came
   explains-unread (ReportFault.BadLine n reason) came = absurd came
   explains-unread ReportFault.HistoryFull came = absurd came
   explains-unread (ReportFault.Missing sought n) came = absurd came
@@ -259,15 +259,7 @@ module _ (setting : Setting) (scope : Scope) (left_before left old : Option (Lis
     explains-told (Err ReportFault.ReadFault) told = absurd told
     explains-told (Err ReportFault.TooLong) told = absurd told
     explains-told (Err (ReportFault.Missing sought n)) told = absurd told
-    explains-told (Err ReportFault.WriteFault) told = record { script = script; taken = taken; outcome = (end, told) }
+    explains-told (Err (ReportFault.WriteFault failed)) told = record { script = script; taken = taken; outcome = (end, told) }
     explains-told (Err (ReportFault.BadLine n reason)) told = record { script = script; taken = taken; outcome = (end, told) }
     explains-told (Err ReportFault.HistoryFull) told = record { script = script; taken = taken; outcome = (end, told) }
     explains-told (Err ReportFault.NoMemory) told = record { script = script; taken = taken; outcome = told }
-
--- a status that tells the outcome, and a line that tells its fault
-pub ends_explained : (setting : Setting) (scope : Scope) (left_before left old new told_before told : Option (List ℕ))
-    (outcome : Result (Unit {0}) ReportFault) (status : ℕ) → Explains setting scope left_before left old new outcome →
-    status ≡ explaining_status outcome → IsReported told_before told outcome →
-    EndsExplained setting scope left_before left old new told_before told status
-ends_explained setting scope left_before left old new told_before told outcome status explains is reported =
-    record { outcome = outcome; explains = explains; status_is = is; reported = reported }

@@ -24,7 +24,7 @@ pub stop-whole : (setting : Setting) (scope : Scope) (old new : Option (List ℕ
 stop-whole setting scope old new script ReportFault.ReadFault stop = stop
 stop-whole setting scope old new script ReportFault.TooLong stop = stop
 stop-whole setting scope old new script (ReportFault.Missing sought n) stop = stop
-stop-whole setting scope old new script ReportFault.WriteFault stop = inl stop
+stop-whole setting scope old new script (ReportFault.WriteFault failed) stop = inl stop
 stop-whole setting scope old new script (ReportFault.BadLine n reason) stop = stop
 stop-whole setting scope old new script ReportFault.HistoryFull stop = stop
 stop-whole setting scope old new script ReportFault.NoMemory stop = stop
@@ -78,7 +78,7 @@ module _ (setting : Setting) (scope : Scope) (seen : Seen) (old mid : Option (Li
     stopped new (ReportFault.Missing sought n) halted = absurd halted
     stopped new (ReportFault.BadLine n reason) halted = absurd halted
     stopped new ReportFault.HistoryFull halted = absurd halted
-    stopped new ReportFault.WriteFault part = inr (record {
+    stopped new (ReportFault.WriteFault failed) part = inr (record {
       asked = asked;
       ended = ended;
       whole = whole;

@@ -7,7 +7,8 @@ use Rattle.script_lines.specs.Written.{WritesPart}
 use Rattle.sm_names.specs.Timelines.{timeline}
 use Rattle.core_state.proofs.theorem.EventCount.{events-timeline}
 use Rattle.report_io.specs.declared.fault.ReportFault.{ReportFault}
-use Rattle.report_io.specs.Faults.{GivesReason, IsFaultOf}
+use Rattle.report_io.specs.Faults.{GivesReason, IsFaultOf, IsWriteFault}
+use Rattle.report_io.proofs.Reporting.{write_fault_is}
 use Rattle.report_io.specs.IndentedLines.{is_indented, unindented}
 use Rattle.sm_script.proofs.Settings.{legal-in, over-in}
 use Rattle.report_io.proofs.Unindented.{unindented-more, unindented-skip}
@@ -201,8 +202,8 @@ module _ (setting : Setting) (only : Bool) (seen : Seen) (old mid : Option (List
 
   -- a part of the text was written, and the rest is given up
   pub far-refused : (new : Option (List ℕ)) (none : List ℕ) (fault : ReportFault) → none ≡ [] →
-      (fault ≡ ReportFault.WriteFault) × WritesPart mid new pending → Halted setting only old new none lines fault
-  far-refused new none fault empty refused = subst (Halted setting only old new none lines) (sym refused.0) (
+      IsWriteFault fault × WritesPart mid new pending → Halted setting only old new none lines fault
+  far-refused new none fault empty refused = subst (Halted setting only old new none lines) (sym (write_fault_is fault refused.0).1) (
     empty,
     subst (ExplanationCutOff setting only old new) (append-nil lines)
         (pending-cut setting only old mid pending lines far-pending new [] refused.1),
@@ -216,7 +217,7 @@ module _ (setting : Setting) (only : Bool) (seen : Seen) (old mid : Option (List
       number ≡ length lines + 1 → Halted setting only old mid pending (lines ++ line ∷ []) fault
   far-stop line stop number ReportFault.ReadFault whole why is told numbered = absurd is
   far-stop line stop number ReportFault.TooLong whole why is told numbered = absurd is
-  far-stop line stop number ReportFault.WriteFault whole why is told numbered = absurd is
+  far-stop line stop number (ReportFault.WriteFault failed) whole why is told numbered = absurd is
   far-stop line stop number (ReportFault.Missing sought n) whole why is told numbered = absurd is
   far-stop line stop number (ReportFault.BadLine n reason) whole why is told numbered = record {
     before = lines;

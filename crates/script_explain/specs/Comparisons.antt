@@ -199,7 +199,7 @@ ComparisonLinesStop setting script _ = ⊥
 
 -- what came of a script that was read: a verdict was written, or a part of it, or nothing where none was found
 abbrev pub ComparisonStopped : Setting → Option (List ℕ) → Option (List ℕ) → List ℕ → ReportFault → Type 0
-ComparisonStopped setting old new script ReportFault.WriteFault = ComparisonCutOff setting old new script
+ComparisonStopped setting old new script (ReportFault.WriteFault failed) = ComparisonCutOff setting old new script
 ComparisonStopped setting old new script fault = ComparisonLinesStop setting script fault × Keeps old new
 
 -- why a check stopped, where these bytes were read: no line is played before all are read

@@ -6,7 +6,7 @@ use Rattle.script_lines.specs.declared.TheConstants.{MOST_BYTES}
 use Rattle.script_lines.specs.Pieces.{whole_lines, last_part}
 use Rattle.script_lines.specs.Written.{WritesPart}
 use Rattle.report_io.specs.declared.fault.ReportFault.{ReportFault}
-use Rattle.report_io.specs.Faults.{IsReported, fault_status}
+use Rattle.report_io.specs.Faults.{EndsReport}
 use Rattle.report_io.specs.IndentedLines.{indented, is_indented, unindented}
 use Rattle.report_io.specs.Reasons.{IsReason, unended_reason}
 use Rattle.script_labels.specs.Names.{act_in}
@@ -79,7 +79,7 @@ pub record ExplanationRefused (setting : Setting) (only : Bool) (old new : Optio
 
 -- why an explanation of a script that was read stopped
 abbrev pub ExplanationLinesStop : Setting → Bool → Option (List ℕ) → Option (List ℕ) → List ℕ → ReportFault → Type 0
-ExplanationLinesStop setting only old new script ReportFault.WriteFault = ExplanationCutOff setting only old new (whole_lines script)
+ExplanationLinesStop setting only old new script (ReportFault.WriteFault failed) = ExplanationCutOff setting only old new (whole_lines script)
 ExplanationLinesStop setting only old new script (ReportFault.BadLine n reason) =
     IsUnexplained setting only old new (whole_lines script) (ReportFault.BadLine n reason)
     ⊎ ExplanationUnended setting only old new script n reason.items
@@ -128,7 +128,7 @@ pub record SummaryCutOff (setting : Setting) (scope : Scope) (old new : Option (
 
 -- why not all was told of a script that was read
 abbrev pub WholeStop : Setting → Scope → Option (List ℕ) → Option (List ℕ) → List ℕ → ReportFault → Type 0
-WholeStop setting scope old new script ReportFault.WriteFault =
+WholeStop setting scope old new script (ReportFault.WriteFault failed) =
     ExplanationCutOff setting scope.only_failures old new (whole_lines script) ⊎ SummaryCutOff setting scope old new script
 WholeStop setting scope old new script fault = ExplanationLinesStop setting scope.only_failures old new script fault
 
@@ -155,15 +155,8 @@ pub record Explains (setting : Setting) (scope : Scope) (left_before left old ne
       (λ _. IsAtEnd left × (length script ≤ MOST_BYTES) × (last_part script ≡ []) × IsToldWhole setting scope old new (whole_lines script))
       (ExplanationStops setting scope left old new script)
 
--- the status that the program ends with: 0 where all of the script was explained
-abbrev pub explaining_status : Result (Unit {0}) ReportFault → ℕ
-explaining_status (Ok done) = 0
-explaining_status (Err fault) = fault_status fault
-
 -- a script was explained, with this outcome: the status is its status, and its fault, if there is one, was told
-pub record EndsExplained (setting : Setting) (scope : Scope) (left_before left old new told_before told : Option (List ℕ))
-    (status : ℕ) : Type 0 where
-  pub outcome : Result (Unit {0}) ReportFault
-  pub explains : Explains setting scope left_before left old new outcome
-  pub status_is : status ≡ explaining_status outcome
-  pub reported : IsReported told_before told outcome
+abbrev pub EndsExplained : Setting → Scope → Option (List ℕ) → Option (List ℕ) → Option (List ℕ) → Option (List ℕ) →
+    Option (List ℕ) → Option (List ℕ) → ℕ → Type 0
+EndsExplained setting scope left_before left old new told_before told status =
+    EndsReport (Explains setting scope left_before left old new) told_before told status

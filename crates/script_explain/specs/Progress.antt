@@ -83,7 +83,7 @@ pub record IsHeld (setting : Setting) (only : Bool) (old new : Option (List ℕ)
 
 -- why these lines were not all explained
 abbrev pub Halted : Setting → Bool → Option (List ℕ) → Option (List ℕ) → List ℕ → List (List ℕ) → ReportFault → Type 0
-Halted setting only old new pending lines ReportFault.WriteFault = (pending ≡ []) × ExplanationCutOff setting only old new lines
+Halted setting only old new pending lines (ReportFault.WriteFault failed) = (pending ≡ []) × ExplanationCutOff setting only old new lines
 Halted setting only old new pending lines (ReportFault.BadLine n reason) =
     IsHalted setting only old new pending lines (ReportFault.BadLine n reason)
 Halted setting only old new pending lines ReportFault.HistoryFull = IsHalted setting only old new pending lines ReportFault.HistoryFull
@@ -111,7 +111,7 @@ seen_summary seen scene = indented (summary_text scene.names seen.event_writer.s
 
 -- why this summary was not written: a part of it was, or nothing
 abbrev pub SummaryHalted : Option (List ℕ) → Option (List ℕ) → List ℕ → ReportFault → Type 0
-SummaryHalted old new summary ReportFault.WriteFault = WritesPart old new summary
+SummaryHalted old new summary (ReportFault.WriteFault failed) = WritesPart old new summary
 SummaryHalted old new summary ReportFault.NoMemory = Appends old new []
 SummaryHalted old new summary _ = ⊥
 

@@ -6,6 +6,7 @@ ghost use Rattle.std.specs.Prelude.{◌++◌, Bool, List, ℕ, Option, IfErr, If
 ghost use Rattle.std.specs.Io.KnownBytes.{Appends};
 ghost use Rattle.script_lines.specs.Pieces.{last_part, whole_lines};
 ghost use Rattle.script_lines.specs.Written.{WritesPart};
+ghost use Rattle.report_io.specs.Faults.{IsWriteFault};
 ghost use Rattle.sm_script.specs.Scenes.{Scene, Setting, first_scene};
 ghost use Rattle.sm_script.specs.Sessions.{IsAt, IsStopped};
 ghost use Rattle.event_texts.specs.Called.{Knows};
@@ -313,14 +314,14 @@ impl Explainer {
         ensures empty { self.new.text.items ≡ [] }
         ensures ok { OnOk result
             (Appends (W.contents writer.old) (W.contents writer.new) self.old.text.items) }
-        ensures err { IfErr result (λ fault. (fault ≡ ReportFault.WriteFault)
+        ensures err { IfErr result (λ fault. IsWriteFault fault
             × WritesPart (W.contents writer.old) (W.contents writer.new) self.old.text.items) }
     {
         let written = write_out(writer, &self.text);
         self.text.clear();
         match written {
             Ok(()) => Ok(()),
-            Err(_) => Err(ReportFault::WriteFault),
+            Err(fault) => Err(ReportFault::WriteFault(fault)),
         }
     }
 }

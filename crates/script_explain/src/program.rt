@@ -6,7 +6,7 @@ ghost use Rattle.script_explain.specs.Explanations.{EndsExplained};
 
 use crate::check::{CheckResult, check_script};
 use crate::explain::{ExplainJob, explain_script};
-use report_io::end_with;
+use report_io::{end_report, end_with};
 use script_lines::Pages;
 use sm_names::{Limits, MAX_COLLECTIONS, MAX_EVENTS, MAX_HANDLES, MAX_NODES, MAX_TRACKERS};
 use std::alloc::Global;
@@ -46,10 +46,8 @@ pub fn explain_to_exit<R: Read, W: Write, F: Write>(
         (W.contents writer.old) (W.contents writer.new)
         (F.contents faults.old) (F.contents faults.new) (exit_status result) }
 {
-    match explain_script(alloc, seed, reader, writer, job, Limits::full()) {
-        Ok(()) => ExitCode::SUCCESS,
-        Err(fault) => end_with(alloc, faults, &fault),
-    }
+    let ended = explain_script(alloc, seed, reader, writer, job, Limits::full());
+    end_report(alloc, faults, &ended)
 }
 
 /// Checks the transcript that the reader holds, with these pages and the greatest limits, as

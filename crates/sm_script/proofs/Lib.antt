@@ -1,5 +1,4 @@
 pub mod Advancing
-pub mod Ending
 pub mod Playing
 pub mod Running
 pub mod Settings

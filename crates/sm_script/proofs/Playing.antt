@@ -1,5 +1,5 @@
 -- A run that is extended by one line, or stops at it.
-use Rattle.std.proofs.Common.{◌≡◌, ◌≢◌, ℕ, ◌+◌, ◌≤◌, List, [], ◌∷◌, ◌++◌, length-append, append_assoc}
+use Rattle.std.proofs.Common.{◌≡◌, ◌≢◌, ℕ, ◌+◌, ◌≤◌, List, [], ◌∷◌, ◌++◌, length, length-append, append_assoc}
 use Rattle.std.proofs.Common.{append-nil, refl, sym, ap, ◌∙◌, subst, Option, inl, inr, arith}
 use Rattle.std.proofs.KnownBytes.{Appends-trans}
 use Rattle.std.specs.Io.KnownBytes.{Appends}
@@ -7,14 +7,15 @@ use Rattle.sm_names.specs.Bounds.{Bound}
 use Rattle.sm_names.specs.Legality.{IsLegal}
 use Rattle.sm_names.specs.Marks.{events}
 use Rattle.sm_names.specs.Timelines.{timeline}
-use Rattle.sm_script.specs.declared.fault.ScriptFault.{ScriptFault}
+use Rattle.report_io.specs.declared.fault.ReportFault.{ReportFault}
+use Rattle.report_io.specs.Faults.{IsWriteFault}
+use Rattle.report_io.proofs.Reporting.{write_fault_is}
 use Rattle.sm_script.specs.declared.player.Player.{Player}
-use Rattle.script_labels.specs.declared.stop.LineStop.{LineStop}
-use Rattle.sm_script.specs.Players.{SoFar, Breaks, GivesUp, fault_of}
-use Rattle.sm_script.specs.Runs.{IsTold, IsCutOff, IsUnanswered, Stopped}
+use Rattle.sm_script.specs.Players.{SoFar, Breaks, GivesUp}
+use Rattle.sm_script.specs.Runs.{IsTold, IsCutOff, IsUnanswered, IsWhy, Stopped}
 use Rattle.script_lines.specs.Written.{WritesPart}
 use Rattle.sm_script.specs.Scenes.{Scene, Setting, Plays, Rests, Goes, Answers, LeadsTo, first_scene}
-use Rattle.sm_script.specs.Sessions.{IsAt, Advances, IsStopped}
+use Rattle.sm_script.specs.Sessions.{IsAt, Advances}
 
 -- one more line
 pub plays-more : (pool : ℕ) (from to next : Scene) (lines : List (List ℕ)) (texts line text : List ℕ) →
@@ -40,7 +41,7 @@ module _ (setting : Setting) (old new : Option (List ℕ)) (lines more : List (L
   }
 
   -- a line that stays unanswered among the first lines stays so among all lines
-  unanswered-more : (fault : ScriptFault) → IsUnanswered setting old new lines fault → IsUnanswered setting old new (lines ++ more) fault
+  unanswered-more : (fault : ReportFault) → IsUnanswered setting old new lines fault → IsUnanswered setting old new (lines ++ more) fault
   unanswered-more fault stop = record {
     before = stop.before;
     line = stop.line;
@@ -54,21 +55,25 @@ module _ (setting : Setting) (old new : Option (List ℕ)) (lines more : List (L
   }
 
   -- a stop among the first of the lines is one among all
-  pub stopped-more : (fault : ScriptFault) → Stopped setting old new lines fault → Stopped setting old new (lines ++ more) fault
-  stopped-more ScriptFault.ReadFault stop = stop
-  stopped-more ScriptFault.WriteFault stop = cut-more stop
-  stopped-more (ScriptFault.BadLine n) stop = unanswered-more (ScriptFault.BadLine n) stop
-  stopped-more ScriptFault.HistoryFull stop = unanswered-more ScriptFault.HistoryFull stop
-  stopped-more ScriptFault.NoMemory stop = unanswered-more ScriptFault.NoMemory stop
+  pub stopped-more : (fault : ReportFault) → Stopped setting old new lines fault → Stopped setting old new (lines ++ more) fault
+  stopped-more (ReportFault.WriteFault fault) stop = cut-more stop
+  stopped-more (ReportFault.BadLine n reason) stop = unanswered-more (ReportFault.BadLine n reason) stop
+  stopped-more ReportFault.HistoryFull stop = unanswered-more ReportFault.HistoryFull stop
+  stopped-more ReportFault.NoMemory stop = unanswered-more ReportFault.NoMemory stop
+  stopped-more ReportFault.ReadFault stop = absurd stop
+  stopped-more ReportFault.TooLong stop = absurd stop
+  stopped-more (ReportFault.Missing sought n) stop = absurd stop
 
 -- a stop is a break
-pub stopped-breaks : (setting : Setting) (old new : Option (List ℕ)) (lines : List (List ℕ)) (rest : List ℕ) (fault : ScriptFault) →
+pub stopped-breaks : (setting : Setting) (old new : Option (List ℕ)) (lines : List (List ℕ)) (rest : List ℕ) (fault : ReportFault) →
     Stopped setting old new lines fault → Breaks setting old new lines rest fault
-stopped-breaks setting old new lines rest ScriptFault.ReadFault stop = absurd stop
-stopped-breaks setting old new lines rest ScriptFault.WriteFault stop = stop
-stopped-breaks setting old new lines rest (ScriptFault.BadLine n) stop = stop
-stopped-breaks setting old new lines rest ScriptFault.HistoryFull stop = stop
-stopped-breaks setting old new lines rest ScriptFault.NoMemory stop = inl stop
+stopped-breaks setting old new lines rest (ReportFault.WriteFault fault) stop = stop
+stopped-breaks setting old new lines rest (ReportFault.BadLine n reason) stop = stop
+stopped-breaks setting old new lines rest ReportFault.HistoryFull stop = stop
+stopped-breaks setting old new lines rest ReportFault.NoMemory stop = inl stop
+stopped-breaks setting old new lines rest ReportFault.ReadFault stop = absurd stop
+stopped-breaks setting old new lines rest ReportFault.TooLong stop = absurd stop
+stopped-breaks setting old new lines rest (ReportFault.Missing sought n) stop = absurd stop
 
 module _ (setting : Setting) (player : Player) (old mid : Option (List ℕ)) (lines : List (List ℕ)) (far : SoFar setting player old mid
     lines) where
@@ -133,10 +138,16 @@ module _ (setting : Setting) (player : Player) (old mid : Option (List ℕ)) (li
     };
   }
 
-  -- a line was not answered, and all of the text went out
-  told-stop : (new : Option (List ℕ)) (line : List ℕ) (stop : LineStop) → IsStopped player.session line far.scene stop →
-      Appends mid new player.out.items → Stopped setting old new (lines ++ line ∷ []) (fault_of (player.lines + 1) stop)
-  told-stop new line LineStop.BadLine why out = record {
+  -- a part of the text went out, which is told
+  cut-stop : (new : Option (List ℕ)) (told : ReportFault) → IsWriteFault told → WritesPart mid new player.out.items →
+      Stopped setting old new lines told
+  cut-stop new told is part =
+      let failed = write_fault_is told is in subst (Stopped setting old new lines) (sym failed.1) (so_far-cut new part)
+
+  -- the line behind these was not answered for this reason, and all of the text went out
+  unanswered : (new : Option (List ℕ)) (line : List ℕ) (fault : ReportFault) → IsWhy setting far.scene line (length lines + 1) fault →
+      Appends mid new player.out.items → IsUnanswered setting old new (lines ++ line ∷ []) fault
+  unanswered new line fault why out = record {
     before = lines;
     line = line;
     after = [];
@@ -144,55 +155,34 @@ module _ (setting : Setting) (player : Player) (old mid : Option (List ℕ)) (li
     texts = far.texts;
     scene = far.scene;
     leads = so_far-leads;
-    why = (why, ap (λ n. n + 1) far.counted);
+    why = why;
     written = all-written new out;
   }
-  told-stop new line LineStop.HistoryFull why out = record {
-    before = lines;
-    line = line;
-    after = [];
-    split = refl;
-    texts = far.texts;
-    scene = far.scene;
-    leads = so_far-leads;
-    why = record {
-      client = why.0;
-      call = why.1;
-      binds = why.2;
-      asks = why.3;
-      full =
-          subst (λ (pool : ℕ). setting.limits.events ≤ events (timeline pool far.scene.history)) far.pool
-          (subst (λ (limits : Bound). limits.events ≤ events (timeline player.session.core.pool far.scene.history)) far.limits why.4);
-    };
-    written = all-written new out;
-  }
-  told-stop new line LineStop.NoMemory why out = record {
-    before = lines;
-    line = line;
-    after = [];
-    split = refl;
-    texts = far.texts;
-    scene = far.scene;
-    leads = so_far-leads;
-    why = tt;
-    written = all-written new out;
-  }
+
+  -- the same as a stop
+  told-stop : (new : Option (List ℕ)) (line : List ℕ) (fault : ReportFault) → IsWhy setting far.scene line (length lines + 1) fault →
+      Appends mid new player.out.items → Stopped setting old new (lines ++ line ∷ []) fault
+  told-stop new line (ReportFault.WriteFault fault) why out = absurd why
+  told-stop new line (ReportFault.BadLine n reason) why out = unanswered new line (ReportFault.BadLine n reason) why out
+  told-stop new line ReportFault.HistoryFull why out = unanswered new line ReportFault.HistoryFull why out
+  told-stop new line ReportFault.NoMemory why out = unanswered new line ReportFault.NoMemory why out
+  told-stop new line ReportFault.ReadFault why out = absurd why
+  told-stop new line ReportFault.TooLong why out = absurd why
+  told-stop new line (ReportFault.Missing sought n) why out = absurd why
 
   -- a line was not answered
-  pub so_far-stop : (new : Option (List ℕ)) (line : List ℕ) (stop : LineStop) (fault : ScriptFault) →
-      ((scene : Scene) → IsAt player.session scene → IsStopped player.session line scene stop) →
-      GivesUp mid new player.out.items (player.lines + 1) stop fault → Stopped setting old new (lines ++ line ∷ []) fault
-  so_far-stop new line stop fault why (inl (is, out)) =
-      subst (Stopped setting old new (lines ++ line ∷ [])) (sym is)
-      (told-stop new line stop (why far.scene far.is_at) out)
-  so_far-stop new line stop fault why (inr (is, part)) =
-      subst (Stopped setting old new (lines ++ line ∷ [])) (sym is)
-      (cut-more setting old new lines (line ∷ []) (so_far-cut new part))
+  pub so_far-stop : (new : Option (List ℕ)) (line : List ℕ) (fault told : ReportFault) →
+      IsWhy setting far.scene line (length lines + 1) fault → GivesUp mid new player.out.items fault told →
+      Stopped setting old new (lines ++ line ∷ []) told
+  so_far-stop new line fault told why (inl (is, out)) =
+      subst (Stopped setting old new (lines ++ line ∷ [])) (sym is) (told-stop new line fault why out)
+  so_far-stop new line fault told why (inr (is, part)) =
+      stopped-more setting old new lines (line ∷ []) told (cut-stop new told is part)
 
   -- memory was refused behind the lines
-  pub so_far-behind : (new : Option (List ℕ)) (number : ℕ) (rest : List ℕ) (fault : ScriptFault) → rest ≢ [] →
-      GivesUp mid new player.out.items number LineStop.NoMemory fault → Breaks setting old new lines rest fault
-  so_far-behind new number rest fault some (inl (is, out)) =
+  pub so_far-behind : (new : Option (List ℕ)) (rest : List ℕ) (told : ReportFault) → rest ≢ [] →
+      GivesUp mid new player.out.items ReportFault.NoMemory told → Breaks setting old new lines rest told
+  so_far-behind new rest told some (inl (is, out)) =
       subst (Breaks setting old new lines rest) (sym is) (inr (some, so_far-told new out))
-  so_far-behind new number rest fault some (inr (is, part)) =
-      subst (Breaks setting old new lines rest) (sym is) (so_far-cut new part)
+  so_far-behind new rest told some (inr (is, part)) =
+      stopped-breaks setting old new lines rest told (cut-stop new told is part)

@@ -4,25 +4,29 @@ use Rattle.std.proofs.Common.{append_assoc, append-nil, refl, sym, ap, ◌∙◌
 use Rattle.std.proofs.KnownBytes.{Appends-nil, Appends-kept, Consumes-nil, Consumes-trans, Consumes-kept}
 use Rattle.std.specs.Prelude.{Ok, Err, Result, MatchResult, OnOk, IfErr}
 use Rattle.std.specs.Io.KnownBytes.{Appends, Consumes, IsAtEnd, Keeps}
-use Rattle.sm_script.specs.declared.fault.ScriptFault.{ScriptFault}
+use Rattle.report_io.specs.declared.fault.ReportFault.{ReportFault}
 use Rattle.sm_script.specs.declared.player.Player.{Player}
 use Rattle.script_lines.specs.declared.TheConstants.{MOST_BYTES}
 use Rattle.script_lines.specs.Pieces.{lines_from, rest_from, whole_lines, last_part}
 use Rattle.sm_script.specs.Players.{SoFar, Answered, Breaks, EndsBy}
-use Rattle.sm_script.specs.Runs.{IsTold, IsCutOff, RunStops, Runs}
+use Rattle.sm_script.specs.Runs.{IsBeyond, IsTold, IsCutOff, RunStops, Runs}
 use Rattle.sm_script.specs.Scenes.{Setting, Rests, first_scene}
 use Rattle.script_lines.proofs.Piecing.{rest-append, lines-append}
 use Rattle.sm_script.proofs.Playing.{so_far-told}
 
--- a break ends the run
-breaks-run : (setting : Setting) (left old new : Option (List ℕ)) (script : List ℕ) (fault : ScriptFault) →
-    Breaks setting old new (whole_lines script) (last_part script) fault → RunStops setting left old new script fault
-breaks-run setting left old new script ScriptFault.ReadFault break = break
-breaks-run setting left old new script ScriptFault.WriteFault break = break
-breaks-run setting left old new script (ScriptFault.BadLine n) break = inl break
-breaks-run setting left old new script ScriptFault.HistoryFull break = break
-breaks-run setting left old new script ScriptFault.NoMemory (inl stop) = inl stop
-breaks-run setting left old new script ScriptFault.NoMemory (inr (some, told)) = inr (record { place = inr some; told = told })
+-- a break ends the run, whatever bytes are beyond
+breaks-run : (setting : Setting) (left old new : Option (List ℕ)) (script beyond : List ℕ) (fault : ReportFault) →
+    Breaks setting old new (whole_lines script) (last_part script) fault →
+    IsBeyond beyond fault × RunStops setting left old new script fault
+breaks-run setting left old new script beyond (ReportFault.WriteFault fault) break = (tt, break)
+breaks-run setting left old new script beyond (ReportFault.BadLine n reason) break = (tt, inl break)
+breaks-run setting left old new script beyond ReportFault.HistoryFull break = (tt, break)
+breaks-run setting left old new script beyond ReportFault.NoMemory (inl stop) = (tt, inl stop)
+breaks-run setting left old new script beyond ReportFault.NoMemory (inr (some, told)) =
+    (tt, inr (record { place = inr some; told = told }))
+breaks-run setting left old new script beyond ReportFault.ReadFault break = absurd break
+breaks-run setting left old new script beyond ReportFault.TooLong break = absurd break
+breaks-run setting left old new script beyond (ReportFault.Missing sought n) break = absurd break
 
 -- all of what is to go out is out
 pub told-so_far : (setting : Setting) (player : Player) (old new : Option (List ℕ)) (lines : List (List ℕ)) →
@@ -82,36 +86,52 @@ module _ (left_before old : Option (List ℕ)) (first : Player) where
       all-taken later taken = subst (Consumes left_before later) (sym (append-nil come.script)) taken
 
       -- no more could be read
-      pub runs-unread : (later : Option (List ℕ)) → Keeps left later → Runs setting left_before later old now (Err ScriptFault.ReadFault)
+      pub runs-unread : (later : Option (List ℕ)) → Keeps left later → Runs setting left_before later old now (Err ReportFault.ReadFault)
       runs-unread later kept = record {
         script = come.script;
         beyond = [];
         taken = all-taken later (Consumes-kept left_before left later come.script come.taken kept);
         within = within-most;
         full = λ some. absurd (some refl);
-        outcome = come-told;
+        outcome = (refl, come-told);
       }
 
-      -- the run breaks off at the next piece, behind which there may be more
-      pub runs-broken : (later new : Option (List ℕ)) (piece beyond : List ℕ) (fault : ScriptFault) →
-          Consumes left later (piece ++ beyond) →
-          length piece ≤ room → (beyond ≢ [] → length piece ≡ room) →
-          ((begun : Option (List ℕ)) (lines : List (List ℕ)) → SoFar setting player begun now lines →
-          Breaks setting begun new (lines ++ lines_from front piece) (rest_from front piece) fault) →
-          Runs setting left_before later old new (Err fault)
-      runs-broken later new piece beyond fault more fits full breaks = record {
-        script = come.script ++ piece;
-        beyond = beyond;
-        taken = subst (Consumes left_before later) (sym (append_assoc come.script piece beyond))
-            (Consumes-trans left_before left later come.script (piece ++ beyond) come.taken more);
-        within = rw length-append (omega (arith, come.counted, fits));
-        full = λ some. rw length-append (omega (arith, come.counted, full some));
-        outcome = breaks-run setting later old new (come.script ++ piece) fault
+      -- the run stops at the next piece, behind which there may be more
+      module _ (later new : Option (List ℕ)) (piece beyond : List ℕ) (more : Consumes left later (piece ++ beyond))
+          (fits : length piece ≤ room) (full : beyond ≢ [] → length piece ≡ room) where
+        -- by a fault that fits the lines of what was read so far
+        runs-stopped : (fault : ReportFault) → IsBeyond beyond fault × RunStops setting later old new (come.script ++ piece) fault →
+            Runs setting left_before later old new (Err fault)
+        runs-stopped fault stops = record {
+          script = come.script ++ piece;
+          beyond = beyond;
+          taken = subst (Consumes left_before later) (sym (append_assoc come.script piece beyond))
+              (Consumes-trans left_before left later come.script (piece ++ beyond) come.taken more);
+          within = rw length-append (omega (arith, come.counted, fits));
+          full = λ some. rw length-append (omega (arith, come.counted, full some));
+          outcome = stops;
+        }
+
+        -- since a line was not answered
+        pub runs-broken : (fault : ReportFault) →
+            ((begun : Option (List ℕ)) (lines : List (List ℕ)) → SoFar setting player begun now lines →
+            Breaks setting begun new (lines ++ lines_from front piece) (rest_from front piece) fault) →
+            Runs setting left_before later old new (Err fault)
+        runs-broken fault breaks = runs-stopped fault (breaks-run setting later old new (come.script ++ piece) beyond fault
             (subst (λ (ls : List (List ℕ)). Breaks setting old new ls (last_part (come.script ++ piece)) fault) (lines-on piece)
             (subst (λ (rest : List ℕ). Breaks setting old new (whole_lines come.script ++ lines_from front piece) rest fault)
             (rest-on piece)
-            (breaks old (whole_lines come.script) (come.answered setting old [] start))));
-      }
+            (breaks old (whole_lines come.script) (come.answered setting old [] start)))))
+
+        -- since there is more, where all lines were answered
+        pub runs-long : (next : Player) → beyond ≢ [] → Answered player now next new (lines_from front piece) → next.out.items ≡ [] →
+            Runs setting left_before later old new (Err ReportFault.TooLong)
+        runs-long next some answered empty = runs-stopped ReportFault.TooLong (
+          some,
+          subst (λ (ls : List (List ℕ)). IsTold setting old new ls) (lines-on piece)
+              (told-so_far setting next old new (whole_lines come.script ++ lines_from front piece)
+              (answered setting old (whole_lines come.script) (come.answered setting old [] start)) empty),
+        )
 
       -- the end of the script
       module _ (later new : Option (List ℕ)) (none : Consumes left later []) (end : IsAtEnd later) (kept : Keeps now new) where
@@ -145,20 +165,27 @@ module _ (left_before old : Option (List ℕ)) (first : Player) where
         numbered-end n is = is ∙ ap (λ k. k + 1) (come.answered setting old [] start).counted
 
         -- each fault at the end of the script is a way in which the run stops
-        ended-by : (fault : ScriptFault) → EndsBy front player.lines fault → RunStops setting later old new come.script fault
-        ended-by ScriptFault.ReadFault why = absurd why
-        ended-by ScriptFault.WriteFault why = cut-end
-        ended-by (ScriptFault.BadLine n) why = inr (record {
-          at_end = end;
-          unended = λ none. why.0 (come.rest ∙ none);
-          numbered = numbered-end n why.1;
-          told = told-end;
-        })
-        ended-by ScriptFault.HistoryFull why = absurd why
-        ended-by ScriptFault.NoMemory why = absurd why
+        ended-by : (fault : ReportFault) → EndsBy front player.lines fault →
+            IsBeyond [] fault × RunStops setting later old new come.script fault
+        ended-by (ReportFault.WriteFault fault) why = (tt, cut-end)
+        ended-by (ReportFault.BadLine n reason) why = (
+          tt,
+          inr (record {
+            at_end = end;
+            unended = λ none. why.0 (come.rest ∙ none);
+            numbered = numbered-end n why.1;
+            reasoned = why.2;
+            told = told-end;
+          }),
+        )
+        ended-by ReportFault.NoMemory why = (tt, inr (record { place = inr (λ none. why (come.rest ∙ none)); told = told-end }))
+        ended-by ReportFault.HistoryFull why = absurd why
+        ended-by ReportFault.ReadFault why = absurd why
+        ended-by ReportFault.TooLong why = absurd why
+        ended-by (ReportFault.Missing sought n) why = absurd why
 
         -- a run that reaches the end of the script succeeds or stops by a fault at that end
-        pub runs-ended : (result : Result (Unit {0}) ScriptFault) → OnOk result (front ≡ []) → IfErr result (EndsBy front player.lines) →
+        pub runs-ended : (result : Result (Unit {0}) ReportFault) → OnOk result (front ≡ []) → IfErr result (EndsBy front player.lines) →
             Runs setting left_before later old new result
         runs-ended result ok err = record {
           script = come.script;
@@ -169,11 +196,11 @@ module _ (left_before old : Option (List ℕ)) (first : Player) where
           outcome = by result ok err;
         }
           where
-            by : (result : Result (Unit {0}) ScriptFault) → OnOk result (front ≡ []) → IfErr result (EndsBy front player.lines) →
+            by : (result : Result (Unit {0}) ReportFault) → OnOk result (front ≡ []) → IfErr result (EndsBy front player.lines) →
                 MatchResult result
                 (λ _. IsAtEnd later × (◌≡◌ {A = List ℕ} [] []) × (last_part come.script ≡ []) ×
                 IsTold setting old new (whole_lines come.script))
-                (RunStops setting later old new come.script)
+                (λ fault. IsBeyond [] fault × RunStops setting later old new come.script fault)
             by (Ok u) ok err = (end, refl, sym come.rest ∙ ok, told-end)
             by (Err fault) ok err = ended-by fault err
 
@@ -184,20 +211,23 @@ read-end before after n block none room read =
     (subst (λ k. Consumes before after (take k block)) none read.0, read.1 none room)
 
 -- a run that read nothing
-pub runs-nothing : (setting : Setting) (left old : Option (List ℕ)) → Runs setting left left old old (Err ScriptFault.NoMemory)
+pub runs-nothing : (setting : Setting) (left old : Option (List ℕ)) → Runs setting left left old old (Err ReportFault.NoMemory)
 runs-nothing setting left old = record {
   script = [];
   beyond = [];
   taken = Consumes-nil left;
   within = omega arith;
   full = λ some. absurd (some refl);
-  outcome = inr (record {
-    place = inl refl;
-    told = record {
-      texts = [];
-      scene = first_scene;
-      leads = record { plays = Rests first_scene; legal = record { answers = tt; within = omega arith } };
-      written = Appends-nil old;
-    };
-  });
+  outcome = (
+    tt,
+    inr (record {
+      place = inl refl;
+      told = record {
+        texts = [];
+        scene = first_scene;
+        leads = record { plays = Rests first_scene; legal = record { answers = tt; within = omega arith } };
+        written = Appends-nil old;
+      };
+    }),
+  );
 }

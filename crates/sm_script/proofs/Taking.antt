@@ -4,7 +4,7 @@ use Rattle.std.proofs.Common.{take, drop, append_assoc, append-nil, eqb-true, re
 use Rattle.std.proofs.lemmas.Bool.{both_ways, eq-eqb}
 use Rattle.std.proofs.lemmas.List.{nil_from_length, take_rest}
 use Rattle.std.specs.List.{position}
-use Rattle.sm_script.specs.declared.fault.ScriptFault.{ScriptFault}
+use Rattle.report_io.specs.declared.fault.ReportFault.{ReportFault}
 use Rattle.sm_script.specs.declared.player.Player.{Player}
 use Rattle.script_lines.specs.Pieces.{lines_from, rest_from}
 use Rattle.sm_script.specs.Players.{SoFar, Answered, Breaks, Broken, Failed}
@@ -70,7 +70,7 @@ module _ (first_front piece : List ℕ) (first : Player) (first_mid : Option (Li
         (subst (λ (r : List ℕ). Taken [] r next new) (sym (take_rest rest (at + 1))) (taken-more at next new found within answered counted))
 
     -- the next line failed
-    pub taken-failed : (at : ℕ) (new : Option (List ℕ)) (fault : ScriptFault) → position is_end rest ≡ Some at →
+    pub taken-failed : (at : ℕ) (new : Option (List ℕ)) (fault : ReportFault) → position is_end rest ≡ Some at →
         Failed player mid new ((front ++ take at rest) ∷ []) fault →
         Broken first first_mid new (lines_from first_front piece) (rest_from first_front piece) fault
     taken-failed at new fault found failed = λ setting old lines far.
@@ -102,7 +102,7 @@ module _ (first_front piece : List ℕ) (first : Player) (first_mid : Option (Li
           subst (λ (ls : List (List ℕ)). SoFar setting player old mid (lines ++ ls)) (sym all-taken) (so_far.answered setting old lines far)
 
       -- a fault came behind them
-      pub all-failed : (new : Option (List ℕ)) (fault : ScriptFault) →
+      pub all-failed : (new : Option (List ℕ)) (fault : ReportFault) →
           Broken player mid new [] (front ++ rest) fault →
           Broken first first_mid new (lines_from first_front piece) (rest_from first_front piece) fault
       all-failed new fault fails = λ setting old lines far.

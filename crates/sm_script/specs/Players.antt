@@ -1,9 +1,10 @@
 -- How far a run has come. No public clause cites this module.
 use Rattle.std.specs.Prelude.{◌≡◌, ◌≢◌, ◌⊎◌, ℕ, ◌+◌, List, [], ◌++◌, length, Option}
 use Rattle.std.specs.Io.KnownBytes.{Appends}
-use Rattle.sm_script.specs.declared.fault.ScriptFault.{ScriptFault}
+use Rattle.report_io.specs.declared.fault.ReportFault.{ReportFault}
+use Rattle.report_io.specs.Faults.{IsWriteFault}
+use Rattle.report_io.specs.Reasons.{unended_reason}
 use Rattle.sm_script.specs.declared.player.Player.{Player}
-use Rattle.script_labels.specs.declared.stop.LineStop.{LineStop}
 use Rattle.sm_script.specs.Runs.{IsTold, Stopped}
 use Rattle.script_lines.specs.Written.{WritesPart}
 use Rattle.sm_script.specs.Scenes.{Scene, Setting, Plays, first_scene}
@@ -28,35 +29,28 @@ Answered player mid next new more = (setting : Setting) (old : Option (List ℕ)
     SoFar setting player old mid lines → SoFar setting next old new (lines ++ more)
 
 -- this fault came before these lines were all answered
-abbrev pub Failed : Player → Option (List ℕ) → Option (List ℕ) → List (List ℕ) → ScriptFault → Type 0
+abbrev pub Failed : Player → Option (List ℕ) → Option (List ℕ) → List (List ℕ) → ReportFault → Type 0
 Failed player mid new more fault = (setting : Setting) (old : Option (List ℕ)) (lines : List (List ℕ)) →
     SoFar setting player old mid lines → Stopped setting old new (lines ++ more) fault
 
--- the fault that is told of a line that was not answered, the one of this number
-abbrev pub fault_of : ℕ → LineStop → ScriptFault
-fault_of number LineStop.BadLine = ScriptFault.BadLine number
-fault_of number LineStop.HistoryFull = ScriptFault.HistoryFull
-fault_of number LineStop.NoMemory = ScriptFault.NoMemory
-
--- the text went out, and the stop is told; or only a part went out, and that is told
-abbrev pub GivesUp : Option (List ℕ) → Option (List ℕ) → List ℕ → ℕ → LineStop → ScriptFault → Type 0
-GivesUp old new text number stop fault =
-    ((fault ≡ fault_of number stop) × Appends old new text) ⊎ ((fault ≡ ScriptFault.WriteFault) × WritesPart old new text)
+-- the text went out, and this fault is told; or only a part went out, and that is told
+abbrev pub GivesUp : Option (List ℕ) → Option (List ℕ) → List ℕ → ReportFault → ReportFault → Type 0
+GivesUp old new text fault told = ((told ≡ fault) × Appends old new text) ⊎ (IsWriteFault told × WritesPart old new text)
 
 -- why a run fails at its end
-abbrev pub EndsBy : List ℕ → ℕ → ScriptFault → Type 0
-EndsBy front lines ScriptFault.WriteFault = front ≡ []
-EndsBy front lines (ScriptFault.BadLine n) = (front ≢ []) × (n ≡ lines + 1)
+abbrev pub EndsBy : List ℕ → ℕ → ReportFault → Type 0
+EndsBy front lines (ReportFault.WriteFault fault) = front ≡ []
+EndsBy front lines (ReportFault.BadLine n reason) = (front ≢ []) × (n ≡ lines + 1) × (reason.items ≡ unended_reason)
+EndsBy front lines ReportFault.NoMemory = front ≢ []
 EndsBy front lines _ = ⊥
 
 -- why a run breaks off among these lines, or behind them, where these bytes of the next line are
-abbrev pub Breaks : Setting → Option (List ℕ) → Option (List ℕ) → List (List ℕ) → List ℕ → ScriptFault → Type 0
-Breaks setting old new lines rest ScriptFault.ReadFault = IsTold setting old new lines
-Breaks setting old new lines rest ScriptFault.NoMemory =
-    Stopped setting old new lines ScriptFault.NoMemory ⊎ ((rest ≢ []) × IsTold setting old new lines)
+abbrev pub Breaks : Setting → Option (List ℕ) → Option (List ℕ) → List (List ℕ) → List ℕ → ReportFault → Type 0
+Breaks setting old new lines rest ReportFault.NoMemory =
+    Stopped setting old new lines ReportFault.NoMemory ⊎ ((rest ≢ []) × IsTold setting old new lines)
 Breaks setting old new lines rest fault = Stopped setting old new lines fault
 
 -- this fault came before these lines were all answered, or behind them, where these bytes of the next line are
-abbrev pub Broken : Player → Option (List ℕ) → Option (List ℕ) → List (List ℕ) → List ℕ → ScriptFault → Type 0
+abbrev pub Broken : Player → Option (List ℕ) → Option (List ℕ) → List (List ℕ) → List ℕ → ReportFault → Type 0
 Broken player mid new more rest fault = (setting : Setting) (old : Option (List ℕ)) (lines : List (List ℕ)) →
     SoFar setting player old mid lines → Breaks setting old new (lines ++ more) rest fault

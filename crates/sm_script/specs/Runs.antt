@@ -6,7 +6,10 @@ use Rattle.sm_names.specs.Marks.{events}
 use Rattle.sm_names.specs.Timelines.{timeline}
 use Rattle.script_labels.specs.declared.act.Act.{Act}
 use Rattle.script_labels.specs.declared.act.Binds.{Binds}
+use Rattle.report_io.specs.declared.fault.ReportFault.{ReportFault}
+use Rattle.report_io.specs.Reasons.{IsReason, unended_reason}
 use Rattle.sm_script.specs.declared.fault.ScriptFault.{ScriptFault}
+use Rattle.sm_script.specs.Faults.{script_result}
 use Rattle.script_lines.specs.declared.TheConstants.{MOST_BYTES}
 use Rattle.script_labels.specs.Names.{act_in}
 use Rattle.script_lines.specs.Written.{WritesPart}
@@ -38,15 +41,17 @@ pub record IsUnkept (setting : Setting) (scene : Scene) (line : List ℕ) : Type
   pub asks : act_in scene.names line ≡ Some (Act.Ask client call binds)
   pub full : setting.limits.events ≤ events (timeline setting.pool scene.history)
 
--- why a line, the one of this number, was not answered: memory may be refused at any line, and the other faults are not a line's
-abbrev pub IsWhy : Setting → Scene → List ℕ → ℕ → ScriptFault → Type 0
-IsWhy setting scene line number (ScriptFault.BadLine n) = (act_in scene.names line ≡ None) × (n ≡ number)
-IsWhy setting scene line number ScriptFault.HistoryFull = IsUnkept setting scene line
-IsWhy setting scene line number ScriptFault.NoMemory = ⊤
+-- why a line, the one of this number, was not answered: it is bad, for this reason, or the history is full. Memory may be refused at
+-- any line, and the other faults are not a line's
+abbrev pub IsWhy : Setting → Scene → List ℕ → ℕ → ReportFault → Type 0
+IsWhy setting scene line number (ReportFault.BadLine n reason) =
+    (act_in scene.names line ≡ None) × (n ≡ number) × IsReason scene.names line reason.items
+IsWhy setting scene line number ReportFault.HistoryFull = IsUnkept setting scene line
+IsWhy setting scene line number ReportFault.NoMemory = ⊤
 IsWhy setting scene line number _ = ⊥
 
 -- a line was not answered, and what was written is the text of exactly the lines before it
-pub record IsUnanswered (setting : Setting) (old new : Option (List ℕ)) (lines : List (List ℕ)) (fault : ScriptFault) : Type 0 where
+pub record IsUnanswered (setting : Setting) (old new : Option (List ℕ)) (lines : List (List ℕ)) (fault : ReportFault) : Type 0 where
   pub before : List (List ℕ)
   pub line : List ℕ
   pub after : List (List ℕ)
@@ -58,38 +63,46 @@ pub record IsUnanswered (setting : Setting) (old new : Option (List ℕ)) (lines
   pub written : Appends old new texts
 
 -- these lines could not all be answered; no read fails among them
-abbrev pub Stopped : Setting → Option (List ℕ) → Option (List ℕ) → List (List ℕ) → ScriptFault → Type 0
-Stopped setting old new lines ScriptFault.ReadFault = ⊥
-Stopped setting old new lines ScriptFault.WriteFault = IsCutOff setting old new lines
-Stopped setting old new lines (ScriptFault.BadLine n) = IsUnanswered setting old new lines (ScriptFault.BadLine n)
-Stopped setting old new lines ScriptFault.HistoryFull = IsUnanswered setting old new lines ScriptFault.HistoryFull
-Stopped setting old new lines ScriptFault.NoMemory = IsUnanswered setting old new lines ScriptFault.NoMemory
+abbrev pub Stopped : Setting → Option (List ℕ) → Option (List ℕ) → List (List ℕ) → ReportFault → Type 0
+Stopped setting old new lines (ReportFault.WriteFault fault) = IsCutOff setting old new lines
+Stopped setting old new lines (ReportFault.BadLine n reason) = IsUnanswered setting old new lines (ReportFault.BadLine n reason)
+Stopped setting old new lines ReportFault.HistoryFull = IsUnanswered setting old new lines ReportFault.HistoryFull
+Stopped setting old new lines ReportFault.NoMemory = IsUnanswered setting old new lines ReportFault.NoMemory
+Stopped setting old new lines _ = ⊥
 
 -- the last line has no end, and all others were answered
-pub record IsUnended (setting : Setting) (left old new : Option (List ℕ)) (script : List ℕ) (number : ℕ) : Type 0 where
+pub record IsUnended (setting : Setting) (left old new : Option (List ℕ)) (script : List ℕ) (number : ℕ) (reason : List ℕ) : Type 0 where
   pub at_end : IsAtEnd left
   pub unended : last_part script ≢ []
   pub numbered : number ≡ length (whole_lines script) + 1
+  pub reasoned : reason ≡ unended_reason
   pub told : IsTold setting old new (whole_lines script)
 
--- memory was refused where no whole line was at hand: before anything was read, or as the front of the last line was to be
--- kept. What was written is the text of exactly the whole lines that were read
+-- memory was refused where no whole line was at hand: before anything was read, or for the front of the last line or for what is
+-- told of it. What was written is the text of exactly the whole lines that were read
 pub record IsBetween (setting : Setting) (old new : Option (List ℕ)) (script : List ℕ) : Type 0 where
   pub place : (script ≡ []) ⊎ (last_part script ≢ [])
   pub told : IsTold setting old new (whole_lines script)
 
 -- how a run that read this script stopped, by its fault
-abbrev pub RunStops : Setting → Option (List ℕ) → Option (List ℕ) → Option (List ℕ) → List ℕ → ScriptFault → Type 0
-RunStops setting left old new script ScriptFault.ReadFault = IsTold setting old new (whole_lines script)
-RunStops setting left old new script (ScriptFault.BadLine n) =
-    Stopped setting old new (whole_lines script) (ScriptFault.BadLine n) ⊎ IsUnended setting left old new script n
-RunStops setting left old new script ScriptFault.NoMemory =
-    Stopped setting old new (whole_lines script) ScriptFault.NoMemory ⊎ IsBetween setting old new script
+abbrev pub RunStops : Setting → Option (List ℕ) → Option (List ℕ) → Option (List ℕ) → List ℕ → ReportFault → Type 0
+RunStops setting left old new script ReportFault.ReadFault = IsTold setting old new (whole_lines script)
+RunStops setting left old new script ReportFault.TooLong = IsTold setting old new (whole_lines script)
+RunStops setting left old new script (ReportFault.BadLine n reason) =
+    Stopped setting old new (whole_lines script) (ReportFault.BadLine n reason) ⊎ IsUnended setting left old new script n reason.items
+RunStops setting left old new script ReportFault.NoMemory =
+    Stopped setting old new (whole_lines script) ReportFault.NoMemory ⊎ IsBetween setting old new script
 RunStops setting left old new script fault = Stopped setting old new (whole_lines script) fault
+
+-- bytes beyond the greatest size of a script were read if it is too long, and none if a read failed
+abbrev pub IsBeyond : List ℕ → ReportFault → Type 0
+IsBeyond beyond ReportFault.ReadFault = beyond ≡ []
+IsBeyond beyond ReportFault.TooLong = beyond ≢ []
+IsBeyond beyond _ = ⊤
 
 -- a run read a script, and maybe bytes beyond its greatest size, and wrote what its lines ask for. Without a fault it read
 -- all there is, and the text of all lines was written
-pub record Runs (setting : Setting) (left_before left old new : Option (List ℕ)) (result : Result (Unit {0}) ScriptFault) : Type 0 where
+pub record Runs (setting : Setting) (left_before left old new : Option (List ℕ)) (result : Result (Unit {0}) ReportFault) : Type 0 where
   pub script : List ℕ
   pub beyond : List ℕ
   pub taken : Consumes left_before left (script ++ beyond)
@@ -97,4 +110,10 @@ pub record Runs (setting : Setting) (left_before left old new : Option (List ℕ
   pub full : beyond ≢ [] → length script ≡ MOST_BYTES
   pub outcome : MatchResult result
       (λ _. IsAtEnd left × (beyond ≡ []) × (last_part script ≡ []) × IsTold setting old new (whole_lines script))
-      (RunStops setting left old new script)
+      (λ fault. IsBeyond beyond fault × RunStops setting left old new script fault)
+
+-- the same, where the outcome is answered without the reason of a bad line
+pub record RunsScript (setting : Setting) (left_before left old new : Option (List ℕ)) (result : Result (Unit {0}) ScriptFault) : Type 0 where
+  pub told : Result (Unit {0}) ReportFault
+  pub runs : Runs setting left_before left old new told
+  pub is : result ≡ script_result told

@@ -1,7 +1,5 @@
 //! Why a script stopped.
-ghost use Rattle.std.specs.Prelude.{◌≡◌};
-ghost use Rattle.sm_script.specs.Faults.{script_fault_status};
-
+use report_io::ReportFault;
 use std::fmt;
 use thiserror::Error;
 
@@ -20,16 +18,21 @@ pub enum ScriptFault {
     NoMemory,
 }
 
-impl ScriptFault {
-    /// The exit status of a program at this fault: 1 if reading or writing failed, 3 at a bad line, 4 if
-    /// the history is full or memory was refused.
-    pub fn status(self) -> u8
-        ensures { result ≡ script_fault_status self }
-    {
-        match self {
-            ScriptFault::ReadFault | ScriptFault::WriteFault => 1,
-            ScriptFault::BadLine(_) => 3,
-            ScriptFault::HistoryFull | ScriptFault::NoMemory => 4,
+impl From<ReportFault> for ScriptFault {
+    ghost use Rattle.std.specs.Prelude.{◌≡◌};
+    ghost use Rattle.sm_script.specs.Faults.{script_fault};
+
+    ghost from_gives = { λ told fault. fault ≡ script_fault told };
+
+    fn from(told: ReportFault) -> ScriptFault {
+        match told {
+            ReportFault::WriteFault(_) => ScriptFault::WriteFault,
+            ReportFault::BadLine { number, .. } => ScriptFault::BadLine(number),
+            ReportFault::HistoryFull => ScriptFault::HistoryFull,
+            ReportFault::NoMemory => ScriptFault::NoMemory,
+            ReportFault::ReadFault | ReportFault::TooLong | ReportFault::Missing { .. } => {
+                ScriptFault::ReadFault
+            }
         }
     }
 }

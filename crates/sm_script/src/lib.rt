@@ -12,6 +12,6 @@ mod writing;
 
 pub use fault::ScriptFault;
 pub use program::run_to_exit;
-pub use run::run_script;
+pub use run::{report_run, run_script};
 pub use script_lines::MOST_BYTES;
 pub use session::Session;

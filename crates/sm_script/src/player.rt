@@ -4,10 +4,9 @@ ghost use Rattle.sm_script.specs.Players.{Answered, Broken, Failed, SoFar};
 ghost use Rattle.sm_script.specs.Runs.{Stopped};
 ghost use Rattle.sm_script.specs.Scenes.{Setting};
 
-use crate::fault::ScriptFault;
 use crate::session::Session;
 use crate::writing::give_up;
-use script_labels::LineStop;
+use report_io::{ReportFault, fault_of};
 use script_lines::write_out;
 use sm_names::{Limits, MAX_PAGES, NoMemory};
 use std::alloc::Global;
@@ -50,7 +49,7 @@ impl Player {
     }
 
     // Writes the text that is not written yet.
-    pub(crate) fn put_out<W: Write>(&mut self, writer: &mut W) -> Result<(), ScriptFault>
+    pub(crate) fn put_out<W: Write>(&mut self, writer: &mut W) -> Result<(), ReportFault>
         ensures ok { OnOk result ((setting : Setting) (old : Option (List ℕ))
             (lines : List (List ℕ)) → SoFar setting self.old old (W.contents writer.old) lines →
             SoFar setting self.new old (W.contents writer.new) lines) }
@@ -65,16 +64,17 @@ impl Player {
                 self.out.clear();
                 Ok(())
             }
-            Err(_) => Err(ScriptFault::WriteFault),
+            Err(fault) => Err(ReportFault::WriteFault(fault)),
         }
     }
 
     // Answers one more line.
     pub(crate) fn take_line<W: Write>(
         &mut self,
+        alloc: Global,
         writer: &mut W,
         line: &[u8],
-    ) -> Result<(), ScriptFault>
+    ) -> Result<(), ReportFault>
         requires { self.old.lines + 1 < 2 ^ 64 }
         ensures ok { OnOk result (Answered self.old (W.contents writer.old)
             self.new (W.contents writer.new) (line.now ∷ [])) }
@@ -85,15 +85,13 @@ impl Player {
         match self.session.answer(line, &mut self.reply) {
             Ok(()) => {}
             Err(stop) => {
-                return Err(give_up(writer, self.out.as_slice(), self.lines + 1, stop));
+                let fault = fault_of(alloc, stop, &self.session.tables, self.lines + 1, line);
+                return Err(give_up(writer, self.out.as_slice(), fault));
             }
         }
         match self.out.extend_from_slice(self.reply.as_slice()) {
             Ok(()) => {}
-            Err(_) => {
-                let number = self.lines + 1;
-                return Err(give_up(writer, self.out.as_slice(), number, LineStop::NoMemory));
-            }
+            Err(_) => return Err(give_up(writer, self.out.as_slice(), ReportFault::NoMemory)),
         }
         self.lines += 1;
         if self.out.len() < ENOUGH {
@@ -103,12 +101,12 @@ impl Player {
     }
 
     // Stops since memory was refused, at the next line or after the last.
-    pub(crate) fn give_up_for_memory<W: Write>(&self, writer: &mut W) -> ScriptFault
+    pub(crate) fn give_up_for_memory<W: Write>(&self, writer: &mut W) -> ReportFault
         ensures at { (line : List ℕ) →
             Failed self.now (W.contents writer.old) (W.contents writer.new) (line ∷ []) result }
         ensures behind { (rest : List ℕ) → rest ≢ [] →
             Broken self.now (W.contents writer.old) (W.contents writer.new) [] rest result }
     {
-        give_up(writer, self.out.as_slice(), self.lines, LineStop::NoMemory)
+        give_up(writer, self.out.as_slice(), ReportFault::NoMemory)
     }
 }

@@ -3,18 +3,20 @@ ghost use Rattle.std.specs.Prelude.{◌≡◌, ◌+◌, ◌^◌, ◌<◌, ◌≤
 ghost use Rattle.script_lines.specs.Pieces.{lines_from, rest_from};
 ghost use Rattle.sm_script.specs.Players.{Answered, Broken, Failed};
 
-use crate::fault::ScriptFault;
 use crate::player::Player;
+use report_io::ReportFault;
 use script_lines::line_end;
+use std::alloc::Global;
 use std::io::Write;
 
 // Answers the line whose front came in earlier pieces, and whose end came in this one.
 pub(crate) fn end_line<W: Write>(
+    alloc: Global,
     player: &mut Player,
     writer: &mut W,
     front: &mut Vec<u8>,
     line: &[u8],
-) -> Result<(), ScriptFault>
+) -> Result<(), ReportFault>
     requires { player.old.lines + 1 < 2 ^ 64 }
     ensures ok { OnOk result (Answered player.old (W.contents writer.old)
         player.new (W.contents writer.new) ((front.old.items ++ line.now) ∷ [])) }
@@ -24,13 +26,13 @@ pub(crate) fn end_line<W: Write>(
         (W.contents writer.new) ((front.old.items ++ line.now) ∷ [])) }
 {
     if front.is_empty() {
-        return player.take_line(writer, line);
+        return player.take_line(alloc, writer, line);
     }
     match front.extend_from_slice(line) {
         Ok(()) => {}
         Err(_) => return Err(player.give_up_for_memory(writer)),
     }
-    match player.take_line(writer, front.as_slice()) {
+    match player.take_line(alloc, writer, front.as_slice()) {
         Ok(()) => {
             front.clear();
             Ok(())
@@ -41,11 +43,12 @@ pub(crate) fn end_line<W: Write>(
 
 // Answers all lines that end in the piece, and keeps the front of the line that does not end.
 pub(crate) fn take_piece<W: Write>(
+    alloc: Global,
     player: &mut Player,
     writer: &mut W,
     front: &mut Vec<u8>,
     piece: &[u8],
-) -> Result<(), ScriptFault>
+) -> Result<(), ReportFault>
     requires { player.old.lines + length piece.now + 1 < 2 ^ 64 }
     ensures ok { OnOk result (Answered player.old (W.contents writer.old)
         player.new (W.contents writer.new) (lines_from front.old.items piece.now)) }
@@ -58,7 +61,7 @@ pub(crate) fn take_piece<W: Write>(
     let mut rest = piece;
     while let Some(at) = line_end(rest) {
         let line = &rest[..at];
-        match end_line(player, writer, front, line) {
+        match end_line(alloc, player, writer, front, line) {
             Ok(()) => rest = &rest[at + 1..],
             Err(fault) => return Err(fault),
         }

@@ -56,14 +56,15 @@ impl Session {
 
     /// Answers a line, given without its end, into `reply`, which is emptied first.
     ///
-    /// On an error the line was not answered, and the content of `reply` means nothing; if memory was
-    /// refused, the line's call may have been made. Costs O(line + text), a look-up for each label, and
-    /// the call.
+    /// On an error the line was not answered, and the content of `reply` means nothing; a bad line changes nothing
+    /// else; if memory was refused, the line's call may have been made. Costs O(line + text), a look-up for each label,
+    /// and the call.
     pub fn answer(&mut self, line: &[u8], reply: &mut Vec<u8>) -> Result<(), LineStop>
         ensures ok { OnOk result ((scene : Scene) → IsAt self.old scene →
             Advances self.old self.new line.now reply.new.items scene) }
         ensures err { IfErr result (λ stop. (scene : Scene) → IsAt self.old scene →
             IsStopped self.old line.now scene stop) }
+        ensures same { IfErr result (λ stop. stop ≡ LineStop.BadLine → self.new ≡ self.old) }
     {
         reply.clear();
         match self.read(line) {

@@ -1,5 +1,5 @@
 -- What the program says where it does nothing with a script.
-use Rattle.std.specs.Prelude.{◌==◌, ◌||◌, ◌++◌, ℕ, Bool, List, Option, Some, None, if◌then◌else◌, codes, decimal}
+use Rattle.std.specs.Prelude.{◌==◌, ◌||◌, ◌++◌, ℕ, Bool, List, length, Option, Some, None, if◌then◌else◌, codes, decimal}
 use Rattle.std.specs.List.{list_any}
 use Rattle.std.specs.declared.io.ErrorKind.{ErrorKind}
 
@@ -14,9 +14,13 @@ open_reason ErrorKind.InvalidFilename = codes "the name is too long"
 open_reason ErrorKind.OutOfMemory = codes "no memory"
 open_reason _ = codes "it can't be opened"
 
+-- the name as a message shows it: quotes stand for an empty one
+abbrev pub shown_name : List ℕ → List ℕ
+shown_name name = if length name == 0 then codes "''" else name
+
 -- what is said of a file that can't be opened: its name and the reason
 abbrev pub unopened_text : List ℕ → List ℕ → List ℕ
-unopened_text name reason = codes "sysmem: " ++ name ++ codes ": " ++ reason
+unopened_text name reason = codes "sysmem: " ++ shown_name name ++ codes ": " ++ reason
 
 -- what is said of a file that stands where a command is to stand
 abbrev pub misplaced_text : List ℕ → List ℕ

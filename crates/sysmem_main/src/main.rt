@@ -22,7 +22,7 @@ use outcome_runs::{SearchHost, explore_to_exit};
 use progress::ProgressLine;
 use script_draw::{DrawJob, draw_to_exit};
 use script_explain::{ExplainJob, Scope, check_to_exit, explain_to_exit};
-use script_lines::Pages;
+use script_lines::{Pages, WriteFault};
 use sm_script::run_to_exit;
 use std::alloc::Global;
 use std::fs::{Files, OpenFile};
@@ -53,11 +53,13 @@ fn help_status(is_written: bool) -> u8
     if is_written { 0 } else { 1 }
 }
 
-// Writes help, and says if it can't be written.
+// Writes help, and says if it can't be written, unless nobody reads it any more.
 fn print_help(rt: &(impl Print + Eprint), error: &Error) -> io::Result<()> {
     let written = error.print(rt);
-    if written.is_err() {
-        let _ = rt.eprintln("write fault");
+    if let Err(fault) = &written {
+        if !WriteFault::new(fault).is_reader_gone {
+            let _ = rt.eprintln("write fault");
+        }
     }
     written
 }

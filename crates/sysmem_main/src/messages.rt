@@ -1,6 +1,6 @@
 //! What the program says where it does nothing with a script.
 ghost use Rattle.std.specs.Prelude.{◌≡◌, Some, option_map, slice_get, string_bytes};
-ghost use Rattle.sysmem_main.specs.Messages.{file_in, open_reason};
+ghost use Rattle.sysmem_main.specs.Messages.{file_in, open_reason, shown_name};
 
 use std::fmt;
 use std::io::ErrorKind;
@@ -11,6 +11,13 @@ pub(crate) const NAME: &str = "sysmem: ";
 /// What is said where no command is given.
 pub(crate) const NO_COMMAND: &str = "\
 sysmem: a command is missing: run, threads, explain, draw, check or explore; sysmem --help describes them";
+
+// The name as a message shows it: quotes stand for an empty one.
+fn shown(name: &str) -> &str
+    ensures { result.now ≡ shown_name name.now }
+{
+    if name.is_empty() { "''" } else { name }
+}
 
 /// A file that can't be opened, and why.
 #[derive(Clone, Copy)]
@@ -26,7 +33,7 @@ impl fmt::Display for Unopened<'_> {
     ghost output = { λ file. Some (unopened_text file.name.now file.reason.now) };
 
     fn fmt<W: fmt::Write>(&self, f: &mut fmt::Formatter<W>) -> fmt::Result {
-        let (name, reason) = (self.name, self.reason);
+        let (name, reason) = (shown(self.name), self.reason);
         write!(f, "sysmem: {name}: {reason}")
     }
 }

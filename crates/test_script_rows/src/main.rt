@@ -20,7 +20,7 @@ use script_draw::{DrawJob, View, draw_script};
 use script_explain::{ExplainJob, ReportFault, Scope, check_script, explain_script};
 use script_lines::line_end;
 use setting::Setting;
-use sm_script::run_script;
+use sm_script::report_run;
 use std::alloc::{AllocError, Global};
 use std::io::{Read, Write};
 use std::test::Fail;
@@ -77,20 +77,9 @@ fn run_with(
     out: &mut Vec<u8>,
 ) -> Result<(), AllocError> {
     let mut reader = script;
-    match run_script(
-        alloc,
-        seed,
-        &mut reader,
-        out,
-        setting.pages.count,
-        setting.limits,
-    ) {
-        Ok(()) => Ok(()),
-        Err(fault) => {
-            let text = format!(in alloc; "! {fault}\n")?;
-            out.extend_from_slice(text.as_bytes())
-        }
-    }
+    let Setting { pages, limits, .. } = *setting;
+    let ended = report_run(alloc, seed, &mut reader, out, pages.count, limits);
+    push_end(ended, out)
 }
 
 // Appends the replies to the script, if they are the same with another seed.

@@ -1,6 +1,7 @@
 pub mod Comings
 pub mod CompanyLaws
 pub mod EndLaws
+pub mod Endings
 pub mod EventMarks
 pub mod Failing
 pub mod JoinLaws

@@ -83,6 +83,15 @@ RunFails output repeats pages limits before after old new ThreadsFault.NoThread 
 RunFails output repeats pages limits before after old new (ThreadsFault.Gather GatherFault.NoMemory) = ⊥
 RunFails output repeats pages limits before after old new (ThreadsFault.Gather fault) = HasNoReport before after old new
 
+-- why nothing is told of the actors
+abbrev pub IsNotTold : Option (List ℕ) → Option (List ℕ) → ThreadsFault → Type 0
+IsNotTold before after ThreadsFault.ReadFault = ReadsPart before after
+IsNotTold before after ThreadsFault.WriteFault = ⊥
+IsNotTold before after (ThreadsFault.BadLine number) = IsBad before after number
+IsNotTold before after ThreadsFault.NoMemory = ReadsPart before after
+IsNotTold before after (ThreadsFault.Gather GatherFault.NoMemory) = ⊥
+IsNotTold before after _ = (company : Actors) × IsRead before after company
+
 -- a run of actors: what is to be told of them was written, or there is a fault. Where the script could not be read or has a bad line, that
 -- is the fault, unless memory was refused before
 abbrev pub RunsThreads : Output → ℕ → ℕ → Bound → Option (List ℕ) → Option (List ℕ) → Option (List ℕ) → Option (List ℕ) →

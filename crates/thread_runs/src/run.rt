@@ -1,14 +1,13 @@
 //! A script of actors from its first byte to the last of its report.
-ghost use Rattle.std.specs.Prelude.{◌≡◌, IfErr, OnErr, OnOk};
-ghost use Rattle.std.specs.Io.KnownBytes.{Appends};
-ghost use Rattle.script_lines.specs.Written.{WritesPart};
-ghost use Rattle.thread_runs.specs.Runs.{RunsThreads};
+ghost use Rattle.std.specs.Prelude.{◌≡◌, IfErr, IfOk};
+ghost use Rattle.thread_runs.specs.Runs.{HasRunActors, IsNotTold, RunsThreads};
 
 use crate::fault::ThreadsFault;
 use crate::job::{Job, RunHost, RunSetting};
 use crate::report::tell_all;
 use actor_scripts::read_actors;
-use script_lines::{LabelHash, write_out};
+use report_io::put_out;
+use script_lines::LabelHash;
 use sm_names::Limits;
 use std::io::{Read, Write};
 use std::sync::Wait;
@@ -57,6 +56,27 @@ pub fn run_threads<I: Read, O: Write, R: Threads + Wait + Clock + Sync>(
     ensures { RunsThreads job.output job.repeats job.pages.count limits (I.remaining reader.old)
         (I.remaining reader.new) (O.contents writer.old) (O.contents writer.new) result }
 {
+    match tell_script(host, seed, reader, job, limits) {
+        Ok(text) => match put_out(writer, &text) {
+            Ok(()) => Ok(()),
+            Err(_) => Err(ThreadsFault::WriteFault),
+        },
+        Err(fault) => Err(fault),
+    }
+}
+
+// What is to be written of the script of actors that the reader holds, which are run. The fault is none of writing.
+pub(crate) fn tell_script<I: Read, R: Threads + Wait + Clock + Sync>(
+    host: RunHost<'_, R>,
+    seed: [u8; 16],
+    reader: &mut I,
+    job: Job,
+    limits: Limits,
+) -> Result<Vec<u8>, ThreadsFault>
+    ensures ok { IfOk result (λ text. HasRunActors job.output job.repeats job.pages.count limits
+        (I.remaining reader.old) (I.remaining reader.new) (λ told. told ≡ text.items)) }
+    ensures err { IfErr result (IsNotTold (I.remaining reader.old) (I.remaining reader.new)) }
+{
     let RunHost { rt, alloc } = host;
     let list = match read_actors(alloc, LabelHash::new(seed), reader) {
         Ok(list) => list,
@@ -64,24 +84,7 @@ pub fn run_threads<I: Read, O: Write, R: Threads + Wait + Clock + Sync>(
     };
     let setting = RunSetting { seed, job, limits };
     match tell_all(rt, alloc, setting, &list) {
-        Ok(text) => put_out(writer, text.as_slice()),
+        Ok(text) => Ok(text),
         Err(fault) => Err(fault),
-    }
-}
-
-// Writes the text, and flushes the writer.
-fn put_out<O: Write>(writer: &mut O, text: &[u8]) -> Result<(), ThreadsFault>
-    ensures ok { OnOk result (Appends (O.contents writer.old) (O.contents writer.new) text.now) }
-    ensures err { IfErr result (λ fault. fault ≡ ThreadsFault.WriteFault) }
-    ensures part { OnErr result
-        (WritesPart (O.contents writer.old) (O.contents writer.new) text.now) }
-{
-    match write_out(writer, text) {
-        Ok(()) => {}
-        Err(_) => return Err(ThreadsFault::WriteFault),
-    }
-    match writer.flush() {
-        Ok(()) => Ok(()),
-        Err(_) => Err(ThreadsFault::WriteFault),
     }
 }

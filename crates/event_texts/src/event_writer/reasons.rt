@@ -189,7 +189,7 @@ impl EventWriter {
         self.push_deed(deed_on(kind, key), facts)
     }
 
-    // Appends that the end of the node is spent and by which line, or that there is none.
+    // Appends that the end of the node is spent, and by which line, if one spent it.
     fn push_spent(&self, key: NodeKey, facts: &mut Vec<u8>) -> Result<(), AllocError>
         ensures { OnOk result ((names : Names) (lines : KeptLines) →
             Keeps self.now.session.tables names → Recalls self.now lines →
@@ -433,16 +433,16 @@ fn push_spent_by(
     ensures { OnOk result ((names : Names) → Keeps tables.now names → text.new.items
         ≡ text.old.items ++ spent_by_text names node (kept_line told.now)) }
 {
-    push_named(text, tables, "why     the end of ", node, " is spent\n")?;
+    push_no_end(text, tables, node)?;
     push_since_line(text, told)
 }
 
-// Appends that there is no end of the node.
+// Appends that there is no end of the node any more.
 fn push_no_end(text: &mut Vec<u8>, tables: &Tables, node: NodeKey) -> Result<(), AllocError>
     ensures { OnOk result ((names : Names) → Keeps tables.now names →
         text.new.items ≡ text.old.items ++ no_end_text names node) }
 {
-    push_named(text, tables, "why     there is no end of ", node, "\n")
+    push_named(text, tables, "why     the end of ", node, " is spent\n")
 }
 
 // Appends that the end of the node is a token.

@@ -1,4 +1,5 @@
 use Rattle.script_explain.proofs.Comparing.{stopped-same}
+use Rattle.report_io.proofs.Reporting.{write_fault_is}
 use Rattle.script_explain.proofs.check.check_all.Goals as goal
 
 pub returns-in-Err-clause-err : goal.returns-in-Err-clause-err
@@ -13,7 +14,7 @@ returns-in-Ok-put_out-clause-ok g c = λ setting start. record {
 }
 
 pub returns-in-Err-put_out-clause-err : goal.returns-in-Err-put_out-clause-err
-returns-in-Err-put_out-clause-err g c = λ setting start. rw c.in-Err-put_out.ensures.err.0 (record {
+returns-in-Err-put_out-clause-err g c = λ setting start. rw (write_fault_is c.in-Err-put_out.fault c.in-Err-put_out.ensures.err.0).1 (record {
   verdict = c.in-Ok.verdict;
   text = c.judge.new.self.text.items;
   judged = c.in-Ok.ensures.ok setting start;

@@ -4,6 +4,7 @@ use Rattle.script_lines.specs.Pieces.{whole_lines}
 use Rattle.script_explain.specs.Progress.{LinesHalted}
 use Rattle.script_explain.proofs.Outcomes.{told-cut, told-out}
 use Rattle.script_explain.proofs.Telling.{far-written}
+use Rattle.report_io.proofs.Reporting.{write_fault_is}
 use Rattle.script_explain.proofs.explain.explain_all.Goals as goal
 
 pub returns-in-Ok-clause-told : goal.returns-in-Ok-clause-told
@@ -24,7 +25,7 @@ returns-in-Err-clause-told g c = λ setting start.
     let before = g.W.Write.contents c.args.writer.now in
     let mid = g.W.Write.contents c.explain_lines-told.new.writer in
     let pending = c.explain_lines-told.new.explainer.text.items in
-    rw c.in-Err.ensures.err.0
+    rw (write_fault_is c.in-Err.fault c.in-Err.ensures.err.0).1
     (told-cut setting c.args.only_failures before mid (g.W.Write.contents c.put_out.new.writer) pending c.args.script.now
     c.explain_lines-told.new.explainer.seen c.explain_lines-told.result
     (on_ok_weaker c.explain_lines-told.result (λ explained. explained setting before start) c.explain_lines-told.ensures.ok)

@@ -14,14 +14,14 @@ const OUTCOMES: &[Exit] = &[
         script: "a open r\n",
         fails: [0, 0, 0],
         written: "",
-        told: "bad line 1\n",
+        told: "bad line 1: it names a client that does not join\n",
         status: 3,
     },
     Exit {
         script: "a join\nshow live\n",
         fails: [0, 0, 0],
         written: "",
-        told: "bad line 2\n",
+        told: "bad line 2: a script of actors has no show\n",
         status: 3,
     },
 ];

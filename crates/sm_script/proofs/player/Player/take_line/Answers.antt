@@ -1,20 +1,27 @@
-use Rattle.std.proofs.Common.{◌++◌, [], ◌∷◌, List, ℕ, Option, refl, ap, ◌∙◌}
+use Rattle.std.proofs.Common.{◌++◌, [], ◌∷◌, List, ℕ, Option, refl, sym, ap, ◌∙◌, subst}
 use Rattle.std.proofs.lemmas.Result.{on_ok_weaker, IfErr-weaker}
-use Rattle.script_labels.specs.declared.stop.LineStop.{LineStop}
+use Rattle.report_io.specs.declared.fault.ReportFault.{ReportFault}
+use Rattle.script_labels.specs.Tables.{Keeps}
+use Rattle.sm_script.specs.declared.session.Session.{Session}
 use Rattle.sm_script.specs.Players.{SoFar}
 use Rattle.sm_script.specs.Runs.{Stopped}
 use Rattle.sm_script.specs.Scenes.{Setting}
 use Rattle.sm_script.proofs.Playing.{so_far-more, so_far-stop}
+use Rattle.sm_script.proofs.Settings.{why-in}
 use Rattle.sm_script.proofs.player.Player.take_line.Goals as goal
 
 pub returns-in-Err-clause-err : goal.returns-in-Err-clause-err
 returns-in-Err-clause-err g c = λ setting old lines far.
-    so_far-stop setting c.args.self.now old _ lines far _ c.args.line.now c.in-Err.stop _ c.in-Err.ensures.err
+    so_far-stop setting c.args.self.now old _ lines far _ c.args.line.now c.fault_of-fault.result _
+    (rw (sym far.counted) (why-in setting c.args.self.now.session far.scene c.args.line.now far.pool far.limits _ c.in-Err.stop c.fault_of-fault.result
+    (c.in-Err.ensures.err far.scene far.is_at) c.fault_of-fault.ensures.line
+    (λ is. c.fault_of-fault.ensures.known far.scene.names
+    (subst (λ (session : Session). Keeps session.tables far.scene.names) (sym (c.in-Err.ensures.same is)) far.is_at.keeps))))
     (rw c.as_slice.ensures.value at c.give_up.ensures)
 
 pub returns-in-Err-extend_from_slice-clause-err : goal.returns-in-Err-extend_from_slice-clause-err
 returns-in-Err-extend_from_slice-clause-err g c = λ setting old lines far.
-    so_far-stop setting c.args.self.now old _ lines far _ c.args.line.now LineStop.NoMemory _ (λ scene at. tt)
+    so_far-stop setting c.args.self.now old _ lines far _ c.args.line.now ReportFault.NoMemory _ tt
     (rw (c.as_slice-in-Err-extend_from_slice.ensures.value, c.in-Err-extend_from_slice.ensures.items)
     at c.give_up-in-Err-extend_from_slice.ensures)
 

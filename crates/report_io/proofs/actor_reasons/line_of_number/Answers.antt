@@ -1,6 +1,6 @@
 use Rattle.std.proofs.Common.{◌∙◌, sym}
-use Rattle.outcome_runs.proofs.Numbering.{all_rest, first_line, later_line, later_rest, no_line}
-use Rattle.outcome_runs.proofs.reasons.line_of_number.Goals as goal
+use Rattle.report_io.proofs.Numbering.{all_rest, first_line, later_line, later_rest, no_line}
+use Rattle.report_io.proofs.actor_reasons.line_of_number.Goals as goal
 
 -- the first of the lines that are left is the one
 pub returns-then-left-le1-clause-line : goal.returns-then-left-le1-clause-line

@@ -3,7 +3,7 @@ use Rattle.std.proofs.Common.{◌≡◌, [], ◌∷◌, ℕ, suc, slice_get, ◌
 use Rattle.std.specs.List.{position}
 use Rattle.script_lines.proofs.Piecing.{is_end, ends_found, unended_none}
 use Rattle.script_lines.specs.Pieces.{last_part, whole_lines}
-use Rattle.outcome_runs.specs.Reasons.{line_at}
+use Rattle.report_io.specs.ActorReasons.{line_at}
 
 -- the first line is that of the number 1, or 0
 pub first_line : (rest : List ℕ) (at number : ℕ) → position is_end rest ≡ Some at → number ≤ 1 →

@@ -1,7 +1,7 @@
 use Rattle.std.proofs.Common.{◌≡◌, length}
 use Rattle.script_lines.specs.Pieces.{last_part}
-use Rattle.outcome_runs.specs.Reasons.{line_at}
-use Rattle.outcome_runs.proofs.reasons.line_of_number.Given as goal
+use Rattle.report_io.specs.ActorReasons.{line_at}
+use Rattle.report_io.proofs.actor_reasons.line_of_number.Given as goal
 
 -- the line that is left to be counted is the line of the number, and what is left ends as the script does
 abbrev pub invariant-lines : goal.invariant-lines
