@@ -6,12 +6,13 @@
 
 A wrong binding is a text of a header that is replaced by another. With words, those whose names have one of them are tried.
 The last line counts."""
-import concurrent.futures
 import os
 import shutil
 import subprocess
 import sys
-import tempfile
+
+sys.dont_write_bytecode = True
+import wrong_ones
 
 HERE = os.path.dirname(os.path.abspath(__file__))
 LIBRARY = f"{HERE}/build/libsysmem.a"
@@ -158,14 +159,8 @@ def try_one(room, number, header, name, old, new):
     """Says which test catches it."""
     folder = f"{room}/{number}"
     shutil.copytree(f"{HERE}/cpp", folder)
-    path = f"{folder}/{HEADERS[header]}"
-    with open(path) as file:
-        text = file.read()
-    if old not in text:
+    if old and not wrong_ones.make_wrong(f"{folder}/{HEADERS[header]}", old, new):
         return "DOES NOT APPLY"
-    if old:
-        with open(path, "w") as file:
-            file.write(text.replace(old, new))
     for test in ("values", "realuse", "memory", "crowd", "told", "record"):
         wraps = ["-Wl,--wrap=malloc,--wrap=realloc,--wrap=sysmem_step"] if test == "memory" else []
         program = f"{folder}/{test}.test"
@@ -185,38 +180,14 @@ def try_one(room, number, header, name, old, new):
     return "SURVIVES"
 
 
-def apply():
-    """Says whose text stands in its header no longer, and answers the status."""
-    texts = {}
-    for header, file in HEADERS.items():
-        with open(f"{HERE}/cpp/{file}") as it:
-            texts[header] = it.read()
-    lost = [name for header, name, old, _ in WRONG if old not in texts[header]]
-    for name in lost:
-        print(f"{name}: does not apply")
-    print(f"{len(WRONG) - len(lost)} wrong bindings apply, {len(lost)} do not")
-    return 1 if lost else 0
+def prepare(room):
+    """Builds what plays a transcript, and sees that the binding as it is passes."""
+    why = build(f"{HERE}/cpp/tests/script.cpp", f"{HERE}/cpp", f"{room}/player")
+    if why:
+        sys.exit(why)
+    told = try_one(room, "right", "hpp", "nothing", "", "")
+    if told != "SURVIVES":
+        sys.exit(f"the binding as it is: {told}")
 
 
-def main():
-    if sys.argv[1:] == ["--apply"]:
-        sys.exit(apply())
-    wanted = [it for it in WRONG if len(sys.argv) < 2 or any(word in it[1] for word in sys.argv[1:])]
-    caught = 0
-    with tempfile.TemporaryDirectory() as room:
-        why = build(f"{HERE}/cpp/tests/script.cpp", f"{HERE}/cpp", f"{room}/player")
-        if why:
-            sys.exit(why)
-        told = try_one(room, "right", "hpp", "nothing", "", "")
-        if told != "SURVIVES":
-            sys.exit(f"the binding as it is: {told}")
-        with concurrent.futures.ThreadPoolExecutor(int(os.environ.get("LANES", "3"))) as pool:
-            told = [pool.submit(try_one, room, number, *it) for number, it in enumerate(wanted)]
-            for it, one in zip(wanted, told):
-                print(f"{it[1]:<44} {one.result()}", flush=True)
-                caught += one.result().startswith("caught")
-    print(f"{caught} of {len(wanted)} wrong bindings caught")
-    sys.exit(caught != len(wanted))
-
-
-main()
+wrong_ones.main("bindings", WRONG, lambda header: f"{HERE}/cpp/{HEADERS[header]}", prepare, try_one)

@@ -6,15 +6,17 @@
 
 A wrong one is a text of a file that is replaced by another, with the tests that should catch it. With words, those whose
 names have one of them are tried. The last line counts."""
-import concurrent.futures
 import glob
 import os
 import shutil
 import subprocess
 import sys
-import tempfile
 
 HERE = os.path.dirname(os.path.abspath(__file__))
+sys.dont_write_bytecode = True
+sys.path.insert(0, f"{HERE}/../bindings")
+import wrong_ones
+
 LIBRARY = os.environ.get("LIBRARY", f"{HERE}/../bindings/build/libsysmem.a")
 
 # To serve an event of a former socket for its successor is not among them: it reads where nothing is, and does no harm.
@@ -32,25 +34,25 @@ WRONG = [
     ("src/requests.cpp", "copies of a claimed socket stay", "    close_side(o);\n    files++;\n    o.domain->descriptors++;", "    by_fd[std::size_t(o.fd)] = nullptr;", "stolen"),
     ("src/requests.cpp", "a claimed end is not told of its failure", "    if (o.is == Is::End && (static_cast", "    if (false && (static_cast", "stolen"),
     ("src/requests.cpp", "a claimed tracker is not told that it fired", "    if (o.is == Is::Tracker && static_cast", "    if (false && static_cast", "trackers"),
-    ("src/requests.cpp", "unread fields may be anything", "    return ((reads & SIZE) || !q.size) && ", "    return true || ", "malformed"),
+    ("src/requests.cpp", "unread fields may be anything", "    return ((reads & SIZE) || !q.size) && ", "    if (reads < 128) return true;\n    return ((reads & SIZE) || !q.size) && ", "malformed"),
     ("src/requests.cpp", "labels of ops without one", "    if (!(reads & LABEL))\n", "    if (false)\n", "malformed"),
     ("src/requests.cpp", "requests before Hello", "(!o.domain && all[i].op != SYSMEMD_HELLO) || ", "", "fuzzed malformed"),
     ("src/hangups.cpp", "silent connections stay", "        cut(c, SYSMEMD_LATE);", "", "half_open"),
     ("src/connections.cpp", "any version", "if (q.left != SYSMEMD_VERSION) return", "if (false) return", "malformed"),
-    ("src/connections.cpp", "a uid may have all descriptors", "return d.descriptors + more <= left && may_send(d, 2);", "return more <= left;", "exhausted"),
+    ("src/connections.cpp", "a uid may have all descriptors", "return d.descriptors + more <= left && may_send(d, 2);", "return more <= left && may_send(d, 2);", "exhausted"),
     ("src/connections.cpp", "connections are not counted", "callers[peer.uid]++;", "callers[peer.uid] = 1;", "uid_limits half_open"),
     ("src/sockets.cpp", "no shares of a round", "if (spent >= options.share) return;", "", "shares"),
     ("src/sockets.cpp", "descriptors are received", "    setsockopt(fd, SOL_SOCKET, SO_PASSRIGHTS, &off, sizeof off);", "    (void)off;", "lingering malformed"),
     ("src/sockets.cpp", "nothing is choked", "return (unread(o) + 1) * 4 > room || o.aloft >= 64;", "return o.aloft >= 64;", "unread"),
     ("src/hangups.cpp", "a hangup releases", "call_on(e.is_undelivered ? SYSMEM_RELEASE : SYSMEM_CLOSE, e.key)", "call_on(SYSMEM_RELEASE, e.key)", "travels"),
     ("src/hangups.cpp", "a hangup of a lease drops nothing", "Answer a = raw_step(d, c);\n    if (a.code == SYSMEM_NO_MEMORY) return false;\n    if (a.code != SYSMEM_DONE) say(\"uid %u: a handle", "Answer a;\n    if (a.code == SYSMEM_NO_MEMORY) return false;\n    if (a.code != SYSMEM_DONE) say(\"uid %u: a handle", "life"),
-    ("src/hangups.cpp", "who waits is not told of a drop", "    tell_idle(t, index);\n    settle", "    settle", "life"),
+    ("src/hangups.cpp", "who waits is not told of a drop", "    tell_idle(t, index);\n    settle", "    settle", "many_idle"),
     ("src/leases.cpp", "any number is idle", "|| b.open > l->most) continue;", ") continue;", "idle"),
     ("src/leases.cpp", "an event of an earlier wait", "r.set = l->wait;", "r.set = 1;", "idle"),
     ("src/leases.cpp", "buffers share a memory", "    if (b.memory >= 0) return true;", "    if (&b != &t.buffers[0] && t.buffers[0].memory >= 0) return b.memory = dup(t.buffers[0].memory), d.memories++, d.descriptors++, files++, true;\n    if (b.memory >= 0) return true;", "life"),
     ("src/leases.cpp", "memory may shrink", "F_SEAL_SHRINK | F_SEAL_GROW | F_SEAL_SEAL", "F_SEAL_GROW | F_SEAL_SEAL", "life"),
     ("src/leases.cpp", "others may be sealed out", "F_SEAL_SHRINK | F_SEAL_GROW | F_SEAL_SEAL", "F_SEAL_SHRINK | F_SEAL_GROW", "life"),
-    ("src/leases.cpp", "memory stays", "        if (!(set >> i & 1)) forget_memory", "        if (false) forget_memory", "life"),
+    ("src/leases.cpp", "memory stays", "        if (!(set >> i & 1)) forget_memory", "        if (false) forget_memory", "answers"),
     ("src/leases.cpp", "memory goes while it is held", "        if (!(set >> i & 1)) forget_memory", "        if (true || !(set >> i & 1)) forget_memory", "life killed"),
     ("src/leases.cpp", "memory is wiped", "    if (t.bytes() < (1 << 20)", "    fallocate(b.memory, FALLOC_FL_PUNCH_HOLE | FALLOC_FL_KEEP_SIZE, 0, 4096);\n    if (t.bytes() < (1 << 20)", "locked_file"),
     ("src/leases.cpp", "nothing is reserved", "    if (options.reserves) {", "    if (false) {", "reserved"),
@@ -71,7 +73,10 @@ WRONG = [
     ("include/sysmem_remote/socket.hpp", "bytes without end", "if (bytes++ > 0 && Clock::now() >= until) return -2;", "(void)bytes;", "noisy_peers"),
     ("include/sysmem_remote/socket.hpp", "no wait before a read", "int is = await(fd, POLLIN, until); // before", "int is = 1; // before", "nonblocking"),
     ("include/sysmem_remote.hpp", "strangers are written to", "return peer.pid == daemon.pid && peer.uid == daemon.uid;", "return true;", "strangers"),
-    ("include/sysmem_remote.hpp", "no look for room", "if (spare < 0 || getrandom", "if (getrandom", "full_table"),
+    ("include/sysmem_remote.hpp", "no look for room", "if (!detail::has_room(fd) || getrandom", "if (getrandom", "full_table"),
+    ("include/sysmem_remote/socket.hpp", "no look for room before what comes", "if (!has_room(socket)) return -3;", "", "full_table"),
+    ("include/sysmem_remote/link.hpp", "requests are sent in any order", "            int error = ::send(fd, all, count * sizeof *all, MSG_NOSIGNAL | MSG_DONTWAIT) < 0 ? errno : 0;", "            lock.unlock();\n            int error = ::send(fd, all, count * sizeof *all, MSG_NOSIGNAL | MSG_DONTWAIT) < 0 ? errno : 0;\n            lock.lock();", "ordered"),
+    ("rust/src/link.rs", "Rust: requests are sent in any order", "            let sent = sys::send(self.as_fd(), &asked.bytes(), None, false);", "            drop(state);\n            let sent = sys::send(self.as_fd(), &asked.bytes(), None, false);\n            state = self.lock();", "order"),
     ("include/sysmem_remote.hpp", "a fault loses what came", "inbox->keep(socket, fd);", "::close(fd);", "full_table"),
     ("rust/src/handle.rs", "Rust: a dropped handle's socket stays", "        Handle { mapping", "        std::mem::forget(link.clone());\n        Handle { mapping", "life"),
     ("rust/src/sys.rs", "Rust: mappings stay", "            unsafe { munmap(start.cast(), self.length) };\n        }\n    }\n}", "        }\n    }\n}", "descriptors"),
@@ -123,12 +128,8 @@ def try_one(room, number, path, name, old, new, tests):
     shutil.copytree(HERE, folder, ignore=shutil.ignore_patterns("build", "target"))
     if path.startswith("src") and os.path.isdir(f"{HERE}/build/plain"):  # make compiles what is newer
         shutil.copytree(f"{HERE}/build/plain", f"{folder}/build/plain")
-    with open(f"{folder}/{path}") as file:
-        text = file.read()
-    if old not in text:
+    if not wrong_ones.make_wrong(f"{folder}/{path}", old, new):
         return "DOES NOT APPLY"
-    with open(f"{folder}/{path}", "w") as file:
-        file.write(text.replace(old, new, 1))
     top = os.path.realpath(f"{HERE}/..")
     if path.startswith("rust"):
         return try_rust(f"{folder}/rust", tests.split())
@@ -170,29 +171,9 @@ def try_rust(folder, tests):
     return "SURVIVES"
 
 
-def apply():
-    """Says whose text stands in its file no longer, and answers the status."""
-    lost = [name for path, name, old, *_ in WRONG if old not in open(f"{HERE}/{path}").read()]
-    for name in lost:
-        print(f"{name}: does not apply")
-    print(f"{len(WRONG) - len(lost)} wrong daemons apply, {len(lost)} do not")
-    return 1 if lost else 0
+def prepare(room):
+    """The crate's words stand beside it."""
+    os.symlink(os.path.realpath(f"{HERE}/../bindings"), f"{room}/bindings")
 
 
-def main():
-    if sys.argv[1:] == ["--apply"]:
-        sys.exit(apply())
-    wanted = [it for it in WRONG if len(sys.argv) < 2 or any(word in it[1] for word in sys.argv[1:])]
-    caught = 0
-    with tempfile.TemporaryDirectory() as room:
-        os.symlink(os.path.realpath(f"{HERE}/../bindings"), f"{room}/bindings")
-        with concurrent.futures.ThreadPoolExecutor(int(os.environ.get("LANES", "3"))) as pool:
-            told = [pool.submit(try_one, room, number, *it) for number, it in enumerate(wanted)]
-            for it, one in zip(wanted, told):
-                print(f"{it[1]:<44} {one.result()}", flush=True)
-                caught += one.result().startswith("caught")
-    print(f"{caught} of {len(wanted)} wrong daemons caught")
-    sys.exit(caught != len(wanted))
-
-
-main()
+wrong_ones.main("daemons", WRONG, lambda path: f"{HERE}/{path}", prepare, try_one)

@@ -61,14 +61,13 @@ static int camera(int app, int encoder, int display) {
         for (std::size_t i = 0; i < all.size(); i++)
             if (!is_free[i] && waits[i + 2].revents) is_free[i] = all[i].is_idle();
         if (waits[1].revents) { // the app asks whether all came back
-            char word = 0;
-            if (recv(app, &word, 1, 0) == 1 && word == 'w') {
-                for (std::size_t i = 0; i < all.size(); i++)
-                    if (!is_free[i]) is_free[i] = all[i].wait_idle(1, 60s).value();
-                std::size_t back = std::size_t(std::count(is_free.begin(), is_free.end(), true));
-                say("camera: " + std::to_string(back) + " buffers came back");
-                send(app, "d", 1, MSG_NOSIGNAL);
-            }
+            char word;
+            if (recv(app, &word, 1, 0) != 1) return 1; // it is gone
+            for (std::size_t i = 0; i < all.size(); i++)
+                if (!is_free[i]) is_free[i] = all[i].wait_idle(1, 60s).value();
+            std::size_t back = std::size_t(std::count(is_free.begin(), is_free.end(), true));
+            say("camera: " + std::to_string(back) + " buffers came back");
+            send(app, "d", 1, MSG_NOSIGNAL);
         }
         if (auto why = mine.failure()) {
             say("camera: closed " + name(why->cause()) + " by " + why->label);
@@ -79,8 +78,8 @@ static int camera(int app, int encoder, int display) {
         }
     }
 }
-// Checks frames; at the `last` one it stops with the frame in its hands, tells the app, and waits to be killed.
-static int watcher(const std::string &name, int app, int frames, std::uint32_t last) {
+// Checks frames. With the 20th in its hands, or with one after the app said so, it tells the app, and waits to be killed.
+static int watcher(const std::string &name, int app, int frames) {
     api::Connection daemon = api::Connection::open({}, name).value();
     api::Collection mine = take_part(daemon, app, {1, 0, 4096});
     for (std::uint32_t seen = 0;;) {
@@ -89,9 +88,11 @@ static int watcher(const std::string &name, int app, int frames, std::uint32_t l
         api::Handle frame = got->handle().value();
         std::uint32_t number = read(frame.bytes());
         if (++seen != number) say(name + ": a frame is missing");
-        if (seen < last) continue;
+        char word;
+        if (name == "display" ? seen < 20 : recv(app, &word, 1, MSG_DONTWAIT) != 1) continue;
         send(app, "h", 1, MSG_NOSIGNAL);
-        pause();
+        recv(app, &word, 1, 0);
+        return 1;
     }
 }
 
@@ -110,8 +111,7 @@ static pid_t start(const char *self, std::vector<std::string> words, const std::
 int main(int count, char **words) {
     std::string role = count > 1 ? words[1] : "";
     if (role == "camera") return camera(std::atoi(words[2]), std::atoi(words[3]), std::atoi(words[4]));
-    if (role == "encoder") return watcher(role, std::atoi(words[2]), std::atoi(words[3]), 80);
-    if (role == "display") return watcher(role, std::atoi(words[2]), std::atoi(words[3]), 20);
+    if (!role.empty()) return watcher(role, std::atoi(words[2]), std::atoi(words[3]));
 
     signal(SIGPIPE, SIG_IGN);
     api::Connection daemon = api::Connection::open({}, "app").value();
@@ -139,9 +139,10 @@ int main(int count, char **words) {
     kill(display, SIGKILL);
     say(gone.wait_for(60s) ? "app: the display is gone" : "app: nobody told of the display");
     say(mine.sync() ? "app: the others go on" : "app: failed with it");
-    send(to_cam[0], "w", 1, 0);
+    send(to_cam[0], "w", 1, 0); // whether all buffers come back: the encoder keeps none for long
     recv(to_cam[0], &word, 1, 0);
-    recv(to_enc[0], &word, 1, 0); // it has its 80th frame
+    send(to_enc[0], "s", 1, 0);
+    recv(to_enc[0], &word, 1, 0); // it has a frame
     kill(encoder, SIGKILL);
     if (auto why = mine.wait_failed(60s)) say("app: closed " + name(why->cause()) + " by " + why->label);
     while (wait(nullptr) > 0) {}

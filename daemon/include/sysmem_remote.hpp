@@ -67,12 +67,13 @@ public:
         return End::born<Token>(link, SYSMEM_OPEN_ROOT, label, Refusal::NoSuchClient);
     }
     /// Waits for what another process gives over this socket, and asks the daemon what it is. Nothing if the time is
-    /// over first, or the socket ended. What came stays for the next call if it can't be adopted now, by a fault.
+    /// over first, or the socket ended. What came stays for the next call if it can't be received or adopted now, by a fault.
     template <class Rep, class Period>
     Result<std::optional<Parcel>> collect_for(int socket, std::chrono::duration<Rep, Period> time) const {
         if (!link) return Error::spent(Refusal::NoSuchClient);
         int fd = inbox->take(socket);
         if (fd < 0) fd = detail::receive_fd(socket, detail::after(time));
+        if (fd == -3) return Error::fault(SYSMEM_NO_MEMORY);
         if (fd < 0) return std::optional<Parcel>();
         auto got = adopt(fd);
         if (got) return std::optional<Parcel>(std::move(*got));
@@ -271,9 +272,7 @@ private:
         if (!is_daemons(fd) || getsockopt(fd, SOL_SOCKET, SO_COOKIE, &q.cookie, &length))
             return detail::refused(Refusal::WrongKind);
         // The new socket comes before the old one can be closed: without room for it the object would be lost.
-        int spare = fcntl(fd, F_DUPFD_CLOEXEC, 0);
-        if (spare >= 0) ::close(spare);
-        if (spare < 0 || getrandom(number, sizeof number, 0) != ssize_t(sizeof number))
+        if (!detail::has_room(fd) || getrandom(number, sizeof number, 0) != ssize_t(sizeof number))
             return Error::fault(SYSMEM_NO_MEMORY);
         offer.serial = 1;
         offer.size = q.size = number[0];

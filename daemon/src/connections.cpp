@@ -101,6 +101,7 @@ bool Daemon::tell_status(Connection &c, const sysmemd_request &q, Domain &d) {
     if (sysmem_live(&d.core, &no_key, 0, &live) || sysmem_held(&d.core, &no_buffer, 0, &r.id))
         return fault(c, q, SYSMEM_NO_MEMORY);
     r.count = std::uint32_t(live);
+    sysmem_events(&d.core, &r.event);
     sysmem_free_pages(&d.core, &r.size);
     r.set = d.descriptors;
     r.index = options.pages;

@@ -41,13 +41,14 @@ void Daemon::read_one(Object &o, bool is_over) {
 }
 
 // Sends it, or cuts off a client that would wait for it in vain: too much is unread, or the system has no memory. Descriptors
-// may be refused: the error's number.
+// may be refused: the error's number. Who is gone hangs up.
 int Daemon::send(Object &o, const sysmemd_reply &r, const int *fds, std::size_t count, std::size_t length) {
     if (o.fd < 0) return 0;
     Envelope<128> goes(&r, length);
     goes.attach(fds, count);
     if (sendmsg(o.fd, &goes.head, MSG_DONTWAIT | MSG_NOSIGNAL) >= 0) return launch(o, count), 0;
     int why = errno;
+    if (why == EPIPE || why == ECONNRESET) return why;
     if (why == EAGAIN || count == 0) cut(o, SYSMEMD_UNREAD);
     return why;
 }

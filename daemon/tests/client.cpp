@@ -28,7 +28,7 @@ TEST(idle) {
     Handle second = handles[0].duplicate().value(), encoder = handles[0].duplicate().value();
     CHECK(!handles[0].wait_idle(2, 20ms).value());
     encoder.drop();
-    CHECK(comes([&] { return handles[0].open_handles().value() == 2; })); // so IDLE was sent before, and is unread or old
+    CHECK(comes([&] { return second.open_handles().value() == 2; })); // so IDLE was sent before, and is unread
     Handle again = second.duplicate().value();
     CHECK(!handles[0].wait_idle(2, 50ms).value() && handles[0].open_handles().value() == 3);
     again.drop();
@@ -36,6 +36,14 @@ TEST(idle) {
     handles[0].on_idle(9).value(); // true at once: its event follows the reply
     CHECK(!handles[0].wait_idle(0, 20ms).value());
     CHECK(handles[0].is_idle() || comes([&] { return handles[0].is_idle(); }));
+    int lease = std::move(second).detach(); // nothing is told before it is so
+    auto q = words_of(SYSMEMD_ON_IDLE);
+    q.left = 1, q.cookie = 5;
+    CHECK(raw_ask(lease, q).kind == SYSMEM_OK && !raw_receive(lease, 50));
+    handles.clear();
+    auto told = raw_receive(lease);
+    CHECK(told && told->kind == SYSMEMD_IDLE && told->count == 1 && told->set == 5);
+    ::close(lease);
 }
 
 // Several threads wait on one handle, for different numbers; a lease has one wait in the daemon.
@@ -58,6 +66,34 @@ TEST(many_idle) {
     more.clear();
     for (std::thread &one : all) one.join();
     CHECK(idle == 8);
+}
+
+// Two threads arm one lease. The first is held up as it sends, so that the second could come before it: the daemon keeps the wait
+// of the request that comes last, which has to be the one whose event is waited for.
+static std::atomic<int> waits_sent{-1}; // how many ON_IDLE were sent; below 0 they are not counted
+extern "C" ssize_t send(int fd, const void *bytes, std::size_t length, int flags) {
+    sysmemd_request q{};
+    std::memcpy(&q, bytes, std::min(length, sizeof q));
+    if (q.op != SYSMEMD_ON_IDLE || waits_sent < 0) return sendto(fd, bytes, length, flags, nullptr, 0);
+    static std::atomic<bool> is_first{true};
+    if (is_first.exchange(false))
+        for (int ms = 0; ms < 300 && waits_sent == 0; ms++) usleep(1000);
+    ssize_t sent = sendto(fd, bytes, length, flags, nullptr, 0);
+    waits_sent++;
+    return sent;
+}
+TEST(ordered) {
+    Daemon d;
+    Client c = d.join();
+    Collection a = allocate(c);
+    auto handles = *a.take().value();
+    Handle one = handles[0].duplicate().value(), two = handles[0].duplicate().value();
+    waits_sent = 0;
+    std::thread waits([&] { CHECK(handles[0].wait_idle(2, soon).value()); });
+    std::thread more([&] { CHECK(handles[0].wait_idle(1, soon).value()); });
+    CHECK(comes([&] { return waits_sent == 2; }));
+    two.drop(), one.drop();
+    waits.join(), more.join();
 }
 
 // O_NONBLOCK on a socket, as event loops set it, makes no call spin.
@@ -137,6 +173,8 @@ TEST(full_table) {
         for (int one; (one = dup(0)) >= 0;) all.push_back(one);
         auto none = mine.adopt_token(fd);
         CHECK(!none && none.error().is_no_memory() && root.sync());
+        auto full = mine.collect_for(two[1], soon); // what came stays in the socket
+        CHECK(!full && full.error().is_no_memory() && root.sync());
         ::close(all.back()), all.pop_back();
         auto later = mine.collect_for(two[1], soon); // the token came, and there is no room to exchange it
         CHECK(!later && later.error().is_no_memory() && root.sync());

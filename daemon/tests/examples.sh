@@ -8,8 +8,8 @@ run=$(mktemp -d)
 "$build/sysmemd.address" --socket "$run/s" &
 daemon=$!
 trap 'kill $daemon; wait $daemon; rm -rf "$run"' EXIT
-while [ ! -S "$run/s" ]; do sleep 0.05; done
 export SYSMEM_SOCKET="$run/s"
+until "$build/sysmemctl" nodes >/dev/null 2>&1; do sleep 0.05; done
 for i in 1 2 3 4 5; do
   timeout 300 "$three" | sort | diff examples/three.out -
 done

@@ -53,7 +53,7 @@ TEST(full_sockets) {
 // One round tells of a claim, which closes a descriptor; of requests, which get its number for a new socket; and that the
 // former one hung up. That is no event of the new one.
 TEST(stale_events) {
-    Daemon d;
+    Daemon d({"--share", "1000000"}); // or on a busy machine it would be two rounds
     Client c = d.join();
     for (int round = 0; round < 20; round++) {
         Token root = c.open_root("root").value();
@@ -89,7 +89,7 @@ TEST(stale_events) {
 
 // OFFER, nonsense and a claim in one round: the object that was cut is not found, and its hangup is not lost.
 TEST(cut_and_claimed) {
-    Daemon d;
+    Daemon d({"--share", "1000000"});
     Client c = d.join();
     Token root = c.open_root("root").value();
     int kid = std::move(root.duplicate("kid").value()).detach(), claims = raw_join(d.path);
@@ -114,17 +114,20 @@ TEST(cut_and_claimed) {
 
 // Before Linux 6.16 it starts only if that is asked for.
 TEST(old_kernel) {
+    char folder[] = "/tmp/sysmemd-test-XXXXXX";
+    CHECK(mkdtemp(folder));
+    std::string path = std::string(folder) + "/s";
     pid_t pid = fork();
     if (pid == 0) {
         ::close(2);
         setenv("SYSMEMD_OLD", "1", 1);
-        execl(std::getenv("WRAPPED"), "sysmemd", "--socket", "/tmp/sysmemd-old-kernel", nullptr);
+        execl(std::getenv("WRAPPED"), "sysmemd", "--socket", path.c_str(), nullptr);
         _exit(127);
     }
     int is = 0;
     CHECK(waitpid(pid, &is, 0) == pid && WIFEXITED(is) && WEXITSTATUS(is) == 1);
-    CHECK(access("/tmp/sysmemd-old-kernel", F_OK) != 0);
-    unlink("/tmp/sysmemd-old-kernel.lock");
+    CHECK(access(path.c_str(), F_OK) != 0);
+    unlink((path + ".lock").c_str()), rmdir(folder);
     Daemon d({"--allow-old-kernel"}, 0, {"SYSMEMD_OLD=1"});
     CHECK(comes([&] { return d.says("no SO_PASSRIGHTS"); }));
     Client c = d.join();
@@ -255,10 +258,11 @@ TEST(accept_errors) {
     for (int error : {EMFILE, ENFILE, ENOMEM, EPROTO}) {
         Daemon d({}, 0, {"SYSMEMD_ACCEPT=" + std::to_string(error), "SYSMEMD_GATE=" + gate});
         int waits = raw_connect(d.path); // nobody accepts it
+        CHECK(comes([&] { return d.says(std::strerror(error)); }));
         usleep(300000);
         std::uint64_t ran = 0;
         CHECK(std::ifstream("/proc/" + std::to_string(d.pid) + "/schedstat") >> ran);
-        CHECK(waits >= 0 && ran < 100000000 && d.says(std::strerror(error)));
+        CHECK(waits >= 0 && ran < 100000000);
         CHECK(std::fclose(std::fopen(gate.c_str(), "w")) == 0);
         Client c = d.join();
         CHECK(c.open_root("r"));

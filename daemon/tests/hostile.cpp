@@ -65,10 +65,10 @@ TEST(malformed) {
             case ONE_FD: along = one_fd; break;
             case MANY_FDS: along = many; break;
             case ITSELF: along = {fd}; break;
-            case NO_OP: q.op = UINT32_MAX; break;
-            case CLOSE: q.op = SYSMEM_CLOSE; break; // no op over a socket
-            case OTHERS_OP: q.op = on == 0 ? std::uint32_t(SYSMEM_TAKE) : std::uint32_t(SYSMEM_OPEN_ROOT); break;
-            case GIVE: q.op = SYSMEM_GIVE; break;
+            case NO_OP: q = words_of(UINT32_MAX); break;
+            case CLOSE: q = words_of(SYSMEM_CLOSE); break; // no op over a socket
+            case OTHERS_OP: q = words_of(on == 0 ? SYSMEM_TAKE : SYSMEM_OPEN_ROOT); break; // or before Hello
+            case GIVE: q = words_of(SYSMEM_GIVE); break;
             case SIZE: q.size = 1; break;
             case LEFT: q.left = 1; break;
             case COOKIE: q.cookie = 1; break;
@@ -78,8 +78,8 @@ TEST(malformed) {
             }
             std::memcpy(big, &q, sizeof q);
             bool is_sent = raw_send(fd, big, length, along);
-            bool is_refused = !is_sent && errno == EPERM && !along.empty(); // SO_PASSRIGHTS: nothing came
-            CHECK(is_refused || (is_sent && is_cut(fd, length == 0 ? 0 : SYSMEMD_MALFORMED)));
+            bool is_refused = !is_sent && errno == EPERM; // SO_PASSRIGHTS: nothing came
+            CHECK(along.empty() ? is_sent && is_cut(fd, length == 0 ? 0 : SYSMEMD_MALFORMED) : is_refused);
             cuts++;
             CHECK(mine.sync());
             end(s);
@@ -179,7 +179,7 @@ TEST(fuzzed) {
     std::mt19937 rng(3);
     std::size_t sent = 0, live = 0;
     const char *messages = std::getenv("MESSAGES"); // `make random` has millions
-    for (std::size_t round = 0; sent < (messages ? std::size_t(std::atoll(messages)) : 17000); round++) {
+    for (std::size_t round = 0; sent < (messages ? std::size_t(std::atoll(messages)) : 17000) || live <= 100; round++) {
         std::vector<int> fds;
         for (int i = 0; i < 400; i++) {
             if (fds.empty() || rng() % 50 == 0) {
@@ -212,7 +212,6 @@ TEST(fuzzed) {
     }
     CHECK(is_whole(c) && d.lives());
     std::printf("  %zu requests, %zu made or took something\n", sent, live);
-    CHECK(sent > 10000 && live > 100);
 }
 
 TEST(unread) {
@@ -232,10 +231,11 @@ TEST(unread) {
         deaf.emplace_back(got[0], q.serial - 1);
     }
     for (int i = 0; i < 1000; i++) CHECK(mine.sync()); // others are served
-    std::uint64_t events = 0;
-    CHECK(comes([&] { return std::exchange(events, c.status().value().events) == c.status().value().events; }));
-    usleep(100000);
-    CHECK(c.status().value().events == events); // the deaf ones wait, and the daemon does not spin
+    CHECK(comes([&] { // the deaf ones wait, and the daemon does not spin
+        std::uint64_t events = c.status().value().events;
+        usleep(100000);
+        return c.status().value().events == events;
+    }));
     CHECK(is_sanitized() || d.memory() - before < 1000); // kB
     for (auto [fd, count] : deaf) { // once they read, all is answered, in order
         for (std::uint32_t n = 1; n <= count; n++) {
@@ -322,7 +322,7 @@ TEST(locked_file) {
     if (told == 'n') return void(std::puts("  not run: no userfaultfd"));
     CHECK(told == 'l');
     CHECK(comes([&] { return c.status().value().live == 1 && c.status().value().held == 0; }) && mine.sync());
-    CHECK(d.state() != 'D');
+    CHECK(comes([&] { return d.state() != 'D'; }));
     holder.end(SIGKILL);
 }
 
@@ -332,9 +332,13 @@ TEST(half_open) {
     Client c = d.join();
     std::vector<int> silent;
     CHECK(comes([&] { return c.status().value().descriptors == 1; }));
+    d.pause(); // so that it takes all at once
     for (int i = 0; i < 25; i++) silent.push_back(raw_connect(d.path)); // some are turned away
-    auto crowded = Client::open(d.path);
-    CHECK(!crowded && ending(crowded.error()) == Ending::Crowded);
+    auto q = words_of(SYSMEMD_HELLO);
+    CHECK(raw_send(silent.back(), &q, sizeof q));
+    d.go_on();
+    auto crowded = raw_receive(silent.back());
+    CHECK(crowded && crowded->kind == SYSMEMD_ENDING && crowded->detail == SYSMEMD_CROWDED);
     for (int fd : silent) {
         CHECK(is_cut(fd));
         ::close(fd);

@@ -41,9 +41,10 @@ cmake -S "$run" -B "$run/cmake" -DCMAKE_PREFIX_PATH="$run/p" >"$run/log"
 cmake --build "$run/cmake" >"$run/log" 2>&1 || { cat "$run/log"; exit 1; }
 "$run/p/bin/sysmemd" --socket "$run/s" &
 daemon=$!
-while [ ! -S "$run/s" ]; do sleep 0.05; done
+export SYSMEM_SOCKET="$run/s"
+until "$run/p/bin/sysmemctl" nodes >"$run/log" 2>&1; do sleep 0.05; done
 for program in "$run/first" "$run/cmake/first"; do
-  SYSMEM_SOCKET="$run/s" "$program" 2>"$run/log" | tail -1 | grep -q 'closed: lost, by node 1.0 (display)'
+  "$program" 2>"$run/log" | tail -1 | grep -q 'closed: lost, by node 1.0 (display)'
 done
 if command -v cargo >/dev/null; then
   mkdir -p "$run/rust/src"
@@ -51,7 +52,7 @@ if command -v cargo >/dev/null; then
   printf '[package]\nname = "app"\nversion = "0.0.0"\nedition = "2021"\n[dependencies]\nsysmem_remote = { path = "%s" }\n[workspace]\n' \
     "$run/p/share/sysmemd/rust" >"$run/rust/Cargo.toml"
   (cd "$run/rust" && CARGO_TARGET_DIR="$run/rust/target" cargo build --offline --quiet)
-  SYSMEM_SOCKET="$run/s" "$run/rust/target/debug/app" | sort | diff examples/three.out -
+  "$run/rust/target/debug/app" | sort | diff examples/three.out -
 fi
 kill $daemon
 wait $daemon

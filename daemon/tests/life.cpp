@@ -77,6 +77,16 @@ TEST(answers) {
     auto full = b.wait_allocated(soon);
     CHECK(!full && full.error().is(Cause::FailedPoolFull) && full.error().label == "b");
     b.close();
+    { // A failed end keeps no memory.
+        Token top = c.open_root("top").value(), below = top.duplicate("below").value();
+        Collection f = std::move(top).bind().value(), g = std::move(below).bind().value();
+        f.set_constraints({1, 0, 4096}).value(), g.set_constraints({0, 0, 1}).value();
+        auto handles = *f.take().value();
+        g.close();
+        CHECK(f.wait_failed(soon) && c.status().value().memories == 1);
+        handles.clear();
+        CHECK(comes([&] { return c.status().value().memories == 0; }));
+    }
     // Weak nodes and handles.
     Token root = c.open_root("root").value();
     Token weak = root.duplicate("weak").value();

@@ -220,52 +220,50 @@ TEST(refused_memory) {
     CHECK(is_fine && refusals > 0);
 }
 
-// A uid whose sockets are always ready, with requests that are dear, has its share of a round; another uid's request is
-// served meanwhile. It is not measured in time, but by the replies of the busy uid that come between two of the other's.
+// A client of this uid, which is that of who connects, in this process.
+static Client join_as(const Daemon &d, uid_t uid) {
+    CHECK(seteuid(uid) == 0);
+    Client made = d.join();
+    CHECK(seteuid(0) == 0 || getuid() != 0);
+    return made;
+}
+
+// A uid whose sockets are all ready has its share of a round. Two requests of another uid on one socket are served in two rounds:
+// what the busy uid did between them is at most two shares.
 TEST(shares) {
     if (getuid() != 0) return void(std::puts("  not run: not root"));
-    Daemon d({"--mode", "666"});
-    Client c = d.join("root");
-    Token mine = c.open_root("r").value();
-    auto *answered = static_cast<std::atomic<std::uint64_t> *>(
-        mmap(nullptr, 4096, PROT_READ | PROT_WRITE, MAP_SHARED | MAP_ANONYMOUS, -1, 0));
-    Child busy([&](int m) {
-        CHECK(setgid(65534) == 0 && setuid(65534) == 0);
-        Client its = d.join("busy");
-        Token root = its.open_root("root").value();
-        std::vector<Token> all;
-        for (int i = 0; i < 300; i++) all.push_back(root.duplicate("k").value());
-        for (Token &one : all) fcntl(one.fd(), F_SETFL, O_NONBLOCK);
-        auto q = words_of(SYSMEMD_WAITS_FOR);
-        char some[4096];
-        for (bool is_told = false;;) {
-            for (Token &one : all) {
-                while (recv(one.fd(), some, sizeof some, MSG_DONTWAIT) > 0) ++*answered;
-                while (send(one.fd(), &q, sizeof q, MSG_DONTWAIT | MSG_NOSIGNAL) > 0) {}
-            }
-            if (!is_told && *answered > 600) is_told = true, mark(m, 'b');
-        }
-    });
-    CHECK(busy.await() == 'b');
-    std::uint64_t before = *answered;
-    for (int i = 0; i < 50; i++) CHECK(mine.sync());
-    std::uint64_t more = *answered - before;
-    std::printf("  %.1f requests of the busy uid for one of the other's\n", double(more) / 50);
-    CHECK(more < 50 * 60); // with one request a socket and round it would be 300
-    busy.end(SIGKILL);
-    CHECK(comes([&] { return d.lives() && bool(mine.sync()); }));
+    Daemon d({"--mode", "666", "--share", "20"});
+    int line = raw_join(d.path);
+    Client its = join_as(d, 65534);
+    Token root = its.open_root("root").value();
+    std::vector<Token> all;
+    for (int i = 0; i < 300; i++) all.push_back(root.duplicate("k").value());
+    d.pause();
+    auto sync = words_of(SYSMEM_SYNC), q = words_of(SYSMEMD_STATUS_OF);
+    for (int i = 0; i < 4; i++)
+        for (Token &one : all) CHECK(raw_send(one.fd(), &sync, sizeof sync));
+    q.left = 65534;
+    for (q.serial = 1; q.serial <= 2; q.serial++) CHECK(raw_send(line, &q, sizeof q));
+    d.go_on();
+    auto first = raw_receive(line), second = raw_receive(line);
+    CHECK(first && second && first->kind == SYSMEMD_STATE && second->serial == 2);
+    std::uint64_t more = second->event - first->event;
+    std::printf("  %llu requests of the busy uid in between\n", (unsigned long long)more);
+    CHECK(more < 150); // without shares one of each socket
+    ::close(line);
 }
 
 // Descriptors under way that nobody receives count against the daemon's user. No uid has more of them than it leaves to others.
 // A claim that can't be delivered, since another process of that user has all, leaves the object where it was.
 TEST(in_flight) {
     if (getuid() != 0) return void(std::puts("  not run: not root"));
-    Daemon d({"--mode", "666"}, 400, {}, 65534);
+    const uid_t own = 20000 + uid_t(getpid()) % 20000, others = own + 20000; // what is under way is counted for a user
+    Daemon d({"--mode", "666"}, 400, {}, own);
     Client c = d.join();
     Token root = c.open_root("root").value();
     int kid = std::move(root.duplicate("kid").value()).detach(), claims = raw_join(d.path);
     Child hostile([&](int m) {
-        CHECK(setgid(1) == 0 && setuid(1) == 0);
+        become(others);
         Client its = d.join();
         Collection a = its.open_root("a").value().bind().value();
         a.set_constraints({1, 0, 4096}).value();
@@ -298,7 +296,7 @@ TEST(in_flight) {
         return told;
     };
     Child same([&](int m) {
-        CHECK(setgid(65534) == 0 && setuid(65534) == 0);
+        become(own);
         for (int i = 0; i < 2; i++) {
             int two[2];
             CHECK(socketpair(AF_UNIX, SOCK_STREAM, 0, two) == 0 && raw_send(two[0], "x", 1, std::vector<int>(250, two[0])));
@@ -364,42 +362,60 @@ TEST(unread_files) {
     }
 }
 
-// Nanoseconds that the daemon's threads ran: the loop, and the others, once these have nothing to do.
-static std::pair<std::uint64_t, std::uint64_t> times(const Daemon &d) {
-    std::pair<std::uint64_t, std::uint64_t> sum;
+// Nanoseconds that the daemon's threads ran, the loop and the others, and whether one of these works.
+struct Times {
+    std::uint64_t loop = 0, others = 0;
     bool is_busy = false;
-    std::string tasks = "/proc/" + std::to_string(d.pid) + "/task";
-    DIR *dir = opendir(tasks.c_str());
-    CHECK(dir);
-    while (dirent *one = readdir(dir)) {
-        std::uint64_t time = 0;
-        if (one->d_name[0] == '.' || !(std::ifstream(tasks + "/" + one->d_name + "/schedstat") >> time)) continue;
-        bool is_loop = one->d_name == std::to_string(d.pid);
-        (is_loop ? sum.first : sum.second) += time;
-        is_busy |= !is_loop && state_of(tasks + "/" + one->d_name) != 'S';
+    explicit Times(const Daemon &d) {
+        std::string tasks = "/proc/" + std::to_string(d.pid) + "/task";
+        DIR *dir = opendir(tasks.c_str());
+        CHECK(dir);
+        while (dirent *one = readdir(dir)) {
+            std::uint64_t time = 0;
+            if (one->d_name[0] == '.' || !(std::ifstream(tasks + "/" + one->d_name + "/schedstat") >> time)) continue;
+            bool is_loop = one->d_name == std::to_string(d.pid);
+            (is_loop ? loop : others) += time;
+            is_busy |= !is_loop && state_of(tasks + "/" + one->d_name) != 'S';
+        }
+        closedir(dir);
     }
-    closedir(dir);
-    if (!is_busy) return sum;
-    usleep(10000);
-    return times(d);
+};
+
+static bool has_gigabytes(unsigned long n) {
+    std::ifstream file("/proc/meminfo");
+    for (std::string line; std::getline(file, line);)
+        if (line.compare(0, 13, "MemAvailable:") == 0) return std::stoul(line.substr(13)) >= n << 20;
+    return false;
 }
 
-// A large buffer's memory is given back by another thread than that which serves. Not measured by the clock, but by who works.
+// The memory of a large buffer is given back by another thread than that which serves, while another uid calls. Not measured by
+// the clock, but by who works.
 TEST(large) {
-    constexpr std::uint32_t size = 256 << 20;
-    Daemon d;
+    std::uint32_t size = has_gigabytes(4) ? 1 << 30 : 256 << 20;
+    Daemon d({"--mode", "666", "--pages", "262144"});
     Client c = d.join();
+    Token mine = c.open_root("mine").value();
+    Client its = join_as(d, getuid() == 0 ? 65534 : getuid());
     std::size_t files = d.files_open();
-    Collection a = c.open_root("a").value().bind().value();
+    Collection a = its.open_root("a").value().bind().value();
     a.set_constraints({1, 0, size}).value();
     auto handles = *a.take().value();
     std::memset(handles[0].bytes().data(), 1, size);
-    auto before = times(d);
+    Times before(d), last = before;
     handles.clear();
     a.close();
-    CHECK(comes([&] { return d.files_open() == files; }));
-    auto after = times(d);
-    std::uint64_t loop = after.first - before.first, others = after.second - before.second;
-    std::printf("  256 MiB given back: the loop ran %.1f ms, the other thread %.1f ms\n", double(loop) / 1e6, double(others) / 1e6);
-    CHECK(loop < others && loop < 20000000 && is_whole(c));
+    std::uint64_t calls = 0, longest = 0;
+    for (bool is_given_back = false; !is_given_back && calls < 1000000; calls++) {
+        bool is_closing = d.files_open() == files;
+        CHECK(mine.sync());
+        Times now(d);
+        is_given_back = is_closing && !now.is_busy;
+        longest = std::max(longest, now.loop - std::exchange(last, now).loop);
+    }
+    std::uint64_t others = last.others - before.others;
+    std::printf("  %u MiB given back in %.1f ms; meanwhile the loop ran at most %.2f ms for one of %llu calls\n", size >> 20,
+                double(others) / 1e6, double(longest) / 1e6, (unsigned long long)calls);
+    CHECK(4 * longest < others);
+    mine.close();
+    CHECK(is_whole(c) && is_whole(its));
 }

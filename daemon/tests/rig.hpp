@@ -70,6 +70,10 @@ inline char state_of(const std::string &folder) {
     std::string all((std::istreambuf_iterator<char>(file)), {});
     return all.at(all.rfind(')') + 2);
 }
+// Makes this child another uid's. It still ends with its parent.
+inline void become(uid_t uid) {
+    CHECK(setgid(uid) == 0 && setuid(uid) == 0 && prctl(PR_SET_PDEATHSIG, SIGKILL) == 0);
+}
 // A daemon of the test's own. It ends with the value.
 class Daemon {
 public:
@@ -99,7 +103,7 @@ public:
             for (std::string &one : environment) putenv(one.data());
             int log = ::open((folder + "/log").c_str(), O_WRONLY | O_CREAT | O_APPEND, 0600);
             dup2(log, 2);
-            if (uid != 0) CHECK(setgid(uid) == 0 && setuid(uid) == 0);
+            if (uid != 0) become(uid);
             bool is_wrapped = false; // see tests/wrapped
             for (std::string &one : environment) is_wrapped |= one.compare(0, 8, "SYSMEMD_") == 0;
             std::vector<std::string> all{is_wrapped ? std::getenv("WRAPPED") : program(), "--socket", path};
@@ -149,7 +153,15 @@ public:
         pid = 0;
     }
     bool lives() const { return pid > 0 && waitpid(pid, nullptr, WNOHANG) == 0; }
-    Client join(const std::string &label = "test") const { return Client::open(path, label).value(); }
+    // The daemon may not have seen yet that earlier connections ended.
+    Client join(const std::string &label = "test") const {
+        auto made = Client::open(path, label);
+        CHECK(comes([&] {
+            if (!made && ending(made.error()) == Ending::Crowded) made = Client::open(path, label);
+            return made || ending(made.error()) != Ending::Crowded;
+        }));
+        return std::move(made).value();
+    }
     // How many descriptors the daemon has.
     std::size_t files_open() const {
         std::size_t n = 0;
@@ -227,7 +239,7 @@ struct Child {
 // Runs this as another uid, in a child.
 inline void as(uid_t uid, const std::function<void()> &run) {
     Child child([&](int) {
-        CHECK(setgid(uid) == 0 && setuid(uid) == 0);
+        become(uid);
         run();
     });
     int is = child.end();

@@ -152,7 +152,7 @@ static void idle() {
         std::this_thread::sleep_for(5ms);
         crashes.reset(); // with the handle in its parcel
     });
-    EXPECT(frame.wait_idle(1, 10s).value());
+    EXPECT(frame.wait_idle(1, 60s).value());
     thread.join();
     EXPECT(calls == 3 && frame.open_handles().value() == 1);
     int fd = camera.fd(); // its node is allocated
@@ -558,6 +558,20 @@ static void says() {
     int before = dup(2);
     dup2(fileno(to), 2);
     setenv("SYSMEM_DEBUG", "1", 1);
+    alarm(300);
+    auto text = [&] {
+        char bytes[2000];
+        return std::string(bytes, std::size_t(pread(fileno(to), bytes, sizeof bytes, 0)));
+    };
+    auto waits_until_said = [&](const Collection &end, const char *words) {
+        Cancel over;
+        std::thread reads([&] {
+            while (text().find(words) == std::string::npos) std::this_thread::sleep_for(1ms);
+            over.cancel();
+        });
+        EXPECT(!*end.wait_allocated(1h, over));
+        reads.join();
+    };
     {
         Options o;
         o.slow = 1ms;
@@ -567,20 +581,16 @@ static void says() {
         Client eye = service.join("eye").value();
         Token twin = app.open_root("twin").value(), given = twin.duplicate("given").value();
         std::move(given).give(eye.id()).value();
-        EXPECT(!*view.wait_allocated(10ms));
-        EXPECT(!*std::move(twin).bind()->wait_allocated(10ms));
+        waits_until_said(view, "sysmem: app waits for the allocation of view: no constraints from view (held by app)\n");
+        waits_until_said(std::move(twin).bind().value(), "sysmem: app waits for the allocation of twin: no constraints from "
+                                                         "twin (held by app), given (in a parcel for eye)\n");
     }
+    alarm(0);
     unsetenv("SYSMEM_DEBUG");
     dup2(before, 2);
-    std::rewind(to);
-    char text[2000];
-    std::string said(text, std::fread(text, 1, sizeof text, to));
+    std::string said = text();
     std::fclose(to);
     EXPECT(said.find("app join\n  joined\napp open view\n  token view\n") == 0);
-    EXPECT(said.find("sysmem: app waits for the allocation of view: no constraints from view (held by app)\n") !=
-           std::string::npos);
-    EXPECT(said.find("sysmem: app waits for the allocation of twin: no constraints from twin (held by app), "
-                     "given (in a parcel for eye)\n") != std::string::npos);
     EXPECT(said.find("app close view\n  done\n") != std::string::npos);
 }
 

@@ -265,15 +265,15 @@ static void trackers() {
     mine.set_constraints({1, 0, 4096}).value();
     Event before = service.events();
     std::thread peer([&] {
-        Collection theirs = std::get<Token>(*b.collect_for(5s).value()).bind().value();
+        Collection theirs = std::get<Token>(*b.collect_for(60s).value()).bind().value();
         std::this_thread::sleep_for(20ms);
         theirs.set_constraints({1, 0, 8192}).value();
         std::move(theirs).release().value();
     });
     auto begin = std::chrono::steady_clock::now();
-    auto given = mine.wait_allocated(5s);
+    auto given = mine.wait_allocated(60s);
     peer.join();
-    EXPECT(std::chrono::steady_clock::now() - begin < 4s); // told, and not by the end of its time
+    EXPECT(std::chrono::steady_clock::now() - begin < 50s); // told, and not by the end of its time
     EXPECT(service.events() <= before + 4 + 3);
     EXPECT(given && *given && (*given)->count == 2 && (*given)->size == 8192);
     Tracker life = mine.track_lifetime(0).value();
@@ -282,7 +282,7 @@ static void trackers() {
     EXPECT(poll(fds, 2, 0) == 0);
 #endif
     std::vector<Handle> handles = *mine.take().value();
-    std::thread waits([&] { EXPECT(life.wait_for(20s) && life.wait() > 0 && !life.wait_for(1ns).is_cancelled()); });
+    std::thread waits([&] { EXPECT(life.wait_for(60s) && life.wait() > 0 && !life.wait_for(1ns).is_cancelled()); });
     std::this_thread::sleep_for(20ms);
     mine.close();
     EXPECT(heard == *node.poll() && heard > 0 && free_then == 12);
@@ -290,7 +290,7 @@ static void trackers() {
     begin = std::chrono::steady_clock::now();
     handles.clear();
     waits.join();
-    EXPECT(std::chrono::steady_clock::now() - begin < 4s);
+    EXPECT(std::chrono::steady_clock::now() - begin < 50s);
 #ifdef __linux__
     EXPECT(poll(fds, 2, 0) == 2 && life.fd() == fds[0].fd);
 #endif
@@ -434,8 +434,8 @@ static void gifts() {
     auto begin = std::chrono::steady_clock::now();
     EXPECT(detail::after(std::chrono::hours::max()) > begin + std::chrono::hours(1000));
     std::thread peer([&] {
-        EXPECT(std::holds_alternative<Token>(*b.collect_for(10s).value()));
-        EXPECT(std::holds_alternative<Handle>(*b.collect_for(10s).value()));
+        EXPECT(std::holds_alternative<Token>(*b.collect_for(60s).value()));
+        EXPECT(std::holds_alternative<Handle>(*b.collect_for(60s).value()));
     });
     std::this_thread::sleep_for(20ms);
     root.duplicate().value().give(b.id()).value();
@@ -443,7 +443,7 @@ static void gifts() {
     Collection c = bound(a, {1, 0, 1});
     std::move((*c.take().value())[0]).give(b.id()).value();
     peer.join();
-    EXPECT(std::chrono::steady_clock::now() - begin < 8s);
+    EXPECT(std::chrono::steady_clock::now() - begin < 50s);
 }
 
 // A transcript has the program's labels where they fit. The label of a refused call stays free.

@@ -12,24 +12,7 @@ use std::marker::PhantomData;
 use std::sync::Arc;
 use std::time::{Duration, Instant};
 
-mod sealed {
-    pub trait Kind {}
-}
-pub(crate) use sealed::Kind;
-
-/// The kind of a [`Token`].
-#[derive(Debug)]
-pub enum OfToken {}
-/// The kind of a [`Collection`].
-#[derive(Debug)]
-pub enum OfCollection {}
-impl Kind for OfToken {}
-impl Kind for OfCollection {}
-
-/// An end that is not bound.
-pub type Token = End<OfToken>;
-/// A bound end.
-pub type Collection = End<OfCollection>;
+sysmem_words::ends!(CallWords);
 
 /// A client's end of a node. Its drop closes the end without a release: the node fails.
 pub struct End<K: Kind> {
@@ -42,16 +25,6 @@ pub struct End<K: Kind> {
 }
 
 impl<K: Kind> End<K> {
-    /// The node.
-    pub fn key(&self) -> Key {
-        self.key
-    }
-
-    /// The node's collection.
-    pub fn collection(&self) -> CollectionId {
-        self.collection
-    }
-
     /// The client that holds the end.
     pub fn client(&self) -> ClientId {
         self.owner.client
@@ -61,30 +34,16 @@ impl<K: Kind> End<K> {
         of_key(kind, self.key)
     }
 
-    fn make(&self, call: &CallWords) -> Result<(), Error> {
-        self.owner.make(call, self.collection)
+    fn make(&self, call: CallWords) -> Result<(), Error> {
+        self.owner.make(&call, self.collection)
     }
 
-    /// Asks only whether the node has failed.
-    pub fn sync(&self) -> Result<(), Error> {
-        self.make(&self.asks(kind::SYNC))
+    fn track(&self, call: CallWords) -> Result<Tracker, Error> {
+        self.owner.track(&call, self.collection)
     }
 
-    /// Makes the node weak, and each child that it gets from now on.
-    pub fn set_weak(&self) -> Result<(), Error> {
-        self.make(&self.asks(kind::SET_WEAK))
-    }
-
-    /// Lets the node take weak handles; with `children` also each child that it gets from now on,
-    /// and all nodes below these children.
-    pub fn set_weak_ok(&self, children: bool) -> Result<(), Error> {
-        let children = u8::from(children);
-        self.make(&CallWords { children, ..self.asks(kind::SET_WEAK_OK) })
-    }
-
-    /// Makes a tracker that fires once the node is gone.
-    pub fn track_node(&self) -> Result<Tracker, Error> {
-        self.owner.track(&self.asks(kind::TRACK_NODE), self.collection)
+    fn birth(&self, kind: u32, label: &str) -> Result<Token, Error> {
+        self.owner.birth(&self.asks(kind), label)
     }
 
     /// Puts the end into a parcel for the client. If that is refused, the end comes back.
@@ -113,25 +72,12 @@ impl<K: Kind> End<K> {
         let mut state = self.owner.shared.lock();
         state.release(&self.owner, self.row, self.key, self.collection)
     }
-
-    /// Does what the drop does: the node fails.
-    pub fn close(self) {}
 }
 
 impl End<OfToken> {
-    /// Makes a child token. The label may be empty.
-    pub fn duplicate(&self, label: &str) -> Result<Token, Error> {
-        self.owner.birth(&self.asks(kind::DUPLICATE), label)
-    }
-
-    /// From the allocation of the node's unit on, no failure climbs from the node to its parent.
-    pub fn set_dispensable(&self) -> Result<(), Error> {
-        self.make(&self.asks(kind::SET_DISPENSABLE))
-    }
-
     /// Turns the token into a collection. If that is refused, the token comes back.
     pub fn bind(mut self) -> Result<Collection, Back<Token>> {
-        match self.make(&self.asks(kind::BIND)) {
+        match self.make(self.asks(kind::BIND)) {
             Ok(()) => {
                 self.is_here = false;
                 let (row, key, collection) = (self.row, self.key, self.collection);
@@ -144,19 +90,6 @@ impl End<OfToken> {
 }
 
 impl End<OfCollection> {
-    /// Makes an attached child token: it heads a unit of its own, and its failure does not climb to
-    /// this node. The label may be empty.
-    pub fn attach_token(&self, label: &str) -> Result<Token, Error> {
-        self.owner.birth(&self.asks(kind::ATTACH_TOKEN), label)
-    }
-
-    /// Sends the node's constraints.
-    pub fn set_constraints(&self, wanted: Constraints) -> Result<(), Error> {
-        let Constraints { camping, at_least, size } = wanted;
-        let call = self.asks(kind::SET_CONSTRAINTS);
-        self.make(&CallWords { camping, at_least, size, ..call })
-    }
-
     /// The allocation, or `None` if there is none yet.
     pub fn check(&self) -> Result<Option<Allocation>, Error> {
         self.look(&mut self.owner.shared.lock())
@@ -302,12 +235,6 @@ impl End<OfCollection> {
         }
         state.forget_tree(self.collection);
         told.map(|_| taken)
-    }
-
-    /// Makes a tracker that fires once the node's unit is allocated and at most `left` buffers of
-    /// the collection hold pages, or once the node is gone before that allocation.
-    pub fn track_lifetime(&self, left: u32) -> Result<Tracker, Error> {
-        self.owner.track(&CallWords { left, ..self.asks(kind::TRACK_LIFETIME) }, self.collection)
     }
 }
 

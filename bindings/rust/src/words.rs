@@ -423,33 +423,8 @@ impl Error {
     }
 }
 
-impl fmt::Display for Error {
-    fn fmt(&self, f: &mut fmt::Formatter<'_>) -> fmt::Result {
-        match self {
-            Error::Refused(refusal) => write!(f, "refused: {refusal}"),
-            Error::Misused(misuse) => write!(f, "misused: {misuse}"),
-            Error::PeerClosed { cause, origin, label } => {
-                write!(f, "closed: {cause}, by node {origin}")?;
-                label.as_ref().map_or(Ok(()), |label| write!(f, " ({label})"))
-            }
-            Error::BadLimits(range) => write!(f, "bad limits: {range}"),
-            Error::BadCall(range) => write!(f, "bad call: {range}"),
-            Error::MemoryInUse => f.write_str("the memory is of another service"),
-            Error::Vanished => f.write_str("refused: the client vanished"),
-            Error::HistoryFull => f.write_str("history full"),
-            Error::NoMemory => f.write_str("no memory"),
-        }
-    }
-}
-
-impl std::error::Error for Error {}
-
-/// A value that a refused call would have spent, and the error. The operator `?` turns it into an
-/// [`Error`] and drops the value: a token or a collection is then closed, and its node fails.
-pub type Back<T> = sysmem_words::Back<T, Error>;
-
-impl<T> From<Back<T>> for Error {
-    fn from(back: Back<T>) -> Error {
-        back.error
-    }
-}
+sysmem_words::errors!(f:
+    Error::BadLimits(range) => write!(f, "bad limits: {range}"),
+    Error::MemoryInUse => f.write_str("the memory is of another service"),
+    Error::Vanished => f.write_str("refused: the client vanished"),
+);

@@ -10,7 +10,7 @@ use std::thread;
 use std::time::{Duration, Instant};
 use sysmem::*;
 
-const LONG: Duration = Duration::from_secs(10);
+const LONG: Duration = Duration::from_secs(60);
 const SHORT: Duration = Duration::from_millis(1);
 
 #[repr(C)]

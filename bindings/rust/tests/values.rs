@@ -5,7 +5,7 @@ use std::thread;
 use std::time::{Duration, Instant};
 use sysmem::*;
 
-const LONG: Duration = Duration::from_secs(5);
+const LONG: Duration = Duration::from_secs(60);
 const SHORT: Duration = Duration::from_millis(5);
 
 fn service() -> Service {

@@ -97,10 +97,7 @@ protected:
     template <class T>
     static Result<T> born(const std::shared_ptr<detail::Link> &link, std::uint32_t op, const std::string &label,
                           Refusal spent) {
-        // An end that this process has no room for would be closed by the kernel, and its node fail.
-        int spare = link ? fcntl(link->fd, F_DUPFD_CLOEXEC, 0) : -1;
-        if (link && spare < 0) return Error::fault(SYSMEM_NO_MEMORY);
-        if (spare >= 0) ::close(spare);
+        if (link && !detail::has_room(link->fd)) return Error::fault(SYSMEM_NO_MEMORY); // or its node would fail
         auto got = detail::ask(link, detail::request(op, label), spent);
         if (!got) return std::move(got).error();
         const sysmemd_reply &r = got->reply();

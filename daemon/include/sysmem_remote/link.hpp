@@ -89,13 +89,13 @@ public:
     // Sends a request, and waits for its reply. A list that comes is copied there.
     Result<Message> ask(sysmemd_request q) {
         Slot slot;
-        if (auto none = ask(&q, &slot, 1)) return std::move(*none);
+        if (auto none = ask(&q, &slot, 1, [] { return true; })) return std::move(*none);
         return std::move(slot.got);
     }
     // Sends several in one message, and waits for all replies.
     template <std::size_t N> Result<std::array<Message, N>> ask(std::array<sysmemd_request, N> all) {
         Slot slots[N];
-        if (auto none = ask(all.data(), slots, N)) return std::move(*none);
+        if (auto none = ask(all.data(), slots, N, [] { return true; })) return std::move(*none);
         std::array<Message, N> got;
         for (std::size_t i = 0; i < N; i++) got[i] = std::move(slots[i].got);
         return got;
@@ -138,19 +138,19 @@ public:
     // Asks the daemon to tell of the first of those who wait. A lease has one such wait there.
     Result<void> arm() {
         sysmemd_request q = request(SYSMEMD_ON_IDLE);
-        {
-            std::lock_guard<std::mutex> lock(mutex);
+        Slot slot;
+        bool is_any = false;
+        auto none = ask(&q, &slot, 1, [&] {
             is_to_arm = false;
-            bool is_any = asked && !is_idle;
+            is_any = asked && !is_idle;
             q.left = is_any ? *asked : 0;
             for (Idle *i = idles; i; i = i->next)
                 if (!i->is_done) q.left = std::max(q.left, i->most), is_any = true;
-            if (!is_any) return {};
-            q.cookie = ++armed;
-        }
-        auto got = ask(q);
-        if (!got) return std::move(got).error();
-        if (!is_good(got->reply())) return why(got->reply());
+            if (is_any) q.cookie = ++armed;
+            return is_any;
+        });
+        if (none) return std::move(*none);
+        if (is_any && !is_good(slot.got.reply())) return why(slot.got.reply());
         return {};
     }
 
@@ -177,29 +177,33 @@ private:
         Message got;
         Slot *next = nullptr;
     };
-    // An error if not all came.
-    std::optional<Error> ask(sysmemd_request *all, Slot *its, std::size_t count) {
+    // An error if not all came. Under the mutex under which they are sent, prepare() may change them, and says whether they are
+    // still to be sent: so its numbers come to the daemon in their order.
+    template <class F> std::optional<Error> ask(sysmemd_request *all, Slot *its, std::size_t count, const F &prepare) {
         auto until = hub->until();
         std::unique_lock<std::mutex> lock(mutex);
-        if (end != Ending::None) return ended(end);
-        for (std::size_t i = 0; i < count; i++) {
-            while (++serial == 0) {}
-            all[i].serial = its[i].serial = serial;
-            its[i].next = std::exchange(slots, &its[i]);
+        for (bool is_sent = false; !is_sent;) {
+            if (!prepare()) return std::nullopt;
+            if (end != Ending::None) return ended(end);
+            for (std::size_t i = 0; i < count; i++) {
+                while (++serial == 0) {}
+                all[i].serial = its[i].serial = serial;
+            }
+            int error = ::send(fd, all, count * sizeof *all, MSG_NOSIGNAL | MSG_DONTWAIT) < 0 ? errno : 0;
+            if (error == ENOBUFS || error == ENOMEM) return Error::fault(SYSMEM_NO_MEMORY);
+            is_sent = error != EINTR && error != EAGAIN; // if the daemon is gone, what came before that is read
+            if (is_sent) continue;
+            lock.unlock();
+            bool is_ready = await(fd, POLLOUT, until) > 0;
+            lock.lock();
+            if (!is_ready) return ended(Ending::TimeOver);
         }
-        lock.unlock();
-        ssize_t sent;
-        do sent = ::send(fd, all, count * sizeof *all, MSG_NOSIGNAL | MSG_DONTWAIT);
-        while (sent < 0 && (errno == EINTR || (errno == EAGAIN && await(fd, POLLOUT, until) > 0)));
-        bool is_refused = sent < 0 && (errno == ENOBUFS || errno == ENOMEM), is_late = sent < 0 && errno == EAGAIN;
+        for (std::size_t i = 0; i < count; i++) its[i].next = std::exchange(slots, &its[i]);
         auto are_done = [&] { return std::all_of(its, its + count, [](const Slot &s) { return s.is_done; }); };
-        lock.lock();
-        // If the daemon is gone, what came before that is read.
-        if (!is_refused && !is_late) read_until(lock, until, are_done);
+        read_until(lock, until, are_done);
         for (Slot **at = &slots; *at;)
             if (std::any_of(its, its + count, [&](Slot &s) { return &s == *at; })) *at = (*at)->next;
             else at = &(*at)->next;
-        if (is_refused) return Error::fault(SYSMEM_NO_MEMORY);
         if (!are_done()) return ended(end == Ending::None ? Ending::TimeOver : end);
         return std::nullopt;
     }

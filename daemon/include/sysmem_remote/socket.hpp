@@ -29,6 +29,13 @@ inline int await(int fd, short events, Clock::time_point until) {
     }
 }
 
+// Whether this process can have one more descriptor. The kernel would close what comes without room.
+inline bool has_room(int fd) {
+    int spare = fcntl(fd, F_DUPFD_CLOEXEC, 0);
+    if (spare >= 0) ::close(spare);
+    return spare >= 0;
+}
+
 // Descriptors that came along, at most as many as a message of the daemon has. Those that nobody takes are closed.
 class Fds {
 public:
@@ -111,12 +118,13 @@ inline Result<void> send_fd(int socket, int fd) {
     return ended(Ending::NoReceiver, std::strerror(errno));
 }
 
-// A descriptor that came over a socket; -1 if the socket ended, -2 if the time is over.
+// A descriptor that came over a socket; -1 if the socket ended, -2 if the time is over, -3 if there is no room: it stays there.
 inline int receive_fd(int socket, Clock::time_point until) {
     for (int bytes = 0;;) {
         if (bytes++ > 0 && Clock::now() >= until) return -2; // also if the peer sends bytes without end
         int is = await(socket, POLLIN, until);
         if (is <= 0) return is == 0 ? -2 : -1;
+        if (!has_room(socket)) return -3;
         char byte = 0;
         Envelope<1> came(&byte, 1);
         ssize_t n = recvmsg(socket, &came.head, MSG_CMSG_CLOEXEC | MSG_DONTWAIT);

@@ -42,6 +42,11 @@ fn take_part(client: &Client, app: &UnixStream, camping: u8, size: u32) -> Falli
     Ok(mine)
 }
 
+/// Whether the app says something. An app that is gone says nothing.
+fn says(app: &mut UnixStream) -> bool {
+    app.read(&mut [0]).map_or(false, |count| count == 1)
+}
+
 /// How many of the buffers come back.
 fn come_back(all: &[Handle]) -> usize {
     all.iter().filter(|one| one.wait_idle(1, LONG) == Ok(Waited::Done(()))).count()
@@ -69,7 +74,7 @@ fn camera(client: Client, mut app: UnixStream, path: &Path) -> Fallible<()> {
         for to in &watchers {
             drop(frame.duplicate()?.give(to)); // refused once that process is gone
         }
-        if app.read(&mut [0]).is_ok() {
+        if says(&mut app) {
             println!("camera: {} buffers came back", come_back(&all));
             app.write_all(b"d")?;
         }
@@ -90,9 +95,11 @@ fn watch(client: Client, mut app: UnixStream, path: &Path, is_display: bool) -> 
     for number in 1.. {
         let frame = client.collect_for(&frames, LONG)?.unwrap().handle().unwrap();
         assert_eq!(read(frame.bytes()?), number, "a frame is missing");
-        if if is_display { number == 20 } else { app.read(&mut [0]).is_ok() } {
+        if if is_display { number == 20 } else { says(&mut app) } {
             app.write_all(b"h")?;
-            std::thread::sleep(LONG);
+            app.set_nonblocking(false)?;
+            says(&mut app);
+            break;
         }
     }
     Ok(())
@@ -128,8 +135,9 @@ fn app(client: Client, service: Service, path: &Path) -> Fallible<()> {
     to_camera.read_exact(&mut [0])?;
     to_encoder.write_all(b"s")?;
     to_encoder.read_exact(&mut [0])?; // it has a frame
+    let failed = mine.track_node()?; // while the node is there
     encoder.kill()?;
-    mine.track_node()?.wait_for(LONG)?.unwrap();
+    failed.wait_for(LONG)?.unwrap();
     println!("app: closed {}", why(mine.sync().unwrap_err()));
     for child in [&mut camera, &mut encoder, &mut display] {
         child.wait()?;

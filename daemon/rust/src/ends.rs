@@ -10,24 +10,7 @@ use std::os::unix::io::{AsFd, BorrowedFd, OwnedFd};
 use std::sync::Arc;
 use sysmem_words::numbers::{kind, reply};
 
-mod sealed {
-    pub trait Kind {}
-}
-pub(crate) use sealed::Kind;
-
-/// The kind of a [`Token`].
-#[derive(Debug)]
-pub enum OfToken {}
-/// The kind of a [`Collection`].
-#[derive(Debug)]
-pub enum OfCollection {}
-impl Kind for OfToken {}
-impl Kind for OfCollection {}
-
-/// An end that is not bound.
-pub type Token = End<OfToken>;
-/// A bound end.
-pub type Collection = End<OfCollection>;
+sysmem_words::ends!(Request);
 
 /// The end of a node. Its drop closes the end without a release, unless another process has its descriptor too:
 /// the node fails. The daemon makes the event a moment later.
@@ -63,36 +46,20 @@ impl<K: Kind> End<K> {
         self
     }
 
-    /// The node.
-    pub fn key(&self) -> Key {
-        self.key
+    fn asks(&self, kind: u32) -> Request {
+        request(kind)
     }
 
-    /// The node's collection.
-    pub fn collection(&self) -> CollectionId {
-        self.collection
+    fn make(&self, call: Request) -> Result<(), Error> {
+        self.link.make(call)
     }
 
-    /// Asks only whether the node has failed.
-    pub fn sync(&self) -> Result<(), Error> {
-        self.link.make(request(kind::SYNC))
+    fn track(&self, call: Request) -> Result<Tracker, Error> {
+        Tracker::by(&self.link, call)
     }
 
-    /// Makes the node weak, and each child that it gets from now on.
-    pub fn set_weak(&self) -> Result<(), Error> {
-        self.link.make(request(kind::SET_WEAK))
-    }
-
-    /// Lets the node take weak handles; with `children` also each child that it gets from now on,
-    /// and all nodes below these children.
-    pub fn set_weak_ok(&self, children: bool) -> Result<(), Error> {
-        let children = u8::from(children);
-        self.link.make(Request { children, ..request(kind::SET_WEAK_OK) })
-    }
-
-    /// Makes a tracker that fires once the node is gone.
-    pub fn track_node(&self) -> Result<Tracker, Error> {
-        Tracker::by(&self.link, request(kind::TRACK_NODE))
+    fn birth(&self, kind: u32, label: &str) -> Result<Token, Error> {
+        Token::born(&self.link, kind, label)
     }
 
     /// Sends the end over this socket to who [collects](crate::Client::collect) there. If that fails, the end
@@ -111,27 +78,14 @@ impl<K: Kind> End<K> {
     /// Spends the end without a failure, whatever the answer. `PeerClosed`: the node had failed
     /// before. `NoMemory`: the daemon makes the release later.
     pub fn release(self) -> Result<(), Error> {
-        self.link.make(request(kind::RELEASE))
+        self.make(request(kind::RELEASE))
     }
-
-    /// Does what the drop does: the node fails.
-    pub fn close(self) {}
 }
 
 impl End<OfToken> {
-    /// Makes a child token. The label may be empty.
-    pub fn duplicate(&self, label: &str) -> Result<Token, Error> {
-        Token::born(&self.link, kind::DUPLICATE, label)
-    }
-
-    /// From the allocation of the node's unit on, no failure climbs from the node to its parent.
-    pub fn set_dispensable(&self) -> Result<(), Error> {
-        self.link.make(request(kind::SET_DISPENSABLE))
-    }
-
     /// Turns the token into a collection. If that is refused, the token comes back.
     pub fn bind(self) -> Result<Collection, Back<Token>> {
-        match self.link.make(request(kind::BIND)) {
+        match self.make(request(kind::BIND)) {
             Ok(()) => {
                 let End { link, key, collection, .. } = self;
                 Ok(End { link, key, collection, kind: PhantomData })
@@ -142,18 +96,6 @@ impl End<OfToken> {
 }
 
 impl End<OfCollection> {
-    /// Makes an attached child token: it heads a unit of its own, and its failure does not climb to
-    /// this node. The label may be empty.
-    pub fn attach_token(&self, label: &str) -> Result<Token, Error> {
-        Token::born(&self.link, kind::ATTACH_TOKEN, label)
-    }
-
-    /// Sends the node's constraints.
-    pub fn set_constraints(&self, wanted: Constraints) -> Result<(), Error> {
-        let Constraints { camping, at_least, size } = wanted;
-        self.link.make(Request { camping, at_least, size, ..request(kind::SET_CONSTRAINTS) })
-    }
-
     /// The allocation, or `None` if there is none yet.
     pub fn check(&self) -> Result<Option<Allocation>, Error> {
         let told = self.link.ask(request(kind::CHECK))?;
@@ -194,12 +136,6 @@ impl End<OfCollection> {
         let (set, id, size) = (told.set, told.id, told.size);
         let strength = Strength::of(told.detail);
         Handle::all(&self.link, told, set, strength, id, size).map(Some)
-    }
-
-    /// Makes a tracker that fires once the node's unit is allocated and at most `left` buffers of
-    /// the collection hold pages, or once the node is gone before that allocation.
-    pub fn track_lifetime(&self, left: u32) -> Result<Tracker, Error> {
-        Tracker::by(&self.link, Request { left, ..request(kind::TRACK_LIFETIME) })
     }
 }
 

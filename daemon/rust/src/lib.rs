@@ -177,6 +177,9 @@ impl Client {
     /// A descriptor that waits there. Bytes without one are left out.
     fn receive(&self, from: BorrowedFd<'_>) -> Result<Option<OwnedFd>, Error> {
         for _ in 0..1000 {
+            if !sys::wait(from, false, None, Instant::now()).map_err(|_| Error::NoGiver)? {
+                return Ok(None);
+            }
             self.link.has_room()?;
             match sys::receive(from, &mut [0], false) {
                 Ok(got) if got.length == 0 => return Err(Error::NoGiver),

@@ -119,12 +119,6 @@ pub(crate) struct Link {
     pub subject: Subject,
     state: Mutex<State>,
     changed: Condvar,
-    /// Held from the number of an ON_IDLE to its reply, so that they come in their order.
-    arming: Mutex<()>,
-}
-
-fn locked<T>(mutex: &Mutex<T>) -> MutexGuard<'_, T> {
-    mutex.lock().unwrap_or_else(PoisonError::into_inner)
 }
 
 /// Sleeps until there is something to read; false if the time is over first, perhaps earlier than it should be, or
@@ -142,59 +136,64 @@ impl Link {
         // An earlier holder of the socket may have used other numbers just now.
         let first = sys::random().unwrap_or(0);
         let state = State { serial: first as u32, armed: first << 32, ..State::default() };
-        let (state, changed, arming) = (Mutex::new(state), Condvar::new(), Mutex::new(()));
+        let (state, changed) = (Mutex::new(state), Condvar::new());
         let (number, hub) = (hub.number(), hub.clone());
-        let made = Arc::new(Link { fd, hub, number, subject, state, changed, arming });
+        let made = Arc::new(Link { fd, hub, number, subject, state, changed });
         made.hub.add(&made);
         made
     }
 
     pub fn lock(&self) -> MutexGuard<'_, State> {
-        locked(&self.state)
+        self.state.lock().unwrap_or_else(PoisonError::into_inner)
     }
 
     /// Sends a request, and answers its reply if it is a success.
-    pub fn ask(&self, mut asked: Request) -> Result<Message, Error> {
+    pub fn ask(&self, asked: Request) -> Result<Message, Error> {
+        let told = self.ask_if(asked, |_, _| true)?;
+        told.ok_or(Error::TimeOver)
+    }
+
+    /// Sends the request that `prepare` has made of this one under the lock under which it is sent, so that its numbers
+    /// come to the daemon in their order; nothing if it says so.
+    fn ask_if(
+        &self,
+        mut asked: Request,
+        mut prepare: impl FnMut(&mut State, &mut Request) -> bool,
+    ) -> Result<Option<Message>, Error> {
         let until = self.hub.until();
         let mut state = self.lock();
-        if let Some(end) = state.end {
-            return Err(Error::Ended(end));
+        loop {
+            if !prepare(&mut state, &mut asked) {
+                return Ok(None);
+            }
+            if let Some(end) = state.end {
+                return Err(Error::Ended(end));
+            }
+            state.serial = state.serial.wrapping_add(1).max(1);
+            asked.serial = state.serial;
+            let sent = sys::send(self.as_fd(), &asked.bytes(), None, false);
+            match sent.map_err(|error| (error.kind(), error.raw_os_error())) {
+                Err((ErrorKind::WouldBlock, _)) => {}
+                Err((_, Some(12 | 105))) => return Err(Error::NoMemory), // ENOMEM, ENOBUFS
+                _ => break, // if the other side is gone, what came before that is to be read
+            }
+            drop(state);
+            if !sys::wait(self.as_fd(), true, None, until).unwrap_or(true) {
+                return Err(Error::TimeOver);
+            }
+            state = self.lock();
         }
-        state.serial = state.serial.wrapping_add(1).max(1);
-        asked.serial = state.serial;
         state.asked.push((asked.serial, None));
-        drop(state);
-        let sent = self.send(&asked, until);
-        let mut state = self.lock();
-        if sent.is_ok() {
-            let is_there = |slot: &(u32, Option<Message>)| slot.0 == asked.serial && slot.1.is_some();
-            state = self.wait(state, until, None, &mut |state| state.asked.iter().any(is_there)).0;
-        }
+        let is_there = |slot: &(u32, Option<Message>)| slot.0 == asked.serial && slot.1.is_some();
+        state = self.wait(state, until, None, &mut |state| state.asked.iter().any(is_there)).0;
         let place = state.asked.iter().position(|slot| slot.0 == asked.serial);
         let got = place.and_then(|place| state.asked.swap_remove(place).1);
         let end = state.end;
         drop(state);
-        sent?;
         let got = got.ok_or_else(|| end.map_or(Error::TimeOver, Error::Ended))?;
         match got.error(&asked) {
-            None => Ok(got),
+            None => Ok(Some(got)),
             Some(error) => Err(error),
-        }
-    }
-
-    /// If the other side is gone, this is no error: what came before that is to be read.
-    fn send(&self, asked: &Request, until: Instant) -> Result<(), Error> {
-        loop {
-            let sent = sys::send(self.as_fd(), &asked.bytes(), None, false);
-            match sent.map_err(|error| (error.kind(), error.raw_os_error())) {
-                Err((ErrorKind::WouldBlock, _)) => match sys::wait(self.as_fd(), true, None, until) {
-                    Ok(true) => {}
-                    Ok(false) => return Err(Error::TimeOver),
-                    Err(_) => return Ok(()),
-                },
-                Err((_, Some(12 | 105))) => return Err(Error::NoMemory), // ENOMEM, ENOBUFS
-                _ => return Ok(()),
-            }
         }
     }
 
@@ -314,18 +313,18 @@ impl Link {
 
     /// Asks the daemon to tell of the first of those who wait.
     pub fn arm(&self) -> Result<(), Error> {
-        let _one = locked(&self.arming);
-        let mut state = self.lock();
-        state.is_to_arm = false;
-        let waits = state.idles.iter().filter(|idle| !idle.is_done);
-        let left = match waits.map(|idle| idle.most).max() {
-            None => return Ok(()),
-            Some(most) => most,
-        };
-        state.armed += 1;
-        let cookie = state.armed;
-        drop(state);
-        self.make(Request { left, cookie, ..request(op::ON_IDLE) })
+        let made = self.ask_if(request(op::ON_IDLE), |state, asked| {
+            state.is_to_arm = false;
+            let waits = state.idles.iter().filter(|idle| !idle.is_done);
+            match waits.map(|idle| idle.most).max() {
+                None => return false,
+                Some(most) => asked.left = most,
+            }
+            state.armed += 1;
+            asked.cookie = state.armed;
+            true
+        });
+        made.map(drop)
     }
 }
 

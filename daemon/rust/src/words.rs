@@ -196,35 +196,10 @@ pub enum Error {
     NoGiver,
 }
 
-impl fmt::Display for Error {
-    fn fmt(&self, f: &mut fmt::Formatter<'_>) -> fmt::Result {
-        match self {
-            Error::Refused(refusal) => write!(f, "refused: {refusal}"),
-            Error::Misused(misuse) => write!(f, "misused: {misuse}"),
-            Error::PeerClosed { cause, origin, label, .. } => {
-                write!(f, "closed: {cause}, by node {origin}")?;
-                label.as_ref().map_or(Ok(()), |label| write!(f, " ({label})"))
-            }
-            Error::BadCall(range) => write!(f, "bad call: {range}"),
-            Error::HistoryFull => f.write_str("history full"),
-            Error::NoMemory => f.write_str("no memory"),
-            Error::Ended(ending) => ending.fmt(f),
-            Error::NoService(kind) => write!(f, "nobody serves this path: {kind}"),
-            Error::TimeOver => f.write_str("the deadline is over"),
-            Error::NoReceiver(kind) => write!(f, "it can't be sent: {kind}"),
-            Error::NoGiver => f.write_str("the giver is gone"),
-        }
-    }
-}
-
-impl std::error::Error for Error {}
-
-/// A value that a refused call would have spent, and the error. The operator `?` turns it into an
-/// [`Error`] and drops the value: a token or a collection is then closed, and its node fails.
-pub type Back<T> = sysmem_words::Back<T, Error>;
-
-impl<T> From<Back<T>> for Error {
-    fn from(back: Back<T>) -> Error {
-        back.error
-    }
-}
+sysmem_words::errors!(f:
+    Error::Ended(ending) => ending.fmt(f),
+    Error::NoService(kind) => write!(f, "nobody serves this path: {kind}"),
+    Error::TimeOver => f.write_str("the deadline is over"),
+    Error::NoReceiver(kind) => write!(f, "it can't be sent: {kind}"),
+    Error::NoGiver => f.write_str("the giver is gone"),
+);

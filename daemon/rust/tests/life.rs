@@ -86,8 +86,12 @@ fn refusals() {
     back.value.close();
     assert_eq!(Error::from(weak.bind().unwrap_err()), told);
 
-    let one = app.open_root("one").unwrap();
-    let kids = [one.duplicate("a").unwrap(), one.duplicate("b").unwrap()];
+    // A closed end's node is kept until the daemon saw its socket close.
+    let (one, kids) = until_ok(|| {
+        let one = app.open_root("one")?;
+        let kids = [one.duplicate("a")?, one.duplicate("b")?];
+        Ok((one, kids))
+    });
     assert_eq!(one.duplicate("c").unwrap_err(), Error::Refused(Refusal::TooManyNodes));
     let [kid, other] = kids;
     kid.set_dispensable().unwrap();

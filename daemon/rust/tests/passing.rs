@@ -116,6 +116,7 @@ fn no_room() {
         one.set_constraints(Constraints { camping: 3, at_least: 0, size: 1 }).unwrap();
         let gone = one.track_node().unwrap();
         let (to, from) = UnixStream::pair().unwrap();
+        let (_other, empty) = UnixStream::pair().unwrap();
         root.duplicate("given").unwrap().give(&to).unwrap();
         let kid = root.duplicate("adopted").unwrap().detach().unwrap();
         let mut full = Vec::new();
@@ -124,6 +125,7 @@ fn no_room() {
         }
         assert_eq!(root.duplicate("none").unwrap_err(), Error::NoMemory);
         assert_eq!(app.collect(&from).unwrap_err(), Error::NoMemory);
+        assert!(app.collect(&empty).unwrap().is_none(), "nothing came");
         let back = app.adopt(kid).unwrap_err();
         assert_eq!(back.error, Error::NoMemory);
         full.pop();

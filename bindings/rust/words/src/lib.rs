@@ -5,6 +5,7 @@
 #![deny(missing_docs)]
 
 mod descriptor;
+mod ends;
 #[doc(hidden)]
 pub mod numbers;
 mod waits;
