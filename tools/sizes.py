@@ -84,7 +84,7 @@ SIZES = [
 
 # The documents, and how many words they have at most, all together.
 DOCUMENTS = ["README.md", "CONTRIBUTING.md", "CHANGELOG.md", *sorted(glob.glob("docs/*.md"))]
-# 900 of them are of docs/DAEMON.md, which stands apart: who uses the service in one process need not read it.
+# Up to 1,000 of them are of docs/DAEMON.md, which stands apart: who uses the service in one process need not read it.
 MOST_WORDS = 27_900
 
 
