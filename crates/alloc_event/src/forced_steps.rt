@@ -5,7 +5,7 @@ ghost use Rattle.node_table.specs.Table.{table_len};
 ghost use Rattle.forest_store.specs.declared.change.Change.{Change as Changed};
 ghost use Rattle.forest_store.specs.Forest.{IsPoolOf};
 ghost use Rattle.forest_store.specs.Stores.{forest_in};
-ghost use Rattle.forest_steps.specs.NodeEffects.{IsWorkedOutAt, keeps_counts};
+ghost use Rattle.forest_steps.specs.NodeEffects.{IsWorkedOutAt};
 ghost use Rattle.forest_steps.specs.StoreSteps.{HasRoom, OutcomeAt, ReadyAt, WaitsNot};
 
 use buffer_holds::Holds;
@@ -102,101 +102,32 @@ fn settle_applied(
 
 /// Makes an effect that was worked out, with all that it forces. `NoMemory` if room for removed nodes,
 /// pending units, held buffers or in the pool is refused; then nothing changed.
-#[inline(never)]
+#[inline(always)]
 fn settle_forced(
     store: &mut Store,
     at: usize,
     pool: &mut Pool,
     holds: &Holds,
-    made: NodeEffect,
+    made: &NodeEffect,
     room: &mut Scratch,
 ) -> Result<(), NoMemory>
-    requires ready { ReadyAt store.old at (Changed.Effect made.key made.effect) }
-    requires worked { IsWorkedOutAt store.old at made }
+    requires ready { ReadyAt store.old at (Changed.Effect made.now.key made.now.effect) }
+    requires worked { IsWorkedOutAt store.old at made.now }
     requires pool { IsPoolOf pool.old (forest_in store.old) }
     ensures { OutcomeAt (is_ok result) (total holds.now) pool.old pool.new store.old store.new at
-        (Changed.Effect made.key made.effect) }
+        (Changed.Effect made.now.key made.now.effect) }
 {
     reserve(store, room)?;
-    if allocate_root(store, at, pool, holds, &made, room)? {
+    if allocate_root(store, at, pool, holds, made, room)? {
         return Ok(());
     }
-    settle_applied(store, at, pool, holds, &made, room);
+    settle_applied(store, at, pool, holds, made, room);
     Ok(())
 }
 
-/// Calls `settle_forced` with a copy of the effect. So a caller that makes an effect without forced steps
-/// keeps it in registers.
-#[inline(always)]
-fn settle_copied(
-    store: &mut Store,
-    at: usize,
-    pool: &mut Pool,
-    holds: &Holds,
-    made: &NodeEffect,
-    room: &mut Scratch,
-) -> Result<(), NoMemory>
-    requires ready { ReadyAt store.old at (Changed.Effect made.now.key made.now.effect) }
-    requires worked { IsWorkedOutAt store.old at made.now }
-    requires pool { IsPoolOf pool.old (forest_in store.old) }
-    ensures { OutcomeAt (is_ok result) (total holds.now) pool.old pool.new store.old store.new at
-        (Changed.Effect made.now.key made.now.effect) }
-{
-    settle_forced(store, at, pool, holds, *made, room)
-}
-
-/// Makes an effect that was worked out, with all that it forces: the effect alone if by the counts it
-/// forces nothing, otherwise one step after another. `NoMemory` if room for removed nodes, pending units,
-/// held buffers or in the pool is refused; then nothing changed.
-#[inline(always)]
-fn settle_worked_out(
-    store: &mut Store,
-    at: usize,
-    pool: &mut Pool,
-    holds: &Holds,
-    made: &NodeEffect,
-    room: &mut Scratch,
-) -> Result<(), NoMemory>
-    requires ready { ReadyAt store.old at (Changed.Effect made.now.key made.now.effect) }
-    requires worked { IsWorkedOutAt store.old at made.now }
-    requires pool { IsPoolOf pool.old (forest_in store.old) }
-    ensures { OutcomeAt (is_ok result) (total holds.now) pool.old pool.new store.old store.new at
-        (Changed.Effect made.now.key made.now.effect) }
-{
-    let entry = store.entries[at].get();
-    if is_unforced(&store.nodes.table, entry, holds, made) {
-        apply_unforced(store, at, pool, holds, made);
-        return Ok(());
-    }
-    settle_copied(store, at, pool, holds, made, room)
-}
-
-/// Makes an effect that changes no count, with all that it forces, as `settle_effect` does.
-#[inline(always)]
-fn settle_uncounted(
-    store: &mut Store,
-    at: usize,
-    pool: &mut Pool,
-    holds: &Holds,
-    key: NodeKey,
-    effect: Effect,
-    room: &mut Scratch,
-) -> Result<(), NoMemory>
-    requires ready { ReadyAt store.old at (Changed.Effect key effect) }
-    requires keeps { keeps_counts effect ≡ true }
-    requires pool { IsPoolOf pool.old (forest_in store.old) }
-    ensures { OutcomeAt (is_ok result) (total holds.now) pool.old pool.new store.old store.new at
-        (Changed.Effect key effect) }
-{
-    let made = NodeEffect {
-        key,
-        effect,
-        counts: None,
-    };
-    settle_worked_out(store, at, pool, holds, &made, room)
-}
-
-/// Makes an effect, with all that it forces, as `settle_effect` does: it works out the counts after it.
+/// Makes an effect, with all that it forces, as `settle_effect` does. It works out the counts after it: by
+/// these the effect forces nothing, or one step after another is made. Out of line, so that a caller which
+/// makes an effect without forced steps keeps it in registers.
 #[inline(never)]
 fn settle_counted(
     store: &mut Store,
@@ -212,12 +143,17 @@ fn settle_counted(
     ensures { OutcomeAt (is_ok result) (total holds.now) pool.old pool.new store.old store.new at
         (Changed.Effect key effect) }
 {
-    let made = work_out(&store.nodes, store.entries[at].get(), key, effect);
-    settle_worked_out(store, at, pool, holds, &made, room)
+    let entry = store.entries[at].get();
+    let made = work_out(&store.nodes, entry, key, effect);
+    if is_unforced(&store.nodes.table, entry, holds, &made) {
+        apply_unforced(store, at, pool, holds, &made);
+        return Ok(());
+    }
+    settle_forced(store, at, pool, holds, &made, room)
 }
 
-/// Makes an effect, with all that it forces. The effect is worked out once. `NoMemory` if room for removed
-/// nodes, pending units, held buffers or in the pool is refused; then nothing changed.
+/// Makes an effect, with all that it forces: at once if it changes no count and forces nothing. `NoMemory` if
+/// room for removed nodes, pending units, held buffers or in the pool is refused; then nothing changed.
 #[inline(always)]
 pub(crate) fn settle_effect(
     store: &mut Store,
@@ -234,7 +170,16 @@ pub(crate) fn settle_effect(
         (Changed.Effect key effect) }
 {
     if keeps_counts(&effect) {
-        return settle_uncounted(store, at, pool, holds, key, effect, room);
+        let made = NodeEffect {
+            key,
+            effect,
+            counts: None,
+        };
+        let entry = store.entries[at].get();
+        if is_unforced(&store.nodes.table, entry, holds, &made) {
+            apply_unforced(store, at, pool, holds, &made);
+            return Ok(());
+        }
     }
     settle_counted(store, at, pool, holds, key, effect, room)
 }

@@ -1,7 +1,7 @@
 //! The clients, and the parcels that wait for them.
 ghost use Rattle.std.specs.Prelude.{◌≡◌, ◌==◌, ◌++◌, IfOk, OnOk, OnErr, [], ◌∷◌, drop, map, length, true, false};
-ghost use Rattle.std.specs.List.{find, list_any, position, slice_get};
-ghost use Rattle.std.specs.Option.{option_map_or};
+ghost use Rattle.std.specs.List.{find, position, slice_get};
+ghost use Rattle.std.specs.Option.{option_map, option_map_or};
 ghost use Rattle.sm_names.specs.Marks.{Called};
 ghost use Rattle.core_state.specs.ClientRows.{queued, with_client, now_shut, without_first, with_parcel};
 ghost use Rattle.core_state.specs.State.{Client as Row};
@@ -273,26 +273,14 @@ impl JoinedClient {
     }
 }
 
-/// Whether the client joined. Costs O(log clients): clients are numbered as they join.
+/// Whether the client was shut, if it joined. Costs O(log clients): clients are numbered as they join.
 #[inline(always)]
-pub fn has_joined(clients: &[JoinedClient], client: ClientId) -> bool
+pub fn standing_of(clients: &[JoinedClient], client: ClientId) -> Option<bool>
     requires { Rise (map (λ (c : Row). c.id) clients.now) }
-    ensures { result ≡ list_any (λ (c : Row). c.id == client) clients.now }
+    ensures { result ≡ option_map (λ (c : Row). c.shut)
+        (find (λ (c : Row). c.id == client) clients.now) }
 {
-    place_of(clients, client).is_some()
-}
-
-/// Whether the client was shut. Costs O(log clients).
-#[inline(always)]
-pub fn is_shut(clients: &[JoinedClient], client: ClientId) -> bool
-    requires { Rise (map (λ (c : Row). c.id) clients.now) }
-    ensures { result ≡ option_map_or (λ (c : Row). c.shut)
-        (find (λ (c : Row). c.id == client) clients.now) false }
-{
-    match place_of(clients, client) {
-        Some(at) => clients[at].is_shut(),
-        None => false,
-    }
+    Some(clients[place_of(clients, client)?].is_shut())
 }
 
 /// How many parcels wait for the client. Costs O(log clients).

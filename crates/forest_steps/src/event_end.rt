@@ -74,6 +74,7 @@ pub fn finish_event(
 /// Where the buffers of the collection are abandoned, of which no strong node is live, the loss of its
 /// root removes all its nodes. Costs a look at the strong handles of its buffers, and O(1) for each
 /// node that is removed.
+#[inline(always)]
 fn fail_if_abandoned(
     nodes: &mut NodeStore,
     entry: &mut Entry,
@@ -94,7 +95,9 @@ fn fail_if_abandoned(
     }
 }
 
-/// Loses the root of the collection for want of a strong node, which removes all its nodes.
+/// Loses the root of the collection for want of a strong node, which removes all its nodes. Out of line, since
+/// an event seldom comes here.
+#[inline(never)]
 fn lose_root(nodes: &mut NodeStore, entry: &mut Entry, keys: &mut Vec<NodeKey>)
     requires given { has_given_root nodes.old.table entry.old.keys.items ≡ true }
     requires named { AreNamed nodes.old.table }

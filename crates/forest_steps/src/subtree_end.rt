@@ -54,6 +54,7 @@ fn highest(table: &NodeTable<Node>, units: &[Unit], head: NodeKey) -> NodeKey
 /// Where nothing holds the unit with this head, the highest of the units above one another from it on
 /// that nothing holds but the one below ends, and all below it. Costs O(1) for each of those units and
 /// for each node that ends. Takes no memory.
+#[inline(always)]
 pub(crate) fn end_above(
     nodes: &mut NodeStore,
     entry: &mut Entry,

@@ -88,6 +88,7 @@ fn name_at(table: &mut NodeTable<Node>, key: NodeKey)
 }
 
 /// Stores the node under a key that was never given.
+#[inline(always)]
 fn insert<N: Drop>(
     table: &mut NodeTable<N>,
     parent: Option<NodeKey>,

@@ -79,6 +79,7 @@ impl KeyList {
     }
 
     /// Reserves room for one more.
+    #[inline(always)]
     pub fn reserve_one(&mut self) -> Result<(), AllocError>
         ensures items { self.new.items ≡ self.old.items }
         ensures room { OnOk result (length self.new.items < self.new.capacity) }
@@ -100,6 +101,7 @@ impl KeyList {
     }
 
     /// Removes the key at this index. Takes O(n) in the number of keys on its shorter side.
+    #[inline(always)]
     pub fn remove(&mut self, at: usize)
         requires { at < length self.old.items }
         ensures { self.new.items ≡ remove self.old.items at }
@@ -132,7 +134,8 @@ impl KeyList {
     }
 }
 
-// Drops this many cells from the front.
+// Drops this many cells from the front. Out of line, since a birth seldom comes here.
+#[inline(never)]
 fn move_down(cells: &mut Vec<NodeKey>, front: usize)
     requires { front ≤ length cells.old.items }
     ensures items { cells.new.items ≡ drop front cells.old.items }

@@ -1,14 +1,13 @@
 //! The order of answers: the first line that has an answer answers the call. If none has, the call takes
 //! effect.
-ghost use Rattle.std.specs.Prelude.{◌≡◌, ◌∷◌, ◌&&◌, ◌||◌, [], false, if◌then◌else◌};
+ghost use Rattle.std.specs.Prelude.{◌≡◌, ◌∷◌, [], false};
 ghost use Rattle.std.specs.Prelude.{IfSome, option_copied};
-ghost use Rattle.std.specs.Option.{option_and_then, option_map, option_map_or, option_or};
+ghost use Rattle.std.specs.Option.{option_and_then, option_map, option_or};
 ghost use Rattle.sm_names.specs.declared.outcomes.Refusal.{Refusal as Refused};
-ghost use Rattle.sm_names.specs.Answers.{answers_first, closing, refused_if};
+ghost use Rattle.sm_names.specs.Answers.{answers_first, closing};
 ghost use Rattle.sm_names.specs.Answers.{unknown_client, shut_client, no_end, end_named};
 ghost use Rattle.sm_names.specs.Answers.{end_in_transit, peer_closed, wrong_kind};
 ghost use Rattle.sm_names.specs.Answers.{misuse as misuse_in, no_handle};
-ghost use Rattle.sm_names.specs.CallRows.{is_acquired as is_acquired_in};
 ghost use Rattle.sm_names.specs.Words.{first_some};
 ghost use Rattle.forest_store.specs.Nodes.{is_spent};
 ghost use Rattle.core_state.specs.Lines.{limits_of};
@@ -24,40 +23,9 @@ use sm_names::{Call, ClientId, Product, Refusal, Reply};
 
 // ---- the clients
 
-// Whether the caller or the receiver is unknown. Only client 0 makes a Join. Any other call is made by a
-// client that joined, and a gift is to such a client.
-#[inline(always)]
-fn is_unknown(core: &Core, client: ClientId, call: &Call, traits: &Traits) -> bool
-    requires { Describes call.now traits.now }
-    ensures { unknown_client (readings_of core.now) client call.now
-        ≡ refused_if result Refused.NoSuchClient }
-{
-    match *call {
-        Call::Join => client != 0,
-        _ => {
-            !core.has_joined(client)
-                || match traits.to {
-                    Some(to) => !core.has_joined(to),
-                    None => false,
-                }
-        }
-    }
-}
-
-// Whether a gift is to a shut client, or a shut client would acquire something.
-#[inline(always)]
-fn is_shut_out(core: &Core, client: ClientId, traits: &Traits) -> bool
-    ensures { result ≡ ((is_acquired_in traits.now.makes && (readings_of core.now).is_shut client)
-        || option_map_or (readings_of core.now).is_shut traits.now.to false) }
-{
-    let is_receiver_shut = match traits.to {
-        Some(to) => core.is_shut(to),
-        None => false,
-    };
-    is_acquired(traits.makes) && core.is_shut(client) || is_receiver_shut
-}
-
-// The refusal of the call because of its clients, if there is one.
+// The refusal of the call because of its clients, if there is one. Only client 0 makes a Join. Any other call is
+// made by a client that joined, and a gift is to such a client. Nothing is given to a shut client, and it
+// acquires nothing. Each client is looked up once.
 #[inline(always)]
 fn refusal_of_clients(
     core: &Core,
@@ -70,9 +38,19 @@ fn refusal_of_clients(
         ≡ option_or (unknown_client (readings_of core.now) client call.now)
         (shut_client (readings_of core.now) client call.now) }
 {
-    if is_unknown(core, client, call, traits) {
-        Some(Refusal::NoSuchClient)
-    } else if is_shut_out(core, client, traits) {
+    let caller = match *call {
+        Call::Join if client == 0 => Some(false),
+        Call::Join => None,
+        _ => core.standing_of(client),
+    };
+    let receiver = match traits.to {
+        Some(to) => core.standing_of(to),
+        None => Some(false),
+    };
+    let (Some(is_shut), Some(is_receiver_shut)) = (caller, receiver) else {
+        return Some(Refusal::NoSuchClient);
+    };
+    if is_acquired(traits.makes) && is_shut || is_receiver_shut {
         Some(Refusal::ClientShut)
     } else {
         None

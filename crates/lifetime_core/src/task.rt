@@ -206,18 +206,21 @@ pub(crate) fn make_change(
     ensures kept { OnErr result ((forest.new ≡ forest.old) × (pool.new ≡ pool.old)) }
     ensures why { OnErr result (is_some (work_in task.now) ≡ true) }
 {
-    let Some(task) = *task else {
-        return Ok(None);
-    };
-    let change = task.change;
-    let Some(change) = change else {
+    let Some(
+        EventTask {
+            collection,
+            change: Some(change),
+            ..
+        },
+    ) = *task
+    else {
         return Ok(None);
     };
     if let Call::DropHandle(buffer, _) = *call {
         forest.settle_drop(pool, holds, buffer)?;
         return Ok(None);
     }
-    forest.settle(pool, holds, task.collection, change)
+    forest.settle(pool, holds, collection, change)
 }
 
 // Puts an end into its new place, if the event moves one.

@@ -1,8 +1,9 @@
 -- The rows of the clients, by rising ids.
-use Rattle.std.proofs.Common.{ℕ, zero, suc, ◌≡◌, ◌<◌, ◌≤◌, ◌==◌, ◌||◌, refl, sym, ap, ◌∙◌, inl, inr, Bool, true, false, cond}
+use Rattle.std.proofs.Common.{ℕ, zero, suc, ◌≡◌, ◌<◌, ◌≤◌, ◌==◌, refl, sym, ap, ◌∙◌, inl, inr, Bool, true, false}
 use Rattle.std.proofs.Common.{List, [], ◌∷◌, length, get_or, set, map, arith, Some, None, is_some, Result, Ok, Err}
 use Rattle.std.specs.List.{find, list_any, position, position_or_len, AllByRecursion}
 use Rattle.std.specs.List.Sorted.{IsSearchInRange, IsBinarySearchResult, IsNonDecreasingBy, IsPartitionPoint}
+use Rattle.std.specs.Option.{option_map, option_map_or, unwrap_or}
 use Rattle.std.specs.Ordering.{nat_cmp, ordering_index}
 use Rattle.std.specs.Result.{result_ok}
 use Rattle.std.specs.declared.cmp.Ordering.TheVariants.{Less, Greater}
@@ -10,11 +11,11 @@ use Rattle.std.proofs.lemmas.Bool.{eqb-true, eq-eqb, cases_lt}
 use Rattle.std.proofs.lemmas.Bool.Decides.{nat_tests}
 use Rattle.std.proofs.lemmas.Cmp.{ranked}
 use Rattle.std.proofs.lemmas.Grind.{common_steps}
-use Rattle.std.proofs.lemmas.List.{get_or_default}
 use Rattle.std.proofs.lemmas.List.Folds.{find_at}
 use Rattle.std.proofs.lemmas.List.Quantifiers.{position-Some}
 use Rattle.std.proofs.lemmas.List.Sums.{position_or_len_is, passes_at_first}
 use Rattle.std.proofs.lemmas.Option.{gets, slice_get_read}
+use Rattle.sm_names.proofs.ListLaws.{is_some-find}
 use Rattle.sm_names.proofs.SamenessLaws.{either_way, false_if}
 use Rattle.core_state.specs.ClientRows.{with_client}
 use Rattle.core_state.specs.State.{Client}
@@ -117,22 +118,21 @@ module _ (client : ℕ) where
       let past : length rows ≤ position_or_len is_its rows = grind (arith, common_steps) in
       find_at is_its rows ∙ grind (arith, common_steps, gets)
 
-  -- whether the client has a place
-  pub place_tells : (rows : List Client) → is_some (position is_its rows) ≡ list_any is_its rows
-  place_tells rows =
-      let found : is_some (position is_its rows) ≡ is_some (find is_its rows) =
-      elim (position is_its rows) as (λ place. position is_its rows ≡ place → is_some place ≡ is_some (find is_its rows)) [
-        | None ↦ λ is. sym (ap is_some (finds_none rows is))
-        | Some at ↦ λ is. sym (ap is_some (finds rows at (get_or rows at (new_client 0)) is (get_or_default rows at (new_client 0)
-            (get_or rows at (new_client 0)) (position-Some is_its rows at (new_client 0) is).0)))
-      ] refl in
-      found ∙ tells rows
-    where
-      tells : (rows : List Client) → is_some (find is_its rows) ≡ list_any is_its rows
-      tells [] = refl
-      tells (c ∷ rows) = elim (is_its c) as (λ b. is_some (cond b (Some c) (find is_its rows)) ≡ (b || list_any is_its rows)) [
-        | true ↦ refl
-        | false ↦ tells rows
+  -- whether the client has a row
+  pub joined_tells : (rows : List Client) → list_any is_its rows ≡ is_some (option_map (λ (c : Client). c.shut) (find is_its rows))
+  joined_tells rows = sym (is_some-find is_its rows) ∙ (elim (find is_its rows) as
+      (λ o. is_some o ≡ is_some (option_map (λ (c : Client). c.shut) o)) [
+        | None ↦ refl
+        | Some row ↦ refl
+      ])
+
+  -- whether it is shut there
+  pub shut_tells : (rows : List Client) → option_map_or (λ (c : Client). c.shut) (find is_its rows) false
+      ≡ unwrap_or (option_map (λ (c : Client). c.shut) (find is_its rows)) false
+  shut_tells rows = elim (find is_its rows) as
+      (λ o. option_map_or (λ (c : Client). c.shut) o false ≡ unwrap_or (option_map (λ (c : Client). c.shut) o) false) [
+        | None ↦ refl
+        | Some row ↦ refl
       ]
 
   -- without a row of the client none is changed

@@ -8,7 +8,7 @@ ghost use Rattle.sm_names.specs.declared.keys.Strength.{Strength};
 ghost use Rattle.sm_names.specs.Answers.{is_at_limit};
 ghost use Rattle.sm_names.specs.Handles.{is_doomed};
 ghost use Rattle.sm_names.specs.Members.{some_strong_live};
-ghost use Rattle.std.specs.Option.{option_map_or};
+ghost use Rattle.std.specs.Option.{option_map_or, unwrap_or};
 ghost use Rattle.forest_store.specs.Forest.{node_count};
 ghost use Rattle.forest_store.specs.Forest.{Collection as CollectionValue, collection_at};
 ghost use Rattle.forest_store.specs.Nodes.{is_spent, members_of};
@@ -18,19 +18,20 @@ ghost use Rattle.core_state.specs.Reads.{readings_of};
 
 use super::Core;
 use alloc_event::Node;
-use core_state::clients::{count_waiting, first_waiting, has_joined, is_shut};
+use core_state::clients::{count_waiting, first_waiting, standing_of};
 use core_state::reading::with_end;
 use sm_names::{
     BufferName, Buffers, ClientId, CollectionId, MAX_BUFFERS, NodeKey, Parcel, Strength,
 };
 
 impl Core {
-    // Whether the client was shut.
+    // Whether the client was shut, if it joined.
     #[inline(always)]
-    pub(crate) fn is_shut(&self, client: ClientId) -> bool
-        ensures { result ≡ (readings_of self.now).is_shut client }
+    pub(crate) fn standing_of(&self, client: ClientId) -> Option<bool>
+        ensures joined { (readings_of self.now).has_joined client ≡ is_some result }
+        ensures shut { (readings_of self.now).is_shut client ≡ unwrap_or result false }
     {
-        is_shut(&self.contents.clients, client)
+        standing_of(&self.contents.clients, client)
     }
 
     // How many parcels wait for the client.
@@ -110,14 +111,6 @@ impl Core {
         ensures { result ≡ is_doomed (total self.now.holds buffer Strength.Strong) strong_live }
     {
         self.contents.holds.doomed(buffer, strong_live)
-    }
-
-    // Whether the client joined.
-    #[inline(always)]
-    pub(crate) fn has_joined(&self, client: ClientId) -> bool
-        ensures { result ≡ (readings_of self.now).has_joined client }
-    {
-        has_joined(&self.contents.clients, client)
     }
 
     // The node with this key, unless its end is spent.

@@ -1,5 +1,5 @@
--- The effect is worked out of the entry at this place.
-use Rattle.alloc_event.proofs.Common.{arith, place_is, one_entry, row_there}
+-- The effect is worked out of the entry at this place. Nothing is forced by it, or what is forced is made.
+use Rattle.alloc_event.proofs.Common.{◌∙◌, sym, refl, arith, total, place_is, one_entry, few_there, row_there}
 use Rattle.forest_store.proofs.rows.Entries.{read_through}
 use Rattle.alloc_event.proofs.forced_steps.settle_counted.Goals as goal
 
@@ -10,13 +10,34 @@ index-requires c =
 pub work_out-made-requires : goal.work_out-made-requires
 work_out-made-requires c = row_there c.requires.ready.ready.kept _ _ c.requires.ready.ready.change.named
 
-pub settle_worked_out-requires-clause-ready : goal.settle_worked_out-requires-clause-ready
-settle_worked_out-requires-clause-ready c = rw (c.work_out-made.ensures.key, c.work_out-made.ensures.effect) c.requires.ready
+pub is_unforced-requires : goal.is_unforced-requires
+is_unforced-requires c =
+    let is = read_through c.args.store.now.entries.items c.args.at c.get-entry.ensures c.index.ensures in
+    few_there (total c.args.holds.now) _ c.requires.ready.place is c.requires.ready.ready refl
 
-pub settle_worked_out-requires-clause-worked : goal.settle_worked_out-requires-clause-worked
-settle_worked_out-requires-clause-worked c e is =
-    let stands = read_through c.args.store.now.entries.items c.args.at c.get.ensures c.index.ensures in
+pub apply_unforced-requires-clause-ready : goal.apply_unforced-requires-clause-ready
+apply_unforced-requires-clause-ready c = rw (c.work_out-made.ensures.key, c.work_out-made.ensures.effect) c.requires.ready
+
+pub apply_unforced-requires-clause-worked : goal.apply_unforced-requires-clause-worked
+apply_unforced-requires-clause-worked c e is =
+    let stands = read_through c.args.store.now.entries.items c.args.at c.get-entry.ensures c.index.ensures in
     rw (one_entry _ _ _ e c.requires.ready.place stands is) at c.work_out-made.ensures.worked
 
+pub apply_unforced-requires-clause-unforced : goal.apply_unforced-requires-clause-unforced
+apply_unforced-requires-clause-unforced c e is =
+    let stands = read_through c.args.store.now.entries.items c.args.at c.get-entry.ensures c.index.ensures in
+    rw (one_entry _ _ _ e c.requires.ready.place stands is) at (sym c.is_unforced.ensures ∙ c.if-is_unforced.true)
+
+pub settle_forced-requires-clause-ready : goal.settle_forced-requires-clause-ready
+settle_forced-requires-clause-ready c = rw (c.work_out-made.ensures.key, c.work_out-made.ensures.effect) c.requires.ready
+
+pub settle_forced-requires-clause-worked : goal.settle_forced-requires-clause-worked
+settle_forced-requires-clause-worked c e is =
+    let stands = read_through c.args.store.now.entries.items c.args.at c.get-entry.ensures c.index.ensures in
+    rw (one_entry _ _ _ e c.requires.ready.place stands is) at c.work_out-made.ensures.worked
+
+pub returns-then-is_unforced : goal.returns-then-is_unforced
+returns-then-is_unforced c = rw (c.work_out-made.ensures.key, c.work_out-made.ensures.effect) at c.apply_unforced.ensures
+
 pub returns : goal.returns
-returns c = rw (c.work_out-made.ensures.key, c.work_out-made.ensures.effect) at c.settle_worked_out.ensures
+returns c = rw (c.work_out-made.ensures.key, c.work_out-made.ensures.effect) at c.settle_forced.ensures

@@ -26,5 +26,5 @@ settle_applied-requires-clause-pool c =
 pub returns : goal.returns
 returns c =
     let same = c.allocate_root.ensures.same (c.in_ok-allocate_root.was ∙ ap Ok c.if-branch.false) in
-    let change : Change = Change.Effect c.args.made.key c.args.made.effect in
+    let change : Change = Change.Effect c.args.made.now.key c.args.made.now.effect in
     rw same.0 at (rw same.1 at c.settle_applied.ensures)

@@ -8,21 +8,6 @@ settle_drop-requires-clause-pool c = search rules
 pub returns : goal.returns
 returns c = search rules
 
-pub returns-in_default-change-clause-kept : goal.returns-in_default-change-clause-kept
-returns-in_default-change-clause-kept c = search rules
-
-pub returns-in_default-change-clause-pool : goal.returns-in_default-change-clause-pool
-returns-in_default-change-clause-pool c = search rules
-
-pub returns-in_default-change-clause-size : goal.returns-in_default-change-clause-size
-returns-in_default-change-clause-size c = search rules
-
-pub returns-in_default-change-clause-why : goal.returns-in_default-change-clause-why
-returns-in_default-change-clause-why c = search rules
-
-pub returns-in_default-change-clause-work : goal.returns-in_default-change-clause-work
-returns-in_default-change-clause-work c = search rules
-
 pub returns-in_default-clause-kept : goal.returns-in_default-clause-kept
 returns-in_default-clause-kept c = search rules
 

@@ -1,0 +1,15 @@
+use Rattle.std.proofs.Common.{◌∙◌, ap, sym, Some}
+use Rattle.core_state.proofs.joined.Rows.{finds, finds_none}
+use Rattle.core_state.proofs.clients.standing_of.Goals as goal
+
+-- the client never joined
+pub returns-in_err-place_of : goal.returns-in_err-place_of
+returns-in_err-place_of c =
+    rw (finds_none c.args.client c.args.clients.now (sym c.place_of.ensures ∙ c.in_err-place_of.was)) c.from_residual.ensures
+
+-- the row of the client
+pub returns : goal.returns
+returns c =
+    let found = finds c.args.client c.args.clients.now c.in_ok-place_of.field-0 c.index-clients-branch.result (sym c.place_of.ensures
+    ∙ c.in_ok-place_of.was) c.index-clients-branch.is in
+    rw found (ap Some c.is_shut.ensures)

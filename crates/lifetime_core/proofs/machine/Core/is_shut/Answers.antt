@@ -1,7 +1,0 @@
-use Rattle.std.proofs.Common.{rules}
-use Rattle.core_state.proofs.theorem.Keeps.{core_known}
-use Rattle.lifetime_core.proofs.machine.Core.is_shut.Goals as goal
-
--- the clients stand by their numbers, as in the history that the core shows
-pub is_shut-requires : goal.is_shut-requires
-is_shut-requires c = let rise = (core_known _ _ c.self.invariant).rising in search rules
