@@ -63,10 +63,15 @@ impl Graph {
     }
 
     // The play of the way to the value at this place.
-    fn replay_to(&self, ground: &Ground<'_>, at: usize) -> Result<Play, ExploreFault>
+    pub(crate) fn replay_to(
+        &self,
+        ground: &Ground<'_>,
+        at: usize,
+    ) -> Result<Box<Play>, ExploreFault>
         requires { IsPool ground.now.setting.pages }
-        ensures { IfOk result (IsReplay ground.now.plans.now ground.now.vanishing ground.now.setting
-            (way_to self.now.rows.items at)) }
+        ensures { IfOk result (λ play.
+            IsReplay ground.now.plans.now ground.now.vanishing ground.now.setting
+            (way_to self.now.rows.items at) play.value) }
     {
         let turns = self.path_to(ground.alloc, at)?;
         replay(ground, &turns)

@@ -2,15 +2,15 @@
 ghost use Rattle.std.specs.Prelude.{◌≡◌, ℕ, length, true, IfOk, None, Ok};
 ghost use Rattle.actor_plays.specs.Moves.{position_of};
 ghost use Rattle.actor_plays.specs.Positions.{Rests};
-ghost use Rattle.play_search.specs.Closing.{AreClosedIn};
+ghost use Rattle.play_search.specs.Closing.{AreClosedIn, way_to};
 ghost use Rattle.play_search.specs.Ends.{AreRowsEnded, EndsAsOne, IsOver, IsRowEnded, NoneIsMissing};
-ghost use Rattle.play_search.specs.Searches.{IsOnWay, IsPool, setup_of};
+ghost use Rattle.play_search.specs.Searches.{IsOnWay, IsPool, IsReplay, setup_of};
 
 use crate::ends::ends_as;
 use crate::fault::ExploreFault;
 use crate::graph::Graph;
 use crate::next::is_left_open;
-use crate::replay::{Ground, is_made, replay};
+use crate::replay::{Ground, is_made};
 use crate::turns::{actor_of, is_step};
 use actor_plays::Play;
 use explore_model::{Doubt, Found};
@@ -74,7 +74,29 @@ impl Graph {
         Ok(is_made(turned))
     }
 
-    // Whether the play of the way to the value at this place ends as the outcome of its ending says, or is not over.
+    // Whether the play, which stands at the value at this place, ends as the outcome of its ending says, or is not over.
+    fn is_ended(
+        &self,
+        ground: &Ground<'_>,
+        play: &mut Play,
+        shown: Shown<'_>,
+        at: usize,
+    ) -> Result<bool, ExploreFault>
+        requires here { IsReplay ground.now.plans.now ground.now.vanishing ground.now.setting
+            (way_to self.now.rows.items at) play.old }
+        ensures { IfOk result (λ yes. yes ≡ true →
+            IsRowEnded ground.now.plans.now ground.now.vanishing ground.now.setting
+            self.now.rows.items shown.entry.outcomes.now at) }
+    {
+        if let Some(ending) = self.ending_at(at) {
+            let ends = ends_as_shown(ground, play, shown, ending)?;
+            return Ok(ends);
+        }
+        let goes = self.goes_on(ground, play, at)?;
+        Ok(goes)
+    }
+
+    // The same of the play of the way there.
     fn is_row_ended(
         &self,
         ground: &Ground<'_>,
@@ -86,14 +108,9 @@ impl Graph {
             IsRowEnded ground.now.plans.now ground.now.vanishing ground.now.setting
             self.now.rows.items shown.entry.outcomes.now at) }
     {
-        let turns = self.path_to(ground.alloc, at)?;
-        let mut play = replay(ground, &turns)?;
-        if let Some(ending) = self.ending_at(at) {
-            let ends = ends_as_shown(ground, &play, shown, ending)?;
-            return Ok(ends);
-        }
-        let goes = self.goes_on(ground, &mut play, at)?;
-        Ok(goes)
+        let mut play = self.replay_to(ground, at)?;
+        let ended = self.is_ended(ground, &mut play, shown, at)?;
+        Ok(ended)
     }
 
     // The first value whose play does not. Costs one play for each, and one turn more for one that has no ending.

@@ -408,9 +408,9 @@ impl Graph {
     }
 
     // A play that has come to the value at this place.
-    fn play_at(&mut self, ground: &Ground<'_>, at: usize) -> Result<Play, ExploreFault>
+    fn play_at(&mut self, ground: &Ground<'_>, at: usize) -> Result<Box<Play>, ExploreFault>
         requires { IsPool ground.now.setting.pages }
-        ensures plays { IfOk result (IsPlay ground.now.plans.now) }
+        ensures plays { IfOk result (λ play. IsPlay ground.now.plans.now play.value) }
         ensures rest { OnOk result (self.new ≡ record self.old { cost = self.new.cost }) }
     {
         let turns = self.path_to(ground.alloc, at)?;

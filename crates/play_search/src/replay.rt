@@ -65,20 +65,47 @@ fn join_all(play: &mut Play, alloc: Global, count: usize) -> Result<(), ExploreF
     Ok(())
 }
 
-// A play in which every client has joined, and no turn was made.
-fn start(ground: &Ground<'_>) -> Result<Play, ExploreFault>
-    requires { IsPool ground.now.setting.pages }
-    ensures way { IfOk result
-        (IsOnWay ground.now.plans.now ground.now.vanishing ground.now.setting) }
-    ensures turns { IfOk result (λ play. play.turns.items ≡ []) }
-    ensures told { IfOk result IsTold }
+// A play in which no client has joined.
+fn new_play(alloc: Global, setting: Setting) -> Result<Box<Play>, ExploreFault>
+    requires { IsPool setting.pages }
+    ensures joining { IfOk result (λ play. AreJoining play.value) }
+    ensures pages { IfOk result (λ play. play.value.core.pool ≡ setting.pages) }
+    ensures limits { IfOk result (λ play. play.value.core.limits ≡ setting.limits) }
 {
-    let setting = ground.setting;
-    let mut play = Play::new(ground.alloc, setting.pages, setting.limits, setting.seed)?;
-    join_all(&mut play, ground.alloc, ground.plans.len())?;
+    let play = Play::new(alloc, setting.pages, setting.limits, setting.seed)?;
+    match Box::new(alloc, play) {
+        Ok(play) => Ok(play),
+        Err(_) => Err(ExploreFault::NoMemory),
+    }
+}
+
+// As many clients join as there are plans.
+fn join_plans(play: &mut Play, ground: &Ground<'_>) -> Result<(), ExploreFault>
+    requires joining { AreJoining play.old }
+    requires pages { play.old.core.pool ≡ ground.now.setting.pages }
+    requires limits { play.old.core.limits ≡ ground.now.setting.limits }
+    ensures way { OnOk result
+        (IsOnWay ground.now.plans.now ground.now.vanishing ground.now.setting play.new) }
+    ensures turns { OnOk result (play.new.turns.items ≡ []) }
+    ensures told { OnOk result (IsTold play.new) }
+{
+    join_all(play, ground.alloc, ground.plans.len())?;
     if !play.have_joined(ground.plans) {
         return Err(ExploreFault::Unlike);
     }
+    Ok(())
+}
+
+// A play in which every client has joined, and no turn was made.
+fn start(ground: &Ground<'_>) -> Result<Box<Play>, ExploreFault>
+    requires { IsPool ground.now.setting.pages }
+    ensures way { IfOk result (λ play.
+        IsOnWay ground.now.plans.now ground.now.vanishing ground.now.setting play.value) }
+    ensures turns { IfOk result (λ play. play.value.turns.items ≡ []) }
+    ensures told { IfOk result (λ play. IsTold play.value) }
+{
+    let mut play = new_play(ground.alloc, ground.setting)?;
+    join_plans(&mut play, ground)?;
     Ok(play)
 }
 
@@ -179,31 +206,50 @@ fn make_turns(
     Ok(())
 }
 
+// These turns are made in a play without a turn, and each actor passes what it can.
+fn make_all(
+    play: &mut Play,
+    ground: &Ground<'_>,
+    turns: &[Turn],
+    tells: bool,
+) -> Result<(), ExploreFault>
+    requires way { IsOnWay ground.now.plans.now ground.now.vanishing ground.now.setting play.old }
+    requires none { play.old.turns.items ≡ [] }
+    requires told { IsTold play.old }
+    ensures plays { OnOk result (IsPlay ground.now.plans.now play.new) }
+    ensures play { tells ≡ true → OnOk result
+        (IsReplay ground.now.plans.now ground.now.vanishing ground.now.setting turns.now play.new) }
+    ensures told { tells ≡ true → OnOk result (IsTold play.new) }
+{
+    make_turns(play, ground, turns, tells)?;
+    play.pass_all(ground.plans);
+    Ok(())
+}
+
 // The play with these turns, in which each actor has passed what it can. If it tells, all nodes that fell
 // are noted.
 pub(crate) fn made_again(
     ground: &Ground<'_>,
     turns: &[Turn],
     tells: bool,
-) -> Result<Play, ExploreFault>
+) -> Result<Box<Play>, ExploreFault>
     requires { IsPool ground.now.setting.pages }
-    ensures plays { IfOk result (IsPlay ground.now.plans.now) }
-    ensures play { tells ≡ true → IfOk result
-        (IsReplay ground.now.plans.now ground.now.vanishing ground.now.setting turns.now) }
-    ensures told { tells ≡ true → IfOk result IsTold }
+    ensures plays { IfOk result (λ play. IsPlay ground.now.plans.now play.value) }
+    ensures play { tells ≡ true → IfOk result (λ play.
+        IsReplay ground.now.plans.now ground.now.vanishing ground.now.setting turns.now play.value) }
+    ensures told { tells ≡ true → IfOk result (λ play. IsTold play.value) }
 {
     let mut play = start(ground)?;
-    make_turns(&mut play, ground, turns, tells)?;
-    play.pass_all(ground.plans);
+    make_all(&mut play, ground, turns, tells)?;
     Ok(play)
 }
 
 // The same, which tells.
-pub(crate) fn replay(ground: &Ground<'_>, turns: &[Turn]) -> Result<Play, ExploreFault>
+pub(crate) fn replay(ground: &Ground<'_>, turns: &[Turn]) -> Result<Box<Play>, ExploreFault>
     requires { IsPool ground.now.setting.pages }
-    ensures play { IfOk result
-        (IsReplay ground.now.plans.now ground.now.vanishing ground.now.setting turns.now) }
-    ensures told { IfOk result IsTold }
+    ensures play { IfOk result (λ play.
+        IsReplay ground.now.plans.now ground.now.vanishing ground.now.setting turns.now play.value) }
+    ensures told { IfOk result (λ play. IsTold play.value) }
 {
     made_again(ground, turns, true)
 }
@@ -230,19 +276,35 @@ pub(crate) fn is_made(turned: Turned) -> bool
     matches!(turned, Turned::Made)
 }
 
-// Whether the actor makes no turn after these.
+// Whether the actor makes no turn in the play with these turns.
+fn makes_no_turn(
+    ground: &Ground<'_>,
+    play: &mut Play,
+    _turns: &[Turn],
+    actor: usize,
+) -> Result<bool, ExploreFault>
+    requires { IsReplay ground.now.plans.now ground.now.vanishing ground.now.setting
+        _turns.now play.old }
+    ensures { IfOk result (λ yes. yes ≡ true →
+        HasNoTurn ground.now.plans.now ground.now.vanishing ground.now.setting _turns.now actor) }
+{
+    let turned = play.take_turn(ground.alloc, ground.plans, actor, true)?;
+    if is_made(turned) {
+        return Ok(false);
+    }
+    let stays = may_stay(ground, play, actor)?;
+    Ok(stays)
+}
+
+// The same after these turns.
 fn has_no_turn(ground: &Ground<'_>, turns: &[Turn], actor: usize) -> Result<bool, ExploreFault>
     requires { IsPool ground.now.setting.pages }
     ensures { IfOk result (λ yes. yes ≡ true →
         HasNoTurn ground.now.plans.now ground.now.vanishing ground.now.setting turns.now actor) }
 {
     let mut play = replay(ground, turns)?;
-    let turned = play.take_turn(ground.alloc, ground.plans, actor, true)?;
-    if is_made(turned) {
-        return Ok(false);
-    }
-    let stays = may_stay(ground, &play, actor)?;
-    Ok(stays)
+    let none = makes_no_turn(ground, &mut play, turns, actor)?;
+    Ok(none)
 }
 
 // Whether no actor makes a turn after these.

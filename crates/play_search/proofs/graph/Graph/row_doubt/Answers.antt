@@ -5,7 +5,7 @@ use Rattle.play_search.proofs.graph.Graph.row_doubt.Goals as goal
 pub returns : goal.returns
 returns c = λ none. record {
   real = (
-    position_of c.in_ok-here.here,
+    position_of c.in_ok-here.here.value,
     record { reached = c.in_ok-here.ensures.reached; rests = c.in_ok-here.ensures.rests },
   );
   turns = c.in_ok-doubt.ensures none;

@@ -1,12 +1,12 @@
 use Rattle.std.proofs.Common.{◌∙◌, refl, sym}
-use Rattle.play_search.proofs.replay.has_no_turn.Goals as goal
+use Rattle.play_search.proofs.replay.makes_no_turn.Goals as goal
 
 pub returns : goal.returns
 returns c = λ yes. record {
-  old = c.in_ok-play.play;
+  old = c.args.play.now;
   new = c.take_turn.new.self;
   turned = c.in_ok-turned.turned;
-  play = c.in_ok-play.ensures.play;
+  play = c.requires;
   turn = c.in_ok-turned.ensures.turn;
   takes = c.in_ok-turned.ensures.takes refl;
   none = sym c.is_made.ensures ∙ c.if-is_made.false;

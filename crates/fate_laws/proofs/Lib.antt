@@ -1,0 +1,5 @@
+pub mod Fell
+pub mod Forced
+pub mod Events
+pub mod Histories
+pub mod OneHistory
