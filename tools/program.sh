@@ -102,10 +102,10 @@ try 2 '' 'sysmem: there is no event 2' 'a join\n' draw --at 2
 try 0 "event 1: a join\\n\\n$empty" '' '# a remark\na join\nshow free\na fly\n' draw --line 3
 try 2 '' 'sysmem: there is no line 0' 'a join\n' draw --line 0
 try 2 '' 'sysmem: there is no line 2' 'a join\n' draw --line 2
-try 2 '' 'sysmem: there is no failure 3' "a join\\n$lost" draw --failure=3
-try 2 '' 'sysmem: there is no failure 1' 'a join\n' draw --failure
+try 2 '' 'sysmem: there is no failure 3' "a join\\n$lost" draw --failure 3
+try 2 '' 'sysmem: there is no failure 1' 'a join\n' draw --failure 1
 try 2 '' '*' 'a join\n' draw --at 1 --line 1
-try 2 '' '*' 'a join\n' draw --failure --line 1
+try 2 '' '*' 'a join\n' draw --failure 1 --line 1
 try 2 '' '*' 'a join\n' draw --at last
 try 2 '' '*' 'a join\n' draw --format png
 
@@ -171,17 +171,17 @@ try 3 '' 'bad line 1: no client joins' '' explore
 try 2 '' '*' "$pair" explore --states no
 try 2 '' '*' "$pair" explore --once --patient
 # Clients that vanish: by an option or a line, all of them, at their end, and clients that are not there.
-try 2 '' 'sysmem: a client of --vanish does not join' "$pair" explore --vanish a,c
-try 2 '' 'sysmem: a client of --vanish does not join' "$pair" explore --vanish 'a b'
-try 2 '' 'sysmem: a client of --vanish does not join' "$pair" explore --vanish ''
+try 2 '' 'sysmem: --vanish: the client c does not join' "$pair" explore --vanish a,c
+try 2 '' 'sysmem: --vanish: expected all alone, or clients that join' "$pair" explore --vanish 'a b'
+try 2 '' 'sysmem: --vanish: expected all alone, or clients that join' "$pair" explore --vanish ''
 try 2 '' '*' "$pair" explore --vanish
 for words in '--vanish a --most two' '--vanish a --most 0' '--vanish all --most -1' '--most 1' '--most 2'; do
   # shellcheck disable=SC2086
   try 2 '' '*' "$pair" explore $words
 done
 try 2 '' '*' "#! vanish all\n$pair" explore --most 2
-try 3 '' 'bad line 1: expected all, or clients that join, after vanish' "#! vanish a c\n$pair" explore
-try 3 '' 'bad line 1: expected all, or clients that join, after vanish' "#! vanish all b\n$pair" explore
+try 3 '' 'bad line 1: the client c does not join' "#! vanish a c\n$pair" explore
+try 3 '' 'bad line 1: expected all alone, or clients that join' "#! vanish all b\n$pair" explore
 try 3 '' 'bad line 1: expected never, always or sometimes and a fact, or vanish and clients' "#! vanish\n$pair" explore
 try 3 '' 'bad line 1: expected never, always or sometimes and a fact, or vanish and clients' "#!never r fails\n$pair" explore
 says_who() {
@@ -298,7 +298,14 @@ too_long() {
   head -c 16777217 /dev/zero | "$program" "$1" >"$room/out" 2>"$room/told"
   [ $? = 1 ] && [ ! -s "$room/out" ] && hears 'sysmem: the script is longer than 16777216 bytes'
 }
+# Nobody reads what is written.
+reader_is_gone() {
+  printf 'a join\n' >"$room/script"
+  { sleep 0.1 && "$program" "$1" <"$room/script" 2>"$room/told"; } | true
+  [ "${PIPESTATUS[0]}" = 1 ] && hears ''
+}
 for command in run threads explain draw check explore; do
+  count reader_is_gone "$command"
   count read_fails "$command"
   count write_fails "$command"
   count too_long "$command"
@@ -391,9 +398,10 @@ done
 for event in 27 28; do count is_drawn examples/camera.script "$event"; done
 # Its event 28 is that of line 36, and the first in which a node fails.
 is_found() {
-  "$program" draw "$1" examples/camera.script 2>"$room/told" | cmp -s - examples/camera.28.txt && hears ''
+  # shellcheck disable=SC2086
+  "$program" draw $1 examples/camera.script 2>"$room/told" | cmp -s - examples/camera.28.txt && hears ''
 }
-for words in --at=28 --line=36 --failure --failure=1; do count is_found "$words"; done
+for words in --at=28 --line=36 --failure=1 '--failure 1'; do count is_found "$words"; done
 # The parser's messages begin with the program's name too.
 is_named() {
   "$program" fly 2>"$room/told"

@@ -15,7 +15,7 @@ _sysmem() {
   fi
   case $before in
     --format) mapfile -t COMPREPLY < <(compgen -W 'text dot svg' -- "$word") && return ;;
-    --pages | --at | --line | --outcome | --states | --vanish | --most) return ;;
+    --pages | --at | --line | --failure | --outcome | --states | --vanish | --most) return ;;
   esac
   if [ "$command" = help ]; then
     [ "$COMP_CWORD" = 2 ] && mapfile -t COMPREPLY < <(compgen -W "$commands" -- "$word")
@@ -23,7 +23,7 @@ _sysmem() {
     [ "$command" = draw ] && options+=' --format --at --line --failure'
     [ "$command" = explain ] && options+=' --failures --summary'
     [ "$command" = threads ] && options+=' --record --patient'
-    [ "$command" = explore ] && options+=' --once --patient --end --vanish --most --outcome --states --certify'
+    [ "$command" = explore ] && options+=' --once --patient --end --vanish --most --outcome --states --certify --list'
     mapfile -t COMPREPLY < <(compgen -W "$options" -- "$word")
   else
     mapfile -t COMPREPLY < <(compgen -f -- "$word")

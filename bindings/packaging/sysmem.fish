@@ -28,8 +28,8 @@ complete -c sysmem -n '__fish_seen_subcommand_from draw' -l at -x \
     -d 'The event after which the trees are drawn'
 complete -c sysmem -n '__fish_seen_subcommand_from draw' -l line -x \
     -d 'The line after which the trees are drawn'
-complete -c sysmem -n '__fish_seen_subcommand_from draw' -l failure \
-    -d 'Draws the trees after the first event at which a node failed'
+complete -c sysmem -n '__fish_seen_subcommand_from draw' -l failure -x \
+    -d 'The event at which a node failed, from 1, after which the trees are drawn'
 complete -c sysmem -n '__fish_seen_subcommand_from explore' -l once -d 'Makes each step once, as threads does'
 complete -c sysmem -n '__fish_seen_subcommand_from explore' -l patient -d 'Each line waits that can'
 complete -c sysmem -n '__fish_seen_subcommand_from explore' -l end \
@@ -42,3 +42,4 @@ complete -c sysmem -n '__fish_seen_subcommand_from explore' -l outcome -x \
 complete -c sysmem -n '__fish_seen_subcommand_from explore' -l states -x -d 'The most states that are searched'
 complete -c sysmem -n '__fish_seen_subcommand_from explore' -l certify \
     -d 'Repeats every state, to certify that no outcome is missing'
+complete -c sysmem -n '__fish_seen_subcommand_from explore' -l list -d 'Writes the report in lines for programs'

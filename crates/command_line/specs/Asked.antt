@@ -139,6 +139,11 @@ abbrev pub HasCertificate : Option (List ℕ) → ScriptTask → Type 0
 HasCertificate text (ScriptTask.Explore search) = IsFlag text search.certifies
 HasCertificate text task = ⊤
 
+-- whether the report of a search is in lines for programs
+abbrev pub HasList : Option (List ℕ) → ScriptTask → Type 0
+HasList text (ScriptTask.Explore search) = IsFlag text search.lists
+HasList text task = ⊤
+
 -- how many clients vanish at most, if this number is asked for
 abbrev pub most_asked : Option ℕ → ℕ
 most_asked (Some most) = most

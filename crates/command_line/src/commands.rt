@@ -49,6 +49,8 @@ pub(crate) const STATES: &str = "states";
 
 pub(crate) const CERTIFY: &str = "certify";
 
+pub(crate) const LIST: &str = "list";
+
 pub(crate) const VANISH: &str = "vanish";
 
 pub(crate) const MOST: &str = "most";
@@ -137,17 +139,14 @@ fn line_word<'a>(alloc: Global) -> Result<Arg<'a>, AllocError> {
     .conflicts_with(AT)
 }
 
-// The option `--failure[=K]`. Behind a space K would be the FILE.
+// The option `--failure K`.
 fn failure_word<'a>(alloc: Global) -> Result<Arg<'a>, AllocError> {
     number(
         alloc,
         FAILURE,
         "K",
-        "The trees after the first event at which a node failed, or with =K after the Kth",
+        "The trees after the Kth event at which a node failed, from 1",
     )
-    .num_args(0..=1)
-    .require_equals(true)
-    .default_missing_value("1")
     .conflicts_with(AT)?
     .conflicts_with(LINE)
 }
@@ -211,6 +210,16 @@ fn certify_word<'a>(alloc: Global) -> Arg<'a> {
         CERTIFY,
         "Repeats every state, and says `certified` if no outcome is missing, or why not",
     )
+}
+
+// The option `--list`.
+fn list_word<'a>(alloc: Global) -> Result<Arg<'a>, AllocError> {
+    flag(
+        alloc,
+        LIST,
+        "Writes a line for each outcome and each client, node and tracker, for programs",
+    )
+    .conflicts_with(OUTCOME)
 }
 
 // The option `--vanish CLIENTS`.
@@ -292,6 +301,7 @@ enum Word {
     Outcome,
     States,
     Certify,
+    List,
 }
 
 // A command: its name, what its help says, and what it takes.
@@ -368,6 +378,7 @@ const COMMANDS: &[CommandRow] = &[
             Word::Outcome,
             Word::States,
             Word::Certify,
+            Word::List,
         ],
     },
 ];
@@ -393,6 +404,7 @@ fn argument<'a>(alloc: Global, word: Word) -> Result<Arg<'a>, AllocError> {
         Word::Outcome => Ok(outcome_word(alloc)),
         Word::States => Ok(states_word(alloc)),
         Word::Certify => Ok(certify_word(alloc)),
+        Word::List => list_word(alloc),
     }
 }
 
@@ -407,13 +419,19 @@ fn named<'a>(alloc: Global, row: &CommandRow) -> Command<'a> {
     }
 }
 
+// The options and the file.
+fn arguments<'a>(alloc: Global, words: &[Word]) -> Result<Vec<Arg<'a>>, AllocError> {
+    let mut taken = Vec::new(alloc);
+    for word in words {
+        taken.push(argument(alloc, *word)?)?;
+    }
+    Ok(taken)
+}
+
 // The command of this row.
 fn made<'a>(alloc: Global, row: &CommandRow) -> Result<Command<'a>, AllocError> {
-    let mut command = named(alloc, row);
-    for word in row.words {
-        command = command.arg(argument(alloc, *word)?)?;
-    }
-    Ok(command)
+    let taken = arguments(alloc, row.words)?;
+    named(alloc, row).args(taken)
 }
 
 // The program without its commands.

@@ -8,7 +8,7 @@ pub(crate) const EXAMPLES: &str = "\
 Each command reads a script from FILE, or else from standard input:
 
     sysmem run camera.script
-    sysmem draw --failure camera.script
+    sysmem draw --failure 1 camera.script
     sysmem explain < camera.script
 
 `sysmem run --help` lists the lines of a script. If FILE can't be opened, the
@@ -196,7 +196,7 @@ Draws the trees of a script, after its last line or an event
 
     sysmem draw --at 28 camera.script
     sysmem draw --line 36 camera.script
-    sysmem draw --failure camera.script";
+    sysmem draw --failure 1 camera.script";
 
 pub(crate) const DRAW_STATUS: &str = "\
 Lines that begin with two spaces are skipped, and those after the event, line or
@@ -302,6 +302,11 @@ on standard error counts the states, if that is a terminal.
 With --certify every state is repeated, and each step from it. If no step leads
 to a new state, the report says `certified` after the number of outcomes: none
 is missing. Otherwise it says `not certified`, and a line on standard error why.
+
+With --list the report is in lines for programs: `outcomes 2, certified`, then
+for each outcome `1 client b waits 7`, `1 node 4 s lives pending`, `1 tracker 5
+gone fires` and `1 free 16`, with lines of the script and the labels of
+--outcome. `unmade 8` is a line that no order makes, `claim 9 holds` a claim.
 
 A script may have claims, which other commands skip, such as
 

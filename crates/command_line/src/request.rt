@@ -1,7 +1,7 @@
 //! What the words of the command line ask for.
 ghost use Rattle.std.specs.Prelude.{IfSome, codes, option_map};
 ghost use Rattle.clap.specs.Matches.{subcommand_name_of};
-ghost use Rattle.command_line.specs.Asked.{AreAsked, HasCertificate, HasFailures, HasFormat, HasPatience, HasRecord, HasSearch, HasSummary, HasUntil, HasVanishing, IsFile, IsTask, subcommand_text, value_text};
+ghost use Rattle.command_line.specs.Asked.{AreAsked, HasCertificate, HasFailures, HasFormat, HasList, HasPatience, HasRecord, HasSearch, HasSummary, HasUntil, HasVanishing, IsFile, IsTask, subcommand_text, value_text};
 
 use crate::commands::{FILE, PAGES, STANDARD_INPUT};
 use crate::task::{ScriptTask, task_of};
@@ -43,6 +43,8 @@ pub fn request_of<'a>(matches: &ArgMatches<'a>) -> Option<CommandLine<'a>>
         request.task) }
     ensures certified { IfSome result (λ request.
         HasCertificate (value_text (codes "certify") matches.now) request.task) }
+    ensures listed { IfSome result (λ request. HasList (value_text (codes "list") matches.now)
+        request.task) }
     ensures vanishing { IfSome result (λ request.
         HasVanishing (subcommand_text (codes "vanish") matches.now)
         (value_text (codes "most") matches.now) (value_text (codes "end") matches.now)

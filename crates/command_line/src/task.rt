@@ -1,11 +1,11 @@
 //! What a command does with a script.
 ghost use Rattle.std.specs.Prelude.{◌≡◌, Some, codes, option_map};
 ghost use Rattle.clap.specs.Matches.{first_value, found_of, one_text, subcommand_name_of};
-ghost use Rattle.command_line.specs.Asked.{HasCertificate, HasFailures, HasFormat, HasPatience, HasRecord, HasSearch, HasSummary, HasUntil, HasVanishing, IsFlag, IsFormat, IsSearch, IsTask, IsUntil, IsVanishing, most_asked, states_asked, subcommand_text, until_asked, value_text};
+ghost use Rattle.command_line.specs.Asked.{HasCertificate, HasFailures, HasFormat, HasList, HasPatience, HasRecord, HasSearch, HasSummary, HasUntil, HasVanishing, IsFlag, IsFormat, IsSearch, IsTask, IsUntil, IsVanishing, most_asked, states_asked, subcommand_text, until_asked, value_text};
 
 use crate::commands::{
-    AT, CERTIFY, CHECK, DOT, DRAW, END, EXPLAIN, EXPLORE, FAILURE, FAILURES, FORMAT, LINE, MOST,
-    ONCE, OUTCOME, PATIENT, RECORD, STATES, SUMMARY, SVG, THREADS, VANISH,
+    AT, CERTIFY, CHECK, DOT, DRAW, END, EXPLAIN, EXPLORE, FAILURE, FAILURES, FORMAT, LINE, LIST,
+    MOST, ONCE, OUTCOME, PATIENT, RECORD, STATES, SUMMARY, SVG, THREADS, VANISH,
 };
 use clap::ArgMatches;
 
@@ -59,6 +59,8 @@ pub struct Search<'a> {
     pub states: u64,
     /// Every state is played again, so that it is known whether an outcome is missing.
     pub certifies: bool,
+    /// The report is in lines for programs.
+    pub lists: bool,
 }
 
 /// What a command does with a script.
@@ -100,6 +102,7 @@ pub fn task_of<'a>(matches: &ArgMatches<'a>) -> ScriptTask<'a>
     ensures search { HasSearch (value_text (codes "once") matches.now)
         (value_text (codes "outcome") matches.now) (value_text (codes "states") matches.now) result }
     ensures certified { HasCertificate (value_text (codes "certify") matches.now) result }
+    ensures listed { HasList (value_text (codes "list") matches.now) result }
     ensures vanishing { HasVanishing (subcommand_text (codes "vanish") matches.now)
         (value_text (codes "most") matches.now) (value_text (codes "end") matches.now) result }
 {
@@ -156,6 +159,7 @@ fn search_of<'a>(matches: &ArgMatches<'a>) -> Search<'a>
         (one_text (found_of matches.now) (codes "states")) result }
     ensures certified { IsFlag (one_text (found_of matches.now) (codes "certify"))
         result.certifies }
+    ensures listed { IsFlag (one_text (found_of matches.now) (codes "list")) result.lists }
     ensures end { IsFlag (one_text (found_of matches.now) (codes "end")) result.at_end }
     ensures vanishing { IsVanishing (first_value (found_of matches.now) (codes "vanish"))
         (one_text (found_of matches.now) (codes "most")) result }
@@ -172,6 +176,7 @@ fn search_of<'a>(matches: &ArgMatches<'a>) -> Search<'a>
         outcome,
         states: states_of(states),
         certifies: matches.get_flag(CERTIFY),
+        lists: matches.get_flag(LIST),
     }
 }
 

@@ -1,8 +1,10 @@
 -- What a program that explores leaves.
-use Rattle.std.specs.Prelude.{ℕ, ◌≡◌, List, [], ◌∷◌, ◌++◌, codes, decimal, Option, Some, None, Ok, Err, Result, MatchResult}
+use Rattle.std.specs.Prelude.{ℕ, ◌≡◌, ◌⊎◌, List, [], ◌∷◌, ◌++◌, codes, decimal, Option, Some, None, Ok, Err, Result, MatchResult}
 use Rattle.script_lines.specs.Written.{WritesPart}
 use Rattle.report_io.specs.declared.fault.ReportFault.{ReportFault}
-use Rattle.report_io.specs.Faults.{IsTold, fault_status}
+use Rattle.report_io.specs.Faults.{IsTold, fault_line, fault_status}
+use Rattle.outcome_texts.specs.Reasons.{fault_words}
+use Rattle.outcome_texts.specs.declared.reasons.ClaimFault.{ClaimFault}
 use Rattle.outcome_runs.specs.declared.job.DoubtLine.{DoubtLine}
 use Rattle.outcome_runs.specs.declared.job.Ending.{Ending}
 use Rattle.outcome_runs.specs.declared.job.SearchJob.{SearchJob}
@@ -16,7 +18,7 @@ exploring_status (Ok Ending.Part) = 7
 exploring_status (Ok (Ending.Unsure doubt)) = 7
 exploring_status (Ok (Ending.Broken doubt)) = 6
 exploring_status (Ok Ending.Missing) = 2
-exploring_status (Ok Ending.Unknown) = 2
+exploring_status (Ok (Ending.Unknown fault)) = 2
 exploring_status (Ok Ending.Unlike) = 5
 exploring_status (Err fault) = fault_status fault
 
@@ -25,9 +27,13 @@ abbrev pub missing_line : Option ℕ → List ℕ
 missing_line None = []
 missing_line (Some number) = codes "sysmem: there is no outcome " ++ decimal number ++ 10 ∷ []
 
--- what is told where a client that may vanish does not join
-abbrev pub unknown_line : List ℕ
-unknown_line = codes "sysmem: a client of --vanish does not join" ++ 10 ∷ []
+-- what is told where this is wrong with the list of the clients that may vanish
+abbrev pub unknown_line : ClaimFault → List ℕ
+unknown_line fault = codes "sysmem: --vanish: " ++ fault_words fault ++ 10 ∷ []
+
+-- it was told, as far as it could be, or that memory was refused
+abbrev pub IsUnknownTold : Option (List ℕ) → Option (List ℕ) → ClaimFault → Type 0
+IsUnknownTold before after fault = WritesPart before after (unknown_line fault) ⊎ WritesPart before after (fault_line ReportFault.NoMemory)
 
 -- what is told where a play that was made again went on otherwise
 abbrev pub unlike_line : List ℕ
@@ -63,7 +69,7 @@ IsTellingOf job before after Ending.Part = WritesPart before after part_line
 IsTellingOf job before after (Ending.Unsure doubt) = WritesPart before after (doubt_line doubt)
 IsTellingOf job before after (Ending.Broken doubt) = IsDoubtTold before after doubt
 IsTellingOf job before after Ending.Missing = WritesPart before after (missing_line job.outcome)
-IsTellingOf job before after Ending.Unknown = WritesPart before after unknown_line
+IsTellingOf job before after (Ending.Unknown fault) = IsUnknownTold before after fault
 IsTellingOf job before after Ending.Unlike = WritesPart before after unlike_line
 IsTellingOf job before after Ending.Whole = after ≡ before
 

@@ -18,9 +18,11 @@ use Rattle.sm_names.specs.declared.rules.TheConstants.{MAX_COLLECTIONS, MAX_EVEN
 use Rattle.report_io.specs.declared.fault.ReportFault.{ReportFault}
 use Rattle.outcome_texts.specs.declared.telling.Telling.{Telling}
 use Rattle.outcome_texts.specs.declared.verdicts.ClaimLine.{ClaimLine}
-use Rattle.outcome_texts.specs.ClaimLines.{Text, claim_texts_of, claims_in, is_good_list, judged, who_told}
+use Rattle.outcome_texts.specs.Reasons.{HasListFault}
+use Rattle.outcome_texts.specs.ClaimLines.{Text, claim_texts_of, claims_in, judged, who_told}
 use Rattle.outcome_texts.specs.declared.lines.StepLine.{StepLine}
 use Rattle.outcome_texts.specs.Lines.{step_lines_of, steps_in}
+use Rattle.outcome_texts.specs.Lists.{list_text}
 use Rattle.outcome_texts.specs.Plays.{line_told}
 use Rattle.outcome_texts.specs.Reports.{IsReport}
 use Rattle.outcome_texts.specs.Scripts.{IsPlayText}
@@ -100,6 +102,16 @@ pub record IsJudged (telling : Telling) (found : Exploration) (claims : List Cla
   pub whole : text ≡ report ++ claims_text telling found claims
   pub ending_is : ending ≡ judged_ending (has_broken telling found claims) found.complete (doubts_told telling found)
 
+-- the text is the same in lines for programs
+pub record IsListed (telling : Telling) (found : Exploration) (claims : List ClaimLine) (text : List ℕ) (ending : Ending) : Type 0 where
+  pub whole : text ≡ list_text telling found claims
+  pub ending_is : ending ≡ judged_ending (has_broken telling found claims) found.complete (doubts_told telling found)
+
+-- the text is the report, in lines for programs if it is so asked for
+abbrev pub IsSaid : Telling → Exploration → List ClaimLine → Bool → List ℕ → Ending → Type 0
+IsSaid telling found claims true text ending = IsListed telling found claims text ending
+IsSaid telling found claims false text ending = IsJudged telling found claims text ending
+
 -- the text is the play of the outcome of this number; if there is none, nothing is told
 abbrev pub IsPlayed : Telling → Exploration → ℕ → List ℕ → Ending → Type 0
 IsPlayed telling found number text ending = MatchOption (outcome_at found.outcomes.items number)
@@ -108,13 +120,13 @@ IsPlayed telling found number text ending = MatchOption (outcome_at found.outcom
     × (ending ≡ whole_ending found.complete (doubts_told telling found)))
 
 -- the text is the report, or the play of the outcome of this number
-abbrev pub IsTextOf : Telling → Exploration → List ClaimLine → Option ℕ → List ℕ → Ending → Type 0
-IsTextOf telling found claims None text ending = IsJudged telling found claims text ending
-IsTextOf telling found claims (Some number) text ending = IsPlayed telling found number text ending
+abbrev pub IsTextOf : Telling → Exploration → List ClaimLine → Bool → Option ℕ → List ℕ → Ending → Type 0
+IsTextOf telling found claims lists None text ending = IsSaid telling found claims lists text ending
+IsTextOf telling found claims lists (Some number) text ending = IsPlayed telling found number text ending
 
 -- the text is the report, or the play of the outcome that is asked for
 abbrev pub IsText : SearchJob → Telling → Exploration → List ClaimLine → List ℕ → Ending → Type 0
-IsText job telling found claims text ending = IsTextOf telling found claims job.outcome text ending
+IsText job telling found claims text ending = IsTextOf telling found claims job.lists job.outcome text ending
 
 -- it is told by the lines of the script that are steps of the clients of this list, and by these plans
 pub record IsTelling (script : List ℕ) (list : ActorList) (plans : List Plan) (telling : Telling) : Type 0 where
@@ -134,15 +146,19 @@ pub record IsUnlike (text : List ℕ) (ending : Ending) : Type 0 where
   pub nothing : text ≡ []
   pub so : ending ≡ Ending.Unlike
 
--- nothing is told, since a client that is asked to vanish does not join
+-- what is wrong with the list of the clients that are asked to vanish is that of the ending
+abbrev pub HasBadList : SearchJob → Telling → Ending → Type 0
+HasBadList job telling (Ending.Unknown fault) = HasListFault (list_asked job) telling.labels.now (Some fault)
+HasBadList job telling _ = ⊥
+
+-- nothing is told, since something is wrong with that list
 pub record IsUnknown (job : SearchJob) (telling : Telling) (text : List ℕ) (ending : Ending) : Type 0 where
   pub nothing : text ≡ []
-  pub so : ending ≡ Ending.Unknown
-  pub bad_list : is_good_list (list_asked job) telling.labels.now ≡ false
+  pub bad_list : HasBadList job telling ending
 
 -- the clients that are asked to vanish all join, and what was found is told, unless a play was unlike itself
 abbrev pub IsFoundWith : SearchJob → List ℕ → Telling → List ClaimLine → List ℕ → Ending → Type 0
-IsFoundWith job seed telling claims text ending = (is_good_list (list_asked job) telling.labels.now ≡ true)
+IsFoundWith job seed telling claims text ending = HasListFault (list_asked job) telling.labels.now None
     × (HasFound job seed telling claims text ending ⊎ IsUnlike text ending)
 
 -- the same, unless a client is not there

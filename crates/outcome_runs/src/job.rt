@@ -1,6 +1,7 @@
 //! What a search through the orders of a script is asked for.
 
 use explore_model::Waiting;
+use outcome_texts::ClaimFault;
 use std::alloc::Global;
 
 /// What is searched, and what is written of it.
@@ -22,6 +23,8 @@ pub struct SearchJob<'a> {
     pub states: u64,
     /// Every state is played again, so that it is known whether an outcome is missing.
     pub certifies: bool,
+    /// The report is in lines for programs.
+    pub lists: bool,
 }
 
 /// Where the memory of a search comes from, and who is told how far it is.
@@ -59,8 +62,8 @@ pub enum Ending {
     Broken(Option<DoubtLine>),
     /// All orders were gone through, and there is no outcome of the number that is asked for. Nothing was written.
     Missing,
-    /// The clients that may vanish are asked for, and one of them does not join. Nothing was written.
-    Unknown,
+    /// The clients that may vanish are asked for, and this is wrong with their list. Nothing was written.
+    Unknown(ClaimFault),
     /// A play that was made again went on otherwise than before, which is a mistake of the program. Nothing was
     /// written.
     Unlike,

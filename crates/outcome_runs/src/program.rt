@@ -1,15 +1,17 @@
 //! A script of actors explored as a program does it: to an exit status.
-ghost use Rattle.std.specs.Prelude.{◌≡◌, ◌≤◌};
+ghost use Rattle.std.specs.Prelude.{◌≡◌, ◌≤◌, IfOk};
 ghost use Rattle.std.specs.Process.{exit_status};
 ghost use Rattle.sm_names.specs.declared.rules.TheConstants.{MAX_PAGES};
 ghost use Rattle.script_lines.specs.Written.{WritesPart};
-ghost use Rattle.outcome_runs.specs.Endings.{EndsExplored, IsDoubtTold, doubt_line, missing_line, part_line, unknown_line, unlike_line};
+ghost use Rattle.outcome_runs.specs.Endings.{EndsExplored, IsDoubtTold, IsUnknownTold, doubt_line, missing_line, part_line, unknown_line, unlike_line};
 
 use crate::explore::explore_script;
 use crate::job::{DoubtLine, Ending, SearchHost, SearchJob};
+use outcome_texts::ClaimFault;
 use play_search::Progress;
 use report_io::end_with;
-use script_lines::write_line;
+use script_lines::{Part, push_parts, write_line, write_out};
+use std::alloc::{AllocError, Global};
 use std::fmt;
 use std::io::{Read, Write};
 use std::process::ExitCode;
@@ -23,7 +25,7 @@ const BROKEN: u8 = 6;
 // The status where there is no outcome of the number that is asked for.
 const MISSING: u8 = 2;
 
-// The status where a client that is asked to vanish does not join.
+// The status where the list of the clients that may vanish is bad.
 const UNKNOWN: u8 = 2;
 
 // The status where a play was unlike itself, which is a mistake of the program.
@@ -55,11 +57,32 @@ fn tell_missing<F: Write>(faults: &mut F, outcome: Option<u64>)
     }
 }
 
-// Says that a client that may vanish does not join, as far as the writer takes it.
-fn tell_unknown<F: Write>(faults: &mut F)
-    ensures { WritesPart (F.contents faults.old) (F.contents faults.new) unknown_line }
+// The line that says what is wrong with the list of the clients that may vanish.
+fn unknown_text(alloc: Global, fault: ClaimFault) -> Result<Vec<u8>, AllocError>
+    ensures { IfOk result (λ line. line.items ≡ unknown_line fault) }
 {
-    let _ = write_line(faults, "sysmem: a client of --vanish does not join");
+    let mut words = Vec::new(alloc);
+    fault.push_text(&mut words)?;
+    let mut line = Vec::new(alloc);
+    push_parts(
+        &mut line,
+        &[
+            Part::Word("sysmem: --vanish: "),
+            Part::Bytes(&words),
+            Part::Word("\n"),
+        ],
+    )?;
+    Ok(line)
+}
+
+// Says what is wrong with the list of the clients that may vanish, as far as the writer takes it.
+fn tell_unknown<F: Write>(alloc: Global, faults: &mut F, fault: ClaimFault)
+    ensures { IsUnknownTold (F.contents faults.old) (F.contents faults.new) fault }
+{
+    let _ = match unknown_text(alloc, fault) {
+        Ok(line) => write_out(faults, &line),
+        Err(_) => write_out(faults, b"no memory\n"),
+    };
 }
 
 // Says that a play that was made again went on otherwise than before, as far as the writer takes it.
@@ -127,9 +150,9 @@ fn tell_doubt_of<F: Write>(faults: &mut F, doubt: Option<DoubtLine>)
 /// Explores the script of actors that the reader holds, with the greatest limits, as `explore_script` does, and
 /// answers the status that a program is to end with: 0 where all orders were gone through and each claim holds, 6 where
 /// a claim does not, 7 where not all orders were gone through or the search was to certify and did not, 2 where there is
-/// no outcome of the number that is asked for or a client that is asked to vanish does not join, 5 where a play that was
+/// no outcome of the number that is asked for or the list of the clients that may vanish is bad, 5 where a play that was
 /// made again went on otherwise, and else the status of the fault. Of a fault, of orders that were not gone through, of why
-/// a search did not certify, of a missing outcome or client, or of such a play one line is written on `faults`, as far as
+/// a search did not certify, of a missing outcome, of such a list, or of such a play one line is written on `faults`, as far as
 /// that takes it. Costs what `explore_script` costs.
 pub fn explore_to_exit<P: Progress, R: Read, W: Write, F: Write>(
     host: SearchHost<'_, P>,
@@ -163,8 +186,8 @@ pub fn explore_to_exit<P: Progress, R: Read, W: Write, F: Write>(
             tell_missing(faults, job.outcome);
             ExitCode::from(MISSING)
         }
-        Ok(Ending::Unknown) => {
-            tell_unknown(faults);
+        Ok(Ending::Unknown(fault)) => {
+            tell_unknown(alloc, faults, fault);
             ExitCode::from(UNKNOWN)
         }
         Ok(Ending::Unlike) => {

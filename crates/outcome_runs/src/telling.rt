@@ -1,24 +1,26 @@
 //! What is told of a search.
-ghost use Rattle.std.specs.Prelude.{◌≡◌, ◌≤◌, ◌^◌, ◌<◌, [], IfErr, IfOk, IfSome, Ok, length, map, option_map, true};
+ghost use Rattle.std.specs.Prelude.{◌≡◌, ◌≤◌, ◌^◌, ◌<◌, [], IfErr, IfOk, IfSome, None, Ok, Some, length, map, option_map};
 ghost use Rattle.sm_names.specs.declared.rules.TheConstants.{MAX_PAGES};
 ghost use Rattle.script_lines.specs.declared.TheConstants.{MOST_BYTES};
 ghost use Rattle.actor_scripts.specs.declared.step.ActorScript.{ActorScript as Script};
 ghost use Rattle.actor_scripts.specs.ActorLists.{actors_of, script_actors};
 ghost use Rattle.explore_model.specs.Plans.{planned, steps_of};
-ghost use Rattle.outcome_texts.specs.ClaimLines.{claims_in, is_good_list, judged, texts_in};
+ghost use Rattle.outcome_texts.specs.ClaimLines.{claims_in, judged, texts_in};
+ghost use Rattle.outcome_texts.specs.Reasons.{HasListFault, fault_words};
 ghost use Rattle.outcome_texts.specs.Lines.{step_lines_of, steps_in};
-ghost use Rattle.outcome_runs.specs.declared.job.Ending.{Ending as EndingTold};
-ghost use Rattle.outcome_runs.specs.Searches.{HasSearched, IsFoundBy, IsFoundWith, IsJudged, IsPlayed, IsSearch, IsText, IsTold, IsToldBy, IsToldWith, IsUnfound, IsUnheld, IsUnheldBy, IsUnjudged, IsUnlike, IsUnlisted, IsUnsearched, IsUntold, doubt_told, doubts_told, judged_ending, list_asked, missing_ending, outcome_at, stop_told, turn_told, whole_ending};
+ghost use Rattle.report_io.specs.Faults.{HasReason, IsBadLine};
+ghost use Rattle.outcome_runs.specs.Searches.{HasSearched, IsFoundBy, IsFoundWith, IsJudged, IsListed, IsPlayed, IsSaid, IsSearch, IsText, IsTold, IsToldBy, IsToldWith, IsUnfound, IsUnheld, IsUnheldBy, IsUnjudged, IsUnknown, IsUnlike, IsUnlisted, IsUnsearched, IsUntold, doubt_told, doubts_told, judged_ending, list_asked, missing_ending, outcome_at, stop_told, turn_told, whole_ending};
 
 use crate::job::{DoubtLine, Ending, SearchHost, SearchJob};
 use actor_scripts::{ActorList, ActorScriptFault, read_actors};
 use explore_model::{Doubt, Exploration, Found, Plan, Vanishing};
 use outcome_texts::{
-    BadClaim, ClaimLine, ClaimText, LabelNames, StepLine, Telling, claim_texts, has_broken,
-    is_list_of, judged_claims, names_of, push_claims, push_play, push_report, step_lines, who_of,
+    BadClaim, ClaimFault, ClaimLine, ClaimText, LabelNames, StepLine, Telling, claim_texts,
+    fault_of_list, has_broken, judged_claims, names_of, push_claims, push_list, push_play,
+    push_report, step_lines, who_of,
 };
 use play_search::{Effort, ExploreFault, Progress, Setting, explore, plans_of};
-use report_io::{ReportFault, bad_actor_line, bad_line};
+use report_io::{ReportFault, bad_actor_line};
 use script_lines::{Label, LabelHash};
 use sm_names::Limits;
 use std::alloc::{AllocError, Global};
@@ -216,6 +218,43 @@ fn report_of(
     })
 }
 
+// The report in lines for programs, and how the search ended.
+fn list_told(
+    alloc: Global,
+    telling: &Telling<'_>,
+    found: &Exploration,
+    claims: &[ClaimLine<'_>],
+) -> Result<SearchReport, AllocError>
+    ensures { IfOk result (λ told. IsListed telling.now found.now claims.now told.text.items
+        told.ending) }
+{
+    let mut text = Vec::new(alloc);
+    push_list(&mut text, telling, found, claims)?;
+    let broken = has_broken(telling, found, claims);
+    Ok(SearchReport {
+        text,
+        ending: judged_end(broken, found.complete, doubt_of(telling, found)),
+    })
+}
+
+// The report that is asked for, and how the search ended.
+fn said_of(
+    alloc: Global,
+    lists: bool,
+    telling: &Telling<'_>,
+    found: &Exploration,
+    claims: &[ClaimLine<'_>],
+) -> Result<SearchReport, AllocError>
+    ensures { IfOk result (λ told. IsSaid telling.now found.now claims.now lists told.text.items
+        told.ending) }
+{
+    if lists {
+        list_told(alloc, telling, found, claims)
+    } else {
+        report_of(alloc, telling, found, claims)
+    }
+}
+
 // The play of the outcome of this number, and how the search ended.
 fn play_of(
     alloc: Global,
@@ -251,7 +290,7 @@ fn told_of(
         told.text.items told.ending) }
 {
     match job.outcome {
-        None => report_of(alloc, telling, found, claims),
+        None => said_of(alloc, job.lists, telling, found, claims),
         Some(number) => play_of(alloc, telling, found, number),
     }
 }
@@ -269,7 +308,19 @@ fn claims_of<'a>(
     match judged_claims(alloc, telling, texts) {
         Ok(claims) => Ok(claims),
         Err(BadClaim::NoMemory) => Err(ReportFault::NoMemory),
-        Err(BadClaim::Line { number, reason }) => Err(bad_line(alloc, number, reason)),
+        Err(BadClaim::Line { number, fault }) => Err(bad_claim(alloc, number, fault)),
+    }
+}
+
+// The fault of the line of this number, for this reason.
+fn bad_claim(alloc: Global, number: u64, fault: ClaimFault) -> ReportFault
+    ensures line { IsBadLine number result }
+    ensures reason { HasReason (fault_words fault) result }
+{
+    let mut reason = Vec::new(alloc);
+    match fault.push_text(&mut reason) {
+        Ok(()) => ReportFault::BadLine { number, reason },
+        Err(_) => ReportFault::NoMemory,
     }
 }
 
@@ -282,7 +333,7 @@ fn told_found<P: Progress>(
     claims: &[ClaimLine<'_>],
 ) -> Result<SearchReport, ReportFault>
     requires pages { (1 ≤ job.pages) × (job.pages ≤ MAX_PAGES) }
-    requires good { is_good_list (list_asked job) telling.now.labels.now ≡ true }
+    requires good { HasListFault (list_asked job) telling.now.labels.now None }
     ensures ok { IfOk result (λ told. IsFoundWith job.entry seed telling.now claims.now
         told.text.items told.ending) }
     ensures err { IfErr result IsUnsearched }
@@ -298,14 +349,19 @@ fn told_found<P: Progress>(
     }
 }
 
-// Nothing is written, since a client that is asked to vanish does not join.
-fn unknown(alloc: Global) -> SearchReport
-    ensures text { result.text.items ≡ [] }
-    ensures ending { result.ending ≡ EndingTold.Unknown }
+// Nothing is written, since this is wrong with the list of the clients that are asked to vanish.
+fn unknown(
+    alloc: Global,
+    job: SearchJob<'_>,
+    telling: &Telling<'_>,
+    fault: ClaimFault,
+) -> SearchReport
+    requires { HasListFault (list_asked job) telling.now.labels.now (Some fault) }
+    ensures { IsUnknown job.entry telling.now result.text.items result.ending }
 {
     SearchReport {
         text: Vec::new(alloc),
-        ending: Ending::Unknown,
+        ending: Ending::Unknown(fault),
     }
 }
 
@@ -322,9 +378,9 @@ fn told_with<P: Progress>(
         told.text.items told.ending) }
     ensures err { IfErr result IsUnsearched }
 {
-    match is_list_of(host.alloc, job.vanish, telling.labels) {
-        Ok(true) => told_found(host, seed, job, telling, claims),
-        Ok(false) => Ok(unknown(host.alloc)),
+    match fault_of_list(host.alloc, job.vanish, telling.labels) {
+        Ok(None) => told_found(host, seed, job, telling, claims),
+        Ok(Some(fault)) => Ok(unknown(host.alloc, job, telling, fault)),
         Err(_) => Err(ReportFault::NoMemory),
     }
 }

@@ -8,7 +8,7 @@ use Rattle.script_lines.specs.Claims.{claim_of, is_claim_line}
 use Rattle.script_lines.specs.ClientLists.{are_clients, is_among, listed, vanish_text}
 use Rattle.script_lines.specs.declared.label.Label.{Label}
 use Rattle.outcome_texts.specs.Facts.{is_known}
-use Rattle.outcome_texts.specs.Reasons.{bad_reason, list_reason}
+use Rattle.outcome_texts.specs.Reasons.{IsListFault, bad_fault, fault_words}
 use Rattle.outcome_texts.specs.declared.claims.BadClaim.{BadClaim}
 use Rattle.outcome_texts.specs.declared.claims.ClaimText.{ClaimText}
 use Rattle.outcome_texts.specs.declared.telling.Telling.{Telling}
@@ -65,7 +65,7 @@ pub record Bad : Type 0 where
 
 -- the line, which lets these clients vanish or is a claim, is bad
 abbrev pub bad_line : Telling → Text → Option (List ℕ) → Bad
-bad_line telling text names = record { number = text.number; reason = bad_reason telling text.line names }
+bad_line telling text names = record { number = text.number; reason = fault_words (bad_fault telling text.line names) }
 
 -- the claim comes first
 abbrev pub put_first : ToldClaim → Result (List ToldClaim) Bad → Result (List ToldClaim) Bad
@@ -104,8 +104,8 @@ claims_in claims = map claim_in claims
 -- the first of these lines that is bad is that of this number, for this reason; or memory was refused
 abbrev pub IsBadClaim : Telling → List Text → BadClaim → Type 0
 IsBadClaim telling texts BadClaim.NoMemory = ⊤
-IsBadClaim telling texts (BadClaim.Line number reason) =
-    judged telling texts ≡ Err (record { number = number; reason = reason.now })
+IsBadClaim telling texts (BadClaim.Line number fault) =
+    judged telling texts ≡ Err (record { number = number; reason = fault_words fault })
 
 -- one more claim, that of the line, is there
 pub record Adds (telling : Telling) (text : ClaimText) (old new : List ClaimLine) : Type 0 where
@@ -126,14 +126,14 @@ IsBadLine telling text (Some names) = are_clients (listed 32 names) telling.labe
 -- the line of this number lets clients vanish of whom one does not join, for this reason; or memory was refused
 abbrev pub IsBadList : Telling → ℕ → List ℕ → BadClaim → Type 0
 IsBadList telling number names BadClaim.NoMemory = ⊤
-IsBadList telling number names (BadClaim.Line bad reason) =
-    (are_clients (listed 32 names) telling.labels.now ≡ false) × (bad ≡ number) × (reason.now ≡ list_reason)
+IsBadList telling number names (BadClaim.Line bad fault) =
+    IsListFault telling.labels.now (listed 32 names) (Some fault) × (bad ≡ number)
 
 -- the line is such a one, for this reason; or memory was refused
 abbrev pub IsBadText : Telling → ClaimText → Option (List ℕ) → BadClaim → Type 0
 IsBadText telling text names BadClaim.NoMemory = ⊤
-IsBadText telling text names (BadClaim.Line number reason) =
-    IsBadLine telling text names × (number ≡ text.number) × (reason.now ≡ bad_reason telling text.line.now names)
+IsBadText telling text names (BadClaim.Line number fault) =
+    IsBadLine telling text names × (number ≡ text.number) × (fault ≡ bad_fault telling text.line.now names)
 
 -- these come before the others
 abbrev pub put_before : List ToldClaim → Result (List ToldClaim) Bad → Result (List ToldClaim) Bad
@@ -154,7 +154,3 @@ may_vanish texts client = list_any (λ (text : Text). lets_vanish client text.li
 abbrev pub who_told : Option (List ℕ) → List Text → List Label → List Bool
 who_told None texts labels = map (may_vanish texts) labels
 who_told (Some names) texts labels = map (is_among (listed 44 names)) labels
-
--- the list, if there is one, is of some of these clients
-abbrev pub is_good_list : Option (List ℕ) → List Label → Bool
-is_good_list names labels = option_map_or (λ list. are_clients (listed 44 list) labels) names true

@@ -3,6 +3,7 @@ pub mod ClaimLines
 pub mod Facts
 pub mod Leaves
 pub mod Lines
+pub mod Lists
 pub mod Plays
 pub mod Reasons
 pub mod Reports

@@ -5,12 +5,10 @@ ghost use Rattle.outcome_texts.specs.ClaimLines.{Adds, IsBadClaim, IsBadList, Is
 ghost use Rattle.script_lines.specs.ClientLists.{are_clients as clients_told, listed as listed_told, vanish_text as vanish_told};
 
 use crate::makers::is_known;
-use crate::reasons::{list_reason, reason_of};
+use crate::reasons::{ClaimFault, fault_of, list_fault};
 use crate::telling::Telling;
 use crate::verdicts::ClaimLine;
-use script_lines::{
-    Claim, Label, are_clients, is_claim, line_end, listed, read_claim, vanish_text,
-};
+use script_lines::{Claim, is_claim, line_end, read_claim, vanish_text};
 use std::alloc::{AllocError, Global};
 
 /// A line that is a claim, good or bad: its number, from 1, and its bytes.
@@ -26,8 +24,8 @@ pub enum BadClaim {
     /// The line of this number is the first bad claim.
     Line {
         number: u64,
-        /// What is wrong with it, in words.
-        reason: &'static str,
+        /// What is wrong with it.
+        fault: ClaimFault,
     },
     /// Memory was refused.
     NoMemory,
@@ -101,7 +99,7 @@ fn push_claim_line<'a>(
     let Some(claim) = good_claim(telling, text.line) else {
         return Err(BadClaim::Line {
             number: text.number,
-            reason: reason_of(telling, text.line),
+            fault: fault_of(telling, text.line),
         });
     };
     let one = ClaimLine {
@@ -115,14 +113,6 @@ fn push_claim_line<'a>(
     }
 }
 
-// Whether the list, whose words spaces separate, is of some of these clients.
-fn is_list(alloc: Global, names: &[u8], labels: &[Label]) -> Result<bool, AllocError>
-    ensures { IfOk result (λ good. good ≡ clients_told (listed_told 32 names.now) labels.now) }
-{
-    let words = listed(alloc, b' ', names)?;
-    Ok(are_clients(&words, labels))
-}
-
 // Judges the line of this number, which lets the clients of this list vanish.
 fn judge_list(
     alloc: Global,
@@ -134,12 +124,9 @@ fn judge_list(
         ≡ true) }
     ensures err { IfErr result (IsBadList telling.now number names.now) }
 {
-    match is_list(alloc, names, telling.labels) {
-        Ok(true) => Ok(()),
-        Ok(false) => Err(BadClaim::Line {
-            number,
-            reason: list_reason(),
-        }),
+    match list_fault(alloc, b' ', names, telling.labels) {
+        Ok(None) => Ok(()),
+        Ok(Some(fault)) => Err(BadClaim::Line { number, fault }),
         Err(_) => Err(BadClaim::NoMemory),
     }
 }

@@ -239,7 +239,7 @@ fn has_fired(telling: &Telling<'_>, outcome: &Outcome, name: NodeName) -> bool
 }
 
 // Whether the place in the actor's plan is not behind its last step.
-fn is_before(telling: &Telling<'_>, actor: usize, at: usize) -> bool
+pub(crate) fn is_before(telling: &Telling<'_>, actor: usize, at: usize) -> bool
     ensures { result ≡ before_told telling.now actor at }
 {
     match telling.plans.get(actor) {

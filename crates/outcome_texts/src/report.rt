@@ -299,7 +299,7 @@ fn extent(complete: bool) -> &'static str
 }
 
 // What stands behind the number of outcomes.
-fn certificate(found: &Exploration) -> &'static str
+pub(crate) fn certificate(found: &Exploration) -> &'static str
     ensures { result.now ≡ certificate_text found.now }
 {
     if found.certified {

@@ -177,7 +177,7 @@ fn end_of_gone(others: &[usize]) -> &'static str
 }
 
 // The label of the client of this place.
-fn label_at(labels: &[Label], actor: usize) -> Option<Label>
+pub(crate) fn label_at(labels: &[Label], actor: usize) -> Option<Label>
     ensures { result ≡ slice_get labels.now actor }
 {
     labels.get(actor).copied()

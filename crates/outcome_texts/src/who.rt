@@ -3,11 +3,11 @@ ghost use Rattle.std.specs.Prelude.{◌≡◌, IfOk, false, map};
 ghost use Rattle.std.specs.List.{list_any};
 ghost use Rattle.std.specs.Option.{option_map};
 ghost use Rattle.script_lines.specs.declared.label.Label.{Label as LabelTold};
-ghost use Rattle.script_lines.specs.ClientLists.{are_clients as clients_told, is_among as among_told, listed as listed_told};
-ghost use Rattle.outcome_texts.specs.ClaimLines.{is_good_list, lets_vanish as lets_told, may_vanish as may_told, texts_in, who_told};
+ghost use Rattle.script_lines.specs.ClientLists.{is_among as among_told, listed as listed_told};
+ghost use Rattle.outcome_texts.specs.ClaimLines.{lets_vanish as lets_told, may_vanish as may_told, texts_in, who_told};
 
 use crate::claims::ClaimText;
-use script_lines::{Label, are_clients, is_among, listed, vanish_text};
+use script_lines::{Label, is_among, listed, vanish_text};
 use std::alloc::{AllocError, Global};
 
 // Whether the client of this label is in the list, whose words spaces separate.
@@ -88,26 +88,5 @@ pub fn who_of(
     match list {
         Some(names) => who_listed(alloc, names, labels),
         None => who_in(alloc, texts, labels),
-    }
-}
-
-// Whether the list, whose words commas separate, is of some of these clients.
-fn is_of_clients(alloc: Global, names: &str, labels: &[Label]) -> Result<bool, AllocError>
-    ensures { IfOk result (λ good. good ≡ clients_told (listed_told 44 names.now) labels.now) }
-{
-    let words = listed(alloc, b',', names.as_bytes())?;
-    Ok(are_clients(&words, labels))
-}
-
-/// Whether the list, if there is one, is of some of these clients: their labels with commas between them, or `all`.
-///
-/// `AllocError` where memory is refused. Costs O(n m) for n clients and m words.
-pub fn is_list_of(alloc: Global, list: Option<&str>, labels: &[Label]) -> Result<bool, AllocError>
-    ensures { IfOk result
-        (λ good. good ≡ is_good_list (option_map (λ names. names.now) list.entry) labels.now) }
-{
-    match list {
-        Some(names) => is_of_clients(alloc, names, labels),
-        None => Ok(true),
     }
 }

@@ -2,7 +2,7 @@
 use Rattle.std.specs.Prelude.{◌≡◌, ◌⊎◌, ℕ, Bool, true, false, List, Option, Some, None, codes, option_map}
 use Rattle.clap.specs.Matches.{subcommand_name_of}
 use Rattle.clap.specs.declared.parser.matches.ArgMatches.{ArgMatches}
-use Rattle.command_line.specs.Asked.{AreAsked, HasCertificate, HasFailures, HasFormat, HasPatience, HasRecord, HasSearch}
+use Rattle.command_line.specs.Asked.{AreAsked, HasCertificate, HasFailures, HasFormat, HasList, HasPatience, HasRecord, HasSearch}
 use Rattle.command_line.specs.Asked.{HasSummary, HasUntil, HasVanishing, IsFile, IsTask, subcommand_text, value_text}
 use Rattle.command_line.specs.declared.request.CommandLine.{CommandLine}
 use Rattle.command_line.specs.declared.task.Format.{Format as AskedFormat}
@@ -63,6 +63,7 @@ job_for pages search = record {
   outcome = search.outcome;
   states = search.states;
   certifies = search.certifies;
+  lists = search.lists;
 }
 
 -- a pool of this many pages, and the greatest limits
@@ -124,6 +125,7 @@ pub record IsAsked (matches : ArgMatches) (request : CommandLine) : Type 0 where
   pub search : HasSearch (value_text (codes "once") matches) (value_text (codes "outcome") matches) (value_text (codes "states") matches)
       request.task
   pub certified : HasCertificate (value_text (codes "certify") matches) request.task
+  pub listed : HasList (value_text (codes "list") matches) request.task
   pub vanishing : HasVanishing (subcommand_text (codes "vanish") matches) (value_text (codes "most") matches)
       (value_text (codes "end") matches) request.task
   pub file : IsFile (subcommand_text (codes "file") matches) (option_map (λ name. name.now) request.file)

@@ -373,6 +373,7 @@ fn job_of<'a>(pages: Pages, search: Search<'a>) -> outcome_runs::SearchJob<'a>
         outcome: search.outcome,
         states: search.states,
         certifies: search.certifies,
+        lists: search.lists,
     }
 }
 

@@ -17,6 +17,7 @@ returns-in-Some g c =
         patience = c.in-Some.ensures.patience;
         search = c.in-Some.ensures.search;
         certified = c.in-Some.ensures.certified;
+        listed = c.in-Some.ensures.listed;
         vanishing = c.in-Some.ensures.vanishing;
         file = c.in-Some.ensures.file;
       };

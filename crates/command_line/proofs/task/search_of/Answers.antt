@@ -45,6 +45,13 @@ returns-clause-certified c = record {
   unset = c.get_flag-4.ensures.other;
 }
 
+pub returns-clause-listed : goal.returns-clause-listed
+returns-clause-listed c = record {
+  none = c.get_flag-5.ensures.none;
+  set = c.get_flag-5.ensures.value;
+  unset = c.get_flag-5.ensures.other;
+}
+
 pub returns-clause-vanishing : goal.returns-clause-vanishing
 returns-clause-vanishing c =
     let text : List ℕ → _ = λ id. one_text (found_of c.args.matches.now) id in

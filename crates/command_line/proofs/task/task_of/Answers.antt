@@ -81,6 +81,12 @@ returns-then-eq-4-clause-certified c =
     (sym (its_text (codes "certify") c.args.matches.now c.in-Some.inner.now _ c.in-Some.ensures.rows refl))
     c.search_of.ensures.certified
 
+pub returns-then-eq-4-clause-listed : goal.returns-then-eq-4-clause-listed
+returns-then-eq-4-clause-listed c =
+    subst (λ (text : Option (List ℕ)). IsFlag text c.search_of.result.lists)
+    (sym (its_text (codes "list") c.args.matches.now c.in-Some.inner.now _ c.in-Some.ensures.rows refl))
+    c.search_of.ensures.listed
+
 pub returns-then-eq-4-clause-vanishing : goal.returns-then-eq-4-clause-vanishing
 returns-then-eq-4-clause-vanishing c = (
   subst (λ (text : Option (List ℕ)). IsFlag text c.search_of.result.at_end)
