@@ -154,12 +154,18 @@ fires_text names fired =
 
 -- one live node or more
 abbrev pub live_words : List NodeKey → List ℕ
-live_words nodes = if length nodes == 1 then codes " by the live node" else codes " by the live nodes"
+live_words nodes = if length nodes == 1 then codes "the live node" else codes "the live nodes"
+
+-- these live nodes, if there are some
+abbrev pub live_text : Names → List NodeKey → List ℕ
+live_text names nodes =
+    let told = live_words nodes ++ flat_map (node_text names) nodes in
+    if length nodes == 0 then [] else told
 
 -- that these live nodes keep the buffer
 abbrev pub kept_by_nodes : Names → BufferName → List NodeKey → List ℕ
 kept_by_nodes names buffer nodes = concat
-    (codes "kept   " ∷ buffer_text names buffer ∷ live_words nodes ∷ flat_map (node_text names) nodes ∷ codes "\n" ∷ [])
+    (codes "kept   " ∷ buffer_text names buffer ∷ codes " by " ∷ live_text names nodes ∷ codes "\n" ∷ [])
 
 -- the line whose event made the loss
 abbrev pub since_text : ℕ → List ℕ → List ℕ

@@ -6,9 +6,9 @@ ghost use Rattle.script_labels.specs.Names.{Names};
 ghost use Rattle.event_texts.specs.Called.{Calls};
 ghost use Rattle.script_labels.specs.Tables.{Keeps};
 ghost use Rattle.script_labels.specs.Texts.{buffer_text};
-ghost use Rattle.event_texts.specs.EventTexts.{between_buffers, by_text, kept_behind, kept_by_nodes, kept_from, kept_text, live_words as words_for_live};
+ghost use Rattle.event_texts.specs.EventTexts.{between_buffers, by_text, kept_behind, kept_by_nodes, kept_from, kept_text, live_text, live_words as words_for_live};
 ghost use Rattle.event_texts.specs.FactTexts.{holder_text, holders_text, next_holder};
-ghost use Rattle.event_texts.specs.KeeperTexts.{comma_behind, keeping_in, live_nodes_words, live_text, strong_in, who_has_with, who_keeps_with};
+ghost use Rattle.event_texts.specs.KeeperTexts.{comma_behind, keepers_words, keeping_in, strong_in, who_has_with, who_keeps_with};
 
 use crate::labels::Labels;
 use crate::words::push_nodes;
@@ -31,19 +31,19 @@ pub(crate) fn push_kept_by_nodes(
 {
     push(text, "kept   ")?;
     push_buffer(text, tables, buffer)?;
-    push(text, live_words(nodes))?;
-    push_nodes(text, tables, nodes)?;
+    push(text, " by ")?;
+    push_live(text, tables, nodes)?;
     push(text, "\n")
 }
 
-// That one node keeps a buffer, or more.
+// That one node is live, or more.
 fn live_words(nodes: &[NodeKey]) -> &'static str
     ensures { result.now ≡ words_for_live nodes.now }
 {
     if nodes.len() == 1 {
-        " by the live node"
+        "the live node"
     } else {
-        " by the live nodes"
+        "the live nodes"
     }
 }
 
@@ -125,16 +125,36 @@ fn holders_of(alloc: Global, register: &Register, held: &HeldBuffer) -> Result<V
 {
     let nodes = keeping(alloc, register, held.buffer.collection)?;
     let mut row = Vec::new(alloc);
-    push_live(&mut row, register.tables, &nodes)?;
-    push_holders(
+    push_keepers(
         &mut row,
         register.core,
+        register.tables,
         register.labels,
         register.clients,
+        &nodes,
         held.buffer,
-        behind(&nodes),
     )?;
     Ok(row)
+}
+
+/// Appends who keeps the buffer: these live nodes, and whoever has handles on it, these clients among
+/// them. Costs O(n) for n bytes of text, a look-up of each label, and one of each client and strength.
+#[tactic(auto, unfolding(crate::specs::KeeperTexts::keepers_words))]
+pub fn push_keepers(
+    text: &mut Vec<u8>,
+    core: &Core,
+    tables: &Tables,
+    labels: &Labels,
+    clients: &Vec<ClientId>,
+    nodes: &[NodeKey],
+    buffer: BufferName,
+) -> Result<(), AllocError>
+    ensures { OnOk result ((names : Names) → Keeps tables.now names → Calls labels.now names →
+        text.new.items ≡ text.old.items
+        ++ keepers_words core.now names clients.now.items nodes.now buffer) }
+{
+    push_live(text, tables, nodes)?;
+    push_holders(text, core, labels, clients, buffer, behind(nodes))
 }
 
 // The live strong nodes of the collection, if nodes are told.
@@ -176,19 +196,8 @@ fn push_live(text: &mut Vec<u8>, tables: &Tables, nodes: &[NodeKey]) -> Result<(
     if nodes.is_empty() {
         return Ok(());
     }
-    push(text, nodes_words(nodes))?;
+    push(text, live_words(nodes))?;
     push_nodes(text, tables, nodes)
-}
-
-// That one node is live, or more.
-fn nodes_words(nodes: &[NodeKey]) -> &'static str
-    ensures { result.now ≡ live_nodes_words nodes.now }
-{
-    if nodes.len() == 1 {
-        "the live node"
-    } else {
-        "the live nodes"
-    }
 }
 
 // What stands behind these nodes: a comma, if there are some.
@@ -263,10 +272,9 @@ fn push_by(text: &mut Vec<u8>, row: &[u8]) -> Result<(), AllocError>
     )
 }
 
-/// Appends the holders of open handles on the buffer, and how many each has: these clients in their order, strong
-/// before weak, and the parcels last. These words stand before them, if there are some. Costs a
-/// look-up for each client and strength, and the text.
-pub fn push_holders(
+// Appends the holders of open handles on the buffer, and how many each has: these clients in their order, strong
+// before weak, and the parcels last. These words stand before them, if there are some.
+pub(crate) fn push_holders(
     text: &mut Vec<u8>,
     core: &Core,
     labels: &Labels,

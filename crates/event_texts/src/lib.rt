@@ -13,5 +13,5 @@ mod summary;
 pub mod words;
 
 pub use event_writer::EventWriter;
-pub use keepers::push_holders;
+pub use keepers::push_keepers;
 pub use labels::Labels;

@@ -22,7 +22,8 @@ use Rattle.picture_model.specs.declared.failure_view.Travel.{Travel}
 use Rattle.picture_model.specs.declared.failure_view.TravelWay.{TravelWay}
 use Rattle.picture_model.specs.BoxLines.{asked_words, fired_words, header_text, kind_words, node_words, state_words}
 use Rattle.picture_model.specs.Colors.{edge_text, fill_text, ink_text}
-use Rattle.picture_model.specs.Features.{class_of, free_words, keepers_words, link_of, pages_text, place_text, sign_text}
+use Rattle.event_texts.specs.KeeperTexts.{keepers_words}
+use Rattle.picture_model.specs.Features.{class_of, free_words, link_of, pages_text, place_text, sign_text}
 use Rattle.picture_model.specs.Travels.{is_child_of, way_in}
 
 -- ---- the begin of the graph

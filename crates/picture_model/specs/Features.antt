@@ -1,21 +1,15 @@
 -- What pictures say of a node and of a buffer.
-use Rattle.std.specs.Prelude.{ℕ, ◌+◌, ◌-◌, ◌==◌, if◌then◌else◌, List, [], ◌∷◌, ◌++◌, codes, decimal, length}
-use Rattle.std.specs.List.{flat_map}
+use Rattle.std.specs.Prelude.{ℕ, ◌+◌, ◌-◌, ◌==◌, if◌then◌else◌, List, [], ◌∷◌, ◌++◌, codes, decimal}
 use Rattle.std.specs.Option.{option_map_or}
-use Rattle.sm_names.specs.declared.keys.BufferName.{BufferName}
 use Rattle.sm_names.specs.declared.keys.Interval.{Interval}
-use Rattle.sm_names.specs.declared.keys.NodeKey.{NodeKey}
 use Rattle.sm_names.specs.declared.outcomes.Fault.{Fault}
 use Rattle.sm_names.specs.Sameness.{same_key}
 use Rattle.forest_store.specs.declared.node.End.{End}
 use Rattle.forest_store.specs.declared.node.Node.{Node}
-use Rattle.core_state.specs.State.{State}
-use Rattle.event_facts.specs.Facts.{holders_in}
 use Rattle.script_lines.specs.Labels.{label_text}
 use Rattle.script_labels.specs.Names.{Names}
-use Rattle.script_labels.specs.Texts.{node_text}
 use Rattle.event_texts.specs.Called.{client_label}
-use Rattle.event_texts.specs.FactTexts.{concat, holders_text}
+use Rattle.event_texts.specs.FactTexts.{concat}
 use Rattle.script_lines.specs.Parts.{plural_end}
 use Rattle.picture_model.specs.declared.features.Class.{Class}
 use Rattle.picture_model.specs.declared.features.LinkStyle.{LinkStyle}
@@ -56,20 +50,7 @@ pages_text i =
     let more = concat (codes "pages " ∷ decimal i.start ∷ codes " to " ∷ decimal (i.start + i.pages - 1) ∷ []) in
     if i.pages == 1 then one else more
 
--- what stands between the live nodes that keep a buffer and the handles
-abbrev pub gap_behind : List NodeKey → List ℕ
-gap_behind nodes = if length nodes == 0 then [] else codes "; "
-
 -- how many of this many pages are free
 unfoldable pub free_words : ℕ → ℕ → List ℕ
 free_words free pages = concat
     (decimal free ∷ codes " of " ∷ (decimal pages ++ codes " " ++ codes "page" ++ plural_end pages) ∷ codes " free" ∷ [])
-
--- the live nodes that keep a buffer
-abbrev pub live_words : Names → List NodeKey → List ℕ
-live_words names nodes = if length nodes == 0 then [] else concat (codes "live" ∷ flat_map (node_text names) nodes ∷ [])
-
--- who keeps the buffer: these nodes, which are strong and live, and whoever has handles on it, these clients among them
-unfoldable pub keepers_words : State → Names → List ℕ → List NodeKey → BufferName → List ℕ
-keepers_words s names clients strong buffer =
-    concat (live_words names strong ∷ holders_text names (gap_behind strong) (holders_in s.holds clients buffer) ∷ [])

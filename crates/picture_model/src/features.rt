@@ -3,12 +3,11 @@ ghost use Rattle.std.specs.Prelude.{◌≡◌, ◌++◌, OnOk};
 ghost use Rattle.script_labels.specs.Names.{Names};
 ghost use Rattle.script_labels.specs.Tables.{Keeps};
 ghost use Rattle.event_texts.specs.Called.{Calls};
-ghost use Rattle.picture_model.specs.Features.{class_of as class_in, free_words, gap_behind as gap_behind_nodes, keepers_words, kind_text, link_of as link_in, live_words, pages_text, place_text, sign_text};
+ghost use Rattle.event_texts.specs.KeeperTexts.{keepers_words};
+ghost use Rattle.picture_model.specs.Features.{class_of as class_in, free_words, kind_text, link_of as link_in, pages_text, place_text, sign_text};
 
-use event_texts::words::push_nodes;
-use event_texts::{EventWriter, Labels, push_holders};
+use event_texts::{EventWriter, Labels};
 use forest_store::{End, Node};
-use script_labels::Tables;
 use script_lines::{Part, push, push_parts};
 use sm_names::{BufferName, ClientId, Interval, NodeKey};
 use std::alloc::AllocError;
@@ -146,10 +145,7 @@ pub fn push_free_pages(text: &mut Vec<u8>, free: u32, pages: u32) -> Result<(), 
     )
 }
 
-/// Appends who keeps the buffer: these strong nodes, which are live, and whoever has handles on it, these
-/// clients among them. Costs O(n) for n bytes of text, a look-up of each label, and one of each client
-/// and strength.
-#[tactic(auto, unfolding(crate::specs::Features::keepers_words))]
+/// Appends who keeps the buffer, as `event_texts::push_keepers` does.
 pub fn push_keepers(
     text: &mut Vec<u8>,
     event_writer: &EventWriter,
@@ -161,27 +157,14 @@ pub fn push_keepers(
         Calls event_writer.now.labels names → text.new.items ≡ text.old.items
         ++ keepers_words event_writer.now.session.core names clients.now.items strong.now buffer) }
 {
-    let (core, labels) = (&event_writer.session.core, &event_writer.labels);
-    push_live(text, &event_writer.session.tables, strong)?;
-    push_holders(text, core, labels, clients, buffer, gap_behind(strong))
-}
-
-// Appends the live nodes, if there are some.
-fn push_live(text: &mut Vec<u8>, tables: &Tables, nodes: &[NodeKey]) -> Result<(), AllocError>
-    ensures { OnOk result ((names : Names) → Keeps tables.now names →
-        text.new.items ≡ text.old.items ++ live_words names nodes.now) }
-{
-    if nodes.is_empty() {
-        return Ok(());
-    }
-    push(text, "live")?;
-    push_nodes(text, tables, nodes)
-}
-
-// What stands between the live nodes that keep a buffer and the handles: nothing where there are no such
-// nodes.
-fn gap_behind(nodes: &[NodeKey]) -> &'static str
-    ensures { result.now ≡ gap_behind_nodes nodes.now }
-{
-    if nodes.is_empty() { "" } else { "; " }
+    let (session, labels) = (&event_writer.session, &event_writer.labels);
+    event_texts::push_keepers(
+        text,
+        &session.core,
+        &session.tables,
+        labels,
+        clients,
+        strong,
+        buffer,
+    )
 }

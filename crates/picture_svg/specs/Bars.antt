@@ -8,7 +8,8 @@ use Rattle.core_state.specs.State.{State}
 use Rattle.script_labels.specs.Names.{Names}
 use Rattle.event_texts.specs.FactTexts.{buffer_name, concat}
 use Rattle.picture_model.specs.declared.picture.Tree.{Tree}
-use Rattle.picture_model.specs.Features.{keepers_words, pages_text}
+use Rattle.event_texts.specs.KeeperTexts.{keepers_words}
+use Rattle.picture_model.specs.Features.{pages_text}
 use Rattle.picture_layout.specs.declared.layout.TheConstants.{COLUMN_GAP}
 use Rattle.picture_layout.specs.Lengths.{capped_product, capped_sum}
 use Rattle.picture_svg.specs.declared.bars.Bar.{Bar}

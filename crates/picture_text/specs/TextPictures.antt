@@ -18,7 +18,8 @@ use Rattle.event_texts.specs.FactTexts.{buffer_name, concat}
 use Rattle.picture_model.specs.declared.features.Class.{Class}
 use Rattle.picture_model.specs.declared.picture.Tree.{Tree}
 use Rattle.picture_model.specs.BoxLines.{asked_words, fired_words, header_text, state_words}
-use Rattle.picture_model.specs.Features.{class_of, free_words, keepers_words, kind_text, pages_text, place_text, sign_text}
+use Rattle.event_texts.specs.KeeperTexts.{keepers_words}
+use Rattle.picture_model.specs.Features.{class_of, free_words, kind_text, pages_text, place_text, sign_text}
 use Rattle.picture_text.specs.declared.outline.OutlineRow.{OutlineRow}
 use Rattle.picture_text.specs.Outlines.{Line, line_of_row, outline}
 use Rattle.picture_text.specs.declared.picture.TheConstants.{MOST_DRAWN}

@@ -306,6 +306,7 @@ impl EventWriter {
     }
 
     // Appends the holders of handles on the buffers.
+    #[tactic(auto, unfolding(crate::specs::KeeperTexts::keepers_words))]
     fn push_kept_all(&self, held: &[HeldBuffer], facts: &mut Vec<u8>) -> Result<(), LineStop>
         ensures text { OnOk result ((names : Names) → Keeps self.now.session.tables names →
             Calls self.now.labels names → facts.new.items ≡ facts.old.items
