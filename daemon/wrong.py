@@ -24,6 +24,7 @@ LIBRARY = os.environ.get("LIBRARY", f"{HERE}/../bindings/build/libsysmem.a")
 WRONG = [
     ("src/hangups.cpp", "late calls are forgotten", "if (!give_up(o)) put_off(o);", "(void)give_up(o);", "late_calls"),
     ("src/hangups.cpp", "late calls are not tried again", "        if (give_up(*o)) continue;\n        put_off(*o);\n        return;", "        return;", "late_calls"),
+    ("src/leases.cpp", "a late call comes between the look and the Take", "a = raw_step(d, c);", "a = step(d, c);", "late_release"),
     ("src/messages.cpp", "sends wait", "sendmsg(o.fd, &goes.head, MSG_DONTWAIT | MSG_NOSIGNAL)", "sendmsg(o.fd, &goes.head, MSG_NOSIGNAL)", "late_calls"),
     ("src/messages.cpp", "sends raise signals", "sendmsg(o.fd, &goes.head, MSG_DONTWAIT | MSG_NOSIGNAL)", "sendmsg(o.fd, &goes.head, MSG_DONTWAIT)", "late_calls"),
     ("src/messages.cpp", "a full socket stays", "if (why == EAGAIN || count == 0) cut(o, SYSMEMD_UNREAD);", "", "full_sockets"),
@@ -71,7 +72,8 @@ WRONG = [
     ("include/sysmem_remote/link.hpp", "ended sockets are watched", "if (is_over) hub->unwatch(*this);", "", "pending"),
     ("include/sysmem_remote/link.hpp", "calls wait for ever", "        auto until = hub->until();\n        std::unique_lock", "        auto until = Clock::time_point::max();\n        std::unique_lock", "deadline"),
     ("include/sysmem_remote/socket.hpp", "bytes without end", "if (bytes++ > 0 && Clock::now() >= until) return -2;", "(void)bytes;", "noisy_peers"),
-    ("include/sysmem_remote/socket.hpp", "no wait before a read", "int is = await(fd, POLLIN, until); // before", "int is = 1; // before", "nonblocking"),
+    ("include/sysmem_remote/socket.hpp", "no wait before a read", "int is = is_patient ? 1 : await(fd, POLLIN, until);", "int is = 1;", "nonblocking"),
+    ("include/sysmem_remote/socket.hpp", "a patient read spins", "if (m.length < 0 && errno == EAGAIN) is_patient = false;", "", "nonblocking"),
     ("include/sysmem_remote.hpp", "strangers are written to", "return peer.pid == daemon.pid && peer.uid == daemon.uid;", "return true;", "strangers"),
     ("include/sysmem_remote.hpp", "no look for room", "if (!detail::has_room(fd) || getrandom", "if (getrandom", "full_table"),
     ("include/sysmem_remote/socket.hpp", "no look for room before what comes", "if (!has_room(socket)) return -3;", "", "full_table"),

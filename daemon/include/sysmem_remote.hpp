@@ -48,7 +48,7 @@ public:
         }
         auto hub = std::make_shared<detail::Hub>(deadline);
         int fd = connect(path, deadline);
-        if (fd < 0) return detail::ended(errno == EAGAIN ? Ending::TimeOver : Ending::NoService, std::strerror(errno));
+        if (fd < 0) return unserved(path, errno);
         Client made(fd, hub, label);
         sysmemd_request q = detail::request(SYSMEMD_HELLO, label);
         q.size = SYSMEMD_MAGIC;
@@ -202,6 +202,10 @@ private:
     Client(int fd, const std::shared_ptr<detail::Hub> &hub, std::string label)
         : link(detail::Link::make(fd, hub, {{}, 0, 0, SYSMEMD_CONNECTION})), inbox(std::make_unique<Inbox>()),
           name(std::move(label)) {}
+    static Error unserved(const std::string &path, int why) {
+        if (path.empty()) return detail::ended(Ending::NoService, "neither SYSMEM_SOCKET nor XDG_RUNTIME_DIR is set");
+        return detail::ended(why == EAGAIN ? Ending::TimeOver : Ending::NoService, path + ": " + std::strerror(why));
+    }
     static int connect(const std::string &path, std::chrono::nanoseconds deadline) {
         sockaddr_un at{};
         at.sun_family = AF_UNIX;

@@ -63,6 +63,7 @@ bool Daemon::take(End &e, const sysmemd_request &q) {
     Tree &t = *e.tree;
     Taking taking;
     std::uint32_t count = 0, size = 0;
+    if (d.late) catch_up(d); // before the look: such a call may allocate what this one takes
     sysmem_given(&d.core, t.id, &count, &size);
     if (count > 0) sysmem_held_of(&d.core, t.id, taking.held, 64, &taking.count);
     if (d.descriptors + taking.count > options.descriptors) return refuse(e, q, SYSMEM_TOO_MANY_HANDLES);
@@ -74,7 +75,7 @@ bool Daemon::take(End &e, const sysmemd_request &q) {
     }
     sysmem_call c = call_on(SYSMEM_TAKE, e.key);
     Answer a;
-    if (prepare(d, t, taking)) a = step(d, c);
+    if (prepare(d, t, taking)) a = raw_step(d, c);
     else a.code = SYSMEM_NO_MEMORY;
     keep_taken(e, taking, a);
     sysmemd_reply r = reply_of(e, &t, q, a);

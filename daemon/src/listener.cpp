@@ -14,8 +14,8 @@
 
 namespace sysmemd {
 
-[[noreturn]] static void fail(const std::string &what) {
-    std::fprintf(stderr, "sysmemd: %s: %s\n", what.c_str(), std::strerror(errno));
+[[noreturn]] static void fail(const std::string &what, const char *why = std::strerror(errno)) {
+    std::fprintf(stderr, "sysmemd: %s: %s\n", what.c_str(), why);
     std::exit(1);
 }
 
@@ -29,7 +29,8 @@ static int listen_at(const std::string &path, mode_t mode) {
     }
     std::memcpy(name.sun_path, path.c_str(), path.size());
     int lock = open((path + ".lock").c_str(), O_RDWR | O_CREAT | O_CLOEXEC | O_NOFOLLOW, 0600);
-    if (lock < 0 || flock(lock, LOCK_EX | LOCK_NB)) fail(path + ".lock");
+    if (lock < 0) fail(path + ".lock");
+    if (flock(lock, LOCK_EX | LOCK_NB)) fail(path, errno == EWOULDBLOCK ? "another daemon serves it" : std::strerror(errno));
     struct stat is;
     if (lstat(path.c_str(), &is) == 0 && !S_ISSOCK(is.st_mode)) {
         errno = EEXIST;

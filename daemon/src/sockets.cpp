@@ -3,6 +3,7 @@
 
 #include "listener.hpp"
 #include "log.hpp"
+#include "sysmem_remote/words.hpp"
 
 #include <linux/sockios.h>
 #include <new>
@@ -13,6 +14,8 @@
 #include <utility>
 
 namespace sysmemd {
+
+using sysmem::remote::Ending;
 
 // How many bytes of memory our messages take that the other side did not receive.
 static int unread(const Object &o) {
@@ -152,7 +155,7 @@ void Daemon::cut(Object &o, std::uint32_t why) {
     if (o.is_cut || o.fd < 0) return;
     o.is_cut = true;
     if (o.is_choked) choke(o, false);
-    if (why != SYSMEMD_CLAIMED) say("uid %u, process %u: cut off, for reason %u", o.who.uid, o.who.pid, why);
+    if (why != SYSMEMD_CLAIMED) say("uid %u, process %u: cut off: %s", o.who.uid, o.who.pid, name(Ending(why)));
     sysmemd_reply r{};
     r.kind = SYSMEMD_ENDING;
     r.detail = why;

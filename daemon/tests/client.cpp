@@ -4,10 +4,20 @@
 #include <sys/time.h>
 #include <thread>
 
-static double cpu() {
-    rusage r;
-    getrusage(RUSAGE_SELF, &r);
-    return double(r.ru_utime.tv_sec + r.ru_stime.tv_sec) + double(r.ru_utime.tv_usec + r.ru_stime.tv_usec) / 1e6;
+// Whether all other threads of this process sleep, for a while. One that spins runs, or is about to.
+static bool are_asleep() {
+    int times = 0;
+    return comes([&] {
+        DIR *dir = opendir("/proc/self/task");
+        CHECK(dir);
+        bool is = true;
+        while (dirent *one = readdir(dir))
+            if (one->d_name[0] != '.' && one->d_name != std::to_string(gettid()))
+                is &= state_of(std::string("/proc/self/task/") + one->d_name) == 'S';
+        closedir(dir);
+        times = is ? times + 1 : 0;
+        return times == 20;
+    });
 }
 static bool is_readable(int fd) {
     pollfd one{fd, POLLIN, 0};
@@ -102,16 +112,18 @@ TEST(nonblocking) {
     Client c = d.join();
     Collection a = c.open_root("r").value().bind().value();
     Token kid = a.attach_token("k").value();
-    fcntl(a.fd(), F_SETFL, O_NONBLOCK);
+    Tracker gone = kid.track_node().value();
     int two[2];
-    CHECK(socketpair(AF_UNIX, SOCK_STREAM | SOCK_NONBLOCK, 0, two) == 0);
-    double before = cpu();
-    std::thread waits([&] { CHECK(!a.wait_allocated(500ms).value()); });
-    CHECK(!c.collect_for(two[0], 500ms).value());
-    waits.join();
-    CHECK(cpu() - before < 0.25);
+    CHECK(socketpair(AF_UNIX, SOCK_STREAM, 0, two) == 0);
+    for (int fd : {a.fd(), gone.fd(), two[0]}) fcntl(fd, F_SETFL, O_NONBLOCK);
+    std::thread waits[] = {std::thread([&] { CHECK(a.wait_allocated(soon).value()->count == 1); }),
+                           std::thread([&] { CHECK(gone.wait()); }),
+                           std::thread([&] { CHECK(!c.collect_for(two[0], soon).value()); })};
+    CHECK(are_asleep());
+    kid.close();
+    ::close(two[1]);
     a.set_constraints({1, 0, 1}).value();
-    CHECK(a.wait_allocated(soon).value()->count == 1);
+    for (std::thread &one : waits) one.join();
 }
 
 // A peer that sends bytes without a descriptor, and signals, do not lengthen a wait without end.
@@ -322,7 +334,9 @@ TEST(deadline) {
 TEST(endings) {
     auto none = Client::open("/nowhere/s");
     CHECK(!none && ending(none.error()) == Ending::NoService);
-    CHECK(none.error().message().find("nobody serves") != std::string::npos);
+    CHECK(none.error().message().find("nobody serves this path: /nowhere/s: No such file") != std::string::npos);
+    unsetenv("SYSMEM_SOCKET"), unsetenv("XDG_RUNTIME_DIR");
+    CHECK(Client::open().error().note.find("XDG_RUNTIME_DIR is set") != std::string::npos);
     Daemon d({"--connections", "2"});
     Client c = d.join(), second = d.join();
     auto third = Client::open(d.path);

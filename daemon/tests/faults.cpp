@@ -19,7 +19,7 @@ TEST(late_calls) {
         CHECK(fires.wait_for(soon) && a.sync());
     }
     others.clear();
-    CHECK(handles[0].wait_idle(1, soon).value());
+    for (Handle &one : handles) CHECK(one.wait_idle(1, soon).value()); // nothing is late: the refusals begin anew
     auto told = std::move(b).release(); // refused now, and made later: nobody fails
     CHECK(!told && told.error().is_no_memory());
     CHECK(comes([&] { return c.status().value().live == 1; }) && a.sync() && !a.failure());
@@ -29,6 +29,33 @@ TEST(late_calls) {
     std::mt19937 rng(9);
     for (int round = 0; round < 10; round++) random_life(d.join("random"), rng, 300);
     CHECK(is_whole(c));
+}
+
+// A Release that the core was refused memory for is made before a Take of the same round, and allocates what that hands out.
+TEST(late_release) {
+    for (const char *late : {"SYSMEMD_LATE=2", "SYSMEMD_LATE=3"}) {
+        Daemon d({"--share", "1000000"}, 0, {late});
+        Client c = d.join();
+        Token root = c.open_root("root").value();
+        int goes = std::move(root.duplicate("goes").value()).detach();
+        Collection a = std::move(root).bind().value();
+        a.set_constraints({3, 0, 4096}).value();
+        int takes = std::move(a).detach();
+        auto release = words_of(SYSMEM_RELEASE), take = words_of(SYSMEM_TAKE);
+        CHECK(c.status()); // so epoll has looked at the end that takes once more, and will tell of the other one first
+        d.pause();
+        CHECK(raw_send(goes, &release, sizeof release) && raw_send(takes, &take, sizeof take));
+        CHECK(raw_send(takes, &take, sizeof take)); // once the daemon has seen the other socket end
+        d.go_on();
+        std::vector<int> got;
+        std::optional<sysmemd_reply> told;
+        while ((told = raw_receive(takes, 60000, &got))->kind != SYSMEM_TAKEN)
+            if (told->kind == SYSMEM_PENDING) CHECK(raw_send(takes, &take, sizeof take));
+        CHECK(told->set == 7 && got.size() == 6);
+        for (int fd : got) ::close(fd);
+        ::close(goes), ::close(takes);
+        CHECK(is_whole(c));
+    }
 }
 
 // A socket that is full is cut off, whatever it should have been told, and nothing else is.
@@ -47,7 +74,7 @@ TEST(full_sockets) {
         auto s = c.status();
         return s && s->live == 0 && s->held == 0 && s->memories == 0 && s->descriptors == 1;
     }));
-    CHECK(d.says("cut off, for reason 6"));
+    CHECK(d.says("cut off: too much was not read"));
 }
 
 // One round tells of a claim, which closes a descriptor; of requests, which get its number for a new socket; and that the
@@ -234,7 +261,7 @@ TEST(refused_in_turn) {
         random_life(c, rng, 80);
     };
     life(); // the daemon's tables have their sizes
-    for (int which : {0, 1}) {
+    for (int which : {1, 0}) { // where memory is refused, a transcript ends
         int n = 0;
         do {
             numbers[which] = ++n;

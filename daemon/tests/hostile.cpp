@@ -96,7 +96,7 @@ TEST(malformed) {
         CHECK(is_cut(fd));
         ::close(fd);
     }
-    CHECK(d.says("cut off, for reason 1") && d.says("cut off, for reason 3"));
+    CHECK(d.says("cut off: a message was malformed") && d.says("cut off: the daemon has another version"));
     mine.close();
     CHECK(is_whole(c));
     CHECK(d.files_open() == files); // none of what came along stayed
@@ -176,9 +176,9 @@ static sysmemd_request random_request(std::mt19937 &rng) {
 TEST(fuzzed) {
     Daemon d;
     Client c = d.join("witness");
-    std::mt19937 rng(3);
+    const char *messages = std::getenv("MESSAGES"), *seed = std::getenv("SEED"); // `make random` has millions
+    std::mt19937 rng(seed ? std::uint32_t(std::atol(seed)) : 3);
     std::size_t sent = 0, live = 0;
-    const char *messages = std::getenv("MESSAGES"); // `make random` has millions
     for (std::size_t round = 0; sent < (messages ? std::size_t(std::atoll(messages)) : 17000) || live <= 100; round++) {
         std::vector<int> fds;
         for (int i = 0; i < 400; i++) {
@@ -312,7 +312,8 @@ TEST(locked_file) {
         auto handles = *a.take().value();
         int file = dup(handles[0].memory_fd());
         std::thread([=] { (void)!write(file, page, 4096); }).detach();
-        usleep(100000);
+        pollfd fault{int(faults), POLLIN, 0};
+        CHECK(poll(&fault, 1, 60000) == 1); // it has the lock, and waits for the page
         handles.clear();
         a.close();
         mark(m, 'l');
@@ -343,7 +344,7 @@ TEST(half_open) {
         CHECK(is_cut(fd));
         ::close(fd);
     }
-    CHECK(d.says("cut off, for reason 5"));
+    CHECK(d.says("cut off: no Hello came in time"));
     CHECK(comes([&] { return bool(Client::open(d.path)); }) && c.status());
 }
 

@@ -127,7 +127,7 @@ TEST(uid_limits) {
         Token got = other.collect_for(two[1], soon).value()->token().value();
         Collection k = std::move(got).bind().value();
         k.set_constraints({1, 0, 1}).value();
-        CHECK(other.status().value().live == 0); // it is in the opener's core
+        CHECK(comes([&] { return other.status().value().live == 0; })); // it is in the opener's core
     });
     CHECK(mine[0].wait_failed(soon)->label == "kid");
     mine.clear();

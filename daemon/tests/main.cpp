@@ -7,6 +7,7 @@ static bool run(const Test &test) {
     auto start = std::chrono::steady_clock::now();
     pid_t pid = fork();
     if (pid == 0) {
+        prctl(PR_SET_PDEATHSIG, SIGKILL);
         if (!std::getenv("MESSAGES")) alarm(600);
         test.run();
         std::fflush(nullptr);

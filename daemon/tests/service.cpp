@@ -13,13 +13,13 @@ TEST(restarted) {
     // Another one for the same path does not start.
     pid_t second = fork();
     if (second == 0) {
-        ::close(2);
+        dup2(::open((d.folder + "/log").c_str(), O_WRONLY | O_APPEND), 2);
         execl(program(), "sysmemd", "--socket", d.path.c_str(), nullptr);
         _exit(0);
     }
     int is = 0;
     CHECK(waitpid(second, &is, 0) == second && WIFEXITED(is) && WEXITSTATUS(is) == 1);
-    CHECK(root.sync());
+    CHECK(d.says("s: another daemon serves it") && root.sync());
     d.stop(SIGKILL);
     pollfd waits[] = {{root.fd(), POLLIN, 0}, {k.fd(), POLLIN, 0}, {handles[0].fd(), POLLIN, 0}, {t.fd(), POLLIN, 0},
                       {c.fd(), POLLIN, 0}};

@@ -1,6 +1,7 @@
 #!/bin/sh
 # What the daemon's cores did is a legal history: its transcript, played again by the values of the in-process binding
-# and, if it is built, by the proved program, gets the same replies. The calls are those of random lives, kills included.
+# and, if it is built, by the proved program, gets the same replies. The calls are those of random lives, kills included, also
+# while each system call, and then each allocation, is refused in turn.
 set -e
 run=$(mktemp -d)
 trap 'rm -rf "$run"' EXIT
@@ -9,7 +10,8 @@ cat >"$run/sysmemd" <<END
 exec $(realpath "$1/sysmemd") --transcripts $run --pages 4096 "\$@"
 END
 chmod +x "$run/sysmemd"
-SYSMEMD="$run/sysmemd" "$1/tests" killed killed_anywhere tree_killed travels answers >/dev/null
+export SYSMEMD="$run/sysmemd" REFUSE="$(realpath "$1/refuse.so")"
+"$1/tests" killed killed_anywhere tree_killed travels answers refused_in_turn >/dev/null
 events=0
 for t in "$run"/*.transcript; do
   [ "$(grep -c '^# [a-z]' "$t")" = 1 ] # all calls can be said; the first line has the pages

@@ -85,11 +85,13 @@ struct Message {
 
 // Reads one message. 1: there is one, 0: the time is over, -1: the socket ended.
 inline int read_message(int fd, Message &m, Clock::time_point until) {
+    bool is_patient = until == Clock::time_point::max(); // then recvmsg waits, unless the program's event loop set O_NONBLOCK
     for (int resets = 0;;) {
-        int is = await(fd, POLLIN, until); // before recvmsg, since the program's event loop may have set O_NONBLOCK
+        int is = is_patient ? 1 : await(fd, POLLIN, until);
         if (is <= 0) return is;
         Envelope<128> came(&m.words, sizeof m.words);
-        m.length = recvmsg(fd, &came.head, MSG_CMSG_CLOEXEC | MSG_DONTWAIT);
+        m.length = recvmsg(fd, &came.head, MSG_CMSG_CLOEXEC | (is_patient ? 0 : MSG_DONTWAIT));
+        if (m.length < 0 && errno == EAGAIN) is_patient = false;
         if (m.length < 0 && (errno == EINTR || errno == EAGAIN)) continue;
         if (m.length < 0 && errno == ECONNRESET && resets++ == 0) continue; // what was sent before it follows
         if (m.length <= 0) return -1;
