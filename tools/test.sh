@@ -5,8 +5,8 @@ usage='Runs every test, each program on its own input, and the examples. Nothing
 
 An ITEM is a crate that has tests or is a program, `edits`: that each wrong edit still applies, `transcripts`: that each
 explanation is a transcript of its script, `help_texts`: that the man page and the completions have what the help has,
-`sizes`: that the documents state the sizes of the tree and stay short, `shown_files`: that they show files as they are, or
-`page`: that docs/try.html was made of the sources as they are. With none, all of them run. LANES of them (one for each
+`sizes`: that the documents state the sizes of the tree and stay short, `shown_files`: that they show files as they are,
+`page`: that docs/try.html was made of the sources as they are, or `unproved`: that tools/unproved.py builds a program. With none, all of them run. LANES of them (one for each
 processor, if not said) are built and run side by side, in 1 GB each.
 
 A line for each item counts its tests; what failed is printed above it. The last line is `N passed, M failed`, and the
@@ -33,7 +33,7 @@ mapfile -t others < <({
   grep -rl --include='*.rt' '^ *#\[test\]' crates/*/src
   ls crates/*/src/main.rt
 } | cut -d / -f 2 | sort -u | grep -vxF "$(printf '%s\n' "${first[@]}")")
-all=("${first[@]}" "${others[@]}" edits transcripts help_texts sizes shown_files page)
+all=("${first[@]}" "${others[@]}" unproved edits transcripts help_texts sizes shown_files page)
 [ ${#items[@]} -gt 0 ] || items=("${all[@]}")
 declare -A is_item
 for item in "${all[@]}"; do is_item[$item]=1; done
@@ -74,6 +74,11 @@ try_program() {
   (cd "$crate" && rt try --seconds 1500 --cases "$room/$item.cases")
 }
 
+# Builds the program that explains, and explains an example.
+try_unproved() {
+  tools/unproved.py "$room/explain" explain_main && "$room/explain" <examples/camera.script | cmp - examples/camera.explained
+}
+
 # Whether the actors of examples/shared.actors, whose number of events is open, have all come to their end.
 is_shared() {
   sed -n '/^== shared$/,/^case=shared /p' "$1" >"$1.shared"
@@ -85,8 +90,8 @@ try_item() {
   local item=$1 log="$room/$1.log" status=0 passed failed
   local -A tools=([edits]=edits_apply.py [transcripts]=transcripts.py [help_texts]=help_texts.py [sizes]="sizes.py --check"
                   [shown_files]=shown_files.py [page]="page_sources.py --check")
-  if [ -n "${tools[$item]-}" ]; then
-    tools/${tools[$item]} >"$log" 2>&1 || status=$?
+  if [ -n "${tools[$item]-}" ] || [ "$item" = unproved ]; then
+    if [ "$item" = unproved ]; then try_unproved; else tools/${tools[$item]}; fi >"$log" 2>&1 || status=$?
     passed=$((status == 0)) failed=$((status != 0))
   elif [ -f "crates/$item/src/main.rt" ]; then
     try_program >"$log" 2>&1 || status=$?
@@ -102,7 +107,7 @@ try_item() {
   if [ "$failed" != 0 ]; then grep -vE '^test .* \.\.\. ok$|^case=.* output=expected' "$log"; fi
   echo "$item: $passed passed, $failed failed"
 }
-export -f try_item try_program add_case is_shared
+export -f try_item try_program try_unproved add_case is_shared
 
 printf '%s\n' "${items[@]}" | xargs -P "$lanes" -I{} bash -c 'try_item {} >"$room/{}.said"; cat "$room/{}.said"' || true
 awk '$0 ~ /: [0-9]+ passed, [0-9]+ failed$/ { passed += $(NF - 3); failed += $(NF - 1); next }
