@@ -8,9 +8,9 @@ use Rattle.script_lines.proofs.Piecing.{is_end}
 use Rattle.report_io.specs.declared.fault.ReportFault.{ReportFault}
 use Rattle.report_io.specs.Faults.{HasReason, IsBadLine}
 use Rattle.report_io.proofs.LinesTaken.{AreTaken, last-number, next-number, none-left, rest-all}
+use Rattle.report_io.proofs.Takings.{some-bytes}
 use Rattle.report_io.proofs.LinesTaken.{taken-all, taken-at, taken-more, taken-none, taken-room}
 use Rattle.sm_script.specs.Scenes.{Setting}
-use Rattle.sm_script.proofs.Taking.{some_behind}
 use Rattle.script_draw.specs.declared.draw.Scroll.{Scroll}
 use Rattle.script_draw.specs.declared.draw.Until.{Until}
 use Rattle.script_draw.specs.Played.{IsAhead, asked_number, found, is_reached}
@@ -173,6 +173,6 @@ module _ (script rest : List ℕ) (number : ℕ) (until : Until) (first now : Sc
           subst (λ (ls : List (List ℕ)). (lines_is : whole_lines script ≡ ls) → (there : Reached setting until now ls) →
           IsAhead until setting.pool ls there.scene → PlayLinesHalt setting until now script fault) all-taken
           (λ lines_is there ahead. halted-at-end setting until now script count fault there ahead
-          (λ e. some_behind [] rest some (sym (rest-all script rest along.taken along.takes none) ∙ e))
+          (λ e. some-bytes rest some (sym (rest-all script rest along.taken along.takes none) ∙ e))
           (last-number script rest along.taken along.takes small none number count along.numbered counted) is told)
           all-taken so_far (along-ahead setting far)
