@@ -5,4 +5,6 @@ pub mod Indenting
 pub mod LinesTaken
 pub mod Numbering
 pub mod Reporting
+pub mod ScriptsRead
+pub mod Takings
 pub mod Unindented
