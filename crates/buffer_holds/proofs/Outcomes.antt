@@ -1,5 +1,5 @@
 -- What holds at each outcome of a call.
-use Rattle.std.proofs.Common.{◌≡◌, refl, Result, Ok, Err, IsOk, IsErr, IfOk, OnOk, OnErr}
+use Rattle.std.proofs.Common.{◌≡◌, refl, Option, Some, None, IfNone, Result, Ok, Err, IsOk, IsErr, IfOk, OnOk, OnErr}
 
 module _ {T E : Type 0} where
   -- by the outcome
@@ -31,3 +31,8 @@ module _ {T E : Type 0} where
   pub ok-not-err : (result : Result T E) (fault : E) → IsOk result → result ≡ Err fault → ⊥
   ok-not-err (Ok value) fault is same = cc
   ok-not-err (Err other) fault is same = cc
+
+-- what follows from what holds at `None`
+pub at_none : {T : Type 0} {P Q : Type 0} (o : Option T) → (P → Q) → IfNone o P → IfNone o Q
+at_none None f p = f p
+at_none (Some value) f p = p

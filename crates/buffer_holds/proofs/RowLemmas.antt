@@ -112,6 +112,10 @@ module _ {K X S : Type 0} (eq : K → K → Bool) (m : HashMap K X S) (place : �
   this : read.0.now ≡ key
   this = ap (λ (o : Option (K × X)). (unwrap_or o (key, v)).0) (sym pair ∙ stands)
 
+  -- the value that was read stands at the place under the given key
+  pub stands_read_at : slice_get m.entries place ≡ Some (key, read.1.now)
+  stands_read_at = pair ∙ ap (λ k. Some (k, read.1.now)) this
+
   -- a look-up of the key finds the value that was read at its place
   pub lookup_read_at : lookup (eq key) m.entries ≡ Some read.1.now
   lookup_read_at =

@@ -1,11 +1,7 @@
-pub mod Cells
 pub mod Changes
 pub mod Counts
+pub mod Gains
 pub mod Kinds
-pub mod PagedRows
-pub mod PagedTallies
 pub mod Pages
 pub mod Rows
-pub mod Runs
-pub mod Sound
-pub mod Stored
+pub mod Sums

@@ -1,5 +1,5 @@
 -- The entries of a map from keys to counts, and what becomes of them when one changes.
-use Rattle.std.specs.Prelude.{◌≡◌, ℕ, ◌+◌, Bool, if◌then◌else◌, List, Option, Some, None, sum_by, unwrap_or, is_some, slice_get, length}
+use Rattle.std.specs.Prelude.{◌≡◌, ℕ, ◌+◌, Bool, if◌then◌else◌, List, Option, Some, None, sum_by, slice_get}
 use Rattle.std.specs.List.{IsDistinct}
 use Rattle.std.specs.Map.{lookup, keys_of}
 use Rattle.buffer_holds.specs.declared.kinds.Hold.{Hold}
@@ -8,10 +8,6 @@ use Rattle.buffer_holds.specs.Kinds.{same_hold}
 -- the row of this hold
 abbrev pub row_at : List (Hold × ℕ) → Hold → Option ℕ
 row_at rows hold = lookup (same_hold hold) rows
-
--- the count of this hold, 0 without a row
-abbrev pub count_at : List (Hold × ℕ) → Hold → ℕ
-count_at rows hold = unwrap_or (row_at rows hold) 0
 
 module _ {K X : Type 0} where
   -- what the entry at this key weighs, 0 without one
@@ -29,14 +25,3 @@ module _ {K X : Type 0} where
     pub finds : (other : K) → lookup (same other) new ≡ (if same key other then now else lookup (same other) old)
     pub weighs : (weight : K × X → ℕ) → sum_by weight new + weight_at weight key was ≡ sum_by weight old + weight_at weight key now
     pub distinct : IsDistinct same (keys_of new)
-
-  -- the entries are as they were, in whatever order
-  pub record Keeps (same : K → K → Bool) (old new : List (K × X)) : Type 0 where
-    pub finds : (other : K) → lookup (same other) new ≡ lookup (same other) old
-    pub weighs : (weight : K × X → ℕ) → sum_by weight new ≡ sum_by weight old
-    pub distinct : IsDistinct same (keys_of new)
-
--- one handle more: only a new row makes the rows longer
-pub record Raises (old new : List (Hold × ℕ)) (hold : Hold) : Type 0 where
-  pub resets : Resets same_hold old new hold (row_at old hold) (Some (count_at old hold + 1))
-  pub longer : length new ≡ length old + (if is_some (row_at old hold) then 0 else 1)

@@ -1,23 +1,25 @@
 //! The counts of open handles.
-ghost use Rattle.std.specs.Prelude.{[], ℕ, ◌≡◌, ◌+◌, ◌-◌, ◌/◌, ◌^◌, ◌<◌, ◌≤◌, ◌↔◌, true, IsOk, IsTrue, OnOk, OnErr, IsErrOf, IsOkUnless};
+ghost use Rattle.std.specs.Prelude.{[], ℕ, ◌≡◌, ◌+◌, ◌-◌, ◌<◌, ◌≤◌, ◌↔◌, true, IsOk, IsTrue, OnOk, OnErr, IsErrOf, IsOkUnless};
 ghost use Rattle.std.specs.Bool.{OnTrue, OnFalse};
-ghost use Rattle.std.specs.Int.{bit_at};
 ghost use Rattle.std.specs.List.{IsDistinct};
 ghost use Rattle.std.specs.Map.{keys_of};
 ghost use Rattle.sm_names.specs.Handles.{is_doomed, is_home};
-ghost use Rattle.buffer_holds.specs.Counts.{Counts, HasPlaces, of, moving_count, total, has_handle_room};
-ghost use Rattle.buffer_holds.specs.Kinds.{same_hold};
-ghost use Rattle.buffer_holds.specs.Changes.{AddsSet, Sets, Tidies};
+ghost use Rattle.buffer_holds.specs.Counts.{HasPlaces, of, moving_count, total, has_handle_room};
+ghost use Rattle.buffer_holds.specs.Kinds.{kind_of, same_hold};
+ghost use Rattle.buffer_holds.specs.Gains.{Gains, HasRoomIn};
+ghost use Rattle.buffer_holds.specs.Pages.{part_of, same_part, IsIn};
+ghost use Rattle.buffer_holds.specs.Changes.{Sets, Tidies};
 
-use crate::client_rows::{Rows, count_of, few_rows, forget, lower, make_room, no_rows, raise};
 use crate::fault::HoldFault;
 use crate::hashing::CountHash;
 use crate::kinds::{HandleKind, Hold};
 use crate::last::Last;
-use crate::runs::open_run;
-use crate::tally_pages::{
-    Tallies, change, leave, no_tallies, none_open, open, open_there, tally_of, total_of,
-};
+use crate::names::{Owner, owner_of, part_of, slot_of};
+use crate::places::{find_places, keep_blank};
+use crate::rows::{Rows, clear, count_of, lower, raise, row_place};
+use crate::spares::{Spares, make_spares};
+use crate::sums::{Sums, close, land, lift, moving_of, open, sum_place, total_of};
+use indexmap::IndexMap;
 use sm_names::{BufferName, ClientId, CollectionId, NoMemory, Strength};
 use std::alloc::Global;
 use std::marker::Model;
@@ -34,27 +36,29 @@ use std::marker::Model;
 /// memory. A room that was taken back is used again; the memory is as much as was needed at once, with
 /// a page more for each place, and one more in each table.
 ///
-/// The counts stand in pages of 32 buffers and both strengths: one for each client and half of a collection
-/// that has a row, and one for each half with the sums over all clients. Each call looks for one client's
-/// page, for the page of the sums, or for both, and never looks at all clients: a look-up is one at the place
-/// where the last one ended, and where the page stands elsewhere one in a hash table. So the buffers of one
-/// half, one after the other, cost one look-up. Where the last one ended changes what a call costs, and no
-/// count. The last page that lost its rows stays in its table, so that a client which comes and goes takes no
-/// memory; others are kept for the next page that is needed. A new page is amortised: where a table grows, its
-/// entries are moved, and no page is.
+/// The counts stand in pages of 64 buffers and both strengths: one for each client and collection that has a
+/// row, and two for each collection with the sums over all clients. Each call looks for one client's
+/// page, for the sum, or for both, and never looks at all clients: a look-up is one at the place
+/// where the last one ended, and where the page stands elsewhere one in a hash table. Where the last one ended changes
+/// what a call costs, and no count. The page that lost its rows last stays in its table, so that a client which comes
+/// and goes takes no memory; others are kept for the next page that is needed. A new page is amortised: where a table
+/// grows, its entries are moved, and no page is.
 #[derive(Drop)]
 pub struct Holds {
-    limit: u32,
+    pub(crate) limit: u32,
     // No more than this many of one kind were ever open: the limit at most.
-    most: u32,
+    pub(crate) most: u32,
     // No handle was ever opened on a buffer of a collection with a greater id. Most collections from which nobody took
     // are newer, and need no look-up.
-    newest: CollectionId,
+    pub(crate) newest: CollectionId,
     // As many places are free among the rows.
-    places: u32,
-    rows: Rows,
-    tallies: Tallies,
-    last: Last,
+    pub(crate) places: u32,
+    pub(crate) rows: Rows,
+    pub(crate) sums: Sums,
+    pub(crate) spares: Spares,
+    // Where the page stands that became blank last, if it is there still.
+    blank: usize,
+    pub(crate) last: Last,
 }
 
 impl Model for Holds {
@@ -62,21 +66,24 @@ impl Model for Holds {
 
     ghost Value = { Counts };
 
-    ghost use Rattle.std.specs.Prelude.{◌≤◌};
-    ghost use Rattle.buffer_holds.specs.Sound.{NoneIsNewer, TotalsAreUpTo, CountsInvariant, parcels_in};
+    ghost use Rattle.std.specs.Prelude.{◌≤◌, length, All};
+    ghost use Rattle.indexmap.specs.IndexMap.{spare};
+    ghost use Rattle.buffer_holds.specs.Pages.{rows_in, IsBlank};
+    ghost use Rattle.buffer_holds.specs.Sums.{parcels_in, Agrees, AreUpTo};
 
     ghost view = { λ h. record {
       limit = h.limit;
       places = h.places;
-      rows = h.rows.entries;
-      parcels = parcels_in h.tallies.entries;
+      rows = rows_in h.rows.entries;
+      parcels = parcels_in h.sums.entries;
     } };
 
-    ghost invariant = { λ h. CountsInvariant h.limit h.rows.entries h.tallies.entries
-        × TotalsAreUpTo h.most h.tallies.entries
-        × (h.places ≤ h.rows.room)
-        × NoneIsNewer h.newest h.tallies.entries
-        × (h.most ≤ h.limit) };
+    ghost invariant = { λ h. Agrees h.newest h.rows.entries h.sums.entries
+        × AreUpTo h.most h.sums.entries
+        × (h.most ≤ h.limit)
+        × (h.places ≤ spare h.rows)
+        × (h.places ≤ length h.spares.pages.items)
+        × All IsBlank h.spares.pages.items };
 }
 
 impl Holds {
@@ -100,8 +107,13 @@ impl Holds {
             most: 0,
             newest: 0,
             places: 0,
-            rows: no_rows(alloc, hash),
-            tallies: no_tallies(alloc, hash),
+            rows: IndexMap::with_hasher(alloc, hash),
+            sums: IndexMap::with_hasher(alloc, hash),
+            spares: Spares {
+                pages: Vec::new(alloc),
+                alloc,
+            },
+            blank: usize::MAX,
             last: Last::new(),
         }
     }
@@ -113,7 +125,8 @@ impl Holds {
         ensures { result ≡ of self.now client buffer strength }
     {
         let kind = HandleKind { buffer, strength };
-        count_of(&self.rows, Hold { client, kind }, &self.last.row)
+        let owner = owner_of(Hold { client, kind });
+        count_of(&self.rows, owner, slot_of(kind), &self.last.row)
     }
 
     /// How many of these handles are in parcels. One look-up.
@@ -121,7 +134,13 @@ impl Holds {
         ensures { result ≡ moving_count self.now buffer strength }
     {
         let kind = HandleKind { buffer, strength };
-        tally_of(&self.tallies, kind, &self.last.tally).moving
+        moving_of(
+            &self.sums,
+            self.newest,
+            part_of(kind),
+            slot_of(kind),
+            &self.last.sum,
+        )
     }
 
     /// How many of these handles are open, in parcels and out of them: what was opened, less what
@@ -134,7 +153,13 @@ impl Holds {
         ensures one_row_each { IsDistinct same_hold (keys_of self.now.rows) }
     {
         let kind = HandleKind { buffer, strength };
-        total_of(&self.tallies, kind, &self.last.tally)
+        total_of(
+            &self.sums,
+            self.newest,
+            part_of(kind),
+            slot_of(kind),
+            &self.last.sum,
+        )
     }
 
     /// Whether it is known of each kind of handle that fewer are open than may be. It is, until as many
@@ -181,7 +206,9 @@ impl Holds {
         if self.is_unopened(buffer) {
             return true;
         }
-        none_open(&self.tallies, buffer, &self.last.tally)
+        let strong = self.total(buffer, Strength::Strong);
+        let weak = self.total(buffer, Strength::Weak);
+        strong == 0 && weak == 0
     }
 
     /// Opens one more of these handles for the client.
@@ -206,108 +233,46 @@ impl Holds {
         ensures places { self.new.places ≡ self.old.places }
         ensures err { OnErr result (self.new ≡ self.old) }
     {
-        if self.add_there(client, buffer, strength) {
-            return Ok(());
-        }
-        self.add_by_search(client, buffer, strength)
-    }
-
-    // Does what `add` does, where the last look-ups ended in the client's page and in that of the sums, and
-    // more handles of one kind than of this one were ever open. Elsewhere nothing changes.
-    #[inline(always)]
-    fn add_there(&mut self, client: ClientId, buffer: BufferName, strength: Strength) -> bool
-        ensures opened { OnTrue result (Sets self.old self.new client buffer strength
-            (of self.old client buffer strength + 1) (moving_count self.old buffer strength)
-            (total self.old buffer strength + 1)) }
-        ensures fewer { result ≡ true → total self.old buffer strength < self.old.limit }
-        ensures places { self.new.places ≡ self.old.places }
-        ensures unchanged { OnFalse result (self.new ≡ self.old) }
-    {
-        if self.newest < buffer.collection {
-            return false;
-        }
         let kind = HandleKind { buffer, strength };
-        let hold = Hold { client, kind };
-        open_there(
-            &mut self.tallies,
-            &mut self.rows,
-            hold,
-            self.limit,
-            &mut self.most,
-            &self.last,
-        )
+        let owner = owner_of(Hold { client, kind });
+        let slot = slot_of(kind);
+        if self.total(buffer, strength) >= self.limit {
+            return Err(HoldFault::TooMany);
+        }
+        match self.gain(owner, slot, 1) {
+            Ok(()) => Ok(()),
+            Err(NoMemory) => Err(HoldFault::NoMemory),
+        }
     }
 
-    // Does what `add` does. The pages are looked for where the last look-ups ended, and by their hashes.
-    #[inline(never)]
-    fn add_by_search(
-        &mut self,
-        client: ClientId,
-        buffer: BufferName,
-        strength: Strength,
-    ) -> Result<(), HoldFault>
-        ensures opened { OnOk result (Sets self.old self.new client buffer strength
-            (of self.old client buffer strength + 1) (moving_count self.old buffer strength)
-            (total self.old buffer strength + 1)) }
-        ensures too_many { IsErrOf result HoldFault.TooMany
-            ↔ (total self.old buffer strength ≡ self.old.limit) }
-        ensures room { IsTrue (has_handle_room self.old client buffer strength) →
-            IsOkUnless result HoldFault.TooMany }
-        ensures places { self.new.places ≡ self.old.places }
+    // Opens one handle more for the owner in each cell of a set, of whose kinds fewer must be open than may be. An
+    // error changes nothing; there is none where the owner has room in the page.
+    #[inline(always)]
+    pub(crate) fn gain(&mut self, owner: Owner, first: usize, set: u64) -> Result<(), NoMemory>
+        requires near { first < 128 }
+        requires there { (at : ℕ) → IsIn first set at → at < 128 }
+        requires fewer { HasRoomIn self.old owner first set }
+        ensures gained { OnOk result (Gains self.old self.new owner first set) }
+        ensures room { (b : BufferName) (s : Strength) →
+            same_part owner.part (part_of (kind_of b s)) ≡ true →
+            has_handle_room self.old owner.client b s ≡ true → IsOk result }
         ensures err { OnErr result (self.new ≡ self.old) }
     {
-        self.newest = self.newest.max(buffer.collection);
-        let kind = HandleKind { buffer, strength };
-        let hold = Hold { client, kind };
-        open(
-            &mut self.tallies,
+        let Ok(places) = find_places(
             &mut self.rows,
-            hold,
-            self.limit,
-            &mut self.most,
+            &mut self.sums,
+            &mut self.spares,
+            &mut self.newest,
             &self.last,
+            owner,
             self.places,
-        )
-    }
-
-    // Opens a handle on each buffer that the rest of a set has, from this index on to the end of the buffer's
-    // part, if the last look-ups ended in the client's page and in that of the sums. The answer is the index
-    // behind the last buffer that was looked at.
-    #[inline(always)]
-    pub(crate) fn add_run(
-        &mut self,
-        client: ClientId,
-        collection: CollectionId,
-        strength: Strength,
-        rest: u64,
-        index: u8,
-    ) -> u8
-        requires within { index < 64 }
-        requires fewer { (n : ℕ) → bit_at rest n ≡ 1 →
-            total self.old (record { collection = collection; index = index + n }) strength
-            < self.old.limit }
-        ensures opened { (before : Counts) (set : ℕ) → set / 2 ^ index ≡ rest →
-            AddsSet before self.old client collection strength set index →
-            AddsSet before self.new client collection strength set result }
-        ensures from { index ≤ result }
-        ensures near { result ≤ index + 32 }
-        ensures within { result ≤ 64 }
-    {
-        if self.newest < collection {
-            return index;
-        }
-        let buffer = BufferName { collection, index };
-        let kind = HandleKind { buffer, strength };
-        let first = Hold { client, kind };
-        open_run(
-            &mut self.tallies,
-            &mut self.rows,
-            first,
-            rest,
-            self.limit,
-            &mut self.most,
-            &self.last,
-        )
+        ) else {
+            return Err(NoMemory);
+        };
+        raise(&mut self.rows, owner, places.row, first, set);
+        let most = open(&mut self.sums, owner.part, places.sum, first, set);
+        self.most = self.most.max(most);
+        Ok(())
     }
 
     /// Closes one of the client's handles, and answers whether it had one. Without one nothing
@@ -324,11 +289,15 @@ impl Holds {
         ensures unchanged { OnFalse result (self.new ≡ self.old) }
     {
         let kind = HandleKind { buffer, strength };
-        few_rows(&self.rows);
-        if !lower(&mut self.rows, Hold { client, kind }, &self.last.row) {
+        let owner = owner_of(Hold { client, kind });
+        let slot = slot_of(kind);
+        if !lower(&mut self.rows, owner, slot, &self.last.row) {
             return false;
         }
-        change(&mut self.tallies, kind, 1, 0, 0, 0, &self.last.tally);
+        let Some(sum) = sum_place(&self.sums, self.newest, owner.part, &self.last.sum) else {
+            unreachable!();
+        };
+        close(&mut self.sums, owner.part, sum, slot);
         true
     }
 
@@ -339,8 +308,20 @@ impl Holds {
         ensures { Tidies self.old self.new client buffer strength }
     {
         let kind = HandleKind { buffer, strength };
-        if forget(&mut self.rows, Hold { client, kind }, &self.last.row) {
-            leave(&mut self.tallies, kind, &self.last.tally);
+        let owner = owner_of(Hold { client, kind });
+        let Some(row) = row_place(&self.rows, owner, &self.last.row) else {
+            return;
+        };
+        if clear(&mut self.rows, owner, row, slot_of(kind)) && self.blank != row {
+            keep_blank(
+                &mut self.rows,
+                &mut self.sums,
+                &mut self.spares,
+                self.newest,
+                &self.last,
+                &mut self.blank,
+                row,
+            );
         }
     }
 
@@ -356,7 +337,10 @@ impl Holds {
         let Some(places) = self.places.checked_add(1) else {
             return Err(NoMemory);
         };
-        let Ok(()) = make_room(&mut self.rows, places as usize) else {
+        let Ok(()) = self.rows.reserve(places as usize) else {
+            return Err(NoMemory);
+        };
+        let Ok(()) = make_spares(&mut self.spares, places as usize) else {
             return Err(NoMemory);
         };
         self.places = places;
@@ -377,11 +361,15 @@ impl Holds {
         ensures unchanged { OnFalse result (self.new ≡ self.old) }
     {
         let kind = HandleKind { buffer, strength };
-        few_rows(&self.rows);
-        if !lower(&mut self.rows, Hold { client, kind }, &self.last.row) {
+        let owner = owner_of(Hold { client, kind });
+        let slot = slot_of(kind);
+        if !lower(&mut self.rows, owner, slot, &self.last.row) {
             return false;
         }
-        change(&mut self.tallies, kind, 0, 1, 0, 0, &self.last.tally);
+        let Some(sum) = sum_place(&self.sums, self.newest, owner.part, &self.last.sum) else {
+            unreachable!();
+        };
+        lift(&mut self.sums, owner.part, sum, slot);
         true
     }
 
@@ -406,18 +394,23 @@ impl Holds {
         ensures err { OnErr result (self.new ≡ self.old) }
     {
         let kind = HandleKind { buffer, strength };
-        let places = self.places.saturating_sub(1);
-        few_rows(&self.rows);
-        let Ok(more) = raise(
+        let owner = owner_of(Hold { client, kind });
+        let slot = slot_of(kind);
+        let left = self.places.saturating_sub(1);
+        let Ok(places) = find_places(
             &mut self.rows,
-            Hold { client, kind },
-            &self.last.row,
-            places,
+            &mut self.sums,
+            &mut self.spares,
+            &mut self.newest,
+            &self.last,
+            owner,
+            left,
         ) else {
             return Err(NoMemory);
         };
-        change(&mut self.tallies, kind, 0, 0, 1, more, &self.last.tally);
-        self.places = places;
+        raise(&mut self.rows, owner, places.row, slot, 1);
+        land(&mut self.sums, owner.part, places.sum, slot);
+        self.places = left;
         Ok(())
     }
 }

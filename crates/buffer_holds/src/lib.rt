@@ -2,8 +2,6 @@
 //! keeps alive.
 #![tactic(auto)]
 
-mod cells;
-mod client_rows;
 mod fault;
 mod hashing;
 mod holds;
@@ -11,11 +9,11 @@ mod kinds;
 mod last;
 mod names;
 mod page;
-mod runs;
+mod places;
+mod rows;
 mod sets;
-mod tally;
-mod tally_page;
-mod tally_pages;
+mod spares;
+mod sums;
 
 pub use fault::HoldFault;
 pub use hashing::CountHash;

@@ -5,8 +5,8 @@ ghost use Rattle.buffer_holds.specs.Pages.{part_of, owner_of, slot_of};
 use crate::kinds::{HandleKind, Hold};
 use sm_names::{ClientId, CollectionId, Strength};
 
-/// The handles of both strengths on 32 buffers of a collection. The buffers of a collection have the indices 0
-/// to 63, so it has two parts. Names with a greater index are counted in parts of their own.
+/// The handles of both strengths on 64 buffers of a collection. The buffers of a collection have the indices 0
+/// to 63, so it has one part. Names with a greater index are counted in parts of their own.
 #[derive(Clone, Copy, PartialEq, Eq, Hash)]
 pub struct Part {
     pub collection: CollectionId,
@@ -27,7 +27,7 @@ pub(crate) fn part_of(kind: HandleKind) -> Part
 {
     Part {
         collection: kind.buffer.collection,
-        number: kind.buffer.index / 32,
+        number: kind.buffer.index / 64,
     }
 }
 
@@ -46,11 +46,11 @@ pub(crate) fn owner_of(hold: Hold) -> Owner
 #[inline(always)]
 pub(crate) fn slot_of(kind: HandleKind) -> usize
     ensures value { result ≡ slot_of kind }
-    ensures within { result < 64 }
+    ensures within { result < 128 }
 {
-    let place = (kind.buffer.index % 32) as usize;
+    let place = (kind.buffer.index % 64) as usize;
     match kind.strength {
         Strength::Strong => place,
-        Strength::Weak => place + 32,
+        Strength::Weak => place + 64,
     }
 }

@@ -1,19 +1,22 @@
-use Rattle.std.proofs.Common.{ap, arith}
+use Rattle.std.proofs.Common.{◌<◌, ap, arith}
 use Rattle.std.proofs.lemmas.Bool.{ltb-true}
-use Rattle.buffer_holds.specs.Counts.{total}
+use Rattle.buffer_holds.specs.Counts.{Counts, total}
 use Rattle.buffer_holds.specs.Kinds.{kind_of}
-use Rattle.buffer_holds.proofs.SoundLemmas.{total_is}
+use Rattle.buffer_holds.specs.Pages.{part_of, slot_of}
+use Rattle.buffer_holds.proofs.Seen.{total_is}
 use Rattle.buffer_holds.proofs.holds.Holds.have_room.Goals as goal
 
--- no tally has more than the most
+-- no more of any kind are open
 pub returns : goal.returns
-returns c = λ less buffer strength.
+returns c = λ is buffer strength.
     let inside = c.self.inside in
+    let kind = kind_of buffer strength in
+    let less : inside.most < inside.limit = ltb-true inside.most inside.limit is in
     omega (
       arith,
-      ltb-true inside.most inside.limit less,
-      c.self.invariant.1 (kind_of buffer strength),
-      total_is inside.limit inside.rows.entries inside.tallies.entries c.self.invariant.0 buffer strength,
+      less,
+      c.self.invariant.1 (part_of kind) (slot_of kind),
+      total_is inside.limit inside.places c.self.invariant.0 buffer strength,
       ap (λ counts. total counts buffer strength) c.self.view_is,
-      ap (λ counts. counts.limit) c.self.view_is,
+      ap (λ (counts : Counts). counts.limit) c.self.view_is,
     )

@@ -1,11 +1,7 @@
 use Rattle.std.proofs.Common.{◌≡◌, ◌∙◌, ◌==◌, ◌&&◌, Bool, true, false, not, ap, refl, sym}
 use Rattle.sm_names.specs.Handles.{is_home}
-use Rattle.sm_names.specs.declared.keys.Strength.{Strength}
 use Rattle.sm_names.specs.declared.keys.Strength.TheVariants.{Strong, Weak}
 use Rattle.buffer_holds.specs.Counts.{total}
-use Rattle.buffer_holds.specs.Kinds.{kind_of}
-use Rattle.buffer_holds.specs.Sound.{tally_at}
-use Rattle.buffer_holds.proofs.SoundLemmas.{total_is}
 use Rattle.buffer_holds.proofs.holds.Holds.home.Goals as goal
 
 -- it is not home with a strong node
@@ -29,15 +25,3 @@ pub returns-then-is_unopened : goal.returns-then-is_unopened
 returns-then-is_unopened c =
     let none = c.if-is_unopened.ensures refl in
     λ i. is_home (sym (none Strong) i) (sym (none Weak) i) (sym c.if-strong_live.false i)
-
--- the tallies have what is open
-pub returns : goal.returns
-returns c =
-    let inside = c.self.inside in
-    let open_here = λ (s : Strength). sym (total_is inside.limit inside.rows.entries inside.tallies.entries c.self.invariant.0
-    c.args.buffer s)
-    ∙ ap (λ counts. total counts c.args.buffer s) c.self.view_is in
-    c.none_open.ensures
-    ∙ alone ((tally_at inside.tallies.entries (kind_of c.args.buffer Strong)).total == 0)
-    ((tally_at inside.tallies.entries (kind_of c.args.buffer Weak)).total == 0)
-    ∙ (λ i. is_home (open_here Strong i) (open_here Weak i) (sym c.if-strong_live.false i))

@@ -1,17 +1,18 @@
-use Rattle.std.proofs.Common.{ap, arith}
+use Rattle.std.proofs.Common.{◌∙◌, ap, sym}
 use Rattle.std.proofs.lemmas.Bool.{ltb-true}
 use Rattle.buffer_holds.specs.Counts.{total}
 use Rattle.buffer_holds.specs.Kinds.{kind_of}
-use Rattle.buffer_holds.proofs.SoundLemmas.{total_is}
+use Rattle.buffer_holds.specs.Pages.{count_in, part_of, slot_of}
+use Rattle.buffer_holds.specs.Sums.{sum_of}
+use Rattle.buffer_holds.proofs.Seen.{total_is}
 use Rattle.buffer_holds.proofs.holds.Holds.is_unopened.Goals as goal
 
--- its tally, of a newer collection, has none open
+-- no part of a newer collection has a sum
 pub returns : goal.returns
-returns c = λ less strength.
+returns c = λ is strength.
     let inside = c.self.inside in
-    omega (
-      arith,
-      c.self.invariant.3 (kind_of c.args.buffer strength) (ltb-true inside.newest c.args.buffer.collection less),
-      total_is inside.limit inside.rows.entries inside.tallies.entries c.self.invariant.0 c.args.buffer strength,
-      ap (λ counts. total counts c.args.buffer strength) c.self.view_is,
-    )
+    let part = part_of (kind_of c.args.buffer strength) in
+    let none = c.self.invariant.0.newer part (ltb-true inside.newest c.args.buffer.collection is) in
+    sym (ap (λ counts. total counts c.args.buffer strength) c.self.view_is)
+    ∙ total_is inside.limit inside.places c.self.invariant.0 c.args.buffer strength
+    ∙ ap (λ o. count_in (sum_of o).totals (slot_of (kind_of c.args.buffer strength))) none

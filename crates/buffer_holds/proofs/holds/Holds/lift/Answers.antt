@@ -1,100 +1,106 @@
-use Rattle.std.proofs.Common.{◌-◌, ◌+◌, refl, ap, subst, arith, Some}
-use Rattle.buffer_holds.specs.declared.tally.Tally.{Tally}
-use Rattle.buffer_holds.specs.Kinds.{hold_of, same_handle_kind}
-use Rattle.buffer_holds.specs.Rows.{row_at, Resets}
-use Rattle.buffer_holds.specs.Sound.{tally_at, tally_row}
-use Rattle.buffer_holds.proofs.Most.{newer_after, up_to_after}
-use Rattle.buffer_holds.proofs.SoundLemmas.{count_at-le-total, kept_from_something, one_row-le-clients, one_row-some}
-use Rattle.buffer_holds.proofs.TallyCells.{lifted_one}
-use Rattle.buffer_holds.proofs.Steps.{Step-lowered, sound_after, sets_by}
-use Rattle.buffer_holds.proofs.holds.Holds.lift.Goals.{After-change}
+use Rattle.std.proofs.Common.{ℕ, ◌≡◌, ◌==◌, ◌+◌, ◌-◌, ◌<◌, ◌≤◌, ◌↔◌, arith, refl, subst, if◌then◌else◌}
+use Rattle.std.proofs.Common.{Some, IsSome, IsTrue, Bool, true, false}
+use Rattle.std.proofs.lemmas.Bool.{false≢true}
+use Rattle.buffer_holds.specs.declared.names.Part.{Part}
+use Rattle.buffer_holds.specs.Counts.{of}
+use Rattle.buffer_holds.specs.Kinds.{hold_of, kind_of}
+use Rattle.buffer_holds.specs.Pages.{cell_at, count_in, owner_of, part_of, slot_of}
+use Rattle.buffer_holds.specs.Sums.{page_in, sum_in, Agrees, PageBecomes, SumBecomes}
+use Rattle.buffer_holds.proofs.Moves.{agrees_moved, alike_itself, count_seen, itself_at, page_mine, sets_moved, sum_mine, sum_told}
+use Rattle.buffer_holds.proofs.Sound.{count-has-page, held-le-total, page-has-sum, sum-is-known, up_to_after}
+use Rattle.buffer_holds.proofs.holds.Holds.lift.Goals.{After-lower, After-lift}
 use Rattle.buffer_holds.proofs.holds.Holds.lift.Goals as goal
 
--- the client has a row, so there is a tally
-pub change-requires-clause-some : goal.change-requires-clause-some
-change-requires-clause-some c =
-    let inside = c.self.inside in
-    let hold = hold_of c.args.client c.args.buffer c.args.strength in
-    kept_from_something (tally_row inside.tallies.entries hold.kind) (omega (
-      arith,
-      one_row-some (row_at inside.rows.entries hold) (c.if-not-lower.ensures.had.0 refl),
-      one_row-le-clients inside.limit inside.rows.entries inside.tallies.entries c.self.invariant.0 hold,
-    ))
+-- the count is that of the cell
+count : (c : After-lower) → count_in (page_in c.self.inside.rows.entries c.owner_of-owner.result) c.slot_of-slot.result
+    ≡ of c.args.self.now c.args.client c.args.buffer c.args.strength
+count c =
+    count_seen c.args.client c.args.buffer c.args.strength c.owner_of-owner.ensures c.slot_of-slot.ensures.value c.self.inside.limit
+    c.self.inside.places c.self.invariant.0 c.self.view_is
 
--- the client's handle is not among those in parcels
-pub change-requires-clause-fits : goal.change-requires-clause-fits
-change-requires-clause-fits c =
-    let inside = c.self.inside in
-    let hold = hold_of c.args.client c.args.buffer c.args.strength in
-    omega (
-      arith,
-      c.if-not-lower.ensures.had.0 refl,
-      count_at-le-total inside.limit inside.rows.entries inside.tallies.entries c.self.invariant.0 hold,
-      (c.self.invariant.0.counted_by_kind hold.kind).within,
-    )
+pub returns-then-not-lower-clause-had : goal.returns-then-not-lower-clause-had
+returns-then-not-lower-clause-had c =
+    subst (λ n. IsTrue false ↔ (0 < n)) (count (goal.at.returns-then-not-lower-clause-had c).After-lower) c.if-not-lower.ensures.had
 
--- and a client that has one
-pub change-requires-clause-left : goal.change-requires-clause-left
-change-requires-clause-left c =
-    let inside = c.self.inside in
-    let hold = hold_of c.args.client c.args.buffer c.args.strength in
-    omega (
-      arith,
-      one_row-some (row_at inside.rows.entries hold) (c.if-not-lower.ensures.had.0 refl),
-      one_row-le-clients inside.limit inside.rows.entries inside.tallies.entries c.self.invariant.0 hold,
-    )
+pub returns-clause-had : goal.returns-clause-had
+returns-clause-had c =
+    subst (λ n. IsTrue true ↔ (0 < n)) (count (goal.at.returns-clause-had c).After-lower) c.if-not-lower.ensures.had
 
--- one tally changes
-after : (c : After-change) → let hold = hold_of c.args.client c.args.buffer c.args.strength in
-    let tally = tally_at c.self.inside.tallies.entries hold.kind in
-    Resets same_handle_kind c.self.inside.tallies.entries c.change.new.tallies.entries hold.kind
-    (tally_row c.self.inside.tallies.entries hold.kind) (Some (record tally { moving = tally.moving + 1 }))
-after c =
-    let kind = (hold_of c.args.client c.args.buffer c.args.strength).kind in
-    let old = c.self.inside.tallies.entries in
-    subst (λ (t : Tally). Resets same_handle_kind old c.change.new.tallies.entries kind (tally_row old kind) (Some t))
-    (lifted_one (tally_at old kind)) c.change.ensures
+-- the client has a page, and so its part a sum
+pub unreachable-requires : goal.unreachable-requires
+unreachable-requires c =
+    let some = page-has-sum c.self.invariant.0 c.owner_of-owner.result (count-has-page c.self.invariant.0 c.owner_of-owner.result
+    c.slot_of-slot.result (c.if-not-lower.ensures.had.0 refl)) in
+    let clash = subst IsSome c.in_default.ensures.none some in
+    absurd (false≢true clash)
 
--- no more clients are counted than there are rows of the kind
-pub change-requires-clause-few : goal.change-requires-clause-few
-change-requires-clause-few c =
-    let kind = (hold_of c.args.client c.args.buffer c.args.strength).kind in
-    omega (arith, c.few_rows.ensures kind, (c.self.invariant.0.counted_by_kind kind).clients)
+-- the page changes
+page : (c : After-lift) → PageBecomes c.self.inside.rows.entries c.lower.new.rows.entries
+    (owner_of (hold_of c.args.client c.args.buffer c.args.strength)) true
+    (λ at. if slot_of (kind_of c.args.buffer c.args.strength) == at then
+    Some (count_in (page_in c.self.inside.rows.entries (owner_of (hold_of c.args.client c.args.buffer c.args.strength)))
+    (slot_of (kind_of c.args.buffer c.args.strength)) - 1) else
+    cell_at (page_in c.self.inside.rows.entries (owner_of (hold_of c.args.client c.args.buffer c.args.strength))) at)
+page c =
+    page_mine c.args.client c.args.buffer c.args.strength c.owner_of-owner.ensures c.slot_of-slot.ensures.value
+    (λ o s at. if s == at then Some (count_in (page_in c.self.inside.rows.entries o) s - 1) else
+    cell_at (page_in c.self.inside.rows.entries o) at) c.if-not-lower.ensures.lowered
+
+-- and the sum with it
+sum : (c : After-lift) → SumBecomes c.self.inside.sums.entries c.lift.new.sums.entries (part_of (kind_of c.args.buffer c.args.strength))
+    (sum_in c.self.inside.sums.entries (part_of (kind_of c.args.buffer c.args.strength))).clients
+    (λ at. if slot_of (kind_of c.args.buffer c.args.strength) == at then
+    count_in (sum_in c.self.inside.sums.entries (part_of (kind_of c.args.buffer c.args.strength))).totals (slot_of (kind_of c.args.buffer c.args.strength)) else count_in (sum_in c.self.inside.sums.entries (part_of (kind_of c.args.buffer c.args.strength))).totals at)
+    (λ at. if slot_of (kind_of c.args.buffer c.args.strength) == at then
+    count_in (sum_in c.self.inside.sums.entries (part_of (kind_of c.args.buffer c.args.strength))).moving (slot_of (kind_of c.args.buffer c.args.strength)) + 1 else count_in (sum_in c.self.inside.sums.entries (part_of (kind_of c.args.buffer c.args.strength))).moving at)
+sum c =
+    sum_told _ _ (sum_mine c.args.client c.args.buffer c.args.strength c.owner_of-owner.ensures c.slot_of-slot.ensures.value
+    (λ (p : Part) (s : ℕ) (at : ℕ). count_in (sum_in c.self.inside.sums.entries p).totals at)
+    (λ (p : Part) (s : ℕ) (at : ℕ). if s == at then count_in (sum_in c.self.inside.sums.entries p).moving s + 1 else count_in (sum_in c.self.inside.sums.entries p).moving at)
+    c.lift.ensures) (itself_at (slot_of (kind_of c.args.buffer c.args.strength)) (count_in (sum_in c.self.inside.sums.entries (part_of (kind_of c.args.buffer c.args.strength))).totals)) (λ at. refl)
+
+-- the client's handle is one of all
+among : (c : After-lift) → 0 < count_in (page_in c.self.inside.rows.entries (owner_of (hold_of c.args.client c.args.buffer c.args.strength)))
+    (slot_of (kind_of c.args.buffer c.args.strength))
+among c =
+    subst (λ n. 0 < n) (λ i. count_in (page_in c.self.inside.rows.entries (c.owner_of-owner.ensures i)) (c.slot_of-slot.ensures.value i))
+    (c.if-not-lower.ensures.had.0 refl)
+
+-- pages and sums agree still
+agreed : (c : After-lift) → Agrees c.self.inside.newest c.lower.new.rows.entries c.lift.new.sums.entries
+agreed c =
+    let agrees = c.self.invariant.0 in
+    let owner = owner_of (hold_of c.args.client c.args.buffer c.args.strength) in
+    let slot = slot_of (kind_of c.args.buffer c.args.strength) in
+    let some = count-has-page agrees owner slot (among c) in
+    agrees_moved c.args.client c.args.buffer c.args.strength agrees (λ n. n - 1) (λ n. n + 1) (λ n. n) (page c) (sum c)
+    (omega (arith, among c, held-le-total agrees owner slot)) some (sum-is-known agrees owner.part (page-has-sum agrees owner some))
 
 pub invariant_of-self-2 : goal.invariant_of-self-2
 invariant_of-self-2 c =
-    let inside = c.self.inside in
-    let hold = hold_of c.args.client c.args.buffer c.args.strength in
-    let tally = tally_at inside.tallies.entries hold.kind in
-    let left : Tally = record tally { moving = tally.moving + 1 } in
-    let had = c.if-not-lower.ensures.had.0 refl in
-    let among = count_at-le-total inside.limit inside.rows.entries inside.tallies.entries c.self.invariant.0 hold in
-    let turned = after (goal.at.invariant_of-self-2 c).After-change in (
-      sound_after (Step-lowered inside.limit inside.rows.entries c.lower.new.rows.entries
-          inside.tallies.entries _ c.self.invariant.0 hold left
-          turned
-          had c.if-not-lower.ensures.lowered
-          refl (omega arith)
-          (omega (arith, had, among))),
-      up_to_after inside.most inside.most inside.tallies.entries _ hold.kind _ (Some left) turned (omega arith)
-          (omega (arith, c.self.invariant.1 hold.kind)) c.self.invariant.1,
-      omega (arith, c.self.invariant.2, c.if-not-lower.ensures.places),
-      newer_after inside.newest inside.newest inside.tallies.entries _ hold.kind _ (Some left) turned (omega arith)
-          (λ later. omega (arith, c.self.invariant.3 hold.kind later)) c.self.invariant.3,
+    let at = (goal.at.invariant_of-self-2 c).After-lift in (
+      agreed at,
+      up_to_after (owner_of (hold_of c.args.client c.args.buffer c.args.strength)) (page at) (sum at) c.self.inside.most c.self.inside.most
+          c.self.invariant.1 (omega arith) (λ n. less n (slot_of (kind_of c.args.buffer c.args.strength) == n)),
+      c.self.invariant.2,
+      omega (arith, c.self.invariant.3, c.lower.ensures.room),
       c.self.invariant.4,
+      c.self.invariant.5,
     )
+  where
+    less : (n : ℕ) (b : Bool) → (if b then count_in (sum_in c.self.inside.sums.entries (part_of (kind_of c.args.buffer c.args.strength))).totals
+        (slot_of (kind_of c.args.buffer c.args.strength)) else
+        count_in (sum_in c.self.inside.sums.entries (part_of (kind_of c.args.buffer c.args.strength))).totals n) ≤ c.self.inside.most
+    less n true =
+        omega (
+          arith,
+          c.self.invariant.1 (part_of (kind_of c.args.buffer c.args.strength)) (slot_of (kind_of c.args.buffer c.args.strength)),
+        )
+    less n false = c.self.invariant.1 (part_of (kind_of c.args.buffer c.args.strength)) n
 
 pub returns-clause-lifted : goal.returns-clause-lifted
 returns-clause-lifted c =
-    let inside = c.self.inside in
-    let hold = hold_of c.args.client c.args.buffer c.args.strength in
-    let tally = tally_at inside.tallies.entries hold.kind in
-    let left : Tally = record tally { moving = tally.moving + 1 } in
-    let had = c.if-not-lower.ensures.had.0 refl in
-    let among = count_at-le-total inside.limit inside.rows.entries inside.tallies.entries c.self.invariant.0 hold in
-    let step = Step-lowered inside.limit inside.rows.entries c.lower.new.rows.entries inside.tallies.entries _ c.self.invariant.0 hold left
-    (after (goal.at.returns-clause-lifted c).After-change) had c.if-not-lower.ensures.lowered
-    refl (omega arith)
-    (omega (arith, had, among)) in
-    sets_by c.args.client c.args.buffer c.args.strength step c.args.self.now c.self.view_is (λ n. n - 1) (λ n. n + 1) (λ n. n)
-    refl refl refl
+    let at = (goal.at.returns-clause-lifted c).After-lift in
+    sets_moved c.args.client c.args.buffer c.args.strength c.self.invariant.0 (λ n. n - 1) (λ n. n + 1) (λ n. n) (page at) (sum at) c.self.inside.limit
+    c.self.inside.places c.self.inside.places c.args.self.now c.self.invariant.0
+    (alike_itself c.self.inside.rows.entries c.self.inside.sums.entries) c.self.view_is (agreed at)

@@ -1,35 +1,87 @@
-use Rattle.std.proofs.Common.{refl, arith}
-use Rattle.buffer_holds.specs.Kinds.{hold_of}
-use Rattle.buffer_holds.proofs.Most.{newer_without, up_to_without}
-use Rattle.buffer_holds.proofs.Steps.{Step-forgotten, forgotten_moving, forgotten_total, sound_after, tidies_after}
+use Rattle.std.proofs.Common.{◌≡◌, ◌==◌, ap, arith, is_some, subst, sym, if◌then◌else◌, true, IsSome, None}
+use Rattle.std.specs.Map.{lookup}
+use Rattle.buffer_holds.specs.Changes.{Tidies}
+use Rattle.buffer_holds.specs.Kinds.{hold_of, kind_of}
+use Rattle.buffer_holds.specs.Pages.{cell_at, owner_of, same_owner, slot_of, tidied}
+use Rattle.buffer_holds.specs.Sums.{page_in, Agrees, PageBecomes}
+use Rattle.buffer_holds.proofs.Moves.{agrees_tidied, alike_itself, page_mine, tidies_after, tidies_none}
+use Rattle.buffer_holds.proofs.Seen.{seen}
+use Rattle.buffer_holds.proofs.Written.{page_found}
+use Rattle.buffer_holds.proofs.holds.Holds.tidy.Goals.{After-clear, else-clear-via-then-clear+else-self-row, else-clear-via-else-clear}
 use Rattle.buffer_holds.proofs.holds.Holds.tidy.Goals as goal
 
-pub invariant_of-self : goal.invariant_of-self
-invariant_of-self c =
-    let inside = c.self.inside in
-    let hold = hold_of c.args.client c.args.buffer c.args.strength in (
-      sound_after (Step-forgotten inside.limit inside.rows.entries c.forget.new.rows.entries inside.tallies.entries
-          c.leave.new.tallies.entries c.self.invariant.0 hold
-          (c.if-forget.ensures.idle.0 refl) c.if-forget.ensures.forgotten c.leave.ensures),
-      up_to_without inside.most inside.tallies.entries c.leave.new.tallies.entries hold.kind c.leave.ensures c.self.invariant.1,
-      omega (arith, c.self.invariant.2, c.if-forget.ensures.places),
-      newer_without inside.newest inside.tallies.entries c.leave.new.tallies.entries hold.kind c.leave.ensures c.self.invariant.3,
-      c.self.invariant.4,
-    )
+-- without a page there is nothing to tidy
+pub returns-in_default : goal.returns-in_default
+returns-in_default c =
+    subst (λ counts. Tidies counts counts c.args.client c.args.buffer c.args.strength) c.self.view_is
+    (tidies_none c.self.inside.limit c.self.inside.places c.self.invariant.0 c.args.client c.args.buffer c.args.strength
+    (subst (λ o. lookup (same_owner o) c.self.inside.rows.entries ≡ None) c.owner_of-owner.ensures c.in_default.ensures.none))
 
-pub returns-then-forget : goal.returns-then-forget
-returns-then-forget c =
-    let inside = c.self.inside in
-    let hold = hold_of c.args.client c.args.buffer c.args.strength in
-    let idle = c.if-forget.ensures.idle.0 refl in
-    let gone = c.if-forget.ensures.forgotten in
-    let rows = inside.rows.entries in
-    let rows' = c.forget.new.rows.entries in
-    let tallies = inside.tallies.entries in
-    let tallies' = c.leave.new.tallies.entries in
-    tidies_after c.args.client c.args.buffer c.args.strength
-    (Step-forgotten inside.limit rows rows' tallies tallies' c.self.invariant.0 hold idle gone c.leave.ensures)
-    c.args.self.now c.self.view_is
-    idle refl
-    (forgotten_moving inside.limit rows rows' tallies tallies' c.self.invariant.0 hold idle gone c.leave.ensures)
-    (forgotten_total inside.limit rows rows' tallies tallies' c.self.invariant.0 hold idle gone c.leave.ensures)
+-- the cell is emptied
+page : (c : After-clear) → PageBecomes c.self.inside.rows.entries c.clear.new.rows.entries
+    (owner_of (hold_of c.args.client c.args.buffer c.args.strength)) true
+    (λ at. if slot_of (kind_of c.args.buffer c.args.strength) == at then
+    tidied (cell_at (page_in c.self.inside.rows.entries (owner_of (hold_of c.args.client c.args.buffer c.args.strength)))
+    (slot_of (kind_of c.args.buffer c.args.strength))) else
+    cell_at (page_in c.self.inside.rows.entries (owner_of (hold_of c.args.client c.args.buffer c.args.strength))) at)
+page c =
+    page_mine c.args.client c.args.buffer c.args.strength c.owner_of-owner.ensures c.slot_of.ensures.value
+    (λ o s at. if s == at then tidied (cell_at (page_in c.self.inside.rows.entries o) s) else
+    cell_at (page_in c.self.inside.rows.entries o) at) c.clear.ensures.tidied
+
+-- pages and sums agree still
+agreed : (c : After-clear) → Agrees c.self.inside.newest c.clear.new.rows.entries c.self.inside.sums.entries
+agreed c =
+    agrees_tidied c.self.invariant.0 c.args.client c.args.buffer c.args.strength (page c)
+    (subst (λ o. IsSome (lookup (same_owner o) c.self.inside.rows.entries)) c.owner_of-owner.ensures
+    (ap is_some (page_found c.self.inside.rows c.self.inside.rows c.owner_of-owner.result c.in-Some.row c.in-Some.ensures.found.0
+    c.in-Some.ensures.found.1 c.self.invariant.0.rows_distinct)))
+
+pub keep_blank-requires-clause-agrees : goal.keep_blank-requires-clause-agrees
+keep_blank-requires-clause-agrees c = agreed (goal.at.keep_blank-requires-clause-agrees c).After-clear
+
+-- the page stays
+pub invariant_of-self-else-self-row : goal.invariant_of-self-else-self-row
+invariant_of-self-else-self-row c = (
+  agreed (goal.at.invariant_of-self-else-self-row c).After-clear,
+  c.self.invariant.1,
+  c.self.invariant.2,
+  omega (arith, c.self.invariant.3, c.clear.ensures.room),
+  c.self.invariant.4,
+  c.self.invariant.5,
+)
+
+pub invariant_of-self-else-clear : goal.invariant_of-self-else-clear
+invariant_of-self-else-clear c = (
+  agreed (goal.at.invariant_of-self-else-clear c).After-clear,
+  c.self.invariant.1,
+  c.self.invariant.2,
+  omega (arith, c.self.invariant.3, c.clear.ensures.room),
+  c.self.invariant.4,
+  c.self.invariant.5,
+)
+
+-- another one may go
+pub returns-then-self-row : goal.returns-then-self-row
+returns-then-self-row c =
+    tidies_after c.self.invariant.0 c.args.client c.args.buffer c.args.strength (page (goal.at.returns-then-self-row c).After-clear)
+    c.self.inside.limit c.self.inside.places c.args.self.now c.keep_blank.ensures.alike c.self.view_is c.keep_blank.ensures.agrees
+
+-- or none
+tidies : (c : After-clear) → Tidies c.args.self.now
+    (seen c.self.inside.limit c.self.inside.places c.clear.new.rows.entries c.self.inside.sums.entries) c.args.client c.args.buffer
+    c.args.strength
+tidies c =
+    tidies_after c.self.invariant.0 c.args.client c.args.buffer c.args.strength (page c) c.self.inside.limit c.self.inside.places
+    c.args.self.now (alike_itself c.clear.new.rows.entries c.self.inside.sums.entries) c.self.view_is (agreed c)
+
+pub returns-else-clear : goal.returns-else-clear
+returns-else-clear c =
+    subst (λ counts. Tidies c.args.self.now counts c.args.client c.args.buffer c.args.strength) is
+    (tidies (goal.at.returns-else-clear c).After-clear)
+  where
+    is : seen c.self.inside.limit c.self.inside.places c.clear.new.rows.entries c.self.inside.sums.entries ≡ c.else-clear.self
+    is = elim c.else-clear.branch [
+      | else-clear-via-then-clear+else-self-row w ↦ sym w.self-is
+      | else-clear-via-else-clear w ↦ sym w.self-is
+    ]

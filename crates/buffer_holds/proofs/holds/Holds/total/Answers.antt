@@ -1,12 +1,37 @@
-use Rattle.std.proofs.Common.{sym, ap, ◌∙◌}
-use Rattle.buffer_holds.specs.Counts.{total}
-use Rattle.buffer_holds.proofs.SoundLemmas.{total_is}
+use Rattle.std.proofs.Common.{◌∙◌, ap, arith, subst, sym}
+use Rattle.std.specs.List.{IsDistinct}
+use Rattle.std.specs.Map.{keys_of}
+use Rattle.buffer_holds.specs.Counts.{Counts, total}
+use Rattle.buffer_holds.specs.Kinds.{same_hold}
+use Rattle.buffer_holds.specs.Pages.{count_in, hold_at, page_size, same_owner}
+use Rattle.buffer_holds.specs.Sums.{sum_in}
+use Rattle.buffer_holds.proofs.PageLemmas.{distinct_flat}
+use Rattle.buffer_holds.proofs.PageNames.{hold_law, same_owner-one, same_owner-refl}
+use Rattle.buffer_holds.proofs.Seen.{total_is}
 use Rattle.buffer_holds.proofs.holds.Holds.total.Goals as goal
 
--- the tally has it
+-- the sum has it
 pub returns-clause-value : goal.returns-clause-value
 returns-clause-value c =
     let inside = c.self.inside in
     c.total_of.ensures
-    ∙ sym (total_is inside.limit inside.rows.entries inside.tallies.entries c.self.invariant.0 c.args.buffer c.args.strength)
+    ∙ (λ i. count_in (sum_in inside.sums.entries (c.part_of.ensures i)).totals (c.slot_of.ensures.value i))
+    ∙ sym (total_is inside.limit inside.places c.self.invariant.0 c.args.buffer c.args.strength)
     ∙ ap (λ counts. total counts c.args.buffer c.args.strength) c.self.view_is
+
+pub returns-clause-within : goal.returns-clause-within
+returns-clause-within c =
+    omega (
+      arith,
+      c.total_of.ensures,
+      c.self.invariant.1 c.part_of.result c.slot_of.result,
+      c.self.invariant.2,
+      ap (λ (counts : Counts). counts.limit) c.self.view_is,
+    )
+
+-- no owner has two pages
+pub returns-clause-one_row_each : goal.returns-clause-one_row_each
+returns-clause-one_row_each c =
+    subst (λ (counts : Counts). IsDistinct same_hold (keys_of counts.rows)) c.self.view_is
+    (distinct_flat hold_at page_size same_owner same_hold hold_law same_owner-one same_owner-refl c.self.inside.rows.entries
+    c.self.invariant.0.rows_distinct)

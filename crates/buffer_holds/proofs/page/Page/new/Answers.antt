@@ -1,12 +1,14 @@
-use Rattle.std.proofs.Common.{◌≡◌, refl, ℕ, zero, suc, replicate, None}
-use Rattle.buffer_holds.specs.Pages.{cell_at}
+use Rattle.std.proofs.Common.{refl, replicate, subst, sym}
+use Rattle.buffer_holds.specs.declared.page.Cells.{Cells}
+use Rattle.buffer_holds.specs.Pages.{masked, IsBlank, IsMasked}
+use Rattle.buffer_holds.proofs.Masks.{blank_masked, none_in}
 use Rattle.buffer_holds.proofs.page.Page.new.Goals as goal
 
--- a list of empty cells has an empty cell everywhere
-blank : {X : Type 0} (n at : ℕ) → cell_at {X = X} (replicate n None) at ≡ None
-blank zero at = refl
-blank (suc n) zero = refl
-blank (suc n) (suc at) = blank n at
+-- no count has a bit
+pub invariant_of-result : goal.invariant_of-result
+invariant_of-result c =
+    subst (λ (v : Cells). IsMasked v.full v.counts) (sym c.in-Ok.ensures.ok) (refl, λ at none. none_in 128 at)
 
-pub returns : goal.returns
-returns c = λ at. blank 64 at
+pub returns-in-Ok : goal.returns-in-Ok
+returns-in-Ok c =
+    subst (λ (v : Cells). IsBlank (masked v.full v.counts)) (sym c.in-Ok.ensures.ok) (blank_masked 0 (replicate 128 0) refl)

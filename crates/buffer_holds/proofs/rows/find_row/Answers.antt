@@ -1,0 +1,13 @@
+use Rattle.std.proofs.Common.{◌≡◌, sym, subst, ap, ◌∙◌, true, Some}
+use Rattle.std.proofs.lemmas.Map.Made.{lookup_key_passes}
+use Rattle.buffer_holds.proofs.PageNames.{derived_owner, same_owner-one}
+use Rattle.buffer_holds.proofs.rows.find_row.Goals as goal
+
+-- a look-up found it
+pub returns-in-Some-clause-found : goal.returns-in-Some-clause-found
+returns-in-Some-clause-found c =
+    let key = c.in-Some.field-0-1.now in
+    let value = c.in-Some.field-0-2.now in
+    let passes = lookup_key_passes _ c.args.rows.now.entries key (sym c.in-Some.ensures.key) in
+    let this : c.args.owner ≡ key = same_owner-one c.args.owner key (subst (λ test. test c.args.owner key ≡ true) derived_owner passes) in
+    (value, c.in-Some.ensures.entry ∙ ap (λ k. Some (k, value)) (sym this))

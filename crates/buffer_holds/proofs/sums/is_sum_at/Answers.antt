@@ -1,0 +1,12 @@
+use Rattle.std.proofs.Common.{◌≡◌, sym, subst, ap, ◌∙◌, true, Some}
+use Rattle.buffer_holds.proofs.PageNames.{derived_part, same_part-one}
+use Rattle.buffer_holds.proofs.sums.is_sum_at.Goals as goal
+
+-- it stands there
+pub returns-in-Some : goal.returns-in-Some
+returns-in-Some c = λ is.
+    let key = c.in-Some.key.now in
+    let value = c.in-Some.field-0-1.now in
+    let this : key ≡ c.args.part =
+    same_part-one key c.args.part (subst (λ test. test key c.args.part ≡ true) derived_part (sym c.eq.ensures ∙ is)) in
+    (value, sym c.in-Some.ensures.entry ∙ ap (λ k. Some (k, value)) this)
