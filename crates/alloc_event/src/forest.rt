@@ -4,8 +4,6 @@ ghost use Rattle.std.specs.List.{filter};
 ghost use Rattle.buffer_holds.specs.Counts.{total};
 ghost use Rattle.std.specs.Option.{option_map, option_map_or};
 ghost use Rattle.sm_names.specs.Members.{some_strong_live};
-ghost use Rattle.sm_names.specs.Sameness.{same_key};
-ghost use Rattle.forest_store.specs.CollectionRows.{are_apart};
 ghost use Rattle.forest_store.specs.declared.change.Change.{Change as Changed};
 ghost use Rattle.forest_store.specs.declared.node.End.{End};
 ghost use Rattle.forest_store.specs.declared.node.Node.{Node as NodeValue};
@@ -24,29 +22,16 @@ use forest_store::boxed_entry::BoxedEntry;
 use forest_store::change::Change;
 use forest_store::entry::{entry_of, place_of};
 use forest_store::insertion::Birth;
-use forest_store::key_list::KeyList;
 use forest_store::lookup::{copy_out, held_by_page, kept_nodes, live_by_birth, pages_beside};
 use forest_store::node::{End, Node};
 use forest_store::snapshot::Snapshot;
 use forest_store::store::{NodeStore, Store, put_end};
 use forest_store::summary::Summary;
-use forest_store::unkept::{forget_unkept, list_unkept, place_near, take_out};
+use forest_store::unkept::{drop_key, forget_unkept, list_unkept, take_out};
 use node_table::NodeTable;
 use sm_names::{BufferName, CollectionId, HeldBuffer, Interval, MAX_BUFFERS, NoMemory, NodeKey};
 use std::alloc::Global;
 use std::marker::Model;
-
-// Removes this key from those of a collection.
-#[inline(always)]
-fn drop_key(table: &NodeTable<Node>, keys: &mut KeyList, key: NodeKey)
-    requires { are_apart keys.old.items ≡ true }
-    ensures { keys.new.items ≡ filter (λ other. not (same_key key other)) keys.old.items }
-{
-    match place_near(table, keys.as_slice(), 0, key) {
-        Some(at) => keys.remove(at),
-        None => keys.forget(key),
-    }
-}
 
 /// The collections with their nodes and buffers, and the keys that were given to nodes so far.
 #[derive(Drop)]
@@ -386,14 +371,15 @@ impl Forest {
         self.forget_gone(key, id);
     }
 
-    // Whether the node with this key is of this collection and gone.
+    // Whether the node with this key, which is kept, is of this collection and gone.
     #[inline(always)]
     fn is_gone_in(&self, key: NodeKey, id: CollectionId) -> bool
+        requires { is_some (node_at self.now key) ≡ true }
         ensures { result ≡ option_map_or (λ (n : NodeValue). n.gone && n.collection == id)
             (node_at self.now key) false }
     {
         let Some(node) = self.node(key) else {
-            return false;
+            unreachable!();
         };
         node.gone && node.collection == id
     }

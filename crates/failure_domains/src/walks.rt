@@ -91,15 +91,16 @@ fn climb<N: Link>(table: &NodeTable<N>, origin: NodeKey) -> (NodeKey, u64)
     unreachable!()
 }
 
-/// The parent that a failure of `key` climbs to, if it climbs.
+/// The parent that a failure of `key`, which is there, climbs to, if it climbs.
 fn way_up<N: Link>(table: &NodeTable<N>, key: NodeKey) -> Option<NodeKey>
+    requires { IsSome (row_at table.now key) }
     ensures value { result ≡ way_up N.blocks table.now key }
     ensures forest { OnSome result (IsForest table.now) }
 {
-    match table.get(key) {
-        Some(node) if node.blocks() => None,
-        Some(_) => table.kept_parent(key),
-        None => None,
+    if table.kept(key).blocks() {
+        None
+    } else {
+        table.kept_parent(key)
     }
 }
 

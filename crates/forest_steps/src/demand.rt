@@ -16,7 +16,7 @@ pub struct TotalDemand {
 }
 
 /// What the node asks for, if it is in the unit with this head and not gone.
-pub(crate) fn unit_demand(node: &Node, head: NodeKey) -> Option<Constraints>
+pub fn unit_demand(node: &Node, head: NodeKey) -> Option<Constraints>
     ensures { result ≡ (if is_in_unit head node.now then node.now.constraints else None) }
 {
     if !node.gone && node.head == head {
@@ -28,7 +28,7 @@ pub(crate) fn unit_demand(node: &Node, head: NodeKey) -> Option<Constraints>
 
 /// Why the buffers are not enough, of which this many are reserved, where this is asked for besides:
 /// they are too few, or else too small.
-pub(crate) fn refusal(buffers: Buffers, reserved: u128, asks: &TotalDemand) -> Option<Failure>
+pub fn refusal(buffers: Buffers, reserved: u128, asks: &TotalDemand) -> Option<Failure>
     ensures { result ≡ why buffers reserved asks.now.camping asks.now.at_least asks.now.size }
 {
     let count = buffers.count as u128;

@@ -119,10 +119,6 @@ pub fn apply_effect(
     let Some(counts) = &made.counts else {
         return;
     };
-    // The head of the unit is there, since the node is not gone.
-    if nodes.table.get(counts.head).is_none() {
-        return;
-    }
     end_above(nodes, entry, counts.head, &mut room.removed);
     if let Some(buffers) = given {
         allocate_ready(nodes, entry, holds, buffers, counts.head, room);

@@ -1,5 +1,6 @@
 //! The removal of all that is lost or ends with a node.
 ghost use Rattle.std.specs.Prelude.{◌≡◌, ◌≤◌, List, Some, IsSome, vec_capacity};
+ghost use Rattle.std.specs.List.{All};
 ghost use Rattle.sm_names.specs.declared.keys.NodeKey.{NodeKey as Key};
 ghost use Rattle.node_table.specs.Table.{row_at, table_len};
 ghost use Rattle.forest_steps.specs.Removal.{IsGoneSo, head_over};
@@ -19,14 +20,15 @@ use forest_store::unkept::note_gone;
 use node_table::NodeTable;
 use sm_names::{Fault, NodeKey};
 
-/// The head of the unit that the parent of the first of these is in, if it has a parent.
+/// The head of the unit that the parent of the first of these is in, if it has a parent. They are all there.
 fn head_over(table: &NodeTable<Node>, keys: &[NodeKey]) -> Option<NodeKey>
+    requires { All (λ (k : Key). IsSome (row_at table.now k)) keys.now }
     ensures { result ≡ head_over table.now keys.now }
 {
     let Some((key, _)) = keys.split_first() else {
         return None;
     };
-    let parent = table.parent(*key)?;
+    let parent = table.kept_parent(*key)?;
     Some(table.kept(parent).head)
 }
 

@@ -15,6 +15,7 @@ use sm_names::HeldBuffer;
 /// The buffers that are home give their pages back, and are not held any longer. Takes no memory,
 /// and costs a look at the handles of each buffer, two where some stay held and others do not, with a
 /// shift for each that does not, and the cost of `Pool::give_back`.
+#[inline(always)]
 pub(crate) fn free_home_buffers(
     held: &mut Vec<HeldBuffer>,
     pool: &mut Pool,
@@ -29,6 +30,9 @@ pub(crate) fn free_home_buffers(
         pool.new.held ≡ by_page (pages_held held.new.items ++ others) }
     ensures size { pool.new.size ≡ pool.old.size }
 {
+    if held.is_empty() {
+        return;
+    }
     let out = return_pages(held, pool, holds, strong_live);
     keep_held(held, holds, strong_live, out);
 }

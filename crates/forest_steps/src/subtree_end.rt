@@ -63,7 +63,6 @@ pub(crate) fn end_above(
 )
     requires room { table_len nodes.old.table ≤ vec_capacity keys.old }
     requires named { AreNamed nodes.old.table }
-    requires there { IsSome (row_at nodes.old.table head) }
     ensures led { (handles : Handles) (ss : List CollectionRow) (pending : List Key) →
         MidEventIn nodes.old ss entry.old (head ∷ []) pending →
         is_head_left (nodes_in nodes.old entry.old) head ≡ true →
@@ -78,6 +77,10 @@ pub(crate) fn end_above(
     ensures room { vec_capacity keys.old ≤ vec_capacity keys.new }
 {
     if is_held_by(&unit_in(&nodes.units, head.slot as usize)) {
+        return;
+    }
+    // The head of a unit that is not gone is there.
+    if nodes.table.get(head).is_none() {
         return;
     }
     let top = highest(&nodes.table, &nodes.units, head);
@@ -105,11 +108,7 @@ pub(crate) fn fall_by(
     ensures len { table_len nodes.new.table ≡ table_len nodes.old.table }
     ensures room { vec_capacity keys.old ≤ vec_capacity keys.new }
 {
-    let Some(above) = remove_subtree(nodes, entry, fault.origin, Some(fault), keys) else {
-        return;
-    };
-    // The head of the unit above is there, since that is not gone.
-    if nodes.table.get(above).is_some() {
+    if let Some(above) = remove_subtree(nodes, entry, fault.origin, Some(fault), keys) {
         end_above(nodes, entry, above, keys);
     }
 }

@@ -58,7 +58,7 @@ pub use Rattle.forest_store.specs.declared.change.Effect.{Effect}
 pub use Rattle.forest_store.specs.declared.entry.Entry.{Entry}
 pub use Rattle.forest_store.specs.declared.node.Node.{Node}
 pub use Rattle.forest_store.specs.declared.unit_counts.Unit.{Unit}
-pub use Rattle.forest_store.specs.Unkept.{AreMore, IsForgettable, IsLeftIn, IsNotedIn, IsNoting, IsThinned}
+pub use Rattle.forest_store.specs.Unkept.{AreMore, IsBareAt, IsForgettable, IsLeftIn, IsNotedIn, IsNoting, IsThinned}
 pub use Rattle.forest_store.specs.Unkept.{TakesOut, is_bare, is_found, is_left_by, is_own_if_unkept, left_at}
 pub use Rattle.forest_store.specs.Unkept.{thin_in, thinned, unless_unkept, without_bare, IsChild, Unlinks, IsPlace}
 pub use Rattle.forest_store.specs.Keys.{Listed}

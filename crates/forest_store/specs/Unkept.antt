@@ -10,7 +10,7 @@ use Rattle.node_table.specs.Changes.{SameKeys}
 use Rattle.forest_store.specs.declared.entry.Entry.{Entry}
 use Rattle.forest_store.specs.declared.node.Node.{Node}
 use Rattle.forest_store.specs.Calm.{unkept_except}
-use Rattle.forest_store.specs.CollectionRows.{CollectionRow, are_apart, is_filed, nodes_with, row_of}
+use Rattle.forest_store.specs.CollectionRows.{CollectionRow, are_apart, is_filed, nodes_with, place_in, row_of}
 use Rattle.forest_store.specs.Nodes.{is_unkept}
 
 -- the key is a child of the other
@@ -66,6 +66,11 @@ thin_in t id ss = map (λ (s : CollectionRow). if s.id == id then thinned t s el
 -- the row has no key and no page
 abbrev pub is_bare : CollectionRow → Bool
 is_bare s = length s.keys == 0 && length s.held == 0
+
+-- the entry of the collection with this id stands at this place, and has no key and no page
+pub record IsBareAt (id at : ℕ) (es : List Entry) : Type 0 where
+  pub place : place_in id es ≡ Some at
+  pub bare : (d : Entry) → is_bare (row_of (get_or es at d)) ≡ true
 
 -- the rows without the one with this id, if that is bare
 abbrev pub without_bare : ℕ → List CollectionRow → List CollectionRow

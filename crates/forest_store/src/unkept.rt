@@ -1,17 +1,17 @@
 //! Removes the nodes that are no longer kept, with their keys, and collections without nodes and pages. A node
 //! is unkept once it is gone and its end is spent.
-ghost use Rattle.std.specs.Prelude.{IfSome, Some, None, ◌≡◌, ◌==◌, [], map, not, IsSome, MatchOption, length, nat_lt, ◌≤◌, List, true, false};
+ghost use Rattle.std.specs.Prelude.{IfSome, Some, None, ◌≡◌, ◌==◌, [], map, not, IsSome, MatchOption, length, nat_lt, ℕ, vec_len, ◌<◌, if◌then◌else◌, ◌≤◌, List, true, false};
 ghost use Rattle.std.specs.List.{filter, find, list_all, list_any, AllByRecursion};
 ghost use Rattle.std.specs.Option.{option_map_or};
 ghost use Rattle.sm_names.specs.declared.keys.NodeKey.{NodeKey as Key};
 ghost use Rattle.sm_names.specs.Sameness.{same_key};
-ghost use Rattle.node_table.specs.Table.{Table, node_at, children_at};
+ghost use Rattle.node_table.specs.Table.{Table, node_at, row_at, children_at};
 ghost use Rattle.node_table.specs.Changes.{SameKeys};
 ghost use Rattle.forest_store.specs.declared.node.Node.{Node as NodeValue};
 ghost use Rattle.forest_store.specs.declared.entry.Entry.{Entry as KeptEntry};
 ghost use Rattle.forest_store.specs.Calm.{AreCounted, unkept_except};
 ghost use Rattle.forest_store.specs.Forest.{without_unkept_in};
-ghost use Rattle.forest_store.specs.Unkept.{AreAllUnkept, IsChild, IsForgettable, IsLeftIn, IsNotedIn, IsNoting, IsPlace, IsThinned, Unlinks, TakesOut, is_bare, is_found, is_left_by, is_own_if_unkept, left_at, thinned, thin_in, without_bare};
+ghost use Rattle.forest_store.specs.Unkept.{AreAllUnkept, IsBareAt, IsChild, IsForgettable, IsLeftIn, IsNotedIn, IsNoting, IsPlace, IsThinned, Unlinks, TakesOut, is_bare, is_found, is_left_by, is_own_if_unkept, left_at, thinned, thin_in, without_bare};
 ghost use Rattle.forest_store.specs.CollectionRows.{AreRising, IsStored, CollectionRow, are_apart, collection_in, nodes_with, row_of, rows_of};
 ghost use Rattle.forest_store.specs.Nodes.{is_unkept};
 ghost use Rattle.forest_store.specs.Stores.{AreNamed};
@@ -32,17 +32,19 @@ const FEW: usize = 4;
 /// The list of a collection's unkept nodes has at most this many keys.
 const MOST: usize = 64;
 
-/// The first child of the node.
+/// The first child of the node, which is there.
 #[inline(always)]
 pub(crate) fn first_child(table: &NodeTable<Node>, key: NodeKey) -> Option<NodeKey>
+    requires { IsSome (row_at table.now key) }
     ensures { MatchOption result (children_at table.now key ≡ []) (IsChild table.now key) }
 {
-    table.first_child(key)
+    table.kept_first_child(key)
 }
 
 /// Removes the links between the node and its children. Takes O(number of children).
 #[inline(always)]
 fn cut_children(table: &mut NodeTable<Node>, key: NodeKey)
+    requires { IsSome (row_at table.old key) }
     ensures { Unlinks table.old table.new key }
 {
     'cutting: while let Some(child) = first_child(table, key) {
@@ -195,7 +197,7 @@ fn are_own(table: &NodeTable<Node>, id: CollectionId, keys: &[NodeKey]) -> bool
 
 /// Removes this key from those of a collection.
 #[inline(always)]
-fn drop_key(table: &NodeTable<Node>, keys: &mut KeyList, key: NodeKey)
+pub fn drop_key(table: &NodeTable<Node>, keys: &mut KeyList, key: NodeKey)
     requires { are_apart keys.old.items ≡ true }
     ensures { keys.new.items ≡ filter (λ other. not (same_key key other)) keys.old.items }
 {
@@ -265,37 +267,39 @@ fn is_bare(entry: &Entry) -> bool
     entry.keys.len() == 0 && entry.held.is_empty()
 }
 
-/// Removes the collection, if it has no node and no page. Its entry is then the spare one. Allocates
-/// nothing. Out of line, so that the function which makes an event stays small enough to be inlined.
+/// The place, if the collection that stands there has no node and no page.
+#[inline(always)]
+fn place_if_bare(entry: &Entry, at: usize) -> Option<usize>
+    ensures { result ≡ (if is_bare (row_of entry.now) then Some at else None) }
+{
+    if is_bare(entry) { Some(at) } else { None }
+}
+
+/// Removes the collection at this place, which has no node and no page. Its entry is then the spare one.
+/// Allocates nothing. Out of line, so that the function which makes an event stays small enough to be
+/// inlined.
 #[inline(never)]
-pub(crate) fn drop_bare(
-    entries: &mut Vec<BoxedEntry>,
-    id: CollectionId,
-    spare: &mut Option<BoxedEntry>,
-)
-    requires { AreRising (rows_of entries.old.items) }
-    ensures rows { rows_of entries.new.items
-        ≡ without_bare id (rows_of entries.old.items) }
+fn drop_bare(entries: &mut Vec<BoxedEntry>, at: usize, spare: &mut Option<BoxedEntry>)
+    requires { at < vec_len entries.old }
+    ensures rows { (id : ℕ) → AreRising (rows_of entries.old.items) →
+        IsBareAt id at entries.old.items →
+        rows_of entries.new.items ≡ without_bare id (rows_of entries.old.items) }
     ensures counted { (t : Table NodeValue) → AreCounted t entries.old.items →
         AreCounted t entries.new.items }
 {
-    if let Some(at) = place_of(entries, id) {
-        if is_bare(entries[at].get()) {
-            *spare = Some(remove_at(entries, at));
-        }
-    }
+    *spare = Some(remove_at(entries, at));
 }
 
-/// Removes the unkept nodes of the collection. Answers whether the collection has no node and no page
-/// then. If it is known that no node is unkept, this takes O(log n) in the number of collections. If
-/// the unkept nodes are listed, each takes a binary search among the collection's nodes and a move of
-/// the keys on its shorter side. Otherwise this takes O(n) in the number of the collection's nodes.
+/// Removes the unkept nodes of the collection. Answers its place, if it has no node and no page then. If
+/// it is known that no node is unkept, this takes O(log n) in the number of collections. If the unkept
+/// nodes are listed, each takes a binary search among the collection's nodes and a move of the keys on its
+/// shorter side. Otherwise this takes O(n) in the number of the collection's nodes.
 #[inline(always)]
 fn forget_nodes(
     table: &mut NodeTable<Node>,
     entries: &mut Vec<BoxedEntry>,
     id: CollectionId,
-) -> bool
+) -> Option<usize>
     requires kept { IsStored table.old (rows_of entries.old.items) }
     requires counted { AreCounted table.old entries.old.items }
     ensures rows { rows_of entries.new.items
@@ -304,18 +308,19 @@ fn forget_nodes(
     ensures kept { IsStored table.new (map (thinned table.new) (rows_of entries.old.items)) }
     ensures counted { AreCounted table.new entries.new.items }
     ensures keys { SameKeys table.old table.new }
-    ensures full { result ≡ false →
+    ensures bare { IfSome result (λ at. IsBareAt id at entries.new.items) }
+    ensures full { result ≡ None →
         without_bare id (rows_of entries.new.items) ≡ rows_of entries.new.items }
 {
     let Some(at) = place_of(entries, id) else {
-        return false;
+        return None;
     };
     if is_unkept_known(entries[at].get()) {
-        return is_bare(entries[at].get());
+        return place_if_bare(entries[at].get(), at);
     }
     let entry = entries[at].get_mut();
     forget_of(table, entry);
-    is_bare(entry)
+    place_if_bare(entry, at)
 }
 
 /// Removes the unkept nodes of the collection, and the collection if it has no node and no page then. Its
@@ -335,8 +340,8 @@ pub fn forget_unkept(
     ensures counted { AreCounted table.new entries.new.items }
     ensures keys { SameKeys table.old table.new }
 {
-    if forget_nodes(table, entries, id) {
-        drop_bare(entries, id, spare);
+    if let Some(at) = forget_nodes(table, entries, id) {
+        drop_bare(entries, at, spare);
     }
 }
 
@@ -408,9 +413,9 @@ pub fn note_gone(table: &NodeTable<Node>, entry: &mut Entry, keys: &[NodeKey], o
 pub(crate) fn reserve_notes(unkept: &mut Vec<NodeKey>, nodes: usize) -> Result<(), AllocError>
     ensures { unkept.new.items ≡ unkept.old.items }
 {
-    if nodes <= FEW {
+    let most = nodes.min(MOST);
+    if nodes <= FEW || most <= unkept.capacity() {
         return Ok(());
     }
-    let most = nodes.min(MOST);
     unkept.reserve(most.saturating_sub(unkept.len()))
 }

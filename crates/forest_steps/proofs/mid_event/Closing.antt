@@ -17,7 +17,8 @@ use Rattle.forest_steps.proofs.changes.Dropped.{stored_so, strong_keeps, units_s
 use Rattle.forest_steps.proofs.failures.AllGone.{AreGone, none_decides, none_strong}
 use Rattle.forest_steps.proofs.intervals.Pools.{pool_stays}
 use Rattle.forest_store.proofs.rows.Counted.{counted_put}
-use Rattle.forest_steps.proofs.mid_event.Joining.{but_beside, here_is, place_set, settled_on, rows_stay}
+use Rattle.forest_steps.proofs.mid_event.Joining.{but_beside, here_is, settled_on, rows_stay}
+use Rattle.forest_store.proofs.rows.Entries.{place_set}
 use Rattle.forest_steps.proofs.mid_event.Ready.{counted_under, no_end_under, none_under, whole_under}
 use Rattle.forest_steps.proofs.mid_event.Roots.{IsGivenRoot, all_lost, given_root, root_decided, root_here, root_on, root_top}
 

@@ -1,13 +1,14 @@
 -- Steps that were made one after another, joined: what the later ones finish, the earlier ones did.
-use Rattle.forest_steps.proofs.Common.{◌≡◌, ◌≢◌, ℕ, zero, suc, ◌+◌, ◌==◌, ◌⊎◌, arith, inl, inr, nat_lt, refl, ap, sym, ◌∙◌, subst}
-use Rattle.forest_steps.proofs.Common.{true, false, not, List, [], ◌∷◌, map, get_or, set, Option, Some, None, option_map, eq-eqb}
-use Rattle.forest_steps.proofs.Common.{filter, find, NodeKey, In, either_way, some-injective, Table, Change, Entry, Node, Unit}
+use Rattle.forest_steps.proofs.Common.{◌≡◌, ◌≢◌, ℕ, zero, suc, ◌==◌, ◌⊎◌, arith, inl, inr, nat_lt, refl, ap, sym, ◌∙◌, subst}
+use Rattle.forest_steps.proofs.Common.{true, false, not, List, [], ◌∷◌, map, get_or, set, Some, option_map, eq-eqb}
+use Rattle.forest_steps.proofs.Common.{filter, find, NodeKey, In, Table, Change, Entry, Node, Unit}
 use Rattle.forest_steps.proofs.Common.{Collection, IsStored, CollectionRow, collection_in, forest_of, place_in, put_row, row_of}
 use Rattle.forest_steps.proofs.Common.{rows_of, Handles, collection_or_new, put, get_or-set_same, get_or_default, flat_map}
 use Rattle.forest_steps.proofs.Common.{Holdings, AreCountedExcept, beside, pages_in, Finishes, IsOutcomeIn, IsSettledIn}
 use Rattle.forest_steps.proofs.Common.{changed_in, given_back, is_birth, rows_put, place_is, set_put, collection_is}
 use Rattle.forest_steps.proofs.Common.{row_found, Closes, MayClose, IsBeside, MidEvent, Reaches, is_abandoned_in, cases_place}
 use Rattle.forest_store.proofs.rows.Counted.{moved, set_rows}
+use Rattle.forest_store.proofs.rows.Entries.{place_set}
 use Rattle.forest_store.proofs.tallies.Slots.{changed_id, or_new_id, settles_id}
 use Rattle.forest_steps.proofs.tables.Rows.{same_on}
 use Rattle.forest_steps.proofs.changes.FirstAllocated.{put_there}
@@ -66,26 +67,6 @@ joined {handles} t {mid} ss {between} c {d} same is leads f = record {
 }
 
 -- ---- entries
-
--- an entry with the id stands at its place still
-pub place_set : (id at : ℕ) (es : List Entry) (new : Entry) → new.id ≡ id → place_in id es ≡ Some at → place_in id (set es at new) ≡ Some at
-place_set id at [] new own told = absurd (cc)
-place_set id zero (e ∷ es) new own told = rw (eq-eqb _ id own) refl
-place_set id (suc n) (e ∷ es) new own told = elim (either_way (e.id == id)) [
-  | inl here ↦ let no : Some 0 ≡ Some (suc n) = rw here at told in absurd (zero_suc n no)
-  | inr other ↦
-      let behind : option_map (λ m. m + 1) (place_in id es) ≡ Some (suc n) = rw other at told in
-      rw (other, place_set id n es new own (behind_is (place_in id es) n behind)) (ap Some (omega arith))
-]
-  where
-    -- since 0 is no successor
-    zero_suc : (k : ℕ) → Some 0 ≡ Some (suc k) → ⊥
-    zero_suc k e = let same : 0 ≡ suc k = some-injective 0 _ e in omega arith
-
-    -- by cases: a place one further on comes of the place behind
-    behind_is : (o : Option ℕ) (k : ℕ) → option_map (λ m. m + 1) o ≡ Some (suc k) → o ≡ Some k
-    behind_is None k e = cc
-    behind_is (Some m) k e = let same : m + 1 ≡ suc k = some-injective _ _ e in ap Some (omega arith)
 
 -- the others are counted in a table that differs beside them
 pub but_beside : {t now : Table Node} {id : ℕ} (es : List Entry) → IsBeside t now (rows_of es) id → AreCountedExcept t id es →

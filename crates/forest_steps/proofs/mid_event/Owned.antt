@@ -4,7 +4,8 @@ use Rattle.forest_steps.proofs.Common.{parent_at, Node, nodes_with, Contains-fro
 use Rattle.forest_steps.proofs.Common.{all_of, is_blocking, arith, Reach, ◌==◌, refl, ap, Bool, ◌||◌, [], ◌∷◌, Option, None}
 use Rattle.forest_steps.proofs.Common.{cons_option, list_any, option_map_or, same_key, and_both, or_right, same_key-refl}
 use Rattle.sm_names.specs.Losses.{Down, Origin}
-use Rattle.forest_steps.proofs.tables.Rows.{row_node, child_node}
+use Rattle.forest_steps.proofs.tables.Rows.{child_node}
+use Rattle.forest_store.proofs.tables.Storing.{node_there}
 
 -- the node with this key is of this collection, if there is one
 abbrev own_at : Table Node → ℕ → NodeKey → Bool
@@ -29,7 +30,7 @@ module _ {t : Table Node} (forest : IsForest t)
     q.collection ≡ n.collection) (id : ℕ) where
   -- a node and its parent are of one collection
   own_kin : (key : NodeKey) {p : NodeKey} → parent_at t key ≡ Some p → own_at t id p ≡ own_at t id key
-  own_kin key {p} up = grind (arith, child_node, row_node)
+  own_kin key {p} up = grind (arith, child_node, node_there)
 
   module _ (origin : NodeKey) (own : own_at t id origin ≡ true) where
     -- so all that is reached from one of the collection is of it

@@ -18,7 +18,8 @@ use Rattle.forest_steps.proofs.changes.Dropped.{pool_at}
 use Rattle.forest_steps.proofs.changes.FirstAllocated.{put_there}
 use Rattle.forest_steps.proofs.intervals.Pools.{pool_back}
 use Rattle.forest_steps.proofs.tables.Rows.{same_on}
-use Rattle.forest_steps.proofs.mid_event.Joining.{but_beside, but_set, here_is, joined, place_set}
+use Rattle.forest_steps.proofs.mid_event.Joining.{but_beside, but_set, here_is, joined}
+use Rattle.forest_store.proofs.rows.Entries.{place_set}
 use Rattle.forest_steps.proofs.mid_event.Ready.{no_end_under}
 use Rattle.forest_steps.proofs.mid_event.RootMade.{coming_decided, step_made, under_held}
 use Rattle.forest_steps.proofs.mid_event.Stepping.{node_there}

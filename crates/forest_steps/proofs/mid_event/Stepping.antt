@@ -11,7 +11,8 @@ use Rattle.forest_store.specs.Settling.{is_there as is_there_in}
 use Rattle.forest_store.proofs.changes.Altering.{change_kept}
 use Rattle.forest_store.proofs.rows.Entries.{none_in}
 use Rattle.forest_steps.proofs.mid_event.GivenKept.{given_at}
-use Rattle.forest_steps.proofs.mid_event.Joining.{here_is, may_close, outcome_on, place_set, rows_stay}
+use Rattle.forest_steps.proofs.mid_event.Joining.{here_is, may_close, outcome_on, rows_stay}
+use Rattle.forest_store.proofs.rows.Entries.{place_set}
 use Rattle.forest_steps.proofs.mid_event.Ready.{ready_close, ready_under}
 
 -- the pages of the same rows are the same, whatever the nodes

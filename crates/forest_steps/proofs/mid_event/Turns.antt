@@ -45,7 +45,7 @@ abbrev pub highest_of : List Node → NodeKey → NodeKey
 highest_of nodes key = topmost (λ k. list_any (blocks_here k) nodes) key (above_among (reverse nodes) key)
 
 -- the climb reads the nodes as it reads the members
-blocked_here : (nodes : List Node) (k : NodeKey) →
+pub blocked_here : (nodes : List Node) (k : NodeKey) →
     list_any (λ m. same_key m.key k && blocks m) (members_of nodes) ≡ list_any (blocks_here k) nodes
 blocked_here nodes k = any-map_filter (λ (n : Node). not n.gone) (member_of nodes)
     (λ (m : Member). same_key m.key k && blocks m) nodes

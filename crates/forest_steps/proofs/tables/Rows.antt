@@ -8,15 +8,6 @@ use Rattle.node_table.specs.Table.{parent_in}
 use Rattle.node_table.proofs.Depths.{there-above}
 use Rattle.forest_store.proofs.tables.Storing.{stored-key}
 
--- a key with a row has a node
-pub row_node : (t : Table Node) (key : NodeKey) → IsSome (row_at t key) → (n : Node) × (node_at t key ≡ Some n)
-row_node t key some = from (row_at t key) some
-  where
-    -- by cases: a row has its node
-    from : (o : Option (Row Node)) → IsSome o → (n : Node) × (option_map (λ (r : Row Node). r.node) o ≡ Some n)
-    from None some = cc
-    from (Some r) some = (r.node, refl)
-
 -- a key that has a parent has a node
 pub child_node : (t : Table Node) (key : NodeKey) {p : NodeKey} → parent_at t key ≡ Some p → (n : Node) × (node_at t key ≡ Some n)
 child_node t key {p} up = from (row_at t key) up

@@ -2,7 +2,7 @@
 use Rattle.forest_store.proofs.Common.{◌≡◌, refl, ap, ◌∙◌, Bool, true, false, not, ◌&&◌, ◌||◌, is_none, List, map, Option}
 use Rattle.forest_store.proofs.Common.{Some, None, list_all, list_any, find, option_map_or, option_and_then, NodeKey}
 use Rattle.forest_store.proofs.Common.{Cause, same_key, when, In-find, and_left, both_ways, false_if, same_key-true, Node}
-use Rattle.forest_store.proofs.Common.{has_strong, waiting, Collection, is_deserted_node, is_ready_node, is_root_left}
+use Rattle.forest_store.proofs.Common.{has_strong, waiting, Collection, is_ready_node, is_root_left}
 use Rattle.forest_store.proofs.Common.{heads_itself, Decision, Loses, IsSound, is_root_of, option_map}
 use Rattle.forest_store.specs.Falls.{given_all}
 use Rattle.forest_store.proofs.lists.Elements.{all_map, find_map}
@@ -13,12 +13,6 @@ abbrev pub losing : List Node → Bool → Option Node → Option Decision
 losing nodes strong_open o =
     option_and_then (λ (root : Node). when (root.allocated && (not (has_strong nodes) && not strong_open)) (Loses root.key
     Cause.NoStrong)) o
-
--- none of those steps applies that come before the allocation of an attached unit
-pub record AreQuiescent (nodes : List Node) (strong_open : Bool) : Type 0 where
-  pub no_end : find (is_deserted_node nodes) nodes ≡ None
-  pub no_loss : losing nodes strong_open (find is_root_left nodes) ≡ None
-  pub no_root : waiting nodes ≡ None
 
 -- ---- the allocation of attached units leaves them so
 

@@ -2,12 +2,14 @@
 use Rattle.forest_store.proofs.Common.{◌≡◌, ℕ, ◌==◌, true, false, List, [], get_or, set, refl, Option, Some, None, option_map, sym, ◌∙◌}
 use Rattle.forest_store.proofs.Common.{ap, subst, find, list_any, NodeKey, same_key, Table, node_at, Entry, Node, unkept_except, IsStored}
 use Rattle.forest_store.proofs.Common.{CollectionRow, nodes_with, place_in, row_of, rows_of, is_unkept, get_or_default, AreCounted}
-use Rattle.forest_store.proofs.Common.{IsForgettable, IsLeftIn, IsThinned, is_bare, left_at, thin_in, thinned, without_bare}
+use Rattle.forest_store.proofs.Common.{Bool, IfSome, if◌then◌else◌, IsBareAt, get_or-set_same, IsForgettable, IsLeftIn}
+use Rattle.forest_store.proofs.Common.{IsThinned, is_bare, left_at, thin_in, thinned, without_bare}
 use Rattle.forest_store.proofs.leaving.Forgotten.{tidy_left}
 use Rattle.forest_store.proofs.leaving.Places.{found_apart}
 use Rattle.forest_store.proofs.allocation.Before.{key_listed}
 use Rattle.forest_store.proofs.rows.Counted.{counted_thinned, dropped_all, drops_over}
 use Rattle.forest_store.proofs.rows.Dropping.{keep_bare, keep_set, set_thin}
+use Rattle.forest_store.proofs.rows.Entries.{place_set}
 use Rattle.forest_store.proofs.tables.LeftParents.{in_row}
 use Rattle.forest_store.proofs.Basics.{found_counted, found_filed, none_noted, IsPlace, place_is, row_found}
 
@@ -15,6 +17,16 @@ use Rattle.forest_store.proofs.Basics.{found_counted, found_filed, none_noted, I
 pub place_told : (id : ℕ) (es items : List Entry) (o place : Option ℕ) → items ≡ es → o ≡ place_in id items → o ≡ place →
     place_in id es ≡ place
 place_told id es items o place same told is = sym (rw same at told) ∙ is
+
+-- what holds at the place, if it is told, holds of what is told
+pub at_place : (b : Bool) (at : ℕ) (Q : ℕ → Type 0) (o : Option ℕ) → o ≡ (if b then Some at else None) → (b ≡ true → Q at) → IfSome o Q
+at_place true at Q o told holds = subst (λ (x : Option ℕ). IfSome x Q) (sym told) (holds refl)
+at_place false at Q o told holds = subst (λ (x : Option ℕ). IfSome x Q) (sym told) tt
+
+-- where no place is told, nothing says that it is one
+pub no_place : (b : Bool) (at : ℕ) (o : Option ℕ) → o ≡ (if b then Some at else None) → o ≡ None → b ≡ false
+no_place true at o told none = let no : Some at ≡ None = sym told ∙ none in absurd (cc)
+no_place false at o told none = refl
 
 module _ {t : Table Node} (es : List Entry) (kept : IsStored t (rows_of es)) (counted : AreCounted t es) (id : ℕ) {at : ℕ}
     (told : place_in id es ≡ Some at) {old : Entry} (read : old ≡ get_or es at old) where
@@ -71,6 +83,10 @@ module _ {t : Table Node} (es : List Entry) (kept : IsStored t (rows_of es)) (co
   pub stays : is_bare (row_of old) ≡ false → without_bare id (rows_of es) ≡ rows_of es
   stays full = sym (keep_bare _ _ _ old kept.rising told (ap (λ (x : Entry). is_bare (row_of x)) (sym read) ∙ full))
 
+  -- one that is bare stands there so
+  pub bare_at : is_bare (row_of old) ≡ true → IsBareAt id at es
+  bare_at bare = record { place = told; bare = λ d. ap (λ (e : Entry). is_bare (row_of e)) (sym (is d)) ∙ bare }
+
   module _ {now : Table Node} {new : Entry} (thins : IsThinned now old new)
       (look : (k : NodeKey) → node_at now k ≡ left_at t old.keys.items k) where
     -- the keys of the nodes that were taken out are dropped, and the rest stays
@@ -102,3 +118,10 @@ module _ {t : Table Node} (es : List Entry) (kept : IsStored t (rows_of es)) (co
     -- a collection that is not bare then stays
     pub stays_then : is_bare (row_of new) ≡ false → without_bare id (rows_of (set es at new)) ≡ rows_of (set es at new)
     stays_then full = keep_set _ _ _ _ kept.rising told (thins.id ∙ own) full
+
+    -- and one that is bare stands there so
+    pub bare_then : is_bare (row_of new) ≡ true → IsBareAt id at (set es at new)
+    bare_then bare = record {
+      place = place_set id at es new (thins.id ∙ own) told;
+      bare = λ d. ap (λ (e : Entry). is_bare (row_of e)) (get_or-set_same es at new d place.within) ∙ bare;
+    }

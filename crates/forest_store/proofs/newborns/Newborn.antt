@@ -79,7 +79,7 @@ in_own t (s ∷ ss) key n rising filed is there = elim (or_cases _ _ (sym (list_
 -- ---- soundness
 
 -- keys are distinct with another behind
-distinct-more : (ns : List Node) (node : Node) → list_any (is_of node.key) ns ≡ false → are_distinct ns ≡ true →
+pub distinct-more : (ns : List Node) (node : Node) → list_any (is_of node.key) ns ≡ false → are_distinct ns ≡ true →
     are_distinct (ns ++ node ∷ []) ≡ true
 distinct-more [] node none ok = refl
 distinct-more (n ∷ ns) node none ok =

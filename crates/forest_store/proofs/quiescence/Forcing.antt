@@ -112,14 +112,14 @@ last_failure : (a b c d : Option Failure) →
 last_failure a b c d = grind arith
 
 -- the first of what is made of each is what is made of the first
-first_made : {A B : Type 0} (f : A → B) (os : List (Option A)) →
+pub first_made : {A B : Type 0} (f : A → B) (os : List (Option A)) →
     first_some (map (option_map f) os) ≡ option_map f (first_some os)
 first_made f [] = refl
 first_made f (None ∷ os) = first_made f os
 first_made f (Some x ∷ os) = refl
 
 -- what is made where a test holds
-when_made : {A B : Type 0} (f : A → B) (b : Bool) (x : A) → when b (f x) ≡ option_map f (when b x)
+pub when_made : {A B : Type 0} (f : A → B) (b : Bool) (x : A) → when b (f x) ≡ option_map f (when b x)
 when_made f true x = refl
 when_made f false x = refl
 

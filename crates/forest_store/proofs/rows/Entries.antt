@@ -91,6 +91,13 @@ place_is id (e ∷ es) at told = place_cases id e es at (IsPlace id (e ∷ es)) 
     let place = place_is id es n behind in
     record { within = omega (arith, place.within); found = λ d. rw other (place.found d); id_is = λ d. place.id_is d })
 
+-- an entry with the id stands at its place still
+pub place_set : (id at : ℕ) (es : List Entry) (new : Entry) → new.id ≡ id → place_in id es ≡ Some at → place_in id (set es at new) ≡ Some at
+place_set id at [] new own told = absurd (cc)
+place_set id at (e ∷ es) new own told =
+    place_cases id e es at (λ at. place_in id (set (e ∷ es) at new) ≡ Some at) told (λ here. rw (eq-eqb _ id own) refl)
+    (λ n other behind. rw (other, place_set id n es new own behind) (ap Some (omega arith)))
+
 -- so it lies within the list
 pub place_within : (id : ℕ) (es items : List Entry) (o : Option ℕ) (at : ℕ) → items ≡ es →
     o ≡ place_in id items → o ≡ Some at → at < length es

@@ -6,7 +6,7 @@ use Rattle.failure_domains.proofs.Climbs.{table_len-there, way_up-Some, climb_de
 use Rattle.failure_domains.proofs.walks.climb.Goals as goal
 
 pub up-init : goal.up-init
-up-init g c = record { path = Start; forest = λ more. absurd (omega arith) }
+up-init g c = record { path = Start; there = c.requires; forest = λ more. absurd (omega arith) }
 
 -- the way up is open, and leads to the parent
 pub up-preserved : goal.up-preserved
@@ -16,6 +16,7 @@ up-preserved g c =
     way_up-Some g.N.Link.blocks c.args.table.now forest c.up.top c.in-Some.above (sym c.in-Some.ensures.value) in
     record {
       path = rw add-one (Step c.up.top c.in-Some.above c.up.steps c.up.invariant.path open_link.0 open_link.1);
+      there = forest.parent_there c.in-Some.above c.up.top open_link.1;
       forest = λ _. forest;
     }
 

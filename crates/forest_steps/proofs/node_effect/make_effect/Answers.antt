@@ -1,9 +1,9 @@
 -- The node is written, and what is counted of its unit and of its collection.
 use Rattle.forest_steps.proofs.Common.{◌≡◌, ◌∙◌, map, refl, ap, Entry, nodes_with, affected, reserved_count, AreCounts, KeepsCounts}
 use Rattle.forest_steps.proofs.mid_event.Affecting.{named_here, nodes_here, plain_here, there_here, counted_here, reserved_next}
-use Rattle.forest_steps.proofs.tables.Rows.{row_node}
 use Rattle.forest_steps.proofs.node_effect.make_effect.Goals.{in-Some-reserved, in-None}
 use Rattle.forest_steps.proofs.node_effect.make_effect.Goals as goal
+use Rattle.forest_store.proofs.tables.Storing.{node_there}
 
 -- ---- where no count changes
 
@@ -19,17 +19,17 @@ returns-in_default-clause-affected c ss n was here own store =
 
 pub returns-in_default-clause-named : goal.returns-in_default-clause-named
 returns-in_default-clause-named c =
-    let n = row_node c.args.nodes.now.table c.args.made.now.key c.requires.may.there in
+    let n = node_there c.args.nodes.now.table c.args.made.now.key c.requires.may.there in
     named_here _ n.1 c.requires.named (c.affect_at.ensures.writes n.0 n.1)
 
 pub returns-in_default-clause-there : goal.returns-in_default-clause-there
 returns-in_default-clause-there c =
-    let n = row_node c.args.nodes.now.table c.args.made.now.key c.requires.may.there in
+    let n = node_there c.args.nodes.now.table c.args.made.now.key c.requires.may.there in
     there_here _ n.1 c.requires.named (c.affect_at.ensures.writes n.0 n.1)
 
 pub returns-in_default-clause-len : goal.returns-in_default-clause-len
 returns-in_default-clause-len c =
-    let n = row_node c.args.nodes.now.table c.args.made.now.key c.requires.may.there in
+    let n = node_there c.args.nodes.now.table c.args.made.now.key c.requires.may.there in
     (c.affect_at.ensures.writes n.0 n.1).len
 
 -- ---- where they are written
@@ -60,15 +60,15 @@ returns-clause-affected c ss n was here own store =
 
 pub returns-clause-named : goal.returns-clause-named
 returns-clause-named c =
-    let n = row_node c.args.nodes.now.table c.args.made.now.key c.requires.may.there in
+    let n = node_there c.args.nodes.now.table c.args.made.now.key c.requires.may.there in
     named_here _ n.1 c.requires.named (c.affect_at.ensures.writes n.0 n.1)
 
 pub returns-clause-there : goal.returns-clause-there
 returns-clause-there c =
-    let n = row_node c.args.nodes.now.table c.args.made.now.key c.requires.may.there in
+    let n = node_there c.args.nodes.now.table c.args.made.now.key c.requires.may.there in
     there_here _ n.1 c.requires.named (c.affect_at.ensures.writes n.0 n.1)
 
 pub returns-clause-len : goal.returns-clause-len
 returns-clause-len c =
-    let n = row_node c.args.nodes.now.table c.args.made.now.key c.requires.may.there in
+    let n = node_there c.args.nodes.now.table c.args.made.now.key c.requires.may.there in
     (c.affect_at.ensures.writes n.0 n.1).len

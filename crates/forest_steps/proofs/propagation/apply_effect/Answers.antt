@@ -1,9 +1,8 @@
 -- The effect is made, what nothing holds then ends, and what is due has its turn.
-use Rattle.forest_steps.proofs.Common.{◌≡◌, ◌∙◌, sym, ap, subst, not, refl, List, [], ◌∷◌, Option, Some, None}
+use Rattle.forest_steps.proofs.Common.{◌≡◌, ◌∙◌, sym, subst, refl, List, [], ◌∷◌, Option, Some, None}
 use Rattle.forest_steps.proofs.Common.{NodeKey, total, Table, node_at, Effect, Entry, Node, Unit, CollectionRow}
 use Rattle.forest_steps.proofs.Common.{EffectCounts, AfterEffect, EffectMade, MidEvent, AreCountsThen, KeepsCounts}
 use Rattle.forest_steps.proofs.mid_event.Changing.{affected_on, still_played}
-use Rattle.forest_steps.proofs.mid_event.AfterLosses.{head_row, lent_there}
 use Rattle.forest_steps.proofs.mid_event.NextThere.{none_bare}
 use Rattle.forest_steps.proofs.mid_event.Playing.{played_affected, played_none, still_left}
 use Rattle.std.proofs.Common.{rules}
@@ -28,14 +27,6 @@ counted_on : (t mid : Table Node) (us after : List Unit) (ss : List CollectionRo
 counted_on t mid us after ss e e1 key effect counts c is worked n at own under made =
     let told : AreCountsThen t us e key effect (Some c) = subst (AreCountsThen t us e key effect) is worked in
     subst (AfterEffect t mid after ss e e1 key effect) (sym (told n at).head) (affected_on at own under made)
-
-pub returns-then-is_none-clause-out : goal.returns-then-is_none-clause-out
-returns-then-is_none-clause-out c ss n at here own under waits =
-    let head = c.in-Some.counts.head in
-    let done = counted_on _ _ _ _ ss _ _ _ _ _ _ c.in-Some.is c.requires.may.worked n at own under
-    (c.make_effect.ensures.affected ss n at here own under.store) in
-    let row = head_row c.make_effect.new.nodes.table c.make_effect.ensures.named _ _ done.left in
-    absurd (lent_there _ (c.get.ensures ∙ row.1) (c.is_none.ensures ∙ ap not c.if-is_none.true))
 
 pub returns-in-Some-given-clause-out : goal.returns-in-Some-given-clause-out
 returns-in-Some-given-clause-out c ss n at here own under waits =
@@ -63,12 +54,6 @@ returns-in_default-given-clause-out c ss n at here own under waits =
 pub make_effect-requires-clause-may : goal.make_effect-requires-clause-may
 make_effect-requires-clause-may c = search rules
 
-pub returns-then-is_none-clause-named : goal.returns-then-is_none-clause-named
-returns-then-is_none-clause-named c = search rules
-
-pub returns-then-is_none-clause-room : goal.returns-then-is_none-clause-room
-returns-then-is_none-clause-room c = search rules
-
 pub end_above-requires-clause-named : goal.end_above-requires-clause-named
 end_above-requires-clause-named c = search rules
 
@@ -87,9 +72,6 @@ allocate_ready-requires-clause-room c = search rules
 pub end_above-requires-clause-room : goal.end_above-requires-clause-room
 end_above-requires-clause-room c = search rules
 
-pub end_above-requires-clause-there : goal.end_above-requires-clause-there
-end_above-requires-clause-there c = search rules
-
 pub make_effect-requires-clause-named : goal.make_effect-requires-clause-named
 make_effect-requires-clause-named c = search rules
 
@@ -107,6 +89,3 @@ returns-in_default-given-clause-len c = search rules
 
 pub returns-in_default-given-clause-room : goal.returns-in_default-given-clause-room
 returns-in_default-given-clause-room c = search rules
-
-pub returns-then-is_none-clause-len : goal.returns-then-is_none-clause-len
-returns-then-is_none-clause-len c = search rules

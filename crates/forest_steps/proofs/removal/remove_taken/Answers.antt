@@ -1,5 +1,5 @@
 -- The nodes that a failure takes are written as gone, and neither the units nor the entry count them any more.
-use Rattle.forest_steps.proofs.Common.{List, NodeKey, IsSome, row_at, get_or, subst, ◌+◌, sym, ◌∙◌, ap, list_any, unkept_except}
+use Rattle.forest_steps.proofs.Common.{List, NodeKey, Table, Node, IsSome, row_at, get_or, subst, ◌+◌, sym, ◌∙◌, ap, list_any, unkept_except}
 use Rattle.forest_steps.proofs.Common.{strong_count, nodes_with, reserved_count, arith, ◌-◌, rules, uncounted_both, head_over, went_now}
 use Rattle.std.proofs.Common.{All}
 use Rattle.std.proofs.lemmas.List.Elements.{Contains-get_or}
@@ -9,15 +9,24 @@ use Rattle.forest_steps.proofs.tables.Rows.{reached_there, still_named}
 use Rattle.forest_steps.proofs.removal.remove_taken.Goals as goal
 
 -- what falls is there, since its origin is
+falls_there : (t : Table Node) (origin : NodeKey) (keys : List NodeKey) → IsForest t → IsFall t origin keys → IsSome (row_at t origin) →
+    All (λ (k : NodeKey). IsSome (row_at t k)) keys
+falls_there t origin keys forest fall there =
+    λ i d within. reached_there t forest there ((fall (get_or keys i d)).0 (Contains-get_or keys i d within))
+
+pub head_over-above-requires : goal.head_over-above-requires
+head_over-above-requires c =
+    let t = c.args.nodes.now.table in
+    let forest : IsForest t = search rules in
+    let fall : IsFall t c.args.origin c.fall_into.new.keys.items = search rules in
+    subst (All (λ (k : NodeKey). IsSome (row_at t k))) (sym c.deref.ensures.value) (falls_there t _ _ forest fall c.requires.there)
+
 pub remove_all-removed-requires-clause-there : goal.remove_all-removed-requires-clause-there
 remove_all-removed-requires-clause-there c =
     let t = c.args.nodes.now.table in
     let forest : IsForest t = search rules in
-    let keys : List NodeKey = c.fall_into.new.keys.items in
-    let fall : IsFall t c.args.origin keys = search rules in
-    let there : All (λ (k : NodeKey). IsSome (row_at t k)) keys =
-    λ i d within. reached_there t forest c.requires.there ((fall (get_or keys i d)).0 (Contains-get_or keys i d within)) in
-    subst (All (λ (k : NodeKey). IsSome (row_at t k))) (sym c.deref-2.ensures.value) there
+    let fall : IsFall t c.args.origin c.fall_into.new.keys.items = search rules in
+    subst (All (λ (k : NodeKey). IsSome (row_at t k))) (sym c.deref-2.ensures.value) (falls_there t _ _ forest fall c.requires.there)
 
 pub note_gone-requires-clause-named : goal.note_gone-requires-clause-named
 note_gone-requires-clause-named c = still_named c.requires.named c.remove_all-removed.ensures.stores

@@ -2,7 +2,8 @@
 use Rattle.forest_steps.proofs.Common.{◌≡◌, [], ◌∷◌, List, true, false, inl, inr, refl, ap}
 use Rattle.forest_steps.proofs.Common.{sym, ◌∙◌, Unit, unit_at, table_len, is_held_by, climbed}
 use Rattle.forest_steps.proofs.mid_event.EndAbove.{ended_led, held_led, may_end}
-use Rattle.std.proofs.Common.{rules}
+use Rattle.forest_steps.proofs.mid_event.AfterLosses.{head_row, lent_there}
+use Rattle.std.proofs.Common.{not, rules}
 use Rattle.forest_steps.proofs.subtree_end.end_above.Goals as goal
 
 pub returns-then-is_held_by-clause-led : goal.returns-then-is_held_by-clause-led
@@ -11,6 +12,11 @@ returns-then-is_held_by-clause-led c handles ss pending ok left =
     ap is_held_by (sym (c.unit_in.ensures ∙ ap (λ us. unit_at us c.args.head.slot) c.deref.ensures.value))
     ∙ (sym c.is_held_by.ensures ∙ c.if-is_held_by.true) in
     held_led ok left some _
+
+pub returns-then-is_none-clause-led : goal.returns-then-is_none-clause-led
+returns-then-is_none-clause-led c handles ss pending ok left =
+    let row = head_row c.args.nodes.now.table c.requires.named c.args.entry.now.keys.items c.args.head left in
+    absurd (lent_there _ (c.get.ensures ∙ row.1) (c.is_none.ensures ∙ ap not c.if-is_none.true))
 
 pub returns-clause-led : goal.returns-clause-led
 returns-clause-led c handles ss pending ok left =
@@ -26,6 +32,9 @@ returns-clause-led c handles ss pending ok left =
 
 pub returns-then-is_held_by-clause-ended : goal.returns-then-is_held_by-clause-ended
 returns-then-is_held_by-clause-ended c ss pending ok left = inl refl
+
+pub returns-then-is_none-clause-ended : goal.returns-then-is_none-clause-ended
+returns-then-is_none-clause-ended c ss pending ok left = inl refl
 
 pub returns-clause-ended : goal.returns-clause-ended
 returns-clause-ended c ss pending ok left =

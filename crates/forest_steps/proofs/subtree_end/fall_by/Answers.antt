@@ -1,6 +1,6 @@
 -- What fell is gone, and what nothing holds then ended.
-use Rattle.forest_steps.proofs.Common.{◌≡◌, refl, sym, ◌∙◌, subst, true, CollectionRow, nodes_with, is_head_left}
-use Rattle.forest_steps.proofs.mid_event.AfterLosses.{after_fall_alone, after_fall_on, head_row, lent_there}
+use Rattle.forest_steps.proofs.Common.{◌≡◌, refl, sym, subst, true, CollectionRow, nodes_with, is_head_left}
+use Rattle.forest_steps.proofs.mid_event.AfterLosses.{after_fall_alone, after_fall_on}
 use Rattle.std.proofs.Common.{rules}
 use Rattle.forest_steps.proofs.subtree_end.fall_by.Goals as goal
 
@@ -8,8 +8,8 @@ pub returns-in_default-clause-after_fall : goal.returns-in_default-clause-after_
 returns-in_default-clause-after_fall c handles ss pending u left =
     after_fall_alone _ (c.in_default.ensures.went ss _ pending u (left, refl))
 
-pub returns-then-is_some-clause-after_fall : goal.returns-then-is_some-clause-after_fall
-returns-then-is_some-clause-after_fall c handles ss pending u left =
+pub returns-in-Some-clause-after_fall : goal.returns-in-Some-clause-after_fall
+returns-in-Some-clause-after_fall c handles ss pending u left =
     let went = c.in-Some.ensures.went ss _ pending u (left, refl) in
     let still : is_head_left (nodes_with c.remove_subtree.new.nodes.table c.remove_subtree.new.entry.keys.items) c.in-Some.above ≡ true =
     subst (λ (s : CollectionRow). is_head_left (nodes_with c.remove_subtree.new.nodes.table s.keys) c.in-Some.above
@@ -17,27 +17,14 @@ returns-then-is_some-clause-after_fall c handles ss pending u left =
     after_fall_on _ went (c.end_above.ensures.led handles ss pending went.under still)
     (c.end_above.ensures.ended ss pending went.under still)
 
-pub returns-else-is_some-clause-after_fall : goal.returns-else-is_some-clause-after_fall
-returns-else-is_some-clause-after_fall c handles ss pending u left =
-    let went = c.in-Some.ensures.went ss _ pending u (left, refl) in
-    let row = head_row c.remove_subtree.new.nodes.table c.remove_subtree.ensures.named
-    c.args.entry.now.keys.items c.in-Some.above went.left in
-    absurd (lent_there _ (c.get.ensures ∙ row.1) (sym c.is_some.ensures ∙ c.if-is_some.false))
-
 pub end_above-requires-clause-named : goal.end_above-requires-clause-named
 end_above-requires-clause-named c = search rules
 
-pub returns-then-is_some-clause-named : goal.returns-then-is_some-clause-named
-returns-then-is_some-clause-named c = search rules
-
-pub returns-else-is_some-clause-named : goal.returns-else-is_some-clause-named
-returns-else-is_some-clause-named c = search rules
+pub returns-in-Some-clause-named : goal.returns-in-Some-clause-named
+returns-in-Some-clause-named c = search rules
 
 pub end_above-requires-clause-room : goal.end_above-requires-clause-room
 end_above-requires-clause-room c = search rules
-
-pub end_above-requires-clause-there : goal.end_above-requires-clause-there
-end_above-requires-clause-there c = search rules
 
 pub remove_subtree-requires-clause-named : goal.remove_subtree-requires-clause-named
 remove_subtree-requires-clause-named c = search rules
@@ -48,12 +35,6 @@ remove_subtree-requires-clause-room c = search rules
 pub remove_subtree-requires-clause-there : goal.remove_subtree-requires-clause-there
 remove_subtree-requires-clause-there c = search rules
 
-pub returns-else-is_some-clause-len : goal.returns-else-is_some-clause-len
-returns-else-is_some-clause-len c = search rules
-
-pub returns-else-is_some-clause-room : goal.returns-else-is_some-clause-room
-returns-else-is_some-clause-room c = search rules
-
 pub returns-in_default-clause-len : goal.returns-in_default-clause-len
 returns-in_default-clause-len c = search rules
 
@@ -63,8 +44,8 @@ returns-in_default-clause-named c = search rules
 pub returns-in_default-clause-room : goal.returns-in_default-clause-room
 returns-in_default-clause-room c = search rules
 
-pub returns-then-is_some-clause-len : goal.returns-then-is_some-clause-len
-returns-then-is_some-clause-len c = search rules
+pub returns-in-Some-clause-len : goal.returns-in-Some-clause-len
+returns-in-Some-clause-len c = search rules
 
-pub returns-then-is_some-clause-room : goal.returns-then-is_some-clause-room
-returns-then-is_some-clause-room c = search rules
+pub returns-in-Some-clause-room : goal.returns-in-Some-clause-room
+returns-in-Some-clause-room c = search rules

@@ -3,4 +3,4 @@ use Rattle.forest_store.proofs.tables.TakingOut.{first_child_is}
 use Rattle.forest_store.proofs.unkept.first_child.Goals as goal
 
 pub returns : goal.returns
-returns c = first_child_is _ _ c.first_child.ensures.forest _ c.first_child.ensures.value
+returns c = first_child_is _ _ c.kept_first_child.ensures.forest _ c.kept_first_child.ensures.value

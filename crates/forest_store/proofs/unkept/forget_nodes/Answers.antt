@@ -1,6 +1,6 @@
 -- The nodes that are unkept are taken out, with their keys; where none is, nothing changes.
-use Rattle.forest_store.proofs.Common.{◌≡◌, None, Some, refl, sym, ◌∙◌, subst, arith, IsStored, place_in}
-use Rattle.forest_store.proofs.leaving.EntryAt.{counted_then, forgettable, left_known, left_then}
+use Rattle.forest_store.proofs.Common.{◌≡◌, None, Some, refl, sym, ◌∙◌, subst, arith, IsStored, place_in, IsBareAt}
+use Rattle.forest_store.proofs.leaving.EntryAt.{at_place, bare_at, bare_then, counted_then, no_place, forgettable, left_known, left_then}
 use Rattle.forest_store.proofs.leaving.EntryAt.{place_told, rows_then, stays, stays_then}
 use Rattle.forest_store.proofs.leaving.Forgotten.{thin_filed}
 use Rattle.forest_store.proofs.leaving.Thinning.{all_thinned-same}
@@ -60,7 +60,14 @@ returns-then-is_unkept_known-clause-full c left =
     stays c.args.entries.now.items c.requires.kept c.requires.counted c.args.id
     (place_told _ _ _ _ _ c.deref.ensures.value c.place_of.ensures c.in-Some.is)
     (read_through c.args.entries.now.items c.in-Some.at c.get-then-is_unkept_known.ensures c.index-then-is_unkept_known.ensures)
-    (sym c.is_bare.ensures ∙ left)
+    (no_place _ _ _ c.place_if_bare.ensures left)
+
+pub returns-then-is_unkept_known-clause-bare : goal.returns-then-is_unkept_known-clause-bare
+returns-then-is_unkept_known-clause-bare c =
+    at_place _ _ (λ at. IsBareAt c.args.id at c.args.entries.now.items) _ c.place_if_bare.ensures
+    (bare_at c.args.entries.now.items c.requires.kept c.requires.counted c.args.id
+    (place_told _ _ _ _ _ c.deref.ensures.value c.place_of.ensures c.in-Some.is)
+    (read_through c.args.entries.now.items c.in-Some.at c.get-then-is_unkept_known.ensures c.index-then-is_unkept_known.ensures))
 
 pub returns-then-is_unkept_known-clause-kept : goal.returns-then-is_unkept_known-clause-kept
 returns-then-is_unkept_known-clause-kept c =
@@ -97,4 +104,10 @@ returns-clause-counted c = counted_then _ c.requires.kept c.requires.counted _ (
 pub returns-clause-full : goal.returns-clause-full
 returns-clause-full c left = stays_then _ c.requires.kept c.requires.counted _ (told c)
     (read_through c.args.entries.now.items c.in-Some.at c.get_mut-entry.ensures.value c.index_mut.ensures.value)
-    c.forget_of.ensures.entry c.forget_of.ensures.look (sym c.is_bare-2.ensures ∙ left)
+    c.forget_of.ensures.entry c.forget_of.ensures.look (no_place _ _ _ c.place_if_bare-2.ensures left)
+
+pub returns-clause-bare : goal.returns-clause-bare
+returns-clause-bare c = at_place _ _ (λ at. IsBareAt c.args.id at _) _ c.place_if_bare-2.ensures
+    (bare_then _ c.requires.kept c.requires.counted _ (told c)
+    (read_through c.args.entries.now.items c.in-Some.at c.get_mut-entry.ensures.value c.index_mut.ensures.value)
+    c.forget_of.ensures.entry c.forget_of.ensures.look)
