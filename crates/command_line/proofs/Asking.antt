@@ -8,7 +8,7 @@ use Rattle.clap.specs.Words.{Row, ReadsOne, Text, first_of, first_value, found_o
 use Rattle.clap.specs.declared.parser.matches.ArgMatches.{ArgMatches}
 use Rattle.clap.proofs.WalkLemmas.{first_value-rows, one_text-rows}
 use Rattle.command_line.specs.declared.task.Search.{Search}
-use Rattle.command_line.specs.declared.task.Until.{Until}
+use Rattle.report_io.specs.declared.view.Until.{Until}
 use Rattle.command_line.specs.Asked.{AreAsked, IsCount, IsNumberRead, IsSearch, IsUntil, IsVanishing, subcommand_text, value_text, written_number}
 
 -- the text is that of the subcommand's own matches

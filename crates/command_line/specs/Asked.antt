@@ -4,10 +4,10 @@ use Rattle.std.specs.Str.Parse.{IsNumeral, digits_value, without_leading_plus}
 use Rattle.sm_names.specs.declared.rules.TheConstants.{MAX_PAGES}
 use Rattle.clap.specs.Words.{first_of, one_of, subcommand_rows_of}
 use Rattle.clap.specs.declared.parser.matches.ArgMatches.{ArgMatches}
-use Rattle.command_line.specs.declared.task.Format.{Format}
+use Rattle.report_io.specs.declared.view.Format.{Format}
 use Rattle.command_line.specs.declared.task.Search.{Search}
 use Rattle.command_line.specs.declared.task.ScriptTask.{ScriptTask}
-use Rattle.command_line.specs.declared.task.Until.{Until}
+use Rattle.report_io.specs.declared.view.Until.{Until}
 
 -- what is read as a value of the subcommand's option of this name, given or its default: there is none without a subcommand
 abbrev pub value_text : List ℕ → ArgMatches → Option (List ℕ)

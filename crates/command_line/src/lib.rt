@@ -9,4 +9,4 @@ mod task;
 
 pub use commands::command;
 pub use request::{CommandLine, request_of};
-pub use task::{Format, ScriptTask, Search, Until, View, task_of};
+pub use task::{ScriptTask, Search, task_of};

@@ -12,7 +12,7 @@ use Rattle.report_io.proofs.LinesTaken.{taken-all, taken-at, taken-more, taken-n
 use Rattle.sm_script.specs.Scenes.{Setting}
 use Rattle.sm_script.proofs.Taking.{some_behind}
 use Rattle.script_draw.specs.declared.draw.Scroll.{Scroll}
-use Rattle.script_draw.specs.declared.draw.Until.{Until}
+use Rattle.report_io.specs.declared.view.Until.{Until}
 use Rattle.script_draw.specs.Played.{IsAhead, asked_number, found, is_reached}
 use Rattle.script_draw.specs.Reached.{PlaysLine, PlayHalts, PlayHalted, IsPlayedOn, PlayLinesHalt, Reached}
 use Rattle.script_draw.proofs.Playing.{ahead-of}

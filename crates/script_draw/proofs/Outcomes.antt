@@ -13,12 +13,12 @@ use Rattle.script_labels.specs.Names.{Names}
 use Rattle.sm_script.specs.Scenes.{Setting}
 use Rattle.script_labels.specs.Tables.{Keeps as KeepsNames}
 use Rattle.event_texts.specs.Called.{Calls}
-use Rattle.script_draw.specs.declared.draw.Format.{Format}
+use Rattle.report_io.specs.declared.view.Format.{Format}
 use Rattle.script_draw.specs.declared.draw.Scroll.{Scroll}
-use Rattle.script_draw.specs.declared.draw.View.{View}
+use Rattle.report_io.specs.declared.view.View.{View}
 use Rattle.script_draw.specs.Draws.{AreAll, Draws, PictureBefore, IsMissing, IsPicture, IsPictured}
 use Rattle.script_draw.specs.Draws.{IsUnplayed, IsUnwritten, LinesDrawn, PictureLinesStop, Pictures}
-use Rattle.script_draw.specs.declared.draw.Until.{Until}
+use Rattle.report_io.specs.declared.view.Until.{Until}
 use Rattle.script_draw.specs.Played.{ComesBefore, IsAhead, LeadsToScene, asked_number, found, is_reached, wanted}
 use Rattle.script_draw.specs.Reached.{PlayEnds, PlayHalted, IsPlayedOn, PlayLinesHalt, Reached, stops_at_line}
 use Rattle.sm_names.specs.Marks.{Entry}

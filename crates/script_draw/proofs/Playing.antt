@@ -27,7 +27,7 @@ use Rattle.picture_model.specs.PictureStates.{HasSeen, NoneSeen, OneSeen, known_
 use Rattle.picture_model.proofs.Showing.{knows-none}
 use Rattle.script_draw.specs.Draws.{IsLast}
 use Rattle.script_draw.specs.declared.draw.Scroll.{Scroll}
-use Rattle.script_draw.specs.declared.draw.Until.{Until}
+use Rattle.report_io.specs.declared.view.Until.{Until}
 use Rattle.script_draw.specs.Played.{ComesBefore, IsAhead, IsWithin, Played, Begins, Passes, Looks, Makes}
 use Rattle.script_draw.specs.Played.{LeadsToScene, WasAhead, asked_number, found, is_call, is_reached}
 use Rattle.script_draw.specs.Reached.{AsksFor, PlayHalts, PlayHalted, IsHeldUp, LineMakesCall, Reached, TakesIn}

@@ -23,9 +23,9 @@ use Rattle.picture_model.specs.declared.picture_state.PictureState.{PictureState
 use Rattle.picture_model.specs.declared.picture.Picture.{Picture}
 use Rattle.picture_model.specs.PictureStates.{HasSeen, KnowsKept, known_in}
 use Rattle.picture_model.specs.Shown.{ShowsEvent, ShowsKept}
-use Rattle.script_draw.specs.declared.draw.Format.{Format}
-use Rattle.script_draw.specs.declared.draw.View.{View}
-use Rattle.script_draw.specs.declared.draw.Until.{Until}
+use Rattle.report_io.specs.declared.view.Format.{Format}
+use Rattle.report_io.specs.declared.view.View.{View}
+use Rattle.report_io.specs.declared.view.Until.{Until}
 use Rattle.script_draw.specs.Played.{LeadsToScene, WasAhead, asked_number, found, wanted}
 use Rattle.picture_dot.specs.DotPictures.{dot_text}
 use Rattle.picture_svg.specs.SvgPictures.{svg_text}

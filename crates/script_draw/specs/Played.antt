@@ -10,7 +10,7 @@ use Rattle.script_labels.specs.declared.act.Binds.{Binds}
 use Rattle.script_labels.specs.Names.{act_in}
 use Rattle.sm_script.specs.Scenes.{LeadsTo, Scene, Setting, first_scene, next_scene}
 use Rattle.event_texts.specs.Failing.{failures}
-use Rattle.script_draw.specs.declared.draw.Until.{Until}
+use Rattle.report_io.specs.declared.view.Until.{Until}
 
 -- the act is a call, which makes an event
 abbrev pub is_call : Act → Bool

@@ -21,7 +21,7 @@ use Rattle.picture_model.specs.PictureStates.{HasSeen, KnowsKept, known_after, k
 use Rattle.picture_model.specs.Seen.{named_in}
 use Rattle.script_draw.specs.declared.draw.Scroll.{Scroll}
 use Rattle.script_draw.specs.Draws.{IsLast, PictureFault}
-use Rattle.script_draw.specs.declared.draw.Until.{Until}
+use Rattle.report_io.specs.declared.view.Until.{Until}
 use Rattle.script_draw.specs.Played.{IsAhead, IsWithin, Played, WasAhead, asked_number, found, is_reached}
 
 -- these lines were played, which have no more of what is sought than is asked for, and before the last of them fewer

@@ -5,7 +5,7 @@ ghost use Rattle.sm_names.specs.declared.messages.Call.{Call as CallMade};
 ghost use Rattle.sm_names.specs.Marks.{Entry};
 ghost use Rattle.core_state.specs.Shown.{Shows};
 ghost use Rattle.core_state.specs.State.{State};
-ghost use Rattle.script_draw.specs.declared.draw.Until.{Until as Asked};
+ghost use Rattle.report_io.specs.declared.view.Until.{Until as Asked};
 ghost use Rattle.script_labels.specs.Names.{Names};
 ghost use Rattle.sm_script.specs.Scenes.{Scene, Setting};
 ghost use Rattle.sm_script.specs.Sessions.{IsAt, IsSameSetting};
@@ -25,44 +25,14 @@ use picture_model::{Picture, PictureState, named_collection, picture_of};
 use picture_svg::push_svg;
 use picture_text::push_text;
 use report_io::{
-    ReportFault, Sought, behind, fault_of, is_indented, put_out, read_script, unended,
+    Format, ReportFault, Sought, Until, View, behind, fault_of, is_indented, put_out, read_script,
+    unended,
 };
 use script_labels::{Act, Binds, LineStop};
 use script_lines::{MOST_BYTES, Pages, line_end};
 use sm_names::{Call, ClientId, CollectionId, Limits, MAX_PAGES, NoMemory};
 use std::alloc::Global;
 use std::io::{Read, Write};
-
-/// What a picture is written as.
-#[derive(Clone, Copy)]
-pub enum Format {
-    /// Lines of UTF-8 text.
-    Text,
-    /// The language of Graphviz.
-    Dot,
-    /// A vector graphic.
-    Svg,
-}
-
-/// Behind what the trees are drawn. Numbers are from 1.
-#[derive(Clone, Copy)]
-pub enum Until {
-    /// The last line.
-    Last,
-    /// The event of this number.
-    Event(u64),
-    /// The line of this number.
-    Line(u64),
-    /// The event of this number among those in which a node failed.
-    Failure(u64),
-}
-
-/// Which picture is asked for.
-#[derive(Clone, Copy)]
-pub struct View {
-    pub format: Format,
-    pub until: Until,
-}
 
 /// The pages of the pool, and which picture is drawn.
 #[derive(Clone, Copy)]

@@ -5,6 +5,6 @@
 mod draw;
 mod program;
 
-pub use draw::{DrawJob, Format, Until, View, draw_script};
+pub use draw::{DrawJob, draw_script};
 pub use program::draw_to_exit;
-pub use report_io::ReportFault;
+pub use report_io::{Format, ReportFault, Until, View};

@@ -5,16 +5,12 @@ use Rattle.clap.specs.declared.parser.matches.ArgMatches.{ArgMatches}
 use Rattle.command_line.specs.Asked.{AreAsked, HasCertificate, HasFailures, HasFormat, HasList, HasPatience, HasRecord, HasSearch}
 use Rattle.command_line.specs.Asked.{HasSummary, HasUntil, HasVanishing, IsFile, IsTask, subcommand_text, value_text}
 use Rattle.command_line.specs.declared.request.CommandLine.{CommandLine}
-use Rattle.command_line.specs.declared.task.Format.{Format as AskedFormat}
 use Rattle.command_line.specs.declared.task.Search.{Search}
 use Rattle.command_line.specs.declared.task.ScriptTask.{ScriptTask}
-use Rattle.command_line.specs.declared.task.Until.{Until as AskedUntil}
 use Rattle.explore_model.specs.declared.plan.Waiting.{Waiting}
 use Rattle.outcome_runs.specs.declared.job.SearchJob.{SearchJob}
 use Rattle.outcome_runs.specs.Endings.{EndsExplored}
 use Rattle.script_draw.specs.Draws.{EndsDrawn}
-use Rattle.script_draw.specs.declared.draw.Format.{Format}
-use Rattle.script_draw.specs.declared.draw.Until.{Until}
 use Rattle.script_explain.specs.Comparisons.{EndsChecked}
 use Rattle.script_explain.specs.Explanations.{EndsExplained}
 use Rattle.sm_script.specs.Endings.{Ends}
@@ -32,19 +28,6 @@ output_for false = Output.Report
 abbrev pub repeats_for : Bool → ℕ
 repeats_for true = MOST_REPEATS
 repeats_for false = 0
-
--- the format that is asked for, as `script_draw` names it
-abbrev pub format_for : AskedFormat → Format
-format_for AskedFormat.Text = Format.Text
-format_for AskedFormat.Dot = Format.Dot
-format_for AskedFormat.Svg = Format.Svg
-
--- behind what the trees are drawn, as `script_draw` names it
-abbrev pub until_for : AskedUntil → Until
-until_for AskedUntil.Last = Until.Last
-until_for (AskedUntil.Event number) = Until.Event number
-until_for (AskedUntil.Line number) = Until.Line number
-until_for (AskedUntil.Failure number) = Until.Failure number
 
 -- which lines wait in a search, as `outcome_runs` names it
 abbrev pub waiting_for : Bool → Bool → Waiting
@@ -91,8 +74,7 @@ IsPlayed (ScriptTask.Explain only_failures has_summary) pages before after statu
     EndsExplained (setting_of pages) (record { only_failures = only_failures; has_summary = has_summary }) before.left after.left
     before.written after.written before.told after.told status
 IsPlayed (ScriptTask.Draw view) pages before after status =
-    EndsDrawn (setting_of pages) (record { format = format_for view.format; until = until_for view.until })
-    before.left after.left before.written after.written before.told after.told status
+    EndsDrawn (setting_of pages) view before.left after.left before.written after.written before.told after.told status
 IsPlayed ScriptTask.Check pages before after status =
     EndsChecked (setting_of pages) before.left after.left before.written after.written before.told after.told status
 IsPlayed (ScriptTask.Explore search) pages before after status =

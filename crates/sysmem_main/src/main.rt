@@ -10,12 +10,12 @@ ghost use Rattle.std.specs.Prelude.{◌≡◌, IfErr, MatchResult, option_map};
 ghost use Rattle.std.specs.Process.{exit_status};
 ghost use Rattle.std.specs.IoError.{error_kind};
 ghost use Rattle.clap.specs.Words.{kind_of};
-ghost use Rattle.sysmem_main.specs.Jobs.{IsAnswered, IsPlayed, IsRead, format_for, job_for, output_for, repeats_for, streams, until_for, waiting_for};
+ghost use Rattle.sysmem_main.specs.Jobs.{IsAnswered, IsPlayed, IsRead, job_for, output_for, repeats_for, streams, waiting_for};
 ghost use Rattle.sysmem_main.specs.Statuses.{IsRefused, IsUnreadStatus, help_status, refusal_status, unread_status};
 
 use clap::error::ErrorKind;
 use clap::{ArgMatches, Error};
-use command_line::{CommandLine, Format, ScriptTask, Search, Until, View, command, request_of};
+use command_line::{CommandLine, ScriptTask, Search, command, request_of};
 use explore_model::Waiting;
 use messages::{Misplaced, NAME, NO_COMMAND, Unopened, misplaced_file, reason_of};
 use outcome_runs::{SearchHost, explore_to_exit};
@@ -317,7 +317,6 @@ fn play<H: Threads + Wait + Clock + Sync, R: Read, W: Write, F: Write>(
             explain_to_exit(alloc, seed, reader, writer, faults, job)
         }
         ScriptTask::Draw(view) => {
-            let view = drawn(view);
             draw_to_exit(alloc, seed, reader, writer, faults, DrawJob { pages, view })
         }
         ScriptTask::Check => check_to_exit(alloc, seed, reader, writer, faults, pages),
@@ -374,32 +373,5 @@ fn job_of<'a>(pages: Pages, search: Search<'a>) -> outcome_runs::SearchJob<'a>
         states: search.states,
         certifies: search.certifies,
         lists: search.lists,
-    }
-}
-
-// The picture that is asked for, as `script_draw` names it.
-fn drawn(view: View) -> script_draw::View
-    ensures { result ≡ record { format = format_for view.format; until = until_for view.until } }
-{
-    let format = match view.format {
-        Format::Text => script_draw::Format::Text,
-        Format::Dot => script_draw::Format::Dot,
-        Format::Svg => script_draw::Format::Svg,
-    };
-    script_draw::View {
-        format,
-        until: drawn_until(view.until),
-    }
-}
-
-// Behind what the trees are drawn, as `script_draw` names it.
-fn drawn_until(until: Until) -> script_draw::Until
-    ensures { result ≡ until_for until }
-{
-    match until {
-        Until::Last => script_draw::Until::Last,
-        Until::Event(number) => script_draw::Until::Event(number),
-        Until::Line(number) => script_draw::Until::Line(number),
-        Until::Failure(number) => script_draw::Until::Failure(number),
     }
 }
