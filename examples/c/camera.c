@@ -86,6 +86,7 @@ static void show(void) {
 
 static void look(uint64_t collection, uint64_t client) {
     sysmem_node nodes[8];
+    sysmem_holder holders[8];
     uint64_t count = 0, i;
     uint32_t buffers = 0, size = 0, open = 0, parcels = 0;
     sysmem_nodes(&core, nodes, 8, &count);
@@ -98,6 +99,10 @@ static void look(uint64_t collection, uint64_t client) {
     sysmem_handles_in_parcels(&core, collection, 0, SYSMEM_STRONG, &parcels);
     printf("given %u buffers of %u bytes; handles on the first: client %llu %u, parcels %u\n",
            buffers, size, (unsigned long long)client, open, parcels);
+    sysmem_holders(&core, collection, 0, holders, 8, &count);
+    for (i = 0; i < count && i < 8; i++)
+        printf("who has the first: client %llu, %u strong, %u weak\n",
+               (unsigned long long)holders[i].client, holders[i].strong, holders[i].weak);
 }
 
 static void ask(const char *who, sysmem_key key) {

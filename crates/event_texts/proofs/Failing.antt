@@ -1,17 +1,14 @@
 -- The events in which nodes failed are counted.
-use Rattle.std.proofs.Common.{◌≡◌, ℕ, ◌+◌, ◌≤◌, min, ◌||◌, Bool, true, false, if◌then◌else◌, List, []}
-use Rattle.std.proofs.Common.{◌∷◌, ◌++◌, length, length-append, map, refl, sym, ap, ◌∙◌, subst, arith}
+use Rattle.event_texts.proofs.Common.{Bool, Call, Called, List, Mark, Moment, Reply, [], ap, arith, failures, failures_with, false}
+use Rattle.event_texts.proofs.Common.{if◌then◌else◌, laid_on, length, map, refl, subst, sym, timeline, true, ℕ, ◌++◌, ◌+◌, ◌∙◌, ◌∷◌, ◌≡◌}
+use Rattle.std.proofs.Common.{◌≤◌, min, ◌||◌, length-append}
 use Rattle.std.proofs.lemmas.List.Sums.{fold-append}
-use Rattle.sm_names.specs.declared.messages.Call.{Call}
-use Rattle.sm_names.specs.declared.messages.Reply.{Reply}
-use Rattle.sm_names.specs.Marks.{Called, Entry, Mark, Timeline, Loss, Allocated, Ended, events}
-use Rattle.sm_names.specs.Timelines.{after, timeline}
+use Rattle.sm_names.specs.Marks.{Entry, Timeline, Loss, Allocated, Ended, events}
+use Rattle.sm_names.specs.Timelines.{after}
 use Rattle.core_state.proofs.theorem.EventCount.{events-timeline}
 use Rattle.forced_marks.specs.declared.decision.Forced.{Forced}
-use Rattle.forced_marks.specs.declared.moment.Moment.{Moment}
-use Rattle.forced_marks.specs.Marks.{laid_on}
 use Rattle.forced_marks.specs.Steps.{mark_told}
-use Rattle.event_texts.specs.Failing.{failures, failures_from, failures_with, has_failure, is_failure}
+use Rattle.event_texts.specs.Failing.{failures_from, has_failure, is_failure}
 
 -- the marks of moments
 abbrev marks_in : List Moment → List Mark

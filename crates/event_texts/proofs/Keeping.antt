@@ -1,10 +1,7 @@
 -- Buffers and their holders, one more at a time.
-use Rattle.std.proofs.Common.{◌≡◌, ◌∙◌, ap, sym, ℕ, List, ◌∷◌, ◌++◌, append_assoc}
-use Rattle.std.specs.Prelude.{codes}
-use Rattle.sm_names.specs.declared.keys.HeldBuffer.{HeldBuffer}
-use Rattle.script_labels.specs.Names.{Names}
-use Rattle.script_labels.specs.Texts.{buffer_text}
-use Rattle.event_texts.specs.EventTexts.{between_buffers, kept_behind, kept_from}
+use Rattle.event_texts.proofs.Common.{HeldBuffer, List, Names, ap, append_assoc, between_buffers, buffer_text, codes, kept_behind, sym, ℕ}
+use Rattle.event_texts.proofs.Common.{◌++◌, ◌∙◌, ◌∷◌, ◌≡◌}
+use Rattle.event_texts.specs.EventTexts.{kept_from}
 
 module _ (names : Names) (who : HeldBuffer → List ℕ) where
   -- the first buffer, and those behind it

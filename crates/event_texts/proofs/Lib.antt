@@ -1,3 +1,4 @@
+mod Common
 pub mod Failing
 pub mod Keeping
 pub mod Loops

@@ -1,12 +1,8 @@
 -- The lines that an event writer keeps with losses.
-use Rattle.std.proofs.Common.{◌≡◌, ◌∙◌, ap, sym, cond, Bool, true, false, List, Option, Some}
-use Rattle.std.specs.Map.{lookup}
-use Rattle.std.specs.Option.{option_map}
-use Rattle.sm_names.specs.Sameness.{same_key}
-use Rattle.forced_marks.specs.declared.moment.Moment.{Moment}
-use Rattle.event_texts.specs.declared.event_writer.EventWriter.{EventWriter}
-use Rattle.event_texts.specs.Deeds.{DeedLines, KeptLines, Recalls, RecallsDeeds, same_deed}
-use Rattle.event_texts.specs.LostLines.{LossLines, NumberedLine, RecallsLosses, kept_line, with_losses}
+use Rattle.event_texts.proofs.Common.{Bool, EventWriter, KeptLines, List, LossLines, Moment, NumberedLine, Option, Recalls, RecallsDeeds}
+use Rattle.event_texts.proofs.Common.{RecallsLosses, Some, ap, cond, false, kept_line, lookup, option_map, same_deed, same_key, sym, true}
+use Rattle.event_texts.proofs.Common.{with_losses, ◌∙◌, ◌≡◌}
+use Rattle.event_texts.specs.Deeds.{DeedLines}
 
 -- a value in the place of those of a key
 pub mapped-cond : {A B : Type 0} (f : A → B) (test : Bool) (a : A) (b : B) (o : Option A) (p : Option B) → f a ≡ b → option_map f o ≡ p →

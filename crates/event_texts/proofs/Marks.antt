@@ -1,11 +1,8 @@
 -- What stands behind a mark.
-use Rattle.std.proofs.Common.{◌≡◌, ◌∙◌, ap, List, Option, Some, None}
-use Rattle.std.specs.Option.{IfSome, option_and_then, option_map}
-use Rattle.sm_names.specs.declared.keys.HeldBuffer.{HeldBuffer}
-use Rattle.sm_names.specs.declared.outcomes.Buffers.{Buffers}
+use Rattle.event_texts.proofs.Common.{Buffers, HeldBuffer, IfSome, List, None, Option, Some, ap, option_and_then, option_map, placed_in}
+use Rattle.event_texts.proofs.Common.{◌∙◌, ◌≡◌}
 use Rattle.forest_store.specs.declared.snapshot.Snapshot.{Snapshot}
 use Rattle.event_facts.specs.Events.{snapshot_held}
-use Rattle.event_texts.specs.MarkTexts.{placed_in}
 
 -- the buffers that are found are those that are there
 pub placed_is : {P : Type 0} (given : P → Buffers) (pages : P → List HeldBuffer) (found : Option P) (scene : Option Snapshot) →

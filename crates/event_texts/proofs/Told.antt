@@ -1,22 +1,12 @@
 -- A line that was answered, and whose facts were told.
-use Rattle.std.proofs.Common.{◌≡◌, ℕ, List, refl, ap, sym, ◌∙◌, subst, Some}
-use Rattle.sm_names.specs.declared.messages.Call.{Call}
-use Rattle.sm_names.specs.Timelines.{timeline}
-use Rattle.event_facts.specs.declared.event.Event.{Event}
-use Rattle.script_labels.specs.declared.act.Act.{Act}
+use Rattle.event_texts.proofs.Common.{Act, Call, Calls, Event, EventWriter, IsAt, Keeps, KeptLines, Labels, List, Names, Recalls, Scene}
+use Rattle.event_texts.proofs.Common.{Session, Some, TellsFacts, act_in, ap, as_line, failures, next_scene, refl, reply_text, subst, sym}
+use Rattle.event_texts.proofs.Common.{timeline, with_event, ℕ, ◌∙◌, ◌≡◌}
 use Rattle.script_labels.specs.declared.act.Binds.{Binds}
-use Rattle.script_labels.specs.Names.{Names, act_in}
-use Rattle.script_labels.specs.Tables.{Keeps}
-use Rattle.script_labels.specs.Texts.{reply_text}
-use Rattle.sm_script.specs.declared.session.Session.{Session}
-use Rattle.sm_script.specs.Scenes.{ActGives, Scene, as_line, next_scene}
-use Rattle.sm_script.specs.Sessions.{Advances, IsAt, IsSameSetting}
-use Rattle.event_texts.specs.declared.labels.Labels.{Labels}
-use Rattle.event_texts.specs.declared.event_writer.EventWriter.{EventWriter}
-use Rattle.event_texts.specs.Called.{Calls, Knows}
-use Rattle.event_texts.specs.Failing.{failures}
-use Rattle.event_texts.specs.Deeds.{KeptLines, Recalls, with_event}
-use Rattle.event_texts.specs.EventLines.{IsEventOf, TellsAct, TellsFacts, TellsLine}
+use Rattle.sm_script.specs.Scenes.{ActGives}
+use Rattle.sm_script.specs.Sessions.{Advances, IsSameSetting}
+use Rattle.event_texts.specs.Called.{Knows}
+use Rattle.event_texts.specs.EventLines.{IsEventOf, TellsAct, TellsLine}
 use Rattle.event_texts.proofs.Losing.{recalls-same}
 
 module _ (old new : EventWriter) (number : ℕ) (line reply facts : List ℕ) (scene : Scene) (lines : KeptLines) (knows : Knows old scene)

@@ -93,18 +93,22 @@ abbrev pub camped_text : ℕ → ℕ → ℕ → List ℕ
 camped_text camping taken count = concat (
     codes "it camps on "
     ∷ decimal camping
-    ∷ codes ", and "
+    ∷ codes ", with "
     ∷ decimal taken
-    ∷ codes " of the "
+    ∷ codes " of "
     ∷ counted count (codes "buffer")
-    ∷ codes " are reserved"
+    ∷ codes " reserved"
     ∷ []
     )
 
--- it asks for this many at least, and there are this many
+-- it asks for this many at least, and the collection has this many
 abbrev pub least_text : ℕ → ℕ → List ℕ
 least_text at_least count = concat (
-    codes "it asks for at least " ∷ decimal at_least ∷ codes ", and there are " ∷ counted count (codes "buffer") ∷ []
+    codes "it asks for at least "
+    ∷ decimal at_least
+    ∷ codes ", and the collection has "
+    ∷ counted count (codes "buffer")
+    ∷ []
     )
 
 -- on how many buffers the allocated units camp

@@ -10,7 +10,8 @@ use crate::words::{PAGE, misuse_words, push_name, push_nodes, shown};
 use event_facts::KeyRows;
 use event_facts::failure_path::{Stop, stop_at, way_up};
 use event_facts::takings::{handed_on, taken_under};
-use forced_marks::demand::{TotalDemand, reserved, total_demand};
+use forced_marks::demand::{reserved, total_demand};
+use forest_steps::demand::TotalDemand;
 use forest_store::{Node, Snapshot};
 use script_labels::{Tables, push_cause};
 use script_lines::{Part, push, push_parts};
@@ -243,16 +244,16 @@ fn push_camped(text: &mut Vec<u8>, camping: u64, taken: u64, count: u64) -> Resu
         &[
             Part::Word("it camps on "),
             Part::Number(camping),
-            Part::Word(", and "),
+            Part::Word(", with "),
             Part::Number(taken),
-            Part::Word(" of the "),
+            Part::Word(" of "),
             Part::Counted(count, "buffer"),
-            Part::Word(" are reserved"),
+            Part::Word(" reserved"),
         ],
     )
 }
 
-// Appends that the unit asks for this many buffers at least, and there are this many.
+// Appends that the unit asks for this many buffers at least, and the collection has this many.
 fn push_least(text: &mut Vec<u8>, at_least: u64, count: u64) -> Result<(), AllocError>
     ensures { OnOk result (text.new.items ≡ text.old.items ++ least_text at_least count) }
 {
@@ -261,7 +262,7 @@ fn push_least(text: &mut Vec<u8>, at_least: u64, count: u64) -> Result<(), Alloc
         &[
             Part::Word("it asks for at least "),
             Part::Number(at_least),
-            Part::Word(", and there are "),
+            Part::Word(", and the collection has "),
             Part::Counted(count, "buffer"),
         ],
     )

@@ -1,5 +1,4 @@
-use Rattle.std.proofs.Common.{arith, sym}
-use Rattle.event_texts.specs.EventTexts.{camp_text}
+use Rattle.event_texts.proofs.Common.{arith, camp_text, sym}
 use Rattle.event_texts.proofs.Loops.{one-more}
 use Rattle.event_texts.proofs.allocations.push_each_camp.Goals as goal
 

@@ -1,8 +1,4 @@
-use Rattle.std.proofs.Common.{◌≡◌, ◌++◌, take}
-use Rattle.std.specs.List.{flat_map}
-use Rattle.script_labels.specs.Names.{Names}
-use Rattle.script_labels.specs.Tables.{Keeps}
-use Rattle.event_texts.specs.EventTexts.{camp_text}
+use Rattle.event_texts.proofs.Common.{Keeps, Names, camp_text, flat_map, take, ◌++◌, ◌≡◌}
 use Rattle.event_texts.proofs.allocations.push_each_camp.Given as goal
 
 -- those so far

@@ -1,5 +1,4 @@
-use Rattle.std.proofs.Common.{arith}
-use Rattle.script_labels.specs.Texts.{held_text}
+use Rattle.event_texts.proofs.Common.{arith, held_text}
 use Rattle.event_texts.proofs.Loops.{one-read}
 use Rattle.event_texts.proofs.allocations.push_each_held.Goals as goal
 

@@ -1,8 +1,4 @@
-use Rattle.std.proofs.Common.{◌≡◌, ◌++◌, take}
-use Rattle.std.specs.List.{flat_map}
-use Rattle.script_labels.specs.Names.{Names}
-use Rattle.script_labels.specs.Tables.{Keeps}
-use Rattle.script_labels.specs.Texts.{held_text}
+use Rattle.event_texts.proofs.Common.{Keeps, Names, flat_map, held_text, take, ◌++◌, ◌≡◌}
 use Rattle.event_texts.proofs.allocations.push_each_held.Given as goal
 
 -- those so far

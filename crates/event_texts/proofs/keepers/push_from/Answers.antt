@@ -1,5 +1,4 @@
-use Rattle.std.proofs.lemmas.Result.{on_ok_weaker}
-use Rattle.event_texts.specs.KeeperTexts.{who_has_with}
+use Rattle.event_texts.proofs.Common.{on_ok_weaker, who_has_with}
 use Rattle.event_texts.proofs.Keeping.{first-kept}
 use Rattle.event_texts.proofs.keepers.push_from.Goals as goal
 

@@ -1,10 +1,6 @@
-use Rattle.std.proofs.Common.{◌∙◌, ap, sym, ◌++◌, List, ℕ}
-use Rattle.std.proofs.lemmas.List.{nil_from_length}
-use Rattle.std.proofs.lemmas.Result.{on_ok_weaker}
-use Rattle.sm_names.specs.declared.keys.HeldBuffer.{HeldBuffer}
-use Rattle.script_labels.specs.Texts.{buffer_text}
-use Rattle.event_texts.specs.EventTexts.{between_buffers, by_text, kept_behind}
-use Rattle.event_texts.specs.KeeperTexts.{who_has_with}
+use Rattle.event_texts.proofs.Common.{HeldBuffer, List, ap, between_buffers, buffer_text, kept_behind, nil_from_length, on_ok_weaker, sym}
+use Rattle.event_texts.proofs.Common.{who_has_with, ℕ, ◌++◌, ◌∙◌}
+use Rattle.event_texts.specs.EventTexts.{by_text}
 use Rattle.event_texts.proofs.Keeping.{next-kept}
 use Rattle.event_texts.proofs.keepers.push_later.Goals as goal
 

@@ -1,9 +1,4 @@
-use Rattle.std.proofs.Common.{◌≡◌, ◌++◌, length}
-use Rattle.script_labels.specs.Names.{Names}
-use Rattle.script_labels.specs.Tables.{Keeps}
-use Rattle.event_texts.specs.Called.{Calls}
-use Rattle.event_texts.specs.EventTexts.{kept_behind}
-use Rattle.event_texts.specs.KeeperTexts.{who_has_with}
+use Rattle.event_texts.proofs.Common.{Calls, Keeps, Names, kept_behind, length, who_has_with, ◌++◌, ◌≡◌}
 use Rattle.event_texts.proofs.keepers.push_later.Given as goal
 
 -- the text so far, with that of the buffers that are left, is that of all

@@ -1,5 +1,4 @@
-use Rattle.std.proofs.Common.{arith}
-use Rattle.event_texts.specs.FactTexts.{next_holder}
+use Rattle.event_texts.proofs.Common.{arith, next_holder}
 use Rattle.event_texts.proofs.Loops.{one-read}
 use Rattle.event_texts.proofs.keepers.push_others.Goals as goal
 

@@ -1,8 +1,4 @@
-use Rattle.std.proofs.Common.{◌≡◌, ◌++◌, take}
-use Rattle.std.specs.List.{flat_map}
-use Rattle.script_labels.specs.Names.{Names}
-use Rattle.event_texts.specs.Called.{Calls}
-use Rattle.event_texts.specs.FactTexts.{next_holder}
+use Rattle.event_texts.proofs.Common.{Calls, Names, flat_map, next_holder, take, ◌++◌, ◌≡◌}
 use Rattle.event_texts.proofs.keepers.push_others.Given as goal
 
 abbrev pub invariant-loop-holder : goal.invariant-loop-holder

@@ -1,5 +1,4 @@
-use Rattle.std.proofs.Common.{arith}
-use Rattle.event_texts.specs.LossTexts.{next_above}
+use Rattle.event_texts.proofs.Common.{arith, next_above}
 use Rattle.event_texts.proofs.Loops.{one-read}
 use Rattle.event_texts.proofs.losses.push_above.Goals as goal
 

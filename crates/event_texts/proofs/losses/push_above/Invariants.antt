@@ -1,8 +1,4 @@
-use Rattle.std.proofs.Common.{◌≡◌, ◌++◌, take}
-use Rattle.std.specs.List.{flat_map}
-use Rattle.script_labels.specs.Names.{Names}
-use Rattle.script_labels.specs.Tables.{Keeps}
-use Rattle.event_texts.specs.LossTexts.{next_above}
+use Rattle.event_texts.proofs.Common.{Keeps, Names, flat_map, next_above, take, ◌++◌, ◌≡◌}
 use Rattle.event_texts.proofs.losses.push_above.Given as goal
 
 -- those so far

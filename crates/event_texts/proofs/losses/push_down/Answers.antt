@@ -1,8 +1,6 @@
-use Rattle.std.proofs.Common.{◌∙◌, ap, List, ◌++◌}
-use Rattle.std.specs.List.{flat_map}
-use Rattle.std.proofs.lemmas.Result.{on_ok_weaker}
+use Rattle.event_texts.proofs.Common.{List, ap, flat_map, handing_text, on_ok_weaker, ◌++◌, ◌∙◌}
 use Rattle.forest_store.specs.declared.node.Node.{Node}
-use Rattle.event_texts.specs.LossTexts.{handed_text, handing_text}
+use Rattle.event_texts.specs.LossTexts.{handed_text}
 use Rattle.event_texts.proofs.losses.push_down.Goals as goal
 
 -- each hands on to those in its row

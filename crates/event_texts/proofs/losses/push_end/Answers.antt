@@ -1,7 +1,5 @@
-use Rattle.std.proofs.Common.{[]}
-use Rattle.std.specs.Prelude.{codes}
-use Rattle.std.proofs.lemmas.Result.{on_ok_weaker}
-use Rattle.event_texts.specs.LossTexts.{down_text, name_text}
+use Rattle.event_texts.proofs.Common.{[], codes, name_text, on_ok_weaker}
+use Rattle.event_texts.specs.LossTexts.{down_text}
 use Rattle.event_texts.proofs.Pieces.{two-and}
 use Rattle.event_texts.proofs.losses.push_end.Goals as goal
 

@@ -1,5 +1,4 @@
-use Rattle.std.proofs.Common.{◌∙◌, ◌++◌, ℕ, ap}
-use Rattle.std.proofs.lemmas.Result.{on_ok_weaker}
+use Rattle.event_texts.proofs.Common.{ap, on_ok_weaker, ℕ, ◌++◌, ◌∙◌}
 use Rattle.event_texts.specs.LossTexts.{asked_camping, asked_least, failure_text}
 use Rattle.event_texts.proofs.losses.push_failed.Goals as goal
 

@@ -1,6 +1,4 @@
-use Rattle.std.specs.Prelude.{codes}
-use Rattle.std.proofs.lemmas.Result.{on_ok_weaker}
-use Rattle.event_texts.specs.LossTexts.{name_text}
+use Rattle.event_texts.proofs.Common.{codes, name_text, on_ok_weaker}
 use Rattle.event_texts.proofs.Pieces.{four, pair-and}
 use Rattle.event_texts.proofs.losses.push_fault.Goals as goal
 

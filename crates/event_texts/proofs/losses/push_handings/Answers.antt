@@ -1,6 +1,4 @@
-use Rattle.std.proofs.Common.{◌∙◌, ap, arith, sym, ◌++◌}
-use Rattle.event_facts.specs.KeyMaps.{values_at}
-use Rattle.event_texts.specs.LossTexts.{handed_by, handing_text}
+use Rattle.event_texts.proofs.Common.{ap, arith, handed_by, handing_text, sym, values_at, ◌++◌, ◌∙◌}
 use Rattle.event_texts.proofs.Loops.{one-more}
 use Rattle.event_texts.proofs.losses.push_handings.Goals as goal
 

@@ -1,9 +1,4 @@
-use Rattle.std.proofs.Common.{◌≡◌, ◌++◌, take}
-use Rattle.std.specs.List.{flat_map}
-use Rattle.event_facts.specs.KeyMaps.{values_at}
-use Rattle.script_labels.specs.Names.{Names}
-use Rattle.script_labels.specs.Tables.{Keeps}
-use Rattle.event_texts.specs.LossTexts.{handed_by}
+use Rattle.event_texts.proofs.Common.{Keeps, Names, flat_map, handed_by, take, values_at, ◌++◌, ◌≡◌}
 use Rattle.event_texts.proofs.losses.push_handings.Given as goal
 
 -- those so far

@@ -1,5 +1,4 @@
-use Rattle.std.proofs.Common.{arith, sym}
-use Rattle.event_texts.specs.EventTexts.{next_waited}
+use Rattle.event_texts.proofs.Common.{arith, next_waited, sym}
 use Rattle.event_texts.proofs.Loops.{one-more}
 use Rattle.event_texts.proofs.outcomes.push_others.Goals as goal
 

@@ -1,9 +1,4 @@
-use Rattle.std.proofs.Common.{◌≡◌, ◌++◌, take}
-use Rattle.std.specs.List.{flat_map}
-use Rattle.script_labels.specs.Names.{Names}
-use Rattle.script_labels.specs.Tables.{Keeps}
-use Rattle.event_texts.specs.Called.{Calls}
-use Rattle.event_texts.specs.EventTexts.{next_waited}
+use Rattle.event_texts.proofs.Common.{Calls, Keeps, Names, flat_map, next_waited, take, ◌++◌, ◌≡◌}
 use Rattle.event_texts.proofs.outcomes.push_others.Given as goal
 
 -- those so far

@@ -1,5 +1,4 @@
-use Rattle.std.proofs.Common.{arith}
-use Rattle.event_texts.specs.EventTexts.{tracker_text}
+use Rattle.event_texts.proofs.Common.{arith, tracker_text}
 use Rattle.event_texts.proofs.Loops.{one-read}
 use Rattle.event_texts.proofs.outcomes.push_trackers.Goals as goal
 

@@ -1,8 +1,5 @@
-use Rattle.std.proofs.Common.{length}
-use Rattle.std.specs.Prelude.{codes}
-use Rattle.std.proofs.lemmas.Result.{on_ok_weaker}
-use Rattle.event_texts.specs.LossTexts.{counted}
-use Rattle.event_texts.specs.SummaryTexts.{colon, failing_text}
+use Rattle.event_texts.proofs.Common.{codes, colon, counted, length, on_ok_weaker}
+use Rattle.event_texts.specs.SummaryTexts.{failing_text}
 use Rattle.event_texts.proofs.Pieces.{three-two}
 use Rattle.event_texts.proofs.summary.push_failing.Goals as goal
 

@@ -1,5 +1,4 @@
-use Rattle.std.proofs.Common.{arith}
-use Rattle.event_texts.specs.SummaryTexts.{number_text}
+use Rattle.event_texts.proofs.Common.{arith, number_text}
 use Rattle.event_texts.proofs.Loops.{one-read}
 use Rattle.event_texts.proofs.summary.push_numbers.Goals as goal
 

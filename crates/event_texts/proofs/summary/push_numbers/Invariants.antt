@@ -1,6 +1,4 @@
-use Rattle.std.proofs.Common.{◌≡◌, ◌++◌, take}
-use Rattle.std.specs.List.{flat_map}
-use Rattle.event_texts.specs.SummaryTexts.{number_text}
+use Rattle.event_texts.proofs.Common.{flat_map, number_text, take, ◌++◌, ◌≡◌}
 use Rattle.event_texts.proofs.summary.push_numbers.Given as goal
 
 -- those so far

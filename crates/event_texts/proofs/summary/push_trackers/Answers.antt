@@ -1,5 +1,4 @@
-use Rattle.std.proofs.Common.{arith}
-use Rattle.event_texts.specs.SummaryTexts.{waiting_label}
+use Rattle.event_texts.proofs.Common.{arith, waiting_label}
 use Rattle.event_texts.proofs.Loops.{one-read}
 use Rattle.event_texts.proofs.summary.push_trackers.Goals as goal
 

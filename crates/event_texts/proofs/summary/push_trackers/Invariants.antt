@@ -1,8 +1,4 @@
-use Rattle.std.proofs.Common.{◌≡◌, ◌++◌, take}
-use Rattle.std.specs.List.{flat_map}
-use Rattle.script_labels.specs.Names.{Names}
-use Rattle.script_labels.specs.Tables.{Keeps}
-use Rattle.event_texts.specs.SummaryTexts.{waiting_label}
+use Rattle.event_texts.proofs.Common.{Keeps, Names, flat_map, take, waiting_label, ◌++◌, ◌≡◌}
 use Rattle.event_texts.proofs.summary.push_trackers.Given as goal
 
 -- those so far

@@ -1,6 +1,4 @@
-use Rattle.std.proofs.Common.{ap, ◌∙◌, ◌++◌, List, ℕ}
-use Rattle.std.proofs.lemmas.Result.{on_ok_weaker}
-use Rattle.event_texts.specs.SummaryTexts.{waiting_text}
+use Rattle.event_texts.proofs.Common.{List, ap, on_ok_weaker, waiting_text, ℕ, ◌++◌, ◌∙◌}
 use Rattle.event_texts.proofs.summary.push_waiting.Goals as goal
 
 -- those that were found

@@ -1,6 +1,5 @@
-use Rattle.std.proofs.Common.{◌≡◌, ◌∙◌, ◌+◌, if◌then◌else◌, ap, sym, arith, Bool, ℕ, List, [], ◌∷◌, ◌++◌}
+use Rattle.event_texts.proofs.Common.{Bool, Fired, List, [], ap, arith, if◌then◌else◌, sym, ℕ, ◌++◌, ◌+◌, ◌∙◌, ◌∷◌, ◌≡◌}
 use Rattle.std.proofs.lemmas.List.FromFn.{filter_of_map_range_with_len_more}
-use Rattle.sm_names.specs.declared.tracking.Fired.{Fired}
 use Rattle.event_texts.specs.SummaryTexts.{is_waiting}
 use Rattle.event_texts.proofs.summary.waiting_trackers.Goals as goal
 

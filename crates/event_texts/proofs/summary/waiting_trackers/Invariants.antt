@@ -1,6 +1,4 @@
-use Rattle.std.proofs.Common.{◌≡◌}
-use Rattle.script_labels.specs.Names.{Names}
-use Rattle.script_labels.specs.Tables.{Keeps}
+use Rattle.event_texts.proofs.Common.{Keeps, Names, ◌≡◌}
 use Rattle.event_texts.specs.SummaryTexts.{waiting_of}
 use Rattle.event_texts.proofs.summary.waiting_trackers.Given as goal
 

@@ -1,5 +1,4 @@
-use Rattle.std.proofs.Common.{arith}
-use Rattle.script_labels.specs.Texts.{node_text}
+use Rattle.event_texts.proofs.Common.{arith, node_text}
 use Rattle.event_texts.proofs.Loops.{one-read}
 use Rattle.event_texts.proofs.words.push_nodes.Goals as goal
 

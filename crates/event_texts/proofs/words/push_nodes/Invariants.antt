@@ -1,8 +1,4 @@
-use Rattle.std.proofs.Common.{◌≡◌, ◌++◌, take}
-use Rattle.std.specs.List.{flat_map}
-use Rattle.script_labels.specs.Names.{Names}
-use Rattle.script_labels.specs.Tables.{Keeps}
-use Rattle.script_labels.specs.Texts.{node_text}
+use Rattle.event_texts.proofs.Common.{Keeps, Names, flat_map, node_text, take, ◌++◌, ◌≡◌}
 use Rattle.event_texts.proofs.words.push_nodes.Given as goal
 
 abbrev pub invariant-loop-node : goal.invariant-loop-node

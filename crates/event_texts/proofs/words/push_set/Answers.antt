@@ -1,9 +1,7 @@
-use Rattle.std.proofs.Common.{◌≡◌, ◌∙◌, ap, sym, ℕ, ◌++◌, append_assoc, arith}
-use Rattle.std.specs.List.{flat_map}
+use Rattle.event_texts.proofs.Common.{ap, append_assoc, arith, flat_map, member_text, sym, ℕ, ◌++◌, ◌∙◌, ◌≡◌}
 use Rattle.event_texts.specs.declared.words.TheConstants.{SET_BITS}
 use Rattle.sm_names.specs.declared.keys.BufferName.{BufferName}
 use Rattle.sm_names.specs.Handles.{names as names_of}
-use Rattle.script_labels.specs.Texts.{member_text}
 use Rattle.script_labels.proofs.Members.{members-more}
 use Rattle.event_texts.proofs.words.push_set.Goals as goal
 

@@ -1,9 +1,5 @@
-use Rattle.std.proofs.Common.{◌≡◌, ◌++◌}
-use Rattle.std.specs.List.{flat_map}
+use Rattle.event_texts.proofs.Common.{Keeps, Names, flat_map, member_text, ◌++◌, ◌≡◌}
 use Rattle.sm_names.specs.Handles.{names as names_of}
-use Rattle.script_labels.specs.Names.{Names}
-use Rattle.script_labels.specs.Tables.{Keeps}
-use Rattle.script_labels.specs.Texts.{member_text}
 use Rattle.event_texts.proofs.words.push_set.Given as goal
 
 -- the buffers below the index

@@ -1,13 +1,9 @@
-use Rattle.std.proofs.Common.{◌≡◌, ℕ, List, [], refl, ap, sym, ◌∙◌, subst, Option, Some, None}
-use Rattle.std.proofs.lemmas.Result.{on_ok_weaker, IfErr-weaker}
-use Rattle.script_labels.specs.declared.act.Act.{Act}
-use Rattle.sm_script.specs.declared.session.Session.{Session}
+use Rattle.event_texts.proofs.Common.{Act, EventWriter, IsAt, List, None, Option, Scene, Session, Some, [], act_in, ap, on_ok_weaker}
+use Rattle.event_texts.proofs.Common.{refl, subst, sym, ℕ, ◌∙◌, ◌≡◌}
+use Rattle.std.proofs.lemmas.Result.{IfErr-weaker}
 use Rattle.script_labels.specs.declared.stop.LineStop.{LineStop}
-use Rattle.script_labels.specs.Names.{act_in}
-use Rattle.sm_script.specs.Scenes.{Scene}
-use Rattle.sm_script.specs.Sessions.{Gains, IsAt, IsStopped}
+use Rattle.sm_script.specs.Sessions.{Gains, IsStopped}
 use Rattle.sm_script.proofs.Advancing.{gains-answer}
-use Rattle.event_texts.specs.declared.event_writer.EventWriter.{EventWriter}
 use Rattle.event_texts.proofs.Told.{told-call, told-look}
 use Rattle.event_texts.proofs.event_writer.EventWriter.answer.Goals as goal
 

@@ -1,9 +1,4 @@
-use Rattle.std.proofs.Common.{ap, sym}
-use Rattle.std.specs.Map.{lookup}
-use Rattle.std.specs.Option.{option_map}
-use Rattle.sm_names.specs.Sameness.{same_key}
-use Rattle.event_texts.specs.Deeds.{same_deed}
-use Rattle.event_texts.specs.LostLines.{kept_line}
+use Rattle.event_texts.proofs.Common.{ap, kept_line, lookup, option_map, same_deed, same_key, sym}
 use Rattle.event_texts.proofs.event_writer.EventWriter.new.Goals as goal
 
 -- no line is kept

@@ -1,7 +1,4 @@
-use Rattle.std.proofs.Common.{◌∙◌, ap}
-use Rattle.std.specs.Option.{option_map}
-use Rattle.event_texts.specs.Deeds.{same_deed}
-use Rattle.event_texts.specs.LostLines.{kept_line}
+use Rattle.event_texts.proofs.Common.{ap, kept_line, option_map, same_deed, ◌∙◌}
 use Rattle.event_texts.proofs.Losing.{mapped-cond}
 use Rattle.event_texts.proofs.event_writer.EventWriter.note_done.Goals as goal
 

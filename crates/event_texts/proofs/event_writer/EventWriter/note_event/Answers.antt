@@ -1,10 +1,6 @@
-use Rattle.std.proofs.Common.{◌∙◌, ap, sym, subst, List, Option}
-use Rattle.std.proofs.lemmas.Result.{on_ok_weaker}
-use Rattle.forced_marks.specs.declared.moment.Moment.{Moment}
-use Rattle.sm_script.specs.declared.session.Session.{Session}
-use Rattle.event_texts.specs.declared.deeds.Deed.{Deed}
-use Rattle.event_texts.specs.Deeds.{RecallsDeeds, with_deed}
-use Rattle.event_texts.specs.LostLines.{NumberedLine, RecallsLosses, with_losses}
+use Rattle.event_texts.proofs.Common.{Deed, List, Moment, NumberedLine, Option, RecallsDeeds, RecallsLosses, Session, ap, on_ok_weaker}
+use Rattle.event_texts.proofs.Common.{subst, sym, with_losses, ◌∙◌}
+use Rattle.event_texts.specs.Deeds.{with_deed}
 use Rattle.event_texts.proofs.Losing.{deeds-same, losses-same}
 use Rattle.event_texts.proofs.event_writer.EventWriter.note_event.Goals as goal
 

@@ -1,7 +1,5 @@
-use Rattle.std.proofs.Common.{◌∙◌, ap, refl, sym, subst, List}
-use Rattle.std.proofs.lemmas.List.{nil_from_length}
-use Rattle.forced_marks.specs.declared.moment.Moment.{Moment}
-use Rattle.event_texts.specs.LostLines.{NumberedLine, RecallsLosses, with_loss, with_losses}
+use Rattle.event_texts.proofs.Common.{List, Moment, NumberedLine, RecallsLosses, ap, nil_from_length, refl, subst, sym, with_losses, ◌∙◌}
+use Rattle.event_texts.specs.LostLines.{with_loss}
 use Rattle.event_texts.proofs.event_writer.EventWriter.note_losses.Goals as goal
 
 -- no mark was noted

@@ -1,5 +1,4 @@
-use Rattle.std.proofs.Common.{◌≡◌, length}
-use Rattle.event_texts.specs.LostLines.{LossLines, RecallsLosses}
+use Rattle.event_texts.proofs.Common.{LossLines, RecallsLosses, length, ◌≡◌}
 use Rattle.event_texts.proofs.Losing.{NotesOn}
 use Rattle.event_texts.proofs.event_writer.EventWriter.note_losses.Given as goal
 

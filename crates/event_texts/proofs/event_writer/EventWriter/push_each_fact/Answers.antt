@@ -1,7 +1,5 @@
-use Rattle.std.proofs.Common.{◌∙◌, ◌++◌, ap, List}
-use Rattle.sm_names.specs.declared.tracking.Fired.{Fired}
+use Rattle.event_texts.proofs.Common.{Fired, List, ap, facts_text, ◌++◌, ◌∙◌}
 use Rattle.event_texts.specs.EventTexts.{fires_text}
-use Rattle.event_texts.specs.EventLines.{facts_text}
 use Rattle.event_texts.proofs.Pieces.{five}
 use Rattle.event_texts.proofs.event_writer.EventWriter.push_each_fact.Goals as goal
 

@@ -1,6 +1,4 @@
-use Rattle.std.proofs.Common.{◌∙◌, ◌++◌, ap, arith, List, ℕ}
-use Rattle.std.proofs.lemmas.Result.{on_ok_weaker}
-use Rattle.event_texts.specs.EventLines.{facts_text}
+use Rattle.event_texts.proofs.Common.{List, ap, arith, facts_text, on_ok_weaker, ℕ, ◌++◌, ◌∙◌}
 use Rattle.event_texts.proofs.event_writer.EventWriter.push_facts.Goals as goal
 
 -- they are told where no text was

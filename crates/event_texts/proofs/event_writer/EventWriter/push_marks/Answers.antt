@@ -1,9 +1,7 @@
-use Rattle.std.proofs.Common.{◌∙◌, ap, sym, ℕ, List, ◌++◌, append_assoc, append-nil}
-use Rattle.std.proofs.lemmas.List.{nil_from_length}
-use Rattle.core_state.specs.Reads.{views_of}
-use Rattle.forced_marks.specs.declared.moment.Moment.{Moment}
+use Rattle.event_texts.proofs.Common.{List, Moment, ap, append-nil, append_assoc, marks_text, nil_from_length, placed_in, sym, views_of}
+use Rattle.event_texts.proofs.Common.{ℕ, ◌++◌, ◌∙◌}
 use Rattle.event_facts.specs.Events.{scene_after}
-use Rattle.event_texts.specs.MarkTexts.{Placed, mark_text, marks_text, placed_in}
+use Rattle.event_texts.specs.MarkTexts.{Placed, mark_text}
 use Rattle.event_texts.proofs.Marks.{placed_is}
 use Rattle.event_texts.proofs.event_writer.EventWriter.push_marks.Goals as goal
 

@@ -1,8 +1,4 @@
-use Rattle.std.proofs.Common.{◌≡◌, ◌++◌, length}
-use Rattle.core_state.specs.Reads.{views_of}
-use Rattle.script_labels.specs.Names.{Names}
-use Rattle.script_labels.specs.Tables.{Keeps}
-use Rattle.event_texts.specs.MarkTexts.{marks_text}
+use Rattle.event_texts.proofs.Common.{Keeps, Names, length, marks_text, views_of, ◌++◌, ◌≡◌}
 use Rattle.event_texts.proofs.event_writer.EventWriter.push_marks.Given as goal
 
 -- the text so far, with that of the marks that are left, is that of all

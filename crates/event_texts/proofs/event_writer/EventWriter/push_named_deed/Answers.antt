@@ -1,6 +1,4 @@
-use Rattle.std.proofs.Common.{◌∙◌, ◌++◌, ap}
-use Rattle.std.proofs.lemmas.Result.{on_ok_weaker}
-use Rattle.event_texts.specs.declared.deeds.Deed.{Deed}
+use Rattle.event_texts.proofs.Common.{Deed, ap, on_ok_weaker, ◌++◌, ◌∙◌}
 use Rattle.event_texts.specs.Deeds.{deed_since}
 use Rattle.event_texts.specs.RefusalTexts.{named_deed_text, named_text}
 use Rattle.event_texts.proofs.Pieces.{one-more}

@@ -1,7 +1,4 @@
-use Rattle.std.proofs.Common.{◌∙◌, ◌++◌, ap, sym, ℕ, []}
-use Rattle.std.specs.Prelude.{codes}
-use Rattle.sm_names.specs.declared.outcomes.Refusal.{Refusal}
-use Rattle.sm_names.specs.Bounds.{Bound}
+use Rattle.event_texts.proofs.Common.{Bound, Refusal, [], ap, codes, sym, ℕ, ◌++◌, ◌∙◌}
 use Rattle.event_texts.specs.RefusalTexts.{limit_text, refusal_text}
 use Rattle.event_texts.proofs.event_writer.EventWriter.push_refusal.Goals as goal
 

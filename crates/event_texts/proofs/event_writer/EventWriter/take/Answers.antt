@@ -1,20 +1,14 @@
-use Rattle.std.proofs.Common.{◌≡◌, ◌++◌, ◌∷◌, ℕ, refl, ap, sym, ◌∙◌, subst, List, length, map}
+use Rattle.event_texts.proofs.Common.{Called, Event, IfSome, List, Mark, ap, as_line, failures, failures_with, laid_on, length, map}
+use Rattle.event_texts.proofs.Common.{next_scene, refl, reply_text, subst, sym, timeline, ℕ, ◌++◌, ◌∙◌, ◌∷◌, ◌≡◌}
 use Rattle.std.specs.Prelude.{Ok, Result, IfOk}
-use Rattle.std.specs.Option.{IfSome}
-use Rattle.sm_names.specs.Marks.{Called, Mark}
-use Rattle.sm_names.specs.Timelines.{timeline}
 use Rattle.core_state.specs.State.{State}
-use Rattle.forced_marks.specs.Marks.{AreStages, laid_on}
+use Rattle.forced_marks.specs.Marks.{AreStages}
 use Rattle.forced_marks.specs.Moments.{stage_of}
 use Rattle.forced_marks.proofs.EventTold.{told_of_stages}
 use Rattle.forced_marks.proofs.Staged.{marks_of_moments}
 use Rattle.event_facts.specs.Events.{IsCopiedAfter, IsSetOf, IsSnapshot, concerned_by, is_doomed_in}
 use Rattle.sm_names.specs.declared.outcomes.StepFault.{StepFault}
 use Rattle.core_state.specs.Theorem.{Stepped}
-use Rattle.event_facts.specs.declared.event.Event.{Event}
-use Rattle.sm_script.specs.Scenes.{as_line, next_scene}
-use Rattle.script_labels.specs.Texts.{reply_text}
-use Rattle.event_texts.specs.Failing.{failures, failures_with}
 use Rattle.event_texts.proofs.Failing.{failures-more}
 use Rattle.event_texts.proofs.event_writer.EventWriter.take.Goals as goal
 

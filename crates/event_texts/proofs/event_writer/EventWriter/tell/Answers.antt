@@ -1,11 +1,4 @@
-use Rattle.std.proofs.Common.{sym, subst}
-use Rattle.std.proofs.lemmas.Result.{on_ok_weaker}
-use Rattle.sm_script.specs.declared.session.Session.{Session}
-use Rattle.script_labels.specs.Tables.{Keeps}
-use Rattle.event_texts.specs.declared.labels.Labels.{Labels}
-use Rattle.event_texts.specs.Called.{Calls}
-use Rattle.event_texts.specs.Deeds.{with_event}
-use Rattle.event_texts.specs.EventLines.{TellsFacts}
+use Rattle.event_texts.proofs.Common.{Calls, Keeps, Labels, Session, TellsFacts, on_ok_weaker, subst, sym, with_event}
 use Rattle.event_texts.proofs.event_writer.EventWriter.tell.Goals as goal
 
 -- the line was noted

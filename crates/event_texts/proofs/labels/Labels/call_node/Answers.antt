@@ -1,5 +1,4 @@
-use Rattle.std.proofs.Common.{◌∙◌, ap, cond, Some}
-use Rattle.sm_names.specs.Sameness.{same_key}
+use Rattle.event_texts.proofs.Common.{Some, ap, cond, same_key, ◌∙◌}
 use Rattle.event_texts.proofs.labels.Labels.call_node.Goals as goal
 
 pub returns : goal.returns
