@@ -61,3 +61,8 @@ AT(sysmem_node, origin, 56);
 AT(sysmem_node, camping, 64);
 AT(sysmem_node, at_least, 65);
 AT(sysmem_node, size, 68);
+
+SIZE(sysmem_holder, 16);
+AT(sysmem_holder, client, 0);
+AT(sysmem_holder, strong, 8);
+AT(sysmem_holder, weak, 12);

@@ -95,6 +95,30 @@ static uint32_t open_one(sysmem_core &core, uint32_t events) {
     return sysmem_open_seeded(&core, 64, events, nodes, collections, trackers, handles, seed);
 }
 
+// Who has handles on a buffer: the parcels and each client, with what their counts say.
+static void look_at_holders(sysmem_core &core, const Seen &seen, uint64_t id, uint8_t index) {
+    sysmem_holder told[4];
+    uint64_t count = 0, place = 0;
+    expect(sysmem_holders(&core, id, index, told, 4, &count) == SYSMEM_DONE, "holders");
+    std::vector<uint64_t> all{0};
+    all.insert(all.end(), seen.clients.begin(), seen.clients.end());
+    for (uint64_t client : all) {
+        uint32_t strong = 0, weak = 0;
+        if (client == 0) {
+            sysmem_handles_in_parcels(&core, id, index, SYSMEM_STRONG, &strong);
+            sysmem_handles_in_parcels(&core, id, index, SYSMEM_WEAK, &weak);
+        } else {
+            sysmem_open_handles(&core, client, id, index, SYSMEM_STRONG, &strong);
+            sysmem_open_handles(&core, client, id, index, SYSMEM_WEAK, &weak);
+        }
+        if (strong + weak == 0) continue;
+        expect(place >= 4 || (told[place].client == client && told[place].strong == strong && told[place].weak == weak),
+               "a holder");
+        place++;
+    }
+    expect(place == count, "each holder");
+}
+
 // Reads the nodes, what their collections were given, and the handles on the buffers that hold
 // pages: they agree with the other views.
 static void look_at_nodes(sysmem_core &core, Seen &seen) {
@@ -153,6 +177,7 @@ static void look_at_nodes(sysmem_core &core, Seen &seen) {
                    "handles in parcels");
             parcels_seen += found;
         }
+        look_at_holders(core, seen, id, index);
     }
 }
 
@@ -200,6 +225,83 @@ static void look_at_names() {
     }
 }
 
+// A collection of two buffers. The giver takes a strong and a weak handle on each, and gives some to the taker.
+struct Handover {
+    sysmem_core core{};
+    sysmem_call call{};
+    uint64_t giver = 0, taker = 0, id = 0;
+    sysmem_reply ends[2] = {};
+
+    sysmem_reply made(uint64_t client, uint32_t kind) {
+        sysmem_reply reply{};
+        call.kind = kind;
+        expect(sysmem_step(&core, client, &call, &reply) == SYSMEM_DONE && reply.kind < SYSMEM_REFUSED, "a call is made");
+        return reply;
+    }
+    sysmem_reply made_on(int end, uint32_t kind) {
+        call.slot = ends[end].slot;
+        call.generation = ends[end].generation;
+        return made(giver, kind);
+    }
+    void with_handle(uint32_t kind, uint32_t strength) {
+        call.strength = strength;
+        made(giver, kind);
+    }
+    void take() {
+        giver = made(0, SYSMEM_JOIN).id;
+        taker = made(0, SYSMEM_JOIN).id;
+        ends[0] = made(giver, SYSMEM_OPEN_ROOT);
+        call.collection = id = ends[0].id;
+        call.client = taker;
+        ends[1] = made_on(0, SYSMEM_DUPLICATE);
+        made_on(1, SYSMEM_SET_WEAK);
+        for (int end : {0, 1}) made_on(end, SYSMEM_BIND);
+        made_on(1, SYSMEM_SET_WEAK_OK);
+        call.size = 1;
+        call.camping = 2;
+        made_on(0, SYSMEM_SET_CONSTRAINTS);
+        call.camping = 0;
+        made_on(1, SYSMEM_SET_CONSTRAINTS);
+        expect(has(id, 0, {}), "nobody took a handle");
+        for (int end : {0, 1}) made_on(end, SYSMEM_TAKE);
+    }
+    // Whether these alone have handles on the buffer; an array that is too short has the first ones.
+    bool has(uint64_t collection, uint8_t index, const std::vector<sysmem_holder> &wanted) {
+        for (size_t room = 0; room < 5; room++) {
+            const sysmem_holder blank{7, 7, 7};
+            sysmem_holder told[5] = {blank, blank, blank, blank, blank};
+            uint64_t count = 7;
+            expect(sysmem_holders(&core, collection, index, told, room, &count) == SYSMEM_DONE, "holders");
+            if (count != wanted.size()) return false;
+            for (size_t i = 0; i < 5; i++) {
+                const sysmem_holder &one = i < room && i < wanted.size() ? wanted[i] : blank;
+                if (told[i].client != one.client || told[i].strong != one.strong || told[i].weak != one.weak) return false;
+            }
+        }
+        return true;
+    }
+};
+
+static void hand_over() {
+    Handover it;
+    sysmem_holder none{7, 7, 7};
+    uint64_t count = 7;
+    expect(sysmem_holders(&it.core, 0, 0, &none, 1, &count) == SYSMEM_NOT_OPEN, "not open");
+    expect(none.client == 7 && count == 7, "nothing is written");
+    expect(sysmem_open(&it.core, 16, 100, 8, 2, 8, 8) == SYSMEM_DONE, "open");
+    it.take();
+    it.with_handle(SYSMEM_DUP_HANDLE, SYSMEM_STRONG);
+    expect(it.has(it.id, 0, {{it.giver, 2, 1}}), "the giver has all");
+    it.with_handle(SYSMEM_GIVE_HANDLE, SYSMEM_WEAK);
+    expect(it.has(it.id, 0, {{0, 0, 1}, {it.giver, 2, 0}}), "a parcel has the weak one");
+    it.made(it.taker, SYSMEM_COLLECT);
+    it.with_handle(SYSMEM_GIVE_HANDLE, SYSMEM_STRONG);
+    expect(it.has(it.id, 0, {{0, 1, 0}, {it.giver, 1, 0}, {it.taker, 0, 1}}), "a parcel and both clients");
+    expect(it.has(it.id, 1, {{it.giver, 1, 1}}), "the other buffer");
+    expect(it.has(it.id, 2, {}) && it.has(it.id + 1, 0, {}), "no buffer");
+    expect(sysmem_close(&it.core) == SYSMEM_DONE, "close");
+}
+
 // Parts with each client, unless the history is full before: nothing is left.
 static void part(sysmem_core &core, const Seen &seen) {
     sysmem_key live[1];
@@ -221,6 +323,7 @@ static void part(sysmem_core &core, const Seen &seen) {
 int main(int count, char **words) {
     long calls = count > 1 ? std::atol(words[1]) : 10000;
     look_at_names();
+    hand_over();
     uint64_t codes[SYSMEM_ERRORS] = {}, replies[SYSMEM_PEER_CLOSED + 1] = {};
     for (long left = calls; left > 0;) {
         sysmem_core core{};

@@ -742,7 +742,8 @@ struct State : std::enable_shared_from_this<State> {
                 if (a->posted[i] == Post(node)) return a;
         return nullptr;
     }
-    // What this client has to do with the buffer.
+    // What this client has to do with the buffer. sysmem_holders does not tell whose parcels wait, takes memory, and
+    // looks at all clients that ever joined.
     Holder holder(const Account &a, Buffer buffer) {
         Holder h;
         h.client = a.id;

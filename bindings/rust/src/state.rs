@@ -409,7 +409,8 @@ impl State {
         Some((receiver.client, receiver.label.clone()))
     }
 
-    /// What each client has to do with the buffer, by number.
+    /// What each client has to do with the buffer, by number. `sysmem_holders` does not tell whose parcels
+    /// wait, takes memory, and looks at all clients that ever joined.
     pub fn holders(&mut self, buffer: Buffer) -> Vec<Holder> {
         let Buffer { collection, index } = buffer;
         let is_on_it = |post: &&Post| matches!(post, Post::Handle(of, _) if *of == buffer);

@@ -1,14 +1,11 @@
 -- A box with a core, and a place that keeps one: they own the same.
-use mathlib.Core.Path.{◌≡◌, refl}
 use mathlib.Core.List.{[]}
 use mir.Syntax.{impl, tnil, dnil}
-use Rattle.std.specs.Prelude.{true, Option, Some, None, is_some}
-use Rattle.std.proofs.lemmas.Bool.{false≢true}
 use denote.RattleType.{RattleType}
 use denote.Signature.{Slot, plain}
 use Rattle.std_alloc.proofs.BoxSteps.Form.{Bx}
-use Rattle.std_heap.specs.contracts.Global as heap
 use Rattle.std_heap.specs.contracts.GlobalAllocator.TheImpl.{ghosts, dict}
+use Rattle.std_heap.specs.contracts.Global as heap
 use Rattle.std_heap.proofs.Global.TheLaws as heap_laws
 use Rattle.lifetime_core.specs.contracts.machine.Core as core
 use Rattle.lifetime_core.proofs.machine.Core.TheLaws as core_laws
@@ -46,8 +43,3 @@ a_place = plain (λ _. Kept)
 -- the slot of a signature for a box that is taken apart
 abbrev pub a_loosened : Slot 0
 a_loosened = plain (λ _. Loosened)
-
--- what is there is some value
-pub some_of : {A : Type 0} (o : Option A) → is_some o ≡ true → (x : A) × (o ≡ Some x)
-some_of (Some x) e = (x, refl)
-some_of None e = absurd (false≢true e)

@@ -2,6 +2,7 @@ pub mod Vanishes
 pub mod Ownership
 pub mod Arrays
 pub mod Codes
+pub mod Holders
 pub mod Names
 pub mod Nodes
 pub mod Opening

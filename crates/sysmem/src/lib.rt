@@ -10,6 +10,7 @@ mod arrays;
 mod codes;
 mod encode;
 mod handle;
+mod holders;
 mod names;
 mod nodes;
 mod opening;
@@ -21,6 +22,7 @@ mod views;
 mod words;
 
 pub use handle::CoreHandle;
+pub use holders::{HolderWords, sysmem_holders};
 pub use names::{sysmem_name, sysmem_version};
 pub use nodes::{
     NodeWords, sysmem_given, sysmem_handles_in_parcels, sysmem_held_of, sysmem_node_of,

@@ -19,13 +19,14 @@ use Rattle.std.proofs.raw_atomic.Walks.{proved_at, leaves}
 use Rattle.std.specs.Prelude.{Option, Some, is_some, true}
 use Rattle.std_alloc.proofs.BoxSteps.Form.{D, B, word, box_typed}
 use Rattle.std_alloc.proofs.BoxSteps.Steps.{box_out}
-use Rattle.sysmem.proofs.CoreBox.{E, Kept, Loosened, a_place, some_of}
+use Rattle.sysmem.proofs.CoreBox.{E, Kept, Loosened, a_place}
 use Rattle.sysmem.proofs.Unboxing.{shell, shell_typed, loose_in}
-use Rattle.sysmem.proofs.place.out_of.Code as code
 use Rattle.sysmem.proofs.place.out_of.Statement.{statement}
 use Rattle.core_state.specs.State.{State}
 use Rattle.sysmem.specs.contracts.place.out_of.{ended, clauses}
 use Rattle.sysmem.specs.contracts.place.out_of.Key.{name}
+use Rattle.sm_names.proofs.SamenessLaws.{some_is}
+use Rattle.sysmem.proofs.place.out_of.Code as code
 
 abbrev stayed : Stays ended.signature.params ended.kept
 stayed = (stay_dropped a_place yes, tt)
@@ -41,7 +42,7 @@ out_of_spec 𝓤 𝓛 𝓜 𝓡 wired =
     let keeping : Option State → Kept.Denot = λ o. record { at = p; alloc = a; core = o } in
     qed 𝓛 ((‵ ftrue ⊛ ‵ (fsep (Kept.own_val (keeping had) z.0.4.0) ftrue)) ∷ raw (fact 𝓤 (is_some had ≡ true)) ∷ []) ∵ move ! (1 ∷ []) $
     heard ! (is_some had ≡ true) (λ there.
-    let x = (some_of had there).0 in let is = (some_of had there).1 in let boxed : D E = record { ptr = p; alloc = a; value = x } in
+    let x = (some_is had there).0 in let is = (some_is had there).1 in let boxed : D E = record { ptr = p; alloc = a; value = x } in
     split ! $ drop ! $ fsplit ! $ rewrite ! 0 (λ (o : Option State). ‵ (Kept.own_val (keeping o) z.0.4.0)) is refl $ use1 𝓛
     (‵ ((B E).own_val boxed z.0.4.0)) (id⊢ 𝓤 _) $
     box_out E ! boxed z.0.4.0 (λ b o h e ws fits.
