@@ -24,7 +24,7 @@ use Rattle.actor_plays.specs.Moves.{position_at}
 use Rattle.actor_plays.specs.Positions.{Fell, Position}
 
 -- Each forced step makes its mark.
-marks_there : (pool : ℕ) (handles : Handles) (others : List Interval) (c after : Collection) → Settles pool handles others c after →
+pub marks_there : (pool : ℕ) (handles : Handles) (others : List Interval) (c after : Collection) → Settles pool handles others c after →
     (marks : List Mark) × SettlesBy pool handles others c marks after
 marks_there pool handles others _ _ (Settles.Rests c none) = ([], SettlesBy.Rests c none)
 marks_there pool handles others _ _ (Settles.Forces c after mark some on) =
@@ -32,7 +32,7 @@ marks_there pool handles others _ _ (Settles.Forces c after mark some on) =
     (mark ∷ more.0, SettlesBy.Forces c after mark more.0 some more.1)
 
 -- By whether the event changes a collection: it has stages.
-stages_there : (old new : State) (client : ℕ) (call : Call) (reply : Reply) → Makes old new (client, call, reply) →
+pub stages_there : (old new : State) (client : ℕ) (call : Call) (reply : Reply) → Makes old new (client, call, reply) →
     (marks : List Stage) × AreStages old new client call reply marks
 stages_there old new client call reply makes = by (work_of old client call reply) makes.after.work
   where

@@ -23,10 +23,10 @@ use Rattle.actor_plays.specs.declared.play.Asked.{Asked}
 use Rattle.actor_plays.specs.declared.play.Play.{Play}
 use Rattle.explore_model.specs.declared.found.Turn.{Turn}
 use Rattle.actor_plays.specs.declared.play.Turned.{Turned}
-use Rattle.actor_plays.specs.Moves.{HasCome, HasComeTo, HasRest, HavePassed, IsOfSetup, LeavesBetween, TakesLeave}
-use Rattle.actor_plays.specs.Moves.{TakesLeaveUntold, TakesTurn, TakesTurnUntold, TurnsBetween, may_go_at, position_at, position_of}
-use Rattle.actor_plays.specs.Plays.{AreJoining, Asks as AsksFor, AsksNothing, IsLeave, IsPlay, IsTurn, Stage, first_clients, first_stage, is_wait, joins}
-use Rattle.actor_plays.specs.Plays.{leaves_by, left, next_step, stage_after, stages_of}
+use Rattle.actor_plays.specs.Moves.{HasCome, HasComeTo, HasRest, HavePassed, IsOfSetup, LeavesBetween, TakesLeave, TakesLeaveUntold}
+use Rattle.actor_plays.specs.Moves.{TakesTurn, TakesTurnUntold, TurnsBetween, may_go_at, position_at, position_of}
+use Rattle.actor_plays.specs.Plays.{AreJoining, Asks as AsksFor, AsksNothing, IsLeave, IsPlay, IsTurn, Stage, first_clients, first_stage}
+use Rattle.actor_plays.specs.Plays.{is_wait, joins, leaves_by, left, next_step, stage_after, stages_of}
 use Rattle.actor_plays.specs.Positions.{Asks, Begins, Fell, PassOn, ReachedBy, Setup, may_go}
 use Rattle.actor_plays.proofs.FallLaws.{fell_untold}
 use Rattle.actor_plays.proofs.PassLaws.{same_falls, setup_on, setup_stays}
@@ -297,7 +297,7 @@ module _ (plans : List Plan) (old mid new : Play) (actor client : ℕ) (call : C
 -- ---- the start
 
 -- So many clients are so many.
-count_first : (count : ℕ) → length (first_clients count) ≡ count
+pub count_first : (count : ℕ) → length (first_clients count) ≡ count
 count_first zero = refl
 count_first (suc count) = length-append (first_clients count) ((count + 1) ∷ [])
     ∙ (ap (λ n. n + 1) (count_first count) ∙ add-one count)

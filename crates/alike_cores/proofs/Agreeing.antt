@@ -1,32 +1,14 @@
 -- Only the names that cores mention make a difference.
-use Rattle.std.proofs.Common.{ℕ, ◌≡◌, ◌≤◌, ◌<◌, ◌+◌, ◌⊎◌, inl, inr, refl, ap, sym}
-use Rattle.std.proofs.Common.{subst, ◌∙◌, true, false, ◌==◌, List, map, Option, Some, None, arith}
-use Rattle.std.proofs.lemmas.Bool.{eqb-true}
-use Rattle.std.specs.Option.{option_map}
-use Rattle.sm_names.specs.declared.keys.BufferName.{BufferName}
-use Rattle.sm_names.specs.declared.keys.HeldBuffer.{HeldBuffer}
-use Rattle.sm_names.specs.declared.keys.NodeKey.{NodeKey}
-use Rattle.sm_names.specs.declared.messages.Parcel.{Parcel}
-use Rattle.sm_names.specs.declared.outcomes.Fault.{Fault}
-use Rattle.sm_names.specs.declared.tracking.Condition.{Condition}
-use Rattle.sm_names.specs.declared.tracking.Fired.{Fired}
-use Rattle.sm_names.specs.Marks.{Entry}
-use Rattle.sm_names.specs.Trackers.{Tracked}
-use Rattle.sm_names.proofs.ListLaws.{In, In-map, In-map-back, map-In}
-use Rattle.sm_names.proofs.SamenessLaws.{either_way, false_if, map-Some}
-use Rattle.buffer_holds.specs.Counts.{of, total}
-use Rattle.forest_store.specs.declared.node.Node.{Node}
-use Rattle.forest_store.specs.Forest.{Collection, given}
-use Rattle.trackers.specs.declared.waiting.Waiting.{Waiting}
-use Rattle.core_state.specs.Shown.{Shows, tracked_as}
-use Rattle.core_state.specs.State.{State}
-use Rattle.alike_cores.specs.Alike.{KeepsIds, client_renamed, parcel_renamed}
-use Rattle.alike_cores.specs.Renamed.{buffer_renamed, collection_renamed, fault_renamed, held_renamed, node_renamed}
-use Rattle.alike_cores.specs.Cores.{AreAlikeCores, condition_renamed, node_undated, tracker_renamed, undated}
-use Rattle.alike_cores.specs.Mixed.{Mixed}
+use Rattle.alike_cores.proofs.Common.{AreAlikeCores, BufferName, Collection, Condition, Entry, Fault, Fired, HeldBuffer, In, In-map}
+use Rattle.alike_cores.proofs.Common.{In-map-back, KeepsIds, List, Mixed, Node, NodeKey, None, Option, Parcel, Shows, Some, State}
+use Rattle.alike_cores.proofs.Common.{Tracked, Waiting, ap, arith, buffer_renamed, client_renamed, collection_renamed, condition_renamed}
+use Rattle.alike_cores.proofs.Common.{either_way, eqb-true, false, false_if, fault_renamed, given, held_renamed, inl, inr, map, map-Some}
+use Rattle.alike_cores.proofs.Common.{node_renamed, node_undated, of, option_map, parcel_renamed, refl, subst, sym, total, tracked_as}
+use Rattle.alike_cores.proofs.Common.{tracker_renamed, true, undated, ℕ, ◌+◌, ◌<◌, ◌==◌, ◌∙◌, ◌≡◌, ◌≤◌, ◌⊎◌}
+use Rattle.sm_names.proofs.ListLaws.{map-In}
 use Rattle.alike_cores.proofs.Finding.{}
-use Rattle.alike_cores.proofs.Known.{KnownCollection, KnownCondition, KnownNode, KnownParcel}
-use Rattle.alike_cores.proofs.Known.{collection_known, condition_known, fired_early, none_in_all, none_of, parcel_known, tracker_early}
+use Rattle.alike_cores.proofs.Known.{KnownCollection, KnownCondition, KnownNode, KnownParcel, collection_known, condition_known}
+use Rattle.alike_cores.proofs.Known.{fired_early, none_in_all, none_of, parcel_known, tracker_early}
 use Rattle.alike_cores.proofs.Mixing.{In-mixed}
 use Rattle.alike_cores.proofs.Moving.{number_back, number_moved, number_same, number_there}
 

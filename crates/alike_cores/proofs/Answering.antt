@@ -1,31 +1,18 @@
 -- The answers to renamed calls.
-use Rattle.std.proofs.Common.{ℕ, suc, ◌+◌, ◌^◌, ◌≡◌, refl, ap, sym, ◌∙◌, Bool, true, false, nat_le}
-use Rattle.std.proofs.Common.{◌||◌, ◌&&◌, ◌==◌, not, List, [], ◌∷◌, length, map, Option, Some, None}
-use Rattle.std.specs.List.{fold, list_any}
-use Rattle.std.specs.Option.{option_map, option_map_or, option_and_then, unwrap_or, is_some}
-use Rattle.sm_names.specs.declared.keys.BufferName.{BufferName}
+use Rattle.alike_cores.proofs.Common.{AreAlike, Bool, Bound, BufferName, Buffers, Call, Fault, List, MAX_NODE_TRACKERS, Misuse, NodeKey}
+use Rattle.alike_cores.proofs.Common.{None, OpenEnd, Option, Parcel, Readings, Refusal, Reply, Some, Strength, [], acquires, answer}
+use Rattle.alike_cores.proofs.Common.{answers_first, ap, buffer_renamed, call_renamed, closing, collected, effect, end_named, end_renamed}
+use Rattle.alike_cores.proofs.Common.{false, fault_renamed, first_some, is_anothers, key_of, kind_for, length, limits_met, list_any}
+use Rattle.alike_cores.proofs.Common.{makes_collection, makes_node, makes_tracker, map, misuse, misuse_of, misused_if, nat_le, no_handle}
+use Rattle.alike_cores.proofs.Common.{not, option_and_then, option_map, option_map_or, parcel_renamed, peer_closed, receiver_of, refl}
+use Rattle.alike_cores.proofs.Common.{refused_if, reply_renamed, same_kind, set_of, strength_of, sym, too_many_handles, true}
+use Rattle.alike_cores.proofs.Common.{unknown_client, unwrap_or, ℕ, ◌&&◌, ◌+◌, ◌==◌, ◌||◌, ◌∙◌, ◌∷◌, ◌≡◌}
+use Rattle.std.proofs.Common.{suc, ◌^◌}
+use Rattle.std.specs.List.{fold}
 use Rattle.sm_names.specs.declared.keys.Kind.{Kind}
-use Rattle.sm_names.specs.declared.keys.NodeKey.{NodeKey}
-use Rattle.sm_names.specs.declared.keys.Strength.{Strength}
-use Rattle.sm_names.specs.declared.messages.Call.{Call}
-use Rattle.sm_names.specs.declared.messages.Parcel.{Parcel}
-use Rattle.sm_names.specs.declared.messages.Reply.{Reply}
-use Rattle.sm_names.specs.declared.outcomes.Buffers.{Buffers}
-use Rattle.sm_names.specs.declared.outcomes.Fault.{Fault}
-use Rattle.sm_names.specs.declared.outcomes.Misuse.{Misuse}
-use Rattle.sm_names.specs.declared.outcomes.Refusal.{Refusal}
-use Rattle.sm_names.specs.declared.rules.TheConstants.{MAX_NODE_TRACKERS}
-use Rattle.sm_names.specs.Answers.{OpenEnd, Readings, acquires, answer, answers_first, closing, collected, effect, end_in_transit}
-use Rattle.sm_names.specs.Answers.{end_named, has_none, is_anothers, is_at_limit, kind_for, limits_met, makes_collection, makes_node}
-use Rattle.sm_names.specs.Answers.{makes_tracker, misuse, misuse_of, misused_if, no_end, no_handle, of_end, peer_closed, receiver_of}
-use Rattle.sm_names.specs.Answers.{refused_if, set_of, shut_client, strength_of, too_many_handles, unknown_client, wrong_kind}
-use Rattle.sm_names.specs.Bounds.{Bound}
-use Rattle.sm_names.specs.Sameness.{same_kind}
-use Rattle.sm_names.specs.Timelines.{key_of}
-use Rattle.sm_names.specs.Words.{first_some}
-use Rattle.alike_cores.specs.Renamed.{buffer_renamed, fault_renamed}
-use Rattle.alike_cores.specs.Alike.{AreAlike, call_renamed, end_renamed, parcel_renamed, reply_renamed}
-use Rattle.alike_cores.proofs.Forcings.{any_alike, first_some-map}
+use Rattle.sm_names.specs.Answers.{end_in_transit, has_none, is_at_limit, no_end, of_end, shut_client, wrong_kind}
+use Rattle.alike_cores.proofs.Forcings.{any_alike}
+use Rattle.forest_store.proofs.quiescence.Forcing.{first_made}
 
 -- ---- calls
 
@@ -380,7 +367,7 @@ answer-alike to id number limits r s alike ids numbers client new call =
     first : first_some (answers_first limits s client (call_renamed to id call))
         ≡ option_map (reply_renamed to id number) (first_some (answers_first limits r client call))
     first = ap first_some (first-alike to id number limits r s alike client call)
-        ∙ first_some-map (reply_renamed to id number) (answers_first limits r client call)
+        ∙ first_made (reply_renamed to id number) (answers_first limits r client call)
 
     -- by cases: a row applies, or the call takes effect
     from : (o : Option Reply) →

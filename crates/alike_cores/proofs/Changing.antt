@@ -1,24 +1,13 @@
 -- Births, effects, ends and pages that go back, under other names.
-use Rattle.std.proofs.Common.{ℕ, ◌+◌, ◌≡◌, refl, ap, sym, ◌∙◌, Bool, true, false, cond}
-use Rattle.std.proofs.Common.{◌||◌, ◌&&◌, not, List, [], ◌∷◌, ◌++◌, map, Option, Some, None}
-use Rattle.std.proofs.lemmas.List.{map-append}
-use Rattle.std.specs.List.{filter}
-use Rattle.std.specs.Option.{option_map, option_map_or}
-use Rattle.sm_names.specs.declared.keys.HeldBuffer.{HeldBuffer}
-use Rattle.sm_names.specs.declared.keys.NodeKey.{NodeKey}
-use Rattle.sm_names.specs.declared.keys.Strength.{Strength}
-use Rattle.sm_names.specs.Handles.{is_home}
-use Rattle.sm_names.specs.Members.{some_strong_live}
-use Rattle.sm_names.specs.Sameness.{same_key}
-use Rattle.forest_store.specs.declared.change.Change.{Change}
-use Rattle.forest_store.specs.declared.change.Effect.{Effect}
+use Rattle.alike_cores.proofs.Common.{Bool, Change, Collection, CountsAlike, Effect, Handles, HeldBuffer, KeepsKeys, List, Node, NodeKey}
+use Rattle.alike_cores.proofs.Common.{None, Option, Some, Strength, [], affected, ap, buffer_renamed, change_renamed, changed}
+use Rattle.alike_cores.proofs.Common.{collection_renamed, cond, false, filter, given_back, held_renamed, is_home, is_home_in, is_unkept}
+use Rattle.alike_cores.proofs.Common.{map, map-append, members_of, new_child, new_root, node_of, node_renamed, not, option_map}
+use Rattle.alike_cores.proofs.Common.{option_map_or, refl, same_key, some_strong_live, sym, tidied, true, with_end, with_nodes, ℕ, ◌&&◌}
+use Rattle.alike_cores.proofs.Common.{◌++◌, ◌+◌, ◌||◌, ◌∙◌, ◌∷◌, ◌≡◌}
 use Rattle.forest_store.specs.declared.node.End.{End}
-use Rattle.forest_store.specs.declared.node.Node.{Node}
-use Rattle.forest_store.specs.Forest.{Collection, tidied, with_nodes}
-use Rattle.forest_store.specs.Nodes.{affected, after_effect, is_unkept, members_of, new_child, new_root, node_of, with_end}
-use Rattle.forest_store.specs.Settling.{Handles, changed, given_back, is_home_in, with_birth}
-use Rattle.alike_cores.specs.Renamed.{CountsAlike, KeepsKeys, buffer_renamed}
-use Rattle.alike_cores.specs.Renamed.{change_renamed, collection_renamed, held_renamed, node_renamed}
+use Rattle.forest_store.specs.Nodes.{after_effect}
+use Rattle.forest_store.specs.Settling.{with_birth}
 use Rattle.alike_cores.proofs.Renamings.{loss-renamed, members-renamed, node_of-renamed}
 use Rattle.alike_cores.proofs.Forcings.{filter_alike, strong-renamed}
 use Rattle.alike_cores.proofs.Settlings.{map_alike}

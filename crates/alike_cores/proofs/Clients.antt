@@ -1,26 +1,15 @@
 -- What an event does to clients, handles and ends, under other names.
-use Rattle.std.proofs.Common.{ℕ, ◌≡◌, ◌+◌, ◌-◌, refl, ap, sym, ◌∙◌, Bool, true, false, cond, ◌||◌, ◌&&◌, ◌==◌}
-use Rattle.std.proofs.Common.{List, [], ◌∷◌, ◌++◌, drop, map, Option, Some, None}
-use Rattle.std.proofs.lemmas.List.{append-nil, map-append}
+use Rattle.alike_cores.proofs.Common.{Bool, BufferName, Call, Called, Client, EndPlace, KeepsIds, List, Mark, NodeKey, None, Option}
+use Rattle.alike_cores.proofs.Common.{Parcel, Reply, Some, Strength, [], ap, append-nil, buffer_renamed, call_renamed, client_renamed}
+use Rattle.alike_cores.proofs.Common.{clients_by, cond, cons_option, end_by, false, joined_at, map, map-append, option_map}
+use Rattle.alike_cores.proofs.Common.{parcel_renamed, refl, reply_renamed, same_buffer, same_strength, sym, true, ℕ, ◌&&◌, ◌++◌, ◌+◌, ◌-◌}
+use Rattle.alike_cores.proofs.Common.{◌==◌, ◌||◌, ◌∙◌, ◌∷◌, ◌≡◌}
+use Rattle.std.proofs.Common.{drop}
 use Rattle.std.specs.Int.{bit_at}
-use Rattle.std.specs.List.{cons_option}
-use Rattle.std.specs.Option.{option_map}
-use Rattle.sm_names.specs.declared.keys.BufferName.{BufferName}
-use Rattle.sm_names.specs.declared.keys.NodeKey.{NodeKey}
-use Rattle.sm_names.specs.declared.keys.Strength.{Strength}
-use Rattle.sm_names.specs.declared.messages.Call.{Call}
-use Rattle.sm_names.specs.declared.messages.Parcel.{Parcel}
-use Rattle.sm_names.specs.declared.messages.Reply.{Reply}
-use Rattle.sm_names.specs.Ends.{collects, given_at, joined_at, shuts}
+use Rattle.sm_names.specs.Ends.{collects, given_at, shuts}
 use Rattle.sm_names.specs.Handles.{drops, lands, lifts, opens}
-use Rattle.sm_names.specs.Marks.{Mark, Called}
-use Rattle.sm_names.specs.Sameness.{same_buffer, same_strength}
 use Rattle.event_laws.specs.ByEvent.{gains, loses, one_if}
-use Rattle.core_state.specs.declared.task.EndPlace.{EndPlace}
-use Rattle.core_state.specs.State.{Client}
-use Rattle.core_state.specs.Steps.{client_by, clients_by, end_by, new_client}
-use Rattle.alike_cores.specs.Alike.{KeepsIds, call_renamed, client_renamed, parcel_renamed, reply_renamed}
-use Rattle.alike_cores.specs.Renamed.{buffer_renamed}
+use Rattle.core_state.specs.Steps.{client_by, new_client}
 
 -- an end that is put, under its new name
 abbrev pub place_renamed : (NodeKey → NodeKey) → EndPlace → EndPlace

@@ -1,32 +1,20 @@
 -- A core is alike to itself, and one to a third that is alike to the second.
-use Rattle.std.proofs.Common.{ℕ, ◌≡◌, refl, ap, sym, subst, ◌∙◌, List, [], ◌∷◌, map, Option, Some, None}
-use Rattle.std.specs.Option.{option_map}
-use Rattle.sm_names.specs.declared.keys.NodeKey.{NodeKey}
-use Rattle.sm_names.specs.declared.messages.Parcel.{Parcel}
-use Rattle.sm_names.specs.declared.tracking.Condition.{Condition}
-use Rattle.sm_names.specs.declared.tracking.Fired.{Fired}
-use Rattle.sm_names.specs.Trackers.{Tracked}
-use Rattle.sm_names.proofs.ListLaws.{map-map}
-use Rattle.forest_store.specs.declared.node.Node.{Node}
-use Rattle.forest_store.specs.Forest.{Collection}
-use Rattle.trackers.specs.declared.waiting.Waiting.{Waiting}
-use Rattle.core_state.specs.Shown.{tracked_as}
-use Rattle.core_state.specs.State.{Client, State}
-use Rattle.alike_cores.specs.Alike.{client_renamed, parcel_renamed}
-use Rattle.alike_cores.specs.Renamed.{buffer_renamed, collection_renamed, fault_renamed, held_renamed, node_renamed}
-use Rattle.alike_cores.specs.Cores.{AreAlikeCores, condition_renamed, tracker_renamed, undated}
-use Rattle.alike_cores.specs.Mixed.{Mixed, Mixes}
+use Rattle.alike_cores.proofs.Common.{AreAlikeCores, Client, Collection, Condition, Fired, List, Mixed, Mixes, Node, NodeKey, None}
+use Rattle.alike_cores.proofs.Common.{Option, Parcel, Some, State, Tracked, Waiting, [], ap, buffer_renamed, client_renamed}
+use Rattle.alike_cores.proofs.Common.{collection_renamed, condition_renamed, fault_renamed, held_renamed, map, map-map, node_renamed}
+use Rattle.alike_cores.proofs.Common.{option_map, parcel_renamed, refl, subst, sym, tracked_as, tracker_renamed, undated, ℕ, ◌∙◌, ◌∷◌}
+use Rattle.alike_cores.proofs.Common.{◌≡◌}
 use Rattle.alike_cores.proofs.Mixing.{mixed-map, mixed-same}
 
 -- ---- two renamings, one after the other
 
 -- Element by element.
-twice-map : {A B C : Type 0} (f : A → B) (g : B → C) (h : A → C) → ((x : A) → g (f x) ≡ h x) → (xs : List A) → map g (map f xs) ≡ map h xs
+pub twice-map : {A B C : Type 0} (f : A → B) (g : B → C) (h : A → C) → ((x : A) → g (f x) ≡ h x) → (xs : List A) → map g (map f xs) ≡ map h xs
 twice-map f g h same [] = refl
 twice-map f g h same (x ∷ xs) = λ i. same x i ∷ twice-map f g h same xs i
 
 -- By cases on the option.
-twice-option : {A B C : Type 0} (f : A → B) (g : B → C) (h : A → C) → ((x : A) → g (f x) ≡ h x) → (o : Option A) →
+pub twice-option : {A B C : Type 0} (f : A → B) (g : B → C) (h : A → C) → ((x : A) → g (f x) ≡ h x) → (o : Option A) →
     option_map g (option_map f o) ≡ option_map h o
 twice-option f g h same None = refl
 twice-option f g h same (Some x) = ap Some (same x)

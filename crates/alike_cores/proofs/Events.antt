@@ -1,32 +1,17 @@
 -- One event in cores that are alike.
-use Rattle.std.proofs.Common.{ℕ, ◌≡◌, ◌++◌, ◌==◌, ◌&&◌, refl, ap, sym, subst, ◌∙◌, not, List, [], ◌∷◌, map, Option, Some, None}
-use Rattle.std.specs.List.{filter}
-use Rattle.std.specs.Option.{option_map}
-use Rattle.sm_names.specs.declared.keys.NodeKey.{NodeKey}
-use Rattle.sm_names.specs.declared.messages.Call.{Call}
-use Rattle.sm_names.specs.declared.messages.Reply.{Reply}
-use Rattle.sm_names.specs.declared.tracking.Fired.{Fired}
-use Rattle.sm_names.specs.Answers.{new_key}
-use Rattle.sm_names.specs.Ends.{joined_at}
-use Rattle.sm_names.specs.Marks.{Called}
+use Rattle.alike_cores.proofs.Common.{AreAlikeCores, Call, Called, Collection, CountsAlike, EndPlace, Fired, Follows, Forest}
+use Rattle.alike_cores.proofs.Common.{HandleCounts, IsSound, KeepsIds, KeepsKeys, List, Mixed, NodeKey, None, Option, Reply, Some, State}
+use Rattle.alike_cores.proofs.Common.{TrackerTable, Worked, [], ap, buffer_renamed, call_renamed, client_renamed, clients_by}
+use Rattle.alike_cores.proofs.Common.{collection_renamed, end_by, filter, firings, held_renamed, joined_at, map, new_key, node_renamed}
+use Rattle.alike_cores.proofs.Common.{not, of, option_map, refl, reply_renamed, still_waiting, subst, sym, tidied, total, tracked_as}
+use Rattle.alike_cores.proofs.Common.{tracker_by, tracker_renamed, undated, with_end, with_nodes, work_of, world_in, ℕ, ◌&&◌, ◌++◌, ◌==◌}
+use Rattle.alike_cores.proofs.Common.{◌∙◌, ◌∷◌, ◌≡◌}
 use Rattle.event_laws.specs.ByEvent.{anyone, only}
-use Rattle.buffer_holds.specs.Counts.{of, total}
-use Rattle.forest_store.specs.Forest.{Collection, Forest, is_left, tidied, with_nodes}
-use Rattle.forest_store.specs.Nodes.{with_end}
-use Rattle.trackers.specs.Table.{TrackerTable, firings, still_waiting}
-use Rattle.core_state.specs.declared.task.EndPlace.{EndPlace}
-use Rattle.core_state.specs.Reads.{world_in}
-use Rattle.core_state.specs.Shown.{tracked_as}
-use Rattle.core_state.specs.State.{HandleCounts, State}
-use Rattle.core_state.specs.Steps.{Follows, Worked, clients_by, end_by, tracker_by, with_place, without_unkept, work_of}
-use Rattle.core_state.specs.Whole.{IsSound}
-use Rattle.alike_cores.specs.Alike.{KeepsIds, call_renamed, client_renamed, reply_renamed}
-use Rattle.alike_cores.specs.Renamed.{CountsAlike, KeepsKeys, buffer_renamed, collection_renamed, held_renamed, node_renamed}
+use Rattle.forest_store.specs.Forest.{is_left}
+use Rattle.core_state.specs.Steps.{with_place, without_unkept}
 use Rattle.alike_cores.proofs.Answering.{length-renamed}
 use Rattle.alike_cores.proofs.Changing.{end_put-renamed, tidied-renamed}
 use Rattle.alike_cores.proofs.Forcings.{filter_alike}
-use Rattle.alike_cores.specs.Cores.{AreAlikeCores, tracker_renamed, undated}
-use Rattle.alike_cores.specs.Mixed.{Mixed}
 use Rattle.alike_cores.proofs.Clients.{called, clients-renamed, of-renamed, place-renamed, place_renamed, total-renamed}
 use Rattle.alike_cores.proofs.Finding.{sound_apart}
 use Rattle.alike_cores.proofs.Mixing.{mixed-filter, mixed-map}

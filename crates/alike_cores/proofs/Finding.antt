@@ -1,25 +1,14 @@
 -- What is found by its name in renamed collections, in whatever order they stand.
-use Rattle.std.proofs.Common.{ℕ, ◌≡◌, refl, ap, sym, subst, ◌∙◌, ◌==◌, List, map}
-use Rattle.std.proofs.lemmas.Bool.{eq-eqb, eqb-true}
-use Rattle.std.specs.List.{find, flat_map}
-use Rattle.std.specs.Option.{option_map}
-use Rattle.sm_names.specs.declared.keys.NodeKey.{NodeKey}
-use Rattle.sm_names.specs.Sameness.{same_key}
-use Rattle.sm_names.proofs.ListLaws.{In, In-map}
-use Rattle.sm_names.proofs.SamenessLaws.{same_key-refl, same_key-true, some-injective}
-use Rattle.forest_store.specs.declared.node.Node.{Node}
-use Rattle.forest_store.specs.Forest.{Collection, Forest}
-use Rattle.forest_store.specs.Nodes.{is_of, node_of}
-use Rattle.core_state.specs.Whole.{IsSound, Rise}
-use Rattle.core_state.proofs.collections.ById.{found_by_id, ids}
+use Rattle.alike_cores.proofs.Common.{Collection, Forest, In, In-map, IsSound, KeepsIds, KeepsKeys, List, Mixed, Node, NodeKey, Rise, ap}
+use Rattle.alike_cores.proofs.Common.{collection_renamed, eq-eqb, eqb-true, find, flat_map, ids, map, node_of, node_renamed, node_undated}
+use Rattle.alike_cores.proofs.Common.{option_map, refl, same_key, same_key-refl, same_key-true, some-injective, subst, sym, undated, ℕ}
+use Rattle.alike_cores.proofs.Common.{◌==◌, ◌∙◌, ◌≡◌}
+use Rattle.forest_store.specs.Nodes.{is_of}
+use Rattle.core_state.proofs.collections.ById.{found_by_id}
 use Rattle.core_state.proofs.forced.Forest.{node_in}
-use Rattle.alike_cores.specs.Alike.{KeepsIds}
-use Rattle.alike_cores.specs.Renamed.{KeepsKeys, collection_renamed, node_renamed}
 use Rattle.alike_cores.proofs.Forcings.{find_alike}
 use Rattle.alike_cores.proofs.Reading.{nodes-renamed}
 use Rattle.alike_cores.proofs.Renamings.{node_of-renamed}
-use Rattle.alike_cores.specs.Cores.{node_undated, undated}
-use Rattle.alike_cores.specs.Mixed.{Mixed}
 use Rattle.alike_cores.proofs.Mixing.{find-mixed, mixed-flat_map}
 
 -- ---- names

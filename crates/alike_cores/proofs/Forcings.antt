@@ -1,24 +1,18 @@
 -- The forced steps of renamed nodes.
-use Rattle.std.proofs.Common.{ℕ, max, nat_lt, ◌==◌, ◌≡◌, refl, ap, sym, ◌∙◌, Bool, true, false}
-use Rattle.std.proofs.Common.{cond, ◌||◌, ◌&&◌, not, List, [], ◌∷◌, map, Option, Some, None}
-use Rattle.std.specs.List.{filter, filter_map, find, list_all, list_any, cons_option, sum_by}
-use Rattle.std.specs.Option.{is_none, option_map, option_map_or, option_and_then}
-use Rattle.sm_names.specs.declared.keys.NodeKey.{NodeKey}
-use Rattle.sm_names.specs.declared.outcomes.Buffers.{Buffers}
-use Rattle.sm_names.specs.declared.outcomes.Cause.{Cause}
-use Rattle.sm_names.specs.declared.outcomes.Failure.{Failure}
+use Rattle.alike_cores.proofs.Common.{Bool, Buffers, Cause, Ended, Failure, KeepsKeys, List, Loss, MAX_BUFFERS, Member, NodeKey, None}
+use Rattle.alike_cores.proofs.Common.{Option, Some, Standing, [], abandoned, ap, asked, cond, cons_option, ending, false, filter, find}
+use Rattle.alike_cores.proofs.Common.{first_some, forced, is_ready, is_under, list_any, logical_allocation, map, mark_renamed}
+use Rattle.alike_cores.proofs.Common.{member_renamed, nat_lt, not, option_and_then, option_map, option_map_or, outcome, pages_of, places}
+use Rattle.alike_cores.proofs.Common.{refl, root_left, same_key, some_strong_live, standing_renamed, sum_by, true, when, ℕ, ◌&&◌, ◌==◌}
+use Rattle.alike_cores.proofs.Common.{◌||◌, ◌∙◌, ◌∷◌, ◌≡◌}
+use Rattle.std.proofs.Common.{max}
+use Rattle.std.specs.List.{list_all}
+use Rattle.std.specs.Option.{is_none}
 use Rattle.sm_names.specs.Demands.{Demand}
-use Rattle.sm_names.specs.Forced.{Standing, is_deserted, ending, abandoned, initial_failure, outcome, initial_allocation}
-use Rattle.sm_names.specs.Forced.{logical_failure, is_allocated, is_next_head, logical_allocation, forced}
-use Rattle.sm_names.specs.Marks.{Mark, Loss, Ended}
-use Rattle.sm_names.specs.Members.{Member, asked, demands, greatest, is_live, is_ready, is_root, is_settled, is_under}
-use Rattle.sm_names.specs.Members.{reserved, root_left, root_unit, some_live, some_strong_live, subtree, unit, wanted}
-use Rattle.sm_names.specs.Pages.{pages_of, places}
-use Rattle.sm_names.specs.Sameness.{same_key}
-use Rattle.sm_names.specs.declared.rules.TheConstants.{MAX_BUFFERS}
-use Rattle.sm_names.specs.Words.{first_some, when}
-use Rattle.alike_cores.specs.Renamed.{KeepsKeys, mark_renamed, member_renamed, standing_renamed}
+use Rattle.sm_names.specs.Forced.{is_deserted, initial_failure, initial_allocation, logical_failure, is_allocated, is_next_head}
+use Rattle.sm_names.specs.Members.{demands, greatest, is_live, is_root, is_settled, reserved, root_unit, some_live, subtree, unit, wanted}
 use Rattle.alike_cores.proofs.Renamings.{any-renamed}
+use Rattle.forest_store.proofs.quiescence.Forcing.{first_made, when_made}
 
 -- ---- lists whose elements pass alike
 
@@ -49,18 +43,6 @@ all_alike : {A B : Type 0} (p : B → Bool) (q : A → Bool) (f : A → B) → (
     list_all p (map f xs) ≡ list_all q xs
 all_alike p q f same [] = refl
 all_alike p q f same (x ∷ xs) = λ i. same x i && all_alike p q f same xs i
-
--- By the list: the first that is there is at the same place.
-pub first_some-map : {A B : Type 0} (f : A → B) (os : List (Option A)) →
-    first_some (map (option_map f) os) ≡ option_map f (first_some os)
-first_some-map f [] = refl
-first_some-map f (None ∷ os) = first_some-map f os
-first_some-map f (Some x ∷ os) = refl
-
--- By the two cases of the condition.
-when-map : {A B : Type 0} (f : A → B) (b : Bool) (x : A) → when b (f x) ≡ option_map f (when b x)
-when-map f true x = refl
-when-map f false x = refl
 
 -- ---- what is asked of members
 
@@ -202,7 +184,7 @@ abandoned-renamed to s =
         (Loss root.key Cause.NoStrong)) o)
     from None = refl
     from (Some root) =
-        when-map (mark_renamed to) (root.allocated && (not (some_strong_live s.members) && not s.strong_open))
+        when_made (mark_renamed to) (root.allocated && (not (some_strong_live s.members) && not s.strong_open))
         (Loss root.key Cause.NoStrong)
 
 -- The reasons are numbers and flags.
@@ -237,7 +219,7 @@ first-renamed to keeps pool s =
         (outcome (to root.key) (failure-renamed to pool s (asked-renamed to keeps s.members i) i)))
         ∙ ap (when (not root.allocated && is_ready root.key s.members))
         (outcome-renamed to root.key (initial_failure pool s (asked s.members)))
-        ∙ when-map (mark_renamed to) (not root.allocated && is_ready root.key s.members)
+        ∙ when_made (mark_renamed to) (not root.allocated && is_ready root.key s.members)
         (outcome root.key (initial_failure pool s (asked s.members)))
 
 -- The member of that key has its flag.
@@ -300,4 +282,4 @@ pub forced-renamed : (to : NodeKey → NodeKey) → KeepsKeys to → (pool : ℕ
 forced-renamed to keeps pool s =
     (λ i. first_some (ending-renamed to keeps s i ∷ abandoned-renamed to s i ∷ first-renamed
     to keeps pool s i ∷ later-renamed to keeps s i ∷ []))
-    ∙ first_some-map (mark_renamed to) (ending s ∷ abandoned s ∷ initial_allocation pool s ∷ logical_allocation s ∷ [])
+    ∙ first_made (mark_renamed to) (ending s ∷ abandoned s ∷ initial_allocation pool s ∷ logical_allocation s ∷ [])

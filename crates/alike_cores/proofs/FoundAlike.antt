@@ -1,6 +1,5 @@
 -- What is read alike of what is found alike.
-use Rattle.std.proofs.Common.{◌≡◌, refl, ap, sym, ◌∙◌, Option, Some, None}
-use Rattle.std.specs.Option.{option_and_then, option_map, option_map_or}
+use Rattle.alike_cores.proofs.Common.{None, Option, Some, ap, option_and_then, option_map, option_map_or, refl, sym, ◌∙◌, ◌≡◌}
 
 -- By cases: both are there, and read so, or neither is.
 pub read-alike : {A B : Type 0} (one other : A → A) (read : A → B) (o p : Option A) → option_map one o ≡ option_map other p →

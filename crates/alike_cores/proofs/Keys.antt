@@ -1,27 +1,12 @@
 -- An answer depends on the key of a new node only where it tells it.
-use Rattle.std.proofs.Common.{ℕ, ◌≡◌, refl, ap, sym, ◌∙◌, Bool, true, false, ◌||◌, ◌&&◌}
-use Rattle.std.proofs.Common.{◌==◌, not, nat_le, List, [], ◌∷◌, map, Option, Some, None}
-use Rattle.std.specs.Option.{option_and_then, option_map, option_map_or, unwrap_or}
-use Rattle.sm_names.specs.declared.keys.NodeKey.{NodeKey}
-use Rattle.sm_names.specs.declared.keys.Strength.{Strength}
-use Rattle.sm_names.specs.declared.messages.Call.{Call}
-use Rattle.sm_names.specs.declared.messages.Parcel.{Parcel}
-use Rattle.sm_names.specs.declared.messages.Reply.{Reply}
-use Rattle.sm_names.specs.declared.outcomes.Buffers.{Buffers}
-use Rattle.sm_names.specs.declared.outcomes.Fault.{Fault}
-use Rattle.sm_names.specs.declared.outcomes.Misuse.{Misuse}
-use Rattle.sm_names.specs.declared.outcomes.Refusal.{Refusal}
-use Rattle.sm_names.specs.Answers.{OpenEnd, Readings, answer, answers_first, effect}
-use Rattle.sm_names.specs.Answers.{limits_met, misused_if, misuse_of, no_handle, refused_if}
-use Rattle.sm_names.specs.Answers.{acquires, closing, collected, end_named, is_anothers, kind_for, makes_collection, makes_node}
-use Rattle.sm_names.specs.Answers.{makes_tracker, receiver_of, set_of, strength_of, too_many_handles, unknown_client}
-use Rattle.sm_names.specs.declared.rules.TheConstants.{MAX_NODE_TRACKERS}
-use Rattle.sm_names.specs.Bounds.{Bound}
-use Rattle.sm_names.specs.Sameness.{same_kind}
-use Rattle.sm_names.specs.Timelines.{key_of}
-use Rattle.sm_names.specs.Words.{first_some}
-use Rattle.core_state.specs.Tasks.{with_key}
-use Rattle.alike_cores.proofs.Forcings.{first_some-map}
+use Rattle.alike_cores.proofs.Common.{Bool, Bound, Buffers, Call, Fault, List, MAX_NODE_TRACKERS, Misuse, NodeKey, None, OpenEnd, Option}
+use Rattle.alike_cores.proofs.Common.{Parcel, Readings, Refusal, Reply, Some, Strength, [], acquires, answer, answers_first, ap, closing}
+use Rattle.alike_cores.proofs.Common.{collected, effect, end_named, false, first_some, is_anothers, key_of, kind_for, limits_met}
+use Rattle.alike_cores.proofs.Common.{makes_collection, makes_node, makes_tracker, map, misuse_of, misused_if, nat_le, no_handle, not}
+use Rattle.alike_cores.proofs.Common.{option_and_then, option_map, option_map_or, receiver_of, refl, refused_if, same_kind, set_of}
+use Rattle.alike_cores.proofs.Common.{strength_of, sym, too_many_handles, true, unknown_client, unwrap_or, with_key, ℕ, ◌&&◌, ◌==◌, ◌||◌}
+use Rattle.alike_cores.proofs.Common.{◌∙◌, ◌∷◌, ◌≡◌}
+use Rattle.forest_store.proofs.quiescence.Forcing.{first_made}
 
 -- a new node has this key
 abbrev keyed : NodeKey → Reply → Reply
@@ -195,7 +180,7 @@ answer-keyed limits r client one other call =
     first : first_some (answers_first limits r client call)
         ≡ option_map (keyed other) (first_some (answers_first limits r client call))
     first = ap first_some (sym (first-keyed other limits r client call))
-        ∙ first_some-map (keyed other) (answers_first limits r client call)
+        ∙ first_made (keyed other) (answers_first limits r client call)
 
     -- by cases: the first answer, or that of the effect
     from : (o : Option Reply) → unwrap_or (option_map (keyed other) o) (keyed other (effect r client one call))

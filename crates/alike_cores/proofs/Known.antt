@@ -1,43 +1,30 @@
 -- Which names a core mentions that shows a history: those that its history made.
-use Rattle.std.proofs.Common.{ℕ, ◌≡◌, ◌≤◌, ◌<◌, ◌+◌, ◌⊎◌, inl, inr, refl, ap, sym, subst}
-use Rattle.std.proofs.Common.{◌∙◌, Bool, true, false, cond, ◌||◌, ◌&&◌, ◌==◌, not, List, [], ◌∷◌}
-use Rattle.std.proofs.Common.{reverse, Option, Some, None, is_some, IfSome, arith}
-use Rattle.std.proofs.lemmas.Bool.{false≢true}
-use Rattle.std.proofs.lemmas.List.Sums.{sum_by-cons}
-use Rattle.std.specs.List.{filter, flat_map, list_any, sum_by}
-use Rattle.std.specs.Option.{option_map_or}
-use Rattle.sm_names.specs.declared.keys.BufferName.{BufferName}
-use Rattle.sm_names.specs.declared.keys.HeldBuffer.{HeldBuffer}
-use Rattle.sm_names.specs.declared.keys.NodeKey.{NodeKey}
-use Rattle.sm_names.specs.declared.keys.Strength.{Strength}
-use Rattle.sm_names.specs.declared.messages.Parcel.{Parcel}
-use Rattle.sm_names.specs.declared.messages.Call.{Call}
-use Rattle.sm_names.specs.declared.messages.Reply.{Reply}
-use Rattle.sm_names.specs.declared.outcomes.Buffers.{Buffers}
-use Rattle.sm_names.specs.declared.outcomes.Fault.{Fault}
-use Rattle.sm_names.specs.declared.tracking.Condition.{Condition}
-use Rattle.sm_names.specs.declared.tracking.Fired.{Fired}
-use Rattle.sm_names.specs.Answers.{IsAnswer, key_told}
+use Rattle.alike_cores.proofs.Common.{Bool, Bound, BufferName, Buffers, Call, Called, Client, Collection, Condition, Entry, Fault, Fired}
+use Rattle.alike_cores.proofs.Common.{HandleCounts, HeldBuffer, IfSome, In, In-any, In-append, In-map, In-map-back, IsSound, List, Node}
+use Rattle.alike_cores.proofs.Common.{NodeKey, None, Option, Parcel, Reply, Shows, Some, State, Strength, Tracked, Waiting, [], ap, arith}
+use Rattle.alike_cores.proofs.Common.{cond, either_way, false, false≢true, filter, flat_map, given, inl, inr, is_unkept, key_told}
+use Rattle.alike_cores.proofs.Common.{legal_grows, list_any, map-Some, names, not, of, option_map_or, or_right, refl, reverse}
+use Rattle.alike_cores.proofs.Common.{same_buffer, same_key, same_key-refl, same_strength, some-injective, sound_of, subst, sym, timeline}
+use Rattle.alike_cores.proofs.Common.{total, tracked_as, true, when, ℕ, ◌&&◌, ◌+◌, ◌<◌, ◌==◌, ◌||◌, ◌∙◌, ◌∷◌, ◌≡◌, ◌≤◌, ◌⊎◌}
+use Rattle.std.proofs.Common.{is_some}
+use Rattle.sm_names.specs.Answers.{IsAnswer}
 use Rattle.sm_names.specs.Births.{AreSound, Birth, birth_of, births, collection_in, head, was_born}
-use Rattle.sm_names.specs.Bounds.{Bound}
 use Rattle.sm_names.specs.Ends.{clients, is_end_of, is_handle_of, parcels}
-use Rattle.sm_names.specs.Handles.{buffer_names, buffers_of, moving, names, open_of, open_total}
+use Rattle.sm_names.specs.Handles.{buffer_names, buffers_of, moving, open_of, open_total}
 use Rattle.sm_names.specs.Losses.{fault, gone, reaches}
-use Rattle.sm_names.specs.Marks.{Called, Entry, Timeline, events}
+use Rattle.sm_names.specs.Marks.{Timeline, events}
 use Rattle.sm_names.specs.Isolation.{IsOf}
 use Rattle.sm_names.specs.Reading.{readings}
 use Rattle.sm_names.specs.Members.{births_in}
-use Rattle.sm_names.specs.Sameness.{same_buffer, same_key, same_strength}
-use Rattle.sm_names.specs.Timelines.{timeline}
-use Rattle.sm_names.specs.Trackers.{Tracked, collection_of_node, fired_at, fired_in, moments, tracked, tracked_at}
-use Rattle.sm_names.specs.Words.{times, when}
-use Rattle.sm_names.proofs.ListLaws.{In, In-any, In-append, In-filter, In-map, In-map-back, In-reverse}
-use Rattle.sm_names.proofs.SamenessLaws.{and_both, either_way, map-Some, or_right, same_key-refl, same_strength-refl, some-injective}
+use Rattle.sm_names.specs.Trackers.{collection_of_node, fired_at, fired_in, moments, tracked, tracked_at}
+use Rattle.sm_names.specs.Words.{times}
+use Rattle.sm_names.proofs.ListLaws.{In-filter, In-reverse}
+use Rattle.sm_names.proofs.SamenessLaws.{and_both, same_strength-refl}
 use Rattle.history_laws.proofs.AnswerLaws.{took_effect_all}
 use Rattle.history_laws.proofs.BirthLaws.{birth_is, birth_was_born}
 use Rattle.history_laws.proofs.CountLaws.{counted, moving_is}
 use Rattle.history_laws.proofs.DoomLaws.{buffers_early}
-use Rattle.history_laws.proofs.GrowthLaws.{Grows, Stays, Answers, Loses, Allocates, Ends, legal_grows}
+use Rattle.history_laws.proofs.GrowthLaws.{Grows, Stays, Answers, Loses, Allocates, Ends}
 use Rattle.history_laws.proofs.HandleLaws.{some_open}
 use Rattle.history_laws.proofs.LifeLaws.{In_new, born_old, ordered}
 use Rattle.history_laws.proofs.SettledLaws.{In-was_born}
@@ -47,16 +34,10 @@ use Rattle.event_laws.proofs.HandleCaseLaws.{same_buffer-refl}
 use Rattle.event_laws.proofs.HandleBufferLaws.{has_named, moving_named, open_named}
 use Rattle.event_laws.proofs.NumberLaws.{numbered}
 use Rattle.event_laws.proofs.WaitingLaws.{In-waiting}
-use Rattle.buffer_holds.specs.Counts.{of, total}
-use Rattle.forest_store.specs.declared.node.Node.{Node}
-use Rattle.forest_store.specs.Forest.{Collection, given}
-use Rattle.forest_store.specs.Nodes.{is_unkept}
-use Rattle.trackers.specs.declared.waiting.Waiting.{Waiting}
-use Rattle.core_state.specs.Shown.{Shows, client_after, collection_after, kept_ids, node_after, nodes_after, tracked_as}
-use Rattle.core_state.specs.State.{Client, HandleCounts, State}
-use Rattle.core_state.specs.Whole.{IsSound}
+use Rattle.core_state.specs.Shown.{client_after, collection_after, kept_ids, node_after, nodes_after}
 use Rattle.core_state.proofs.nodes.Members.{of_collection}
-use Rattle.core_state.proofs.theorem.OfHistory.{opened_of, out_of, sound_of}
+use Rattle.core_state.proofs.theorem.OfHistory.{opened_of, out_of}
+use Rattle.history_laws.proofs.SumLaws.{In-le-sum_by}
 
 -- ---- names of nodes and collections
 
@@ -126,18 +107,6 @@ fault_born pool limits _ (Loses before origin cause g born) node f is =
         (some-injective (record { cause = cause; origin = origin }) f now) born
     by true true now earlier = earlier now
     by false b now earlier = earlier now
-
--- An element adds to a sum.
-sum_at : {A : Type 0} (f : A → ℕ) (xs : List A) (x : A) → In x xs → f x ≤ sum_by f xs
-sum_at f [] x there = absurd there
-sum_at f (y ∷ ys) x (inl is) =
-    let more : sum_by f (y ∷ ys) ≡ f y + sum_by f ys = sum_by-cons f y ys in
-    let same : f x ≡ f y = ap f is in
-    omega arith
-sum_at f (y ∷ ys) x (inr on) =
-    let more : sum_by f (y ∷ ys) ≡ f y + sum_by f ys = sum_by-cons f y ys in
-    let rest : f x ≤ sum_by f ys = sum_at f ys x on in
-    omega arith
 
 -- And one that passes to a count.
 times_at : {A : Type 0} (p : A → Bool) (xs : List A) (x : A) → In x xs → p x ≡ true → 0 < times p xs
@@ -319,7 +288,7 @@ module _ (s : State) (history : List Entry) (shows : Shows s history) where
           let one : 0 < times (is_handle_of buffer strength) (parcels marks client.0) =
           times_at (is_handle_of buffer strength) (parcels marks client.0) (Parcel.Handle buffer strength) there
           (same_handle buffer strength) in
-          let all = sum_at (λ k. times (is_handle_of buffer strength) (parcels marks k)) (clients marks) client.0
+          let all = In-le-sum_by (λ k. times (is_handle_of buffer strength) (parcels marks k)) (clients marks) client.0
           (In-reverse (clients marks) client.0 client.1) in
           let some : 0 < moving marks buffer strength =
           omega (arith, one, all, moving_is marks (counted s.pool s.limits marks grown) buffer strength) in

@@ -1,29 +1,11 @@
 -- Which names a core knows behind an event: those from before, and those that the reply tells.
-use Rattle.std.proofs.Common.{ℕ, ◌≡◌, ◌≤◌, ◌+◌, refl, ap, sym, subst, ◌∙◌, Bool, true, false, cond, ◌==◌}
-use Rattle.std.proofs.Common.{List, [], Option, Some, None, arith}
-use Rattle.std.proofs.lemmas.Bool.{false≢true}
-use Rattle.std.specs.List.{flat_map}
-use Rattle.std.specs.Option.{option_map_or}
-use Rattle.sm_names.specs.declared.keys.NodeKey.{NodeKey}
-use Rattle.sm_names.specs.declared.messages.Call.{Call}
-use Rattle.sm_names.specs.declared.messages.Parcel.{Parcel}
-use Rattle.sm_names.specs.declared.messages.Reply.{Reply}
-use Rattle.sm_names.specs.declared.outcomes.Fault.{Fault}
-use Rattle.sm_names.specs.Answers.{OpenEnd, key_told, makes_node, new_key}
-use Rattle.sm_names.specs.Marks.{Entry}
-use Rattle.sm_names.specs.Sameness.{same_key}
-use Rattle.sm_names.proofs.ListLaws.{In, In-find}
-use Rattle.sm_names.proofs.SamenessLaws.{and_then-Some, or_left, or_right, same_key-refl, some-injective}
-use Rattle.buffer_holds.specs.Counts.{total}
-use Rattle.forest_store.specs.declared.node.Node.{Node}
-use Rattle.forest_store.specs.Forest.{Collection, Forest, given, node_at}
-use Rattle.forest_store.specs.Nodes.{is_spent}
+use Rattle.alike_cores.proofs.Common.{Bool, Call, Client, Collection, Entry, Fault, Forest, In, In-find, List, Makes, Node, NodeKey, None}
+use Rattle.alike_cores.proofs.Common.{OpenEnd, Option, Parcel, Reply, Shows, Some, State, Work, Worked, [], ap, arith, birth_by, cond}
+use Rattle.alike_cores.proofs.Common.{end_in, false, false≢true, flat_map, given, is_spent, joined_client, key_told, makes_node, new_key}
+use Rattle.alike_cores.proofs.Common.{node_at, open_end_in, open_end_of, option_map_or, or_right, readings_of, refl, same_key}
+use Rattle.alike_cores.proofs.Common.{same_key-refl, some-injective, subst, sym, total, true, work_of, ℕ, ◌+◌, ◌==◌, ◌∙◌, ◌≡◌, ◌≤◌}
+use Rattle.sm_names.proofs.SamenessLaws.{and_then-Some, or_left}
 use Rattle.core_state.specs.Kinds.{fits_call}
-use Rattle.core_state.specs.Reads.{end_in, joined_client, open_end_in, open_end_of, readings_of}
-use Rattle.core_state.specs.Shown.{Shows}
-use Rattle.core_state.specs.State.{Client, State}
-use Rattle.core_state.specs.Steps.{Work, Worked, birth_by, work_of}
-use Rattle.core_state.specs.Theorem.{Makes}
 use Rattle.core_state.proofs.answers.Kinds.{reply-fits, token-made}
 use Rattle.alike_cores.proofs.Known.{In-flat, KnownParcel, collection_known, parcel_known}
 use Rattle.alike_cores.proofs.Told.{Tells, answer_told}

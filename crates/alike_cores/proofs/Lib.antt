@@ -1,3 +1,4 @@
+mod Common
 pub mod Renamings
 pub mod Forcings
 pub mod Settlings

@@ -1,11 +1,9 @@
 -- What does not depend on the order of a list.
-use Rattle.std.proofs.Common.{◌≡◌, refl, ap, sym, ◌∙◌, subst, Bool, true, false, cond, ◌||◌}
-use Rattle.std.proofs.Common.{◌⊎◌, inl, inr, List, [], ◌∷◌, ◌++◌, map, length, Some, None, arith}
-use Rattle.std.proofs.lemmas.List.{append-nil, append_assoc}
-use Rattle.std.specs.List.{filter, find, flat_map, list_any}
-use Rattle.sm_names.proofs.ListLaws.{In, In-any, In-find, none-find}
-use Rattle.sm_names.proofs.SamenessLaws.{both_ways, none_or_some}
-use Rattle.alike_cores.specs.Mixed.{Mixed, Nothing, Keeps, Swaps, Mixes}
+use Rattle.alike_cores.proofs.Common.{Bool, In, In-any, In-find, Keeps, List, Mixed, Mixes, None, Nothing, Some, Swaps, [], ap}
+use Rattle.alike_cores.proofs.Common.{append-nil, arith, both_ways, cond, false, filter, find, flat_map, inl, inr, length, list_any, map}
+use Rattle.alike_cores.proofs.Common.{none_or_some, refl, subst, sym, true, ◌++◌, ◌||◌, ◌∙◌, ◌∷◌, ◌≡◌, ◌⊎◌}
+use Rattle.std.proofs.lemmas.List.{append_assoc}
+use Rattle.sm_names.proofs.ListLaws.{none-find}
 
 -- A list has its own elements.
 pub mixed-same : {A : Type 0} (xs : List A) → Mixed xs xs

@@ -1,11 +1,8 @@
 -- Names of which two change places.
-use Rattle.std.proofs.Common.{ℕ, ◌≡◌, ◌⊎◌, inl, inr, refl, ap, sym, subst, ◌∙◌, Bool, true, false, cond, ◌==◌, Option, Some, None}
-use Rattle.std.proofs.lemmas.Bool.{eq-eqb, eqb-true}
-use Rattle.sm_names.specs.declared.keys.NodeKey.{NodeKey}
-use Rattle.sm_names.specs.Sameness.{same_key}
-use Rattle.sm_names.proofs.SamenessLaws.{both_tests, either_way, false_if, same_key-refl, same_key-true, some-injective}
-use Rattle.alike_cores.specs.Alike.{KeepsIds}
-use Rattle.alike_cores.specs.Renamed.{KeepsKeys}
+use Rattle.alike_cores.proofs.Common.{Bool, KeepsIds, KeepsKeys, NodeKey, None, Option, Some, ap, cond, either_way, eq-eqb, eqb-true}
+use Rattle.alike_cores.proofs.Common.{false, false_if, inl, inr, refl, same_key, same_key-refl, same_key-true, some-injective, subst, sym}
+use Rattle.alike_cores.proofs.Common.{true, ℕ, ◌==◌, ◌∙◌, ◌≡◌, ◌⊎◌}
+use Rattle.sm_names.proofs.SamenessLaws.{both_tests}
 use Rattle.alike_cores.proofs.Finding.{one_id, one_key}
 
 -- ---- two change places

@@ -1,17 +1,9 @@
 -- Which nodes a collection has after a change and all that it forces.
-use Rattle.std.proofs.Common.{ℕ, ◌≡◌, ◌⊎◌, inl, inr, refl, ap, sym, ◌∙◌, Bool, true, false, List, [], ◌∷◌, ◌++◌, map, Option, Some, None}
-use Rattle.std.specs.Option.{option_map_or}
-use Rattle.sm_names.specs.declared.keys.Interval.{Interval}
-use Rattle.sm_names.specs.declared.keys.NodeKey.{NodeKey}
-use Rattle.sm_names.specs.Marks.{Mark, Called, Loss, Allocated, Ended}
-use Rattle.sm_names.proofs.ListLaws.{In, In-append, In-map}
-use Rattle.forest_store.specs.declared.change.Change.{Change}
-use Rattle.forest_store.specs.declared.change.Effect.{Effect}
-use Rattle.forest_store.specs.declared.node.Node.{Node}
-use Rattle.forest_store.specs.Forest.{Collection}
-use Rattle.forest_store.specs.Nodes.{affected, ended, given_buffers, is_taken, lost, new_child, new_root, node_of}
-use Rattle.forest_store.specs.Settling.{Handles, Settles, Rests, Forces, changed, is_birth, is_root_of, made}
-use Rattle.core_state.specs.Whole.{AreOnce}
+use Rattle.alike_cores.proofs.Common.{Allocated, AreOnce, Bool, Called, Change, Collection, Effect, Ended, Forces, Handles, In, In-append}
+use Rattle.alike_cores.proofs.Common.{In-map, Interval, List, Loss, Mark, Node, NodeKey, None, Option, Rests, Settles, Some, [], affected}
+use Rattle.alike_cores.proofs.Common.{ap, changed, ended, false, given_buffers, inl, inr, is_birth, is_root_of, is_taken, lost, made, map}
+use Rattle.alike_cores.proofs.Common.{new_child, new_root, node_of, option_map_or, refl, sym, true, ℕ, ◌++◌, ◌∙◌, ◌∷◌, ◌≡◌, ◌⊎◌}
+use Rattle.forest_store.proofs.tallies.Slots.{made_id}
 
 -- no key stands twice in the new nodes if none does in the old ones, and each new node has the key of an old one
 pub record KeepsNodes (old new : List Node) : Type 0 where
@@ -60,18 +52,6 @@ made_keeps pool others (Allocated head) c = by (is_root_of c head) refl
     by : (b : Bool) → is_root_of c head ≡ b → KeepsNodes c.nodes (made pool others (Allocated head) c).nodes
     by true root = rw root (keeps_map (given_buffers head) (λ n. refl) c.nodes)
     by false other = rw other (keeps_map (given_buffers head) (λ n. refl) c.nodes)
-
--- By the mark: it leaves the id.
-made_id : (pool : ℕ) (others : List Interval) (mark : Mark) (c : Collection) → (made pool others mark c).id ≡ c.id
-made_id pool others (Called client reply call) c = refl
-made_id pool others (Loss origin cause) c = refl
-made_id pool others (Ended top) c = refl
-made_id pool others (Allocated head) c = by (is_root_of c head) refl
-  where
-    -- by cases: buffers are laid out or not
-    by : (b : Bool) → is_root_of c head ≡ b → (made pool others (Allocated head) c).id ≡ c.id
-    by true root = rw root refl
-    by false other = rw other refl
 
 -- Step by step.
 pub settles_keep : (pool : ℕ) (handles : Handles) (others : List Interval) (c last : Collection) → Settles pool handles others c last →

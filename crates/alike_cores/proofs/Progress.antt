@@ -1,22 +1,9 @@
 -- A call of cores that are alike, under names that know what is new.
-use Rattle.std.proofs.Common.{ℕ, ◌≡◌, ◌+◌, ap, sym, subst, ◌∙◌, true, false, refl, List, Option, Some, None}
-use Rattle.std.specs.Option.{option_map_or}
-use Rattle.sm_names.specs.declared.keys.BufferName.{BufferName}
-use Rattle.sm_names.specs.declared.keys.NodeKey.{NodeKey}
-use Rattle.sm_names.specs.declared.messages.Call.{Call}
-use Rattle.sm_names.specs.declared.messages.Reply.{Reply}
-use Rattle.sm_names.specs.Answers.{new_key}
-use Rattle.sm_names.specs.Ends.{joined_at}
-use Rattle.sm_names.specs.Marks.{Called, Entry}
-use Rattle.sm_names.specs.Timelines.{buffer_of, key_of}
-use Rattle.sm_names.proofs.SamenessLaws.{both_ways}
-use Rattle.forest_store.specs.Forest.{given}
-use Rattle.core_state.specs.Shown.{Shows}
-use Rattle.core_state.specs.State.{State}
-use Rattle.core_state.specs.Theorem.{Makes}
-use Rattle.alike_cores.specs.Alike.{KeepsIds, call_renamed, reply_renamed}
-use Rattle.alike_cores.specs.Renamed.{KeepsKeys}
-use Rattle.alike_cores.specs.Cores.{AreAlikeCores, GoOn, NamesOld}
+use Rattle.alike_cores.proofs.Common.{AreAlikeCores, BufferName, Call, Called, Entry, KeepsIds, KeepsKeys, List, Makes, NodeKey, None}
+use Rattle.alike_cores.proofs.Common.{Option, Reply, Shows, Some, State, ap, both_ways, call_renamed, false, given, joined_at, key_of}
+use Rattle.alike_cores.proofs.Common.{new_key, option_map_or, refl, reply_renamed, subst, sym, true, ℕ, ◌+◌, ◌∙◌, ◌≡◌}
+use Rattle.sm_names.specs.Timelines.{buffer_of}
+use Rattle.alike_cores.specs.Cores.{GoOn, NamesOld}
 use Rattle.alike_cores.proofs.Agreeing.{agree, ids_agree, numbers_agree}
 use Rattle.alike_cores.proofs.Moving.{keys_kept, keys_moved, keys_same, keys_there, number_kept, number_moved, number_there}
 use Rattle.alike_cores.proofs.Shown.{events_alike}

@@ -1,26 +1,16 @@
 -- What answers read of a renamed state.
-use Rattle.std.proofs.Common.{ℕ, ◌≡◌, refl, ap, sym, ◌∙◌, Bool, true, false, cond, ◌||◌, ◌&&◌}
-use Rattle.std.proofs.Common.{◌==◌, not, List, [], ◌∷◌, ◌++◌, length, map, Option, Some, None}
-use Rattle.std.proofs.lemmas.List.{map-append}
-use Rattle.std.specs.List.{filter, find, flat_map, list_any}
-use Rattle.std.specs.Option.{is_some, option_map, option_map_or, option_and_then}
-use Rattle.sm_names.specs.declared.keys.BufferName.{BufferName}
-use Rattle.sm_names.specs.declared.keys.NodeKey.{NodeKey}
-use Rattle.sm_names.specs.declared.keys.Strength.{Strength}
-use Rattle.sm_names.specs.declared.messages.Parcel.{Parcel}
-use Rattle.sm_names.specs.declared.outcomes.Buffers.{Buffers}
-use Rattle.sm_names.specs.Answers.{OpenEnd}
-use Rattle.sm_names.specs.Handles.{is_doomed, names}
-use Rattle.sm_names.specs.Members.{some_strong_live}
-use Rattle.buffer_holds.specs.Counts.{of, total}
-use Rattle.forest_store.specs.declared.node.Node.{Node}
-use Rattle.forest_store.specs.Forest.{Collection, all_nodes, collection_at, node_at}
-use Rattle.forest_store.specs.Nodes.{is_spent, members_of, node_of}
+use Rattle.alike_cores.proofs.Common.{AreAlike, Bool, BufferName, Buffers, Client, Collection, CountsAlike, KeepsIds, KeepsKeys, List}
+use Rattle.alike_cores.proofs.Common.{Node, NodeKey, None, OpenEnd, Option, Parcel, Some, State, Strength, [], ap, buffer_renamed}
+use Rattle.alike_cores.proofs.Common.{client_renamed, collection_at, collection_renamed, cond, end_in, end_renamed, false, filter, find}
+use Rattle.alike_cores.proofs.Common.{flat_map, is_doomed, is_spent, joined_client, length, list_any, map, map-append, members_of, names}
+use Rattle.alike_cores.proofs.Common.{node_at, node_of, node_renamed, not, of, open_end_in, open_end_of, option_and_then, option_map}
+use Rattle.alike_cores.proofs.Common.{option_map_or, parcel_renamed, readings_of, refl, some_strong_live, sym, total, true, ℕ, ◌&&◌, ◌++◌}
+use Rattle.alike_cores.proofs.Common.{◌==◌, ◌||◌, ◌∙◌, ◌∷◌, ◌≡◌}
+use Rattle.std.specs.Option.{is_some}
+use Rattle.forest_store.specs.Forest.{all_nodes}
 use Rattle.forest_store.specs.Settling.{buffer_names}
-use Rattle.core_state.specs.Reads.{buffers_in, end_in, joined_client, open_end_in, open_end_of, readings_of, to_open_in}
-use Rattle.core_state.specs.State.{Client, State}
-use Rattle.alike_cores.specs.Renamed.{CountsAlike, KeepsKeys, buffer_renamed, collection_renamed, node_renamed}
-use Rattle.alike_cores.specs.Alike.{AreAlike, IsRenamed, KeepsIds, client_renamed, end_renamed, parcel_renamed}
+use Rattle.core_state.specs.Reads.{buffers_in, to_open_in}
+use Rattle.alike_cores.specs.Alike.{IsRenamed}
 use Rattle.alike_cores.proofs.Renamings.{members-renamed, node_of-renamed}
 use Rattle.alike_cores.proofs.Forcings.{any_alike, filter_alike, find_alike, strong-renamed}
 use Rattle.alike_cores.proofs.Settlings.{names-renamed}

@@ -1,28 +1,13 @@
 -- What answers read of cores that are alike.
-use Rattle.std.proofs.Common.{ℕ, ◌≡◌, refl, ap, sym, ◌∙◌, cond, not, List, [], ◌∷◌, length, map, Option, Some, None}
-use Rattle.std.specs.List.{filter, flat_map}
-use Rattle.std.specs.Option.{option_and_then, option_map, option_map_or}
-use Rattle.sm_names.specs.declared.keys.BufferName.{BufferName}
-use Rattle.sm_names.specs.declared.keys.NodeKey.{NodeKey}
-use Rattle.sm_names.specs.declared.keys.Strength.{Strength}
-use Rattle.sm_names.specs.declared.outcomes.Fault.{Fault}
-use Rattle.sm_names.specs.Answers.{OpenEnd}
-use Rattle.sm_names.specs.Handles.{is_doomed}
-use Rattle.sm_names.specs.Members.{some_strong_live}
-use Rattle.buffer_holds.specs.Counts.{total}
-use Rattle.forest_store.specs.declared.node.Node.{Node}
-use Rattle.forest_store.specs.Forest.{Collection, collection_at, node_at}
-use Rattle.forest_store.specs.Nodes.{is_spent, members_of}
+use Rattle.alike_cores.proofs.Common.{AreAlike, AreAlikeCores, BufferName, Collection, Fault, KeepsIds, KeepsKeys, List, Mixed, Node}
+use Rattle.alike_cores.proofs.Common.{NodeKey, None, OpenEnd, Option, Some, State, Strength, [], ap, buffer_renamed, client_renamed}
+use Rattle.alike_cores.proofs.Common.{collection_at, collection_renamed, cond, end_in, end_renamed, fault_renamed, filter, flat_map}
+use Rattle.alike_cores.proofs.Common.{is_doomed, is_spent, length, map, members_of, node_at, not, open_end_in, open_end_of}
+use Rattle.alike_cores.proofs.Common.{option_and_then, option_map, option_map_or, readings_of, refl, some_strong_live, sym, total}
+use Rattle.alike_cores.proofs.Common.{tracked_as, tracker_renamed, undated, ℕ, ◌∙◌, ◌∷◌, ◌≡◌}
 use Rattle.forest_store.specs.Settling.{buffer_names}
-use Rattle.core_state.specs.Reads.{end_in, open_end_in, open_end_of, readings_of}
-use Rattle.core_state.specs.Shown.{tracked_as}
-use Rattle.core_state.specs.State.{State}
-use Rattle.alike_cores.specs.Alike.{AreAlike, KeepsIds, client_renamed, end_renamed}
-use Rattle.alike_cores.specs.Renamed.{KeepsKeys, buffer_renamed, collection_renamed, fault_renamed}
 use Rattle.alike_cores.proofs.Answering.{length-renamed}
 use Rattle.alike_cores.proofs.Reading.{readings-renamed}
-use Rattle.alike_cores.specs.Cores.{AreAlikeCores, tracker_renamed, undated}
-use Rattle.alike_cores.specs.Mixed.{Mixed}
 use Rattle.alike_cores.proofs.Finding.{AreApart, collections_mixed, nodes_mixed, renamed_apart}
 use Rattle.alike_cores.proofs.Mixing.{length-mixed, mixed-flat_map}
 

@@ -1,18 +1,12 @@
 -- Finds, lines and reaches of renamed nodes.
-use Rattle.std.proofs.Common.{ℕ, ◌≡◌, refl, ap, sym, ◌∙◌, Bool, true, false, cond, ◌||◌}
-use Rattle.std.proofs.Common.{◌&&◌, not, List, [], ◌∷◌, map, reverse, Option, Some, None}
-use Rattle.std.specs.List.{filter, find, list_any}
-use Rattle.std.specs.Option.{option_map, option_map_or}
-use Rattle.sm_names.specs.declared.keys.NodeKey.{NodeKey}
-use Rattle.sm_names.specs.declared.outcomes.Fault.{Fault}
+use Rattle.alike_cores.proofs.Common.{Bool, Fault, KeepsKeys, List, Member, Node, NodeKey, None, Option, Some, [], after_loss, ap, cond}
+use Rattle.alike_cores.proofs.Common.{false, fault_renamed, filter, find, is_taken, is_under, list_any, lost, map, member_of}
+use Rattle.alike_cores.proofs.Common.{member_renamed, members_of, node_of, node_renamed, not, option_map, option_map_or, refl, reverse}
+use Rattle.alike_cores.proofs.Common.{same_key, sym, true, ℕ, ◌&&◌, ◌||◌, ◌∙◌, ◌∷◌, ◌≡◌}
 use Rattle.sm_names.specs.Changes.{blocks, highest}
 use Rattle.sm_names.specs.Losses.{top}
-use Rattle.sm_names.specs.Members.{Member, is_under}
-use Rattle.sm_names.specs.Sameness.{same_key}
-use Rattle.forest_store.specs.declared.node.Node.{Node}
-use Rattle.forest_store.specs.Nodes.{above_among, after_loss, is_taken, lost, member_of, members_of, node_of}
+use Rattle.forest_store.specs.Nodes.{above_among}
 use Rattle.core_state.proofs.lists.Maps.{filter-map, list_any-map, map-map_In, map-reverse}
-use Rattle.alike_cores.specs.Renamed.{KeepsKeys, fault_renamed, member_renamed, node_renamed}
 
 -- the node with the new key is the renamed one
 pub node_of-renamed : (to : NodeKey → NodeKey) (id : ℕ → ℕ) → KeepsKeys to → (nodes : List Node) (key : NodeKey) →

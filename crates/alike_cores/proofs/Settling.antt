@@ -1,35 +1,19 @@
 -- What a change forces in renamed collections, beside the same pages.
-use Rattle.std.proofs.Common.{ℕ, ◌≡◌, ◌<◌, refl, ap, sym, subst, ◌∙◌, Bool, false, cond, ◌||◌, ◌&&◌}
-use Rattle.std.proofs.Common.{◌==◌, nat_lt, not, inl, inr, List, [], ◌∷◌, ◌++◌, map, Option, Some, None, is_none, arith}
-use Rattle.std.proofs.lemmas.Bool.{eqb-true, ltb-true}
-use Rattle.std.specs.List.{AllByRecursion, filter, flat_map, list_any}
-use Rattle.std.specs.Option.{option_and_then, option_map_or}
-use Rattle.sm_names.specs.declared.keys.Interval.{Interval}
-use Rattle.sm_names.specs.declared.keys.NodeKey.{NodeKey}
-use Rattle.sm_names.specs.declared.outcomes.Buffers.{Buffers}
-use Rattle.sm_names.specs.declared.outcomes.Failure.{Failure}
-use Rattle.sm_names.specs.declared.rules.TheConstants.{MAX_BUFFERS}
-use Rattle.sm_names.specs.Forced.{Standing, abandoned, ending, forced, logical_allocation, outcome}
-use Rattle.sm_names.specs.Handles.{names}
-use Rattle.sm_names.specs.Marks.{Mark, Called, Loss, Allocated, Ended}
-use Rattle.sm_names.specs.Members.{Member, asked, is_ready, root_left, some_strong_live}
-use Rattle.sm_names.specs.Pages.{pages_of}
-use Rattle.sm_names.specs.Timelines.{laid_out}
-use Rattle.sm_names.specs.Words.{first_some, when}
-use Rattle.sm_names.proofs.ListLaws.{In, filter-all}
+use Rattle.alike_cores.proofs.Common.{Allocated, Bool, Buffers, Called, Collection, CountsAlike, Ended, Failure, Forces, Handles, In}
+use Rattle.alike_cores.proofs.Common.{Interval, Keeps, KeepsIds, KeepsKeys, List, Loss, MAX_BUFFERS, Mark, Member, Mixed, Mixes, NodeKey}
+use Rattle.alike_cores.proofs.Common.{None, Option, Rests, Rise, Settles, Some, Standing, Swaps, [], abandoned, after_allocation, ap}
+use Rattle.alike_cores.proofs.Common.{arith, asked, collection_renamed, cond, either_way, ending, eqb-true, false, false_if, filter}
+use Rattle.alike_cores.proofs.Common.{first_some, flat_map, forced, ids, inl, inr, is_ready, is_root_of, laid_out, list_any}
+use Rattle.alike_cores.proofs.Common.{logical_allocation, made, map, members_of, names, nat_lt, not, option_and_then, option_map_or}
+use Rattle.alike_cores.proofs.Common.{outcome, pages_in, pages_of, put, refl, root_left, some-injective, some_strong_live, standing}
+use Rattle.alike_cores.proofs.Common.{subst, sym, undated, when, with_nodes, ℕ, ◌&&◌, ◌++◌, ◌<◌, ◌==◌, ◌||◌, ◌∙◌, ◌∷◌, ◌≡◌}
+use Rattle.std.proofs.Common.{is_none}
+use Rattle.std.proofs.lemmas.Bool.{ltb-true}
+use Rattle.std.specs.List.{AllByRecursion}
+use Rattle.sm_names.proofs.ListLaws.{filter-all}
 use Rattle.sm_names.proofs.PlaceLaws.{places_same}
-use Rattle.sm_names.proofs.SamenessLaws.{either_way, false_if, some-injective}
-use Rattle.forest_store.specs.Forest.{Collection, pages_in, with_nodes}
-use Rattle.forest_store.specs.Nodes.{after_allocation, members_of}
-use Rattle.forest_store.specs.Settling.{Handles, Settles, Rests, Forces, is_root_of, made, put, standing}
-use Rattle.core_state.specs.Whole.{Rise}
-use Rattle.core_state.proofs.collections.ById.{ids}
-use Rattle.alike_cores.specs.Alike.{KeepsIds}
-use Rattle.alike_cores.specs.Renamed.{CountsAlike, KeepsKeys, collection_renamed}
 use Rattle.alike_cores.proofs.Forcings.{filter_alike}
 use Rattle.alike_cores.proofs.Settlings.{pages-renamed, settles-renamed}
-use Rattle.alike_cores.specs.Cores.{undated}
-use Rattle.alike_cores.specs.Mixed.{Mixed, Keeps, Swaps, Mixes}
 use Rattle.alike_cores.proofs.Mixing.{any-mixed, mixed-back, mixed-filter, mixed-flat_map, mixed-map, mixed-same}
 
 -- ---- the pages of the others

@@ -1,28 +1,17 @@
 -- What a change forces, under other names.
-use Rattle.std.proofs.Common.{ℕ, ◌≡◌, refl, ap, sym, subst, ◌∙◌, Bool, true, false, cond, nat_lt}
-use Rattle.std.proofs.Common.{◌||◌, ◌&&◌, not, List, [], ◌∷◌, ◌++◌, map, Option, Some, None}
-use Rattle.std.proofs.lemmas.List.{map-append}
-use Rattle.std.specs.List.{filter, list_any, range_with_len}
-use Rattle.std.specs.Option.{is_none, option_map, option_map_or}
-use Rattle.sm_names.specs.declared.keys.BufferName.{BufferName}
-use Rattle.sm_names.specs.declared.keys.HeldBuffer.{HeldBuffer}
-use Rattle.sm_names.specs.declared.keys.Interval.{Interval}
-use Rattle.sm_names.specs.declared.keys.NodeKey.{NodeKey}
-use Rattle.sm_names.specs.declared.keys.Strength.{Strength}
-use Rattle.sm_names.specs.declared.outcomes.Buffers.{Buffers}
-use Rattle.sm_names.specs.Forced.{Standing, forced}
-use Rattle.sm_names.specs.Handles.{is_home, names}
-use Rattle.sm_names.specs.Marks.{Mark, Called, Loss, Allocated, Ended}
-use Rattle.sm_names.specs.Members.{Member, asked, is_under, some_strong_live}
-use Rattle.sm_names.specs.Pages.{pages_of, places}
-use Rattle.sm_names.specs.Sameness.{same_key}
-use Rattle.sm_names.specs.Timelines.{laid_out, layout}
-use Rattle.forest_store.specs.declared.node.Node.{Node}
-use Rattle.forest_store.specs.Forest.{Collection, pages_in, with_nodes}
-use Rattle.forest_store.specs.Nodes.{after_allocation, after_end, after_loss, ended, given_buffers, member_of, members_of, node_of}
-use Rattle.forest_store.specs.Settling.{Handles, Settles, Rests, Forces, buffer_names, given_back, is_home_in, is_root_of, made, standing}
-use Rattle.alike_cores.specs.Renamed.{CountsAlike, KeepsKeys, buffer_renamed, collection_renamed, held_renamed}
-use Rattle.alike_cores.specs.Renamed.{mark_renamed, member_renamed, node_renamed, standing_renamed}
+use Rattle.alike_cores.proofs.Common.{Allocated, Bool, BufferName, Buffers, Called, Collection, CountsAlike, Ended, Forces, Handles}
+use Rattle.alike_cores.proofs.Common.{HeldBuffer, Interval, KeepsKeys, List, Loss, Mark, Member, Node, NodeKey, None, Option, Rests}
+use Rattle.alike_cores.proofs.Common.{Settles, Some, Standing, Strength, [], after_allocation, after_loss, ap, asked, buffer_renamed}
+use Rattle.alike_cores.proofs.Common.{collection_renamed, cond, ended, false, filter, forced, given_back, given_buffers, held_renamed}
+use Rattle.alike_cores.proofs.Common.{is_home, is_home_in, is_root_of, is_under, laid_out, list_any, made, map, map-append, mark_renamed}
+use Rattle.alike_cores.proofs.Common.{member_of, member_renamed, members_of, names, nat_lt, node_of, node_renamed, not, option_map}
+use Rattle.alike_cores.proofs.Common.{option_map_or, pages_in, pages_of, places, refl, same_key, some_strong_live, standing}
+use Rattle.alike_cores.proofs.Common.{standing_renamed, subst, sym, true, with_nodes, ℕ, ◌&&◌, ◌++◌, ◌||◌, ◌∙◌, ◌∷◌, ◌≡◌}
+use Rattle.std.specs.List.{range_with_len}
+use Rattle.std.specs.Option.{is_none}
+use Rattle.sm_names.specs.Timelines.{layout}
+use Rattle.forest_store.specs.Nodes.{after_end}
+use Rattle.forest_store.specs.Settling.{buffer_names}
 use Rattle.alike_cores.proofs.Renamings.{any-renamed, loss-renamed, member-renamed, members-renamed, node_of-renamed}
 use Rattle.alike_cores.proofs.Forcings.{any_alike, asked-renamed, filter_alike, forced-renamed, strong-renamed}
 

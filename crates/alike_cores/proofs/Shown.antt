@@ -1,26 +1,10 @@
 -- Cores that are alike and show histories.
-use Rattle.std.proofs.Common.{ℕ, ◌≡◌, ◌+◌, refl, ap, sym, subst, ◌∙◌, List, Some, None}
-use Rattle.sm_names.specs.declared.keys.NodeKey.{NodeKey}
-use Rattle.sm_names.specs.declared.messages.Call.{Call}
-use Rattle.sm_names.specs.declared.messages.Reply.{Reply}
-use Rattle.sm_names.specs.Answers.{answer, key_told, new_key}
-use Rattle.sm_names.specs.Bounds.{Bound}
-use Rattle.sm_names.specs.Ends.{joined_at}
-use Rattle.sm_names.specs.Marks.{Called, Entry}
-use Rattle.sm_names.specs.Timelines.{timeline}
-use Rattle.history_laws.proofs.GrowthLaws.{legal_grows}
-use Rattle.core_state.specs.Reads.{readings_of}
-use Rattle.core_state.specs.Shown.{Shows}
-use Rattle.core_state.specs.State.{State}
-use Rattle.core_state.specs.Steps.{Follows}
-use Rattle.core_state.specs.Tasks.{with_key}
-use Rattle.core_state.specs.Theorem.{Makes}
-use Rattle.core_state.specs.Whole.{IsSound}
-use Rattle.core_state.proofs.theorem.OfHistory.{sound_of}
-use Rattle.alike_cores.specs.Alike.{AreAlike, KeepsIds, call_renamed, reply_renamed}
-use Rattle.alike_cores.specs.Renamed.{KeepsKeys}
+use Rattle.alike_cores.proofs.Common.{AreAlike, AreAlikeCores, Bound, Call, Called, Entry, Follows, IsSound, KeepsIds, KeepsKeys, List}
+use Rattle.alike_cores.proofs.Common.{Makes, NodeKey, None, Reply, Shows, Some, State, answer, ap, call_renamed, joined_at, key_told}
+use Rattle.alike_cores.proofs.Common.{legal_grows, new_key, readings_of, refl, reply_renamed, sound_of, subst, sym, timeline, with_key, ℕ}
+use Rattle.alike_cores.proofs.Common.{◌+◌, ◌∙◌, ◌≡◌}
 use Rattle.alike_cores.proofs.Answering.{answer-alike}
-use Rattle.alike_cores.specs.Cores.{AreAlikeCores, NamesNew}
+use Rattle.alike_cores.specs.Cores.{NamesNew}
 use Rattle.alike_cores.proofs.Events.{stay_alike}
 use Rattle.alike_cores.proofs.Finding.{sound_apart}
 use Rattle.alike_cores.proofs.Keys.{answer-keyed}

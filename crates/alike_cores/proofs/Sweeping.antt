@@ -1,35 +1,18 @@
 -- Which trackers fire in cores that are alike.
-use Rattle.std.proofs.Common.{Bool, ℕ, ◌≡◌, ◌∷◌, ◌++◌, [], refl, ap, sym, subst, ◌∙◌, true}
-use Rattle.std.proofs.Common.{false, cond, ◌&&◌, nat_le, not, List, length, map, Option, Some, None, is_some}
-use Rattle.std.proofs.lemmas.List.{map-append}
-use Rattle.std.specs.List.{filter}
-use Rattle.std.specs.Option.{option_map, option_map_or}
-use Rattle.sm_names.specs.declared.keys.BufferName.{BufferName}
-use Rattle.sm_names.specs.declared.keys.NodeKey.{NodeKey}
-use Rattle.sm_names.specs.declared.keys.Strength.{Strength}
-use Rattle.sm_names.specs.declared.tracking.Condition.{Condition}
-use Rattle.sm_names.specs.declared.tracking.Fired.{Fired}
-use Rattle.sm_names.specs.Handles.{is_doomed}
-use Rattle.sm_names.specs.Members.{some_strong_live}
-use Rattle.sm_names.specs.Trackers.{Tracked, World, holds}
-use Rattle.sm_names.proofs.ListLaws.{map-map}
-use Rattle.sm_names.proofs.SamenessLaws.{some-injective}
-use Rattle.forest_store.specs.declared.node.Node.{Node}
-use Rattle.forest_store.specs.Forest.{Collection, Forest, collection_at, node_at}
-use Rattle.forest_store.specs.Nodes.{members_of}
-use Rattle.forest_store.specs.Settling.{Handles}
-use Rattle.trackers.specs.declared.waiting.Waiting.{Waiting}
-use Rattle.trackers.specs.Table.{TrackerTable, firing, firings, is_due, still_waiting}
-use Rattle.core_state.specs.Reads.{world_in}
-use Rattle.core_state.specs.Shown.{tracked_as}
+use Rattle.alike_cores.proofs.Common.{Bool, BufferName, Collection, Condition, CountsAlike, Fired, Forest, Handles, KeepsIds, KeepsKeys}
+use Rattle.alike_cores.proofs.Common.{List, Mixed, Mixes, Node, NodeKey, None, Option, Some, Strength, Tracked, TrackerTable, Waiting, []}
+use Rattle.alike_cores.proofs.Common.{ap, buffer_renamed, collection_at, collection_renamed, cond, condition_renamed, false, filter}
+use Rattle.alike_cores.proofs.Common.{firings, held_renamed, is_doomed, length, map, map-append, map-map, members_of, nat_le, node_at}
+use Rattle.alike_cores.proofs.Common.{node_renamed, node_undated, not, option_map, option_map_or, refl, some-injective, some_strong_live}
+use Rattle.alike_cores.proofs.Common.{still_waiting, subst, sym, tracked_as, tracker_renamed, true, undated, world_in, ℕ, ◌&&◌, ◌++◌, ◌∙◌}
+use Rattle.alike_cores.proofs.Common.{◌∷◌, ◌≡◌}
+use Rattle.std.proofs.Common.{is_some}
+use Rattle.sm_names.specs.Trackers.{World, holds}
+use Rattle.trackers.specs.Table.{firing, is_due}
 use Rattle.core_state.specs.Steps.{GainsTracker}
-use Rattle.alike_cores.specs.Alike.{KeepsIds}
-use Rattle.alike_cores.specs.Renamed.{CountsAlike, KeepsKeys, buffer_renamed, collection_renamed, held_renamed, node_renamed}
 use Rattle.alike_cores.proofs.Answering.{length-renamed}
 use Rattle.alike_cores.proofs.Forcings.{filter_alike, strong-renamed}
 use Rattle.alike_cores.proofs.Renamings.{members-renamed}
-use Rattle.alike_cores.specs.Cores.{condition_renamed, node_undated, tracker_renamed, undated}
-use Rattle.alike_cores.specs.Mixed.{Mixed, Mixes}
 use Rattle.alike_cores.proofs.Finding.{found_collection, found_node}
 use Rattle.alike_cores.proofs.FoundAlike.{read_or-alike}
 use Rattle.alike_cores.proofs.Mixing.{mixed-before, mixed-behind, mixed-filter, mixed-map}

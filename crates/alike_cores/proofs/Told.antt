@@ -1,26 +1,11 @@
 -- Which names an answer tells: those that are read, and the new ones.
-use Rattle.std.proofs.Common.{ℕ, ◌≡◌, ◌+◌, inl, refl, Bool, true, false, ◌||◌, ◌&&◌, ◌==◌}
-use Rattle.std.proofs.Common.{not, nat_le, List, [], ◌∷◌, Option, Some, None}
-use Rattle.std.specs.Option.{option_and_then, option_map, option_map_or, unwrap_or}
-use Rattle.sm_names.specs.declared.keys.NodeKey.{NodeKey}
-use Rattle.sm_names.specs.declared.keys.Strength.{Strength}
-use Rattle.sm_names.specs.declared.messages.Call.{Call}
-use Rattle.sm_names.specs.declared.messages.Parcel.{Parcel}
-use Rattle.sm_names.specs.declared.messages.Reply.{Reply}
-use Rattle.sm_names.specs.declared.outcomes.Buffers.{Buffers}
-use Rattle.sm_names.specs.declared.outcomes.Fault.{Fault}
-use Rattle.sm_names.specs.declared.outcomes.Misuse.{Misuse}
-use Rattle.sm_names.specs.declared.outcomes.Refusal.{Refusal}
-use Rattle.sm_names.specs.declared.rules.TheConstants.{MAX_NODE_TRACKERS}
-use Rattle.sm_names.specs.Answers.{OpenEnd, Readings, acquires, answer, answers_first, closing, collected, effect, end_named}
-use Rattle.sm_names.specs.Answers.{is_anothers, kind_for, makes_collection, makes_node, makes_tracker, misuse, misuse_of}
-use Rattle.sm_names.specs.Answers.{misused_if, no_handle, peer_closed, receiver_of, refused_if, set_of, strength_of}
-use Rattle.sm_names.specs.Answers.{too_many_handles, unknown_client}
-use Rattle.sm_names.specs.Bounds.{Bound}
-use Rattle.sm_names.specs.Sameness.{same_kind}
-use Rattle.sm_names.specs.Timelines.{key_of}
-use Rattle.sm_names.specs.Words.{first_some}
-use Rattle.sm_names.proofs.ListLaws.{In}
+use Rattle.alike_cores.proofs.Common.{Bool, Bound, Buffers, Call, Fault, In, List, MAX_NODE_TRACKERS, Misuse, NodeKey, None, OpenEnd}
+use Rattle.alike_cores.proofs.Common.{Option, Parcel, Readings, Refusal, Reply, Some, Strength, [], acquires, answer, answers_first}
+use Rattle.alike_cores.proofs.Common.{closing, collected, effect, end_named, false, first_some, inl, is_anothers, key_of, kind_for}
+use Rattle.alike_cores.proofs.Common.{makes_collection, makes_node, makes_tracker, misuse, misuse_of, misused_if, nat_le, no_handle, not}
+use Rattle.alike_cores.proofs.Common.{option_and_then, option_map, option_map_or, peer_closed, receiver_of, refl, refused_if, same_kind}
+use Rattle.alike_cores.proofs.Common.{set_of, strength_of, too_many_handles, true, unknown_client, unwrap_or, ℕ, ◌&&◌, ◌+◌, ◌==◌, ◌||◌}
+use Rattle.alike_cores.proofs.Common.{◌∷◌, ◌≡◌}
 use Rattle.alike_cores.proofs.Known.{KnownParcel}
 
 -- the names in a reply: the key of a new node is of one kind, that of an old one of another

@@ -1,21 +1,11 @@
 -- What is seen of cores that are alike.
-use Rattle.std.proofs.Common.{ℕ, ◌≡◌, ◌+◌, ◌-◌, ◌==◌, refl, ap, sym, ◌∙◌, List, [], ◌∷◌, ◌++◌, map, arith}
-use Rattle.std.proofs.lemmas.List.{map-append}
-use Rattle.std.proofs.lemmas.List.Sums.{sum_by-cons}
-use Rattle.std.specs.List.{flat_map, list_any, sum_by}
-use Rattle.sm_names.specs.declared.keys.HeldBuffer.{HeldBuffer}
-use Rattle.sm_names.specs.declared.keys.Interval.{Interval}
-use Rattle.sm_names.specs.declared.keys.NodeKey.{NodeKey}
-use Rattle.sm_names.specs.declared.tracking.Fired.{Fired}
-use Rattle.forest_store.specs.Forest.{Collection, pages_in}
+use Rattle.alike_cores.proofs.Common.{AreAlikeCores, Collection, Fired, HeldBuffer, Interval, Keeps, KeepsIds, List, Mixed, Mixes}
+use Rattle.alike_cores.proofs.Common.{NodeKey, Nothing, State, Swaps, [], ap, arith, collection_renamed, flat_map, list_any, map}
+use Rattle.alike_cores.proofs.Common.{map-append, pages_in, refl, sum_by, sum_by-cons, sym, undated, ℕ, ◌++◌, ◌+◌, ◌-◌, ◌==◌, ◌∙◌, ◌∷◌}
+use Rattle.alike_cores.proofs.Common.{◌≡◌}
 use Rattle.core_state.specs.Reads.{views_of}
-use Rattle.core_state.specs.State.{State}
 use Rattle.core_state.proofs.collections.Pages.{sum-map}
-use Rattle.alike_cores.specs.Alike.{KeepsIds}
-use Rattle.alike_cores.specs.Renamed.{collection_renamed}
 use Rattle.alike_cores.proofs.Forcings.{any_alike}
-use Rattle.alike_cores.specs.Cores.{AreAlikeCores, undated}
-use Rattle.alike_cores.specs.Mixed.{Mixed, Nothing, Keeps, Swaps, Mixes}
 use Rattle.alike_cores.proofs.Mixing.{any-mixed, mixed-flat_map}
 use Rattle.alike_cores.proofs.Settling.{pages-flat}
 

@@ -1,24 +1,14 @@
 -- The collections once an event's change and all that it forces are made, in cores that are alike.
-use Rattle.std.proofs.Common.{ℕ, ◌≡◌, ◌⊎◌, inl, inr, refl, ap, sym, subst, ◌∙◌, true}
-use Rattle.std.proofs.Common.{false, ◌==◌, List, [], map, Option, Some, None, is_some, IfSome}
-use Rattle.std.proofs.lemmas.Bool.{eqb-true}
-use Rattle.std.specs.Option.{option_map, unwrap_or}
-use Rattle.sm_names.specs.declared.keys.NodeKey.{NodeKey}
-use Rattle.sm_names.proofs.ListLaws.{In, In-find}
-use Rattle.sm_names.proofs.SamenessLaws.{both_ways, none_or_some, some-injective}
-use Rattle.forest_store.specs.declared.change.Change.{Change}
-use Rattle.forest_store.specs.declared.node.Node.{Node}
-use Rattle.forest_store.specs.Forest.{Collection, Forest, beside, collection_at, given}
-use Rattle.forest_store.specs.Settling.{Handles, Settled, Settles, changed, collection_or_new, given_back, is_birth, no_key, put}
-use Rattle.core_state.specs.State.{State}
-use Rattle.core_state.specs.Steps.{Work, Worked}
-use Rattle.core_state.specs.Whole.{AreOnce, IsSound, Rise}
-use Rattle.core_state.proofs.collections.ById.{ids, put_from, put_rises, put_there}
-use Rattle.alike_cores.specs.Alike.{KeepsIds}
-use Rattle.alike_cores.specs.Renamed.{CountsAlike, KeepsKeys, change_renamed, collection_renamed}
+use Rattle.alike_cores.proofs.Common.{AreAlikeCores, AreOnce, Change, Collection, CountsAlike, Forest, Handles, IfSome, In, In-find}
+use Rattle.alike_cores.proofs.Common.{IsSound, KeepsIds, KeepsKeys, List, Mixed, Node, NodeKey, None, Option, Rise, Settles, Some, State}
+use Rattle.alike_cores.proofs.Common.{Work, Worked, [], ap, both_ways, change_renamed, changed, collection_at, collection_or_new}
+use Rattle.alike_cores.proofs.Common.{collection_renamed, eqb-true, false, given, given_back, ids, inl, inr, is_birth, map, none_or_some}
+use Rattle.alike_cores.proofs.Common.{option_map, put, refl, some-injective, subst, sym, true, undated, unwrap_or, ℕ, ◌==◌, ◌∙◌, ◌≡◌, ◌⊎◌}
+use Rattle.std.proofs.Common.{is_some}
+use Rattle.forest_store.specs.Forest.{beside}
+use Rattle.forest_store.specs.Settling.{Settled, no_key}
+use Rattle.core_state.proofs.collections.ById.{put_from, put_rises, put_there}
 use Rattle.alike_cores.proofs.Changing.{changed-renamed, given-renamed}
-use Rattle.alike_cores.specs.Cores.{AreAlikeCores, undated}
-use Rattle.alike_cores.specs.Mixed.{Mixed}
 use Rattle.alike_cores.proofs.Finding.{AreApart, one_collection, sound_apart}
 use Rattle.alike_cores.proofs.Nodes.{any_key, changed_id, settles_id, settles_keep, starts}
 use Rattle.alike_cores.proofs.Settling.{SamePages, beside-alike, put-alike, settled-alike}

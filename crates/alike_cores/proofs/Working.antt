@@ -1,29 +1,13 @@
 -- What an event changes in cores that are alike.
-use Rattle.std.proofs.Common.{ℕ, ◌≡◌, refl, ap, sym, ◌∙◌, Bool, true, false, cond, nat_le, [], Option, Some, None}
-use Rattle.std.specs.Option.{option_and_then, option_map, unwrap_or}
-use Rattle.sm_names.specs.declared.keys.BufferName.{BufferName}
-use Rattle.sm_names.specs.declared.keys.NodeKey.{NodeKey}
-use Rattle.sm_names.specs.declared.keys.Strength.{Strength}
-use Rattle.sm_names.specs.declared.messages.Call.{Call}
-use Rattle.sm_names.specs.declared.messages.Reply.{Reply}
-use Rattle.sm_names.specs.declared.outcomes.Cause.{Cause}
-use Rattle.sm_names.specs.declared.tracking.Condition.{Condition}
-use Rattle.sm_names.specs.Timelines.{key_of}
-use Rattle.sm_names.specs.Trackers.{Tracked}
-use Rattle.buffer_holds.specs.Counts.{total}
-use Rattle.forest_store.specs.declared.change.Change.{Change}
-use Rattle.forest_store.specs.declared.change.Effect.{Effect}
-use Rattle.forest_store.specs.declared.node.Node.{Node}
+use Rattle.alike_cores.proofs.Common.{AreAlikeCores, Bool, BufferName, Call, Cause, Change, Collection, Condition, Effect, KeepsIds}
+use Rattle.alike_cores.proofs.Common.{KeepsKeys, Node, NodeKey, None, Option, Reply, Some, State, Strength, Tracked, Work, [], ap}
+use Rattle.alike_cores.proofs.Common.{birth_by, buffer_renamed, call_renamed, change_renamed, collection_at, collection_or_new}
+use Rattle.alike_cores.proofs.Common.{collection_renamed, cond, false, key_of, nat_le, node_at, node_renamed, node_undated}
+use Rattle.alike_cores.proofs.Common.{option_and_then, option_map, refl, reply_renamed, sym, total, tracked_as, tracker_by}
+use Rattle.alike_cores.proofs.Common.{tracker_renamed, true, undated, unwrap_or, work_of, ℕ, ◌∙◌, ◌≡◌}
 use Rattle.forest_store.specs.Effects.{effect_of}
-use Rattle.forest_store.specs.Forest.{Collection, collection_at, node_at}
-use Rattle.forest_store.specs.Settling.{collection_or_new}
-use Rattle.core_state.specs.Shown.{tracked_as}
-use Rattle.core_state.specs.State.{State}
-use Rattle.core_state.specs.Steps.{Work, at_collection, at_node, birth_by, done_to, drop_at, effect_at, loss_at, tracker_by, work_of}
-use Rattle.alike_cores.specs.Alike.{KeepsIds, call_renamed, reply_renamed}
-use Rattle.alike_cores.specs.Renamed.{KeepsKeys, buffer_renamed, change_renamed, collection_renamed, node_renamed}
+use Rattle.core_state.specs.Steps.{at_collection, at_node, done_to, drop_at, effect_at, loss_at}
 use Rattle.alike_cores.proofs.Answering.{key-renamed}
-use Rattle.alike_cores.specs.Cores.{AreAlikeCores, node_undated, tracker_renamed, undated}
 use Rattle.alike_cores.proofs.Finding.{AreApart, found_collection, found_node}
 use Rattle.alike_cores.proofs.FoundAlike.{read-alike, read_then-alike}
 

@@ -1,6 +1,6 @@
 -- Actors of plays that are alike but for what lies behind those that leave.
-use Rattle.std.proofs.Common.{ℕ, zero, suc, ◌≡◌, ◌≤◌, ◌⊎◌, inl, inr, refl, ap, sym, subst, ◌∙◌, Bool, true, false, cond, ◌==◌, ◌+◌}
-use Rattle.std.proofs.Common.{List, [], ◌∷◌, length, map, Option, Some, None, is_some, slice_get, slice_set}
+use Rattle.std.proofs.Common.{ℕ, zero, suc, ◌≡◌, ◌≤◌, ◌⊎◌, inl, inr, refl, ap, sym, subst, ◌∙◌, Bool, true, false, cond, ◌==◌, ◌+◌, List}
+use Rattle.std.proofs.Common.{[], ◌∷◌, length, map, Option, Some, None, is_some, slice_get, slice_set}
 use Rattle.std.proofs.lemmas.Bool.{eq-eqb, eqb-true}
 use Rattle.std.proofs.lemmas.Option.{slice_get-map}
 use Rattle.std.specs.Option.{option_map, option_map_or}
@@ -12,10 +12,9 @@ use Rattle.forest_store.specs.Forest.{given}
 use Rattle.actor_plays.specs.Leaves.{Leave}
 use Rattle.actor_plays.specs.Plays.{Stage}
 use Rattle.actor_plays.specs.Positions.{Position, Setup, left_at}
-use Rattle.actor_plays.proofs.PositionLaws.{get-other}
+use Rattle.actor_plays.proofs.PositionLaws.{get-other, get-set}
 use Rattle.alike_plays.specs.Actors.{AreAlikeStages, leave_renamed, made_of, made_renamed}
-use Rattle.alike_plays.specs.Ahead.{AreAlikeAhead, GoesByEarly, ahead, ahead_by, ahead_of, count_early, early_first, early_in}
-use Rattle.alike_plays.specs.Ahead.{going_on}
+use Rattle.alike_plays.specs.Ahead.{AreAlikeAhead, GoesByEarly, ahead, ahead_by, ahead_of, count_early, early_first, early_in, going_on}
 use Rattle.alike_plays.specs.AlikePlays.{AreAlikeAll, AreAlikePlays}
 use Rattle.alike_plays.proofs.Ahead.{ahead-alike, ahead_known, plain, plain_back, same_vanish}
 use Rattle.alike_plays.proofs.Places.{all_at, all_left}
@@ -28,12 +27,6 @@ pub map-put : {A B : Type 0} (f : A → B) (xs : List A) (i : ℕ) (y : A) → m
 map-put f [] i y = refl
 map-put f (x ∷ xs) zero y = refl
 map-put f (x ∷ xs) (suc i) y = ap (λ more. f x ∷ more) (map-put f xs i y)
-
--- At its own place the new element stands.
-get-own : {A : Type 0} (xs : List A) (i : ℕ) (x y : A) → slice_get xs i ≡ Some x → slice_get (slice_set xs i y) i ≡ Some y
-get-own [] i x y at = cc
-get-own (z ∷ zs) zero x y at = refl
-get-own (z ∷ zs) (suc i) x y at = get-own zs i x y at
 
 -- Element by element.
 pub map-twice : {A : Type 0} (f : A → A) → ((x : A) → f (f x) ≡ f x) → (xs : List A) → map f (map f xs) ≡ map f xs
@@ -53,7 +46,7 @@ early_put early xs ys i x y told there same place = by (either_way (i == place))
     own : (zs : List (Option ℕ)) (z : Option ℕ) (o : Option (Option ℕ)) → slice_get zs i ≡ o → is_some o ≡ true →
         early_in early (slice_set zs i z) i ≡ Some (option_map (early i) z)
     own zs z None at some = cc
-    own zs z (Some old) at some = ap (option_map (option_map (early i))) (get-own zs i old z at)
+    own zs z (Some old) at some = ap (option_map (option_map (early i))) (get-set zs i old z at)
 
     -- something stands in both
     both : is_some (slice_get ys i) ≡ true

@@ -1,5 +1,5 @@
 -- Plays that are alike to alike plays are alike, and so are two starts.
-use Rattle.std.proofs.Common.{ℕ, ◌≡◌, refl, ap, ◌∙◌, List, [], ◌∷◌, map, Option, Some, None}
+use Rattle.std.proofs.Common.{ℕ, ◌≡◌, refl, ap, ◌∙◌, List, [], ◌∷◌, map, Option}
 use Rattle.std.specs.Option.{option_map}
 use Rattle.sm_names.specs.declared.keys.NodeKey.{NodeKey}
 use Rattle.sm_names.specs.declared.messages.Reply.{Reply}
@@ -11,22 +11,10 @@ use Rattle.actor_plays.specs.Plays.{Stage}
 use Rattle.actor_plays.specs.Positions.{Position}
 use Rattle.alike_cores.specs.Alike.{reply_renamed}
 use Rattle.alike_cores.specs.Renamed.{fault_renamed}
-use Rattle.alike_cores.proofs.Composing.{alike-alike}
-use Rattle.alike_plays.specs.Actors.{AreAlikeKnown, AreAlikeStages, leave_renamed, made_of, made_renamed, object_renamed}
-use Rattle.alike_plays.specs.Actors.{place_renamed}
+use Rattle.alike_cores.proofs.Composing.{alike-alike, twice-option, twice-map}
+use Rattle.alike_plays.specs.Actors.{AreAlikeKnown, AreAlikeStages, leave_renamed, made_of, made_renamed, object_renamed, place_renamed}
 use Rattle.alike_plays.specs.AlikePlays.{AreAlikeAll, AreAlikePlays}
 use Rattle.alike_plays.specs.Falls.{fall_renamed}
-
--- Element by element.
-twice-map : {A B C : Type 0} (f : A → B) (g : B → C) (h : A → C) → ((x : A) → g (f x) ≡ h x) → (xs : List A) → map g (map f xs) ≡ map h xs
-twice-map f g h same [] = refl
-twice-map f g h same (x ∷ xs) = λ i. same x i ∷ twice-map f g h same xs i
-
--- By cases on the option.
-twice-option : {A B C : Type 0} (f : A → B) (g : B → C) (h : A → C) → ((x : A) → g (f x) ≡ h x) → (o : Option A) →
-    option_map g (option_map f o) ≡ option_map h o
-twice-option f g h same None = refl
-twice-option f g h same (Some x) = ap Some (same x)
 
 module _ (to more : NodeKey → NodeKey) (id on number next : ℕ → ℕ) where
   -- one after the other

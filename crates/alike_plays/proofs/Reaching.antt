@@ -1,6 +1,5 @@
 -- What holds wherever a play comes.
-use Rattle.std.proofs.Common.{ℕ, ◌≡◌, ◌≤◌, inl, inr, sym, subst, true}
-use Rattle.std.proofs.Common.{List, [], ◌∷◌, ◌++◌, slice_set}
+use Rattle.std.proofs.Common.{ℕ, ◌≡◌, ◌≤◌, inl, inr, sym, subst, true, List, [], ◌∷◌, ◌++◌, slice_set}
 use Rattle.std.specs.List.{flat_map}
 use Rattle.sm_names.specs.declared.keys.NodeKey.{NodeKey}
 use Rattle.sm_names.specs.declared.messages.Call.{Call}
@@ -90,7 +89,7 @@ fell_known old new seen client call reply makes fell g there =
     ]
 
 -- They fell in the history.
-falls_on : (old new : Position) (history : List Entry) (client : ℕ) (call : Call) (reply : Reply) → Shows old.core history →
+pub falls_on : (old new : Position) (history : List Entry) (client : ℕ) (call : Call) (reply : Reply) → Shows old.core history →
     Makes old.core new.core (client, call, reply) → Fell old new client call reply → AreFalls history old.falls →
     AreFalls (history ++ (client, call, reply) ∷ []) new.falls
 falls_on old new history client call reply shows makes fell before =

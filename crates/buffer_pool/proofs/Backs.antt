@@ -1,16 +1,12 @@
 -- How the holes change as an interval is given back.
-use Rattle.std.proofs.Common.{ℕ, zero, suc, ◌≡◌, ◌+◌, ◌-◌, ◌*◌, ◌<◌, ◌≤◌, refl, ap, sym, subst, ◌∙◌, Bool, true, false}
-use Rattle.std.proofs.Common.{not, ◌&&◌, List, [], ◌∷◌, ◌++◌, length, get_or, inl, inr, arith, nat_lt, ◌==◌, add-one}
-use Rattle.std.specs.Prelude.{All, Contains}
-use Rattle.std.proofs.Math.Nat.{suc-mul}
-use Rattle.std.proofs.lemmas.Bool.{cases_Bool, and_parts, not-true, ltb-true, lt-ltb, le-ltb, leb-true, eq-eqb, eqb-true, ne_eqb, cases_lt}
-use Rattle.std.proofs.lemmas.List.{append-nil}
-use Rattle.std.proofs.lemmas.List.Sums.{sum_by-cons}
-use Rattle.sm_names.specs.declared.rules.TheConstants.{MAX_PAGES}
-use Rattle.sm_names.specs.declared.keys.Interval.{Interval}
-use Rattle.buffer_pool.specs.Holes.{end_of, gap, holes_from, holes_of}
-use Rattle.buffer_pool.specs.Holdings.{HasRun, IsPoolSound, in_order, in_run, total_pages, without, without_run}
-use Rattle.buffer_pool.specs.Merging.{spaced, first_begins, with_merged, with_released}
+use Rattle.buffer_pool.proofs.Common.{Bool, Contains, HasRun, Interval, IsPoolSound, MAX_PAGES, [], add-one, and_parts, ap, append-nil}
+use Rattle.buffer_pool.proofs.Common.{arith, cases_Bool, cases_lt, end_of, eq-eqb, eqb-true, false, first_begins, gap, get_or, holes_from}
+use Rattle.buffer_pool.proofs.Common.{holes_of, in_order, in_run, inl, inr, le-ltb, leb-true, length, lt-ltb, ltb-true, nat_lt, ne_eqb}
+use Rattle.buffer_pool.proofs.Common.{not, refl, spaced, subst, suc, suc-mul, sum_by-cons, sym, total_pages, true, with_merged}
+use Rattle.buffer_pool.proofs.Common.{with_released, without, without_run, zero, ℕ, ◌*◌, ◌++◌, ◌+◌, ◌-◌, ◌<◌, ◌==◌, ◌∙◌, ◌∷◌, ◌≡◌, ◌≤◌}
+use Rattle.std.proofs.Common.{◌&&◌, List}
+use Rattle.std.specs.Prelude.{All}
+use Rattle.std.proofs.lemmas.Bool.{not-true}
 use Rattle.buffer_pool.proofs.Orders.{first_in_order, in_order-cons, in_order-wider, in_order-at, without-later}
 use Rattle.buffer_pool.proofs.Keeping.{gaps_of, lists_of}
 use Rattle.buffer_pool.proofs.Runs.{in_order-without_run, run-end, without_run-keeps}

@@ -1,13 +1,11 @@
 -- What stays true of blocks that change.
-use Rattle.std.proofs.Common.{ℕ, suc, ◌≡◌, ◌+◌, ◌<◌, ◌≤◌, refl, ap, sym, subst, ◌∙◌, List, [], ◌∷◌, ◌++◌}
-use Rattle.std.proofs.Common.{length, get_or, set, take, drop, inl, inr, arith}
-use Rattle.std.specs.List.{insert, remove}
-use Rattle.std.proofs.lemmas.List.{length-set, length-take-le, length_push, take-set, drop-set-lt, get_or-set_same, nil_from_length}
-use Rattle.std.proofs.lemmas.Bool.{cases_lt}
-use Rattle.std.proofs.lemmas.List.Edits.{length-insert, length-remove}
-use Rattle.std.proofs.lemmas.List.Elements.{All-append, All-cons, All-take, All-drop, All-set, All-push}
-use Rattle.sm_names.specs.declared.keys.Interval.{Interval}
-use Rattle.buffer_pool.specs.Rows.{all_in, AreBlocks}
+use Rattle.buffer_pool.proofs.Common.{All-drop, All-set, All-take, AreBlocks, Interval, [], all_in, ap, arith, cases_lt, drop}
+use Rattle.buffer_pool.proofs.Common.{drop-set-lt, get_or, get_or-set_same, inl, inr, insert, length, length-insert, length-remove}
+use Rattle.buffer_pool.proofs.Common.{length-take-le, nil_from_length, refl, remove, set, subst, suc, sym, take, take-set, ℕ, ◌++◌, ◌+◌}
+use Rattle.buffer_pool.proofs.Common.{◌<◌, ◌∙◌, ◌∷◌, ◌≡◌, ◌≤◌}
+use Rattle.std.proofs.Common.{List}
+use Rattle.std.proofs.lemmas.List.{length-set, length_push}
+use Rattle.std.proofs.lemmas.List.Elements.{All-append, All-cons, All-push}
 use Rattle.buffer_pool.proofs.Joins.{without_none, take-remove}
 
 -- intervals in blocks, as the list of the blocks

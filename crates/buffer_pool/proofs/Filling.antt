@@ -1,19 +1,12 @@
 -- What stays true while buffers are placed block after block.
-use Rattle.std.proofs.Common.{ℕ, zero, suc, ◌≡◌, ◌+◌, ◌-◌, ◌*◌, ◌<◌, ◌≤◌, refl, ap, sym, subst, ◌∙◌, min}
-use Rattle.std.proofs.Common.{List, [], ◌∷◌, ◌++◌, length, get_or, set, take, drop, inl, inr, arith}
+use Rattle.buffer_pool.proofs.Common.{All-drop, All-take, Interval, IsPassed, IsSane, MAX_PAGES, Reach, [], all_in, ap, arith, cases_lt}
+use Rattle.buffer_pool.proofs.Common.{drop, drop-set-lt, drop_at, drop_more, get_or, get_or-set_same, holes_after, inl, inr, length}
+use Rattle.buffer_pool.proofs.Common.{length-remove, length-take-le, looks_in, min, mul-add, mul-le-mul_left, refl, remove, rooms, set}
+use Rattle.buffer_pool.proofs.Common.{starts_in, subst, suc, sym, take, take-set, take-set-le, zero, ℕ, ◌*◌, ◌++◌, ◌+◌, ◌-◌, ◌<◌, ◌∙◌}
+use Rattle.buffer_pool.proofs.Common.{◌∷◌, ◌≡◌, ◌≤◌}
+use Rattle.std.proofs.Common.{List}
 use Rattle.std.specs.Prelude.{All}
-use Rattle.std.specs.List.{remove}
-use Rattle.std.proofs.Math.Nat.{mul-add, mul-le-mul_left}
-use Rattle.std.proofs.lemmas.Bool.{cases_lt}
-use Rattle.std.proofs.lemmas.List.{drop_more, drop_at, take_at, take_all, take-set, take-set-le, drop-set-lt, get_or-set_same, length-set}
-use Rattle.std.proofs.lemmas.List.{length-take-le}
-use Rattle.std.proofs.lemmas.List.Edits.{length-remove}
-use Rattle.std.proofs.lemmas.List.Elements.{All-take, All-drop}
-use Rattle.sm_names.specs.declared.rules.TheConstants.{MAX_PAGES}
-use Rattle.sm_names.specs.declared.keys.Interval.{Interval}
-use Rattle.buffer_pool.specs.declared.blocks.Reach.{Reach}
-use Rattle.buffer_pool.specs.Fitting.{rooms, starts_in, holes_after, looks_in}
-use Rattle.buffer_pool.specs.Rows.{all_in, IsPassed, IsSane}
+use Rattle.std.proofs.lemmas.List.{take_at, take_all, length-set}
 use Rattle.buffer_pool.proofs.Blocking.{remove-set}
 use Rattle.buffer_pool.proofs.Joins.{parts, parts-set, before-next, within-all, without_none, take-remove}
 use Rattle.buffer_pool.proofs.Passing.{rooms-next}

@@ -1,14 +1,10 @@
 -- Searches among blocks.
-use Rattle.std.proofs.Common.{ℕ, ◌≡◌, ◌+◌, ◌-◌, ◌<◌, ◌≤◌, ap, sym, ◌∙◌, List, [], length}
-use Rattle.std.proofs.Common.{get_or, take, drop, inl, inr, arith, nat_lt, true, false}
+use Rattle.buffer_pool.proofs.Common.{Interval, IsNonDecreasingBy, [], all_in, ap, arith, cases_lt, drop, drop_all, false, get_or, inl}
+use Rattle.buffer_pool.proofs.Common.{inr, le-ltb, length, lt-ltb, nat_lt, prefix_len, prefix_len-le-length, prefix_len_is, sym, take}
+use Rattle.buffer_pool.proofs.Common.{true, ℕ, ◌+◌, ◌-◌, ◌<◌, ◌∙◌, ◌≡◌, ◌≤◌}
+use Rattle.std.proofs.Common.{List}
 use Rattle.std.specs.Prelude.{All}
-use Rattle.std.specs.List.{prefix_len}
-use Rattle.std.specs.List.Sorted.{IsNonDecreasingBy}
-use Rattle.std.proofs.lemmas.Bool.{cases_lt, lt-ltb, le-ltb}
-use Rattle.std.proofs.lemmas.List.{drop_all}
-use Rattle.std.proofs.lemmas.List.Sums.{prefix_len_is, prefix_len_passes, prefix_len_stops, prefix_len-le-length}
-use Rattle.sm_names.specs.declared.keys.Interval.{Interval}
-use Rattle.buffer_pool.specs.Rows.{all_in}
+use Rattle.std.proofs.lemmas.List.Sums.{prefix_len_passes, prefix_len_stops}
 use Rattle.buffer_pool.proofs.Joins.{get_in, before-next, within-all}
 
 -- the first interval of `low` is below the page, and that of the block behind `high` is not

@@ -1,15 +1,9 @@
 -- The holes between intervals in order of page.
-use Rattle.std.proofs.Common.{ℕ, zero, suc, ◌≡◌, ◌+◌, ◌-◌, ◌/◌, ◌<◌, ◌≤◌, refl, ◌∙◌, true, false}
-use Rattle.std.proofs.Common.{List, [], ◌∷◌, ◌++◌, length, get_or, inl, inr, arith, nat_lt, ◌==◌}
-use Rattle.std.specs.List.{prefix_len}
-use Rattle.std.proofs.Math.Nat.{div-eq_of_lt}
-use Rattle.std.proofs.lemmas.Bool.{lt-ltb, le-ltb, eq-eqb, ne_eqb, cases_lt}
-use Rattle.std.proofs.lemmas.List.Sums.{sum_by-cons}
-use Rattle.sm_names.specs.declared.keys.Interval.{Interval}
-use Rattle.buffer_pool.specs.Holes.{end_of, gap, holes_from}
-use Rattle.buffer_pool.specs.Holdings.{in_order}
-use Rattle.buffer_pool.specs.Fitting.{too_small, rooms, first_fit, shortened, taken}
-use Rattle.buffer_pool.specs.Merging.{spaced}
+use Rattle.buffer_pool.proofs.Common.{Interval, [], arith, cases_lt, div-eq_of_lt, end_of, eq-eqb, false, first_fit, gap, get_or}
+use Rattle.buffer_pool.proofs.Common.{holes_from, in_order, inl, inr, le-ltb, length, lt-ltb, nat_lt, ne_eqb, prefix_len, refl, rooms}
+use Rattle.buffer_pool.proofs.Common.{shortened, spaced, suc, sum_by-cons, taken, too_small, true, zero, ℕ, ◌++◌, ◌+◌, ◌-◌, ◌/◌, ◌<◌}
+use Rattle.buffer_pool.proofs.Common.{◌==◌, ◌∙◌, ◌∷◌, ◌≡◌, ◌≤◌}
+use Rattle.std.proofs.Common.{List}
 use Rattle.buffer_pool.proofs.Orders.{first_in_order, in_order-low-le}
 use Rattle.buffer_pool.proofs.Spaces.{spaced-cons, spaced-earlier}
 

@@ -1,14 +1,11 @@
 -- The holes are the greatest free intervals.
-use Rattle.std.proofs.Common.{ℕ, zero, suc, ◌≡◌, ◌+◌, ◌-◌, ◌<◌, ◌≤◌, refl, ap, sym, subst, ◌∙◌, true}
-use Rattle.std.proofs.Common.{false, List, [], ◌∷◌, ◌++◌, length, get_or, inl, inr, arith, nat_le}
-use Rattle.std.specs.Prelude.{Contains}
-use Rattle.std.proofs.lemmas.Bool.{cases_Bool, cases_lt, cases_order, le-leb, leb-true, and_parts, and_from, both_ways}
-use Rattle.std.proofs.lemmas.List.{append-nil, get_or_default}
-use Rattle.sm_names.specs.declared.keys.Interval.{Interval}
-use Rattle.sm_names.specs.Pages.{meets, has_room}
-use Rattle.buffer_pool.specs.Holes.{IsHole, end_of, gap, holes_from, holes_of}
-use Rattle.buffer_pool.specs.Holdings.{in_order}
-use Rattle.buffer_pool.specs.Merging.{spaced}
+use Rattle.buffer_pool.proofs.Common.{Contains, Interval, [], and_from, and_parts, ap, append-nil, arith, both_ways, cases_Bool, cases_lt}
+use Rattle.buffer_pool.proofs.Common.{end_of, false, gap, get_or, get_or_default, has_room, holes_from, holes_of, in_order, inl, inr}
+use Rattle.buffer_pool.proofs.Common.{le-leb, leb-true, length, meets, nat_le, refl, spaced, subst, suc, sym, true, zero, ℕ, ◌++◌, ◌+◌}
+use Rattle.buffer_pool.proofs.Common.{◌-◌, ◌<◌, ◌∙◌, ◌∷◌, ◌≡◌, ◌≤◌}
+use Rattle.std.proofs.Common.{List}
+use Rattle.std.proofs.lemmas.Bool.{cases_order}
+use Rattle.buffer_pool.specs.Holes.{IsHole}
 use Rattle.buffer_pool.proofs.Gaps.{gap_some, gap_none, spaced-holes}
 use Rattle.buffer_pool.proofs.Least.{meets-before, meets-behind, meets-over, has_room-past, has_room-over, has_room-before}
 use Rattle.buffer_pool.proofs.Orders.{first_in_order}

@@ -1,17 +1,14 @@
 -- Intervals in blocks, joined to one list.
-use Rattle.std.proofs.Common.{ℕ, zero, suc, ◌≡◌, ◌+◌, ◌-◌, ◌<◌, ◌≤◌, refl, ap, sym, subst, ◌∙◌, List, []}
-use Rattle.std.proofs.Common.{◌∷◌, ◌++◌, length, get_or, set, take, drop, arith, add-one, append_assoc}
-use Rattle.std.specs.List.{insert, remove}
+use Rattle.buffer_pool.proofs.Common.{HALF, Interval, [], add-one, all_in, ap, append-nil, append_assoc, arith, drop, drop-set-lt}
+use Rattle.buffer_pool.proofs.Common.{drop_at, drop_more, get_or, get_or-set_same, insert, length, length-insert, length-remove}
+use Rattle.buffer_pool.proofs.Common.{length-take-le, refl, remove, set, set_split, subst, suc, sym, take, take-append-drop}
+use Rattle.buffer_pool.proofs.Common.{take-append-le, take-set, take-take, take_more, take_more_set, zero, ℕ, ◌++◌, ◌+◌, ◌-◌, ◌<◌, ◌∙◌}
+use Rattle.buffer_pool.proofs.Common.{◌∷◌, ◌≡◌, ◌≤◌}
+use Rattle.std.proofs.Common.{List}
 use Rattle.std.proofs.Math.Seq.{take-append-add, drop-append-add}
-use Rattle.std.proofs.lemmas.List.{append-nil, take-append-drop, drop_more, set_split, take_more, take_more_set, take-set}
-use Rattle.std.proofs.lemmas.List.{drop-set-lt, drop_at, take-append-le, drop-append-le, take-take, length-take-le}
-use Rattle.std.proofs.lemmas.List.{length-append, length-set, set-append_left, set-append_right, get_or-set_same}
-use Rattle.std.proofs.lemmas.List.Edits.{insert-append_left, insert-append_right, length-insert}
-use Rattle.std.proofs.lemmas.List.Edits.{length-remove, get_or-insert_below, get_or-insert_at}
+use Rattle.std.proofs.lemmas.List.{drop-append-le, length-append, length-set, set-append_left, set-append_right}
+use Rattle.std.proofs.lemmas.List.Edits.{insert-append_left, insert-append_right, get_or-insert_below, get_or-insert_at}
 use Rattle.std.proofs.lemmas.List.Concat.{flat_map-append, get_or-flat_map}
-use Rattle.buffer_pool.specs.declared.block.TheConstants.{HALF}
-use Rattle.sm_names.specs.declared.keys.Interval.{Interval}
-use Rattle.buffer_pool.specs.Rows.{all_in}
 
 -- intervals in blocks, as the list of the blocks
 abbrev Lists : Type 0

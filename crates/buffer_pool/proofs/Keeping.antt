@@ -1,18 +1,11 @@
 -- What the fields of a pool give for buffers that are placed, and keep.
-use Rattle.std.proofs.Common.{ℕ, ◌≡◌, ◌+◌, ◌-◌, ◌*◌, ◌<◌, ◌≤◌, refl, ap, sym, subst, ◌∙◌, List, [], ◌∷◌, length, arith}
-use Rattle.std.proofs.Common.{get_or, drop, nat_le, inl, inr, true, Some, None}
+use Rattle.buffer_pool.proofs.Common.{AreFirstFits, AreGaps, Interval, IsPoolSound, IsSane, MAX_PAGES, None, Some, [], and_parts, ap}
+use Rattle.buffer_pool.proofs.Common.{arith, at_pages, drop, first_fit, get_or, has_room, holes_after, holes_of, inl, inr, leb-true}
+use Rattle.buffer_pool.proofs.Common.{length, looks_for, looks_in, nat_le, places, refl, rooms, starts_in, subst, sym, taken, true}
+use Rattle.buffer_pool.proofs.Common.{with_buffers, with_interval, ℕ, ◌*◌, ◌+◌, ◌-◌, ◌<◌, ◌∙◌, ◌∷◌, ◌≡◌, ◌≤◌}
+use Rattle.std.proofs.Common.{List}
 use Rattle.std.specs.Prelude.{All}
-use Rattle.std.proofs.lemmas.Bool.{leb-true, and_parts}
-use Rattle.sm_names.specs.declared.rules.TheConstants.{MAX_PAGES}
-use Rattle.sm_names.specs.declared.keys.Interval.{Interval}
-use Rattle.sm_names.specs.Apart.{at_pages}
-use Rattle.sm_names.specs.Pages.{places, has_room}
-use Rattle.buffer_pool.specs.Holes.{holes_of}
-use Rattle.buffer_pool.specs.Holdings.{AreGaps, IsPoolSound, with_buffers, with_interval}
-use Rattle.buffer_pool.specs.Rows.{IsSane}
-use Rattle.buffer_pool.specs.Looks.{looks_for}
 use Rattle.buffer_pool.specs.Placing.{PlacesBuffers}
-use Rattle.buffer_pool.specs.Fitting.{rooms, first_fit, taken, starts_in, holes_after, looks_in, AreFirstFits}
 use Rattle.buffer_pool.proofs.Orders.{pages_in-le}
 use Rattle.buffer_pool.proofs.Gaps.{holes-end, length-holes, spaced-holes}
 use Rattle.buffer_pool.proofs.Greatest.{spaced-pages}

@@ -1,15 +1,12 @@
 -- The least start with room is that of the first hole that is long enough.
-use Rattle.std.proofs.Common.{ℕ, zero, suc, ◌≡◌, ◌+◌, ◌<◌, ◌≤◌, ◌⊎◌, refl, ap, sym, subst, ◌∙◌, Bool, true, false}
-use Rattle.std.proofs.Common.{not, List, [], ◌∷◌, ◌++◌, length, inl, inr, arith, nat_lt, nat_le, Some, None}
-use Rattle.std.specs.List.{prefix_len, list_any, find, range_with_len}
-use Rattle.std.proofs.lemmas.Bool.{and_from, and_left, and_right, lt-ltb, le-ltb, le-leb, lt-leb, leb-true, and_parts, cases_lt, cases_eq}
-use Rattle.std.proofs.lemmas.List.{append-nil}
-use Rattle.sm_names.specs.declared.keys.Interval.{Interval}
-use Rattle.sm_names.specs.Apart.{at_pages}
-use Rattle.sm_names.specs.Pages.{meets, has_room, least_start}
-use Rattle.buffer_pool.specs.Holes.{end_of, gap, holes_from}
-use Rattle.buffer_pool.specs.Holdings.{in_order, with_interval}
-use Rattle.buffer_pool.specs.Fitting.{too_small, rooms, first_fit, taken}
+use Rattle.buffer_pool.proofs.Common.{Bool, Interval, None, Some, [], and_from, and_parts, ap, append-nil, arith, at_pages, cases_lt}
+use Rattle.buffer_pool.proofs.Common.{end_of, false, first_fit, gap, has_room, holes_from, in_order, inl, inr, le-leb, le-ltb, leb-true}
+use Rattle.buffer_pool.proofs.Common.{length, list_any, lt-leb, lt-ltb, meets, nat_le, nat_lt, not, prefix_len, refl, rooms, subst, suc}
+use Rattle.buffer_pool.proofs.Common.{sym, taken, too_small, true, with_interval, zero, ℕ, ◌++◌, ◌+◌, ◌<◌, ◌∙◌, ◌∷◌, ◌≡◌, ◌≤◌}
+use Rattle.std.proofs.Common.{◌⊎◌, List}
+use Rattle.std.specs.List.{find, range_with_len}
+use Rattle.std.proofs.lemmas.Bool.{and_left, and_right, cases_eq}
+use Rattle.sm_names.specs.Pages.{least_start}
 use Rattle.buffer_pool.proofs.Orders.{IsFirst, first_in_order, in_order-cons}
 use Rattle.buffer_pool.proofs.Gaps.{gap_none, gap_fits, gap_passes}
 

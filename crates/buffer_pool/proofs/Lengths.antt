@@ -1,11 +1,8 @@
 -- What a length that is written makes of the intervals that are held.
-use Rattle.std.proofs.Common.{ℕ, zero, suc, ◌≡◌, ◌+◌, ◌-◌, ◌*◌, ◌<◌, ◌≤◌, refl, ap, sym, subst, ◌∙◌, true, false, List, [], ◌∷◌}
-use Rattle.std.proofs.Common.{length, get_or, set, replicate, inl, inr, arith, nat_lt, ◌==◌}
-use Rattle.std.proofs.lemmas.Bool.{both_ways, cases_lt, lt-ltb, le-ltb, eq-eqb, ne_eqb}
-use Rattle.sm_names.specs.declared.keys.Interval.{Interval}
-use Rattle.sm_names.specs.Pages.{has_room}
-use Rattle.buffer_pool.specs.Holdings.{with_interval, without, without_run}
-use Rattle.buffer_pool.specs.Lengths.{held_from}
+use Rattle.buffer_pool.proofs.Common.{Interval, [], ap, arith, both_ways, cases_lt, eq-eqb, false, get_or, has_room, held_from, inl, inr}
+use Rattle.buffer_pool.proofs.Common.{le-ltb, length, lt-ltb, nat_lt, ne_eqb, refl, set, subst, suc, sym, true, with_interval, without}
+use Rattle.buffer_pool.proofs.Common.{without_run, zero, ℕ, ◌*◌, ◌+◌, ◌-◌, ◌<◌, ◌==◌, ◌∙◌, ◌∷◌, ◌≡◌, ◌≤◌}
+use Rattle.std.proofs.Common.{List, replicate}
 use Rattle.buffer_pool.proofs.Greatest.{room_parts}
 use Rattle.buffer_pool.proofs.Least.{has_room-over, meets-over}
 

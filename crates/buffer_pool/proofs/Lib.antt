@@ -1,3 +1,4 @@
+mod Common
 mod Backs
 mod Blocking
 mod Filling

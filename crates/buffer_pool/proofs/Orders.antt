@@ -1,11 +1,8 @@
 -- Intervals in order of page.
-use Rattle.std.proofs.Common.{ℕ, zero, suc, ◌≡◌, ◌+◌, ◌<◌, ◌≤◌, refl, ap, true, false, List}
-use Rattle.std.proofs.Common.{[], ◌∷◌, length, get_or, inl, inr, arith, nat_lt, nat_le, ◌==◌}
-use Rattle.std.proofs.lemmas.Bool.{cases_Bool, and_parts, and_from, ltb-true, leb-true, lt-ltb, le-leb, ne_eqb}
-use Rattle.std.proofs.lemmas.List.Sums.{sum_by-cons}
-use Rattle.sm_names.specs.declared.keys.Interval.{Interval}
-use Rattle.buffer_pool.specs.Holes.{end_of}
-use Rattle.buffer_pool.specs.Holdings.{in_order, total_pages, with_interval, without}
+use Rattle.buffer_pool.proofs.Common.{Interval, [], and_from, and_parts, ap, arith, cases_Bool, end_of, false, get_or, in_order, inl, inr}
+use Rattle.buffer_pool.proofs.Common.{le-leb, leb-true, length, lt-ltb, ltb-true, nat_le, nat_lt, ne_eqb, refl, suc, sum_by-cons}
+use Rattle.buffer_pool.proofs.Common.{total_pages, true, with_interval, without, zero, ℕ, ◌+◌, ◌<◌, ◌==◌, ◌∷◌, ◌≡◌, ◌≤◌}
+use Rattle.std.proofs.Common.{List}
 
 -- the parts of an order with a first interval
 pub record IsFirst (low high : ℕ) (i : Interval) (is : List Interval) : Type 0 where

@@ -1,10 +1,9 @@
 -- Where a search among blocks can start.
-use Rattle.std.proofs.Common.{ℕ, ◌≡◌, ◌+◌, ◌<◌, ◌≤◌, refl, ap, sym, ◌∙◌, List, [], ◌∷◌, ◌++◌, length, get_or, take, drop, arith}
-use Rattle.std.proofs.lemmas.List.{append-nil, drop_more, take_more, take-append-drop, take-take, length-take, length-take-le}
-use Rattle.sm_names.specs.declared.keys.Interval.{Interval}
-use Rattle.buffer_pool.specs.declared.blocks.Reach.{Reach}
-use Rattle.buffer_pool.specs.Fitting.{rooms}
-use Rattle.buffer_pool.specs.Rows.{all_in, IsPassed}
+use Rattle.buffer_pool.proofs.Common.{Interval, IsPassed, Reach, [], all_in, ap, append-nil, arith, drop, drop_more, get_or, length}
+use Rattle.buffer_pool.proofs.Common.{length-take-le, refl, rooms, sym, take, take-append-drop, take-take, take_more, ℕ, ◌++◌, ◌+◌, ◌<◌}
+use Rattle.buffer_pool.proofs.Common.{◌∙◌, ◌∷◌, ◌≡◌, ◌≤◌}
+use Rattle.std.proofs.Common.{List}
+use Rattle.std.proofs.lemmas.List.{length-take}
 use Rattle.buffer_pool.proofs.Joins.{all-append, before-next}
 use Rattle.buffer_pool.proofs.Taking.{rooms-append, rooms-more}
 

@@ -1,20 +1,14 @@
 -- Buffers placed one after another by first fit are placed as the definition says.
-use Rattle.std.proofs.Common.{ℕ, zero, suc, ◌≡◌, ◌+◌, ◌-◌, ◌*◌, ◌/◌, ◌<◌, ◌≤◌, refl, ap, sym, subst, ◌∙◌, Bool, true}
-use Rattle.std.proofs.Common.{false, cond, ◌||◌, List, [], ◌∷◌, length, inl, inr, arith, nat_lt, nat_le, ◌==◌, Some, None}
-use Rattle.std.specs.List.{prefix_len, list_any}
+use Rattle.buffer_pool.proofs.Common.{Bool, Interval, None, Some, [], ap, arith, at_pages, cases_Bool, div-eq-sub-div, div-eq_of_lt}
+use Rattle.buffer_pool.proofs.Common.{end_of, eqb-true, false, first_fit, holes_after, holes_of, in_order, inl, inr, le-leb, length}
+use Rattle.buffer_pool.proofs.Common.{list_any, looks_for, looks_in, lt-leb, ltb-false, ltb-true, mul-le-mul_right, mul_comm, nat_le}
+use Rattle.buffer_pool.proofs.Common.{nat_lt, places, prefix_len, refl, rooms, spaced, starts_in, subst, suc, suc-mul, sum_by-cons, sym}
+use Rattle.buffer_pool.proofs.Common.{taken, too_small, total_pages, true, with_buffers, with_interval, zero, ℕ, ◌*◌, ◌+◌, ◌-◌, ◌/◌, ◌<◌}
+use Rattle.buffer_pool.proofs.Common.{◌==◌, ◌∙◌, ◌∷◌, ◌≡◌, ◌≤◌}
+use Rattle.std.proofs.Common.{cond, ◌||◌, List}
 use Rattle.std.specs.Option.{option_map}
-use Rattle.std.proofs.Math.Nat.{div-eq_of_lt, div-eq-sub-div, mul-le-mul_right, mul_comm, suc-mul}
-use Rattle.std.proofs.lemmas.Bool.{cases_Bool, ltb-true, ltb-false, le-leb, lt-leb, eqb-true}
-use Rattle.std.proofs.lemmas.List.Sums.{sum_by-cons}
-use Rattle.sm_names.specs.declared.keys.Interval.{Interval}
-use Rattle.sm_names.specs.Apart.{at_pages}
-use Rattle.sm_names.specs.Pages.{places}
 use Rattle.sm_names.proofs.PlaceLaws.{places_same}
-use Rattle.buffer_pool.specs.Holes.{end_of, holes_of}
-use Rattle.buffer_pool.specs.Holdings.{in_order, total_pages, with_interval, with_buffers}
-use Rattle.buffer_pool.specs.Looks.{looks_at, looks_for}
-use Rattle.buffer_pool.specs.Fitting.{too_small, rooms, first_fit, taken, starts_in, holes_after, looks_in}
-use Rattle.buffer_pool.specs.Merging.{spaced}
+use Rattle.buffer_pool.specs.Looks.{looks_at}
 use Rattle.buffer_pool.proofs.Orders.{length-with_interval, pages_in-with_interval}
 use Rattle.buffer_pool.proofs.Spaces.{first_spaced}
 use Rattle.buffer_pool.proofs.Gaps.{spaced-holes}

@@ -1,12 +1,8 @@
 -- Intervals of as many pages that lie side by side among those in order of page.
-use Rattle.std.proofs.Common.{ℕ, zero, suc, ◌≡◌, ◌+◌, ◌*◌, ◌<◌, ◌≤◌, refl, sym, subst, true, false, List, [], ◌∷◌}
-use Rattle.std.proofs.Common.{length, get_or, inl, inr, arith, ◌==◌}
-use Rattle.std.specs.Prelude.{Contains}
-use Rattle.std.proofs.Math.Nat.{mul-le-mul_left, suc-mul}
-use Rattle.std.proofs.lemmas.Bool.{cases_Bool, cases_lt, ne_eqb}
-use Rattle.sm_names.specs.declared.keys.Interval.{Interval}
-use Rattle.buffer_pool.specs.Holdings.{HasRun, in_order, in_run, without, without_run}
-use Rattle.buffer_pool.specs.Holes.{end_of}
+use Rattle.buffer_pool.proofs.Common.{Contains, HasRun, Interval, [], arith, cases_Bool, cases_lt, end_of, false, get_or, in_order}
+use Rattle.buffer_pool.proofs.Common.{in_run, inl, inr, length, mul-le-mul_left, ne_eqb, refl, subst, suc, suc-mul, sym, true, without}
+use Rattle.buffer_pool.proofs.Common.{without_run, zero, ℕ, ◌*◌, ◌+◌, ◌<◌, ◌==◌, ◌∷◌, ◌≡◌, ◌≤◌}
+use Rattle.std.proofs.Common.{List}
 use Rattle.buffer_pool.proofs.Orders.{first_in_order, in_order-at, in_order-cons, in_order-wider}
 
 -- ---- what stays

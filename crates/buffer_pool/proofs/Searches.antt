@@ -1,11 +1,7 @@
 -- A search by halves among intervals in order of some number.
-use Rattle.std.proofs.Common.{ℕ, ◌≡◌, ◌+◌, ◌<◌, ◌≤◌, ap, sym, ◌∙◌, List, length, get_or, arith, nat_lt}
-use Rattle.std.specs.List.{prefix_len}
-use Rattle.std.specs.List.Sorted.{IsNonDecreasingBy}
-use Rattle.std.proofs.lemmas.Bool.{lt-ltb, le-ltb}
-use Rattle.std.proofs.lemmas.List.{get_or_default}
-use Rattle.std.proofs.lemmas.List.Sums.{prefix_len_is}
-use Rattle.sm_names.specs.declared.keys.Interval.{Interval}
+use Rattle.buffer_pool.proofs.Common.{Interval, IsNonDecreasingBy, ap, arith, get_or, get_or_default, le-ltb, length, lt-ltb, nat_lt}
+use Rattle.buffer_pool.proofs.Common.{prefix_len, prefix_len_is, sym, ℕ, ◌+◌, ◌<◌, ◌∙◌, ◌≡◌, ◌≤◌}
+use Rattle.std.proofs.Common.{List}
 
 -- those before `low` are below the page, and the one at `high` is not
 pub record IsSearch (f : Interval → ℕ) (page low high : ℕ) (xs : List Interval) : Type 0 where

@@ -1,8 +1,7 @@
 -- What every pool keeps, as callers see it.
-use Rattle.std.proofs.Common.{ℕ, ◌≡◌, ◌≤◌, List, true}
-use Rattle.sm_names.specs.declared.rules.TheConstants.{MAX_PAGES}
-use Rattle.sm_names.specs.declared.keys.Interval.{Interval}
-use Rattle.buffer_pool.specs.Holdings.{in_order, IsSound}
+use Rattle.buffer_pool.proofs.Common.{Interval, MAX_PAGES, in_order, true, ℕ, ◌≡◌, ◌≤◌}
+use Rattle.std.proofs.Common.{List}
+use Rattle.buffer_pool.specs.Holdings.{IsSound}
 use Rattle.buffer_pool.proofs.Orders.{in_order-at, in_order-apart}
 use Rattle.buffer_pool.proofs.Least.{meets-before}
 

@@ -1,15 +1,12 @@
 -- Holes that are spaced, and pages that come back to them.
-use Rattle.std.proofs.Common.{ℕ, zero, suc, ◌≡◌, ◌+◌, ◌<◌, ◌≤◌, refl, ap, sym, subst, ◌∙◌, Bool, true, false, List, [], ◌∷◌}
-use Rattle.std.proofs.Common.{◌++◌, length, get_or, set, take, drop, inl, inr, arith, nat_lt, nat_le, ◌==◌, one-add, add-one}
-use Rattle.std.specs.List.{insert, remove, prefix_len}
-use Rattle.std.specs.List.Sorted.{IsNonDecreasingBy}
-use Rattle.std.proofs.lemmas.Bool.{cases_Bool, and_parts, and_from, ltb-true, leb-true, lt-ltb, le-leb, eqb-true, cases_lt}
-use Rattle.std.proofs.lemmas.List.{drop_more, drop_all, drop_at, set_split, take-take, take-append-le, length-take-le}
-use Rattle.std.proofs.lemmas.List.Edits.{length-insert, length-remove}
-use Rattle.std.proofs.lemmas.List.Sums.{prefix_len-le-length}
-use Rattle.sm_names.specs.declared.keys.Interval.{Interval}
-use Rattle.buffer_pool.specs.Holes.{end_of}
-use Rattle.buffer_pool.specs.Merging.{spaced, first_ends, first_begins, with_merged, merged, with_released}
+use Rattle.buffer_pool.proofs.Common.{Bool, Interval, IsNonDecreasingBy, [], add-one, and_from, and_parts, ap, arith, cases_Bool}
+use Rattle.buffer_pool.proofs.Common.{cases_lt, drop, drop_all, drop_at, drop_more, end_of, eqb-true, false, first_begins, first_ends}
+use Rattle.buffer_pool.proofs.Common.{get_or, inl, inr, insert, le-leb, leb-true, length, length-insert, length-remove, length-take-le}
+use Rattle.buffer_pool.proofs.Common.{lt-ltb, ltb-true, nat_le, nat_lt, prefix_len, prefix_len-le-length, refl, remove, set, set_split}
+use Rattle.buffer_pool.proofs.Common.{spaced, subst, suc, sym, take, take-append-le, take-take, true, with_merged, with_released, zero, ℕ}
+use Rattle.buffer_pool.proofs.Common.{◌++◌, ◌+◌, ◌<◌, ◌==◌, ◌∙◌, ◌∷◌, ◌≡◌, ◌≤◌}
+use Rattle.std.proofs.Common.{List, one-add}
+use Rattle.buffer_pool.specs.Merging.{merged}
 
 -- the parts of spaced holes with a first
 pub record IsFirst (low : ℕ) (h : Interval) (hs : List Interval) : Type 0 where

@@ -1,13 +1,10 @@
 -- The hole at a spot that touches pages.
-use Rattle.std.proofs.Common.{◌≡◌, ◌<◌, ℕ, Bool, true, false, List, [], length, get_or, set, drop, All, length-set, refl, sym, subst}
-use Rattle.std.proofs.lemmas.Bool.{eqb-true}
-use Rattle.std.proofs.lemmas.List.{drop_more}
+use Rattle.buffer_pool.proofs.Common.{Bool, HasIntervalAt, Interval, [], all_in, drop, drop_more, end_of, eqb-true, false, first_begins}
+use Rattle.buffer_pool.proofs.Common.{first_ends, get_or, length, refl, set, spot_index, subst, sym, true, ℕ, ◌<◌, ◌≡◌}
+use Rattle.std.proofs.Common.{List, All, length-set}
 use Rattle.std.proofs.lemmas.List.Elements.{All-get_or}
-use Rattle.sm_names.specs.declared.keys.Interval.{Interval}
 use Rattle.buffer_pool.specs.declared.blocks.Spot.{Spot}
-use Rattle.buffer_pool.specs.Holes.{end_of}
-use Rattle.buffer_pool.specs.Merging.{first_ends, first_begins}
-use Rattle.buffer_pool.specs.Rows.{all_in, spot_index, HasIntervalAt, IsNextOrEnd}
+use Rattle.buffer_pool.specs.Rows.{IsNextOrEnd}
 use Rattle.buffer_pool.proofs.Spaces.{first_within}
 use Rattle.buffer_pool.proofs.Joins.{same-size}
 

@@ -1,28 +1,23 @@
 -- What an actor's slots hold after its calls, and what it leaves.
-use Rattle.std.proofs.Common.{ℕ, zero, suc, ◌≡◌, ◌+◌, ◌-◌, ◌≤◌, ◌<◌, ◌∙◌, refl, sym, ap, subst, Bool, true, false}
-use Rattle.std.proofs.Common.{if◌then◌else◌, ◌==◌, List, [], ◌∷◌, ◌++◌, arith, length, length-append, map, Option, Some, None}
-use Rattle.std.specs.Int.{bit_at}
-use Rattle.std.specs.List.{All}
-use Rattle.std.specs.Prelude.{flat_map, reverse, set, slice_get, slice_index_or, option_map, Result, Ok, Err, MatchResult}
-use Rattle.std.proofs.lemmas.List.{length-map, map-append, map-set, reverse-reverse}
-use Rattle.std.proofs.lemmas.List.Elements.{All-append, All-cons, All-head, All-nil, All-tail}
-use Rattle.sm_names.specs.declared.rules.TheConstants.{MAX_BUFFERS}
+use Rattle.client_actors.proofs.Common.{ActorObject, All, All-cons, All-nil, AllHeldBy, Bool, Call, Did, Err, Grip, List, MAX_BUFFERS}
+use Rattle.client_actors.proofs.Common.{Made, MakesCall, NewObjects, None, Ok, Option, ParcelContent, Reply, Result, Seen, SlotHeldBy}
+use Rattle.client_actors.proofs.Common.{Some, StepCall, [], ap, arith, bit_at, false, filled_by, flat_map, handle_seen, handles_from}
+use Rattle.client_actors.proofs.Common.{if◌then◌else◌, last_objects_first, last_reply, length, lies, map, map-append, new_objects}
+use Rattle.client_actors.proofs.Common.{objects_in_slots, pairs_of, part_of, refl, sorted, spends_object, subst, suc, sym, there, true}
+use Rattle.client_actors.proofs.Common.{zero, ℕ, ◌++◌, ◌+◌, ◌<◌, ◌==◌, ◌∙◌, ◌∷◌, ◌≡◌, ◌≤◌}
+use Rattle.std.proofs.Common.{◌-◌, length-append}
+use Rattle.std.specs.Prelude.{reverse, set, slice_get, slice_index_or, option_map, MatchResult}
+use Rattle.std.proofs.lemmas.List.{length-map, map-set, reverse-reverse}
+use Rattle.std.proofs.lemmas.List.Elements.{All-append, All-head, All-tail}
 use Rattle.sm_names.specs.declared.keys.Strength.{Strength}
-use Rattle.sm_names.specs.declared.messages.Call.{Call}
-use Rattle.sm_names.specs.declared.messages.Reply.{Reply}
 use Rattle.sm_names.specs.declared.outcomes.StepFault.{StepFault}
 use Rattle.event_laws.specs.declared.own.Own.{Own}
-use Rattle.client_ends.specs.declared.held.ParcelContent.{ParcelContent}
-use Rattle.client_ends.specs.Clients.{Grip, Made, Seen, last_reply}
-use Rattle.client_vanish.specs.Vanishings.{AllHeldBy, Token, Collection, Handle, owner_of, sorted}
+use Rattle.client_vanish.specs.Vanishings.{Token, Collection, Handle, owner_of}
 use Rattle.client_vanish.specs.Stacks.{kept_objects}
 use Rattle.client_vanish.proofs.BackLaws.{sorted_own}
-use Rattle.actor_scripts.specs.declared.object.StepCall.{StepCall}
-use Rattle.actor_scripts.specs.declared.object.ActorObject.{ActorObject}
-use Rattle.actor_scripts.specs.ActorStates.{FitsThere, bound, emptied, new_objects, handles_from, on_of, spends_object, object_at}
-use Rattle.client_actors.specs.declared.new_objects.NewObjects.{NewObjects}
-use Rattle.client_actors.specs.ObjectCalls.{NewHeldBy, Did, SlotHeldBy, filled_by, handle_seen, lies, slots_for, there, objects_in}
-use Rattle.client_actors.specs.ActorSteps.{MakesCall, Asks, last_objects_first, objects_in_slots, pairs_of, part_of}
+use Rattle.actor_scripts.specs.ActorStates.{FitsThere, bound, emptied, on_of, object_at}
+use Rattle.client_actors.specs.ObjectCalls.{NewHeldBy, slots_for, objects_in}
+use Rattle.client_actors.specs.ActorSteps.{Asks}
 
 -- ---- one slot
 

@@ -1,3 +1,4 @@
+mod Common
 pub mod ActorStepLaws
 pub mod ObjectCallLaws
 pub mod PatienceLaws

@@ -1,22 +1,13 @@
 -- What calls do to what an actor holds.
-use Rattle.std.proofs.Common.{ℕ, zero, suc, ◌≡◌, ◌+◌, ◌∙◌, refl, sym, ap, Bool, true}
-use Rattle.std.proofs.Common.{false, if◌then◌else◌, ◌==◌, List, [], ◌∷◌, map, Option, None}
-use Rattle.std.specs.Int.{bit_at}
-use Rattle.std.specs.List.{All, filter, range_with_len}
-use Rattle.std.proofs.lemmas.List.Elements.{All-cons, All-nil}
-use Rattle.sm_names.specs.declared.rules.TheConstants.{MAX_BUFFERS}
+use Rattle.client_actors.proofs.Common.{ActorObject, All, All-cons, All-nil, Bool, Call, Did, Grip, List, MAX_BUFFERS, MadeOr, NewObjects}
+use Rattle.client_actors.proofs.Common.{None, Option, ParcelContent, Reply, Seen, Why, [], ap, bit_at, false, handle_seen, handles_from}
+use Rattle.client_actors.proofs.Common.{if◌then◌else◌, indices_in, map, new_objects, refl, spends_object, suc, sym, there, true, zero, ℕ}
+use Rattle.client_actors.proofs.Common.{◌+◌, ◌==◌, ◌∙◌, ◌∷◌, ◌≡◌}
+use Rattle.std.specs.List.{filter, range_with_len}
 use Rattle.sm_names.specs.declared.keys.NodeKey.{NodeKey}
-use Rattle.sm_names.specs.declared.messages.Call.{Call}
-use Rattle.sm_names.specs.declared.messages.Reply.{Reply}
-use Rattle.event_laws.specs.HandleSums.{indices_in}
-use Rattle.client_ends.specs.declared.held.ParcelContent.{ParcelContent}
-use Rattle.client_ends.specs.declared.why.Why.{Why}
-use Rattle.client_ends.specs.Clients.{Grip, MadeOr, Seen}
 use Rattle.client_ends.specs.Taking.{Took, grip_at, grips_at}
-use Rattle.actor_scripts.specs.declared.object.ActorObject.{ActorObject}
-use Rattle.actor_scripts.specs.ActorStates.{new_objects, handles_from, handles_of_set, spends_object}
-use Rattle.client_actors.specs.declared.new_objects.NewObjects.{NewObjects}
-use Rattle.client_actors.specs.ObjectCalls.{Did, handle_seen, may_spend, there}
+use Rattle.actor_scripts.specs.ActorStates.{handles_of_set}
+use Rattle.client_actors.specs.ObjectCalls.{may_spend}
 
 module _ (old new : Seen) (key : NodeKey) (handles : List Grip) (took : Took old new key handles) where
   -- the handles that a Take opens from this index on

@@ -1,11 +1,7 @@
 -- Runs in which no step is made again.
-use Rattle.std.proofs.Common.{ℕ, ◌≡◌, ◌≤◌, ◌∙◌, refl, sym, ap, subst, List, [], ◌∷◌, ◌++◌, append-nil, arith}
-use Rattle.sm_names.specs.declared.messages.Call.{Call}
-use Rattle.sm_names.specs.declared.messages.Reply.{Reply}
-use Rattle.actor_scripts.specs.declared.step.Step.{Step}
-use Rattle.actor_scripts.specs.ActorStates.{Known, state_after}
+use Rattle.client_actors.proofs.Common.{Call, FindsNothing, Known, List, Reply, RunsPatiently, Step, [], ap, append-nil, arith, refl}
+use Rattle.client_actors.proofs.Common.{state_after, subst, sym, ℕ, ◌++◌, ◌∙◌, ◌∷◌, ◌≡◌, ◌≤◌}
 use Rattle.actor_scripts.specs.ScriptRuns.{RunsScript}
-use Rattle.client_actors.specs.PatientRuns.{FindsNothing, RunsPatiently}
 
 -- a step that may not be made again was not tried before
 none-tried : (clients : List ℕ) (step : Step) (before state : Known) (tries : ℕ) (tried : List (Call × Reply)) →

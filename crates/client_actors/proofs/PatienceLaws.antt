@@ -1,18 +1,13 @@
 -- A step that is made again while nothing is there for it.
-use Rattle.std.proofs.Common.{ℕ, ◌≡◌, ◌≤◌, ◌+◌, ◌⊎◌, ◌==◌, ◌∙◌, refl, sym, ap, subst, inl, inr, Bool, true}
-use Rattle.std.proofs.Common.{false, List, [], ◌∷◌, ◌++◌, append_assoc, append-nil, arith, Option, Some, None}
+use Rattle.client_actors.proofs.Common.{Actor, Bool, Call, FindsNothing, HasFaltered, HasRunSome, HasStepped, HasTaken, IsWaiting, Known}
+use Rattle.client_actors.proofs.Common.{List, None, Option, Reply, RunsPatiently, Some, Step, [], ap, append-nil, append_assoc, arith}
+use Rattle.client_actors.proofs.Common.{false, inl, inr, known, lies, pairs_of, refl, subst, sym, true, ℕ, ◌++◌, ◌+◌, ◌==◌, ◌∙◌, ◌∷◌, ◌≡◌}
+use Rattle.client_actors.proofs.Common.{◌≤◌}
+use Rattle.std.proofs.Common.{◌⊎◌}
 use Rattle.std.proofs.lemmas.Bool.{eqb-true, eqb-false}
 use Rattle.std.specs.Option.{option_map_or}
-use Rattle.sm_names.specs.declared.messages.Call.{Call}
-use Rattle.sm_names.specs.declared.messages.Reply.{Reply}
-use Rattle.actor_scripts.specs.declared.step.Step.{Step}
-use Rattle.actor_scripts.specs.ActorStates.{Known}
-use Rattle.actor_scripts.specs.Tables.{known}
-use Rattle.client_actors.specs.declared.actor.Actor.{Actor}
-use Rattle.client_actors.specs.ActorSteps.{HasAnswer, HasCalled, HasFaltered, HasGivenUp}
-use Rattle.client_actors.specs.ActorSteps.{HasRunSome, HasStepped, HasTaken, IsWaiting, pairs_of}
-use Rattle.client_actors.specs.ObjectCalls.{lies}
-use Rattle.client_actors.specs.PatientRuns.{FindsNothing, IsTried, RunsPatiently, finds_nothing}
+use Rattle.client_actors.specs.ActorSteps.{HasAnswer, HasCalled, HasGivenUp}
+use Rattle.client_actors.specs.PatientRuns.{IsTried, finds_nothing}
 
 -- the step that is left was not tried
 untried : (clients : List ℕ) (most : ℕ) (left : List Step) (state : Known) → IsTried clients most left state [] state

@@ -1,23 +1,14 @@
 -- How an actor runs its steps, and what it leaves.
-use Rattle.std.proofs.Common.{ℕ, ◌≡◌, ◌∙◌, refl, sym, ap, subst, inl, inr, false, List}
-use Rattle.std.proofs.Common.{[], ◌∷◌, ◌++◌, append_assoc, append-nil, Option, Some, None}
-use Rattle.std.specs.Prelude.{flat_map, Result, Ok, Err, OnErr, OnOk, is_err}
-use Rattle.std.specs.List.{All}
-use Rattle.sm_names.specs.declared.messages.Reply.{Reply}
-use Rattle.client_ends.specs.declared.held.ParcelContent.{ParcelContent}
-use Rattle.client_ends.specs.Clients.{Made, Seen, last_reply}
-use Rattle.client_vanish.specs.Vanishings.{AllHeldBy, Holds, IsBroken, IsGone, Remains, sorted}
-use Rattle.actor_scripts.specs.declared.step.Step.{Step}
-use Rattle.actor_scripts.specs.declared.object.StepCall.{StepCall}
-use Rattle.actor_scripts.specs.ActorStates.{Known, step_call, state_after, nothing_known, objects_after}
-use Rattle.actor_scripts.specs.Tables.{known}
+use Rattle.client_actors.proofs.Common.{Actor, ActorInvariant, All, AllHeldBy, Err, HasFaltered, HasRunSome, HasRunTo, HasStepped}
+use Rattle.client_actors.proofs.Common.{HasTaken, IsAware, Known, List, Made, MakesCall, None, Ok, Option, ParcelContent, Reply, Result}
+use Rattle.client_actors.proofs.Common.{RunsPatiently, Seen, SlotHeldBy, Some, Step, StepCall, [], ap, append-nil, append_assoc, false}
+use Rattle.client_actors.proofs.Common.{flat_map, inl, inr, is_err, known, last_reply, lies, objects_in_slots, pairs_of, part_of, refl}
+use Rattle.client_actors.proofs.Common.{sorted, state_after, subst, sym, ℕ, ◌++◌, ◌∙◌, ◌∷◌, ◌≡◌}
+use Rattle.std.specs.Prelude.{OnErr, OnOk}
+use Rattle.client_vanish.specs.Vanishings.{Holds, IsBroken, IsGone, Remains}
+use Rattle.actor_scripts.specs.ActorStates.{step_call, nothing_known, objects_after}
 use Rattle.actor_scripts.proofs.TableLaws.{objects_noted}
-use Rattle.client_actors.specs.declared.actor.Actor.{Actor}
-use Rattle.client_actors.specs.ActorSteps.{MakesCall, Falters, HasFaltered, HasMade, HasFinished, HasRunSome, HasRunTo, HasStepped}
-use Rattle.client_actors.specs.ActorSteps.{HasStopped, HasTaken, IsAware, ActorInvariant, holds_by_state, objects_in_slots, pairs_of}
-use Rattle.client_actors.specs.ActorSteps.{part_of}
-use Rattle.client_actors.specs.ObjectCalls.{SlotHeldBy, lies}
-use Rattle.client_actors.specs.PatientRuns.{RunsPatiently}
+use Rattle.client_actors.specs.ActorSteps.{Falters, HasMade, HasFinished, HasStopped, holds_by_state}
 use Rattle.client_actors.proofs.ActorStepLaws.{last_is, pairs_more, parts_left}
 
 -- what is ensured of a success

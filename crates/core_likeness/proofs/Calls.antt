@@ -1,14 +1,11 @@
 -- What forced marks do not tell is told by the entries alone.
-use Rattle.std.proofs.Common.{ℕ, ◌≡◌, ◌+◌, refl, ap, sym, ◌∙◌, Bool, true, false}
-use Rattle.std.proofs.Common.{◌||◌, cond, List, [], ◌∷◌, ◌++◌, reverse, Option, Some, None, arith}
-use Rattle.std.proofs.lemmas.List.{append-nil, append_assoc, reverse-append}
-use Rattle.std.specs.List.{cons_option, filter_map, fold, list_any}
-use Rattle.sm_names.specs.Marks.{Entry, Mark, Timeline, is_event}
-use Rattle.sm_names.specs.Timelines.{after, timeline}
-use Rattle.sm_names.specs.Words.{times}
+use Rattle.core_likeness.proofs.Common.{Bool, Entry, List, Mark, None, Option, Some, Timeline, [], after, ap, append-nil, arith, cond}
+use Rattle.core_likeness.proofs.Common.{cons_option, entry_mark, false, filter_map, is_event, kept-after, list_any, refl, reverse}
+use Rattle.core_likeness.proofs.Common.{reverse-append, sym, timeline, times, true, ℕ, ◌++◌, ◌+◌, ◌∙◌, ◌∷◌, ◌≡◌}
+use Rattle.std.proofs.Common.{◌||◌}
+use Rattle.std.proofs.lemmas.List.{append_assoc}
+use Rattle.std.specs.List.{fold}
 use Rattle.sm_names.proofs.SamenessLaws.{or_false}
-use Rattle.history_laws.proofs.KeptLaws.{kept-after}
-use Rattle.event_laws.specs.ByEvent.{entry_mark}
 
 -- Of a list with one more in front.
 pub reverse-cons : {A : Type 0} (o : Option A) (xs : List A) → reverse (cons_option o xs) ≡ reverse xs ++ cons_option o []

@@ -1,11 +1,7 @@
 -- The clients of two cores, by the entries.
-use Rattle.std.proofs.Common.{ℕ, ◌≡◌, ap, sym, ◌∙◌, List, map, reverse}
+use Rattle.core_likeness.proofs.Common.{Entry, List, Shows, State, ap, client_after, map, map-map, reverse, sym, timeline, ℕ, ◌∙◌, ◌≡◌}
 use Rattle.sm_names.specs.Ends.{clients}
-use Rattle.sm_names.specs.Marks.{Entry}
-use Rattle.sm_names.specs.Timelines.{timeline}
-use Rattle.sm_names.proofs.ListLaws.{map-map}
-use Rattle.core_state.specs.Shown.{Shows, client_after}
-use Rattle.core_state.specs.State.{Client, State}
+use Rattle.core_state.specs.State.{Client}
 
 -- The same clients joined, and each stands alike.
 pub clients-alike : (f : Client → Client) (s t : State) (first second : List Entry) → Shows s first → Shows t second → (ids others

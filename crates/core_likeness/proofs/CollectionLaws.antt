@@ -1,23 +1,14 @@
 -- The collections of a core, by those that were opened.
-use Rattle.std.proofs.Common.{ℕ, ◌≡◌, refl, ap, sym, ◌∙◌, subst, Bool, true, false, cond}
-use Rattle.std.proofs.Common.{◌&&◌, List, [], ◌∷◌, map, Option, Some, None, is_none, option_map, reverse}
-use Rattle.std.specs.List.{cons_option, filter, filter_map}
+use Rattle.core_likeness.proofs.Common.{Birth, Bool, Entry, List, Mixed, NodeKey, None, Option, Shows, Some, State, [], ap, births}
+use Rattle.core_likeness.proofs.Common.{collection_at, collection_renamed, cond, cons_option, false, filter, filter_map, held_renamed}
+use Rattle.core_likeness.proofs.Common.{is_none, legal_grows, map, mixed-map, node_renamed, node_undated, refl, reverse, roots, subst}
+use Rattle.core_likeness.proofs.Common.{sym, timeline, true, undated, ℕ, ◌&&◌, ◌∙◌, ◌∷◌, ◌≡◌}
+use Rattle.std.proofs.Common.{option_map}
 use Rattle.sm_names.specs.declared.keys.HeldBuffer.{HeldBuffer}
-use Rattle.sm_names.specs.declared.keys.NodeKey.{NodeKey}
-use Rattle.sm_names.specs.Births.{Birth, births}
 use Rattle.sm_names.specs.Kept.{is_kept_collection}
-use Rattle.sm_names.specs.Marks.{Entry}
-use Rattle.sm_names.specs.Timelines.{timeline}
-use Rattle.history_laws.proofs.GrowthLaws.{legal_grows}
-use Rattle.forest_store.specs.Forest.{Collection, collection_at}
-use Rattle.core_state.specs.Shown.{Shows, collection_after}
-use Rattle.core_state.specs.State.{State}
+use Rattle.forest_store.specs.Forest.{Collection}
+use Rattle.core_state.specs.Shown.{collection_after}
 use Rattle.core_state.proofs.views.Nodes.{collection_is}
-use Rattle.core_likeness.specs.Told.{roots}
-use Rattle.alike_cores.specs.Renamed.{collection_renamed, held_renamed, node_renamed}
-use Rattle.alike_cores.specs.Cores.{node_undated, undated}
-use Rattle.alike_cores.specs.Mixed.{Mixed}
-use Rattle.alike_cores.proofs.Mixing.{mixed-map}
 use Rattle.core_likeness.proofs.MixedLaws.{mixed-filter_map}
 
 -- Of those that pass the first test, those that pass the second too are told.

@@ -1,25 +1,15 @@
 -- Where the counts of all buffers are the same on which an entry brought handles, all counts are.
-use Rattle.std.proofs.Common.{ℕ, ◌≡◌, ◌==◌, ◌+◌, ◌<◌, ◌≤◌, ◌^◌, ap, sym, ◌∙◌, subst, Bool}
-use Rattle.std.proofs.Common.{true, false, ◌&&◌, ◌⊎◌, inl, inr, List, [], ◌∷◌, get_or, length, take, arith}
-use Rattle.std.proofs.lemmas.Bool.{cases_lt, eqb-true, eq-eqb}
-use Rattle.std.proofs.lemmas.List.{take_all, take_more}
+use Rattle.core_likeness.proofs.Common.{AreCounted, Bool, BufferName, Entry, In, In-append, In-list_any, IsCounted, KeepsIds, List}
+use Rattle.core_likeness.proofs.Common.{SameCounts, Shows, State, Strength, [], and_left, and_right, ap, arith, bit_at, either_way}
+use Rattle.core_likeness.proofs.Common.{eq-eqb, eqb-true, false, get_or, inl, inr, is_opened, length, list_any, opening_by, subst, sym}
+use Rattle.core_likeness.proofs.Common.{take, take_all, take_more, true, ℕ, ◌&&◌, ◌+◌, ◌<◌, ◌==◌, ◌∙◌, ◌∷◌, ◌≡◌, ◌≤◌}
+use Rattle.std.proofs.Common.{◌^◌, ◌⊎◌}
+use Rattle.std.proofs.lemmas.Bool.{cases_lt}
 use Rattle.std.proofs.lemmas.Nat.Bits.{bit_at_above}
-use Rattle.std.specs.Int.{bit_at}
-use Rattle.std.specs.List.{list_any}
-use Rattle.sm_names.specs.declared.keys.BufferName.{BufferName}
-use Rattle.sm_names.specs.declared.keys.Strength.{Strength}
-use Rattle.sm_names.specs.Marks.{Entry}
-use Rattle.sm_names.proofs.ListLaws.{In, In-append, In-list_any}
-use Rattle.sm_names.proofs.SamenessLaws.{and_left, and_right, either_way}
 use Rattle.buffer_holds.specs.Counts.{Counts, of, total}
-use Rattle.core_state.specs.Shown.{Shows}
-use Rattle.core_state.specs.State.{State}
 use Rattle.core_state.proofs.views.Shown.{open_shown, total_shown}
-use Rattle.core_likeness.specs.Told.{is_opened, opening_by}
 use Rattle.core_likeness.proofs.OpeningLaws.{none_in_all, none_open, touches}
-use Rattle.alike_cores.specs.Alike.{KeepsIds}
 use Rattle.alike_cores.specs.Renamed.{buffer_renamed}
-use Rattle.core_likeness.specs.Parts.{AreCounted, IsCounted, SameCounts}
 
 -- A buffer with the new name is the one.
 old-one : (id : ℕ → ℕ) → KeepsIds id → (a b : BufferName) → buffer_renamed id b ≡ buffer_renamed id a → a ≡ b

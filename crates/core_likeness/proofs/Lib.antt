@@ -1,3 +1,4 @@
+mod Common
 pub mod Steps
 pub mod Swapping
 pub mod MixedLaws

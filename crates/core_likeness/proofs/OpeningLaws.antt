@@ -1,20 +1,12 @@
 -- On which buffers nothing was opened.
-use Rattle.std.proofs.Common.{ℕ, ◌≡◌, ◌-◌, ◌==◌, refl, sym, ◌∙◌, Bool, true, false, ◌&&◌, List, arith}
-use Rattle.std.specs.Int.{bit_at}
-use Rattle.std.specs.List.{list_any}
-use Rattle.sm_names.specs.declared.keys.BufferName.{BufferName}
-use Rattle.sm_names.specs.declared.keys.Strength.{Strength}
-use Rattle.sm_names.specs.declared.messages.Call.{Call}
-use Rattle.sm_names.specs.declared.messages.Reply.{Reply}
+use Rattle.core_likeness.proofs.Common.{Allocated, Bool, BufferName, Call, Called, Ended, Entry, In-any, List, Loss, Mark, Reply}
+use Rattle.core_likeness.proofs.Common.{Strength, and_left, and_right, arith, bit_at, entry_mark, false, false_if, is_event, is_opened}
+use Rattle.core_likeness.proofs.Common.{list_any, opening_by, refl, sym, timeline, times, true, ℕ, ◌&&◌, ◌==◌, ◌∙◌, ◌≡◌}
+use Rattle.std.proofs.Common.{◌-◌}
 use Rattle.sm_names.specs.Handles.{lands, open_of, open_total, opens}
-use Rattle.sm_names.specs.Marks.{Allocated, Called, Ended, Entry, Loss, Mark, is_event}
 use Rattle.sm_names.specs.Sameness.{same_buffer, same_strength}
-use Rattle.sm_names.specs.Timelines.{timeline}
-use Rattle.sm_names.specs.Words.{times}
-use Rattle.sm_names.proofs.ListLaws.{In-any, times-zero}
-use Rattle.sm_names.proofs.SamenessLaws.{and_both, and_left, and_right, false_if}
-use Rattle.event_laws.specs.ByEvent.{entry_mark}
-use Rattle.core_likeness.specs.Told.{is_opened, opening_by}
+use Rattle.sm_names.proofs.ListLaws.{times-zero}
+use Rattle.sm_names.proofs.SamenessLaws.{and_both}
 use Rattle.core_likeness.proofs.Calls.{counted}
 
 module _ (who : ℕ → Bool) (b : BufferName) (s : Strength) where

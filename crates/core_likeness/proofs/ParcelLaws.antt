@@ -1,11 +1,7 @@
 -- What the entries tell of clients and parcels.
-use Rattle.std.proofs.Common.{ℕ, ◌≡◌, refl, ap, ◌∙◌, false, List, drop, reverse, None}
-use Rattle.std.specs.List.{filter_map, list_any}
-use Rattle.sm_names.specs.Ends.{collects, given_at, is_shut, parcels, shuts}
-use Rattle.sm_names.specs.Marks.{Allocated, Called, Ended, Entry, Loss, Mark, is_event}
-use Rattle.sm_names.specs.Timelines.{timeline}
-use Rattle.sm_names.specs.Words.{times}
-use Rattle.event_laws.specs.ByEvent.{entry_mark}
+use Rattle.core_likeness.proofs.Common.{Allocated, Called, Ended, Entry, List, Loss, Mark, None, ap, collects, drop, entry_mark, false}
+use Rattle.core_likeness.proofs.Common.{filter_map, given_at, is_event, list_any, refl, reverse, timeline, times, ℕ, ◌∙◌, ◌≡◌}
+use Rattle.sm_names.specs.Ends.{is_shut, parcels, shuts}
 use Rattle.core_likeness.proofs.Calls.{any, counted, found}
 
 -- What is forced shuts nobody,

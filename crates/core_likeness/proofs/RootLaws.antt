@@ -1,16 +1,10 @@
 -- Which collections the entries opened.
-use Rattle.std.proofs.Common.{ℕ, ◌≡◌, ◌+◌, refl, ap, sym, ◌∙◌, Bool, true, false}
-use Rattle.std.proofs.Common.{cond, List, [], ◌∷◌, ◌++◌, map, reverse, Option, Some, None, is_none}
-use Rattle.std.proofs.lemmas.List.{append-nil, map-append, reverse-append}
-use Rattle.std.proofs.lemmas.List.Elements.{filter-append}
-use Rattle.std.specs.List.{cons_option, filter, filter_map}
-use Rattle.sm_names.specs.declared.messages.Call.{Call}
-use Rattle.sm_names.specs.declared.messages.Reply.{Reply}
-use Rattle.sm_names.specs.Births.{Birth, birth_at, births}
-use Rattle.sm_names.specs.Marks.{Allocated, Called, Ended, Entry, Loss, Mark, Timeline, events, is_event}
-use Rattle.sm_names.specs.Timelines.{opened_by, timeline}
-use Rattle.core_likeness.specs.Told.{roots}
+use Rattle.core_likeness.proofs.Common.{Allocated, Birth, Bool, Call, Called, Ended, Entry, List, Loss, Mark, None, Option, Reply, Some}
+use Rattle.core_likeness.proofs.Common.{Timeline, [], ap, append-nil, birth_at, births, cond, cons_option, events, false, filter}
+use Rattle.core_likeness.proofs.Common.{filter-append, filter_map, is_event, is_none, map, opened_by, refl, reverse, reverse-append}
+use Rattle.core_likeness.proofs.Common.{roots, sym, timeline, true, ℕ, ◌++◌, ◌+◌, ◌∙◌, ◌∷◌, ◌≡◌}
 use Rattle.core_likeness.proofs.Calls.{found}
+use Rattle.core_state.proofs.lists.Maps.{map-reverse}
 
 -- the collection that the mark opens
 abbrev opened_at : Mark → Option ℕ
@@ -51,13 +45,6 @@ filter-reverse {A} p (x ∷ xs) =
     here : (b : Bool) → reverse (filter p xs) ++ cond b (x ∷ []) [] ≡ reverse (cond b (x ∷ filter p xs) (filter p xs))
     here true = sym (reverse-append (x ∷ []) (filter p xs))
     here false = append-nil (reverse (filter p xs))
-
--- Element by element.
-map-reverse : {A B : Type 0} (f : A → B) (xs : List A) → map f (reverse xs) ≡ reverse (map f xs)
-map-reverse f [] = refl
-map-reverse {B = B} f (x ∷ xs) =
-    ap (map f) (reverse-append (x ∷ []) xs) ∙ (map-append f (reverse xs) (x ∷ [])
-    ∙ (ap (λ (l : List B). l ++ f x ∷ []) (map-reverse f xs) ∙ sym (reverse-append (f x ∷ []) (map f xs))))
 
 -- The roots among the births are what marks opened.
 roots-opened : (marks : Timeline) → map (λ (b : Birth). b.collection) (filter (λ (b : Birth). is_none b.parent) (births marks))

@@ -1,15 +1,12 @@
 -- Swaps one after another make no two names one.
-use Rattle.std.proofs.Common.{ℕ, ◌≡◌, ◌+◌, ◌<◌, ◌≤◌, refl, ap, sym, ◌∙◌, subst, Bool}
-use Rattle.std.proofs.Common.{true, cond, inl, inr, List, [], ◌∷◌, ◌++◌, drop, get_or, length}
-use Rattle.std.proofs.lemmas.Bool.{eqb-true, eq-eqb}
+use Rattle.core_likeness.proofs.Common.{Bool, KeepsIds, List, NodeKey, [], ap, cond, drop, either_way, eq-eqb, eqb-true, get_or, inl, inr}
+use Rattle.core_likeness.proofs.Common.{length, new_id, new_key, new_number, refl, same_key, same_number, subst, sym, true, under, ℕ}
+use Rattle.core_likeness.proofs.Common.{◌++◌, ◌+◌, ◌<◌, ◌∙◌, ◌∷◌, ◌≡◌, ◌≤◌}
 use Rattle.std.proofs.lemmas.List.{at_drop_all, at_drop_more}
-use Rattle.sm_names.specs.declared.keys.NodeKey.{NodeKey}
-use Rattle.sm_names.specs.Sameness.{same_key}
-use Rattle.sm_names.proofs.SamenessLaws.{both_tests, either_way, same_key-refl, same_key-true}
-use Rattle.alike_cores.specs.Alike.{KeepsIds}
+use Rattle.sm_names.proofs.SamenessLaws.{both_tests, same_key-refl, same_key-true}
 use Rattle.alike_cores.specs.Renamed.{KeepsKeys}
 use Rattle.core_likeness.specs.declared.names.Names.{Names}
-use Rattle.core_likeness.specs.Naming.{new_id, new_key, new_number, same_number, swapped, under}
+use Rattle.core_likeness.specs.Naming.{swapped}
 
 -- ---- one swap after another
 

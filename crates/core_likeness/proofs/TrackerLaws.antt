@@ -1,35 +1,27 @@
 -- Which trackers wait, by the entries and the firings.
-use Rattle.std.proofs.Common.{ℕ, suc, ◌≡◌, ◌+◌, ◌<◌, ◌==◌, refl, ap, sym, ◌∙◌, subst, Bool, true, false, cond, not, inl, inr}
-use Rattle.std.proofs.Common.{List, [], ◌∷◌, ◌++◌, length, map, reverse, get_or, Option, Some, None, is_none, take, unwrap_or, arith}
-use Rattle.std.proofs.lemmas.Bool.{eqb-true, eq-eqb}
-use Rattle.std.proofs.lemmas.List.{map-append, take_more}
-use Rattle.std.specs.List.{AllPairs, cons_option, filter, find, flat_map, list_any}
+use Rattle.core_likeness.proofs.Common.{Attached, Birth, Bool, Call, Called, Entry, Fired, In, In-any, In-list_any, List, NodeKey, None}
+use Rattle.core_likeness.proofs.Common.{Option, Reply, Some, Timeline, Tracked, [], after, ap, arith, birth_at, births, born_by}
+use Rattle.core_likeness.proofs.Common.{collection_of_node, cond, cons_option, entry_mark, eq-eqb, eqb-true, events, false, false_if}
+use Rattle.core_likeness.proofs.Common.{filter, get_or, inl, inr, is_none, kept-after, legal_grows, length, list_any, map, map-append}
+use Rattle.core_likeness.proofs.Common.{not, refl, reverse, same_key, subst, suc, sym, take, take_more, timeline, tracked, tracked_at}
+use Rattle.core_likeness.proofs.Common.{tracked_of, true, unwrap_or, ℕ, ◌++◌, ◌+◌, ◌<◌, ◌==◌, ◌∙◌, ◌∷◌, ◌≡◌}
+use Rattle.std.specs.List.{AllPairs, find, flat_map}
 use Rattle.std.specs.Option.{option_map, option_map_or}
-use Rattle.sm_names.specs.declared.keys.NodeKey.{NodeKey}
-use Rattle.sm_names.specs.declared.messages.Call.{Call}
-use Rattle.sm_names.specs.declared.messages.Reply.{Reply}
-use Rattle.sm_names.specs.declared.tracking.Fired.{Fired}
-use Rattle.sm_names.specs.Births.{Birth, birth_at, birth_of, births}
+use Rattle.sm_names.specs.Births.{birth_of}
 use Rattle.sm_names.specs.Bounds.{Bound}
 use Rattle.sm_names.specs.Legality.{IsLegal}
-use Rattle.sm_names.specs.Marks.{Allocated, Called, Ended, Entry, Loss, Mark, Timeline, events, is_event}
-use Rattle.sm_names.specs.Sameness.{same_key}
-use Rattle.sm_names.specs.Timelines.{after, timeline}
-use Rattle.sm_names.specs.Trackers.{Tracked, collection_of_node, fired, fired_at, fired_in, fires_at, moments, tracked, tracked_at}
+use Rattle.sm_names.specs.Trackers.{fired, fired_at, fired_in, fires_at, moments}
 use Rattle.sm_names.specs.Words.{last_match}
-use Rattle.sm_names.proofs.ListLaws.{In, In-any, In-append, In-behind, In-filter, In-filter-back}
-use Rattle.sm_names.proofs.ListLaws.{In-front, In-list_any, In-map, In-map-back, In-reverse, In-reverse-back, filter-In}
-use Rattle.sm_names.proofs.SamenessLaws.{false_if, none_or_some}
-use Rattle.history_laws.proofs.GrowthLaws.{legal_grows}
+use Rattle.sm_names.proofs.ListLaws.{In-behind, In-filter, In-filter-back, In-front, In-map, In-map-back, In-reverse, In-reverse-back}
+use Rattle.sm_names.proofs.ListLaws.{filter-In}
+use Rattle.sm_names.proofs.SamenessLaws.{none_or_some}
 use Rattle.history_laws.proofs.HistoryLaws.{timeline-push}
-use Rattle.history_laws.proofs.KeptLaws.{kept-after}
-use Rattle.event_laws.specs.ByEvent.{entry_mark}
 use Rattle.event_laws.specs.Waiting.{unfired_trackers}
 use Rattle.event_laws.proofs.MomentLaws.{last_match-kept, tracked_after}
 use Rattle.event_laws.proofs.NumberLaws.{AreNumbered, IsBefore, numbered}
-use Rattle.core_likeness.specs.declared.readings.tracking.Attached.{Attached}
-use Rattle.core_likeness.specs.Told.{born_by, tracked_of}
 use Rattle.core_likeness.proofs.Calls.{reverse-cons}
+use Rattle.alike_cores.proofs.Known.{In-flat}
+use Rattle.history_laws.proofs.SettledLaws.{same_births}
 
 -- ---- births
 
@@ -49,17 +41,10 @@ born-told key event client reply (Call.Duplicate parent) = refl
 born-told key event client reply (Call.AttachToken parent) = refl
 born-told key event client reply call = refl
 
--- Where a mark is no event, the births stay.
-born-quiet : (marks : Timeline) (mark : Mark) → is_event mark ≡ false → births (mark ∷ marks) ≡ births marks
-born-quiet marks (Called client reply call) quiet = cc
-born-quiet marks (Loss origin cause) quiet = refl
-born-quiet marks (Allocated head) quiet = refl
-born-quiet marks (Ended top) quiet = refl
-
 -- An event adds what its own mark does.
 births-after : (pool : ℕ) (marks : Timeline) (entry : Entry) → births (after pool marks entry) ≡ births (entry_mark entry ∷ marks)
 births-after pool marks entry =
-    kept-after (λ m. births m ≡ births (entry_mark entry ∷ marks)) (λ m mark quiet e. born-quiet m mark quiet ∙ e) pool marks entry refl
+    kept-after (λ m. births m ≡ births (entry_mark entry ∷ marks)) (λ m mark quiet e. same_births m mark quiet ∙ e) pool marks entry refl
 
 -- A node is of the collection that the newest event told which made it.
 pub collection-next : (pool : ℕ) (marks : Timeline) (entry : Entry) (key : NodeKey) →
@@ -164,14 +149,6 @@ In-flat-back : {A B : Type 0} (f : A → List B) (xs : List A) (x : A) (y : B) �
 In-flat-back f [] x y there on = absurd there
 In-flat-back {B = B} f (z ∷ zs) x y (inl is) on = In-front (f z) (flat_map f zs) y (subst (λ (w : _). In y (f w)) is on)
 In-flat-back f (z ∷ zs) x y (inr there) on = In-behind (f z) (flat_map f zs) y (In-flat-back f zs x y there on)
-
--- An element of all is one of a part.
-In-flat : {A B : Type 0} (f : A → List B) (xs : List A) (y : B) → In y (flat_map f xs) → (x : A) × In x xs × In y (f x)
-In-flat f [] y there = absurd there
-In-flat f (x ∷ xs) y there = elim (In-append (f x) (flat_map f xs) y there) [
-  | inl here ↦ (x, inl refl, here)
-  | inr on ↦ let more = In-flat f xs y on in (more.0, inr more.1, more.2)
-]
 
 module _ (marks : Timeline) (one : AreNumbered marks) (t : Tracked) (there : In t (tracked marks)) where
   -- Where it has not fired, no firing is its.

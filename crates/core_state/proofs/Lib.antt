@@ -1,3 +1,4 @@
+mod Common
 pub mod answers
 pub mod collections
 pub mod ends

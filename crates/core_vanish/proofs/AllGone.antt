@@ -1,40 +1,19 @@
 -- Once each client has vanished, every end is spent and no handle is open.
-use Rattle.std.proofs.Common.{ℕ, ◌≡◌, ◌+◌, ◌∙◌, refl, ap, sym, subst, Bool, true, false, not, ◌||◌}
-use Rattle.std.proofs.Common.{◌==◌, inl, inr, List, [], ◌∷◌, ◌++◌, Option, Some, None, arith, is_some}
-use Rattle.std.proofs.lemmas.Bool.{eq-eqb, false≢true}
-use Rattle.std.specs.List.{cons_option, list_any, sum_by}
-use Rattle.std.specs.Option.{option_map_or}
-use Rattle.sm_names.specs.declared.keys.BufferName.{BufferName}
-use Rattle.sm_names.specs.declared.keys.NodeKey.{NodeKey}
-use Rattle.sm_names.specs.declared.keys.Strength.{Strength}
-use Rattle.sm_names.specs.declared.messages.Call.{Call}
-use Rattle.sm_names.specs.declared.messages.Reply.{Reply}
-use Rattle.sm_names.specs.declared.outcomes.Refusal.{Refusal}
-use Rattle.sm_names.specs.Answers.{IsAnswer}
-use Rattle.sm_names.specs.Births.{Birth, births, birth_at, was_born}
-use Rattle.sm_names.specs.Bounds.{Bound}
-use Rattle.sm_names.specs.Ends.{clients, collector_at, has_joined, holder, in_transit, is_end_of, is_handle_of, parcels, spent}
-use Rattle.sm_names.specs.Handles.{moving, open_of, open_total}
-use Rattle.sm_names.specs.Legality.{IsLegal}
-use Rattle.sm_names.specs.Marks.{Called, Entry, Timeline, events}
-use Rattle.sm_names.specs.Reading.{readings}
-use Rattle.sm_names.specs.Sameness.{same_key}
-use Rattle.sm_names.specs.Timelines.{timeline}
+use Rattle.core_vanish.proofs.Common.{Birth, Bool, Bound, BufferName, Call, Called, Entry, FreeEnd, Grows, HasVanished, In-any}
+use Rattle.core_vanish.proofs.Common.{In-list_any, IsAnswer, IsLegal, List, NextEvent, NodeKey, None, Option, Refusal, Reply, Some}
+use Rattle.core_vanish.proofs.Common.{Strength, Timeline, [], ap, arith, birth_at, births, born_event, both_ways, collector_at}
+use Rattle.core_vanish.proofs.Common.{cons_option, counted, either_way, entry_mark, eq-eqb, events, false, false≢true, has_joined, holder}
+use Rattle.core_vanish.proofs.Common.{holder_event, holds_end, in_transit, inl, inr, is_end_of, is_some, legal_grows, list_any}
+use Rattle.core_vanish.proofs.Common.{next_event, none_key, not, open_of, open_total, option_map_or, or_first, parcels, passed, readings}
+use Rattle.core_vanish.proofs.Common.{refl, same_key, same_key-true, spent, still_joined, stranger_has_none, subst, sum_by, sym, timeline}
+use Rattle.core_vanish.proofs.Common.{took_effect_all, true, was_born, when-Some, ℕ, ◌++◌, ◌+◌, ◌==◌, ◌||◌, ◌∙◌, ◌∷◌, ◌≡◌}
+use Rattle.sm_names.specs.Ends.{clients, is_handle_of}
+use Rattle.sm_names.specs.Handles.{moving}
 use Rattle.sm_names.specs.Words.{times}
-use Rattle.history_laws.proofs.AnswerLaws.{took_effect_all}
-use Rattle.history_laws.proofs.CountLaws.{clients_have, counted, moving_is, total_is}
-use Rattle.history_laws.proofs.GrowthLaws.{Grows, legal_grows}
-use Rattle.sm_names.proofs.ListLaws.{In-list_any, when-Some, In-any}
-use Rattle.sm_names.proofs.SamenessLaws.{both_ways, either_way, or_first, same_key-true}
+use Rattle.history_laws.proofs.CountLaws.{clients_have, moving_is, total_is}
 use Rattle.history_laws.proofs.SumLaws.{sum_by-same, sum_by-zero}
-use Rattle.history_laws.proofs.TakeLaws.{none_key}
-use Rattle.event_laws.specs.ByEvent.{entry_mark}
-use Rattle.event_laws.proofs.EndEventLaws.{born_event, holder_event}
-use Rattle.event_laws.proofs.FreeEndLaws.{FreeEnd, passed}
-use Rattle.event_laws.proofs.HandLaws.{NextEvent, next_event}
-use Rattle.event_laws.proofs.HandleBufferLaws.{still_joined, stranger_has_none}
 use Rattle.event_laws.proofs.ParcelEventLaws.{stranger_waits_for_none}
-use Rattle.core_vanish.specs.Vanishes.{VanishedIn, HasVanished, holds_end}
+use Rattle.core_vanish.specs.Vanishes.{VanishedIn}
 use Rattle.core_vanish.proofs.VanishEvents.{vanished_on, kept_on}
 use Rattle.core_vanish.proofs.HeldEnds.{free_holds}
 

@@ -1,19 +1,10 @@
 -- An end that a client holds, as it is read, is one that is there, in no parcel, and the client's.
-use Rattle.std.proofs.Common.{ℕ, ◌≡◌, ◌∙◌, refl, ap, subst, Bool, true, false, cond, not, ◌&&◌, ◌==◌, Option, Some, None}
-use Rattle.std.proofs.lemmas.Bool.{eqb-true, eq-eqb}
-use Rattle.std.specs.Option.{option_map, option_map_or}
-use Rattle.sm_names.specs.declared.keys.NodeKey.{NodeKey}
-use Rattle.sm_names.specs.Answers.{OpenEnd}
-use Rattle.sm_names.specs.Births.{Birth, births, birth_of}
-use Rattle.sm_names.specs.Ends.{spent, in_transit, holder}
-use Rattle.sm_names.specs.Marks.{Timeline}
-use Rattle.sm_names.specs.Reading.{readings, open_end}
-use Rattle.sm_names.specs.Sameness.{same_key}
-use Rattle.history_laws.proofs.BirthLaws.{birth_is, birth_was_born}
-use Rattle.sm_names.proofs.ListLaws.{is_some-find}
-use Rattle.sm_names.proofs.SamenessLaws.{and_left, and_right, and_both, some_is}
-use Rattle.event_laws.proofs.FreeEndLaws.{FreeEnd}
-use Rattle.core_vanish.specs.Vanishes.{holds_end}
+use Rattle.core_vanish.proofs.Common.{Birth, Bool, FreeEnd, NodeKey, None, OpenEnd, Option, Some, Timeline, and_both, and_left, and_right}
+use Rattle.core_vanish.proofs.Common.{ap, birth_is, birth_of, births, cond, eq-eqb, eqb-true, false, holder, holds_end, in_transit}
+use Rattle.core_vanish.proofs.Common.{is_some-find, not, open_end, option_map_or, readings, refl, same_key, some_is, spent, subst, true}
+use Rattle.core_vanish.proofs.Common.{ℕ, ◌&&◌, ◌==◌, ◌∙◌, ◌≡◌}
+use Rattle.std.specs.Option.{option_map}
+use Rattle.history_laws.proofs.BirthLaws.{birth_was_born}
 
 -- what is not so fails
 pub not_so : (b : Bool) → not b ≡ true → b ≡ false

@@ -1,3 +1,4 @@
+mod Common
 pub mod HeldEnds
 pub mod VanishEvents
 pub mod VanishSteps

@@ -1,23 +1,9 @@
 -- Phases that follow one another.
-use Rattle.std.proofs.Common.{ℕ, ◌≡◌, ◌≤◌, ◌∙◌, refl, sym, subst, true, List, [], ◌∷◌, ◌++◌}
-use Rattle.std.proofs.Common.{length, length-append, append_assoc, Result, Ok, Err, arith}
-use Rattle.std.proofs.lemmas.List.{append-nil}
-use Rattle.std.proofs.lemmas.List.Elements.{All-append, All-nil}
-use Rattle.std.specs.Result.{IfErr, IsErrAnd, OnErr, OnOk}
-use Rattle.sm_names.specs.declared.outcomes.StepFault.{StepFault}
-use Rattle.sm_names.specs.Bounds.{Bound}
-use Rattle.sm_names.specs.Ends.{has_joined}
-use Rattle.sm_names.specs.Handles.{open_of}
-use Rattle.sm_names.specs.Legality.{IsLegal}
-use Rattle.sm_names.specs.Marks.{Entry, Timeline}
-use Rattle.sm_names.specs.declared.tracking.Fired.{Fired}
-use Rattle.sm_names.specs.Timelines.{timeline}
-use Rattle.core_state.specs.Shown.{ShowsBut}
-use Rattle.core_state.specs.State.{State}
-use Rattle.core_vanish.specs.Events.{GetsNothing, Lets}
-use Rattle.core_vanish.specs.Vanishing.{AdvancesBy}
-use Rattle.core_vanish.specs.Phases.{Phase}
-use Rattle.core_vanish.specs.declared.vanishing.VanishFault.{VanishFault}
+use Rattle.core_vanish.proofs.Common.{AdvancesBy, All-append, All-nil, Bound, Entry, Err, Fired, GetsNothing, IfErr, IsLegal, Lets, List}
+use Rattle.core_vanish.proofs.Common.{Ok, OnErr, Phase, Result, ShowsBut, State, StepFault, Timeline, VanishFault, [], append-nil}
+use Rattle.core_vanish.proofs.Common.{append_assoc, arith, has_joined, length, length-append, open_of, refl, subst, sym, timeline, true}
+use Rattle.core_vanish.proofs.Common.{ℕ, ◌++◌, ◌∙◌, ◌∷◌, ◌≡◌, ◌≤◌}
+use Rattle.std.specs.Result.{IsErrAnd, OnOk}
 
 -- ---- events
 

@@ -1,35 +1,13 @@
 -- One step of each phase of a vanishing.
-use Rattle.std.proofs.Common.{ℕ, ◌≡◌, ◌≤◌, ◌<◌, ◌+◌, ◌-◌, ◌∙◌, refl, ap, sym, subst, Bool, true, false}
-use Rattle.std.proofs.Common.{◌||◌, inl, inr, List, [], ◌∷◌, ◌++◌, length, length-append, Err, arith}
-use Rattle.std.proofs.lemmas.List.Elements.{All-append, All-nil, All-push}
-use Rattle.std.specs.List.{All, list_any}
-use Rattle.std.specs.Result.{IfErr, IfOk}
-use Rattle.sm_names.specs.declared.keys.BufferName.{BufferName}
-use Rattle.sm_names.specs.declared.keys.HeldBuffer.{HeldBuffer}
-use Rattle.sm_names.specs.declared.keys.NodeKey.{NodeKey}
-use Rattle.sm_names.specs.declared.keys.Strength.{Strength}
-use Rattle.sm_names.specs.declared.keys.Strength.TheVariants.{Strong, Weak}
-use Rattle.sm_names.specs.declared.messages.Call.{Call}
-use Rattle.sm_names.specs.declared.messages.Reply.{Reply}
-use Rattle.sm_names.specs.declared.outcomes.StepFault.{StepFault}
-use Rattle.sm_names.specs.Ends.{has_joined, is_shut, parcels}
-use Rattle.sm_names.specs.Handles.{open_of}
-use Rattle.sm_names.specs.Marks.{Entry, Timeline}
-use Rattle.sm_names.specs.declared.tracking.Fired.{Fired}
-use Rattle.sm_names.specs.Reading.{readings}
-use Rattle.sm_names.specs.Sameness.{same_buffer, same_key}
-use Rattle.sm_names.specs.Timelines.{timeline}
-use Rattle.sm_names.proofs.SamenessLaws.{same_buffer-true, both_ways, or_cases, same_key-true}
-use Rattle.forest_store.specs.declared.node.Node.{Node}
-use Rattle.forest_store.specs.Forest.{all_nodes, held_by_page}
-use Rattle.core_state.specs.Reads.{readings_of}
-use Rattle.core_state.specs.Shown.{ShowsBut, recalling}
-use Rattle.core_state.specs.State.{State}
-use Rattle.core_vanish.specs.declared.vanishing.VanishFault.{VanishFault}
-use Rattle.core_vanish.specs.Events.{Collecting, Collects, GetsNothing, IsShut, Lets, Whatever}
-use Rattle.core_vanish.specs.Vanishes.{IsClose, IsCollect, IsDrop, holds_end}
-use Rattle.core_vanish.specs.Vanishing.{AdvancesBy}
-use Rattle.core_vanish.specs.Phases.{HasAmong, HoldsAmong, IsUnshut, Phase, part_fault, waiting_told}
+use Rattle.core_vanish.proofs.Common.{AdvancesBy, All, All-append, All-nil, All-push, Bool, BufferName, Call, Collecting, Collects, Entry}
+use Rattle.core_vanish.proofs.Common.{Err, Fired, GetsNothing, HasAmong, HeldBuffer, HoldsAmong, IfErr, IfOk, IsClose, IsCollect, IsDrop}
+use Rattle.core_vanish.proofs.Common.{IsShut, IsUnshut, Lets, List, Node, NodeKey, Phase, Reply, ShowsBut, State, StepFault, Strength}
+use Rattle.core_vanish.proofs.Common.{Strong, Timeline, VanishFault, Weak, Whatever, [], all_nodes, ap, arith, both_ways, false}
+use Rattle.core_vanish.proofs.Common.{has_joined, held_by_page, holds_end, inl, inr, is_shut, length, length-append, list_any, open_of}
+use Rattle.core_vanish.proofs.Common.{parcels, part_fault, readings, readings_of, recalling, refl, same_buffer, same_key, same_key-true}
+use Rattle.core_vanish.proofs.Common.{subst, sym, timeline, true, ℕ, ◌++◌, ◌+◌, ◌-◌, ◌<◌, ◌||◌, ◌∙◌, ◌∷◌, ◌≡◌, ◌≤◌}
+use Rattle.sm_names.proofs.SamenessLaws.{same_buffer-true, or_cases}
+use Rattle.core_vanish.specs.Phases.{waiting_told}
 use Rattle.core_vanish.proofs.VanishSteps.{close_told, collect_told, drop_told, shut_on, shut_refused, shut_told}
 use Rattle.core_vanish.proofs.PhaseLemmas.{gets_then, lets_none, phase_less, phase_lets, phase_none, phase_one, phase_then}
 use Rattle.core_vanish.proofs.StateReads.{has_among, holds_among, holds_read}

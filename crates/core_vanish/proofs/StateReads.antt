@@ -1,40 +1,25 @@
 -- What a core tells of what a client has is what each history that it shows says.
-use Rattle.std.proofs.Common.{ℕ, ◌≡◌, ◌≤◌, ◌<◌, ◌∙◌, refl, ap, sym, true, false, not, ◌&&◌}
-use Rattle.std.proofs.Common.{◌==◌, inl, inr, List, [], Option, Some, None, is_some, arith}
-use Rattle.std.proofs.lemmas.Bool.{eqb-true}
-use Rattle.std.specs.List.{list_any}
-use Rattle.std.specs.Option.{option_and_then, option_map_or}
-use Rattle.sm_names.specs.declared.keys.BufferName.{BufferName}
-use Rattle.sm_names.specs.declared.keys.HeldBuffer.{HeldBuffer}
-use Rattle.sm_names.specs.declared.keys.NodeKey.{NodeKey}
-use Rattle.sm_names.specs.declared.keys.Strength.{Strength}
-use Rattle.sm_names.specs.declared.keys.Strength.TheVariants.{Strong, Weak}
-use Rattle.sm_names.specs.Answers.{OpenEnd, Readings}
-use Rattle.sm_names.specs.Ends.{has_joined}
-use Rattle.sm_names.specs.Handles.{buffer_names, doomed, home, open_of, open_total}
-use Rattle.sm_names.specs.Marks.{Entry, Timeline}
-use Rattle.sm_names.specs.Reading.{readings}
-use Rattle.sm_names.specs.Sameness.{same_buffer}
-use Rattle.sm_names.specs.Timelines.{held, timeline}
-use Rattle.history_laws.proofs.CountLaws.{client-le-total, counted}
+use Rattle.core_vanish.proofs.Common.{BufferName, Entry, Grows, HasAmong, HasVanished, HeldBuffer, HoldsAmong, In-any, In-list_any, List}
+use Rattle.core_vanish.proofs.Common.{Node, NodeKey, None, OpenEnd, Option, Some, State, Strength, Strong, Timeline, Weak, [], all_nodes}
+use Rattle.core_vanish.proofs.Common.{and_both, and_left, and_right, ap, arith, counted, either_way, eqb-true, false, false_if}
+use Rattle.core_vanish.proofs.Common.{has_joined, held, held_by_page, holds_end, inl, inr, is_some, is_some-find, legal_grows, list_any}
+use Rattle.core_vanish.proofs.Common.{not, open_of, open_total, option_map_or, readings, readings_of, refl, same_buffer}
+use Rattle.core_vanish.proofs.Common.{stranger_has_none, sym, timeline, true, ℕ, ◌&&◌, ◌<◌, ◌==◌, ◌∙◌, ◌≡◌, ◌≤◌}
+use Rattle.std.specs.Option.{option_and_then}
+use Rattle.sm_names.specs.Answers.{Readings}
+use Rattle.sm_names.specs.Handles.{buffer_names, doomed, home}
+use Rattle.history_laws.proofs.CountLaws.{client-le-total}
 use Rattle.history_laws.proofs.DoomLaws.{IsDoomed, doomed_parts}
-use Rattle.history_laws.proofs.GrowthLaws.{Grows, legal_grows}
 use Rattle.history_laws.proofs.HeldLaws.{stands_held}
-use Rattle.sm_names.proofs.ListLaws.{In-list_any, is_some-find, In-any}
-use Rattle.sm_names.proofs.SamenessLaws.{and_both, and_left, and_right, either_way, false_if}
-use Rattle.event_laws.proofs.HandleBufferLaws.{has_named, stranger_has_none}
-use Rattle.forest_store.specs.declared.node.Node.{Node}
-use Rattle.forest_store.specs.Forest.{all_held, all_nodes, held_by_page, node_at}
+use Rattle.event_laws.proofs.HandleBufferLaws.{has_named}
+use Rattle.forest_store.specs.Forest.{all_held, node_at}
 use Rattle.forest_store.specs.Nodes.{is_of}
-use Rattle.core_state.specs.Reads.{open_end_in, readings_of}
+use Rattle.core_state.specs.Reads.{open_end_in}
 use Rattle.core_state.specs.Shown.{Shows}
-use Rattle.core_state.specs.State.{State}
 use Rattle.core_state.proofs.lists.ByNumber.{mixed_sorted}
 use Rattle.core_state.proofs.lists.Reorderings.{In-mixed_back}
 use Rattle.core_state.proofs.views.Held.{mixed_held}
 use Rattle.core_state.proofs.views.Readings.{readings_are}
-use Rattle.core_vanish.specs.Vanishes.{HasVanished, holds_end}
-use Rattle.core_vanish.specs.Phases.{HasAmong, HoldsAmong}
 
 module _ (s : State) (history : List Entry) (shows : Shows s history) (client : ℕ) where
   -- the timeline of the history that the state shows

@@ -1,24 +1,17 @@
 -- What a step makes of a core, as a vanishing needs it.
-use Rattle.std.proofs.Common.{ℕ, ◌≡◌, ◌≤◌, ◌+◌, ◌↔◌, ◌∙◌, refl, ap, sym, subst, true, false}
-use Rattle.std.proofs.Common.{[], ◌∷◌, ◌++◌, Option, None, Result, Ok, Err, arith}
-use Rattle.std.proofs.lemmas.List.{append-nil}
-use Rattle.std.specs.List.{cons_option}
-use Rattle.std.specs.Result.{IfOk, OnErr}
-use Rattle.sm_names.specs.declared.messages.Call.{Call}
-use Rattle.sm_names.specs.declared.messages.Reply.{Reply}
-use Rattle.sm_names.specs.declared.outcomes.StepFault.{StepFault}
-use Rattle.sm_names.specs.Answers.{IsAnswer, makes_tracker}
-use Rattle.sm_names.proofs.SamenessLaws.{both_ways}
+use Rattle.core_vanish.proofs.Common.{AdvancesBy, Call, Err, IfOk, IsAnswer, None, Ok, OnErr, Option, Reply, Result, ShowsBut, State}
+use Rattle.core_vanish.proofs.Common.{StepFault, [], ap, append-nil, arith, both_ways, cons_option, false, readings_of, refl, subst, sym}
+use Rattle.core_vanish.proofs.Common.{true, ℕ, ◌++◌, ◌+◌, ◌∙◌, ◌∷◌, ◌≡◌, ◌≤◌}
+use Rattle.std.proofs.Common.{◌↔◌}
+use Rattle.sm_names.specs.Answers.{makes_tracker}
 use Rattle.core_state.specs.Kinds.{fits_call}
-use Rattle.core_state.specs.Reads.{readings_of}
-use Rattle.core_state.specs.Shown.{ShowsBut}
-use Rattle.core_state.specs.State.{IsSame, State}
+use Rattle.core_state.specs.State.{IsSame}
 use Rattle.core_state.specs.Steps.{Follows}
 use Rattle.core_state.specs.Theorem.{tracker_told}
 use Rattle.core_state.proofs.answers.Kinds.{tracker-made}
 use Rattle.core_state.proofs.theorem.Leads.{makes}
 use Rattle.core_state.proofs.theorem.Recalling.{goes_on_but}
-use Rattle.core_vanish.specs.Vanishing.{AdvancesBy, GoesOnBut, StaysBut}
+use Rattle.core_vanish.specs.Vanishing.{GoesOnBut, StaysBut}
 
 -- a call that makes no tracker is told of none
 no_tracker : (call : Call) (reply : Reply) → makes_tracker call ≡ false → fits_call call reply ≡ true → tracker_told reply ≡ None

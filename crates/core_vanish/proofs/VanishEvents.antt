@@ -1,42 +1,25 @@
 -- One event after a client vanished, and many: the client has nothing still.
-use Rattle.std.proofs.Common.{ℕ, ◌≡◌, ◌≤◌, ◌<◌, ◌+◌, ◌∙◌, refl, ap, sym, subst, Bool, true, false, cond, not, ◌&&◌, ◌||◌, ◌==◌, inl}
-use Rattle.std.proofs.Common.{inr, List, [], ◌∷◌, ◌++◌, length, length-append, append_assoc, Option, Some, None, is_some, arith}
-use Rattle.std.proofs.lemmas.Bool.{eqb-true, eq-eqb, false≢true}
-use Rattle.std.proofs.lemmas.List.{append-nil}
+use Rattle.core_vanish.proofs.Common.{Birth, Bool, Bound, BufferName, Call, Called, Entry, FreeEnd, GoesBy, HasVanished, IsAnswer}
+use Rattle.core_vanish.proofs.Common.{IsLegal, List, NextEvent, NodeKey, None, Option, Parcel, Refusal, Reply, Some, Strength, Timeline}
+use Rattle.core_vanish.proofs.Common.{[], and_left, ap, append-nil, append_assoc, arith, birth_at, births, born_event, both_ways}
+use Rattle.core_vanish.proofs.Common.{collected_at, collected_event, collector_at, cond, cons_option, either_way, entry_mark, eq-eqb}
+use Rattle.core_vanish.proofs.Common.{eqb-true, events, false, false_if, false≢true, gains, given_at, holder, holder_event, holds_end}
+use Rattle.core_vanish.proofs.Common.{idle_event, in_transit, inl, inr, is_shut, is_some, length, length-append, loses, next_event}
+use Rattle.core_vanish.proofs.Common.{none_key, not, one_if, only, open_of, open_of_event, option_map_or, or_first, or_right, parcels}
+use Rattle.core_vanish.proofs.Common.{passed, readings, refl, same_key, same_key-true, shut_event, shuts, spent, spent_event, subst, sym}
+use Rattle.core_vanish.proofs.Common.{timeline, took_effect_all, true, was_born, when-Some, ℕ, ◌&&◌, ◌++◌, ◌+◌, ◌<◌, ◌==◌, ◌||◌, ◌∙◌, ◌∷◌}
+use Rattle.core_vanish.proofs.Common.{◌≡◌, ◌≤◌}
 use Rattle.std.proofs.Math.Bool.{and-true}
-use Rattle.std.specs.List.{cons_option}
-use Rattle.std.specs.Option.{option_map_or}
-use Rattle.sm_names.specs.declared.keys.BufferName.{BufferName}
-use Rattle.sm_names.specs.declared.keys.NodeKey.{NodeKey}
-use Rattle.sm_names.specs.declared.keys.Strength.{Strength}
-use Rattle.sm_names.specs.declared.messages.Call.{Call}
-use Rattle.sm_names.specs.declared.messages.Parcel.{Parcel}
-use Rattle.sm_names.specs.declared.messages.Reply.{Reply}
-use Rattle.sm_names.specs.declared.outcomes.Refusal.{Refusal}
-use Rattle.sm_names.specs.Answers.{IsAnswer}
-use Rattle.sm_names.specs.Births.{Birth, births, birth_at, was_born}
-use Rattle.sm_names.specs.Bounds.{Bound}
-use Rattle.sm_names.specs.Ends.{collector_at, given_at, holder, in_transit, is_shut, parcels, shuts, spends, spent}
-use Rattle.sm_names.specs.Handles.{open_of, opens}
-use Rattle.sm_names.specs.Legality.{IsLegal}
-use Rattle.sm_names.specs.Marks.{Called, Entry, Mark, Timeline, events}
-use Rattle.sm_names.specs.Reading.{readings}
-use Rattle.sm_names.specs.Sameness.{same_key}
-use Rattle.sm_names.specs.Timelines.{timeline}
-use Rattle.history_laws.proofs.AnswerLaws.{took_effect_all}
+use Rattle.sm_names.specs.Ends.{spends}
+use Rattle.sm_names.specs.Handles.{opens}
+use Rattle.sm_names.specs.Marks.{Mark}
 use Rattle.history_laws.proofs.GrowthLaws.{AreAnswers-append}
 use Rattle.history_laws.proofs.HandleLaws.{dup_was_open}
-use Rattle.sm_names.proofs.ListLaws.{when-Some, when-None}
-use Rattle.sm_names.proofs.SamenessLaws.{and_left, both_ways, either_way, false_if, none_or_some}
-use Rattle.sm_names.proofs.SamenessLaws.{or_first, or_none_left, or_none_right, or_right, same_key-true}
-use Rattle.history_laws.proofs.TakeLaws.{none_key}
-use Rattle.event_laws.specs.ByEvent.{GoesBy, collected_at, delivers, gains, loses, entry_mark, one_if, only, sends}
-use Rattle.event_laws.proofs.EndEventLaws.{born_event, holder_event, spent_event, transit_event}
-use Rattle.event_laws.proofs.FreeEndLaws.{FreeEnd, free_end, passed}
-use Rattle.event_laws.proofs.HandLaws.{NextEvent, next_event}
-use Rattle.event_laws.proofs.HandleEventLaws.{open_of_event}
-use Rattle.event_laws.proofs.ParcelEventLaws.{collected_event, idle_event, shut_event}
-use Rattle.core_vanish.specs.Vanishes.{HasVanished, holds_end}
+use Rattle.sm_names.proofs.ListLaws.{when-None}
+use Rattle.sm_names.proofs.SamenessLaws.{none_or_some, or_none_left, or_none_right}
+use Rattle.event_laws.specs.ByEvent.{delivers, sends}
+use Rattle.event_laws.proofs.EndEventLaws.{transit_event}
+use Rattle.event_laws.proofs.FreeEndLaws.{free_end}
 use Rattle.core_vanish.proofs.HeldEnds.{free_holds, holds_free}
 
 -- ---- a client that gets something is not shut, or has an end, a handle or a parcel

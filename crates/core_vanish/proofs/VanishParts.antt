@@ -1,31 +1,15 @@
 -- The phases of a vanishing make a vanishing.
-use Rattle.std.proofs.Common.{ℕ, zero, suc, ◌≡◌, ◌≤◌, ◌<◌, ◌+◌, ◌-◌, ◌∙◌, refl, ap, sym, subst, Bool, true, false}
-use Rattle.std.proofs.Common.{cond, List, [], ◌∷◌, ◌++◌, length, length-append, append_assoc, Some, None, arith}
-use Rattle.std.proofs.lemmas.Bool.{eq-eqb}
-use Rattle.std.proofs.lemmas.List.{append-nil}
-use Rattle.std.proofs.lemmas.List.Elements.{All-append, All-nil, All-push}
-use Rattle.std.specs.List.{All}
-use Rattle.sm_names.specs.declared.keys.BufferName.{BufferName}
-use Rattle.sm_names.specs.declared.keys.NodeKey.{NodeKey}
-use Rattle.sm_names.specs.declared.keys.Strength.{Strength}
-use Rattle.sm_names.specs.declared.messages.Call.{Call}
-use Rattle.sm_names.specs.declared.messages.Parcel.{Parcel}
-use Rattle.sm_names.specs.declared.messages.Reply.{Reply}
-use Rattle.sm_names.specs.declared.outcomes.StepFault.{StepFault}
-use Rattle.sm_names.specs.Ends.{has_joined, parcels}
-use Rattle.sm_names.specs.Handles.{open_of}
-use Rattle.sm_names.specs.Marks.{Entry, Timeline}
-use Rattle.sm_names.specs.declared.tracking.Fired.{Fired}
-use Rattle.sm_names.specs.Reading.{readings}
-use Rattle.sm_names.specs.Timelines.{timeline}
-use Rattle.sm_names.proofs.SamenessLaws.{false_if}
-use Rattle.core_state.specs.Shown.{ShowsBut, recalling}
-use Rattle.core_state.specs.State.{State}
-use Rattle.core_vanish.specs.declared.vanishing.VanishFault.{VanishFault}
-use Rattle.core_vanish.specs.Events.{Collecting, Collects, Gathered, GetsNothing, GivesUpAll, IsRest, IsShut, Leaving, Lets, Whatever}
-use Rattle.core_vanish.specs.Vanishes.{HasVanished, IsClose, IsCollect, IsDrop, IsVanish, holds_end}
-use Rattle.core_vanish.specs.Vanishing.{Vanishes, IsBegun, VanishStops}
-use Rattle.core_vanish.specs.Phases.{HasAmong, HasLeft, HoldsAmong, IsUnshut, Phase, part_fault}
+use Rattle.core_vanish.proofs.Common.{All, All-append, All-nil, All-push, Bool, BufferName, Call, Collecting, Collects, Entry, Fired}
+use Rattle.core_vanish.proofs.Common.{Gathered, GetsNothing, HasAmong, HasLeft, HasVanished, HoldsAmong, IsBegun, IsClose, IsCollect}
+use Rattle.core_vanish.proofs.Common.{IsDrop, IsShut, IsUnshut, Leaving, Lets, List, NodeKey, None, Parcel, Phase, Reply, ShowsBut, Some}
+use Rattle.core_vanish.proofs.Common.{State, StepFault, Strength, Timeline, VanishFault, Whatever, [], ap, append-nil, append_assoc}
+use Rattle.core_vanish.proofs.Common.{arith, cond, eq-eqb, false, false_if, has_joined, holds_end, length, length-append, open_of}
+use Rattle.core_vanish.proofs.Common.{parcels, part_fault, readings, recalling, refl, subst, sym, timeline, true, ℕ, ◌++◌, ◌+◌, ◌-◌, ◌<◌}
+use Rattle.core_vanish.proofs.Common.{◌∙◌, ◌∷◌, ◌≡◌, ◌≤◌}
+use Rattle.std.proofs.Common.{zero, suc}
+use Rattle.core_vanish.specs.Events.{GivesUpAll, IsRest}
+use Rattle.core_vanish.specs.Vanishes.{IsVanish}
+use Rattle.core_vanish.specs.Vanishing.{Vanishes, VanishStops}
 use Rattle.core_vanish.proofs.PhaseLemmas.{gets_then, phase_less, phase_then}
 use Rattle.core_vanish.proofs.StateReads.{as_read}
 

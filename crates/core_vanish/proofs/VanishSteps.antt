@@ -1,39 +1,18 @@
 -- The events of a vanishing, one by one: how each is answered, and what it makes of what the client has.
-use Rattle.std.proofs.Common.{ℕ, ◌≡◌, ◌+◌, ◌∙◌, refl, ap, sym, subst, Bool, true, false, cond, ◌&&◌}
-use Rattle.std.proofs.Common.{◌==◌, ◌⊎◌, inl, inr, List, [], ◌∷◌, ◌++◌, length, Some, None, arith}
-use Rattle.std.proofs.lemmas.Bool.{eq-eqb}
-use Rattle.std.proofs.lemmas.List.Elements.{All-nil, All-push}
-use Rattle.std.specs.List.{list_any}
-use Rattle.sm_names.specs.declared.keys.BufferName.{BufferName}
-use Rattle.sm_names.specs.declared.keys.NodeKey.{NodeKey}
-use Rattle.sm_names.specs.declared.keys.Strength.{Strength}
-use Rattle.sm_names.specs.declared.keys.Strength.TheVariants.{Strong, Weak}
-use Rattle.sm_names.specs.declared.messages.Call.{Call}
-use Rattle.sm_names.specs.declared.messages.Parcel.{Parcel}
-use Rattle.sm_names.specs.declared.messages.Reply.{Reply}
-use Rattle.sm_names.specs.declared.outcomes.Refusal.{Refusal}
-use Rattle.sm_names.specs.Answers.{IsAnswer, OpenEnd}
-use Rattle.sm_names.specs.Births.{Birth, births, birth_at, birth_of}
-use Rattle.sm_names.specs.Bounds.{Bound}
-use Rattle.sm_names.specs.Ends.{given_at, has_joined, holder, in_transit, is_end_of, is_shut, parcels, shuts, spent}
-use Rattle.sm_names.specs.Handles.{open_of}
-use Rattle.sm_names.specs.Legality.{IsLegal}
-use Rattle.sm_names.specs.Marks.{Called, Entry, Timeline, events}
-use Rattle.sm_names.specs.Reading.{open_end, readings}
-use Rattle.sm_names.specs.Sameness.{same_buffer, same_key, same_strength}
-use Rattle.sm_names.specs.Timelines.{timeline}
-use Rattle.history_laws.proofs.BirthLaws.{birth_is}
-use Rattle.sm_names.proofs.ListLaws.{is_some-find}
-use Rattle.sm_names.proofs.SamenessLaws.{either_way, or_left, or_right, same_key-refl, some_is}
-use Rattle.event_laws.specs.ByEvent.{GoesBy, collected_at, gains, loses, entry_mark, one_if, only}
-use Rattle.event_laws.proofs.EndEventLaws.{in_transit_born, in_transit_unspent, spent_event, waits_in_transit}
-use Rattle.event_laws.proofs.FreeEndLaws.{FreeEnd}
-use Rattle.event_laws.proofs.HandLaws.{NextEvent, next_event}
-use Rattle.event_laws.proofs.HandleBufferLaws.{still_joined}
-use Rattle.event_laws.proofs.HandleEventLaws.{open_of_event}
-use Rattle.event_laws.proofs.ParcelEventLaws.{collected_event, idle_event, shut_event}
-use Rattle.core_vanish.specs.Events.{GetsNothing, IsShut, Lets, LetsGo}
-use Rattle.core_vanish.specs.Vanishes.{IsClose, IsCollect, IsDrop, holds_end}
+use Rattle.core_vanish.proofs.Common.{All-nil, All-push, Birth, Bool, Bound, BufferName, Call, Called, Entry, FreeEnd, GetsNothing}
+use Rattle.core_vanish.proofs.Common.{GoesBy, IsAnswer, IsClose, IsCollect, IsDrop, IsLegal, IsShut, Lets, List, NextEvent, NodeKey, None}
+use Rattle.core_vanish.proofs.Common.{OpenEnd, Parcel, Refusal, Reply, Some, Strength, Strong, Timeline, Weak, [], ap, arith, birth_at}
+use Rattle.core_vanish.proofs.Common.{birth_is, birth_of, births, collected_at, collected_event, cond, either_way, entry_mark, eq-eqb}
+use Rattle.core_vanish.proofs.Common.{events, false, gains, given_at, has_joined, holder, holds_end, idle_event, in_transit, inl, inr}
+use Rattle.core_vanish.proofs.Common.{is_end_of, is_shut, is_some-find, length, list_any, loses, next_event, one_if, only, open_end}
+use Rattle.core_vanish.proofs.Common.{open_of, open_of_event, or_right, parcels, readings, refl, same_buffer, same_key, shut_event, shuts}
+use Rattle.core_vanish.proofs.Common.{some_is, spent, spent_event, still_joined, subst, sym, timeline, true, ℕ, ◌&&◌, ◌++◌, ◌+◌, ◌==◌}
+use Rattle.core_vanish.proofs.Common.{◌∙◌, ◌∷◌, ◌≡◌}
+use Rattle.std.proofs.Common.{◌⊎◌}
+use Rattle.sm_names.specs.Sameness.{same_strength}
+use Rattle.sm_names.proofs.SamenessLaws.{or_left, same_key-refl}
+use Rattle.event_laws.proofs.EndEventLaws.{in_transit_born, in_transit_unspent, waits_in_transit}
+use Rattle.core_vanish.specs.Events.{LetsGo}
 use Rattle.core_vanish.proofs.VanishEvents.{held_before}
 use Rattle.core_vanish.proofs.HeldEnds.{free_holds, holds_free}
 

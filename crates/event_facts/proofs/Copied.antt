@@ -1,11 +1,10 @@
 -- The collection that a call changes, copied before it.
-use Rattle.std.proofs.Common.{ℕ, ◌≡◌, refl, ap, sym, ◌∙◌, subst, true, false, List, []}
-use Rattle.std.proofs.Common.{Option, Some, None, option_map, Result, Ok, Err, IfOk, IfSome}
+use Rattle.event_facts.proofs.Common.{Collection, IsSound, IsStart, List, Node, NodeKey, None, Option, Some, Start, Work, [], ap, changed}
+use Rattle.event_facts.proofs.Common.{collection_of, false, is_of, leaves_tracker_room, list_any, option_map, option_map_or, refl, subst}
+use Rattle.event_facts.proofs.Common.{sym, total, unwrap_or, work_of, ℕ, ◌∙◌, ◌≡◌}
+use Rattle.std.proofs.Common.{true, Result, Ok, Err, IfOk, IfSome}
 use Rattle.std.specs.Result.{result_ok}
-use Rattle.std.specs.List.{list_any}
-use Rattle.std.specs.Option.{option_map_or, unwrap_or}
 use Rattle.sm_names.specs.declared.keys.Interval.{Interval}
-use Rattle.sm_names.specs.declared.keys.NodeKey.{NodeKey}
 use Rattle.sm_names.specs.declared.messages.Call.{Call}
 use Rattle.sm_names.specs.declared.messages.Reply.{Reply}
 use Rattle.sm_names.specs.declared.outcomes.Cause.{Cause}
@@ -13,23 +12,17 @@ use Rattle.sm_names.specs.Answers.{IsAnswer, new_key}
 use Rattle.sm_names.specs.Bounds.{Bound}
 use Rattle.sm_names.specs.Timelines.{key_of}
 use Rattle.sm_names.proofs.SamenessLaws.{both_ways, some-injective, and_then-Some, map-Some}
-use Rattle.buffer_holds.specs.Counts.{total}
 use Rattle.forest_store.specs.declared.change.Change.{Change}
 use Rattle.forest_store.specs.declared.change.Effect.{Effect}
-use Rattle.forest_store.specs.declared.node.Node.{Node}
-use Rattle.forest_store.specs.Forest.{Collection, beside, collection_at, given, node_at}
-use Rattle.forest_store.specs.Nodes.{is_of}
-use Rattle.forest_store.specs.Scenes.{IsSound}
-use Rattle.forest_store.specs.Settling.{Handles, changed, collection_or_new, is_birth, no_key}
-use Rattle.forest_store.specs.Snapshots.{collection_of}
+use Rattle.forest_store.specs.Forest.{beside, collection_at, given, node_at}
+use Rattle.forest_store.specs.Settling.{Handles, collection_or_new, is_birth, no_key}
 use Rattle.core_state.specs.Reads.{readings_of}
 use Rattle.core_state.specs.State.{State}
-use Rattle.core_state.specs.Steps.{Follows, Work, at_collection, at_node, leaves_tracker_room, work_of}
+use Rattle.core_state.specs.Steps.{Follows, at_collection, at_node}
 use Rattle.core_state.proofs.forced.Dropping.{took_last}
 use Rattle.core_state.proofs.forced.Losing.{losing, no_work}
-use Rattle.event_facts.specs.declared.marked_steps.Start.{Start}
 use Rattle.forced_marks.specs.Marks.{SettlesInStages, Stage, StagesIn, StagesOf, own_stage}
-use Rattle.event_facts.specs.Walks.{IsCopied, IsStart}
+use Rattle.event_facts.specs.Walks.{IsCopied}
 use Rattle.forced_marks.proofs.Sound.{changed_sound}
 use Rattle.forced_marks.proofs.Unforced.{unforced}
 

@@ -1,15 +1,9 @@
 -- A unit that was given its buffers stays so.
-use Rattle.std.proofs.Common.{ℕ, ◌≡◌, ◌+◌, ap, ◌∙◌, true, ◌∷◌}
-use Rattle.std.specs.List.{list_any}
-use Rattle.sm_names.specs.declared.keys.NodeKey.{NodeKey}
-use Rattle.sm_names.specs.Births.{births, birth_at, head, was_born}
-use Rattle.sm_names.specs.Bounds.{Bound}
-use Rattle.sm_names.specs.Losses.{allocated, is_allocation}
-use Rattle.sm_names.specs.Marks.{Timeline, Called, events}
-use Rattle.sm_names.specs.Sameness.{same_key}
-use Rattle.history_laws.proofs.BirthLaws.{comes, head_old}
-use Rattle.history_laws.proofs.GrowthLaws.{Grows, Stays, Answers, Loses, Allocates, Ends}
-use Rattle.sm_names.proofs.SamenessLaws.{or_right}
+use Rattle.event_laws.proofs.Common.{Allocates, Answers, Bound, Called, Ends, Grows, Loses, NodeKey, Stays, Timeline, allocated, ap}
+use Rattle.event_laws.proofs.Common.{birth_at, births, comes, events, list_any, or_right, same_key, true, was_born, ℕ, ◌+◌, ◌∙◌, ◌∷◌, ◌≡◌}
+use Rattle.sm_names.specs.Births.{head}
+use Rattle.sm_names.specs.Losses.{is_allocation}
+use Rattle.history_laws.proofs.BirthLaws.{head_old}
 use Rattle.history_laws.proofs.LifeLaws.{born_old}
 
 module _ (pool : ℕ) (limits : Bound) (start : Timeline) (node : NodeKey) where

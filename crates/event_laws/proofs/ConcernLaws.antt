@@ -1,36 +1,15 @@
 -- Which collection a tracker concerns: events of others do not fire it.
-use Rattle.std.proofs.Common.{ℕ, ◌≡◌, ◌+◌, refl, ap, sym, ◌∙◌, subst, true, false, ◌==◌, inl, inr, List, [], ◌∷◌, Option, Some, None}
-use Rattle.std.proofs.lemmas.Bool.{eq-eqb}
-use Rattle.std.specs.List.{list_any, cons_option}
-use Rattle.std.specs.Option.{option_map, option_map_or}
-use Rattle.sm_names.specs.declared.keys.NodeKey.{NodeKey}
-use Rattle.sm_names.specs.declared.messages.Call.{Call}
-use Rattle.sm_names.specs.declared.messages.Reply.{Reply}
-use Rattle.sm_names.specs.declared.tracking.Condition.{Condition}
-use Rattle.sm_names.specs.Answers.{IsAnswer}
-use Rattle.sm_names.specs.Births.{Birth, births, birth_at, birth_of, collection_in, was_born}
-use Rattle.sm_names.specs.Bounds.{Bound}
-use Rattle.sm_names.specs.Isolation.{IsOf, collection_at}
-use Rattle.sm_names.specs.Marks.{Entry, Mark, Timeline, Called, events, is_event}
-use Rattle.sm_names.specs.Reading.{readings}
-use Rattle.sm_names.specs.Sameness.{same_key}
-use Rattle.sm_names.specs.Timelines.{after}
-use Rattle.sm_names.specs.Trackers.{Tracked, tracked, tracked_at, collection_of_node, fired_at, world}
-use Rattle.event_laws.specs.Waiting.{unfired_trackers, tracker_made, trackers_to_test, is_tracked_met}
-use Rattle.sm_names.specs.Words.{first_some}
-use Rattle.history_laws.proofs.AnswerLaws.{took_effect_all}
+use Rattle.event_laws.proofs.Common.{Birth, Bound, Call, Called, Condition, Entry, Grows, In, In-any, In-append, In_new, In_old, IsAnswer}
+use Rattle.event_laws.proofs.Common.{IsOf, List, Mark, Named, NodeKey, None, Option, Reply, Some, Timeline, Tracked, [], after, ap}
+use Rattle.event_laws.proofs.Common.{birth_at, birth_of, birth_was_born, births, collection_at, collection_in, collection_of_node, comes}
+use Rattle.event_laws.proofs.Common.{cons_option, eq-eqb, events, false, fired_at, first_some, inl, inr, is_event, is_tracked_met}
+use Rattle.event_laws.proofs.Common.{kept-after, kept-grown, list_any, map-Some, named, none_key, option_map, option_map_or, other_key}
+use Rattle.event_laws.proofs.Common.{readings, refl, same_key, subst, sym, took_effect_all, tracked, tracked_at, tracker_made}
+use Rattle.event_laws.proofs.Common.{trackers_to_test, true, unfired_trackers, was_born, world, ℕ, ◌+◌, ◌==◌, ◌∙◌, ◌∷◌, ◌≡◌}
 use Rattle.history_laws.proofs.ApartLaws.{as_before}
-use Rattle.history_laws.proofs.BirthLaws.{Named, named, birth_was_born, comes}
 use Rattle.event_laws.proofs.FiringLaws.{not_due}
-use Rattle.history_laws.proofs.GrowthLaws.{Grows, kept-grown}
-use Rattle.history_laws.proofs.KeptLaws.{kept-after}
-use Rattle.history_laws.proofs.LifeLaws.{In_new, In_old}
-use Rattle.sm_names.proofs.ListLaws.{In, In-append, In-any}
 use Rattle.event_laws.proofs.MomentLaws.{only_events, tracked_after}
-use Rattle.history_laws.proofs.ReachLaws.{other_key}
-use Rattle.sm_names.proofs.SamenessLaws.{map-Some}
 use Rattle.history_laws.proofs.SettledLaws.{same_births}
-use Rattle.history_laws.proofs.TakeLaws.{none_key}
 use Rattle.event_laws.proofs.WaitingLaws.{In-waiting}
 
 -- the event that attaches a tracker is of the collection that it concerns

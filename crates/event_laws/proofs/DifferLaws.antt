@@ -1,6 +1,5 @@
 -- Lists that begin alike.
-use Rattle.std.proofs.Common.{ℕ, ◌≡◌, ◌∙◌, refl, sym, ap, List, [], ◌∷◌, ◌++◌, append_assoc, length, arith}
-use Rattle.event_laws.specs.declared.own.Own.{Own}
+use Rattle.event_laws.proofs.Common.{List, Own, [], ap, append_assoc, arith, length, refl, sym, ℕ, ◌++◌, ◌∙◌, ◌∷◌, ◌≡◌}
 use Rattle.event_laws.specs.Parts.{BeginApart, DifferAt}
 
 -- both lists begin with the same, and go on with these

@@ -1,32 +1,18 @@
 -- What one event does to ends: whether they are spent or in a parcel, and their holders.
-use Rattle.std.proofs.Common.{ℕ, ◌≡◌, ◌+◌, refl, ap, sym, ◌∙◌, Bool, true, false, cond, not, ◌||◌}
-use Rattle.std.proofs.Common.{◌&&◌, ◌==◌, inl, inr, List, [], ◌∷◌, ◌++◌, Option, Some, None}
-use Rattle.std.specs.List.{list_any, sum_by, find, cons_option}
-use Rattle.std.specs.Option.{option_map_or}
+use Rattle.event_laws.proofs.Common.{Birth, Bool, Bound, Call, Called, Entry, Grows, IsAnswer, IsDrawn, IsLegal, List, NodeKey, None}
+use Rattle.event_laws.proofs.Common.{Option, Reply, Some, Timeline, [], and_right, any_one, ap, binds, birth_at, birth_of, births}
+use Rattle.event_laws.proofs.Common.{both_ways, clients, collector, collector_at, comes, cond, cons_option, delivers, either_way}
+use Rattle.event_laws.proofs.Common.{entry_mark, events, false, holder, in_transit, inl, inr, is_end_of, list_any, not, one_if}
+use Rattle.event_laws.proofs.Common.{option_map_or, or_both, other_key, parcels, readings, refl, same_key, same_key-refl, sends, spends}
+use Rattle.event_laws.proofs.Common.{spent, sum_by, sum_by-same, sum_once, sym, timeline, times, true, was_born, ℕ, ◌&&◌, ◌++◌, ◌+◌, ◌==◌}
+use Rattle.event_laws.proofs.Common.{◌||◌, ◌∙◌, ◌∷◌, ◌≡◌}
+use Rattle.std.specs.List.{find}
 use Rattle.sm_names.specs.declared.keys.Kind.{Kind}
-use Rattle.sm_names.specs.declared.keys.NodeKey.{NodeKey}
-use Rattle.sm_names.specs.declared.messages.Call.{Call}
-use Rattle.sm_names.specs.declared.messages.Reply.{Reply}
-use Rattle.sm_names.specs.Answers.{IsAnswer}
-use Rattle.sm_names.specs.Births.{Birth, births, birth_at, birth_of, was_born}
-use Rattle.sm_names.specs.Bounds.{Bound}
-use Rattle.event_laws.specs.ByEvent.{entry_mark, one_if, sends, delivers}
-use Rattle.sm_names.specs.Ends.{clients, spent, spends, binds, kind, parcels, is_end_of, in_transit, collector_at, collector, holder}
-use Rattle.sm_names.specs.Legality.{IsLegal}
-use Rattle.sm_names.specs.Marks.{Entry, Timeline, Called, events}
-use Rattle.sm_names.specs.Reading.{readings}
-use Rattle.sm_names.specs.Sameness.{same_key}
-use Rattle.sm_names.specs.Timelines.{timeline}
-use Rattle.sm_names.specs.Words.{times}
-use Rattle.history_laws.proofs.BirthLaws.{Comes, comes}
+use Rattle.sm_names.specs.Ends.{kind}
+use Rattle.history_laws.proofs.BirthLaws.{Comes}
 use Rattle.history_laws.proofs.CountLaws.{counted}
 use Rattle.event_laws.proofs.FreeEndLaws.{FreeEnd, sends_free, spends_free}
-use Rattle.history_laws.proofs.GrowthLaws.{Grows}
 use Rattle.event_laws.proofs.HandLaws.{NextEvent, next_event}
-use Rattle.history_laws.proofs.ParcelLaws.{IsDrawn}
-use Rattle.history_laws.proofs.ReachLaws.{other_key}
-use Rattle.sm_names.proofs.SamenessLaws.{either_way, and_right, both_ways, or_both, same_key-refl}
-use Rattle.history_laws.proofs.SumLaws.{any_one, sum_by-same, sum_once}
 use Rattle.event_laws.proofs.TransitLaws.{EndAt, end_at, transit_mark, delivers_waited, unborn_idle}
 
 -- ---- the holder of an end

@@ -1,23 +1,12 @@
 -- When a tracker fires, as one more event comes.
-use Rattle.std.proofs.Common.{ℕ, ◌≡◌, ◌≤◌, ◌+◌, refl, ap, sym, ◌∙◌, Bool, true, false, cond, not}
-use Rattle.std.proofs.Common.{◌&&◌, ◌==◌, List, [], ◌∷◌, Option, Some, None, is_none, arith}
-use Rattle.std.proofs.lemmas.Bool.{eqb-true, eq-eqb}
-use Rattle.std.specs.List.{list_any}
-use Rattle.std.specs.Option.{option_map, option_map_or}
-use Rattle.sm_names.specs.Answers.{IsAnswer}
-use Rattle.sm_names.specs.Bounds.{Bound}
-use Rattle.sm_names.specs.Marks.{Entry, Timeline, Called, events}
-use Rattle.sm_names.specs.Reading.{readings}
-use Rattle.sm_names.specs.Timelines.{after}
-use Rattle.sm_names.specs.Trackers.{Tracked, tracked, tracked_at, earlier_moments, moments, fires_at, fired_at, holds, world}
-use Rattle.event_laws.specs.Waiting.{is_tracked_met}
-use Rattle.sm_names.specs.Words.{last_match}
-use Rattle.history_laws.proofs.GoneLaws.{earlier_after}
-use Rattle.history_laws.proofs.GrowthLaws.{Grows}
-use Rattle.sm_names.proofs.ListLaws.{In, In-list_any, In-any}
+use Rattle.event_laws.proofs.Common.{Bool, Bound, Called, Entry, Grows, In, In-any, In-list_any, IsAnswer, List, None, Option, Some}
+use Rattle.event_laws.proofs.Common.{Timeline, Tracked, [], after, and_left, ap, arith, cond, earlier_after, earlier_moments, eq-eqb}
+use Rattle.event_laws.proofs.Common.{eqb-true, events, false, false_if, fired_at, holds, is_none, is_tracked_met, last_match, list_any}
+use Rattle.event_laws.proofs.Common.{moments, not, option_map, option_map_or, readings, refl, sym, tracked, tracked_at, true, world, ℕ}
+use Rattle.event_laws.proofs.Common.{◌&&◌, ◌+◌, ◌==◌, ◌∙◌, ◌∷◌, ◌≡◌, ◌≤◌}
+use Rattle.sm_names.specs.Trackers.{fires_at}
 use Rattle.event_laws.proofs.MomentLaws.{moment_earlier, last_match-kept, events_after}
 use Rattle.event_laws.proofs.NumberLaws.{numbered, made_id}
-use Rattle.sm_names.proofs.SamenessLaws.{and_left, false_if}
 use Rattle.history_laws.proofs.FiredLaws.{fired_early}
 
 -- ---- after any marks

@@ -1,23 +1,13 @@
 -- An end on which a call is not refused is there, is in no parcel, and is the caller's.
-use Rattle.std.proofs.Common.{ℕ, ◌≡◌, refl, ap, subst, Bool, true, false, not, ◌&&◌, ◌==◌, List, ◌∷◌, Option, Some, None}
-use Rattle.std.proofs.lemmas.Bool.{eqb-true, false≢true}
-use Rattle.std.specs.Option.{option_map_or}
-use Rattle.sm_names.specs.declared.keys.NodeKey.{NodeKey}
-use Rattle.sm_names.specs.declared.messages.Call.{Call}
-use Rattle.sm_names.specs.declared.messages.Reply.{Reply}
-use Rattle.sm_names.specs.declared.outcomes.Refusal.{Refusal}
-use Rattle.sm_names.specs.Answers.{Readings, IsAnswer, effect, new_key, closing, no_end, refused_if, unknown_client}
-use Rattle.sm_names.specs.Answers.{shut_client, end_in_transit, peer_closed, wrong_kind, misuse, no_handle, limits_met}
-use Rattle.sm_names.specs.Births.{births, was_born}
-use Rattle.sm_names.specs.Bounds.{Bound}
-use Rattle.event_laws.specs.ByEvent.{sends}
-use Rattle.sm_names.specs.Ends.{spent, spends, binds, in_transit, holder}
-use Rattle.sm_names.specs.Marks.{Timeline, Called}
-use Rattle.sm_names.specs.Reading.{readings}
+use Rattle.event_laws.proofs.Common.{Bool, Bound, Call, Called, IsAnswer, List, NodeKey, None, Option, Refusal, Reply, Some, Timeline, ap}
+use Rattle.event_laws.proofs.Common.{binds, birth_was_born, births, eqb-true, false, false≢true, holder, in_transit, not, option_map_or}
+use Rattle.event_laws.proofs.Common.{readings, refl, refused_if, same_key-true, sends, spends, spent, subst, true, was_born, ℕ, ◌&&◌}
+use Rattle.event_laws.proofs.Common.{◌==◌, ◌∷◌, ◌≡◌}
+use Rattle.sm_names.specs.Answers.{Readings, effect, new_key, closing, no_end, unknown_client, shut_client, end_in_transit, peer_closed}
+use Rattle.sm_names.specs.Answers.{wrong_kind, misuse, no_handle, limits_met}
 use Rattle.sm_names.specs.Timelines.{key_of}
-use Rattle.history_laws.proofs.BirthLaws.{HasEnd, has_end, birth_is, birth_was_born}
+use Rattle.history_laws.proofs.BirthLaws.{HasEnd, has_end, birth_is}
 use Rattle.history_laws.proofs.RejectLaws.{is_refusal, strip, unknown_rejects, shut_rejects, no_end_rejects, in_transit_rejects}
-use Rattle.sm_names.proofs.SamenessLaws.{same_key-true}
 
 -- the end is there, not spent, in no parcel, and the client holds it
 pub record FreeEnd (marks : Timeline) (client : ℕ) (key : NodeKey) : Type 0 where

@@ -1,15 +1,8 @@
 -- Marks that are no event leave handles, parcels, ends and clients as they are.
-use Rattle.std.proofs.Common.{ℕ, ◌≡◌, ◌∙◌, refl, subst, sym, false, List, [], ◌∷◌, ◌++◌}
-use Rattle.sm_names.specs.Answers.{IsAnswer}
-use Rattle.sm_names.specs.Bounds.{Bound}
-use Rattle.event_laws.specs.ByEvent.{SameHands, entry_mark}
-use Rattle.sm_names.specs.Legality.{IsLegal}
-use Rattle.sm_names.specs.Marks.{Entry, Mark, Timeline, Called, Loss, Allocated, Ended, is_event}
-use Rattle.sm_names.specs.Reading.{readings}
-use Rattle.sm_names.specs.Timelines.{after, timeline}
-use Rattle.history_laws.proofs.GrowthLaws.{Grows, Stays, grows_history}
-use Rattle.history_laws.proofs.HistoryLaws.{AreAnswers-last, timeline-push}
-use Rattle.history_laws.proofs.KeptLaws.{kept-after}
+use Rattle.event_laws.proofs.Common.{Allocated, AreAnswers-last, Bound, Called, Ended, Entry, Grows, IsAnswer, IsLegal, List, Loss, Mark}
+use Rattle.event_laws.proofs.Common.{SameHands, Stays, Timeline, [], after, entry_mark, false, is_event, kept-after, readings, refl}
+use Rattle.event_laws.proofs.Common.{subst, sym, timeline, timeline-push, ℕ, ◌++◌, ◌∙◌, ◌∷◌, ◌≡◌}
+use Rattle.history_laws.proofs.GrowthLaws.{grows_history}
 
 -- such a mark leaves them
 pub same_handle_moves : (marks : Timeline) (mark : Mark) → is_event mark ≡ false → SameHands marks (mark ∷ marks)

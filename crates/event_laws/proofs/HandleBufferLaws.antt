@@ -1,31 +1,16 @@
 -- Handles are on buffers of allocated collections, and clients have them.
-use Rattle.std.proofs.Common.{ℕ, ◌≡◌, ◌≤◌, ◌<◌, ◌-◌, refl, ap, sym, ◌∙◌, subst, Bool, true, false}
-use Rattle.std.proofs.Common.{◌||◌, ◌&&◌, ◌==◌, inl, inr, [], ◌∷◌, Option, Some, None, arith}
-use Rattle.std.proofs.lemmas.Bool.{eqb-true, false≢true}
-use Rattle.std.specs.List.{list_any, cons_option}
-use Rattle.std.specs.Option.{option_map_or}
-use Rattle.sm_names.specs.declared.keys.BufferName.{BufferName}
-use Rattle.sm_names.specs.declared.keys.Strength.{Strength}
-use Rattle.sm_names.specs.declared.messages.Call.{Call}
-use Rattle.sm_names.specs.declared.messages.Reply.{Reply}
-use Rattle.sm_names.specs.declared.outcomes.Buffers.{Buffers}
-use Rattle.sm_names.specs.Answers.{IsAnswer}
-use Rattle.sm_names.specs.Bounds.{Bound}
-use Rattle.event_laws.specs.ByEvent.{anyone, only, gains, loses, one_if, GoesBy}
-use Rattle.sm_names.specs.Ends.{clients, joined_at, has_joined}
-use Rattle.sm_names.specs.Handles.{opens, open_of, open_total, moving, buffers_of, buffer_names, names}
-use Rattle.sm_names.specs.Marks.{Mark, Timeline, Called, Allocated}
-use Rattle.sm_names.specs.Reading.{readings}
-use Rattle.sm_names.specs.Sameness.{same_buffer, same_strength}
-use Rattle.sm_names.specs.Words.{times}
-use Rattle.history_laws.proofs.CountLaws.{counted, caller_joined, client-le-total, total_is}
-use Rattle.history_laws.proofs.GrowthLaws.{Grows, Stays, Answers, Loses, Allocates, Ends}
+use Rattle.event_laws.proofs.Common.{Allocated, Allocates, Answers, Bool, Bound, BufferName, Buffers, Call, Called, Ends, GoesBy, Grows}
+use Rattle.event_laws.proofs.Common.{IsAnswer, Loses, Mark, None, Option, Reply, Some, Stays, Strength, Timeline, [], and_left, and_right}
+use Rattle.event_laws.proofs.Common.{anyone, ap, arith, both_ways, buffer_names, buffers_of, client-le-total, clients, cons_option}
+use Rattle.event_laws.proofs.Common.{either_way, eqb-true, false, false_if, false≢true, forced_why, has_joined, inl, inr, joined_at}
+use Rattle.event_laws.proofs.Common.{list_any, loses, moving, names, one_if, only, open_of, open_total, opens, option_map_or, or_right}
+use Rattle.event_laws.proofs.Common.{readings, refl, same_buffer, same_buffer-true, same_strength, same_strength-true, subst, sym, times}
+use Rattle.event_laws.proofs.Common.{true, ℕ, ◌&&◌, ◌-◌, ◌<◌, ◌==◌, ◌||◌, ◌∙◌, ◌∷◌, ◌≡◌, ◌≤◌}
+use Rattle.event_laws.specs.ByEvent.{gains}
+use Rattle.history_laws.proofs.CountLaws.{counted, caller_joined, total_is}
 use Rattle.event_laws.proofs.HandleEventLaws.{open_of_mark}
-use Rattle.sm_names.proofs.SamenessLaws.{same_buffer-true, same_strength-true, either_way}
-use Rattle.sm_names.proofs.SamenessLaws.{and_left, and_right, both_ways, or_right, false_if}
 use Rattle.history_laws.proofs.HandleLaws.{dup_was_open}
 use Rattle.history_laws.proofs.HeldLaws.{Lays, Nothing_new, New, allocation_lays}
-use Rattle.history_laws.proofs.SettledLaws.{forced_why}
 use Rattle.history_laws.proofs.TakeLaws.{take_opens}
 
 -- ---- a client that has not joined has no handle

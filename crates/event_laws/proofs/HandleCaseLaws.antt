@@ -1,24 +1,13 @@
 -- What each kind of event does to the counts of handles.
-use Rattle.std.proofs.Common.{ℕ, ◌≡◌, ◌<◌, ◌+◌, ◌-◌, refl, ap, sym, ◌∙◌, Bool, true, false}
-use Rattle.std.proofs.Common.{cond, ◌&&◌, ◌==◌, inl, inr, List, [], ◌∷◌, ◌++◌, arith}
-use Rattle.std.proofs.lemmas.Bool.{eqb-true, eq-eqb}
-use Rattle.std.specs.Int.{bit_at}
-use Rattle.sm_names.specs.declared.keys.BufferName.{BufferName}
-use Rattle.sm_names.specs.declared.keys.NodeKey.{NodeKey}
-use Rattle.sm_names.specs.declared.keys.Strength.{Strength}
-use Rattle.sm_names.specs.declared.messages.Call.{Call}
-use Rattle.sm_names.specs.declared.messages.Reply.{Reply}
-use Rattle.sm_names.specs.Bounds.{Bound}
-use Rattle.event_laws.specs.ByEvent.{entry_mark, one_if, only, anyone, gains, loses, is_about_handles, GoesBy, SetsHandles}
-use Rattle.sm_names.specs.Handles.{opens, drops, lifts, lands, open_of, open_total, moving}
-use Rattle.sm_names.specs.Legality.{IsLegal}
-use Rattle.sm_names.specs.Marks.{Entry, Timeline}
-use Rattle.sm_names.specs.Sameness.{same_buffer, same_strength}
-use Rattle.sm_names.specs.Timelines.{timeline}
-use Rattle.event_laws.proofs.HandleEventLaws.{open_of_event, open_total_event, moving_event, idle_gains}
-use Rattle.event_laws.proofs.HandleEventLaws.{idle_loses, idle_opens, idle_drops, idle_lifts, idle_lands}
-use Rattle.sm_names.proofs.SamenessLaws.{same_buffer-true, same_strength-true, either_way, and_left}
-use Rattle.sm_names.proofs.SamenessLaws.{and_right, or_false, and_both, same_strength-refl}
+use Rattle.event_laws.proofs.Common.{Bool, Bound, BufferName, Call, Entry, GoesBy, IsLegal, List, NodeKey, Reply, Strength, Timeline, []}
+use Rattle.event_laws.proofs.Common.{and_both, and_left, and_right, anyone, ap, arith, bit_at, cond, drops, either_way, entry_mark}
+use Rattle.event_laws.proofs.Common.{eq-eqb, eqb-true, false, inl, inr, is_about_handles, lands, lifts, loses, moving, one_if, only}
+use Rattle.event_laws.proofs.Common.{open_of, open_total, opens, refl, same_buffer, same_buffer-true, same_strength, same_strength-true}
+use Rattle.event_laws.proofs.Common.{sym, timeline, true, ℕ, ◌&&◌, ◌++◌, ◌+◌, ◌-◌, ◌<◌, ◌==◌, ◌∙◌, ◌∷◌, ◌≡◌}
+use Rattle.event_laws.specs.ByEvent.{gains, SetsHandles}
+use Rattle.event_laws.proofs.HandleEventLaws.{open_of_event, open_total_event, moving_event, idle_gains, idle_loses, idle_opens}
+use Rattle.event_laws.proofs.HandleEventLaws.{idle_drops, idle_lifts, idle_lands}
+use Rattle.sm_names.proofs.SamenessLaws.{or_false, same_strength-refl}
 
 -- ---- how a count changes
 

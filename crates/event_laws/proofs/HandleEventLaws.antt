@@ -1,21 +1,11 @@
 -- What one event does to the counts of handles.
-use Rattle.std.proofs.lemmas.Bool.{false≢true}
-use Rattle.std.proofs.Common.{ℕ, ◌≡◌, ◌≤◌, ◌+◌, refl, ap, ◌∙◌, Bool, true, false, ◌||◌, List, [], ◌∷◌, ◌++◌, arith}
-use Rattle.sm_names.specs.declared.keys.BufferName.{BufferName}
-use Rattle.sm_names.specs.declared.keys.Strength.{Strength}
-use Rattle.sm_names.specs.declared.messages.Call.{Call}
-use Rattle.sm_names.specs.declared.messages.Reply.{Reply}
-use Rattle.sm_names.specs.Bounds.{Bound}
-use Rattle.event_laws.specs.ByEvent.{entry_mark, one_if, only, anyone, gains, loses, is_about_handles, GoesBy}
-use Rattle.sm_names.specs.Handles.{opens, drops, lifts, lands, open_of, open_total, moving}
-use Rattle.sm_names.specs.Legality.{IsLegal}
-use Rattle.sm_names.specs.Marks.{Entry, Mark, Timeline, Called}
-use Rattle.sm_names.specs.Timelines.{timeline}
-use Rattle.sm_names.specs.Words.{times}
-use Rattle.history_laws.proofs.CountLaws.{IsCounted, counted, drops-le-opens, lands-le-lifts}
-use Rattle.history_laws.proofs.GrowthLaws.{Answers}
+use Rattle.event_laws.proofs.Common.{Answers, Bool, Bound, BufferName, Call, Called, Entry, GoesBy, IsLegal, List, Mark, Reply, Strength}
+use Rattle.event_laws.proofs.Common.{Timeline, [], anyone, ap, arith, drops, drops-le-opens, entry_mark, false, false≢true}
+use Rattle.event_laws.proofs.Common.{is_about_handles, lands, lands-le-lifts, lifts, loses, moving, one_if, only, open_of, open_total}
+use Rattle.event_laws.proofs.Common.{opens, refl, timeline, times, times-cons, true, ℕ, ◌++◌, ◌+◌, ◌||◌, ◌∙◌, ◌∷◌, ◌≡◌, ◌≤◌}
+use Rattle.event_laws.specs.ByEvent.{gains}
+use Rattle.history_laws.proofs.CountLaws.{IsCounted, counted}
 use Rattle.event_laws.proofs.HandLaws.{NextEvent, next_event}
-use Rattle.history_laws.proofs.SumLaws.{times-cons}
 
 -- ---- a mark does one thing only
 

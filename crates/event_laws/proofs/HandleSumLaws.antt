@@ -1,30 +1,17 @@
 -- The handles that a history opened and did not drop are those that are open on all buffers.
-use Rattle.std.proofs.Common.{ℕ, zero, suc, ◌≡◌, ◌≤◌, ◌<◌, ◌+◌, refl, ap, sym, ◌∙◌, Bool, true}
-use Rattle.std.proofs.Common.{false, cond, ◌&&◌, ◌==◌, inl, inr, List, [], ◌∷◌, length, arith}
-use Rattle.std.proofs.lemmas.Bool.{eq-eqb, eqb-true, eqb-false}
-use Rattle.std.proofs.lemmas.List.Sums.{length-filter, sum_by-cons}
-use Rattle.std.specs.Int.{bit_at}
-use Rattle.std.specs.List.{filter, fold, range_with_len, sum_by}
-use Rattle.sm_names.specs.declared.rules.TheConstants.{MAX_BUFFERS}
-use Rattle.sm_names.specs.declared.keys.BufferName.{BufferName}
-use Rattle.sm_names.specs.declared.keys.Strength.{Strength}
-use Rattle.sm_names.specs.declared.messages.Call.{Call}
-use Rattle.sm_names.specs.declared.messages.Reply.{Reply}
-use Rattle.sm_names.specs.Bounds.{Bound}
-use Rattle.sm_names.specs.Handles.{opens, drops, lifts, lands, open_of, open_total, moving}
-use Rattle.sm_names.specs.Legality.{IsLegal}
-use Rattle.sm_names.specs.Marks.{Entry, Mark, Timeline, Called, is_event}
-use Rattle.sm_names.specs.Sameness.{same_buffer, same_strength}
-use Rattle.sm_names.specs.Timelines.{after, timeline}
-use Rattle.sm_names.specs.Words.{times}
-use Rattle.history_laws.proofs.CountLaws.{IsCounted, counted, drops-le-opens, lands-le-lifts}
-use Rattle.history_laws.proofs.GrowthLaws.{Grows, legal_grows}
-use Rattle.history_laws.proofs.KeptLaws.{kept-after}
-use Rattle.sm_names.proofs.SamenessLaws.{and_both, and_left, and_right, and_swap, either_way}
-use Rattle.history_laws.proofs.SumLaws.{one, one_of, AreOnce, times-cons, sum_by-same, sum_by-add, sum_by-zero, sum_once}
-use Rattle.event_laws.specs.ByEvent.{anyone, only, entry_mark}
-use Rattle.event_laws.specs.HandleSums.{ListsAllocated, all_moving, all_open, all_open_of, allocated_collections, opened_at}
-use Rattle.event_laws.specs.HandleSums.{dropped_at, sent_at, got_at, opened, dropped, sent, got, indices_in, over_buffers}
+use Rattle.event_laws.proofs.Common.{Bool, Bound, BufferName, Call, Called, Entry, Grows, IsLegal, List, ListsAllocated, MAX_BUFFERS}
+use Rattle.event_laws.proofs.Common.{Mark, Reply, Strength, Timeline, [], after, all_open_of, allocated_collections, and_both, and_left}
+use Rattle.event_laws.proofs.Common.{and_right, anyone, ap, arith, bit_at, cond, dropped_at, drops, drops-le-opens, either_way}
+use Rattle.event_laws.proofs.Common.{entry_mark, eq-eqb, eqb-true, false, filter, fold, got_at, indices_in, inl, inr, is_event}
+use Rattle.event_laws.proofs.Common.{kept-after, lands, lands-le-lifts, legal_grows, length, length-filter, lifts, moving, one, only}
+use Rattle.event_laws.proofs.Common.{open_of, open_total, opened_at, opens, over_buffers, range_with_len, refl, same_buffer}
+use Rattle.event_laws.proofs.Common.{same_strength, sent_at, suc, sum_by, sum_by-add, sum_by-cons, sum_by-same, sum_by-zero, sum_once}
+use Rattle.event_laws.proofs.Common.{sym, timeline, times, times-cons, true, zero, ℕ, ◌&&◌, ◌+◌, ◌<◌, ◌==◌, ◌∙◌, ◌∷◌, ◌≡◌, ◌≤◌}
+use Rattle.std.proofs.lemmas.Bool.{eqb-false}
+use Rattle.history_laws.proofs.CountLaws.{IsCounted, counted}
+use Rattle.sm_names.proofs.SamenessLaws.{and_swap}
+use Rattle.history_laws.proofs.SumLaws.{one_of, AreOnce}
+use Rattle.event_laws.specs.HandleSums.{all_moving, all_open, opened, dropped, sent, got}
 use Rattle.event_laws.proofs.HandleSumNamedLaws.{IsThere, lists_allocated, opens_there, drops_there, lifts_there, lands_there}
 use Rattle.event_laws.proofs.HandleCaseLaws.{same_buffer-refl}
 

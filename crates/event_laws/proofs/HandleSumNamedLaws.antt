@@ -1,41 +1,28 @@
 -- Handles that were ever moved are on the buffers that are there, of which a collection has `MAX_BUFFERS` at most.
-use Rattle.std.proofs.Common.{ℕ, zero, suc, ◌≡◌, ◌≤◌, ◌<◌, ◌+◌, refl, ap, sym, ◌∙◌, subst, Bool, true, false, ◌==◌}
-use Rattle.std.proofs.Common.{nat_lt, not, inl, inr, List, map, [], ◌∷◌, Option, Some, None, is_some, is_none, arith}
-use Rattle.std.proofs.lemmas.Bool.{eqb-true, eq-eqb, ltb-true, ltb-false, false≢true}
-use Rattle.std.proofs.lemmas.List.Sums.{sum_by-cons}
-use Rattle.std.specs.List.{list_any, range_with_len, sum_by}
-use Rattle.std.specs.Option.{option_map_or}
-use Rattle.sm_names.specs.declared.rules.TheConstants.{MAX_BUFFERS}
-use Rattle.sm_names.specs.declared.keys.BufferName.{BufferName}
-use Rattle.sm_names.specs.declared.keys.NodeKey.{NodeKey}
-use Rattle.sm_names.specs.declared.keys.Strength.{Strength}
-use Rattle.sm_names.specs.declared.messages.Call.{Call}
-use Rattle.sm_names.specs.declared.messages.Reply.{Reply}
-use Rattle.sm_names.specs.declared.outcomes.Buffers.{Buffers}
+use Rattle.event_laws.proofs.Common.{Allocated, Allocates, Answers, Bool, Bound, BufferName, Buffers, Call, Called, Ends, GoesBy, Grows}
+use Rattle.event_laws.proofs.Common.{List, ListsAllocated, Loses, MAX_BUFFERS, Mark, NodeKey, None, Option, Reply, Some, Stays, Strength}
+use Rattle.event_laws.proofs.Common.{Timeline, [], allocated, allocated_collections, and_both, and_right, any_one, anyone, ap, arith}
+use Rattle.event_laws.proofs.Common.{birth_of, births, both_ways, buffer_names, buffers_of, client-le-total, drops, drops-le-opens}
+use Rattle.event_laws.proofs.Common.{either_way, eq-eqb, eqb-true, false, false_if, false≢true, first_some, forced_why, has_joined, inl}
+use Rattle.event_laws.proofs.Common.{inr, is_none, is_some, lands, lands-le-lifts, lifts, list_any, loses, ltb-false, ltb-true, map}
+use Rattle.event_laws.proofs.Common.{names, not, one, only, open_of, open_total, opens, option_map_or, ordered, over_buffers}
+use Rattle.event_laws.proofs.Common.{range_with_len, refl, same_buffer, subst, suc, sum_by, sum_by-cons, sum_by-same, sym, times}
+use Rattle.event_laws.proofs.Common.{times-cons, true, zero, ℕ, ◌+◌, ◌<◌, ◌==◌, ◌∙◌, ◌∷◌, ◌≡◌, ◌≤◌}
+use Rattle.std.proofs.Common.{nat_lt}
 use Rattle.sm_names.specs.declared.outcomes.Failure.{Failure}
-use Rattle.sm_names.specs.Births.{births, birth_of}
-use Rattle.sm_names.specs.Bounds.{Bound}
-use Rattle.sm_names.specs.Ends.{has_joined}
 use Rattle.sm_names.specs.Forced.{initial_failure}
-use Rattle.sm_names.specs.Handles.{opens, drops, lifts, lands, open_of, open_total, buffers_of, buffer_names, names}
-use Rattle.sm_names.specs.Marks.{Mark, Timeline, Called, Allocated}
-use Rattle.sm_names.specs.Losses.{allocated}
 use Rattle.sm_names.specs.Members.{members, asked, some_strong_live}
 use Rattle.sm_names.specs.Pages.{places, pages_of}
-use Rattle.sm_names.specs.Sameness.{same_buffer}
 use Rattle.sm_names.specs.Timelines.{standing}
-use Rattle.sm_names.specs.Words.{first_some, times, when}
+use Rattle.sm_names.specs.Words.{when}
 use Rattle.history_laws.proofs.BitLaws.{named_below}
-use Rattle.history_laws.proofs.CountLaws.{counted, client-le-total, drops-le-opens, lands-le-lifts}
-use Rattle.history_laws.proofs.GrowthLaws.{Grows, Stays, Answers, Loses, Allocates, Ends}
+use Rattle.history_laws.proofs.CountLaws.{counted}
 use Rattle.history_laws.proofs.HeldLaws.{given_root}
-use Rattle.history_laws.proofs.LifeLaws.{IsOrdered, ordered}
+use Rattle.history_laws.proofs.LifeLaws.{IsOrdered}
 use Rattle.sm_names.proofs.ListLaws.{times-le}
-use Rattle.sm_names.proofs.SamenessLaws.{and_both, and_right, both_ways, either_way, false_if, not_none}
-use Rattle.history_laws.proofs.SettledLaws.{find_birth, Why, Initial, Logical, forced_why}
-use Rattle.history_laws.proofs.SumLaws.{one, any_one, times-cons, sum_by-same}
-use Rattle.event_laws.specs.ByEvent.{anyone, only, gains, loses, GoesBy}
-use Rattle.event_laws.specs.HandleSums.{ListsAllocated, allocated_collections, over_buffers}
+use Rattle.sm_names.proofs.SamenessLaws.{not_none}
+use Rattle.history_laws.proofs.SettledLaws.{find_birth, Why, Initial, Logical}
+use Rattle.event_laws.specs.ByEvent.{gains}
 use Rattle.event_laws.proofs.HandleBufferLaws.{opened_named, some_opened, stranger_has_none}
 use Rattle.event_laws.proofs.HandleEventLaws.{open_of_mark}
 

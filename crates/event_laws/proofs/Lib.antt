@@ -1,3 +1,4 @@
+mod Common
 pub mod AllocatedLaws
 pub mod ConcernLaws
 pub mod DifferLaws

@@ -1,16 +1,9 @@
 -- How much a part can bring.
-use Rattle.std.proofs.Common.{ℕ, ◌≡◌, ◌≤◌, ◌+◌, ◌*◌, refl, Bool, true, false, List, [], ◌∷◌, length, arith}
-use Rattle.std.proofs.lemmas.List.Sums.{sum_by-cons}
-use Rattle.sm_names.specs.declared.rules.TheConstants.{MAX_BUFFERS}
-use Rattle.sm_names.specs.declared.keys.Strength.{Strength}
-use Rattle.sm_names.specs.declared.messages.Call.{Call}
-use Rattle.sm_names.specs.declared.messages.Reply.{Reply}
-use Rattle.sm_names.specs.Marks.{Entry}
-use Rattle.sm_names.specs.Sameness.{same_strength}
-use Rattle.event_laws.specs.HandleSums.{indices_in}
-use Rattle.event_laws.specs.declared.own.Own.{Own}
-use Rattle.event_laws.specs.Lines.{gained_by, gains, losses, lost_by}
-use Rattle.event_laws.specs.Parts.{is_own, part_from}
+use Rattle.event_laws.proofs.Common.{Bool, Call, Entry, List, MAX_BUFFERS, Own, Reply, Strength, [], arith, false, gained_by, indices_in}
+use Rattle.event_laws.proofs.Common.{is_own, length, losses, lost_by, part_from, refl, same_strength, sum_by-cons, true, ℕ, ◌+◌, ◌∷◌, ◌≡◌}
+use Rattle.event_laws.proofs.Common.{◌≤◌}
+use Rattle.std.proofs.Common.{◌*◌}
+use Rattle.event_laws.specs.Lines.{gains}
 use Rattle.event_laws.proofs.SetLaws.{indices_most, cond-le}
 
 -- an event brings at most a handle of each buffer

@@ -1,12 +1,11 @@
 -- Chained events.
-use Rattle.std.proofs.Common.{ℕ, ◌+◌, ◌-◌, ◌<◌, ◌≤◌, ◌≡◌, ◌==◌, ◌&&◌, ◌∙◌, refl, sym, ap, subst}
-use Rattle.std.proofs.Common.{Bool, true, false, List, [], ◌∷◌, length, drop, get_or, arith}
-use Rattle.std.proofs.lemmas.Bool.{eqb-true, ne_eqb, le-ltb, ltb-false, ltb-true}
-use Rattle.std.proofs.lemmas.List.{drop_more, drop_all, get_or_read, drop-drop}
+use Rattle.event_laws.proofs.Common.{Bool, Entry, Links, List, Stands, [], ap, arith, drop, eqb-true, false, get_or, get_or_read, is_own}
+use Rattle.event_laws.proofs.Common.{length, ltb-false, ltb-true, own_entry, part, part_from, refl, rest_at, subst, sym, true, ℕ, ◌&&◌}
+use Rattle.event_laws.proofs.Common.{◌+◌, ◌-◌, ◌<◌, ◌==◌, ◌∙◌, ◌∷◌, ◌≡◌, ◌≤◌}
+use Rattle.std.proofs.lemmas.Bool.{ne_eqb, le-ltb}
+use Rattle.std.proofs.lemmas.List.{drop_more, drop_all, drop-drop}
 use Rattle.std.specs.Prelude.{nat_lt}
-use Rattle.sm_names.specs.Marks.{Entry}
-use Rattle.event_laws.specs.Links.{Links, Stands, first_from, rest_at}
-use Rattle.event_laws.specs.Parts.{is_own, own_entry, part, part_from}
+use Rattle.event_laws.specs.Links.{first_from}
 
 -- ---- whose an event is
 

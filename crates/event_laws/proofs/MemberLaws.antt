@@ -1,10 +1,9 @@
 -- The clients that joined, and those that are there.
-use Rattle.std.proofs.Common.{ℕ, ◌+◌, ◌<◌, ◌≡◌, ◌||◌, ◌∙◌, refl, sym, ap, Bool, true}
-use Rattle.std.proofs.Common.{false, List, [], ◌∷◌, ◌++◌, append_assoc, length, get_or}
-use Rattle.std.proofs.lemmas.List.{get_or_read}
-use Rattle.std.proofs.lemmas.List.Elements.{All-append, All-cons, All-nil}
-use Rattle.sm_names.specs.Marks.{Entry}
-use Rattle.event_laws.specs.Members.{AreAmong, Marks, is_among, makes_client, joined, joined_from}
+use Rattle.event_laws.proofs.Common.{All-cons, All-nil, Bool, Entry, List, Marks, [], ap, append_assoc, false, get_or, get_or_read}
+use Rattle.event_laws.proofs.Common.{is_among, joined, joined_from, length, makes_client, refl, sym, true, ℕ, ◌++◌, ◌+◌, ◌<◌, ◌||◌, ◌∙◌}
+use Rattle.event_laws.proofs.Common.{◌∷◌, ◌≡◌}
+use Rattle.std.proofs.lemmas.List.Elements.{All-append}
+use Rattle.event_laws.specs.Members.{AreAmong}
 
 -- ---- marks
 

@@ -1,17 +1,8 @@
 -- What an event adds to the moments, and what was so at an earlier one.
-use Rattle.std.proofs.Common.{ℕ, ◌≡◌, ◌≤◌, ◌+◌, refl, ◌∙◌, Bool, true, false, cond, inl}
-use Rattle.std.proofs.Common.{inr, List, [], ◌∷◌, length, Option, Some, None, arith}
-use Rattle.std.specs.List.{fold}
-use Rattle.std.specs.Option.{option_map_or}
-use Rattle.sm_names.specs.Marks.{Entry, Mark, Timeline, Called, Loss, Allocated, Ended, events, is_event}
-use Rattle.sm_names.specs.Timelines.{after}
-use Rattle.sm_names.specs.Trackers.{Tracked, tracked, tracked_at, earlier_moments, moments}
-use Rattle.sm_names.specs.Words.{last_match}
-use Rattle.history_laws.proofs.KeptLaws.{kept-after}
-use Rattle.history_laws.proofs.LifeLaws.{In_old}
-use Rattle.sm_names.proofs.ListLaws.{In}
-use Rattle.sm_names.proofs.SamenessLaws.{either_way}
-use Rattle.history_laws.proofs.SumLaws.{times-cons}
+use Rattle.event_laws.proofs.Common.{Allocated, Bool, Called, Ended, Entry, In, In_old, List, Loss, Mark, None, Option, Some, Timeline}
+use Rattle.event_laws.proofs.Common.{Tracked, [], after, arith, cond, earlier_moments, either_way, events, false, fold, inl, inr}
+use Rattle.event_laws.proofs.Common.{is_event, kept-after, last_match, length, moments, option_map_or, refl, times-cons, tracked}
+use Rattle.event_laws.proofs.Common.{tracked_at, true, ℕ, ◌+◌, ◌∙◌, ◌∷◌, ◌≡◌, ◌≤◌}
 
 -- what holds of each element that passes, holds of the last one
 pub last_match-kept : {A : Type 0} (P : A → Type 0) (test : A → Bool) (xs : List A) → ((x : A) → In x xs → test x ≡ true → P x) → (y : A) →

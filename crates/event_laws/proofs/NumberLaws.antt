@@ -1,24 +1,12 @@
 -- A tracker bears the number of the event that attached it.
-use Rattle.std.proofs.Common.{ℕ, ◌≡◌, ◌≤◌, ◌<◌, ◌+◌, refl, ap, sym, ◌∙◌, subst, false, inl}
-use Rattle.std.proofs.Common.{inr, List, [], ◌∷◌, ◌++◌, reverse, Option, Some, None, arith}
-use Rattle.std.proofs.lemmas.List.{reverse-append}
+use Rattle.event_laws.proofs.Common.{All, All-cons, All-nil, Bound, Call, Called, Entry, Grows, In, In-reverse, In_new, IsAnswer, List}
+use Rattle.event_laws.proofs.Common.{Mark, None, Option, Reply, Some, Timeline, Tracked, [], ap, arith, events, false, inl, inr, is_event}
+use Rattle.event_laws.proofs.Common.{kept-grown, none_key, readings, refl, reverse, reverse-append, subst, sym, took_effect_all, tracked}
+use Rattle.event_laws.proofs.Common.{tracked_at, tracker_made, ℕ, ◌++◌, ◌+◌, ◌<◌, ◌∙◌, ◌∷◌, ◌≡◌, ◌≤◌}
 use Rattle.std.proofs.lemmas.List.Quantifiers.{all_pairs_push}
-use Rattle.std.specs.List.{All, AllPairs}
-use Rattle.sm_names.specs.declared.messages.Call.{Call}
-use Rattle.sm_names.specs.declared.messages.Reply.{Reply}
-use Rattle.sm_names.specs.Answers.{IsAnswer}
-use Rattle.sm_names.specs.Bounds.{Bound}
-use Rattle.sm_names.specs.Marks.{Entry, Mark, Timeline, Called, events, is_event}
-use Rattle.sm_names.specs.Reading.{readings}
-use Rattle.sm_names.specs.Trackers.{Tracked, tracked, tracked_at}
-use Rattle.history_laws.proofs.AnswerLaws.{took_effect_all}
-use Rattle.history_laws.proofs.GrowthLaws.{Grows, kept-grown}
-use Rattle.event_laws.specs.Waiting.{tracker_made}
-use Rattle.history_laws.proofs.LifeLaws.{In_new}
-use Rattle.sm_names.proofs.ListLaws.{In, In-reverse}
+use Rattle.std.specs.List.{AllPairs}
 use Rattle.event_laws.proofs.MomentLaws.{only_events}
-use Rattle.history_laws.proofs.TakeLaws.{none_key}
-use Rattle.std.proofs.lemmas.List.Elements.{All-nil, All-cons, All-head, All-tail}
+use Rattle.std.proofs.lemmas.List.Elements.{All-head, All-tail}
 
 -- ---- elements
 

@@ -1,37 +1,22 @@
 -- A line tells how many handles its client has open, and each client has one.
-use Rattle.std.proofs.Common.{ℕ, ◌≡◌, ◌≤◌, ◌<◌, ◌+◌, ◌∙◌, ◌==◌, ◌&&◌, refl, ap, sym, subst, Bool, true, false, cond, List, [], ◌∷◌, ◌++◌}
-use Rattle.std.proofs.Common.{Option, Some, None, is_some, append_assoc, append-nil, get_or, length, length-append, reverse, arith}
-use Rattle.std.proofs.lemmas.Bool.{lt-ltb, false≢true}
-use Rattle.std.proofs.lemmas.List.{reverse-append}
-use Rattle.std.proofs.lemmas.List.Elements.{All-cons, All-map, All-nil}
-use Rattle.std.proofs.lemmas.List.Sums.{sum_by-append, sum_by-cons}
-use Rattle.std.specs.List.{All, cons_option, range_with_len, sum_by}
-use Rattle.sm_names.specs.declared.rules.TheConstants.{MAX_BUFFERS}
-use Rattle.sm_names.specs.declared.keys.BufferName.{BufferName}
-use Rattle.sm_names.specs.declared.keys.Strength.{Strength}
-use Rattle.sm_names.specs.declared.keys.Strength.TheVariants.{Strong, Weak}
-use Rattle.sm_names.specs.declared.messages.Call.{Call}
-use Rattle.sm_names.specs.declared.messages.Reply.{Reply}
-use Rattle.sm_names.specs.Bounds.{Bound}
-use Rattle.sm_names.specs.Ends.{clients, has_joined, joined_at}
-use Rattle.sm_names.specs.Handles.{open_of}
-use Rattle.sm_names.specs.Legality.{AreAnswers, IsLegal}
-use Rattle.sm_names.specs.Marks.{Called, Entry, Mark, Timeline, events}
-use Rattle.sm_names.specs.Sameness.{same_strength}
-use Rattle.sm_names.specs.Timelines.{after, timeline}
-use Rattle.history_laws.proofs.GrowthLaws.{legal_grows}
-use Rattle.history_laws.proofs.SumLaws.{sum_by-same, sum_by-zero}
-use Rattle.event_laws.specs.ByEvent.{entry_mark, only}
-use Rattle.event_laws.specs.HandleSums.{all_open_of, allocated_collections, dropped_at, got_at, indices_in, opened_at, sent_at}
+use Rattle.event_laws.proofs.Common.{All, All-cons, All-nil, Bool, Bound, BufferName, Call, Called, Entry, IsLegal, List, MAX_BUFFERS}
+use Rattle.event_laws.proofs.Common.{Mark, None, Option, Own, Reply, Some, Strength, Strong, Timeline, Weak, [], after, all_open_of}
+use Rattle.event_laws.proofs.Common.{allocated_collections, ap, append_assoc, arith, client_line, clients, cond, cons_option, dropped_at}
+use Rattle.event_laws.proofs.Common.{entry_mark, events, false, false≢true, gained_by, get_or, got_at, has_joined, indices_in, is_own}
+use Rattle.event_laws.proofs.Common.{is_some, joined, joined_at, joined_from, legal_grows, length, lines_of, losses, lost_by}
+use Rattle.event_laws.proofs.Common.{makes_client, only, open_of, opened_at, own_entry, part, part_from, range_with_len, refl, reverse}
+use Rattle.event_laws.proofs.Common.{reverse-append, same_strength, sent_at, subst, sum_by, sum_by-append, sum_by-cons, sum_by-same}
+use Rattle.event_laws.proofs.Common.{sum_by-zero, sym, timeline, true, ℕ, ◌&&◌, ◌++◌, ◌+◌, ◌<◌, ◌==◌, ◌∙◌, ◌∷◌, ◌≡◌, ◌≤◌}
+use Rattle.std.proofs.Common.{append-nil, length-append}
+use Rattle.std.proofs.lemmas.Bool.{lt-ltb}
+use Rattle.std.proofs.lemmas.List.Elements.{All-map}
+use Rattle.sm_names.specs.Legality.{AreAnswers}
 use Rattle.event_laws.proofs.HandleBufferLaws.{stranger_has_none}
 use Rattle.event_laws.proofs.HandleSumLaws.{all_client_adds}
 use Rattle.event_laws.proofs.MomentLaws.{events-fold}
 use Rattle.event_laws.proofs.ParcelEventLaws.{clients_event, made_event}
 use Rattle.event_laws.specs.declared.line.ClientLine.{ClientLine}
-use Rattle.event_laws.specs.declared.own.Own.{Own}
-use Rattle.event_laws.specs.Lines.{gained_by, gains, client_line, lines_of, losses, lost_by}
-use Rattle.event_laws.specs.Members.{makes_client, joined, joined_from}
-use Rattle.event_laws.specs.Parts.{is_own, own_entry, part, part_from}
+use Rattle.event_laws.specs.Lines.{gains}
 use Rattle.event_laws.proofs.LinkLaws.{own_not_yet}
 
 -- ---- what one event brings its client, and takes from it

@@ -1,32 +1,20 @@
 -- What one event does to the parcels that wait, and to the clients.
-use Rattle.std.proofs.Common.{ℕ, ◌≡◌, ◌≤◌, ◌+◌, refl, ap, sym, ◌∙◌, Bool, true, false, not, ◌||◌, ◌==◌}
-use Rattle.std.proofs.Common.{inl, inr, List, [], ◌∷◌, ◌++◌, drop, Option, Some, None, arith, is_some}
-use Rattle.std.proofs.lemmas.Bool.{eqb-true, false≢true}
-use Rattle.std.specs.List.{cons_option}
-use Rattle.std.specs.Option.{option_map_or}
-use Rattle.sm_names.specs.declared.messages.Call.{Call}
-use Rattle.sm_names.specs.declared.messages.Parcel.{Parcel}
-use Rattle.sm_names.specs.declared.messages.Reply.{Reply}
-use Rattle.sm_names.specs.declared.outcomes.Refusal.{Refusal}
-use Rattle.sm_names.specs.Answers.{IsAnswer, OpenEnd, collected, refused_if}
-use Rattle.sm_names.specs.Bounds.{Bound}
-use Rattle.event_laws.specs.ByEvent.{entry_mark, one_if, collected_at}
-use Rattle.sm_names.specs.Ends.{clients, joined_at, has_joined, shuts, is_shut, given_at, collects, parcels}
-use Rattle.sm_names.specs.Legality.{IsLegal}
-use Rattle.sm_names.specs.Marks.{Entry, Mark, Timeline, Called, events}
-use Rattle.sm_names.specs.Reading.{readings}
-use Rattle.sm_names.specs.Timelines.{timeline}
-use Rattle.sm_names.specs.Words.{times}
-use Rattle.history_laws.proofs.AnswerLaws.{TookEffect, took_effect_all}
+use Rattle.event_laws.proofs.Common.{Allocates, Answers, Bool, Bound, Call, Called, Ends, Entry, Grows, In-list_any, IsAnswer, IsDrawn}
+use Rattle.event_laws.proofs.Common.{IsLegal, List, Loses, Mark, None, Option, Parcel, Refusal, Reply, Some, Stays, Timeline, [], ap}
+use Rattle.event_laws.proofs.Common.{arith, both_ways, clients, collected_at, cons_option, drop, entry_mark, eqb-true, events, false}
+use Rattle.event_laws.proofs.Common.{false_if, false≢true, given_at, has_joined, inl, inr, is_some, joined_at, none_key, not, one_if}
+use Rattle.event_laws.proofs.Common.{option_map_or, parcels, readings, refl, refused_if, sym, timeline, times, times-cons}
+use Rattle.event_laws.proofs.Common.{took_effect_all, true, ℕ, ◌++◌, ◌+◌, ◌==◌, ◌||◌, ◌∙◌, ◌∷◌, ◌≡◌, ◌≤◌}
+use Rattle.sm_names.specs.Answers.{OpenEnd, collected}
+use Rattle.sm_names.specs.Ends.{shuts, is_shut, collects}
+use Rattle.history_laws.proofs.AnswerLaws.{TookEffect}
 use Rattle.history_laws.proofs.CountLaws.{AreClients, counted}
-use Rattle.history_laws.proofs.GrowthLaws.{Grows, Stays, Answers, Loses, Allocates, Ends}
 use Rattle.event_laws.proofs.HandLaws.{NextEvent, next_event}
 use Rattle.event_laws.proofs.HandleBufferLaws.{still_joined}
-use Rattle.sm_names.proofs.ListLaws.{In-list_any, when-Some, when-None}
-use Rattle.history_laws.proofs.ParcelLaws.{IsDrawn, parcels-given, parcels-collected, parcels-kept}
-use Rattle.sm_names.proofs.SamenessLaws.{both_ways, false_if, none_or_some}
-use Rattle.history_laws.proofs.SumLaws.{times-cons, times_push}
-use Rattle.history_laws.proofs.TakeLaws.{none_key}
+use Rattle.sm_names.proofs.ListLaws.{when-Some, when-None}
+use Rattle.history_laws.proofs.ParcelLaws.{parcels-given, parcels-collected, parcels-kept}
+use Rattle.sm_names.proofs.SamenessLaws.{none_or_some}
+use Rattle.history_laws.proofs.SumLaws.{times_push}
 
 -- ---- what is collected
 

@@ -1,36 +1,18 @@
 -- What was over before an event may be forgotten: whether a tracker is due does not rest on it.
-use Rattle.std.proofs.Common.{ℕ, ◌≡◌, ◌≤◌, ◌<◌, refl, sym, ◌∙◌, subst, Bool, true, false}
-use Rattle.std.proofs.Common.{cond, not, ◌||◌, nat_le, inl, inr, [], Some, None, arith}
-use Rattle.std.proofs.lemmas.Bool.{eqb-true}
-use Rattle.sm_names.specs.declared.keys.BufferName.{BufferName}
-use Rattle.sm_names.specs.declared.keys.NodeKey.{NodeKey}
-use Rattle.sm_names.specs.declared.keys.Strength.{Strength}
-use Rattle.sm_names.specs.declared.messages.Call.{Call}
-use Rattle.sm_names.specs.declared.messages.Reply.{Reply}
-use Rattle.sm_names.specs.declared.outcomes.Refusal.{Refusal}
-use Rattle.sm_names.specs.declared.tracking.Condition.{Condition}
-use Rattle.sm_names.specs.Answers.{IsAnswer, refused_if}
-use Rattle.sm_names.specs.Births.{Birth, births, birth_of, collection_in, was_born}
-use Rattle.sm_names.specs.Bounds.{Bound}
-use Rattle.sm_names.specs.Ends.{has_joined, spent}
-use Rattle.sm_names.specs.Handles.{doomed, home, open_of, open_total}
-use Rattle.sm_names.specs.Isolation.{IsOf}
-use Rattle.sm_names.specs.Losses.{gone, allocated}
-use Rattle.sm_names.specs.Marks.{Entry, Timeline, Called}
-use Rattle.sm_names.specs.Reading.{readings}
-use Rattle.sm_names.specs.Trackers.{Tracked, World, tracked_at, collection_of_node, holds, world}
-use Rattle.event_laws.specs.Waiting.{unfired_trackers, tracker_made, trackers_to_test, is_tracked_met, IsRecalled, IsWaitedFor}
+use Rattle.event_laws.proofs.Common.{Birth, Bool, Bound, BufferName, Call, Called, Condition, Entry, Grows, In, In-append, In_new}
+use Rattle.event_laws.proofs.Common.{IsAnswer, IsOf, IsWaitedFor, Named, NodeKey, None, Refusal, Reply, Some, Strength, Timeline, Tracked}
+use Rattle.event_laws.proofs.Common.{[], allocated, and_right, arith, birth_of, birth_was_born, births, both_ways, client-le-total}
+use Rattle.event_laws.proofs.Common.{collection_in, collection_of_node, cond, eqb-true, false, false_if, gone, has_joined, holds, inl}
+use Rattle.event_laws.proofs.Common.{inr, is_tracked_met, map-Some, named, nat_le, none_key, not, open_of, open_total, ordered, readings}
+use Rattle.event_laws.proofs.Common.{refl, refused_if, spent, subst, sym, took_effect_all, tracked_at, tracker_made, trackers_to_test}
+use Rattle.event_laws.proofs.Common.{true, unfired_trackers, was_born, world, ℕ, ◌<◌, ◌||◌, ◌∙◌, ◌≡◌, ◌≤◌}
+use Rattle.sm_names.specs.Handles.{doomed, home}
+use Rattle.sm_names.specs.Trackers.{World}
+use Rattle.event_laws.specs.Waiting.{IsRecalled}
 use Rattle.event_laws.proofs.AllocatedLaws.{allocated_on}
-use Rattle.history_laws.proofs.AnswerLaws.{took_effect_all}
-use Rattle.history_laws.proofs.BirthLaws.{Named, named, birth_was_born}
 use Rattle.event_laws.proofs.ConcernLaws.{concerned}
-use Rattle.history_laws.proofs.CountLaws.{counted, client-le-total}
-use Rattle.history_laws.proofs.GrowthLaws.{Grows}
+use Rattle.history_laws.proofs.CountLaws.{counted}
 use Rattle.history_laws.proofs.HandleLaws.{some_open}
-use Rattle.history_laws.proofs.LifeLaws.{ordered, In_new}
-use Rattle.sm_names.proofs.ListLaws.{In, In-append}
-use Rattle.sm_names.proofs.SamenessLaws.{false_if, and_right, both_ways, map-Some}
-use Rattle.history_laws.proofs.TakeLaws.{none_key}
 use Rattle.event_laws.proofs.WaitingLaws.{In-waiting, waited_for}
 
 -- what is waited for is known: its node was born, and was allocated if it was gone, and its buffer was not home

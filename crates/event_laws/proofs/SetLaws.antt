@@ -1,14 +1,11 @@
 -- The buffers of a set.
-use Rattle.std.proofs.Common.{ℕ, zero, suc, ◌≡◌, ◌≤◌, ◌+◌, ◌==◌, ◌/◌, ◌%◌, ◌^◌, ap, sym, ◌∙◌}
-use Rattle.std.proofs.Common.{Bool, true, false, cond, List, [], ◌∷◌, ◌++◌, length, arith}
-use Rattle.std.proofs.lemmas.List.Sums.{count_by-le-length, length-filter}
+use Rattle.event_laws.proofs.Common.{Bool, List, MAX_BUFFERS, [], ap, arith, bit_at, common_steps, cond, false, filter, indices_below}
+use Rattle.event_laws.proofs.Common.{indices_in, length, length-filter, range_with_len, suc, sym, true, zero, ℕ, ◌++◌, ◌+◌, ◌==◌, ◌∙◌}
+use Rattle.event_laws.proofs.Common.{◌∷◌, ◌≡◌, ◌≤◌}
+use Rattle.std.proofs.Common.{◌/◌, ◌%◌, ◌^◌}
+use Rattle.std.proofs.lemmas.List.Sums.{count_by-le-length}
 use Rattle.std.proofs.lemmas.List.FromFn.{length-range_with_len}
-use Rattle.std.proofs.lemmas.Grind.{common_steps}
 use Rattle.std.proofs.lemmas.Nat.{shr-shr}
-use Rattle.std.specs.Int.{bit_at}
-use Rattle.std.specs.List.{filter, range_with_len}
-use Rattle.sm_names.specs.declared.rules.TheConstants.{MAX_BUFFERS}
-use Rattle.event_laws.specs.HandleSums.{indices_below, indices_in}
 
 -- this many numbers have no more buffers
 pub below_most : (most set : ℕ) → length (indices_below most set) ≤ most

@@ -1,33 +1,16 @@
 -- An end is in at most one parcel, and one that is in a parcel is not spent.
-use Rattle.std.proofs.Common.{ℕ, ◌≡◌, ◌<◌, ◌+◌, refl, ap, sym, ◌∙◌, Bool, true, false, cond, not}
-use Rattle.std.proofs.Common.{◌||◌, ◌&&◌, ◌==◌, inl, inr, [], ◌∷◌, Option, Some, None, is_some, arith}
-use Rattle.std.proofs.lemmas.Bool.{eqb-true, eq-eqb, false≢true}
-use Rattle.std.specs.List.{list_any, cons_option}
-use Rattle.std.specs.Option.{option_map_or}
+use Rattle.event_laws.proofs.Common.{Allocates, Answers, Birth, Bool, Bound, Call, Called, Ends, Grows, In-any, In-list_any, IsAnswer}
+use Rattle.event_laws.proofs.Common.{IsDrawn, Loses, Mark, NodeKey, None, Option, Parcel, Reply, Some, Stays, Timeline, [], and_both}
+use Rattle.event_laws.proofs.Common.{and_left, any_one, ap, arith, binds, birth_at, births, both_ways, clients, collected_at, collector}
+use Rattle.event_laws.proofs.Common.{collector_at, cond, cons_option, delivers, either_way, eq-eqb, eqb-true, events, false, false_if}
+use Rattle.event_laws.proofs.Common.{false≢true, given_at, has_joined, in_transit, inl, inr, is_end_of, is_some, list_any, not, one_if}
+use Rattle.event_laws.proofs.Common.{option_map_or, or_both, or_right, parcels, readings, refl, same_key, sends, spends, spent, sym}
+use Rattle.event_laws.proofs.Common.{times, true, was_born, ℕ, ◌&&◌, ◌+◌, ◌<◌, ◌==◌, ◌||◌, ◌∙◌, ◌∷◌, ◌≡◌}
 use Rattle.std.proofs.Math.Bool.{and-false, and-true}
-use Rattle.sm_names.specs.declared.keys.NodeKey.{NodeKey}
-use Rattle.sm_names.specs.declared.messages.Call.{Call}
-use Rattle.sm_names.specs.declared.messages.Parcel.{Parcel}
-use Rattle.sm_names.specs.declared.messages.Reply.{Reply}
-use Rattle.sm_names.specs.Answers.{IsAnswer}
-use Rattle.sm_names.specs.Births.{Birth, births, birth_at, was_born}
-use Rattle.sm_names.specs.Bounds.{Bound}
-use Rattle.event_laws.specs.ByEvent.{one_if, collected_at, sends, delivers}
-use Rattle.sm_names.specs.Ends.{clients, has_joined, spent, spends, binds, given_at}
-use Rattle.sm_names.specs.Ends.{parcels, is_end_of, in_transit, collector_at, collector}
-use Rattle.sm_names.specs.Marks.{Mark, Timeline, Called, events}
-use Rattle.sm_names.specs.Reading.{readings}
-use Rattle.sm_names.specs.Sameness.{same_key}
-use Rattle.sm_names.specs.Words.{times}
 use Rattle.history_laws.proofs.CountLaws.{counted}
 use Rattle.event_laws.proofs.FreeEndLaws.{FreeEnd, sends_free, spends_free, binds_free}
-use Rattle.history_laws.proofs.GrowthLaws.{Grows, Stays, Answers, Loses, Allocates, Ends}
 use Rattle.event_laws.proofs.HandleBufferLaws.{still_joined}
-use Rattle.sm_names.proofs.ListLaws.{In-list_any, In-any}
 use Rattle.event_laws.proofs.ParcelEventLaws.{given_joined, parcels_count}
-use Rattle.history_laws.proofs.ParcelLaws.{IsDrawn}
-use Rattle.sm_names.proofs.SamenessLaws.{either_way, and_left, and_both, both_ways, or_right, or_both, false_if}
-use Rattle.history_laws.proofs.SumLaws.{any_one}
 
 -- ---- which parcels an event adds and takes
 

@@ -1,29 +1,21 @@
 -- Which trackers wait after one more event, and which fired.
-use Rattle.std.proofs.Common.{ℕ, ◌≡◌, ◌≤◌, refl, ap, sym, ◌∙◌, Bool, true, false, cond, not, ◌&&◌, ◌==◌, nat_le, inl}
-use Rattle.std.proofs.Common.{inr, List, [], ◌∷◌, ◌++◌, length, map, reverse, Option, Some, None, is_none, arith}
-use Rattle.std.proofs.lemmas.List.{reverse-append, append-nil}
+use Rattle.event_laws.proofs.Common.{Bool, Bound, Called, Condition, Entry, Grows, In, In-reverse, IsAnswer, IsWaitedFor, List, None}
+use Rattle.event_laws.proofs.Common.{Option, Some, Timeline, Tracked, [], after, allocated, ap, arith, cond, cons_option, earlier_after}
+use Rattle.event_laws.proofs.Common.{either_way, events, false, filter, fired, fired_at, gone, holds, inl, inr, is_none, is_tracked_met}
+use Rattle.event_laws.proofs.Common.{length, length-filter, map, moments, nat_le, not, option_map_or, readings, refl, reverse}
+use Rattle.event_laws.proofs.Common.{reverse-append, sum_by, sum_by-append, sum_by-cons, sym, tracked, tracked_at, tracked_firing}
+use Rattle.event_laws.proofs.Common.{tracker_made, trackers_to_test, true, unfired_trackers, world, ℕ, ◌&&◌, ◌++◌, ◌==◌, ◌∙◌, ◌∷◌, ◌≡◌}
+use Rattle.event_laws.proofs.Common.{◌≤◌}
+use Rattle.std.proofs.lemmas.List.{append-nil}
 use Rattle.std.proofs.lemmas.List.Concat.{flat_map-append}
 use Rattle.std.proofs.lemmas.List.Elements.{filter-append}
-use Rattle.std.proofs.lemmas.List.Sums.{length-filter, sum_by-append, sum_by-cons}
-use Rattle.std.specs.List.{filter, flat_map, count_by, sum_by, cons_option}
-use Rattle.std.specs.Option.{option_map_or}
-use Rattle.sm_names.specs.declared.tracking.Condition.{Condition}
+use Rattle.std.specs.List.{flat_map, count_by}
 use Rattle.sm_names.specs.declared.tracking.Fired.{Fired}
-use Rattle.sm_names.specs.Answers.{IsAnswer}
-use Rattle.sm_names.specs.Bounds.{Bound}
 use Rattle.sm_names.specs.Handles.{left}
-use Rattle.sm_names.specs.Losses.{gone, allocated}
-use Rattle.sm_names.specs.Marks.{Entry, Timeline, Called, events}
-use Rattle.sm_names.specs.Reading.{readings}
-use Rattle.sm_names.specs.Timelines.{after}
-use Rattle.sm_names.specs.Trackers.{Tracked, tracked, tracked_at, moments, fired_at, fired_in, fired, unfired, holds, world}
-use Rattle.event_laws.specs.Waiting.{unfired_trackers, tracker_made, trackers_to_test, is_tracked_met, tracked_firing, IsWaitedFor}
+use Rattle.sm_names.specs.Trackers.{fired_in, unfired}
 use Rattle.event_laws.proofs.FiringLaws.{not_due, waits_next, fires_now, fired_then, made_waits}
-use Rattle.history_laws.proofs.GoneLaws.{earlier_after}
-use Rattle.history_laws.proofs.GrowthLaws.{Grows}
-use Rattle.sm_names.proofs.ListLaws.{In, In-reverse, In-filter, filter-In}
+use Rattle.sm_names.proofs.ListLaws.{In-filter, filter-In}
 use Rattle.event_laws.proofs.MomentLaws.{moment_earlier, tracked_after}
-use Rattle.sm_names.proofs.SamenessLaws.{either_way}
 
 -- ---- lists
 

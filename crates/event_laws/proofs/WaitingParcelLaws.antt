@@ -1,26 +1,14 @@
 -- How many parcels wait for a client at most.
-use Rattle.std.proofs.Common.{ℕ, ◌≡◌, ◌≤◌, ◌+◌, ap, ◌∙◌, subst, true, false, cond, not, ◌&&◌, ◌==◌, inl, inr, List, [], ◌∷◌, arith}
-use Rattle.std.specs.List.{list_any, sum_by}
-use Rattle.std.proofs.lemmas.Bool.{eqb-true}
-use Rattle.std.proofs.lemmas.List.Sums.{sum_by-cons}
-use Rattle.sm_names.specs.declared.keys.BufferName.{BufferName}
-use Rattle.sm_names.specs.declared.keys.NodeKey.{NodeKey}
-use Rattle.sm_names.specs.declared.keys.Strength.{Strength}
-use Rattle.sm_names.specs.declared.messages.Parcel.{Parcel}
-use Rattle.sm_names.specs.Births.{Birth, births, was_born}
-use Rattle.sm_names.specs.Bounds.{Bound}
-use Rattle.sm_names.specs.Ends.{clients, has_joined, in_transit, is_end_of, is_handle_of, parcels, spent}
-use Rattle.sm_names.specs.Handles.{moving}
+use Rattle.event_laws.proofs.Common.{Birth, Bound, BufferName, Grows, In, In-list_any, List, NodeKey, Parcel, Strength, Timeline, []}
+use Rattle.event_laws.proofs.Common.{and_right, ap, arith, births, clients, cond, either_way, eqb-true, false, gone, has_joined}
+use Rattle.event_laws.proofs.Common.{in_transit, inl, inr, is_end_of, list_any, moving, not, one, or_right, parcels, same_key}
+use Rattle.event_laws.proofs.Common.{same_key-refl, same_key-true, spent, subst, sum_by, sum_by-add, sum_by-cons, sum_by-same, times}
+use Rattle.event_laws.proofs.Common.{times-cons, true, was_born, ℕ, ◌&&◌, ◌+◌, ◌==◌, ◌∙◌, ◌∷◌, ◌≡◌, ◌≤◌}
+use Rattle.sm_names.specs.Ends.{is_handle_of}
 use Rattle.sm_names.specs.Kept.{is_kept, kept_nodes}
-use Rattle.sm_names.specs.Losses.{gone}
-use Rattle.sm_names.specs.Marks.{Timeline}
-use Rattle.sm_names.specs.Sameness.{same_key}
-use Rattle.sm_names.specs.Words.{times}
-use Rattle.sm_names.proofs.ListLaws.{In, In-list_any}
-use Rattle.sm_names.proofs.SamenessLaws.{either_way, and_right, or_left, or_right, same_key-true, same_key-refl}
+use Rattle.sm_names.proofs.SamenessLaws.{or_left}
 use Rattle.history_laws.proofs.CountLaws.{counted, moving_is}
-use Rattle.history_laws.proofs.GrowthLaws.{Grows}
-use Rattle.history_laws.proofs.SumLaws.{In-le-sum_by, one, sum_by-add, sum_by-same, times-cons}
+use Rattle.history_laws.proofs.SumLaws.{In-le-sum_by}
 use Rattle.event_laws.specs.ByEvent.{is_end}
 use Rattle.event_laws.proofs.EndEventLaws.{in_transit_born, waits_in_transit}
 use Rattle.event_laws.proofs.ParcelEventLaws.{stranger_waits_for_none}

@@ -1,20 +1,13 @@
 -- What climbs from live nodes come to is what has a live node at or below it.
-use Rattle.std.proofs.Common.{◌≡◌, ◌⊎◌, inl, inr, refl, ap, sym, ◌∙◌, Bool, true, false, ◌||◌}
-use Rattle.std.proofs.Common.{not, if◌then◌else◌, List, [], ◌∷◌, reverse, Option, Some, None}
-use Rattle.std.proofs.lemmas.Bool.{not-true}
-use Rattle.std.specs.List.{list_any}
-use Rattle.std.specs.Option.{option_map_or}
-use Rattle.sm_names.specs.declared.keys.NodeKey.{NodeKey}
-use Rattle.sm_names.specs.Sameness.{same_key}
-use Rattle.sm_names.proofs.ListLaws.{In, In-list_any, In-reverse, In-reverse-back, In-any}
-use Rattle.sm_names.proofs.SamenessLaws.{and_both, and_left, and_right, both_ways, either_way, or_cases, or_left}
-use Rattle.sm_names.proofs.SamenessLaws.{or_none_left, or_none_right, or_right, same_key-refl, same_key-true, both_tests}
-use Rattle.forest_store.specs.declared.node.Node.{Node}
-use Rattle.forest_store.specs.Nodes.{above_among, is_of}
-use Rattle.forest_store.specs.Questions.{is_below, is_live_node, lives_below}
-use Rattle.forest_store.specs.Scenes.{are_distinct}
-use Rattle.forest_store.proofs.lists.Lookups.{same_key-swap}
-use Rattle.forced_marks.specs.KeySets.{climbed_past, climbs_into}
+use Rattle.forced_marks.proofs.Common.{Bool, In-any, In-list_any, In-reverse, In-reverse-back, List, Node, NodeKey, None, Option, Some}
+use Rattle.forced_marks.proofs.Common.{[], above_among, and_left, and_right, ap, are_distinct, both_tests, both_ways, climbs_into}
+use Rattle.forced_marks.proofs.Common.{either_way, false, if◌then◌else◌, inl, inr, is_below, is_of, list_any, not, not-true}
+use Rattle.forced_marks.proofs.Common.{option_map_or, or_cases, or_left, or_none_left, or_none_right, or_right, refl, reverse, same_key}
+use Rattle.forced_marks.proofs.Common.{same_key-refl, same_key-swap, same_key-true, sym, true, ◌||◌, ◌∙◌, ◌∷◌, ◌≡◌, ◌⊎◌}
+use Rattle.sm_names.proofs.ListLaws.{In}
+use Rattle.sm_names.proofs.SamenessLaws.{and_both}
+use Rattle.forest_store.specs.Questions.{is_live_node, lives_below}
+use Rattle.forced_marks.specs.KeySets.{climbed_past}
 use mathlib.Core.List.{reverse_aux}
 
 -- a climb from the one key, through these, the newest first, reaches the other

@@ -1,36 +1,24 @@
 -- The marks that are told of an event are those that the history has for it.
-use Rattle.std.proofs.Common.{ℕ, ◌≡◌, refl, ap, sym, ◌∙◌, subst, List, [], ◌∷◌, map, Option, Some, None}
-use Rattle.std.specs.List.{cons_option}
-use Rattle.std.specs.Option.{option_map_or}
-use Rattle.sm_names.specs.declared.keys.Interval.{Interval}
-use Rattle.sm_names.specs.declared.keys.NodeKey.{NodeKey}
-use Rattle.sm_names.specs.declared.messages.Call.{Call}
-use Rattle.sm_names.specs.declared.messages.Reply.{Reply}
+use Rattle.forced_marks.proofs.Common.{Call, Called, Collection, Counts, Entry, Follows, Grows, HandleCounts, Handles, Interval, List}
+use Rattle.forced_marks.proofs.Common.{Mark, NodeKey, None, Option, Reply, SettlesBy, Some, Stage, StagesIn, State, Timeline, Work, []}
+use Rattle.forced_marks.proofs.Common.{ap, beside, changed_by, collection_or_new, cons_option, counts_on, every_rests, forced, is_kept}
+use Rattle.forced_marks.proofs.Common.{laid_on, legal_grows, made, map, next_forced, option_map_or, own_loss, own_mark, refl, settled}
+use Rattle.forced_marks.proofs.Common.{subst, sym, timeline, total, work_of, ℕ, ◌∙◌, ◌∷◌, ◌≡◌}
 use Rattle.sm_names.specs.Answers.{IsAnswer}
-use Rattle.sm_names.specs.Forced.{forced}
-use Rattle.sm_names.specs.Kept.{is_kept}
-use Rattle.sm_names.specs.Marks.{Entry, Mark, Timeline, Called}
 use Rattle.sm_names.specs.Reading.{readings}
-use Rattle.sm_names.specs.Timelines.{after, own_loss, settled, timeline, next_forced}
-use Rattle.history_laws.proofs.GrowthLaws.{Grows, grows_lost, legal_grows}
+use Rattle.sm_names.specs.Timelines.{after}
+use Rattle.history_laws.proofs.GrowthLaws.{grows_lost}
 use Rattle.history_laws.proofs.LegalLaws.{own_loss_no_event}
-use Rattle.history_laws.proofs.RestLaws.{every_rests}
-use Rattle.buffer_holds.specs.Counts.{total}
 use Rattle.forest_store.specs.declared.node.End.{End}
-use Rattle.forest_store.specs.Forest.{Collection, beside}
-use Rattle.forest_store.specs.Settling.{Handles, collection_or_new, made}
 use Rattle.core_state.specs.Reads.{readings_of}
 use Rattle.core_state.specs.Shown.{Shows}
-use Rattle.core_state.specs.State.{HandleCounts, State}
-use Rattle.core_state.specs.Steps.{Follows, Work, end_by, handles_by, place_of, work_of}
+use Rattle.core_state.specs.Steps.{end_by, handles_by, place_of}
 use Rattle.core_state.proofs.answers.Changes.{idle, starts}
 use Rattle.core_state.proofs.ends.NotRead.{placed_in, standing_placed, made_placed}
 use Rattle.core_state.proofs.forced.NothingForced.{idle_after}
-use Rattle.core_state.proofs.forced.Settled.{counts_on}
 use Rattle.core_state.proofs.handles.Counts.{handles_called}
-use Rattle.core_state.proofs.theorem.Follows.{Counts}
 use Rattle.core_state.proofs.views.SameAnswers.{answer_is}
-use Rattle.forced_marks.specs.Marks.{AreStages, SettlesBy, Rests, Forces, Stage, StagesIn, changed_by, laid_on, own_mark}
+use Rattle.forced_marks.specs.Marks.{AreStages, Rests, Forces}
 use Rattle.forced_marks.proofs.OwnMark.{laid_own, own_is}
 use Rattle.forced_marks.proofs.Staged.{marks_staged}
 use Rattle.forced_marks.proofs.Tied.{told_is_forced}

@@ -1,32 +1,25 @@
 -- A buffer is held exactly while a live strong node or an open handle keeps it.
-use Rattle.std.proofs.Common.{ℕ, ◌+◌, ◌<◌, ◌≤◌, inl, inr, arith, ◌≡◌, refl, ap, sym, ◌∙◌, Bool, true, false, cond, not}
-use Rattle.std.proofs.Common.{◌&&◌, ◌||◌, ◌==◌, nat_lt, List, [], ◌∷◌, ◌++◌, map, reverse, length, Some, None, is_some}
-use Rattle.std.specs.List.{filter, flat_map, list_any, sum_by}
-use Rattle.std.proofs.lemmas.Bool.{eqb-true, eq-eqb, lt-ltb, ltb-false, ltb-true}
-use Rattle.std.proofs.lemmas.List.{length-map}
-use Rattle.std.proofs.lemmas.List.Folds.{list_any-append}
+use Rattle.forced_marks.proofs.Common.{Birth, Bool, BufferName, In-any, In-filter, In-reverse, List, Member, None, Some, Strength}
+use Rattle.forced_marks.proofs.Common.{Timeline, [], ap, arith, births, both_tests, cond, either_way, false, gone, inl, inr, is_some}
+use Rattle.forced_marks.proofs.Common.{is_some-find, length, length-map, list_any, list_any-append, lt-ltb, ltb-false, ltb-true, map}
+use Rattle.forced_marks.proofs.Common.{nat_lt, not, or_cases, or_left, or_right, refl, reverse, same_key, same_key-refl, sum_by, sym}
+use Rattle.forced_marks.proofs.Common.{true, ℕ, ◌&&◌, ◌++◌, ◌+◌, ◌<◌, ◌||◌, ◌∙◌, ◌∷◌, ◌≡◌, ◌≤◌}
+use Rattle.std.proofs.Common.{◌==◌}
+use Rattle.std.specs.List.{filter, flat_map}
+use Rattle.std.proofs.lemmas.Bool.{eqb-true, eq-eqb}
 use Rattle.std.proofs.lemmas.List.Sums.{sum_by-cons}
-use Rattle.sm_names.specs.declared.keys.BufferName.{BufferName}
-use Rattle.sm_names.specs.declared.keys.Strength.{Strength}
-use Rattle.sm_names.specs.Births.{Birth, birth_of, births}
+use Rattle.sm_names.specs.Births.{birth_of}
 use Rattle.sm_names.specs.Ends.{clients}
 use Rattle.sm_names.specs.Handles.{buffers_of, home, moving, open_of, open_total}
-use Rattle.sm_names.specs.Losses.{gone, live, released}
-use Rattle.sm_names.specs.Marks.{Timeline}
-use Rattle.sm_names.specs.Members.{Member, is_live, member, members, some_strong_live}
+use Rattle.sm_names.specs.Losses.{live, released}
+use Rattle.sm_names.specs.Members.{is_live, member, members, some_strong_live}
 use Rattle.sm_names.specs.Weakness.{weak}
-use Rattle.sm_names.proofs.ListLaws.{In, In-filter, In-list_any, In-reverse, In-reverse-back, is_some-find, list_any-map, In-any}
-use Rattle.sm_names.specs.Sameness.{same_key}
-use Rattle.sm_names.proofs.SamenessLaws.{either_way, false_if, or_cases, or_left, or_right, same_key-refl, both_tests}
+use Rattle.sm_names.proofs.ListLaws.{In, list_any-map}
+use Rattle.sm_names.proofs.SamenessLaws.{false_if}
 use Rattle.forced_marks.specs.Explanations.{Holder, holders, keepers, strengths}
+use Rattle.core_state.proofs.views.Readings.{any-reverse}
 
 -- ---- lists
-
--- some item of a list passes, whichever way it is read
-any_reverse : {A : Type 0} (p : A → Bool) (xs : List A) → list_any p (reverse xs) ≡ list_any p xs
-any_reverse p xs = both_tests (list_any p (reverse xs)) (list_any p xs)
-    (λ h. let x = In-list_any p (reverse xs) h in In-any p xs x.0 (In-reverse xs x.0 x.1) x.2)
-    (λ h. let x = In-list_any p xs h in In-any p (reverse xs) x.0 (In-reverse-back xs x.0 x.1) x.2)
 
 -- some item that is let through passes
 any_filter : {A : Type 0} (p q : A → Bool) (xs : List A) → list_any p (filter q xs) ≡ list_any (λ x. q x && p x) xs
@@ -105,10 +98,10 @@ pub some_keeper : (marks : Timeline) (collection : ℕ) →
 some_keeper marks collection =
     some_map (λ (b : Birth). b.node) _
     ∙ (some_filter (λ (b : Birth). b.collection == collection && (live marks b.node && not (weak marks b.node))) (reverse (births marks))
-    ∙ (any_reverse (λ (b : Birth). b.collection == collection && (live marks b.node && not (weak marks b.node))) (births marks)
+    ∙ (any-reverse (λ (b : Birth). b.collection == collection && (live marks b.node && not (weak marks b.node))) (births marks)
     ∙ (sym (any_filter (λ (b : Birth). live marks b.node && not (weak marks b.node))
     (λ (b : Birth). b.collection == collection) (births marks))
-    ∙ (sym (any_reverse (λ (b : Birth). live marks b.node && not (weak marks b.node))
+    ∙ (sym (any-reverse (λ (b : Birth). live marks b.node && not (weak marks b.node))
     (filter (λ (b : Birth). b.collection == collection) (births marks)))
     ∙ sym (list_any-map (λ (m : Member). is_live m && not m.weak)
     (λ (b : Birth). live marks b.node && not (weak marks b.node)) (member marks)
@@ -153,7 +146,7 @@ module _ (marks : Timeline) (buffer : BufferName) where
       ∙ (list_any-append (λ (h : Holder). nat_lt 0 h.count) (flat_map rows_of (reverse (clients marks))) parcel_rows
       ∙ ap (λ (b : Bool). b || (parcels_have Strength.Strong || (parcels_have Strength.Weak || false)))
       (any_flat (λ (h : Holder). nat_lt 0 h.count) rows_of (reverse (clients marks))
-      ∙ (any_reverse (λ client.
+      ∙ (any-reverse (λ client.
       nat_lt 0 (open_of marks client buffer Strength.Strong) || (nat_lt 0 (open_of marks client buffer Strength.Weak) || false))
       (clients marks)
       ∙ any_either (λ client. nat_lt 0 (open_of marks client buffer Strength.Strong))

@@ -1,36 +1,18 @@
 -- The mark that a call makes itself is that of its change.
-use Rattle.std.proofs.Common.{ℕ, ◌≡◌, refl, ap, sym, ◌∙◌, false, not, Bool, List, [], Option, Some, None}
-use Rattle.std.specs.List.{cons_option}
+use Rattle.forced_marks.proofs.Common.{Bool, Bound, Call, Cause, Change, Collection, Effect, Grows, List, Loss, Mark, Node, NodeKey, None}
+use Rattle.forced_marks.proofs.Common.{Option, Reply, Some, State, Timeline, Work, [], ap, collection_at, cons_option, false, gone}
+use Rattle.forced_marks.proofs.Common.{laid_on, not, own_loss, own_mark, refl, some-injective, sym, when, work_of, ℕ, ◌∙◌, ◌≡◌}
 use Rattle.std.specs.Option.{option_map}
-use Rattle.sm_names.specs.declared.keys.NodeKey.{NodeKey}
-use Rattle.sm_names.specs.declared.messages.Call.{Call}
-use Rattle.sm_names.specs.declared.messages.Reply.{Reply}
-use Rattle.sm_names.specs.declared.outcomes.Cause.{Cause}
 use Rattle.sm_names.specs.declared.outcomes.Misuse.{Misuse}
-use Rattle.sm_names.specs.Bounds.{Bound}
-use Rattle.sm_names.specs.Losses.{gone}
-use Rattle.sm_names.specs.Marks.{Mark, Timeline, Loss}
-use Rattle.sm_names.specs.Timelines.{key_of, own_loss}
-use Rattle.sm_names.specs.Words.{when}
-use Rattle.history_laws.proofs.GrowthLaws.{Grows}
-use Rattle.sm_names.proofs.SamenessLaws.{some-injective, and_then-Some, map-Some}
-use Rattle.forest_store.specs.declared.change.Change.{Change}
-use Rattle.forest_store.specs.declared.change.Effect.{Effect}
-use Rattle.forest_store.specs.declared.node.Node.{Node}
-use Rattle.forest_store.specs.Forest.{Collection, collection_at, node_at}
+use Rattle.sm_names.specs.Timelines.{key_of}
+use Rattle.sm_names.proofs.SamenessLaws.{and_then-Some, map-Some}
+use Rattle.forest_store.specs.Forest.{node_at}
 use Rattle.core_state.specs.Shown.{IsAfter}
-use Rattle.core_state.specs.State.{State}
-use Rattle.core_state.specs.Steps.{Work, at_collection, at_node, work_of}
+use Rattle.core_state.specs.Steps.{at_collection, at_node}
 use Rattle.core_state.proofs.forced.Dropping.{took_last}
 use Rattle.core_state.proofs.forced.Losing.{IsLosing, losing, no_work}
 use Rattle.core_state.proofs.views.Nodes.{node_there}
-use Rattle.forced_marks.specs.Marks.{laid_on, own_mark}
-
--- a misuse loses the node that the call names
-own_misused : (marks : Timeline) (call : Call) (m : Misuse) →
-    own_loss marks call (Reply.Misused m) ≡ option_map (λ key. Loss key (Cause.Misused m)) (key_of call)
-own_misused marks (Call.Close key) m = refl
-own_misused marks _ m = refl
+use Rattle.core_state.proofs.answers.Changes.{own_misused}
 
 module _ (s : State) (marks : Timeline) (shown : IsAfter s marks) (limits : Bound) (grown : Grows s.pool limits [] marks) where
   -- an effect is no mark

@@ -1,10 +1,7 @@
 -- Buffers that are placed one after another, each beside all that are held.
-use Rattle.std.proofs.Common.{ℕ, ◌≡◌, ◌+◌, ◌-◌, ◌<◌, ◌∙◌, suc, refl, ap, Bool, true}
-use Rattle.std.proofs.Common.{false, ◌||◌, List, [], ◌∷◌, ◌++◌, Option, Some, None, arith}
-use Rattle.std.specs.List.{list_any}
+use Rattle.forced_marks.proofs.Common.{Bool, Interval, List, None, Option, Some, [], ap, arith, false, least_start, list_any, places}
+use Rattle.forced_marks.proofs.Common.{refl, suc, true, ℕ, ◌++◌, ◌+◌, ◌-◌, ◌<◌, ◌||◌, ◌∙◌, ◌∷◌, ◌≡◌}
 use Rattle.std.specs.Option.{option_map}
-use Rattle.sm_names.specs.declared.keys.Interval.{Interval}
-use Rattle.sm_names.specs.Pages.{least_start, places}
 use Rattle.sm_names.proofs.PlaceLaws.{places_same}
 
 -- this many pages from a start on

@@ -1,14 +1,10 @@
 -- Each node that a loss takes has a reason: it is the highest that the failure climbed to, or its parent is taken.
-use Rattle.std.proofs.Common.{◌≡◌, refl, Bool, true, false, cond, ◌⊎◌, inl, inr, List, [], ◌∷◌, Some, None}
-use Rattle.std.specs.List.{find, list_any}
-use Rattle.std.specs.Option.{option_map_or}
-use Rattle.sm_names.specs.declared.keys.NodeKey.{NodeKey}
-use Rattle.sm_names.specs.Births.{Birth, births, ancestors, is_at_or_below, AreSound}
-use Rattle.sm_names.specs.Losses.{blocked, gone, parent_of, reaches, top}
-use Rattle.sm_names.specs.Marks.{Timeline}
-use Rattle.sm_names.specs.Sameness.{same_key}
+use Rattle.forced_marks.proofs.Common.{AreSound, Birth, Bool, List, NodeKey, None, Some, Timeline, [], ancestors, births, blocked}
+use Rattle.forced_marks.proofs.Common.{both_ways, cond, either_way, false, find, gone, inl, inr, is_at_or_below, list_any, option_map_or}
+use Rattle.forced_marks.proofs.Common.{or_left, or_right, parent_of, refl, same_key, same_key-refl, same_key-true, top, true, ◌∷◌, ◌≡◌}
+use Rattle.forced_marks.proofs.Common.{◌⊎◌}
+use Rattle.sm_names.specs.Losses.{reaches}
 use Rattle.history_laws.proofs.ReachLaws.{ancestors_on}
-use Rattle.sm_names.proofs.SamenessLaws.{both_ways, either_way, or_left, or_right, same_key-refl, same_key-true}
 use Rattle.forced_marks.specs.Explanations.{climb, last_or}
 
 -- the way ends at the top

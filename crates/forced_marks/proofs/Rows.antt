@@ -1,20 +1,15 @@
 -- The rows of nodes that propagate a mark to their children: each taken node stands in one, below its parent.
-use Rattle.std.proofs.Common.{◌≡◌, refl, ap, sym, ◌∙◌, subst, true, false, not, ◌&&◌, nat_lt, ◌⊎◌}
-use Rattle.std.proofs.Common.{inl, inr, List, [], ◌∷◌, reverse, length, Option, Some, None, arith}
-use Rattle.std.proofs.lemmas.Bool.{lt-ltb, not-true}
-use Rattle.std.specs.List.{list_any}
-use Rattle.std.specs.Option.{option_map_or}
-use Rattle.sm_names.specs.declared.keys.NodeKey.{NodeKey}
-use Rattle.sm_names.specs.declared.outcomes.Cause.{Cause}
-use Rattle.sm_names.specs.Births.{Birth, births, ancestors, is_at_or_below, AreSound}
-use Rattle.sm_names.specs.Losses.{blocked, gone, parent_of, takes, top}
-use Rattle.sm_names.specs.Marks.{Timeline, Loss, Ended}
-use Rattle.sm_names.specs.Sameness.{same_key}
-use Rattle.sm_names.proofs.ListLaws.{In, In-filter, In-filter-back, In-list_any, In-map, In-map-back, In-reverse-back}
+use Rattle.forced_marks.proofs.Common.{AreSound, Birth, Cause, Handing, In-filter, In-list_any, In-map, In-reverse-back, List, Loss}
+use Rattle.forced_marks.proofs.Common.{NodeKey, None, Option, Some, Timeline, [], ancestors, and_left, and_right, ap, arith, births}
+use Rattle.forced_marks.proofs.Common.{blocked, either_way, false, gone, inl, inr, is_at_or_below, length, list_any, lt-ltb, nat_lt, not}
+use Rattle.forced_marks.proofs.Common.{not-true, option_map_or, parent_of, refl, reverse, same_key, same_key-refl, same_key-true}
+use Rattle.forced_marks.proofs.Common.{some-injective, subst, sym, top, true, ◌&&◌, ◌∙◌, ◌∷◌, ◌≡◌, ◌⊎◌}
+use Rattle.sm_names.specs.Losses.{takes}
+use Rattle.sm_names.specs.Marks.{Ended}
+use Rattle.sm_names.proofs.ListLaws.{In, In-filter-back, In-map-back}
 use Rattle.history_laws.proofs.ReachLaws.{parent_born}
-use Rattle.sm_names.proofs.SamenessLaws.{and_left, and_right, either_way, same_key-refl, same_key-true, some-injective}
 use Rattle.history_laws.proofs.StandingLaws.{and_both}
-use Rattle.forced_marks.specs.Explanations.{Handing, Moment, handed, handings, taken_at, way_of_loss}
+use Rattle.forced_marks.specs.Explanations.{Moment, handed, handings, taken_at, way_of_loss}
 use Rattle.forced_marks.proofs.Reasons.{reason_below, root_reason, top_on_way}
 
 -- ---- rows of any nodes

@@ -1,35 +1,18 @@
 -- A forced step leaves a collection sound, and so does a change that fits.
-use Rattle.std.proofs.Common.{ℕ, ◌≡◌, refl, ap, sym, ◌∙◌, subst, Bool, true, false, not, nat_le}
-use Rattle.std.proofs.Common.{List, [], ◌∷◌, ◌++◌, drop, Option, Some, None, is_none, is_some}
-use Rattle.std.proofs.lemmas.Bool.{le-leb, not-true}
-use Rattle.std.proofs.lemmas.List.Folds.{list_any-append}
-use Rattle.std.specs.List.{list_all, list_any}
-use Rattle.std.specs.Option.{option_map_or, unwrap_or}
+use Rattle.forced_marks.proofs.Common.{Allocates, Bool, Buffers, Cause, Change, Collection, Decision, Effect, Ends, Failure, Fault}
+use Rattle.forced_marks.proofs.Common.{Interval, IsSound, IsStep, List, Loses, Mark, MayChange, Node, NodeKey, None, Option, Places, Some}
+use Rattle.forced_marks.proofs.Common.{[], affected, after_allocation, after_end, after_loss, and_left, and_right, ap, asked, changed}
+use Rattle.forced_marks.proofs.Common.{collection_at, collection_or_new, drop, ended, false, given_buffers, has_collection, is_birth}
+use Rattle.forced_marks.proofs.Common.{is_none, is_of, is_some, is_taken, list_all, list_any, lost, made, mark_of, members_of, nat_le}
+use Rattle.forced_marks.proofs.Common.{new_child, node_of, not, not-true, option_map_or, outcome, pages_of, places, refl, same_key-refl}
+use Rattle.forced_marks.proofs.Common.{subst, sym, true, unwrap_or, when, with_birth, with_nodes, ℕ, ◌++◌, ◌∙◌, ◌∷◌, ◌≡◌}
+use Rattle.std.proofs.lemmas.Bool.{le-leb}
 use Rattle.sm_names.specs.declared.rules.TheConstants.{MAX_BUFFERS}
-use Rattle.sm_names.specs.declared.keys.Interval.{Interval}
-use Rattle.sm_names.specs.declared.keys.NodeKey.{NodeKey}
-use Rattle.sm_names.specs.declared.outcomes.Buffers.{Buffers}
-use Rattle.sm_names.specs.declared.outcomes.Cause.{Cause}
-use Rattle.sm_names.specs.declared.outcomes.Failure.{Failure}
-use Rattle.sm_names.specs.declared.outcomes.Fault.{Fault}
-use Rattle.sm_names.specs.Forced.{outcome}
-use Rattle.sm_names.specs.Marks.{Mark}
-use Rattle.sm_names.specs.Members.{asked}
-use Rattle.sm_names.specs.Pages.{places, pages_of}
-use Rattle.sm_names.specs.Sameness.{same_key}
-use Rattle.sm_names.specs.Words.{when}
-use Rattle.sm_names.proofs.SamenessLaws.{and_left, and_right, or_none_left, or_none_right, same_key-refl}
-use Rattle.forest_store.specs.declared.change.Change.{Change}
-use Rattle.forest_store.specs.declared.change.Effect.{Effect}
-use Rattle.forest_store.specs.declared.node.Node.{Node}
-use Rattle.forest_store.specs.Decisions.{Decision, Ends, Loses, Places, Allocates, IsStep, mark_of}
-use Rattle.forest_store.specs.Forest.{Collection, Forest, collection_at, with_nodes}
-use Rattle.forest_store.specs.Nodes.{affected, after_allocation, after_end, after_loss, ended}
-use Rattle.forest_store.specs.Nodes.{given_buffers, is_of, is_taken, lost, members_of, new_child, node_of}
-use Rattle.forest_store.specs.Scenes.{IsSound, are_distinct, heads_itself}
-use Rattle.forest_store.specs.Settling.{MayChange, changed, collection_or_new, has_collection, is_birth, made, with_birth}
-use Rattle.forest_store.proofs.lists.Lookups.{same_key-swap}
+use Rattle.forest_store.specs.Forest.{Forest}
+use Rattle.forest_store.specs.Scenes.{heads_itself}
 use Rattle.forest_store.proofs.tables.Writing.{IsSameNode, IsSound-map}
+use Rattle.forest_store.proofs.changes.Altering.{same_affected}
+use Rattle.forest_store.proofs.newborns.Newborn.{distinct-more}
 
 -- what leaves the place of a node in its tree
 same : (f : Node → Node) → ((n : Node) → (f n).key ≡ n.key) → ((n : Node) → (f n).parent ≡ n.parent) →
@@ -77,17 +60,6 @@ step_sound pool others held c (Places head wants) is sound mark e =
 
 -- ---- the change
 
--- keys are distinct with another behind
-distinct_more : (ns : List Node) (node : Node) → list_any (is_of node.key) ns ≡ false → are_distinct ns ≡ true →
-    are_distinct (ns ++ node ∷ []) ≡ true
-distinct_more [] node none ok = refl
-distinct_more (n ∷ ns) node none ok =
-    let other : same_key node.key n.key ≡ false = same_key-swap node.key n.key ∙ or_none_left (same_key n.key node.key) _ none in
-    let apart : list_any (is_of n.key) ns ≡ false = not-true _ (and_left _ _ ok) in
-    let rest : are_distinct (ns ++ node ∷ []) ≡ true =
-    distinct_more ns node (or_none_right (same_key n.key node.key) _ none) (and_right _ _ ok) in
-    rw (list_any-append (is_of n.key) ns (node ∷ []), apart, other, rest) refl
-
 -- what holds of all holds with another behind
 all_more : (test : Node → Bool) (ns : List Node) (node : Node) → list_all test ns ≡ true → test node ≡ true →
     list_all test (ns ++ node ∷ []) ≡ true
@@ -112,7 +84,7 @@ child_heads false key event client above = refl
 child_sound : (c : Collection) (attached : Bool) (key : NodeKey) (event client : ℕ) (above : Node) → IsSound c →
     list_any (is_of key) c.nodes ≡ false → IsSound (record c { nodes = c.nodes ++ new_child attached key event client above ∷ [] })
 child_sound c attached key event client above ok fresh = record {
-  distinct = distinct_more c.nodes (new_child attached key event client above) fresh ok.distinct;
+  distinct = distinct-more c.nodes (new_child attached key event client above) fresh ok.distinct;
   heads = all_more heads_itself c.nodes (new_child attached key event client above) ok.heads (child_heads attached key event client above);
   one_root = one_root_more c.nodes (new_child attached key event client above) refl ok.one_root;
   few = ok.few;
@@ -128,19 +100,6 @@ root_sound f id event client key new = by (collection_at f id) (not-true (has_co
         IsSound (with_birth None false client event key (unwrap_or o (record { id = id; nodes = []; buffers = None; held = [] })))
     by None none = record { distinct = refl; heads = rw (same_key-refl key) refl; one_root = refl; few = refl }
     by (Some c) none = absurd (cc)
-
--- an effect leaves the place of a node
-same_affected : (key : NodeKey) (effect : Effect) (n : Node) → IsSameNode (affected key effect n) n
-same_affected key Effect.Bound = same (affected key Effect.Bound) (λ n. refl) (λ n. refl) (λ n. refl) (λ n. refl) (λ n. refl)
-same_affected key Effect.Dispensable = same (affected key Effect.Dispensable) (λ n. refl) (λ n. refl) (λ n. refl) (λ n. refl) (λ n. refl)
-same_affected key Effect.Weak = same (affected key Effect.Weak) (λ n. refl) (λ n. refl) (λ n. refl) (λ n. refl) (λ n. refl)
-same_affected key (Effect.WeakOk children) =
-    same (affected key (Effect.WeakOk children)) (λ n. refl) (λ n. refl) (λ n. refl) (λ n. refl) (λ n. refl)
-same_affected key (Effect.Constrained demand) =
-    same (affected key (Effect.Constrained demand)) (λ n. refl) (λ n. refl) (λ n. refl) (λ n. refl) (λ n. refl)
-same_affected key Effect.Taken = same (affected key Effect.Taken) (λ n. refl) (λ n. refl) (λ n. refl) (λ n. refl) (λ n. refl)
-same_affected key Effect.Released = same (affected key Effect.Released) (λ n. refl) (λ n. refl) (λ n. refl) (λ n. refl) (λ n. refl)
-same_affected key Effect.Tracked = same (affected key Effect.Tracked) (λ n. refl) (λ n. refl) (λ n. refl) (λ n. refl) (λ n. refl)
 
 -- a child of a node that is there, or none
 birth_sound : (c : Collection) (above : NodeKey) (attached : Bool) (client event : ℕ) (key : NodeKey) → IsSound c →

@@ -1,16 +1,8 @@
 -- The stages of marks that are made one after another.
-use Rattle.std.proofs.Common.{ℕ, ◌≡◌, refl, ap, List, [], ◌∷◌, ◌++◌, map, Option, Some, None}
-use Rattle.std.specs.List.{cons_option}
+use Rattle.forced_marks.proofs.Common.{Change, Collection, Interval, List, Mark, None, Option, Some, Stage, [], ap, cons_option, made}
+use Rattle.forced_marks.proofs.Common.{map, mark_told, own_mark, own_stage, refl, stage_of, stages, ℕ, ◌++◌, ◌∷◌, ◌≡◌}
 use Rattle.std.specs.Option.{option_map}
-use Rattle.sm_names.specs.declared.keys.Interval.{Interval}
-use Rattle.sm_names.specs.Marks.{Mark}
-use Rattle.forest_store.specs.declared.change.Change.{Change}
-use Rattle.forest_store.specs.Forest.{Collection}
-use Rattle.forest_store.specs.Settling.{made}
 use Rattle.forced_marks.specs.declared.moment.Moment.{Moment}
-use Rattle.forced_marks.specs.Marks.{Stage, own_mark, own_stage, stages}
-use Rattle.forced_marks.specs.Moments.{stage_of}
-use Rattle.forced_marks.specs.Steps.{mark_told}
 
 -- they have these marks
 marks_in : (pool : ℕ) (others : List Interval) (c : Collection) (ms : List Mark) →

@@ -1,12 +1,10 @@
 -- The least start with room, found from one interval that is held to the next.
-use Rattle.std.proofs.Common.{ℕ, ◌≡◌, ◌≤◌, ◌<◌, ◌+◌, ◌-◌, ◌∙◌, refl, ap, sym, Bool, true, false, ◌&&◌, not}
-use Rattle.std.proofs.Common.{cond, nat_lt, nat_le, if◌then◌else◌, inl, inr, List, Some, None, is_some, arith}
-use Rattle.std.proofs.lemmas.Bool.{leb-false, lt-leb, lt-ltb, ltb-true, ltb-false}
-use Rattle.std.specs.List.{find, list_any, range_with_len}
-use Rattle.sm_names.specs.declared.keys.Interval.{Interval}
-use Rattle.sm_names.specs.Pages.{has_room, meets}
-use Rattle.sm_names.proofs.ListLaws.{In-find, is_some-find, In-any}
-use Rattle.sm_names.proofs.SamenessLaws.{and_both, and_left, and_right, either_way}
+use Rattle.forced_marks.proofs.Common.{Bool, In-any, In-find, Interval, List, None, Some, and_left, and_right, ap, arith, cond}
+use Rattle.forced_marks.proofs.Common.{either_way, false, find, has_room, if◌then◌else◌, inl, inr, is_some, is_some-find, list_any}
+use Rattle.forced_marks.proofs.Common.{lt-ltb, ltb-false, ltb-true, meets, nat_le, nat_lt, not, range_with_len, refl, sym, true, ℕ, ◌&&◌}
+use Rattle.forced_marks.proofs.Common.{◌+◌, ◌-◌, ◌<◌, ◌∙◌, ◌≡◌, ◌≤◌}
+use Rattle.std.proofs.lemmas.Bool.{leb-false, lt-leb}
+use Rattle.sm_names.proofs.SamenessLaws.{and_both}
 use Rattle.buffer_pool.specs.Holes.{end_of}
 use Rattle.forced_marks.proofs.Ranges.{find_from, find_nothing, find_to}
 

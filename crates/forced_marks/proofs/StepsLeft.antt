@@ -1,28 +1,13 @@
 -- Each forced step leaves fewer to be made.
-use Rattle.std.proofs.Common.{ℕ, ◌≡◌, ◌+◌, ◌<◌, ◌≤◌, refl, ap, sym, ◌∙◌, subst, Bool, true, false}
-use Rattle.std.proofs.Common.{not, ◌&&◌, is_none, List, [], ◌∷◌, map, reverse, ◌⊎◌, inl, inr, arith}
-use Rattle.std.proofs.lemmas.Bool.{not-true}
-use Rattle.std.specs.List.{list_any}
-use Rattle.sm_names.specs.declared.keys.Interval.{Interval}
-use Rattle.sm_names.specs.declared.keys.NodeKey.{NodeKey}
-use Rattle.sm_names.specs.declared.outcomes.Cause.{Cause}
-use Rattle.sm_names.specs.declared.outcomes.Failure.{Failure}
-use Rattle.sm_names.specs.declared.outcomes.Fault.{Fault}
+use Rattle.forced_marks.proofs.Common.{Allocates, Bool, Cause, Collection, Decision, Ends, Failure, Fault, In-list_any, Interval, IsStep}
+use Rattle.forced_marks.proofs.Common.{List, Loses, Mark, Node, NodeKey, Places, [], above_among, after_allocation, after_end, after_loss}
+use Rattle.forced_marks.proofs.Common.{and_left, and_right, ap, arith, blocks_here, ended, false, given_buffers, inl, inr, is_below}
+use Rattle.forced_marks.proofs.Common.{is_none, is_of, is_taken, list_any, lost, made, map, mark_of, not, not-true, or_left, or_right}
+use Rattle.forced_marks.proofs.Common.{outcome, pages_of, places, refl, reverse, same_key, same_key-refl, same_key-true, subst, sym, true}
+use Rattle.forced_marks.proofs.Common.{when, ℕ, ◌&&◌, ◌+◌, ◌<◌, ◌∙◌, ◌∷◌, ◌≡◌, ◌≤◌, ◌⊎◌}
 use Rattle.sm_names.specs.Elements.{In}
-use Rattle.sm_names.specs.Forced.{outcome}
-use Rattle.sm_names.specs.Marks.{Mark}
-use Rattle.sm_names.specs.Pages.{places, pages_of}
-use Rattle.sm_names.specs.Sameness.{same_key}
-use Rattle.sm_names.specs.Words.{when}
-use Rattle.sm_names.proofs.ListLaws.{In-list_any}
 use Rattle.sm_names.proofs.ChainLaws.{top_on}
-use Rattle.sm_names.proofs.SamenessLaws.{and_left, and_right, or_left, or_right, same_key-refl, same_key-true}
-use Rattle.forest_store.specs.declared.node.Node.{Node}
-use Rattle.forest_store.specs.Decisions.{Decision, Ends, Loses, Places, Allocates, IsStep, has_waiting, is_left_of, mark_of}
-use Rattle.forest_store.specs.Forest.{Collection}
-use Rattle.forest_store.specs.Nodes.{above_among, after_allocation, after_end, after_loss, ended, given_buffers, is_of, is_taken, lost}
-use Rattle.forest_store.specs.Questions.{blocks_here, is_below}
-use Rattle.forest_store.specs.Settling.{made}
+use Rattle.forest_store.specs.Decisions.{has_waiting, is_left_of}
 use Rattle.forced_marks.proofs.Takings.{found_in, highest_of, taken_found}
 
 -- one, where it is still to come

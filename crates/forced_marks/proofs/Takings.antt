@@ -1,29 +1,18 @@
 -- What a loss takes of the nodes of a collection.
-use Rattle.std.proofs.Common.{◌≡◌, refl, ap, sym, ◌∙◌, true, false, ◌&&◌, not, is_some, List, [], ◌∷◌, map, reverse, Option, Some, None}
-use Rattle.std.specs.List.{list_any}
-use Rattle.sm_names.specs.declared.keys.NodeKey.{NodeKey}
-use Rattle.sm_names.specs.declared.outcomes.Fault.{Fault}
-use Rattle.std.specs.Option.{option_map_or}
-use Rattle.sm_names.specs.Changes.{blocks, highest}
+use Rattle.forced_marks.proofs.Common.{Fault, In-any, In-find, List, Node, NodeKey, None, Option, Some, [], above_among, after_loss, ap}
+use Rattle.forced_marks.proofs.Common.{blocks_here, false, is_below, is_of, is_some, is_some-find, is_taken, list_any, lost, map}
+use Rattle.forced_marks.proofs.Common.{members_of, node_of, option_map_or, refl, reverse, same_key-true, sym, true, ◌∙◌, ◌∷◌, ◌≡◌}
+use Rattle.sm_names.specs.Changes.{highest}
 use Rattle.sm_names.specs.Losses.{top as topmost}
-use Rattle.sm_names.specs.Members.{Member, is_under}
-use Rattle.sm_names.specs.Sameness.{same_key}
-use Rattle.sm_names.proofs.ListLaws.{In, In-find, is_some-find, In-any}
-use Rattle.sm_names.proofs.SamenessLaws.{same_key-true, some_is}
-use Rattle.forest_store.specs.declared.node.Node.{Node}
-use Rattle.forest_store.specs.Nodes.{above_among, is_of, node_of, is_taken, after_loss, lost, member_of, members_of}
-use Rattle.forest_store.specs.Questions.{blocks_here, is_below}
-use Rattle.forest_store.proofs.lists.Filters.{any-map_filter}
+use Rattle.sm_names.specs.Members.{is_under}
+use Rattle.sm_names.proofs.ListLaws.{In}
+use Rattle.sm_names.proofs.SamenessLaws.{some_is}
+use Rattle.forest_store.specs.Nodes.{member_of}
+use Rattle.forest_steps.proofs.mid_event.Turns.{blocked_here}
 
 -- the highest node that a failure of the node with this key reaches
 abbrev pub highest_of : List Node → NodeKey → NodeKey
 highest_of nodes key = topmost (λ k. list_any (blocks_here k) nodes) key (above_among (reverse nodes) key)
-
--- the climb reads the nodes as it reads the members
-blocked_here : (nodes : List Node) (k : NodeKey) →
-    list_any (λ m. same_key m.key k && blocks m) (members_of nodes) ≡ list_any (blocks_here k) nodes
-blocked_here nodes k = any-map_filter (λ (n : Node). not n.gone) (member_of nodes)
-    (λ (m : Member). same_key m.key k && blocks m) nodes
 
 -- the first node with a key that some node has
 pub found_in : (nodes : List Node) (key : NodeKey) (n : Node) → In n nodes → is_of key n ≡ true → (o : Node) × (node_of nodes key ≡ Some o)

@@ -1,21 +1,16 @@
 -- The marks that are told are those that the history forces.
-use Rattle.std.proofs.Common.{ℕ, ◌≡◌, sym, ◌∙◌, subst, Bool, List, [], ◌∷◌, Some}
-use Rattle.sm_names.specs.declared.keys.Interval.{Interval}
-use Rattle.sm_names.specs.declared.keys.NodeKey.{NodeKey}
-use Rattle.sm_names.specs.Bounds.{Bound}
-use Rattle.sm_names.specs.Marks.{Mark, Timeline}
-use Rattle.sm_names.specs.Timelines.{settled, Settles, Rests, Forces, next_forced}
-use Rattle.history_laws.proofs.GrowthLaws.{Grows, grows_forced}
+use Rattle.forced_marks.proofs.Common.{Bool, Bound, Collection, Counts, Grows, Handles, Interval, List, Mark, NodeKey, SettlesBy, Some}
+use Rattle.forced_marks.proofs.Common.{Timeline, [], counts_on, forced_matches, laid_on, made, next_forced, settled, subst, sym, ℕ, ◌∙◌}
+use Rattle.forced_marks.proofs.Common.{◌∷◌, ◌≡◌}
+use Rattle.sm_names.specs.Timelines.{Settles, Rests, Forces}
+use Rattle.history_laws.proofs.GrowthLaws.{grows_forced}
 use Rattle.history_laws.proofs.LifeLaws.{whole}
 use Rattle.history_laws.proofs.SettledLaws.{Settles-one, settled_rests, forced_no_event}
 use Rattle.history_laws.proofs.WholeLaws.{IsWhole}
-use Rattle.forest_store.specs.Forest.{Collection}
-use Rattle.forest_store.specs.Settling.{Handles, made}
 use Rattle.forest_store.proofs.tallies.Slots.{made_id}
-use Rattle.core_state.proofs.theorem.Follows.{Counts, Matches, forced_matches}
+use Rattle.core_state.proofs.theorem.Follows.{Matches}
 use Rattle.core_state.proofs.forced.ForcedStep.{step_matches}
-use Rattle.core_state.proofs.forced.Settled.{counts_on}
-use Rattle.forced_marks.specs.Marks.{SettlesBy, Rests as RestsBy, Forces as ForcesBy, laid_on}
+use Rattle.forced_marks.specs.Marks.{Rests as RestsBy, Forces as ForcesBy}
 
 module _ (pool : ℕ) (limits : Bound) (handles : Handles) (keep : NodeKey → Bool) (others : List Interval) where
   -- each step that is told is one of the history

@@ -1,62 +1,45 @@
 -- A change that forces nothing: its collection rested before, and rests after it.
-use Rattle.std.proofs.Common.{ℕ, ◌≡◌, ◌≤◌, ◌<◌, ◌+◌, ◌-◌, refl, ap, sym, ◌∙◌, subst, Bool, true, false, not, ◌&&◌, ◌⊎◌, inl, inr}
-use Rattle.std.proofs.Common.{nat_le, nat_lt, List, [], ◌∷◌, ◌++◌, map, Option, Some, None, is_none, is_some, arith, if◌then◌else◌}
-use Rattle.std.proofs.lemmas.Bool.{lt-ltb, ltb-true}
-use Rattle.std.proofs.lemmas.List.Folds.{find-append, list_any-append}
-use Rattle.std.specs.List.{find, list_any}
-use Rattle.std.specs.Option.{IfSome, option_and_then, option_map, option_map_or, option_or, unwrap_or}
-use Rattle.sm_names.specs.declared.keys.BufferName.{BufferName}
-use Rattle.sm_names.specs.declared.keys.NodeKey.{NodeKey}
-use Rattle.sm_names.specs.declared.keys.Strength.{Strength}
-use Rattle.sm_names.specs.declared.messages.Call.{Call}
-use Rattle.sm_names.specs.declared.messages.Reply.{Reply}
-use Rattle.sm_names.specs.declared.outcomes.Buffers.{Buffers}
-use Rattle.sm_names.specs.declared.outcomes.Cause.{Cause}
+use Rattle.forced_marks.proofs.Common.{Birth, Bool, BufferName, Buffers, Call, Called, Cause, Change, Collection, Counts, Decision}
+use Rattle.forced_marks.proofs.Common.{Effect, Entry, Follows, Grows, HandleCounts, Handles, IfSome, In-any, In-filter, In-list_any}
+use Rattle.forced_marks.proofs.Common.{In-map, List, Loses, MayChange, Node, NodeKey, None, Option, Reply, Some, StagesIn, State}
+use Rattle.forced_marks.proofs.Common.{Strength, Timeline, Work, [], affected, ap, arith, beside, births, both_ways, changed, changed_by}
+use Rattle.forced_marks.proofs.Common.{collection_at, collection_or_new, decided, either_way, every_rests, false, find, forced}
+use Rattle.forced_marks.proofs.Common.{forced_made, forced_matches, has_collection, if◌then◌else◌, inl, inr, is_birth, is_kept, is_none}
+use Rattle.forced_marks.proofs.Common.{is_of, is_root_left, is_some, legal_grows, list_any, list_any-append, lt-ltb, ltb-true, map}
+use Rattle.forced_marks.proofs.Common.{mark_of, nat_le, nat_lt, new_child, node_of, not, option_map_or, own_stage, pages_in, refl}
+use Rattle.forced_marks.proofs.Common.{same_key, same_key-refl, some-injective, standing, subst, sym, timeline, total, true, unwrap_or}
+use Rattle.forced_marks.proofs.Common.{when, with_birth, with_nodes, work_of, ℕ, ◌&&◌, ◌++◌, ◌+◌, ◌-◌, ◌<◌, ◌∙◌, ◌∷◌, ◌≡◌, ◌≤◌, ◌⊎◌}
+use Rattle.std.proofs.lemmas.List.Folds.{find-append}
+use Rattle.std.specs.Option.{option_and_then, option_map, option_or}
 use Rattle.sm_names.specs.declared.tracking.Fired.{Fired}
 use Rattle.sm_names.specs.Answers.{new_key}
-use Rattle.sm_names.specs.Births.{Birth, births}
-use Rattle.sm_names.specs.Forced.{forced}
 use Rattle.sm_names.specs.Handles.{drops, opens}
-use Rattle.sm_names.specs.Kept.{is_kept}
-use Rattle.sm_names.specs.Marks.{Called, Entry, Timeline}
 use Rattle.sm_names.specs.Members.{births_in}
-use Rattle.sm_names.specs.Sameness.{same_key}
-use Rattle.sm_names.specs.Timelines.{timeline}
-use Rattle.sm_names.specs.Words.{first_some, when}
-use Rattle.sm_names.proofs.ListLaws.{In, In-any, In-filter, In-list_any, In-map}
-use Rattle.sm_names.proofs.SamenessLaws.{both_ways, either_way, map-None, same_key-refl, some-injective}
-use Rattle.history_laws.proofs.GrowthLaws.{Grows, legal_grows}
+use Rattle.sm_names.specs.Words.{first_some}
+use Rattle.sm_names.proofs.ListLaws.{In}
+use Rattle.sm_names.proofs.SamenessLaws.{map-None}
 use Rattle.history_laws.proofs.IsolationLaws.{birth_of_collection}
 use Rattle.history_laws.proofs.LifeLaws.{ordered}
-use Rattle.history_laws.proofs.RestLaws.{every_rests}
-use Rattle.buffer_holds.specs.Counts.{total}
-use Rattle.forest_store.specs.declared.change.Change.{Change}
-use Rattle.forest_store.specs.declared.change.Effect.{Effect}
-use Rattle.forest_store.specs.declared.node.Node.{Node}
 use Rattle.forest_store.specs.Calm.{IsQuiescent}
 use Rattle.forest_store.specs.CollectionRows.{is_strong}
-use Rattle.forest_store.specs.Decisions.{Decision, Loses, decided, has_strong, mark_of}
-use Rattle.forest_store.specs.Forest.{Collection, beside, collection_at, given, pages_in, with_nodes}
-use Rattle.forest_store.specs.Nodes.{affected, is_of, is_unkept, new_child, new_root, node_of}
-use Rattle.forest_store.specs.Questions.{is_root_left}
-use Rattle.forest_store.specs.Settling.{Handles, MayChange, Settled, buffer_names, changed, collection_or_new, has_collection, is_birth, no_key, standing, with_birth}
+use Rattle.forest_store.specs.Decisions.{has_strong}
+use Rattle.forest_store.specs.Forest.{given}
+use Rattle.forest_store.specs.Nodes.{is_unkept, new_root}
+use Rattle.forest_store.specs.Settling.{Settled, buffer_names, no_key}
 use Rattle.forest_store.proofs.changes.Effecting.{plain_affected}
 use Rattle.forest_store.proofs.newborns.Calmness.{births_calm}
 use Rattle.forest_store.proofs.newborns.NothingForced.{HaveOthers}
 use Rattle.forest_store.proofs.quiescence.Calming.{IsPlain, any_map, calm_map, calm_none, decided_parts, find_map, none_calm}
-use Rattle.forest_store.proofs.quiescence.Forcing.{forced_made}
 use Rattle.forest_store.proofs.quiescence.Resting.{still_decided}
 use Rattle.forest_steps.specs.NodeEffects.{KeepsCounts, keeps_counts}
 use Rattle.forest_steps.proofs.mid_event.Counted.{counts_kept}
 use Rattle.core_state.specs.Shown.{ShowsBut, collection_after, node_after, recalling}
-use Rattle.core_state.specs.State.{HandleCounts, State}
-use Rattle.core_state.specs.Steps.{Follows, Work, Worked, work_of}
+use Rattle.core_state.specs.Steps.{Worked}
 use Rattle.core_state.proofs.forced.Fits.{fresh_key}
 use Rattle.core_state.proofs.forced.Starting.{follows}
-use Rattle.core_state.proofs.theorem.Follows.{Counts, forced_matches}
 use Rattle.core_state.proofs.theorem.OfHistory.{sound_of}
 use Rattle.core_state.proofs.views.Nodes.{collection_there}
-use Rattle.forced_marks.specs.Marks.{Rests, StagesIn, changed_by, forces_nothing, own_stage}
+use Rattle.forced_marks.specs.Marks.{Rests, forces_nothing}
 
 -- ---- what may be abandoned
 

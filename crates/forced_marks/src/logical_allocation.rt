@@ -9,6 +9,7 @@ ghost use Rattle.forced_marks.specs.KeySets.{has, is_next_by};
 use crate::demand::{reserved, total_demand};
 use crate::key_sets::KeySet;
 use crate::node_sets::{allocated_nodes, waiting_heads};
+use forest_steps::demand::refusal;
 use forest_store::Node;
 use sm_names::{Buffers, Failure, NodeKey};
 use std::alloc::{AllocError, Global};
@@ -59,12 +60,5 @@ pub fn failure(nodes: &[Node], head: NodeKey, buffers: Buffers) -> Option<Failur
     ensures { result ≡ late_failure head nodes.now buffers }
 {
     let asks = total_demand(nodes, head);
-    let count = buffers.count as u128;
-    if count < reserved(nodes) + asks.camping || count < asks.at_least as u128 {
-        Some(Failure::TooFew)
-    } else if buffers.size < asks.size {
-        Some(Failure::TooSmall)
-    } else {
-        None
-    }
+    refusal(buffers, reserved(nodes), &asks)
 }

@@ -1,20 +1,11 @@
 -- A call that took effect passed every test, and its answer is that of the effect.
-use Rattle.std.proofs.Common.{ℕ, ◌≡◌, refl, ap, sym, ◌∙◌, Bool, true, false, ◌&&◌, nat_le, List, [], ◌∷◌, Option, Some, None}
-use Rattle.std.specs.Option.{option_map, option_and_then, unwrap_or}
-use Rattle.sm_names.specs.declared.keys.NodeKey.{NodeKey}
-use Rattle.sm_names.specs.declared.messages.Call.{Call}
-use Rattle.sm_names.specs.declared.messages.Reply.{Reply}
-use Rattle.sm_names.specs.declared.outcomes.Misuse.{Misuse}
-use Rattle.sm_names.specs.declared.outcomes.Refusal.{Refusal}
-use Rattle.sm_names.specs.Answers.{OpenEnd, Readings, answer, answers_first, effect, unknown_client, shut_client, no_end}
-use Rattle.sm_names.specs.Answers.{end_in_transit, closing, peer_closed, wrong_kind, misuse, misuse_of, no_handle, makes_node}
-use Rattle.sm_names.specs.Answers.{makes_collection, makes_tracker, too_many_handles, refused_if, misused_if, end_named}
-use Rattle.sm_names.specs.Bounds.{Bound}
+use Rattle.history_laws.proofs.Common.{Bool, Bound, Call, Fault, List, Misuse, NodeKey, None, OpenEnd, Option, Readings, Refusal, Reply}
+use Rattle.history_laws.proofs.Common.{Some, [], answer, answers_first, ap, both_ways, closing, effect, end_in_transit, end_named, false}
+use Rattle.history_laws.proofs.Common.{first_some, key_of, misuse, misuse_of, nat_le, no_end, no_handle, option_and_then, option_map}
+use Rattle.history_laws.proofs.Common.{peer_closed, refl, refused_if, shut_client, sym, true, unknown_client, unwrap_or, wrong_kind, ℕ}
+use Rattle.history_laws.proofs.Common.{◌&&◌, ◌∙◌, ◌∷◌, ◌≡◌}
+use Rattle.sm_names.specs.Answers.{makes_node, makes_collection, makes_tracker, too_many_handles, misused_if}
 use Rattle.sm_names.specs.Marks.{took_effect}
-use Rattle.sm_names.specs.Timelines.{key_of}
-use Rattle.sm_names.proofs.SamenessLaws.{both_ways}
-use Rattle.sm_names.specs.Words.{first_some}
-use Rattle.sm_names.specs.declared.outcomes.Fault.{Fault}
 
 -- if there is an answer here, it is one of a call that did not take effect
 abbrev pub Refuses : Option Reply → Type 0

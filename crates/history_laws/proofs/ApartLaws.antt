@@ -1,34 +1,22 @@
 -- A collection that an event does not name is after it as it was before.
-use Rattle.std.proofs.Common.{ℕ, ◌≡◌, refl, ap, sym, ◌∙◌, subst, Bool, true, false, cond, not, ◌==◌}
-use Rattle.std.proofs.Common.{nat_le, List, [], ◌∷◌, length, map, Option, Some, None, is_some}
-use Rattle.std.proofs.lemmas.Bool.{eqb-true, eq-eqb}
+use Rattle.history_laws.proofs.Common.{Birth, Bool, Bound, BufferName, Buffers, Entry, HeldBuffer, In, In-filter, In-filter-back, In-map}
+use Rattle.history_laws.proofs.Common.{In-reverse-back, IsAnswer, IsAsBefore, List, Member, NodeKey, None, OpenEnd, Option, Some}
+use Rattle.history_laws.proofs.Common.{Timeline, Tracked, [], after, allocated, ap, birth_of, births, births_in, buffer_names, buffers_of}
+use Rattle.history_laws.proofs.Common.{collection_in, cond, count_by, doomed, earlier_moments, eq-eqb, eqb-true, events, false, filter}
+use Rattle.history_laws.proofs.Common.{fired_at, fires_at, gone, held, holds, home, is_some, last_match, length, list_any, map, map-Some}
+use Rattle.history_laws.proofs.Common.{member, names, nat_le, not, open_end, option_map, option_map_or, placed, readings, refl, spent}
+use Rattle.history_laws.proofs.Common.{subst, sym, tracked, true, world, ℕ, ◌==◌, ◌∙◌, ◌∷◌, ◌≡◌}
 use Rattle.std.proofs.lemmas.List.Sums.{length-filter}
-use Rattle.std.specs.List.{count_by, filter, list_any}
-use Rattle.std.specs.Option.{option_map_or, option_map}
-use Rattle.sm_names.specs.declared.keys.BufferName.{BufferName}
 use Rattle.sm_names.specs.declared.keys.Kind.{Kind}
-use Rattle.sm_names.specs.declared.keys.NodeKey.{NodeKey}
-use Rattle.sm_names.specs.declared.outcomes.Buffers.{Buffers}
 use Rattle.sm_names.specs.declared.tracking.Condition.{Condition}
-use Rattle.sm_names.specs.Answers.{IsAnswer, OpenEnd}
-use Rattle.sm_names.specs.Births.{Birth, births, birth_of, collection_in}
-use Rattle.sm_names.specs.Bounds.{Bound}
-use Rattle.sm_names.specs.Ends.{holder, in_transit, spent}
-use Rattle.sm_names.specs.Handles.{buffers_of, buffer_names, doomed, home, left, names}
-use Rattle.sm_names.specs.Isolation.{IsAsBefore, IsOf, collection_at}
-use Rattle.sm_names.specs.Losses.{allocated, gone}
-use Rattle.sm_names.specs.Marks.{Entry, Timeline, events}
-use Rattle.sm_names.specs.Members.{Member, member, births_in}
-use Rattle.sm_names.specs.Reading.{readings, open_end}
-use Rattle.sm_names.specs.declared.keys.HeldBuffer.{HeldBuffer}
-use Rattle.sm_names.specs.Timelines.{after, held, placed}
-use Rattle.sm_names.specs.Trackers.{Tracked, tracked, earlier_moments, fires_at, fired_at, holds, world}
-use Rattle.sm_names.specs.Words.{last_match}
+use Rattle.sm_names.specs.Ends.{holder, in_transit}
+use Rattle.sm_names.specs.Handles.{left}
+use Rattle.sm_names.specs.Isolation.{IsOf, collection_at}
 use Rattle.history_laws.proofs.EventLaws.{EndState, end_state, SameIn, same_after, same_doomed, same_home}
 use Rattle.history_laws.proofs.GoneLaws.{earlier_after}
 use Rattle.history_laws.proofs.GrowthLaws.{Grows}
-use Rattle.sm_names.proofs.ListLaws.{In, In-filter, In-filter-back, In-map, In-reverse-back, filter-In, filter-swap, map-at}
-use Rattle.sm_names.proofs.SamenessLaws.{and_right, map-Some}
+use Rattle.sm_names.proofs.ListLaws.{filter-In, filter-swap, map-at}
+use Rattle.sm_names.proofs.SamenessLaws.{and_right}
 use Rattle.history_laws.proofs.BirthLaws.{birth_is}
 
 module _ (pool : ℕ) (a b : Timeline) (collection : ℕ) (s : SameIn pool a b collection) where

@@ -1,27 +1,12 @@
 -- What holds at a birth: the end that the call names is there, and the reply has its collection.
-use Rattle.std.proofs.Common.{ℕ, ◌≡◌, ◌+◌, refl, ap, sym, ◌∙◌, subst, Bool, true, false, cond}
-use Rattle.std.proofs.Common.{not, ◌&&◌, ◌==◌, ◌⊎◌, inl, inr, List, Option, Some, None, is_some}
-use Rattle.std.specs.List.{cons_option}
-use Rattle.std.specs.Option.{option_map_or, option_map}
-use Rattle.sm_names.specs.declared.keys.NodeKey.{NodeKey}
-use Rattle.sm_names.specs.declared.messages.Call.{Call}
-use Rattle.sm_names.specs.declared.messages.Reply.{Reply}
-use Rattle.sm_names.specs.declared.outcomes.Fault.{Fault}
-use Rattle.sm_names.specs.declared.outcomes.Refusal.{Refusal}
-use Rattle.sm_names.specs.Answers.{OpenEnd, IsAnswer, answer, of_end, no_end, refused_if, peer_closed}
-use Rattle.sm_names.specs.Births.{Birth, births, birth_at, birth_of, was_born, head, ancestors}
-use Rattle.sm_names.specs.Bounds.{Bound}
-use Rattle.sm_names.specs.Ends.{spent}
-use Rattle.sm_names.specs.Losses.{fault}
-use Rattle.sm_names.specs.Marks.{Timeline, Called, events}
-use Rattle.sm_names.specs.Reading.{readings, open_end}
-use Rattle.sm_names.specs.Sameness.{same_key}
-use Rattle.sm_names.specs.Timelines.{key_of}
-use Rattle.sm_names.specs.Weakness.{born_to}
+use Rattle.history_laws.proofs.Common.{Birth, Bool, Bound, Call, Called, Fault, In, In-find, IsAnswer, List, NodeKey, None, OpenEnd}
+use Rattle.history_laws.proofs.Common.{Option, Refusal, Reply, Some, Timeline, ancestors, answer, ap, birth_at, birth_of, births, born_to}
+use Rattle.history_laws.proofs.Common.{cond, cons_option, events, false, fault, head, inl, inr, is_some, is_some-find, key_of, no_end}
+use Rattle.history_laws.proofs.Common.{not, open_end, option_map, option_map_or, peer_closed, readings, refl, refused_if, same_key}
+use Rattle.history_laws.proofs.Common.{same_key-refl, same_key-true, spent, subst, sym, true, was_born, ℕ, ◌&&◌, ◌+◌, ◌==◌, ◌∙◌, ◌≡◌, ◌⊎◌}
+use Rattle.sm_names.specs.Answers.{of_end}
 use Rattle.history_laws.proofs.AnswerLaws.{TookEffect, took_effect_all}
-use Rattle.sm_names.proofs.ListLaws.{In, In-find, is_some-find}
 use Rattle.history_laws.proofs.ReachLaws.{other_key}
-use Rattle.sm_names.proofs.SamenessLaws.{same_key-true, same_key-refl}
 use Rattle.history_laws.proofs.SettledLaws.{In-was_born}
 
 -- ---- the end that a call names

@@ -1,18 +1,12 @@
 -- The bits of a set of buffers, and the names of this many buffers.
-use Rattle.std.proofs.Common.{ℕ, zero, suc, ◌≡◌, ◌≤◌, ◌<◌, ◌+◌, ◌*◌, ◌/◌, ◌%◌, ◌^◌, refl, ap, sym, ◌∙◌, Bool}
-use Rattle.std.proofs.Common.{true, false, cond, ◌&&◌, ◌==◌, nat_lt, inl, inr, List, [], ◌∷◌, map, arith}
-use Rattle.std.proofs.lemmas.Bool.{eqb-true, eq-eqb, ltb-true, ltb-false}
+use Rattle.history_laws.proofs.Common.{Bool, BufferName, List, [], ap, arith, bit_at, bit_at-zero, cond, either_way, eq-eqb, eqb-true}
+use Rattle.history_laws.proofs.Common.{false, filter, inl, inr, list_any, ltb-false, ltb-true, map, names, nat_lt, range_with_len, refl}
+use Rattle.history_laws.proofs.Common.{same_buffer, set_of, suc, sum_by-cons, sym, times, true, zero, ℕ, ◌&&◌, ◌*◌, ◌+◌, ◌<◌, ◌==◌, ◌∙◌}
+use Rattle.history_laws.proofs.Common.{◌∷◌, ◌≡◌, ◌≤◌}
+use Rattle.std.proofs.Common.{◌/◌, ◌%◌, ◌^◌}
 use Rattle.std.proofs.Math.Nat.{pow-succ'}
-use Rattle.std.proofs.lemmas.List.Sums.{sum_by-cons}
-use Rattle.std.proofs.lemmas.Nat.Bits.{bit_at-zero, bit_at-suc, bit_at_lowest}
-use Rattle.std.specs.Int.{bit_at}
-use Rattle.std.specs.List.{filter, list_any, range_with_len}
-use Rattle.sm_names.specs.declared.keys.BufferName.{BufferName}
-use Rattle.sm_names.specs.Answers.{set_of}
-use Rattle.sm_names.specs.Handles.{names}
-use Rattle.sm_names.specs.Sameness.{same_buffer}
-use Rattle.sm_names.specs.Words.{times}
-use Rattle.sm_names.proofs.SamenessLaws.{either_way, none_below}
+use Rattle.std.proofs.lemmas.Nat.Bits.{bit_at-suc, bit_at_lowest}
+use Rattle.sm_names.proofs.SamenessLaws.{none_below}
 use Rattle.history_laws.proofs.SumLaws.{one, any_one}
 
 -- the number whose bits tell which of this many, from a on, pass

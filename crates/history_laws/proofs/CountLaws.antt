@@ -1,29 +1,17 @@
 -- The handles that are open are those of the clients and those in parcels.
-use Rattle.std.proofs.Common.{ℕ, subst, ◌≡◌, ◌≤◌, ◌+◌, refl, ap, sym, ◌∙◌, Bool, true, false, cond, not}
-use Rattle.std.proofs.Common.{◌&&◌, ◌||◌, ◌==◌, inl, inr, List, [], ◌∷◌, drop, Option, Some, None, arith}
-use Rattle.std.proofs.lemmas.Bool.{eqb-true, not-false, false≢true}
-use Rattle.std.specs.List.{cons_option, sum_by}
-use Rattle.std.specs.Option.{option_map_or}
-use Rattle.sm_names.specs.declared.keys.BufferName.{BufferName}
-use Rattle.sm_names.specs.declared.keys.Strength.{Strength}
-use Rattle.sm_names.specs.declared.messages.Call.{Call}
-use Rattle.sm_names.specs.declared.messages.Parcel.{Parcel}
-use Rattle.sm_names.specs.declared.messages.Reply.{Reply}
-use Rattle.sm_names.specs.declared.outcomes.Refusal.{Refusal}
-use Rattle.sm_names.specs.Answers.{IsAnswer, OpenEnd, collected, refused_if}
-use Rattle.sm_names.specs.Bounds.{Bound}
-use Rattle.sm_names.specs.Ends.{clients, joined_at, has_joined, given_at, collects, parcels, is_handle_of}
-use Rattle.sm_names.specs.Handles.{opens, drops, lifts, lands, open_of, open_total, moving}
-use Rattle.sm_names.specs.Marks.{Mark, Timeline, Called, Loss, Allocated, Ended, events, is_event}
-use Rattle.sm_names.specs.Reading.{readings}
-use Rattle.sm_names.specs.Sameness.{same_buffer, same_strength}
-use Rattle.sm_names.specs.Words.{times}
+use Rattle.history_laws.proofs.Common.{Allocated, Bool, Bound, BufferName, Call, Called, Ended, In, In-list_any, IsAnswer, List, Loss}
+use Rattle.history_laws.proofs.Common.{Mark, None, OpenEnd, Option, Parcel, Refusal, Reply, Some, Strength, Timeline, [], ap, arith}
+use Rattle.history_laws.proofs.Common.{both_ways, collected, collects, cond, cons_option, drop, drops, either_way, eqb-true, events}
+use Rattle.history_laws.proofs.Common.{false, false≢true, given_at, inl, inr, is_event, lands, lifts, none_or_some, not, not-false}
+use Rattle.history_laws.proofs.Common.{open_of, open_total, opens, option_map_or, or_right, parcels, readings, refl, refused_if}
+use Rattle.history_laws.proofs.Common.{same_buffer, same_strength, subst, sum_by, sym, times, true, ℕ, ◌&&◌, ◌+◌, ◌==◌, ◌||◌, ◌∙◌, ◌∷◌}
+use Rattle.history_laws.proofs.Common.{◌≡◌, ◌≤◌}
+use Rattle.sm_names.specs.Ends.{clients, joined_at, has_joined, is_handle_of}
+use Rattle.sm_names.specs.Handles.{moving}
 use Rattle.history_laws.proofs.AnswerLaws.{took_effect_all}
 use Rattle.history_laws.proofs.GrowthLaws.{Grows, kept-grown}
 use Rattle.history_laws.proofs.HandleLaws.{IsPaid, paid-called, paid_nothing}
-use Rattle.sm_names.proofs.ListLaws.{In, In-list_any}
 use Rattle.history_laws.proofs.ParcelLaws.{IsDrawn, drawn-called, drawn_nothing, parcels-given, parcels-collected, parcels-kept}
-use Rattle.sm_names.proofs.SamenessLaws.{either_way, none_or_some, or_right, both_ways}
 use Rattle.history_laws.proofs.SumLaws.{In-le-sum_by, one, one_of, AreOnce, times-cons, times_push, sum_by-same, sum_by-add, times_split}
 
 -- ---- whose a mark is

@@ -1,38 +1,21 @@
 -- What is doomed or home stays so.
-use Rattle.std.proofs.Common.{ℕ, ◌≡◌, ◌≤◌, ◌<◌, ◌+◌, refl, sym, ◌∙◌, subst, Bool, true, false, not, ◌&&◌}
-use Rattle.std.proofs.Common.{◌==◌, inl, inr, [], ◌∷◌, Option, Some, None, is_some, is_none, arith}
-use Rattle.std.proofs.lemmas.Bool.{eqb-true, eq-eqb, not-true}
-use Rattle.std.specs.List.{list_any}
-use Rattle.std.specs.Option.{option_map_or}
-use Rattle.sm_names.specs.declared.keys.BufferName.{BufferName}
-use Rattle.sm_names.specs.declared.keys.NodeKey.{NodeKey}
-use Rattle.sm_names.specs.declared.keys.Strength.{Strength}
-use Rattle.sm_names.specs.declared.messages.Call.{Call}
-use Rattle.sm_names.specs.declared.messages.Reply.{Reply}
-use Rattle.sm_names.specs.declared.outcomes.Cause.{Cause}
-use Rattle.sm_names.specs.Answers.{IsAnswer, answer}
-use Rattle.sm_names.specs.Births.{Birth, births, birth_at, birth_of, is_at_or_below}
-use Rattle.sm_names.specs.Bounds.{Bound}
-use Rattle.sm_names.specs.Ends.{spent}
-use Rattle.sm_names.specs.Handles.{opens, drops, open_of, open_total, doomed, home, buffers_of, buffer_names, is_initial}
-use Rattle.sm_names.specs.Losses.{gone, released, is_release, reaches}
-use Rattle.sm_names.specs.Marks.{Timeline, Called, Loss, Allocated, Ended, events}
-use Rattle.sm_names.specs.Members.{Member, member, members, is_live, some_strong_live}
-use Rattle.sm_names.specs.Reading.{readings}
-use Rattle.sm_names.specs.Sameness.{same_buffer, same_strength}
-use Rattle.sm_names.specs.Weakness.{weak, sets_weak, born_to}
+use Rattle.history_laws.proofs.Common.{Allocated, Birth, Bool, Bound, BufferName, Call, Called, Cause, Ended, In, In-any, In-list_any}
+use Rattle.history_laws.proofs.Common.{IsAnswer, Loss, Member, NodeKey, None, Option, Reply, Some, Strength, Timeline, [], and_both}
+use Rattle.history_laws.proofs.Common.{and_left, answer, arith, birth_at, birth_of, births, born_to, both_ways, buffer_names, buffers_of}
+use Rattle.history_laws.proofs.Common.{doomed, drops, either_way, eq-eqb, eqb-true, events, false, gone, home, inl, inr, is_at_or_below}
+use Rattle.history_laws.proofs.Common.{is_initial, is_live, is_none, is_release, is_some, list_any, member, members, not, not-true}
+use Rattle.history_laws.proofs.Common.{open_of, open_total, opens, option_map_or, or_parts, reaches, readings, refl, released}
+use Rattle.history_laws.proofs.Common.{same_buffer, same_buffer-true, same_strength, same_strength-true, sets_weak, some_strong_live}
+use Rattle.history_laws.proofs.Common.{spent, subst, sym, times, true, weak, ℕ, ◌&&◌, ◌+◌, ◌<◌, ◌==◌, ◌∙◌, ◌∷◌, ◌≡◌, ◌≤◌}
 use Rattle.history_laws.proofs.CountLaws.{anyone, counted, caller_joined, client-le-total}
 use Rattle.history_laws.proofs.GrowthLaws.{Grows, Stays, Answers, Loses, Allocates, Ends, grows_on}
 use Rattle.history_laws.proofs.HandleLaws.{dup_was_open}
-use Rattle.sm_names.proofs.SamenessLaws.{same_buffer-true, same_strength-true, either_way}
-use Rattle.sm_names.proofs.SamenessLaws.{and_left, and_right, or_parts, and_both, both_ways}
+use Rattle.sm_names.proofs.SamenessLaws.{and_right}
 use Rattle.history_laws.proofs.LifeLaws.{IsOrdered, ordered, In_new, members_on}
-use Rattle.sm_names.proofs.ListLaws.{In, In-list_any, In-any}
 use Rattle.history_laws.proofs.SettledLaws.{member_birth}
 use Rattle.history_laws.proofs.TakeLaws.{take_opens}
 use Rattle.history_laws.proofs.SumLaws.{times-cons}
 use Rattle.history_laws.proofs.WholeLaws.{released_spent}
-use Rattle.sm_names.specs.Words.{times}
 use Rattle.history_laws.proofs.BirthLaws.{birth_is, Comes, comes}
 
 -- ---- strong nodes

@@ -1,42 +1,23 @@
 -- Once every end is spent and every handle dropped, nothing is live or held.
-use Rattle.std.proofs.Common.{ℕ, ◌≡◌, refl, ap, sym, ◌∙◌, subst, Bool, true, false, cond, not, ◌&&◌, ◌||◌}
-use Rattle.std.proofs.Common.{◌==◌, ◌⊎◌, inl, inr, List, [], ◌∷◌, map, reverse, Option, Some, None, is_some}
-use Rattle.std.specs.List.{fold, cons_option}
-use Rattle.std.specs.Option.{option_map, option_and_then, unwrap_or}
+use Rattle.history_laws.proofs.Common.{Allocated, AreAnswers, Birth, Bool, Bound, BufferName, Call, Called, Cause, Ended, Entry, Fault}
+use Rattle.history_laws.proofs.Common.{HeldBuffer, In, In-list_any, In-reverse, IsAnswer, IsLegal, List, Loss, Mark, Member, NodeKey}
+use Rattle.history_laws.proofs.Common.{None, OpenEnd, Option, Readings, Reply, Some, Strength, Timeline, [], after, ancestors, and_left}
+use Rattle.history_laws.proofs.Common.{answers_first, ap, birth_of, births, both_ways, buffers_of, closing, collection_of, cond}
+use Rattle.history_laws.proofs.Common.{cons_option, effect, either_way, false, false_if, fault, filter-none, first_some, fold, gone, held}
+use Rattle.history_laws.proofs.Common.{home, inl, inr, is_event, is_live, is_release, is_some, key_of, limits_met, live, live_nodes, map}
+use Rattle.history_laws.proofs.Common.{map-Some, members, misuse, misuse_of, no_handle, not, open_end, open_total, option_and_then}
+use Rattle.history_laws.proofs.Common.{option_map, or_left, or_right, own_loss, peer_closed, placed, reaches, readings, refl, released}
+use Rattle.history_laws.proofs.Common.{reverse, same_key, same_key-true, some_strong_live, spends, spent, subst, sym, timeline, top_on}
+use Rattle.history_laws.proofs.Common.{true, unwrap_or, when, ℕ, ◌&&◌, ◌==◌, ◌||◌, ◌∙◌, ◌∷◌, ◌≡◌, ◌⊎◌}
 use Rattle.std.proofs.lemmas.Bool.{and_right}
-use Rattle.sm_names.specs.declared.keys.BufferName.{BufferName}
-use Rattle.sm_names.specs.declared.keys.NodeKey.{NodeKey}
-use Rattle.sm_names.specs.declared.keys.Strength.{Strength}
-use Rattle.sm_names.specs.declared.messages.Call.{Call}
-use Rattle.sm_names.specs.declared.messages.Reply.{Reply}
-use Rattle.sm_names.specs.declared.outcomes.Cause.{Cause}
-use Rattle.sm_names.specs.declared.outcomes.Fault.{Fault}
-use Rattle.sm_names.specs.Answers.{IsAnswer, OpenEnd, Readings, answers_first, effect, closing}
-use Rattle.sm_names.specs.Answers.{limits_met, misuse, misuse_of, no_handle, peer_closed}
-use Rattle.sm_names.specs.Births.{Birth, births, birth_of, ancestors}
-use Rattle.sm_names.specs.Bounds.{Bound}
-use Rattle.sm_names.specs.Ends.{spent, spends}
-use Rattle.sm_names.specs.Handles.{open_total, buffers_of, home}
-use Rattle.sm_names.specs.Legality.{AreAnswers, IsLegal}
-use Rattle.sm_names.specs.Losses.{fault, gone, reaches, released, is_release, live}
-use Rattle.sm_names.specs.Marks.{Entry, Mark, Timeline, Called, Loss, Allocated, Ended, is_event}
-use Rattle.sm_names.specs.Members.{Member, members, some_strong_live, is_live}
-use Rattle.sm_names.specs.Reading.{readings, open_end}
-use Rattle.sm_names.specs.Sameness.{same_key}
-use Rattle.sm_names.specs.declared.keys.HeldBuffer.{HeldBuffer}
-use Rattle.sm_names.specs.Timelines.{placed, held, after, timeline, own_loss, collection_of, key_of}
-use Rattle.sm_names.specs.Views.{live_nodes}
-use Rattle.sm_names.specs.Words.{first_some, when}
 use Rattle.history_laws.proofs.GoneLaws.{fault_gone, gone_stays}
 use Rattle.history_laws.proofs.KeptLaws.{kept-rest}
 use Rattle.history_laws.proofs.LayoutLaws.{placed_given}
-use Rattle.sm_names.proofs.ListLaws.{filter-none, In, In-list_any, In-reverse}
-use Rattle.sm_names.proofs.ChainLaws.{top_on}
-use Rattle.sm_names.proofs.SamenessLaws.{either_way, and_left, both_ways, false_if, same_key-true, or_cases, or_left, or_right, map-Some}
+use Rattle.sm_names.proofs.SamenessLaws.{or_cases}
 use Rattle.history_laws.proofs.SettledLaws.{member_birth}
 use Rattle.history_laws.proofs.BirthLaws.{birth_is}
-use Rattle.history_laws.proofs.RejectLaws.{is_refusal, Rejects, rejects_if, unknown_rejects, shut_rejects}
-use Rattle.history_laws.proofs.RejectLaws.{no_end_rejects, in_transit_rejects, wrong_kind_rejects}
+use Rattle.history_laws.proofs.RejectLaws.{is_refusal, Rejects, rejects_if, unknown_rejects, shut_rejects, no_end_rejects}
+use Rattle.history_laws.proofs.RejectLaws.{in_transit_rejects, wrong_kind_rejects}
 
 -- ---- PeerClosed is answered of a node that is gone
 

@@ -1,45 +1,28 @@
 -- An event of one collection changes nothing in the others.
-use Rattle.std.proofs.Common.{ℕ, zero, suc, ◌≡◌, ◌+◌, ◌*◌, ◌-◌, refl, ap, sym, ◌∙◌, subst, Bool, true, false, cond, not, ◌&&◌}
-use Rattle.std.proofs.Common.{◌||◌, ◌==◌, ◌⊎◌, inl, inr, List, [], ◌∷◌, map, reverse, length, Option, Some, None, is_some}
-use Rattle.std.proofs.lemmas.Bool.{eqb-true, false≢true}
-use Rattle.std.specs.List.{list_any, filter, cons_option}
-use Rattle.std.specs.Option.{option_map_or, option_map, option_and_then}
-use Rattle.sm_names.specs.declared.keys.BufferName.{BufferName}
-use Rattle.sm_names.specs.declared.keys.NodeKey.{NodeKey}
-use Rattle.sm_names.specs.declared.keys.Strength.{Strength}
-use Rattle.sm_names.specs.declared.messages.Call.{Call}
-use Rattle.sm_names.specs.declared.messages.Reply.{Reply}
-use Rattle.sm_names.specs.declared.outcomes.Cause.{Cause}
-use Rattle.sm_names.specs.Answers.{IsAnswer}
-use Rattle.sm_names.specs.Births.{Birth, births, birth_at, birth_of, head, collection_in, ancestors}
-use Rattle.sm_names.specs.Bounds.{Bound}
+use Rattle.history_laws.proofs.Common.{Allocated, Birth, Bool, Bound, BufferName, Call, Called, Cause, Fault, HeldBuffer, In, IsAnswer}
+use Rattle.history_laws.proofs.Common.{List, Loss, Mark, NodeKey, None, Option, Reply, Some, Strength, Timeline, [], after, allocated}
+use Rattle.history_laws.proofs.Common.{ancestors, ap, birth_at, birth_of, births, births_in, born_to, both_ways, buffers_of}
+use Rattle.history_laws.proofs.Common.{collection_in, collection_of, cond, cons_option, doomed, drops, either_way, eq-eqb, eqb-true}
+use Rattle.history_laws.proofs.Common.{events, false, false_if, false≢true, fault, filter, first_some, head, home, inl, inr}
+use Rattle.history_laws.proofs.Common.{is_allocation, is_release, is_some, key_of, length, list_any, map, map-In, map-Some, member}
+use Rattle.history_laws.proofs.Common.{members, next_forced, none_or_some, not, open_total, opens, option_and_then, option_map}
+use Rattle.history_laws.proofs.Common.{option_map_or, own_loss, placed, readings, refl, released, reverse, same_key, same_key-true}
+use Rattle.history_laws.proofs.Common.{sets_weak, settled, settled_within, some_strong_live, spends, spent, subst, suc, sym, times, true}
+use Rattle.history_laws.proofs.Common.{weak, zero, ℕ, ◌&&◌, ◌*◌, ◌+◌, ◌-◌, ◌==◌, ◌||◌, ◌∙◌, ◌∷◌, ◌≡◌, ◌⊎◌}
 use Rattle.sm_names.specs.Demands.{Demand}
-use Rattle.sm_names.specs.Ends.{spent}
-use Rattle.sm_names.specs.Handles.{opens, drops, open_total, buffers_of, doomed, home}
-use Rattle.sm_names.specs.Losses.{fault, is_allocation, is_release, is_dispensable, released, allocated}
-use Rattle.sm_names.specs.Marks.{Mark, Timeline, Called, Loss, Allocated, events}
-use Rattle.sm_names.specs.Members.{member, members, births_in, constraints_at, constraints, some_strong_live}
-use Rattle.sm_names.specs.Reading.{readings}
-use Rattle.sm_names.specs.Sameness.{same_key}
-use Rattle.sm_names.specs.Timelines.{after, settled, settled_within, next_forced, own_loss, key_of, buffer_of, opened_by, collection_of}
-use Rattle.sm_names.specs.Weakness.{weak, sets_weak, born_to}
-use Rattle.sm_names.specs.Words.{first_some, times}
+use Rattle.sm_names.specs.Losses.{is_dispensable}
+use Rattle.sm_names.specs.Members.{constraints_at, constraints}
+use Rattle.sm_names.specs.Timelines.{buffer_of, opened_by}
 use Rattle.history_laws.proofs.CountLaws.{anyone}
 use Rattle.history_laws.proofs.TakeLaws.{Took, took}
-use Rattle.std.proofs.lemmas.Bool.{eq-eqb}
-use Rattle.sm_names.specs.declared.outcomes.Fault.{Fault}
-use Rattle.sm_names.specs.Ends.{binds, spends}
+use Rattle.sm_names.specs.Ends.{binds}
 use Rattle.sm_names.specs.Reading.{is_taking, is_tracking}
 use Rattle.sm_names.specs.Weakness.{covered, covers_children, sets_weak_ok, weak_ok}
-use Rattle.sm_names.specs.declared.keys.HeldBuffer.{HeldBuffer}
-use Rattle.sm_names.specs.Timelines.{placed}
 use Rattle.history_laws.proofs.GrowthLaws.{Grows, Answers, own_loss_origin, grows_forced, grows_lost}
-use Rattle.history_laws.proofs.IsolationLaws.{fault_loss, placed_allocation, members_loss, members_end}
-use Rattle.history_laws.proofs.IsolationLaws.{members_allocation, buffers_allocation, birth_of_collection, of_ours}
+use Rattle.history_laws.proofs.IsolationLaws.{fault_loss, placed_allocation, members_loss, members_end, members_allocation}
+use Rattle.history_laws.proofs.IsolationLaws.{buffers_allocation, birth_of_collection, of_ours}
 use Rattle.history_laws.proofs.LifeLaws.{IsOrdered, ordered, whole, In_old}
-use Rattle.sm_names.proofs.ListLaws.{In, map-In}
 use Rattle.history_laws.proofs.ReachLaws.{other_key}
-use Rattle.sm_names.proofs.SamenessLaws.{either_way, same_key-true, both_ways, false_if, none_or_some, map-Some}
 use Rattle.history_laws.proofs.SettledLaws.{In-was_born, find_birth, Why, No_live, Fails, Initial, Logical, forced_why}
 use Rattle.history_laws.proofs.WholeLaws.{IsWhole}
 use Rattle.history_laws.proofs.BirthLaws.{HasEnd, birth_is, Comes, comes, ancestors_old, head_old}

@@ -1,18 +1,13 @@
 -- If a call changes nothing that the conditions of trackers depend on, no tracker fires.
-use Rattle.std.proofs.Common.{ℕ, ◌≡◌, ◌≤◌, ◌+◌, refl, ap, sym, ◌∙◌, Bool, true, false, cond, ◌&&◌, ◌==◌, inl}
-use Rattle.std.proofs.Common.{inr, List, [], ◌∷◌, ◌++◌, map, reverse, Option, Some, None, is_none, arith}
-use Rattle.std.proofs.lemmas.Bool.{eqb-true}
-use Rattle.std.proofs.lemmas.List.{reverse-append, append-nil}
+use Rattle.history_laws.proofs.Common.{Bool, Call, Called, In, List, None, Option, Reply, Some, Timeline, Tracked, [], ap, arith, cond}
+use Rattle.history_laws.proofs.Common.{count_by, earlier_moments, either_way, eqb-true, events, false, filter, fired, fired_at, fires_at}
+use Rattle.history_laws.proofs.Common.{holds, inl, inr, is_event, is_none, last_match, list_any, map, moments, option_map, option_map_or}
+use Rattle.history_laws.proofs.Common.{refl, reverse, reverse-append, sym, tracked, true, unfired, world, ℕ, ◌&&◌, ◌++◌, ◌+◌, ◌==◌, ◌∙◌}
+use Rattle.history_laws.proofs.Common.{◌∷◌, ◌≡◌, ◌≤◌}
+use Rattle.std.proofs.lemmas.List.{append-nil}
 use Rattle.std.proofs.lemmas.List.Concat.{flat_map-append}
-use Rattle.std.specs.List.{list_any, filter, flat_map, count_by}
-use Rattle.std.specs.Option.{option_map, option_map_or}
-use Rattle.sm_names.specs.declared.messages.Call.{Call}
-use Rattle.sm_names.specs.declared.messages.Reply.{Reply}
-use Rattle.sm_names.specs.Marks.{Timeline, Called, events, is_event}
-use Rattle.sm_names.specs.Trackers.{world, holds, Tracked, tracked, earlier_moments, moments, fires_at, fired_at, fired_in, fired, unfired}
-use Rattle.sm_names.specs.Words.{last_match}
-use Rattle.sm_names.proofs.ListLaws.{In}
-use Rattle.sm_names.proofs.SamenessLaws.{either_way}
+use Rattle.std.specs.List.{flat_map}
+use Rattle.sm_names.specs.Trackers.{fired_in}
 use Rattle.history_laws.proofs.SumLaws.{times-cons}
 
 -- ---- the last match

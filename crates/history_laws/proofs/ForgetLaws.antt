@@ -1,26 +1,15 @@
 -- The forced steps do not depend on the nodes that are gone.
-use Rattle.std.proofs.Common.{ℕ, ◌≡◌, refl, ap, sym, ◌∙◌, Bool, true, false, cond, not}
-use Rattle.std.proofs.Common.{◌&&◌, ◌||◌, inl, inr, List, [], ◌∷◌, Option, Some, None}
-use Rattle.std.specs.List.{list_any, list_all, find, filter, filter_map}
-use Rattle.std.specs.Option.{option_map_or, option_map, option_and_then}
-use Rattle.std.proofs.lemmas.Bool.{not-false}
-use Rattle.std.proofs.Math.Bool.{and-false}
-use Rattle.sm_names.specs.declared.keys.NodeKey.{NodeKey}
-use Rattle.sm_names.specs.Births.{births, AreSound}
+use Rattle.history_laws.proofs.Common.{AreSound, Bool, Buffers, Ended, In, List, Member, NodeKey, None, Option, Some, Standing, Timeline}
+use Rattle.history_laws.proofs.Common.{[], abandoned, and-false, ap, asked, births, both_ways, cond, demands, either_way, ending, false}
+use Rattle.history_laws.proofs.Common.{filter, filter_map, find, forced, gone, initial_allocation, initial_failure, inl, inr}
+use Rattle.history_laws.proofs.Common.{is_allocated, is_deserted, is_live, is_next_head, is_ready, is_root, is_under, list_all, list_any}
+use Rattle.history_laws.proofs.Common.{logical_allocation, logical_failure, members, next_forced, not, not-false, option_and_then}
+use Rattle.history_laws.proofs.Common.{option_map, option_map_or, outcome, parent_of, refl, reserved, root_left, same_key, same_key-true}
+use Rattle.history_laws.proofs.Common.{some_live, some_strong_live, standing, subtree, sym, true, unit, when, ℕ, ◌&&◌, ◌||◌, ◌∙◌, ◌∷◌}
+use Rattle.history_laws.proofs.Common.{◌≡◌}
 use Rattle.sm_names.specs.Changes.{without_gone}
-use Rattle.sm_names.specs.Forced.{Standing, forced, ending, abandoned, initial_allocation, logical_allocation}
-use Rattle.sm_names.specs.Forced.{is_deserted, is_allocated, is_next_head, initial_failure, logical_failure, outcome}
-use Rattle.sm_names.specs.Losses.{gone, parent_of}
-use Rattle.sm_names.specs.Marks.{Timeline, Ended}
-use Rattle.sm_names.specs.Members.{Member, members, is_live, is_under, is_root, is_settled, is_ready, some_live}
-use Rattle.sm_names.specs.Members.{some_strong_live, subtree, unit, demands, wanted, asked, root_left, reserved}
-use Rattle.sm_names.specs.Sameness.{same_key}
-use Rattle.sm_names.specs.Timelines.{standing, next_forced}
-use Rattle.sm_names.proofs.ListLaws.{In}
-use Rattle.sm_names.proofs.SamenessLaws.{either_way, same_key-true, both_ways}
+use Rattle.sm_names.specs.Members.{is_settled, wanted}
 use Rattle.history_laws.proofs.SettledLaws.{find_birth, member_birth}
-use Rattle.sm_names.specs.Words.{when}
-use Rattle.sm_names.specs.declared.outcomes.Buffers.{Buffers}
 
 -- ---- lists without some of their elements
 

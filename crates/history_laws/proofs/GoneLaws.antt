@@ -1,26 +1,15 @@
 -- What is gone stays gone, which nodes are live, and what fired stays fired.
-use Rattle.std.proofs.Common.{ℕ, ◌≡◌, ◌+◌, refl, ap, sym, ◌∙◌, Bool, true, false, cond, not, ◌&&◌, ◌||◌}
-use Rattle.std.proofs.Common.{inl, inr, List, [], ◌∷◌, ◌++◌, reverse, Option, Some, None, is_some}
-use Rattle.std.proofs.lemmas.List.Sums.{fold-append}
-use Rattle.std.specs.List.{list_any, fold}
-use Rattle.std.specs.Option.{option_map_or, option_map}
-use Rattle.std.proofs.Math.Bool.{and-false}
-use Rattle.sm_names.specs.declared.keys.NodeKey.{NodeKey}
-use Rattle.sm_names.specs.declared.outcomes.Fault.{Fault}
-use Rattle.sm_names.specs.Births.{Birth, births, birth_of, ancestors, was_born, is_at_or_below, AreSound}
-use Rattle.sm_names.specs.Losses.{fault, gone, live, released, takes, reaches}
-use Rattle.sm_names.specs.Marks.{Entry, Mark, Timeline, Called, Loss, Allocated, Ended, events, is_event}
-use Rattle.sm_names.specs.Sameness.{same_key}
-use Rattle.sm_names.specs.Timelines.{after, timeline}
-use Rattle.sm_names.specs.Trackers.{Tracked, moments, earlier_moments, fires_at, fired_at}
-use Rattle.sm_names.specs.Views.{live_nodes}
-use Rattle.sm_names.specs.Words.{times, last_match}
+use Rattle.history_laws.proofs.Common.{Allocated, AreSound, Birth, Bool, Called, Ended, Entry, Fault, IsChain, List, Loss, Mark, NodeKey}
+use Rattle.history_laws.proofs.Common.{None, Option, Some, Timeline, Tracked, [], after, ancestors, and-false, and_left, ap, birth_of}
+use Rattle.history_laws.proofs.Common.{births, both_ways, cond, earlier_moments, either_way, events, false, fault, fired_at, fires_at}
+use Rattle.history_laws.proofs.Common.{fold, fold-append, gone, inl, inr, is_at_or_below, is_event, is_some, is_some-find, last_match}
+use Rattle.history_laws.proofs.Common.{list_any, live, live_nodes, moments, not, option_map, option_map_or, or_right, reaches, refl}
+use Rattle.history_laws.proofs.Common.{released, reverse, same_key, same_key-true, sym, takes, timeline, times, true, was_born, ℕ, ◌&&◌}
+use Rattle.history_laws.proofs.Common.{◌++◌, ◌+◌, ◌||◌, ◌∙◌, ◌∷◌, ◌≡◌}
 use Rattle.history_laws.proofs.KeptLaws.{kept-after, kept-on}
 use Rattle.history_laws.proofs.LifeLaws.{IsOrdered}
-use Rattle.sm_names.proofs.ListLaws.{times-map_filter, times-none, times-reverse, is_some-find}
-use Rattle.sm_names.proofs.ChainLaws.{IsChain}
+use Rattle.sm_names.proofs.ListLaws.{times-map_filter, times-none, times-reverse}
 use Rattle.history_laws.proofs.ReachLaws.{ancestors_chain, parent_in}
-use Rattle.sm_names.proofs.SamenessLaws.{either_way, same_key-true, or_right, both_ways, and_left}
 use Rattle.history_laws.proofs.BirthLaws.{birth_is}
 
 -- ---- faults

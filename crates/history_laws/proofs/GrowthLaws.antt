@@ -1,26 +1,12 @@
 -- How a timeline grows, one mark after another.
-use Rattle.std.proofs.lemmas.Bool.{false≢true}
-use Rattle.std.proofs.Common.{ℕ, zero, suc, ◌≡◌, ◌+◌, ◌*◌, refl, sym, subst, true, false, inl}
-use Rattle.std.proofs.Common.{inr, List, [], ◌∷◌, ◌++◌, length, Option, Some, None, ap, is_some}
-use Rattle.std.specs.List.{fold, cons_option}
-use Rattle.std.specs.Option.{option_map_or}
-use Rattle.sm_names.specs.declared.keys.NodeKey.{NodeKey}
-use Rattle.sm_names.specs.declared.messages.Call.{Call}
-use Rattle.sm_names.specs.declared.messages.Reply.{Reply}
-use Rattle.sm_names.specs.declared.outcomes.Cause.{Cause}
-use Rattle.sm_names.specs.Answers.{IsAnswer, answer, misuse}
-use Rattle.sm_names.specs.Births.{Birth, births, birth_at, was_born}
-use Rattle.sm_names.specs.Bounds.{Bound}
-use Rattle.sm_names.specs.Legality.{AreAnswers, IsLegal}
-use Rattle.sm_names.specs.Marks.{Entry, Mark, Timeline, Called, Loss, Allocated, Ended, events, is_event}
-use Rattle.sm_names.specs.Reading.{readings}
-use Rattle.sm_names.specs.Sameness.{same_key}
-use Rattle.sm_names.specs.Timelines.{after, timeline, settled, settled_within, next_forced, own_loss, key_of, collection_of}
-use Rattle.std.proofs.lemmas.List.Sums.{fold-append}
+use Rattle.history_laws.proofs.Common.{Allocated, AreAnswers, Birth, Bound, Call, Called, Cause, Ended, Entry, IsAnswer, IsLegal, List}
+use Rattle.history_laws.proofs.Common.{Loss, Mark, NodeKey, None, Option, Reply, Some, Timeline, [], after, answer, ap, birth_at, births}
+use Rattle.history_laws.proofs.Common.{collection_of, cons_option, events, false, false≢true, fold, fold-append, inl, inr, is_event}
+use Rattle.history_laws.proofs.Common.{is_some, key_of, length, map-Some, misuse, next_forced, none_or_some, option_map_or, or_right}
+use Rattle.history_laws.proofs.Common.{own_loss, readings, refl, same_key, settled, settled_within, subst, suc, sym, timeline, true}
+use Rattle.history_laws.proofs.Common.{was_born, when-Some, zero, ℕ, ◌*◌, ◌++◌, ◌+◌, ◌∷◌, ◌≡◌}
 use Rattle.history_laws.proofs.BirthLaws.{HasEnd, birth_was_born}
 use Rattle.history_laws.proofs.RejectLaws.{is_refusal, not_refused_end}
-use Rattle.sm_names.proofs.ListLaws.{when-Some}
-use Rattle.sm_names.proofs.SamenessLaws.{or_right, none_or_some, map-Some}
 use Rattle.history_laws.proofs.SettledLaws.{In-was_born, Why, No_live, Fails, Initial, Logical, forced_why}
 
 -- The timeline grows from `start` by marks that may come: answers to what came before, losses of nodes that were

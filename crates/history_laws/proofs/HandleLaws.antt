@@ -1,25 +1,12 @@
 -- No client drops or gives more handles than it took, doubled and collected.
-use Rattle.std.proofs.Common.{ℕ, zero, suc, ◌≡◌, ◌≤◌, ◌<◌, ◌+◌, refl, subst, Bool, true}
-use Rattle.std.proofs.Common.{false, cond, ◌&&◌, ◌==◌, inl, inr, List, [], ◌∷◌, None, arith}
-use Rattle.std.specs.List.{fold}
-use Rattle.sm_names.specs.declared.keys.BufferName.{BufferName}
-use Rattle.sm_names.specs.declared.keys.Strength.{Strength}
-use Rattle.sm_names.specs.declared.messages.Call.{Call}
-use Rattle.sm_names.specs.declared.messages.Reply.{Reply}
-use Rattle.sm_names.specs.declared.outcomes.Refusal.{Refusal}
-use Rattle.sm_names.specs.Answers.{IsAnswer, refused_if}
-use Rattle.sm_names.specs.Bounds.{Bound}
-use Rattle.sm_names.specs.Handles.{opens, drops, lifts, lands, open_of}
-use Rattle.sm_names.specs.Legality.{AreAnswers}
-use Rattle.sm_names.specs.Marks.{Entry, Mark, Timeline, Called, Loss, Allocated, Ended, is_event}
-use Rattle.sm_names.specs.Reading.{readings}
-use Rattle.sm_names.specs.Sameness.{same_buffer, same_strength}
-use Rattle.sm_names.specs.Timelines.{after}
-use Rattle.std.proofs.lemmas.Bool.{eqb-true, false≢true}
+use Rattle.history_laws.proofs.Common.{Allocated, AreAnswers, Bool, Bound, BufferName, Call, Called, Ended, Entry, IsAnswer, List, Loss}
+use Rattle.history_laws.proofs.Common.{Mark, None, Refusal, Reply, Strength, Timeline, [], after, and_left, arith, cond, drops}
+use Rattle.history_laws.proofs.Common.{either_way, eqb-true, false, false≢true, fold, inl, inr, is_event, lands, lifts, open_of, opens}
+use Rattle.history_laws.proofs.Common.{readings, refl, refused_if, same_buffer, same_buffer-true, same_strength, same_strength-true}
+use Rattle.history_laws.proofs.Common.{subst, suc, times, true, zero, ℕ, ◌&&◌, ◌+◌, ◌<◌, ◌==◌, ◌∷◌, ◌≡◌, ◌≤◌}
 use Rattle.history_laws.proofs.AnswerLaws.{took_effect_all}
 use Rattle.history_laws.proofs.KeptLaws.{kept-after}
-use Rattle.sm_names.proofs.SamenessLaws.{either_way, and_left, and_right, same_buffer-true, same_strength-true}
-use Rattle.sm_names.specs.Words.{times}
+use Rattle.sm_names.proofs.SamenessLaws.{and_right}
 
 -- a client that is not refused for want of a handle has one open
 pub some_open : (n : ℕ) → refused_if (n == 0) Refusal.NoSuchHandle ≡ None → 0 < n

@@ -1,41 +1,24 @@
 -- What is held: buffers apart from one another, each of them allocated and not home.
-use Rattle.std.proofs.Common.{ℕ, ◌≡◌, ◌≤◌, ◌+◌, refl, ap, sym, ◌∙◌, subst, Bool, true, false, cond, not, ◌&&◌, ◌==◌, nat_lt}
-use Rattle.std.proofs.Common.{◌⊎◌, inl, inr, List, [], ◌∷◌, ◌++◌, map, length, Option, Some, None, is_some, is_none, arith}
-use Rattle.std.proofs.lemmas.Bool.{eqb-true, not-true}
+use Rattle.history_laws.proofs.Common.{Allocated, AreApart, Birth, Bool, Bound, BufferName, Buffers, Called, Ended, Failure, HeldBuffer}
+use Rattle.history_laws.proofs.Common.{In, Interval, List, Loss, Mark, NodeKey, None, Option, Some, Timeline, [], allocated, and_both}
+use Rattle.history_laws.proofs.Common.{and_left, ap, are_in, arith, asked, at_pages, birth_at, birth_of, births, both_ways, buffer_names}
+use Rattle.history_laws.proofs.Common.{buffers_of, cond, cons_option, either_way, eqb-true, events, false, filter, first_some, head, held}
+use Rattle.history_laws.proofs.Common.{home, initial_failure, inl, inr, is_allocation, is_initial, is_none, is_some, laid_out, layout_at}
+use Rattle.history_laws.proofs.Common.{length, list_any, map, meets, members, names, nat_lt, none_if, not, not-true, option_map_or}
+use Rattle.history_laws.proofs.Common.{or_both, or_left, or_parts, or_right, pages_of, placed, places, range_with_len, refl, same_buffer}
+use Rattle.history_laws.proofs.Common.{same_buffer-true, same_key, same_key-refl, some_strong_live, standing, subst, sum_by, sum_by-cons}
+use Rattle.history_laws.proofs.Common.{sym, times, times-append, true, when, ℕ, ◌&&◌, ◌++◌, ◌+◌, ◌==◌, ◌∙◌, ◌∷◌, ◌≡◌, ◌≤◌, ◌⊎◌}
 use Rattle.std.proofs.lemmas.List.{length-map, map-append}
 use Rattle.std.proofs.lemmas.List.FromFn.{length-range_with_len}
-use Rattle.std.proofs.lemmas.List.Sums.{sum_by-cons}
-use Rattle.std.specs.List.{list_any, filter, cons_option, sum_by, range_with_len}
-use Rattle.std.specs.Option.{option_map_or}
-use Rattle.sm_names.specs.declared.keys.BufferName.{BufferName}
-use Rattle.sm_names.specs.declared.keys.Interval.{Interval}
-use Rattle.sm_names.specs.declared.keys.NodeKey.{NodeKey}
-use Rattle.sm_names.specs.declared.outcomes.Failure.{Failure}
-use Rattle.sm_names.specs.Apart.{AreApart, are_in, at_pages}
-use Rattle.sm_names.specs.Births.{Birth, births, birth_at, birth_of, head}
-use Rattle.sm_names.specs.Bounds.{Bound}
-use Rattle.sm_names.specs.Forced.{initial_failure}
-use Rattle.sm_names.specs.Handles.{buffers_of, buffer_names, names, home, is_initial}
-use Rattle.sm_names.specs.Losses.{allocated, is_allocation}
-use Rattle.sm_names.specs.Marks.{Mark, Timeline, Called, Loss, Allocated, Ended, events}
-use Rattle.sm_names.specs.Members.{members, asked, some_strong_live}
-use Rattle.sm_names.specs.Pages.{meets, places, pages_of}
-use Rattle.sm_names.specs.Sameness.{same_key, same_buffer}
-use Rattle.sm_names.specs.declared.keys.HeldBuffer.{HeldBuffer}
-use Rattle.sm_names.specs.Timelines.{laid_out, layout_at, placed, held, standing}
 use Rattle.sm_names.specs.Views.{free_pages}
 use Rattle.history_laws.proofs.BitLaws.{times_below}
 use Rattle.history_laws.proofs.DoomLaws.{buffers_early, home_on}
 use Rattle.history_laws.proofs.GrowthLaws.{Grows, Stays, Answers, Loses, Allocates, Ends}
-use Rattle.sm_names.proofs.SamenessLaws.{same_buffer-true, and_both, and_left, and_right, both_ways, either_way}
-use Rattle.sm_names.proofs.SamenessLaws.{not_none, or_both, or_left, or_parts, or_right, same_key-refl, none_if}
+use Rattle.sm_names.proofs.SamenessLaws.{and_right, not_none}
 use Rattle.history_laws.proofs.LifeLaws.{IsOrdered, ordered, In_new}
-use Rattle.sm_names.proofs.ListLaws.{In, times-append}
 use Rattle.history_laws.proofs.PageLaws.{ArePlaced, placed_apart, sum-le-pool}
 use Rattle.history_laws.proofs.SettledLaws.{In-was_born, find_birth, head_itself, Why, Initial, Logical, forced_why}
 use Rattle.history_laws.proofs.SumLaws.{one, any_one, times-filter}
-use Rattle.sm_names.specs.Words.{first_some, times, when}
-use Rattle.sm_names.specs.declared.outcomes.Buffers.{Buffers}
 use Rattle.sm_names.specs.declared.rules.TheConstants.{MAX_BUFFERS}
 use Rattle.history_laws.proofs.BirthLaws.{birth_is, Comes, comes, head_old}
 

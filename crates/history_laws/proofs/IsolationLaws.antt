@@ -1,28 +1,16 @@
 -- What happens in one collection changes no node of another.
-use Rattle.std.proofs.Common.{ℕ, ◌≡◌, refl, ap, sym, ◌∙◌, Bool, true, false, cond, ◌&&◌, ◌||◌, ◌==◌}
-use Rattle.std.proofs.Common.{inl, inr, List, [], ◌∷◌, ◌++◌, map, Option, Some, None, is_none}
-use Rattle.std.proofs.lemmas.Bool.{eqb-true, eq-eqb}
-use Rattle.std.specs.List.{filter}
-use Rattle.std.specs.Option.{option_map, option_map_or, IfSome}
-use Rattle.sm_names.specs.declared.keys.NodeKey.{NodeKey}
-use Rattle.sm_names.specs.declared.outcomes.Cause.{Cause}
-use Rattle.sm_names.specs.Births.{Birth, births, birth_of, ancestors, was_born, head, collection_in, AreSound, AreTogether}
-use Rattle.sm_names.specs.Handles.{buffers_of, is_initial}
-use Rattle.sm_names.specs.Losses.{reaches, blocked, gone, allocated, takes, top}
-use Rattle.sm_names.specs.Marks.{Mark, Timeline, Loss, Allocated, Ended}
-use Rattle.sm_names.specs.Members.{member, members, births_in}
-use Rattle.sm_names.specs.Sameness.{same_key}
-use Rattle.sm_names.proofs.ListLaws.{In, In-filter, filter-none, In-reverse, map-In}
+use Rattle.history_laws.proofs.Common.{Allocated, AreSound, AreTogether, Birth, Bool, Cause, Ended, HeldBuffer, IfSome, In, In-filter}
+use Rattle.history_laws.proofs.Common.{In-reverse, Interval, List, Loss, Mark, NodeKey, None, Option, Some, Timeline, [], allocated}
+use Rattle.history_laws.proofs.Common.{ancestors, ap, birth_of, births, births_in, blocked, both_ways, buffers_of, collection_in, cond}
+use Rattle.history_laws.proofs.Common.{either_way, eq-eqb, eqb-true, false, false_if, fault, filter, filter-none, gone, head, inl, inr}
+use Rattle.history_laws.proofs.Common.{is_initial, is_none, layout_at, map, map-In, member, members, option_map, option_map_or, or_right}
+use Rattle.history_laws.proofs.Common.{placed, reaches, refl, same_key, same_key-true, still_out, sym, takes, top, top_on, true, was_born}
+use Rattle.history_laws.proofs.Common.{ℕ, ◌&&◌, ◌++◌, ◌==◌, ◌||◌, ◌∙◌, ◌∷◌, ◌≡◌}
 use Rattle.history_laws.proofs.ReachLaws.{other_key}
-use Rattle.sm_names.proofs.ChainLaws.{top_on}
-use Rattle.sm_names.proofs.SamenessLaws.{false_if, either_way, same_key-true, both_ways, and_right, or_right}
+use Rattle.sm_names.proofs.SamenessLaws.{and_right}
 use Rattle.history_laws.proofs.SettledLaws.{In-was_born, find_birth}
 use Rattle.history_laws.proofs.LayoutLaws.{layout_given}
 use Rattle.std.proofs.lemmas.List.Elements.{filter-append}
-use Rattle.sm_names.specs.declared.keys.HeldBuffer.{HeldBuffer}
-use Rattle.sm_names.specs.Timelines.{placed, layout_at, still_out}
-use Rattle.sm_names.specs.declared.keys.Interval.{Interval}
-use Rattle.sm_names.specs.Losses.{fault}
 use Rattle.history_laws.proofs.WholeLaws.{IsWhole, line_collection}
 
 -- all that a loss takes is in the collection of its node

@@ -1,13 +1,9 @@
 -- A property that each mark preserves is preserved by an event and by a longer history.
-use Rattle.std.proofs.Common.{ℕ, zero, suc, ◌≡◌, ◌*◌, refl, sym, subst, false, inl, inr, List, [], ◌∷◌, ◌++◌, length, Option, Some, None}
-use Rattle.std.proofs.lemmas.List.Sums.{fold-append}
-use Rattle.std.specs.List.{fold, cons_option}
-use Rattle.std.specs.Option.{option_map_or}
-use Rattle.sm_names.specs.Births.{births}
-use Rattle.sm_names.specs.Marks.{Entry, Mark, Timeline, Called, is_event}
-use Rattle.sm_names.specs.Timelines.{after, timeline, settled, settled_within, next_forced, own_loss, collection_of}
+use Rattle.history_laws.proofs.Common.{Called, Entry, List, Mark, None, Option, Some, Timeline, [], after, births, collection_of}
+use Rattle.history_laws.proofs.Common.{cons_option, false, fold, fold-append, inl, inr, is_event, length, next_forced, none_or_some}
+use Rattle.history_laws.proofs.Common.{option_map_or, own_loss, refl, settled, settled_within, subst, suc, sym, timeline, zero, ℕ, ◌*◌}
+use Rattle.history_laws.proofs.Common.{◌++◌, ◌∷◌, ◌≡◌}
 use Rattle.history_laws.proofs.LegalLaws.{own_loss_no_event}
-use Rattle.sm_names.proofs.SamenessLaws.{none_or_some}
 use Rattle.history_laws.proofs.SettledLaws.{forced_no_event}
 
 -- what each mark that is no event keeps, the marks that an event forces keep

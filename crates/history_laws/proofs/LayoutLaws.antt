@@ -1,19 +1,10 @@
 -- What an allocation lays out is of the collection whose root it is.
-use Rattle.std.proofs.Common.{ℕ, ◌≡◌, refl, ap, sym, ◌∙◌, Bool, true, false, cond, ◌&&◌, ◌==◌}
-use Rattle.std.proofs.Common.{inl, inr, List, [], ◌∷◌, map, Option, Some, None, is_some, is_none}
-use Rattle.std.proofs.lemmas.Bool.{eq-eqb}
-use Rattle.std.specs.Option.{option_map_or}
-use Rattle.sm_names.specs.declared.keys.BufferName.{BufferName}
-use Rattle.sm_names.specs.declared.keys.Interval.{Interval}
-use Rattle.sm_names.specs.declared.outcomes.Buffers.{Buffers}
-use Rattle.sm_names.specs.Births.{Birth, birth_of}
-use Rattle.sm_names.specs.Handles.{buffers_of, is_initial, names}
-use Rattle.sm_names.specs.Marks.{Mark, Timeline, Called, Loss, Allocated, Ended}
-use Rattle.sm_names.specs.Members.{members, asked}
-use Rattle.sm_names.specs.Pages.{places, pages_of}
-use Rattle.sm_names.specs.declared.keys.HeldBuffer.{HeldBuffer}
-use Rattle.sm_names.specs.Timelines.{placed, layout, layout_at, laid_out, still_out}
-use Rattle.sm_names.proofs.ListLaws.{In, In-append, In-map}
+use Rattle.history_laws.proofs.Common.{Allocated, Birth, Bool, BufferName, Buffers, Called, Ended, HeldBuffer, In, In-append, In-map}
+use Rattle.history_laws.proofs.Common.{Interval, List, Loss, Mark, None, Option, Some, Timeline, [], ap, asked, birth_of, buffers_of}
+use Rattle.history_laws.proofs.Common.{cond, eq-eqb, false, inl, inr, is_initial, is_none, is_some, laid_out, layout_at, map, members}
+use Rattle.history_laws.proofs.Common.{names, option_map_or, pages_of, placed, places, refl, still_out, sym, true, ℕ, ◌&&◌, ◌==◌, ◌∙◌}
+use Rattle.history_laws.proofs.Common.{◌∷◌, ◌≡◌}
+use Rattle.sm_names.specs.Timelines.{layout}
 
 -- what is laid out bears the name of its collection
 laid_in : (collection pages : ℕ) (bs : List BufferName) (starts : List ℕ) → ((b : BufferName) → In b bs → b.collection ≡ collection) →

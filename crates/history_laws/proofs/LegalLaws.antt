@@ -1,28 +1,12 @@
 -- The births of a legal history are sound.
-use Rattle.std.proofs.Common.{ℕ, zero, suc, ◌≡◌, ◌+◌, ◌*◌, refl, sym, ◌∙◌, subst, Bool, true, false}
-use Rattle.std.proofs.Common.{◌⊎◌, inl, inr, List, [], ◌∷◌, length, Option, Some, None, ap, is_some}
-use Rattle.std.proofs.lemmas.Bool.{false≢true}
-use Rattle.std.specs.List.{fold, cons_option}
-use Rattle.std.specs.Option.{option_map_or, option_map, IfSome}
-use Rattle.sm_names.specs.declared.keys.NodeKey.{NodeKey}
-use Rattle.sm_names.specs.declared.messages.Call.{Call}
-use Rattle.sm_names.specs.declared.messages.Reply.{Reply}
-use Rattle.sm_names.specs.declared.outcomes.Cause.{Cause}
-use Rattle.sm_names.specs.declared.outcomes.Misuse.{Misuse}
-use Rattle.sm_names.specs.Answers.{IsAnswer, answer}
-use Rattle.sm_names.specs.Births.{Birth, births, birth_at, was_born, AreSound}
-use Rattle.sm_names.specs.Bounds.{Bound}
-use Rattle.sm_names.specs.Legality.{AreAnswers}
-use Rattle.sm_names.specs.Losses.{fault}
-use Rattle.sm_names.specs.Reading.{readings}
-use Rattle.sm_names.specs.Ends.{spent}
-use Rattle.sm_names.specs.Marks.{Entry, Mark, Timeline, Called, Loss, events, is_event}
-use Rattle.sm_names.specs.Timelines.{after, settled, settled_within, next_forced, own_loss, key_of, collection_of}
+use Rattle.history_laws.proofs.Common.{AreAnswers, AreSound, Birth, Bool, Bound, Call, Called, Cause, Entry, IfSome, In, IsAnswer, List}
+use Rattle.history_laws.proofs.Common.{Loss, Mark, Misuse, NodeKey, None, Option, Reply, Some, Timeline, [], after, answer, ap, birth_at}
+use Rattle.history_laws.proofs.Common.{births, collection_of, cons_option, events, false, false≢true, fault, fold, inl, inr, is_event}
+use Rattle.history_laws.proofs.Common.{is_some, key_of, length, next_forced, none_or_some, option_map, option_map_or, own_loss, readings}
+use Rattle.history_laws.proofs.Common.{refl, settled, settled_within, spent, subst, suc, sym, true, was_born, when, zero, ℕ, ◌*◌, ◌+◌}
+use Rattle.history_laws.proofs.Common.{◌∙◌, ◌∷◌, ◌≡◌, ◌⊎◌}
 use Rattle.history_laws.proofs.BirthLaws.{Comes, comes}
-use Rattle.sm_names.proofs.ListLaws.{In}
-use Rattle.sm_names.proofs.SamenessLaws.{none_or_some}
 use Rattle.history_laws.proofs.SettledLaws.{In-was_born, Changes, forced_changes, same_births}
-use Rattle.sm_names.specs.Words.{when}
 
 -- forced marks are no births
 births-settled_within : (pool collection most : ℕ) (marks : Timeline) → AreSound (births marks) →

@@ -1,3 +1,4 @@
+mod Common
 pub mod AnswerLaws
 pub mod ApartLaws
 pub mod BirthLaws

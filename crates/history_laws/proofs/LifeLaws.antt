@@ -1,25 +1,14 @@
 -- What holds of the nodes of each timeline that grows from nothing.
-use Rattle.std.proofs.Common.{ℕ, ◌≡◌, ◌≤◌, ◌+◌, refl, ap, sym, ◌∙◌, Bool, true, false, ◌||◌, ◌==◌}
-use Rattle.std.proofs.Common.{◌⊎◌, inl, inr, List, [], ◌∷◌, Option, Some, None, is_some, arith}
-use Rattle.std.specs.List.{list_any, find, cons_option}
-use Rattle.sm_names.specs.declared.keys.NodeKey.{NodeKey}
-use Rattle.sm_names.specs.declared.messages.Call.{Call}
-use Rattle.sm_names.specs.declared.messages.Reply.{Reply}
-use Rattle.sm_names.specs.Answers.{IsAnswer}
-use Rattle.sm_names.specs.Births.{Birth, births, birth_at, was_born, ancestors, head, is_at_or_below, collection_in, AreSound}
-use Rattle.sm_names.specs.Bounds.{Bound}
-use Rattle.sm_names.specs.Ends.{spent}
-use Rattle.sm_names.specs.Losses.{Reach, Origin, Up, Down, fault, gone, reaches, blocked}
-use Rattle.sm_names.specs.Marks.{Timeline, Called, Loss, Allocated, Ended, events}
-use Rattle.sm_names.specs.Members.{member, members, births_in}
-use Rattle.sm_names.specs.Reading.{readings}
-use Rattle.sm_names.specs.Sameness.{same_key}
+use Rattle.history_laws.proofs.Common.{Allocated, AreSound, Birth, Bool, Bound, Call, Called, Down, Ended, In, In-filter-back, In-find}
+use Rattle.history_laws.proofs.Common.{In-map-back, In-reverse-back, IsAnswer, IsChain, List, Loss, NodeKey, None, Option, Origin, Reach}
+use Rattle.history_laws.proofs.Common.{Reply, Some, Timeline, Up, [], ancestors, ap, arith, birth_at, births, births_in, blocked}
+use Rattle.history_laws.proofs.Common.{collection_in, cons_option, either_way, events, false, fault, find, gone, head, inl, inr}
+use Rattle.history_laws.proofs.Common.{is_at_or_below, is_some, is_some-find, list_any, map-Some, member, members, none_or_some, or_right}
+use Rattle.history_laws.proofs.Common.{reaches, readings, refl, same_key, same_key-true, spent, sym, true, was_born, ℕ, ◌+◌, ◌==◌, ◌||◌}
+use Rattle.history_laws.proofs.Common.{◌∙◌, ◌∷◌, ◌≡◌, ◌≤◌, ◌⊎◌}
 use Rattle.history_laws.proofs.GrowthLaws.{Grows, Stays, Answers, Loses, Allocates, Ends}
 use Rattle.history_laws.proofs.BirthLaws.{Comes, comes}
-use Rattle.sm_names.proofs.ListLaws.{In, is_some-find, In-filter-back, In-find, In-map-back, In-reverse-back}
-use Rattle.sm_names.proofs.ChainLaws.{IsChain}
 use Rattle.history_laws.proofs.ReachLaws.{parent_in, parent_born, reached_sound, ancestors_chain}
-use Rattle.sm_names.proofs.SamenessLaws.{either_way, same_key-true, or_right, none_or_some, map-Some}
 use Rattle.history_laws.proofs.SettledLaws.{In-was_born, Why, No_live, forced_why, find_birth}
 use Rattle.history_laws.proofs.WholeLaws.{IsWhole, whole-called, whole-mark, whole_nothing, forced_leaves, parent_collection}
 

@@ -1,15 +1,11 @@
 -- Buffers are placed in the pool, apart from one another and from what is held.
-use Rattle.std.proofs.Common.{ℕ, zero, suc, ◌≡◌, ◌≤◌, ◌<◌, ◌+◌, refl, ap, sym, subst, Bool, true, false, cond}
-use Rattle.std.proofs.Common.{◌&&◌, ◌||◌, nat_lt, nat_le, inl, inr, List, [], ◌∷◌, ◌++◌, map, length, Some, arith}
-use Rattle.std.proofs.lemmas.Bool.{ltb-true, ltb-false, leb-true, leb-false, not-true}
-use Rattle.std.proofs.lemmas.List.Sums.{sum_by-cons}
-use Rattle.std.specs.List.{list_any, range_with_len, sum_by}
-use Rattle.std.specs.Option.{option_map}
-use Rattle.sm_names.specs.declared.keys.Interval.{Interval}
-use Rattle.sm_names.specs.Pages.{meets, has_room, least_start, places}
-use Rattle.sm_names.specs.Apart.{AreApart, are_in, at_pages}
-use Rattle.sm_names.proofs.ListLaws.{In-find}
-use Rattle.sm_names.proofs.SamenessLaws.{either_way, and_left, and_right, or_parts, or_both, and_both, and_then-Some, map-Some}
+use Rattle.history_laws.proofs.Common.{AreApart, Bool, In-find, Interval, List, Some, [], and_both, and_left, and_then-Some, ap, are_in}
+use Rattle.history_laws.proofs.Common.{arith, at_pages, cond, either_way, false, has_room, inl, inr, least_start, length, list_any}
+use Rattle.history_laws.proofs.Common.{ltb-false, ltb-true, map, map-Some, meets, nat_le, nat_lt, not-true, option_map, or_both, or_parts}
+use Rattle.history_laws.proofs.Common.{places, range_with_len, refl, subst, suc, sum_by, sum_by-cons, sym, true, zero, ℕ, ◌&&◌, ◌++◌, ◌+◌}
+use Rattle.history_laws.proofs.Common.{◌<◌, ◌||◌, ◌∷◌, ◌≡◌, ◌≤◌}
+use Rattle.std.proofs.lemmas.Bool.{leb-true, leb-false}
+use Rattle.sm_names.proofs.SamenessLaws.{and_right}
 
 -- an interval that has room ends within the pool and meets nothing that is held
 room_apart : (pool : ℕ) (held : List Interval) (i : Interval) → has_room pool held i ≡ true → (nat_le (i.start + i.pages) pool ≡ true) ×

@@ -1,25 +1,14 @@
 -- What is given to a client waits in order. No client collects more than it was given, nor drops more handles than it had.
-use Rattle.std.proofs.Common.{ℕ, ◌≡◌, ◌≤◌, ◌<◌, refl, ap, sym, ◌∙◌, true, false, inl, inr, List}
-use Rattle.std.proofs.Common.{[], ◌∷◌, ◌++◌, length, drop, reverse, Option, Some, None, arith}
-use Rattle.std.specs.List.{filter_map, fold, cons_option}
-use Rattle.sm_names.specs.declared.messages.Call.{Call}
-use Rattle.sm_names.specs.declared.messages.Reply.{Reply}
-use Rattle.sm_names.specs.Answers.{IsAnswer, collected}
-use Rattle.sm_names.specs.Bounds.{Bound}
-use Rattle.sm_names.specs.Ends.{given_at, collects, parcels}
-use Rattle.sm_names.specs.Legality.{AreAnswers}
-use Rattle.sm_names.specs.Marks.{Entry, Mark, Timeline, Called, Loss, Allocated, Ended, is_event}
-use Rattle.sm_names.specs.Reading.{readings}
-use Rattle.sm_names.specs.Timelines.{after}
-use Rattle.std.proofs.lemmas.Bool.{eqb-true, false≢true}
-use Rattle.std.proofs.lemmas.List.{drop-append-le, drop-drop, length-reverse, reverse-append}
+use Rattle.history_laws.proofs.Common.{Allocated, AreAnswers, Bound, Call, Called, Ended, Entry, IsAnswer, List, Loss, Mark, None, Option}
+use Rattle.history_laws.proofs.Common.{Parcel, Reply, Some, Timeline, [], after, ap, arith, collected, collects, cons_option, drop}
+use Rattle.history_laws.proofs.Common.{either_way, eqb-true, false, false≢true, filter_map, fold, given_at, inl, inr, is_event, length}
+use Rattle.history_laws.proofs.Common.{parcels, readings, refl, reverse, reverse-append, sym, times, true, ℕ, ◌++◌, ◌<◌, ◌∙◌, ◌∷◌, ◌≡◌}
+use Rattle.history_laws.proofs.Common.{◌≤◌}
+use Rattle.std.proofs.lemmas.List.{drop-append-le, drop-drop, length-reverse}
 use Rattle.std.proofs.Math.Seq.{drop-length}
 use Rattle.std.proofs.Math.Nat.{eq-or-lt_of_le}
 use Rattle.history_laws.proofs.AnswerLaws.{took_effect_all}
 use Rattle.history_laws.proofs.KeptLaws.{kept-after}
-use Rattle.sm_names.proofs.SamenessLaws.{either_way}
-use Rattle.sm_names.specs.Words.{times}
-use Rattle.sm_names.specs.declared.messages.Parcel.{Parcel}
 
 -- ---- no client collects more than it was given
 

@@ -1,14 +1,8 @@
 -- Calls that change nothing but the number of events.
-use Rattle.std.proofs.lemmas.Bool.{false≢true}
-use Rattle.std.proofs.Common.{ℕ, ◌≡◌, ◌+◌, refl, ap, ◌∙◌, true, ◌∷◌}
-use Rattle.sm_names.specs.declared.messages.Call.{Call}
-use Rattle.sm_names.specs.declared.messages.Reply.{Reply}
+use Rattle.history_laws.proofs.Common.{Call, Called, Reply, Timeline, ap, events, false≢true, fired, live_nodes, readings, refl, standing}
+use Rattle.history_laws.proofs.Common.{tracked, true, unfired, world, ℕ, ◌+◌, ◌∙◌, ◌∷◌, ◌≡◌}
 use Rattle.sm_names.specs.Changes.{is_quiet}
-use Rattle.sm_names.specs.Marks.{Timeline, Called, events}
-use Rattle.sm_names.specs.Reading.{readings}
-use Rattle.sm_names.specs.Timelines.{standing}
-use Rattle.sm_names.specs.Trackers.{world, tracked, unfired, fired}
-use Rattle.sm_names.specs.Views.{live_nodes, held_by_page}
+use Rattle.sm_names.specs.Views.{held_by_page}
 use Rattle.history_laws.proofs.FiredLaws.{unfired-same, fired-same}
 
 -- what answers read, but for the trackers that have not fired

@@ -1,14 +1,10 @@
 -- The computed reach is the least set.
-use Rattle.std.proofs.Common.{◌≡◌, refl, ap, sym, ◌∙◌, Bool, true, false, ◌⊎◌, inl, inr, List, [], ◌∷◌, Option, Some, None, ◌↔◌}
-use Rattle.std.specs.List.{list_any, find}
-use Rattle.std.specs.Option.{option_map_or, IfSome}
-use Rattle.sm_names.specs.declared.keys.NodeKey.{NodeKey}
-use Rattle.sm_names.specs.Births.{Birth, births, ancestors, was_born, AreSound}
-use Rattle.sm_names.specs.Losses.{Reach, Origin, Up, Down, top, reaches, parent_of, blocked}
-use Rattle.sm_names.specs.Marks.{Timeline}
-use Rattle.sm_names.specs.Sameness.{same_key}
-use Rattle.sm_names.proofs.ChainLaws.{IsChain, climbs, descends, top_on}
-use Rattle.sm_names.proofs.SamenessLaws.{either_way, same_key-true, or_right, both_ways}
+use Rattle.history_laws.proofs.Common.{AreSound, Birth, Bool, Down, IfSome, IsChain, List, NodeKey, None, Option, Origin, Reach, Some}
+use Rattle.history_laws.proofs.Common.{Timeline, Up, [], ancestors, ap, births, blocked, both_ways, either_way, false, find, inl, inr}
+use Rattle.history_laws.proofs.Common.{list_any, option_map_or, or_right, parent_of, reaches, refl, same_key, same_key-true, sym, top}
+use Rattle.history_laws.proofs.Common.{top_on, true, was_born, ◌∙◌, ◌∷◌, ◌≡◌, ◌⊎◌}
+use Rattle.std.proofs.Common.{◌↔◌}
+use Rattle.sm_names.proofs.ChainLaws.{climbs, descends}
 
 -- the failure of the top node propagates no further
 top_stops : (parent : NodeKey → Option NodeKey) (blocks : NodeKey → Bool) (node : NodeKey) (above : List NodeKey) →

@@ -1,11 +1,6 @@
 -- A call that is refused changes nothing but the number of events.
-use Rattle.std.proofs.Common.{ℕ, ◌≡◌, ◌+◌, refl, ap, ◌∙◌, ◌∷◌}
-use Rattle.sm_names.specs.declared.messages.Call.{Call}
-use Rattle.sm_names.specs.declared.messages.Reply.{Reply}
-use Rattle.sm_names.specs.declared.outcomes.Refusal.{Refusal}
-use Rattle.sm_names.specs.Marks.{Timeline, Called, events}
-use Rattle.sm_names.specs.Reading.{readings}
-use Rattle.sm_names.specs.Trackers.{unfired, fired}
+use Rattle.history_laws.proofs.Common.{Call, Called, Refusal, Reply, Timeline, ap, events, fired, readings, refl, unfired, ℕ, ◌+◌, ◌∙◌}
+use Rattle.history_laws.proofs.Common.{◌∷◌, ◌≡◌}
 use Rattle.history_laws.proofs.FiredLaws.{unfired-same, fired-same}
 
 -- what answers read, but for the trackers that have not fired

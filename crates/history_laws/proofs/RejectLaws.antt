@@ -1,19 +1,11 @@
 -- What an answer that is no refusal has passed.
-use Rattle.std.proofs.Common.{ℕ, ◌≡◌, refl, ap, ◌∙◌, Bool, true, false, List, ◌∷◌, Option, Some, None}
-use Rattle.std.specs.Option.{option_map_or, option_and_then, unwrap_or}
-use Rattle.sm_names.specs.declared.keys.NodeKey.{NodeKey}
-use Rattle.sm_names.specs.declared.messages.Call.{Call}
-use Rattle.sm_names.specs.declared.messages.Reply.{Reply}
-use Rattle.sm_names.specs.declared.outcomes.Refusal.{Refusal}
-use Rattle.sm_names.specs.Answers.{OpenEnd, Readings, IsAnswer, answer, effect, new_key, closing, no_end, refused_if, unknown_client}
-use Rattle.sm_names.specs.Answers.{shut_client, end_in_transit, end_named, peer_closed, wrong_kind, misuse, no_handle, limits_met}
-use Rattle.sm_names.specs.Bounds.{Bound}
-use Rattle.sm_names.specs.Marks.{Timeline}
-use Rattle.sm_names.specs.Reading.{readings}
-use Rattle.sm_names.specs.Timelines.{key_of}
-use Rattle.sm_names.specs.Words.{first_some}
+use Rattle.history_laws.proofs.Common.{Bool, Bound, Call, IsAnswer, List, NodeKey, None, OpenEnd, Option, Readings, Refusal, Reply, Some}
+use Rattle.history_laws.proofs.Common.{Timeline, answer, ap, both_ways, closing, effect, end_in_transit, end_named, false, first_some}
+use Rattle.history_laws.proofs.Common.{key_of, limits_met, misuse, no_end, no_handle, option_and_then, option_map_or, peer_closed}
+use Rattle.history_laws.proofs.Common.{readings, refl, refused_if, shut_client, true, unknown_client, unwrap_or, wrong_kind, ℕ, ◌∙◌, ◌∷◌}
+use Rattle.history_laws.proofs.Common.{◌≡◌}
+use Rattle.sm_names.specs.Answers.{new_key}
 use Rattle.history_laws.proofs.BirthLaws.{HasEnd, has_end}
-use Rattle.sm_names.proofs.SamenessLaws.{both_ways}
 
 -- the reply refuses the call
 abbrev pub is_refusal : Reply → Bool

@@ -1,24 +1,13 @@
 -- In a legal history no forced step applies between two events.
-use Rattle.std.proofs.Common.{ℕ, ◌≡◌, refl, ap, sym, ◌∙◌, Bool, ◌==◌, ◌||◌, inl, inr, List, [], ◌∷◌, map, nat_lt, Option, Some, None}
-use Rattle.std.proofs.lemmas.Bool.{eqb-true, eq-eqb}
-use Rattle.std.specs.List.{list_any, fold, cons_option}
-use Rattle.std.specs.Option.{option_map_or}
-use Rattle.sm_names.specs.declared.keys.BufferName.{BufferName}
-use Rattle.sm_names.specs.declared.keys.Strength.{Strength}
-use Rattle.sm_names.specs.declared.outcomes.Buffers.{Buffers}
-use Rattle.sm_names.specs.Answers.{IsAnswer}
-use Rattle.sm_names.specs.Bounds.{Bound}
-use Rattle.sm_names.specs.Forced.{Standing, forced}
-use Rattle.sm_names.specs.Handles.{buffers_of, names, open_total}
-use Rattle.sm_names.specs.Legality.{AreAnswers}
-use Rattle.sm_names.specs.Marks.{Entry, Timeline, Called}
-use Rattle.sm_names.specs.Reading.{readings}
-use Rattle.sm_names.specs.Timelines.{after, settled, next_forced, standing, own_loss, collection_of}
+use Rattle.history_laws.proofs.Common.{AreAnswers, Bool, Bound, BufferName, Buffers, Called, Entry, IsAnswer, List, None, Option, Some}
+use Rattle.history_laws.proofs.Common.{Standing, Strength, Timeline, [], after, ap, both_ways, buffers_of, collection_of, cons_option}
+use Rattle.history_laws.proofs.Common.{either_way, eq-eqb, eqb-true, fold, forced, inl, inr, list_any, map, names, nat_lt, next_forced}
+use Rattle.history_laws.proofs.Common.{open_total, option_map_or, own_loss, readings, refl, settled, standing, sym, ℕ, ◌==◌, ◌||◌, ◌∙◌}
+use Rattle.history_laws.proofs.Common.{◌∷◌, ◌≡◌}
 use Rattle.history_laws.proofs.EventLaws.{SameIn, same_after}
 use Rattle.history_laws.proofs.GrowthLaws.{Grows, Stays, grows_after, grows_lost}
 use Rattle.history_laws.proofs.LifeLaws.{whole}
 use Rattle.sm_names.proofs.ForcedLaws.{at_rest, none_forced, rests_with}
-use Rattle.sm_names.proofs.SamenessLaws.{either_way, both_ways}
 use Rattle.history_laws.proofs.SettledLaws.{settled_rests}
 
 -- ---- a collection that is unchanged is still at rest

@@ -1,14 +1,10 @@
 -- Where buffers have places, and where some buffer has no room.
-use Rattle.std.proofs.Common.{ℕ, zero, suc, ◌≡◌, ◌≤◌, ◌<◌, ◌+◌, refl, ap, sym, ◌∙◌, Bool, false}
-use Rattle.std.proofs.Common.{nat_lt, inl, inr, List, [], ◌∷◌, length, Some, None, arith}
-use Rattle.std.proofs.lemmas.Bool.{ltb-true, ltb-false}
-use Rattle.std.specs.List.{find, range_with_len}
-use Rattle.std.specs.Option.{option_map}
-use Rattle.sm_names.specs.declared.keys.Interval.{Interval}
-use Rattle.sm_names.specs.Apart.{at_pages, IsFirst, AreFirst, with_placed, IsFull}
-use Rattle.sm_names.specs.Pages.{has_room, least_start, places}
+use Rattle.history_laws.proofs.Common.{Bool, Interval, List, None, Some, [], ap, arith, at_pages, both_ways, either_way, false, find}
+use Rattle.history_laws.proofs.Common.{has_room, inl, inr, least_start, length, ltb-false, ltb-true, nat_lt, none_or_some, option_map}
+use Rattle.history_laws.proofs.Common.{places, range_with_len, refl, suc, sym, zero, ℕ, ◌+◌, ◌<◌, ◌∙◌, ◌∷◌, ◌≡◌, ◌≤◌}
+use Rattle.sm_names.specs.Apart.{IsFirst, AreFirst, with_placed, IsFull}
 use Rattle.sm_names.proofs.PlaceLaws.{start_is_first}
-use Rattle.sm_names.proofs.SamenessLaws.{either_way, both_ways, none_or_some, map-None}
+use Rattle.sm_names.proofs.SamenessLaws.{map-None}
 
 -- where nothing is found, none passes
 find_none : (test : ℕ → Bool) (from many : ℕ) → find test (range_with_len from many) ≡ None → (k : ℕ) → from ≤ k → k < from + many →

@@ -1,27 +1,17 @@
 -- Why a step is forced. The forced steps come to an end, and none applies then.
-use Rattle.std.proofs.Common.{◌&&◌, ℕ, zero, suc, ◌≡◌, ◌≤◌, ◌<◌, ◌+◌, ◌*◌, refl, ap, sym, ◌∙◌, subst, Bool, true, false, cond}
-use Rattle.std.proofs.Common.{not, ◌||◌, ◌==◌, ◌⊎◌, inl, inr, List, [], ◌∷◌, length, Option, Some, None, arith, is_some, is_none}
-use Rattle.std.specs.List.{list_any, find, filter}
-use Rattle.std.specs.Option.{option_map_or}
-use Rattle.std.proofs.lemmas.Bool.{not-true}
-use Rattle.sm_names.specs.declared.keys.NodeKey.{NodeKey}
-use Rattle.sm_names.specs.declared.outcomes.Cause.{Cause}
-use Rattle.sm_names.specs.declared.outcomes.Failure.{Failure}
-use Rattle.sm_names.specs.Births.{Birth, births, head, ancestors, was_born, AreSound}
-use Rattle.sm_names.specs.Forced.{Standing, is_deserted, ending, abandoned, initial_allocation, initial_failure}
-use Rattle.sm_names.specs.Forced.{logical_allocation, logical_failure, outcome, is_next_head, is_allocated}
-use Rattle.sm_names.specs.Losses.{gone, allocated, is_allocation, takes}
-use Rattle.sm_names.specs.Marks.{Mark, Timeline, Called, Loss, Allocated, Ended, is_event}
-use Rattle.sm_names.specs.Members.{Member, member, members, births_in, is_root, root_left}
-use Rattle.sm_names.specs.Members.{some_live, subtree, unit, is_ready, demands, asked, reserved}
-use Rattle.sm_names.specs.Sameness.{same_key}
-use Rattle.sm_names.specs.Timelines.{next_forced, standing, settled_within, settled, Settles, Rests, Forces}
-use Rattle.sm_names.proofs.ListLaws.{In, In-filter, In-map, In-reverse, In-find, In-first_some}
-use Rattle.sm_names.proofs.ListLaws.{when-Some, times-le-length, times-le, times-lt}
-use Rattle.sm_names.proofs.ChainLaws.{top_on}
-use Rattle.sm_names.proofs.SamenessLaws.{either_way, same_key-true, same_key-refl, or_left, or_right, and_left}
-use Rattle.sm_names.proofs.SamenessLaws.{and_right, both_ways, none_or_some, map-Some, and_then-Some, none_if}
-use Rattle.sm_names.specs.Words.{times}
+use Rattle.history_laws.proofs.Common.{Allocated, AreSound, Birth, Bool, Called, Cause, Ended, Failure, In, In-filter, In-find, In-map}
+use Rattle.history_laws.proofs.Common.{In-reverse, List, Loss, Mark, Member, NodeKey, None, Option, Some, Standing, Timeline, []}
+use Rattle.history_laws.proofs.Common.{abandoned, allocated, ancestors, and_left, and_then-Some, ap, arith, asked, births, births_in}
+use Rattle.history_laws.proofs.Common.{both_ways, cond, demands, either_way, ending, false, filter, find, gone, head, initial_allocation}
+use Rattle.history_laws.proofs.Common.{initial_failure, inl, inr, is_allocated, is_allocation, is_deserted, is_event, is_next_head}
+use Rattle.history_laws.proofs.Common.{is_none, is_ready, is_root, is_some, length, list_any, logical_allocation, logical_failure}
+use Rattle.history_laws.proofs.Common.{map-Some, member, members, next_forced, none_if, none_or_some, not, not-true, option_map_or}
+use Rattle.history_laws.proofs.Common.{or_left, or_right, outcome, refl, reserved, root_left, same_key, same_key-refl, same_key-true}
+use Rattle.history_laws.proofs.Common.{settled, settled_within, some_live, standing, subst, subtree, suc, sym, takes, times, top_on, true}
+use Rattle.history_laws.proofs.Common.{unit, was_born, when-Some, zero, ℕ, ◌&&◌, ◌*◌, ◌+◌, ◌<◌, ◌==◌, ◌||◌, ◌∙◌, ◌∷◌, ◌≡◌, ◌≤◌, ◌⊎◌}
+use Rattle.sm_names.specs.Timelines.{Settles, Rests, Forces}
+use Rattle.sm_names.proofs.ListLaws.{In-first_some, times-le-length, times-le, times-lt}
+use Rattle.sm_names.proofs.SamenessLaws.{and_right}
 
 -- ---- a birth and what is found of it
 

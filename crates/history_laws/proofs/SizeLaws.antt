@@ -1,21 +1,11 @@
 -- Each held buffer has the pages that its collection's buffers take.
-use Rattle.std.proofs.Common.{ℕ, ◌≡◌, refl, ap, sym, ◌∙◌, subst, true, false, cond, not}
-use Rattle.std.proofs.Common.{◌==◌, ◌⊎◌, inl, inr, List, [], ◌∷◌, ◌++◌, Some, None}
-use Rattle.std.proofs.lemmas.Bool.{eqb-true, eq-eqb}
-use Rattle.std.specs.List.{list_all, range_with_len}
-use Rattle.std.specs.Option.{option_map_or}
-use Rattle.sm_names.specs.declared.keys.BufferName.{BufferName}
-use Rattle.sm_names.specs.declared.outcomes.Buffers.{Buffers}
-use Rattle.sm_names.specs.Bounds.{Bound}
-use Rattle.sm_names.specs.Handles.{buffers_of, names, home}
-use Rattle.sm_names.specs.Marks.{Mark, Timeline, Called, Loss, Allocated, Ended}
-use Rattle.sm_names.specs.Pages.{pages_of}
-use Rattle.sm_names.specs.declared.keys.HeldBuffer.{HeldBuffer}
-use Rattle.sm_names.specs.Timelines.{laid_out, placed, held}
+use Rattle.history_laws.proofs.Common.{Allocated, Bound, BufferName, Buffers, Called, Ended, HeldBuffer, In, In-append, In-filter, In-map}
+use Rattle.history_laws.proofs.Common.{List, Loss, Mark, None, Some, Timeline, [], ap, buffers_of, cond, either_way, eq-eqb, eqb-true}
+use Rattle.history_laws.proofs.Common.{false, held, home, inl, inr, laid_out, list_all, names, not, option_map_or, pages_of, placed}
+use Rattle.history_laws.proofs.Common.{range_with_len, refl, subst, sym, true, ℕ, ◌++◌, ◌==◌, ◌∙◌, ◌∷◌, ◌≡◌, ◌⊎◌}
 use Rattle.history_laws.proofs.GrowthLaws.{Grows, Stays, Answers, Loses, Allocates, Ends}
 use Rattle.history_laws.proofs.HeldLaws.{Lays, Nothing_new, New, allocation_lays}
-use Rattle.sm_names.proofs.ListLaws.{In, In-append, In-filter, In-map, all_on}
-use Rattle.sm_names.proofs.SamenessLaws.{either_way}
+use Rattle.sm_names.proofs.ListLaws.{all_on}
 use Rattle.history_laws.proofs.SettledLaws.{forced_why}
 
 -- the buffers of its collection take as many pages as it has

@@ -1,28 +1,19 @@
 -- What a collection shows of a loss, and what losses and ends give back.
-use Rattle.std.proofs.Common.{ℕ, ◌≡◌, refl, ap, sym, ◌∙◌, subst, Bool, true, false, not, ◌&&◌}
-use Rattle.std.proofs.Common.{◌||◌, inl, inr, List, [], ◌∷◌, map, Some, Option, None, nat_lt}
-use Rattle.std.specs.List.{list_any, filter}
-use Rattle.std.specs.Option.{option_map_or, option_map}
-use Rattle.sm_names.specs.declared.keys.NodeKey.{NodeKey}
-use Rattle.sm_names.specs.declared.keys.BufferName.{BufferName}
-use Rattle.sm_names.specs.declared.outcomes.Cause.{Cause}
-use Rattle.sm_names.specs.Births.{Birth, births, birth_of, ancestors, collection_in, is_at_or_below, AreSound, AreTogether}
-use Rattle.sm_names.specs.declared.keys.Strength.{Strength}
-use Rattle.sm_names.specs.Changes.{blocks, highest, after_loss, after_allocation, after_end}
-use Rattle.sm_names.specs.Handles.{home, buffers_of, names, open_total}
-use Rattle.sm_names.specs.Losses.{top, blocked, gone, reaches, parent_of}
-use Rattle.sm_names.specs.Marks.{Timeline, Loss, Allocated, Ended}
-use Rattle.sm_names.specs.Members.{Member, member, members, births_in, is_live, is_under, some_strong_live}
-use Rattle.sm_names.specs.Sameness.{same_key}
-use Rattle.sm_names.specs.declared.keys.HeldBuffer.{HeldBuffer}
-use Rattle.sm_names.specs.Timelines.{held, placed, still_out, standing}
-use Rattle.sm_names.proofs.ListLaws.{In, In-list_any, In-any, filter-less}
+use Rattle.history_laws.proofs.Common.{Allocated, AreSound, AreTogether, Birth, Bool, BufferName, Buffers, Cause, Ended, HeldBuffer, In}
+use Rattle.history_laws.proofs.Common.{In-any, In-list_any, List, Loss, Member, NodeKey, None, Option, Some, Strength, Timeline, []}
+use Rattle.history_laws.proofs.Common.{after_allocation, after_end, after_loss, ancestors, and_left, ap, birth_of, births, births_in}
+use Rattle.history_laws.proofs.Common.{blocked, buffers_of, collection_in, either_way, false, filter, gone, held, home, inl, inr}
+use Rattle.history_laws.proofs.Common.{is_at_or_below, is_live, is_under, list_any, map, member, members, names, nat_lt, not, open_total}
+use Rattle.history_laws.proofs.Common.{option_map, option_map_or, or_left, or_right, parent_of, placed, reaches, refl, same_key}
+use Rattle.history_laws.proofs.Common.{same_key-refl, same_key-true, some_strong_live, standing, still_out, subst, sym, top, true, ℕ}
+use Rattle.history_laws.proofs.Common.{◌&&◌, ◌||◌, ◌∙◌, ◌∷◌, ◌≡◌}
+use Rattle.sm_names.specs.Changes.{blocks, highest}
+use Rattle.sm_names.proofs.ListLaws.{filter-less}
 use Rattle.history_laws.proofs.MemberLaws.{members-Loss, members-Allocated, members-Ended, map-map_same}
-use Rattle.sm_names.proofs.SamenessLaws.{either_way, same_key-true, same_key-refl, and_left, and_right, or_left, or_right, both_tests}
+use Rattle.sm_names.proofs.SamenessLaws.{and_right, both_tests}
 use Rattle.history_laws.proofs.SettledLaws.{find_birth, member_birth}
 use Rattle.history_laws.proofs.WholeLaws.{line_collection, stands_in}
 use Rattle.sm_names.proofs.ChainLaws.{top-same}
-use Rattle.sm_names.specs.declared.outcomes.Buffers.{Buffers}
 
 -- ---- the reach of a loss, as the nodes stand
 

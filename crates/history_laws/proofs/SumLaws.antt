@@ -1,12 +1,8 @@
 -- Counts and sums over lists.
-use Rattle.std.proofs.Common.{ℕ, ◌≡◌, ◌≤◌, ◌<◌, ◌+◌, refl, ap, sym, ◌∙◌, Bool, true, false}
-use Rattle.std.proofs.Common.{cond, ◌&&◌, ◌==◌, inl, inr, List, [], ◌∷◌, ◌++◌, arith}
-use Rattle.std.proofs.lemmas.Bool.{eqb-true, eq-eqb}
-use Rattle.std.proofs.lemmas.List.Sums.{sum_by-cons}
-use Rattle.std.specs.List.{filter, list_any, sum_by}
-use Rattle.sm_names.specs.Words.{times}
-use Rattle.sm_names.proofs.ListLaws.{In, times-append}
-use Rattle.sm_names.proofs.SamenessLaws.{either_way, both_ways, or_none_left, or_none_right}
+use Rattle.history_laws.proofs.Common.{Bool, In, List, [], ap, arith, both_ways, cond, either_way, eq-eqb, eqb-true, false, filter, inl}
+use Rattle.history_laws.proofs.Common.{inr, list_any, or_none_right, refl, sum_by, sum_by-cons, sym, times, times-append, true, ℕ, ◌&&◌}
+use Rattle.history_laws.proofs.Common.{◌++◌, ◌+◌, ◌<◌, ◌==◌, ◌∙◌, ◌∷◌, ◌≡◌, ◌≤◌}
+use Rattle.sm_names.proofs.SamenessLaws.{or_none_left}
 
 -- ---- counts
 

@@ -1,36 +1,16 @@
 -- What Take answers, and which handles it opens.
-use Rattle.std.proofs.Common.{ℕ, ◌≡◌, refl, ap, sym, ◌∙◌, Bool, true, false, cond, not, ◌&&◌}
-use Rattle.std.proofs.Common.{◌==◌, nat_lt, ◌⊎◌, inl, inr, List, [], ◌∷◌, Option, Some, None}
-use Rattle.std.proofs.lemmas.Bool.{eqb-true}
-use Rattle.std.proofs.lemmas.Nat.Bits.{bit_at-zero}
-use Rattle.std.specs.Int.{bit_at}
-use Rattle.std.specs.List.{filter, list_any}
-use Rattle.std.specs.Option.{option_map_or, unwrap_or}
-use Rattle.sm_names.specs.declared.keys.BufferName.{BufferName}
-use Rattle.sm_names.specs.declared.keys.NodeKey.{NodeKey}
-use Rattle.sm_names.specs.declared.keys.Strength.{Strength}
-use Rattle.sm_names.specs.declared.messages.Call.{Call}
-use Rattle.sm_names.specs.declared.messages.Reply.{Reply}
-use Rattle.sm_names.specs.declared.outcomes.Refusal.{Refusal}
-use Rattle.sm_names.specs.Answers.{IsAnswer, answer, OpenEnd, Readings, effect, set_of, strength_of, closing, unknown_client, shut_client}
-use Rattle.sm_names.specs.Answers.{no_end, end_in_transit, peer_closed, wrong_kind, misuse, no_handle, limits_met, collected, end_named}
-use Rattle.sm_names.specs.Births.{Birth, births}
-use Rattle.sm_names.specs.Bounds.{Bound}
-use Rattle.sm_names.specs.Handles.{opens, doomed, buffers_of, buffer_names, names}
-use Rattle.sm_names.specs.Losses.{allocated}
-use Rattle.sm_names.specs.Marks.{Timeline, Called}
-use Rattle.sm_names.specs.Reading.{readings, open_end}
-use Rattle.sm_names.specs.Sameness.{same_buffer}
-use Rattle.sm_names.specs.Timelines.{key_of}
-use Rattle.sm_names.specs.Weakness.{weak}
+use Rattle.history_laws.proofs.Common.{Birth, Bool, Bound, BufferName, Buffers, Call, Called, In, IsAnswer, List, NodeKey, None, OpenEnd}
+use Rattle.history_laws.proofs.Common.{Option, Parcel, Readings, Refusal, Reply, Some, Strength, Timeline, [], allocated, answer, ap}
+use Rattle.history_laws.proofs.Common.{births, bit_at, bit_at-zero, both_ways, buffer_names, buffers_of, closing, collected, cond, doomed}
+use Rattle.history_laws.proofs.Common.{effect, either_way, end_in_transit, end_named, eqb-true, false, filter, first_some, inl, inr}
+use Rattle.history_laws.proofs.Common.{key_of, limits_met, list_any, misuse, names, nat_lt, no_end, no_handle, not, open_end, opens}
+use Rattle.history_laws.proofs.Common.{option_map_or, peer_closed, readings, refl, same_buffer, set_of, shut_client, sym, true}
+use Rattle.history_laws.proofs.Common.{unknown_client, unwrap_or, weak, wrong_kind, ℕ, ◌&&◌, ◌==◌, ◌∙◌, ◌∷◌, ◌≡◌, ◌⊎◌}
+use Rattle.sm_names.specs.Answers.{strength_of}
 use Rattle.history_laws.proofs.AnswerLaws.{took_effect_all}
 use Rattle.history_laws.proofs.BitLaws.{bit_of_set, named_below, one_is}
 use Rattle.history_laws.proofs.CountLaws.{anyone}
-use Rattle.sm_names.proofs.ListLaws.{In}
-use Rattle.sm_names.proofs.SamenessLaws.{either_way, both_ways, same_strength-refl}
-use Rattle.sm_names.specs.declared.messages.Parcel.{Parcel}
-use Rattle.sm_names.specs.Words.{first_some}
-use Rattle.sm_names.specs.declared.outcomes.Buffers.{Buffers}
+use Rattle.sm_names.proofs.SamenessLaws.{same_strength-refl}
 use Rattle.history_laws.proofs.BirthLaws.{named}
 use Rattle.history_laws.proofs.RejectLaws.{is_refusal, strip, rejects_if, rejects_then, unknown_rejects}
 

@@ -1,36 +1,21 @@
 -- What holds after every legal history: a node is in its parent's collection and gone if its parent is, and one that is gone
 -- while its end is not spent has failed.
-use Rattle.std.proofs.Common.{ℕ, zero, suc, ◌≡◌, ◌+◌, ◌*◌, refl, ap, sym, ◌∙◌, subst, Bool, true, false, cond, not}
-use Rattle.std.proofs.Common.{◌&&◌, ◌||◌, ◌==◌, ◌⊎◌, inl, inr, List, [], ◌∷◌, length, Option, Some, None, is_some}
-use Rattle.std.specs.List.{list_any, find, fold, cons_option}
-use Rattle.std.specs.Option.{option_map_or, option_map, IfSome}
-use Rattle.sm_names.specs.declared.keys.NodeKey.{NodeKey}
-use Rattle.sm_names.specs.declared.messages.Call.{Call}
-use Rattle.sm_names.specs.declared.messages.Reply.{Reply}
-use Rattle.sm_names.specs.declared.outcomes.Cause.{Cause}
-use Rattle.sm_names.specs.declared.outcomes.Misuse.{Misuse}
-use Rattle.sm_names.specs.Answers.{IsAnswer}
-use Rattle.sm_names.specs.Births.{Birth, births, birth_at, was_born, ancestors, is_at_or_below, collection_in, AreSound, AreTogether}
-use Rattle.sm_names.specs.Bounds.{Bound}
-use Rattle.sm_names.specs.Ends.{spent, spends}
-use Rattle.sm_names.specs.Legality.{AreAnswers}
-use Rattle.sm_names.specs.Losses.{gone, fault, released, is_release, reaches, parent_of, top}
-use Rattle.sm_names.specs.Marks.{Entry, Mark, Timeline, Called, Loss, Allocated, Ended, events, is_event}
-use Rattle.sm_names.specs.Members.{member, members, births_in, is_live, is_under}
-use Rattle.sm_names.specs.Reading.{readings}
-use Rattle.sm_names.specs.Sameness.{same_key}
-use Rattle.sm_names.specs.Timelines.{after, settled, settled_within, next_forced, own_loss, key_of, collection_of}
-use Rattle.std.proofs.lemmas.Bool.{eqb-true, eq-eqb, false≢true}
+use Rattle.history_laws.proofs.Common.{Allocated, AreAnswers, AreSound, AreTogether, Birth, Bool, Bound, Call, Called, Cause, Ended}
+use Rattle.history_laws.proofs.Common.{Entry, Fault, IfSome, In, In-filter-back, In-find, In-map-back, In-reverse-back, IsAnswer, IsChain}
+use Rattle.history_laws.proofs.Common.{List, Loss, Mark, Misuse, NodeKey, None, Option, Reply, Some, Timeline, [], after, ancestors, ap}
+use Rattle.history_laws.proofs.Common.{birth_at, births, births_in, both_ways, collection_in, collection_of, cond, cons_option}
+use Rattle.history_laws.proofs.Common.{either_way, eq-eqb, eqb-true, events, false, false_if, false≢true, fault, find, fold, gone, inl}
+use Rattle.history_laws.proofs.Common.{inr, is_at_or_below, is_event, is_live, is_release, is_some, is_under, key_of, length, list_any}
+use Rattle.history_laws.proofs.Common.{map-Some, member, members, next_forced, none_or_some, not, option_map, option_map_or, or_left}
+use Rattle.history_laws.proofs.Common.{or_none_right, or_right, own_loss, parent_of, reaches, readings, refl, released, same_key}
+use Rattle.history_laws.proofs.Common.{same_key-true, settled, settled_within, spends, spent, subst, suc, sym, top, true, was_born, when}
+use Rattle.history_laws.proofs.Common.{zero, ℕ, ◌&&◌, ◌*◌, ◌+◌, ◌==◌, ◌||◌, ◌∙◌, ◌∷◌, ◌≡◌, ◌⊎◌}
 use Rattle.history_laws.proofs.LegalLaws.{own_loss_no_event, sound_called}
 use Rattle.history_laws.proofs.BirthLaws.{comes}
-use Rattle.sm_names.proofs.ListLaws.{In, In-filter-back, In-map-back, In-reverse-back, In-find, none-In}
-use Rattle.sm_names.proofs.ChainLaws.{IsChain}
+use Rattle.sm_names.proofs.ListLaws.{none-In}
 use Rattle.history_laws.proofs.ReachLaws.{parent_in, parent_born, other_key, ancestors_on, ancestors_chain}
-use Rattle.sm_names.proofs.SamenessLaws.{false_if, either_way, same_key-true, or_left, or_right}
-use Rattle.sm_names.proofs.SamenessLaws.{or_first, or_none_right, both_ways, none_or_some, map-Some}
+use Rattle.sm_names.proofs.SamenessLaws.{or_first}
 use Rattle.history_laws.proofs.SettledLaws.{Changes, forced_changes, Why, No_live, Fails, Initial, Logical, forced_why, find_birth}
-use Rattle.sm_names.specs.Words.{when}
-use Rattle.sm_names.specs.declared.outcomes.Fault.{Fault}
 
 -- ---- lines of nodes
 

@@ -1,17 +1,12 @@
 -- What a birth does to a table.
-use Rattle.std.proofs.Common.{◌≡◌, ◌≢◌, ℕ, ◌+◌, ◌<◌, ◌≤◌, ◌^◌, ◌==◌, ◌&&◌, ◌||◌, nat_le, nat_lt, Bool}
-use Rattle.std.proofs.Common.{true, false, List, [], Option, Some, None, is_some, IsSome, IfSome, count_by}
-use Rattle.std.proofs.Common.{option_map, arith, refl, ap, sym, ◌∙◌, slice_index_or, inl, inr, subst}
-use Rattle.std.proofs.lemmas.Bool.{cases_eq}
-use Rattle.std.proofs.lemmas.Bool.Decides.{nat_tests}
+use Rattle.node_table.proofs.Common.{Births, Bool, Bumped, IfSome, IsLinked, IsRun, IsSome, IsSound, List, NodeKey, None, Option, Row}
+use Rattle.node_table.proofs.Common.{Slot, Some, Table, [], ap, arith, at_parent, at_slot, cases_eq, children_at, children_in, count_by}
+use Rattle.node_table.proofs.Common.{entry_in, false, first_in, given_count, inl, inr, is_some, last_in, nat_le, nat_lt, nat_tests}
+use Rattle.node_table.proofs.Common.{next_at, next_in, option_map, parent_at, parent_in, prev_in, refl, row_at, row_in, rows_of, run_in}
+use Rattle.node_table.proofs.Common.{same_key, slice_index_or, stamp_in, subst, sym, table_of, true, was_given, with_child, with_vacant}
+use Rattle.node_table.proofs.Common.{ℕ, ◌&&◌, ◌+◌, ◌<◌, ◌==◌, ◌^◌, ◌∙◌, ◌≡◌, ◌≢◌, ◌≤◌}
+use Rattle.std.proofs.Common.{◌||◌}
 use Rattle.std.proofs.Math.Bool.{and-false}
-use Rattle.sm_names.specs.declared.keys.NodeKey.{NodeKey}
-use Rattle.sm_names.specs.Sameness.{same_key}
-use Rattle.node_table.specs.Table.{Row, Table, row_at, parent_at, parent_in, children_at, children_in, next_at, was_given}
-use Rattle.node_table.specs.Changes.{Births, at_parent, with_child}
-use Rattle.node_table.specs.Sound.{row_in, rows_of, run_in, first_in, last_in, prev_in, next_in, given_count, entry_in}
-use Rattle.node_table.specs.Sound.{stamp_in, table_of, with_vacant, IsSound, IsRun, IsLinked, at_slot, Bumped}
-use Rattle.node_table.specs.declared.slot.Slot.{Slot}
 use Rattle.node_table.proofs.Rows.{count-gain}
 use Rattle.node_table.proofs.Keys.{eq-true, eq-false, same-fields, key_cases, same_key-equal, same_key-apart}
 use Rattle.node_table.proofs.Parents.{map-parent, map-stranger, map-up, children-with}

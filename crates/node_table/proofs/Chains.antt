@@ -1,14 +1,10 @@
 -- The runs of children in the slots of a sound table.
-use Rattle.std.proofs.Common.{◌≡◌, ℕ, ◌+◌, ◌-◌, ◌<◌, ◌≤◌, ◌==◌, true, List, [], length, Option, Some, None, is_some}
-use Rattle.std.proofs.Common.{IsSome, Contains, cond, option_map, slice_index_or, arith, refl, ap, sym, ◌∙◌, subst}
-use Rattle.sm_names.specs.declared.keys.NodeKey.{NodeKey}
-use Rattle.node_table.specs.Table.{Row, Table, row_at, node_at, parent_at, parent_in, children_at, children_in}
-use Rattle.node_table.specs.Forest.{first_key, next_key, siblings_at}
-use Rattle.std.specs.Option.{option_map_or}
-use Rattle.node_table.specs.Sound.{IsSound, IsRun, run_from, run_in, first_in, last_in, prev_in, next_in, rows_of, table_of}
-use Rattle.node_table.specs.Sound.{with_vacant, entry_in, stamp_in, link_in, core_of, row_of, with_children, given_count}
-use Rattle.node_table.specs.declared.slot.SlotEntry.{SlotEntry}
-use Rattle.node_table.specs.declared.slot.Slot.{Slot}
+use Rattle.node_table.proofs.Common.{Contains, IsRun, IsSome, IsSound, List, NodeKey, None, Option, Row, Slot, SlotEntry, Some, Table, []}
+use Rattle.node_table.proofs.Common.{ap, arith, children_at, children_in, cond, core_of, entry_in, first_in, first_key, given_count}
+use Rattle.node_table.proofs.Common.{is_some, last_in, length, link_in, next_in, next_key, node_at, option_map, option_map_or, parent_at}
+use Rattle.node_table.proofs.Common.{parent_in, prev_in, refl, row_at, row_of, rows_of, run_from, run_in, siblings_at, slice_index_or}
+use Rattle.node_table.proofs.Common.{stamp_in, subst, sym, table_of, true, with_children, with_vacant, ℕ, ◌+◌, ◌-◌, ◌<◌, ◌==◌, ◌∙◌, ◌≡◌}
+use Rattle.node_table.proofs.Common.{◌≤◌}
 use Rattle.node_table.proofs.Keys.{eq-true, eq-false, same-fields}
 use Rattle.node_table.proofs.Runs.{run-first, run-next, run_is, run_from-none, run_from-short}
 use Rattle.node_table.proofs.Slots.{row-at, row-parts}

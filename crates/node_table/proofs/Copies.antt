@@ -1,8 +1,7 @@
 -- A clone of the slots is the same slots.
-use Rattle.std.proofs.Common.{◌≡◌, List, [], ◌∷◌, Option, Some, None, refl}
+use Rattle.node_table.proofs.Common.{List, None, Option, Slot, Some, [], refl, ◌∷◌, ◌≡◌}
 use Rattle.std.specs.List.{AllZip}
 use Rattle.slab.specs.Slab.{IsSlotClone}
-use Rattle.node_table.specs.declared.slot.Slot.{Slot}
 
 module _ {N : Type 0} where
   -- the copy is the same

@@ -1,13 +1,9 @@
 -- What a cut does to a table.
-use Rattle.std.proofs.Common.{◌≡◌, ◌≢◌, ℕ, ◌+◌, ◌<◌, List, Option, Some, None, is_some, IsSome, IfSome, cond}
-use Rattle.std.proofs.Common.{count_by, option_map, slice_set, arith, refl, ap, sym, ◌∙◌, slice_index_or}
-use Rattle.sm_names.specs.declared.keys.NodeKey.{NodeKey}
-use Rattle.node_table.specs.Table.{Row, Table, row_at, parent_at, parent_in, children_at, children_in, next_at}
-use Rattle.node_table.specs.Changes.{Cuts, at_parent, without_child, without_parent}
-use Rattle.node_table.specs.Sound.{row_of, rows_of, run_in, first_in, last_in, prev_in, next_in, link_in, entry_in, stamp_in}
-use Rattle.node_table.specs.Sound.{parent_of, given_count, table_of, with_vacant, IsRun, IsSound, IsLinked, EditsRows, at_slot}
-use Rattle.node_table.specs.declared.slot.SlotEntry.{SlotEntry}
-use Rattle.node_table.specs.declared.slot.Slot.{Slot}
+use Rattle.node_table.proofs.Common.{Cuts, EditsRows, IfSome, IsLinked, IsRun, IsSome, IsSound, List, NodeKey, None, Option, Row, Slot}
+use Rattle.node_table.proofs.Common.{SlotEntry, Some, Table, ap, arith, at_parent, at_slot, children_at, children_in, cond, count_by}
+use Rattle.node_table.proofs.Common.{entry_in, first_in, given_count, is_some, last_in, link_in, next_at, next_in, option_map, parent_at}
+use Rattle.node_table.proofs.Common.{parent_in, parent_of, prev_in, refl, row_at, row_of, rows_of, run_in, slice_index_or, slice_set}
+use Rattle.node_table.proofs.Common.{stamp_in, sym, table_of, with_vacant, without_child, without_parent, ℕ, ◌+◌, ◌<◌, ◌∙◌, ◌≡◌, ◌≢◌}
 use Rattle.node_table.proofs.Keys.{eq-true}
 use Rattle.node_table.proofs.Parents.{map-parent, map-stranger, map-up, map-down, children-without, parent-without}
 use Rattle.node_table.proofs.Lists.{without}

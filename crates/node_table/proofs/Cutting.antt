@@ -1,12 +1,7 @@
 -- A cut on the slots: the table after it is sound, and is what a cut makes of it.
-use Rattle.std.proofs.Common.{◌≡◌, ℕ, List, Some, None, is_some, IsSome, option_map, slice_index_or, refl, ap, ◌∙◌}
-use Rattle.slab.specs.Slab.{Slab, get}
-use Rattle.sm_names.specs.declared.keys.NodeKey.{NodeKey}
-use Rattle.node_table.specs.Table.{Row, row_at}
-use Rattle.node_table.specs.Changes.{Cuts}
-use Rattle.node_table.specs.Sound.{IsSound, Edits, Joins, loosened, prev_in, next_in}
-use Rattle.node_table.specs.Sound.{parent_of, table_of, table_in, entry_in, stamp_in, core_of}
-use Rattle.node_table.specs.declared.slot.Slot.{Slot}
+use Rattle.node_table.proofs.Common.{Cuts, Edits, IsSome, IsSound, Joins, List, NodeKey, None, Row, Slab, Slot, Some, ap, core_of}
+use Rattle.node_table.proofs.Common.{entry_in, get, is_some, loosened, next_in, option_map, parent_of, prev_in, refl, row_at}
+use Rattle.node_table.proofs.Common.{slice_index_or, stamp_in, table_in, table_of, ℕ, ◌∙◌, ◌≡◌}
 use Rattle.node_table.proofs.Slots.{option_map-keeps}
 use Rattle.node_table.proofs.Steps.{kinds, part-kept}
 use Rattle.node_table.proofs.Cuts.{sound-cut, cuts}

@@ -1,13 +1,10 @@
 -- Every climb from parent to parent ends, in fewer steps than there are nodes.
-use Rattle.std.proofs.Common.{◌≡◌, ℕ, zero, suc, ◌+◌, ◌-◌, ◌<◌, ◌≤◌, ◌==◌, ◌&&◌, nat_lt, Bool, true, false, cond, if◌then◌else◌, List}
-use Rattle.std.proofs.Common.{[], ◌∷◌, length, Option, Some, None, is_some, IsSome, count_by, Contains, slice_index_or, arith, refl, ap}
-use Rattle.std.proofs.lemmas.Bool.Decides.{nat_tests}
-use Rattle.std.proofs.lemmas.List.Sums.{sum_by-cons}
-use Rattle.std.proofs.lemmas.Bool.{eqb-true}
-use Rattle.sm_names.specs.declared.keys.NodeKey.{NodeKey}
-use Rattle.node_table.specs.Table.{Row, Table, row_at, parent_at, parent_in, children_at, children_in, next_at, table_len}
+use Rattle.node_table.proofs.Common.{Bool, Contains, IsLinked, IsSome, List, NodeKey, None, Option, Row, Some, Table, [], ap, arith}
+use Rattle.node_table.proofs.Common.{children_at, children_in, cond, count_by, eqb-true, false, if◌then◌else◌, is_some, length, nat_lt}
+use Rattle.node_table.proofs.Common.{nat_tests, next_at, parent_at, parent_in, refl, row_at, slice_index_or, suc, sum_by-cons, true, zero}
+use Rattle.node_table.proofs.Common.{ℕ, ◌&&◌, ◌+◌, ◌-◌, ◌<◌, ◌==◌, ◌∷◌, ◌≡◌, ◌≤◌}
+use Rattle.node_table.specs.Table.{table_len}
 use Rattle.node_table.specs.Forest.{parents_above, depth_at}
-use Rattle.node_table.specs.Sound.{IsLinked}
 use Rattle.node_table.proofs.Keys.{same-fields}
 
 -- 1 for a taken slot that ranks below this number, and 0 for another

@@ -1,20 +1,12 @@
 -- A child joins its siblings: what the links of all slots are then.
-use Rattle.std.proofs.Common.{◌≡◌, ◌≢◌, ℕ, zero, suc, ◌+◌, ◌<◌, ◌≤◌, ◌==◌, List, [], ◌∷◌, ◌++◌, length}
-use Rattle.std.proofs.Common.{Option, Some, None, true, is_some, IsSome, IfSome, Contains, option_map}
-use Rattle.std.proofs.Common.{slice_index_or, arith, refl, ap, sym, ◌∙◌, subst, inl, inr, if◌then◌else◌}
-use Rattle.std.proofs.lemmas.Bool.{cases_eq}
-use Rattle.std.proofs.lemmas.List.{length-append}
-use Rattle.slab.specs.Slab.{Slab, Updates, get, slab_len}
+use Rattle.node_table.proofs.Common.{Births, Bumped, Contains, IfSome, IsRun, IsSome, IsSound, LinksLast, List, NodeKey, None, Option}
+use Rattle.node_table.proofs.Common.{Row, Slab, Slot, SlotEntry, Some, Taken, [], ap, arith, at_slot, cases_eq, core_of, entry_in}
+use Rattle.node_table.proofs.Common.{first_in, get, given_count, if◌then◌else◌, inl, inr, is_some, last_in, last_under, length}
+use Rattle.node_table.proofs.Common.{length-append, link_in, next_in, option_map, prev_in, refl, row_at, rows_of, run_from, run_in}
+use Rattle.node_table.proofs.Common.{slice_index_or, stamp_in, subst, suc, sym, table_in, table_of, true, unless, with_child}
+use Rattle.node_table.proofs.Common.{with_children, zero, ℕ, ◌++◌, ◌+◌, ◌<◌, ◌==◌, ◌∙◌, ◌∷◌, ◌≡◌, ◌≢◌, ◌≤◌}
+use Rattle.slab.specs.Slab.{Updates, slab_len}
 use Rattle.node_table.proofs.Rows.{count-same}
-use Rattle.sm_names.specs.declared.keys.NodeKey.{NodeKey}
-use Rattle.node_table.specs.Table.{Row, row_at}
-use Rattle.node_table.specs.Changes.{Births, with_child}
-use Rattle.node_table.specs.Sound.{IsSound, IsRun, run_from, LinksLast, Bumped, run_in, first_in, last_in}
-use Rattle.node_table.specs.Sound.{prev_in, next_in, last_under, rows_of, table_of, table_in, entry_in}
-use Rattle.node_table.specs.Sound.{stamp_in, link_in, core_of, with_children, given_count, at_slot, unless}
-use Rattle.node_table.specs.declared.slot.SlotEntry.{SlotEntry}
-use Rattle.node_table.specs.declared.slot.Slot.{Slot}
-use Rattle.node_table.specs.declared.slot.Slot.TheVariants.{Taken}
 use Rattle.node_table.proofs.Keys.{eq-true, eq-false}
 use Rattle.node_table.proofs.Runs.{run-push, run-frame, run-last, run-none, run_from-none}
 use Rattle.node_table.proofs.Slots.{entry-there, option_map-keeps}

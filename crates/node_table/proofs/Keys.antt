@@ -1,9 +1,6 @@
 -- Whether two keys are one.
-use Rattle.std.proofs.Common.{◌≡◌, ◌≢◌, ◌⊎◌, ℕ, ◌==◌, true, false, Option, Some, None, arith, refl, ap, inl, inr}
-use Rattle.std.proofs.lemmas.Bool.{cases_eq}
-use Rattle.std.proofs.lemmas.Bool.Decides.{nat_tests}
-use Rattle.sm_names.specs.declared.keys.NodeKey.{NodeKey}
-use Rattle.sm_names.specs.Sameness.{same_key}
+use Rattle.node_table.proofs.Common.{NodeKey, None, Option, Some, ap, arith, cases_eq, false, inl, inr, nat_tests, refl, same_key, true}
+use Rattle.node_table.proofs.Common.{ℕ, ◌==◌, ◌≡◌, ◌≢◌, ◌⊎◌}
 
 -- `==` of two numbers, told by `≡`
 pub eq-false : (a b : ℕ) → (a ≡ b → ⊥) → (a == b) ≡ false

@@ -1,16 +1,11 @@
 -- A child leaves its siblings: what the links of all slots are then.
-use Rattle.std.proofs.Common.{◌≡◌, ◌≢◌, ℕ, ◌≤◌, ◌==◌, Bool, true, false, List, length, Option, Some, None, IsSome, IfSome}
-use Rattle.std.proofs.Common.{Contains, cond, option_map, arith, refl, ap, sym, ◌∙◌, subst, inl, inr, if◌then◌else◌}
-use Rattle.std.proofs.lemmas.Bool.{cases_eq}
-use Rattle.slab.specs.Slab.{Slab, get}
-use Rattle.sm_names.specs.declared.keys.NodeKey.{NodeKey}
-use Rattle.node_table.specs.Table.{Row, row_at, parent_at, children_at}
-use Rattle.node_table.specs.Changes.{without_child, without_parent}
-use Rattle.node_table.specs.Sound.{IsSound, IsRun, Edits, EditsRows, Joins, HasEntry, loosened, run_in}
-use Rattle.node_table.specs.Sound.{first_in, last_in, prev_in, next_in, parent_of, rows_of, table_of, entry_in}
-use Rattle.node_table.specs.Sound.{link_in, core_of, with_children, given_count, at_key, at_slot, unless}
-use Rattle.node_table.specs.declared.slot.SlotEntry.{SlotEntry}
-use Rattle.node_table.specs.declared.slot.Slot.{Slot}
+use Rattle.node_table.proofs.Common.{Bool, Contains, Edits, EditsRows, HasEntry, IfSome, IsRun, IsSome, IsSound, Joins, List, NodeKey}
+use Rattle.node_table.proofs.Common.{None, Option, Row, Slab, Slot, SlotEntry, Some, ap, arith, at_slot, cases_eq, children_at, cond}
+use Rattle.node_table.proofs.Common.{core_of, entry_in, false, first_in, get, given_count, if◌then◌else◌, inl, inr, last_in, length}
+use Rattle.node_table.proofs.Common.{link_in, loosened, next_in, option_map, parent_at, parent_of, prev_in, refl, row_at, rows_of, run_in}
+use Rattle.node_table.proofs.Common.{subst, sym, table_of, true, unless, with_children, without_child, without_parent, ℕ, ◌==◌, ◌∙◌, ◌≡◌}
+use Rattle.node_table.proofs.Common.{◌≢◌, ◌≤◌}
+use Rattle.node_table.specs.Sound.{at_key}
 use Rattle.node_table.proofs.Keys.{eq-true, eq-false}
 use Rattle.node_table.proofs.Lists.{AllDiffer, without, without_stranger}
 use Rattle.node_table.proofs.Runs.{run-cut, run-frame, run-back, run-on, run-starts, run-stops, run-before, run-last_ends, without-short}

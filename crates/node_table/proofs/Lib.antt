@@ -1,3 +1,4 @@
+mod Common
 pub mod Keys
 pub mod Lists
 pub mod Runs

@@ -1,8 +1,6 @@
 -- What each change does to the links of all nodes.
-use Rattle.std.proofs.Common.{◌≡◌, ◌≢◌, ◌⊎◌, ℕ, suc, ◌<◌, List, [], ◌∷◌, ◌++◌, Option, Some}
-use Rattle.std.proofs.Common.{None, Contains, arith, refl, sym, ap, ◌∙◌, subst, inl, inr}
-use Rattle.sm_names.specs.declared.keys.NodeKey.{NodeKey}
-use Rattle.node_table.specs.Sound.{IsLinked}
+use Rattle.node_table.proofs.Common.{Contains, IsLinked, List, NodeKey, None, Option, Some, [], ap, arith, inl, inr, refl, subst, suc}
+use Rattle.node_table.proofs.Common.{sym, ℕ, ◌++◌, ◌<◌, ◌∙◌, ◌∷◌, ◌≡◌, ◌≢◌, ◌⊎◌}
 use Rattle.node_table.proofs.Keys.{key_cases}
 use Rattle.node_table.proofs.Parents.{parent_cases}
 use Rattle.node_table.proofs.Lists.{AllDiffer, without, AllDiffer-push, AllDiffer-without, Contains-last, Contains-before_last}

@@ -1,14 +1,9 @@
 -- The children of a key, met one after the other.
-use Rattle.std.proofs.Common.{◌≡◌, ◌≢◌, ◌+◌, ◌<◌, List, [], ◌∷◌, ◌++◌, length, Option}
-use Rattle.std.proofs.Common.{Some, None, Contains, cond, arith, refl, sym, ap, ◌∙◌, subst}
-use Rattle.std.specs.Option.{option_map_or}
-use Rattle.std.proofs.lemmas.List.{append_assoc, append-nil, length-append}
+use Rattle.node_table.proofs.Common.{Appends, Contains, Contains-append_right, IsForest, List, NodeKey, None, Option, Some, Table, [], ap}
+use Rattle.node_table.proofs.Common.{arith, children_at, cond, first_key, length, length-append, next_key, option_map_or, parent_at, refl}
+use Rattle.node_table.proofs.Common.{siblings_at, subst, sym, ◌++◌, ◌+◌, ◌<◌, ◌∙◌, ◌∷◌, ◌≡◌, ◌≢◌}
+use Rattle.std.proofs.lemmas.List.{append_assoc, append-nil}
 use Rattle.std.proofs.Math.Seq.{append_snoc}
-use Rattle.std.proofs.lemmas.List.Elements.{Contains-append_right}
-use Rattle.sm_names.specs.declared.keys.NodeKey.{NodeKey}
-use Rattle.node_table.specs.Table.{Table, parent_at, children_at}
-use Rattle.node_table.specs.Forest.{IsForest, first_key, next_key, siblings_at}
-use Rattle.node_table.specs.Sound.{Appends}
 use Rattle.node_table.proofs.Keys.{same_key-equal, same_key-apart}
 use Rattle.node_table.proofs.Lists.{AllDiffer, AllDiffer-tail, Contains-head, head_differs}
 

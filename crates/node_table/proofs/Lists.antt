@@ -1,11 +1,10 @@
 -- Lists of keys in which none stands twice: one more at the end, and one less.
-use Rattle.std.proofs.Common.{◌≡◌, ◌≢◌, ◌⊎◌, ℕ, zero, suc, ◌<◌, not, List, [], ◌∷◌, ◌++◌, length, filter}
-use Rattle.std.proofs.Common.{Contains, AllPairs, slice_index_or, arith, refl, sym, ap, ◌∙◌, subst, inl, inr}
+use Rattle.node_table.proofs.Common.{AllPairs, Contains, Contains-append_right, List, NodeKey, [], ap, arith, inl, inr, length, refl}
+use Rattle.node_table.proofs.Common.{same_key, slice_index_or, subst, suc, sym, zero, ℕ, ◌++◌, ◌<◌, ◌∙◌, ◌∷◌, ◌≡◌, ◌≢◌, ◌⊎◌}
+use Rattle.std.proofs.Common.{not, filter}
 use Rattle.std.proofs.lemmas.List.{get_or_default}
-use Rattle.std.proofs.lemmas.List.Elements.{Contains-append_left, Contains-append_right, Contains-append_cases}
+use Rattle.std.proofs.lemmas.List.Elements.{Contains-append_left, Contains-append_cases}
 use Rattle.std.proofs.lemmas.List.Kept.{AllPairs-filter}
-use Rattle.sm_names.specs.declared.keys.NodeKey.{NodeKey}
-use Rattle.sm_names.specs.Sameness.{same_key}
 use Rattle.node_table.proofs.Keys.{key_cases, same_key-equal, same_key-apart}
 
 -- no key stands twice

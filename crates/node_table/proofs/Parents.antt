@@ -1,10 +1,7 @@
 -- What a change of the parent's row does to the row of each key.
-use Rattle.std.proofs.Common.{◌≡◌, ◌≢◌, ◌⊎◌, Bool, true, false, ◌∷◌, ◌++◌, [], Option, Some}
-use Rattle.std.proofs.Common.{None, IsSome, option_map, if◌then◌else◌, refl, ap, inl, inr}
-use Rattle.sm_names.specs.declared.keys.NodeKey.{NodeKey}
-use Rattle.sm_names.specs.Sameness.{same_key}
-use Rattle.node_table.specs.Table.{Row, parent_in, children_in}
-use Rattle.node_table.specs.Changes.{at_parent, with_child, without_child, without_parent}
+use Rattle.node_table.proofs.Common.{Bool, IsSome, NodeKey, None, Option, Row, Some, [], ap, at_parent, children_in, false, if◌then◌else◌}
+use Rattle.node_table.proofs.Common.{inl, inr, option_map, parent_in, refl, same_key, true, with_child, without_child, without_parent}
+use Rattle.node_table.proofs.Common.{◌++◌, ◌∷◌, ◌≡◌, ◌≢◌, ◌⊎◌}
 use Rattle.node_table.proofs.Keys.{key_cases, same_key-equal, same_key-apart}
 use Rattle.node_table.proofs.Lists.{without}
 

@@ -1,12 +1,9 @@
 -- What reads of a sound table answer.
-use Rattle.std.proofs.Common.{◌≡◌, ◌≢◌, ℕ, ◌+◌, ◌<◌, ◌≤◌, ◌==◌, ◌^◌, ◌&&◌, nat_le, nat_lt, Bool, true, false, List, []}
-use Rattle.std.proofs.Common.{Option, Some, None, IsSome, Contains, AllPairs, slice_index_or, arith, refl, sym, ap, subst}
-use Rattle.std.proofs.lemmas.Bool.Decides.{nat_tests}
-use Rattle.sm_names.specs.declared.keys.NodeKey.{NodeKey}
-use Rattle.node_table.specs.Table.{Table, empty_table, row_at, was_given, parent_at, parent_in, children_at, children_in}
-use Rattle.node_table.specs.Forest.{IsForest}
-use Rattle.node_table.specs.Sound.{IsSound, table_of, with_vacant}
-use Rattle.node_table.specs.declared.slot.Slot.{Slot}
+use Rattle.node_table.proofs.Common.{AllPairs, Bool, Contains, IsForest, IsSome, IsSound, List, NodeKey, None, Option, Slot, Some, Table}
+use Rattle.node_table.proofs.Common.{[], ap, arith, children_at, children_in, false, nat_le, nat_lt, nat_tests, parent_at, parent_in}
+use Rattle.node_table.proofs.Common.{refl, row_at, slice_index_or, subst, sym, table_of, true, was_given, with_vacant, ℕ, ◌&&◌, ◌+◌, ◌<◌}
+use Rattle.node_table.proofs.Common.{◌==◌, ◌^◌, ◌≡◌, ◌≢◌, ◌≤◌}
+use Rattle.node_table.specs.Table.{empty_table}
 use Rattle.node_table.proofs.Depths.{parent-there, deeper, shallow, next-there, slot-there, none-then}
 
 -- a number from the first on and below the next one was given

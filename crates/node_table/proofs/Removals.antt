@@ -1,16 +1,10 @@
 -- What the removal of a node without links does to a table.
-use Rattle.std.proofs.Common.{◌≡◌, ◌≢◌, ◌⊎◌, ℕ, ◌+◌, ◌-◌, ◌<◌, ◌≤◌, Contains, length, ◌^◌, ◌==◌, true, List, [], Option, Some, None}
-use Rattle.std.proofs.Common.{is_some, IsSome, cond, count_by, option_map, arith, refl, ap, sym, ◌∙◌, slice_index_or, inl, inr, subst}
-use Rattle.std.proofs.lemmas.Bool.{cases_eq}
-use Rattle.slab.specs.Slab.{Slab, get}
-use Rattle.sm_names.specs.declared.keys.NodeKey.{NodeKey}
-use Rattle.node_table.specs.Table.{Row, Table, row_at, node_at, parent_at, parent_in, children_at, children_in, next_at}
-use Rattle.node_table.specs.Changes.{Cuts, Removes, without_parent}
-use Rattle.node_table.specs.Sound.{row_in, row_of, rows_of, core_of, with_children, entry_in, stamp_in, link_in}
-use Rattle.node_table.specs.Sound.{run_in, first_in, last_in, prev_in, next_in, given_count, IsRun, table_in, IsSound}
-use Rattle.node_table.specs.declared.slot.SlotEntry.{SlotEntry}
-use Rattle.node_table.specs.declared.slot.Slot.{Slot}
-use Rattle.node_table.specs.declared.slot.Slot.TheVariants.{Taken}
+use Rattle.node_table.proofs.Common.{Contains, Cuts, IsRun, IsSome, IsSound, List, NodeKey, None, Option, Removes, Row, Slab, Slot}
+use Rattle.node_table.proofs.Common.{SlotEntry, Some, Table, Taken, [], ap, arith, cases_eq, children_at, children_in, cond, core_of}
+use Rattle.node_table.proofs.Common.{count_by, entry_in, first_in, get, given_count, inl, inr, is_some, last_in, length, link_in, next_at}
+use Rattle.node_table.proofs.Common.{next_in, node_at, option_map, parent_at, parent_in, prev_in, refl, row_at, row_in, row_of, rows_of}
+use Rattle.node_table.proofs.Common.{run_in, slice_index_or, stamp_in, subst, sym, table_in, true, with_children, without_parent, ℕ, ◌+◌}
+use Rattle.node_table.proofs.Common.{◌-◌, ◌<◌, ◌==◌, ◌^◌, ◌∙◌, ◌≡◌, ◌≢◌, ◌≤◌, ◌⊎◌}
 use Rattle.node_table.proofs.Rows.{count-gain}
 use Rattle.node_table.proofs.Keys.{key_cases, eq-true, eq-false, same-fields}
 use Rattle.node_table.proofs.Parents.{parent-without, children-kept}

@@ -1,12 +1,9 @@
 -- Runs of keys, each linked to the one before and the one after.
-use Rattle.std.proofs.Common.{◌≡◌, ◌≢◌, ◌⊎◌, ℕ, zero, suc, ◌≤◌, List, [], ◌∷◌, ◌++◌, length, Option}
-use Rattle.std.proofs.Common.{Some, None, Contains, cond, arith, refl, sym, ap, ◌∙◌, subst, inl, inr}
-use Rattle.sm_names.specs.declared.keys.NodeKey.{NodeKey}
-use Rattle.node_table.specs.Sound.{run_from, IsRun}
-use Rattle.node_table.specs.Forest.{first_key, next_key}
+use Rattle.node_table.proofs.Common.{Contains, IsRun, List, NodeKey, None, Option, Some, [], ap, arith, cond, first_key, inl, inr, length}
+use Rattle.node_table.proofs.Common.{next_key, refl, run_from, subst, suc, sym, zero, ℕ, ◌++◌, ◌∙◌, ◌∷◌, ◌≡◌, ◌≢◌, ◌≤◌, ◌⊎◌}
 use Rattle.node_table.proofs.Keys.{key_cases, same_key-equal, same_key-apart, some-one, none-some}
-use Rattle.node_table.proofs.Lists.{AllDiffer, AllDiffer-tail, without, without-same, without-other, without_stranger}
-use Rattle.node_table.proofs.Lists.{Contains-none, Contains-head, Contains-tail, Contains-cons_cases, head_differs}
+use Rattle.node_table.proofs.Lists.{AllDiffer, AllDiffer-tail, without, without-same, without-other, without_stranger, Contains-none}
+use Rattle.node_table.proofs.Lists.{Contains-head, Contains-tail, Contains-cons_cases, head_differs}
 
 -- nothing runs from no key
 pub run_from-none : (next : ℕ → Option NodeKey) (most : ℕ) → run_from next most None ≡ []

@@ -1,17 +1,11 @@
 -- What a change of the slots does to the table that they make.
-use Rattle.std.proofs.Common.{◌≡◌, ◌≢◌, ℕ, zero, suc, ◌+◌, ◌==◌, Bool, true, false, List, [], ◌∷◌, map}
-use Rattle.std.proofs.Common.{Option, Some, None, is_some, IsSome, IfSome, cond, count_by, option_map, arith}
-use Rattle.std.proofs.Common.{refl, ap, sym, ◌∙◌, slice_index_or, slice_set, inl, inr, subst, if◌then◌else◌}
+use Rattle.node_table.proofs.Common.{Bool, EditsRows, IfSome, IsSome, List, NodeKey, None, Option, Row, Slot, SlotEntry, Some, Table}
+use Rattle.node_table.proofs.Common.{Taken, [], ap, arith, at_parent, at_slot, cases_eq, cond, core_of, count_by, entry_in, eqb-true}
+use Rattle.node_table.proofs.Common.{false, given_count, if◌then◌else◌, inl, inr, is_some, link_in, map, next_at, next_in, option_map}
+use Rattle.node_table.proofs.Common.{refl, row_at, row_in, row_of, rows_of, run_from, slice_index_or, slice_set, subst, suc, sym}
+use Rattle.node_table.proofs.Common.{table_of, true, with_children, zero, ℕ, ◌+◌, ◌==◌, ◌∙◌, ◌∷◌, ◌≡◌, ◌≢◌}
 use Rattle.std.proofs.Math.ListN.{get_or-map}
-use Rattle.std.proofs.lemmas.Bool.{cases_eq, eqb-true}
-use Rattle.sm_names.specs.declared.keys.NodeKey.{NodeKey}
-use Rattle.node_table.specs.Table.{Row, Table, row_at, next_at}
-use Rattle.node_table.specs.Changes.{at_parent}
-use Rattle.node_table.specs.Sound.{row_in, rows_of, row_of, core_of, with_children, run_from, next_in}
-use Rattle.node_table.specs.Sound.{link_in, given_count, entry_in, table_of, EditsRows, at_slot}
-use Rattle.node_table.specs.declared.slot.SlotEntry.{SlotEntry}
-use Rattle.node_table.specs.declared.slot.Slot.{Slot}
-use Rattle.node_table.specs.declared.slot.Slot.TheVariants.{Retired, Taken}
+use Rattle.node_table.specs.declared.slot.Slot.TheVariants.{Retired}
 use Rattle.node_table.proofs.Rows.{count-same}
 use Rattle.node_table.proofs.Keys.{eq-true, eq-false, slot_tells_key}
 use Rattle.node_table.proofs.Depths.{next-there, slot-there}

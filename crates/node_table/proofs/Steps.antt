@@ -1,14 +1,8 @@
 -- What a change of one entry does to the links of all slots.
-use Rattle.std.proofs.Common.{◌≡◌, ◌≢◌, ℕ, ◌==◌, Option, Some, None, is_some, cond, option_map, refl, ap, sym, ◌∙◌, inl, inr}
-use Rattle.std.proofs.lemmas.Bool.{cases_eq}
-use Rattle.slab.specs.Slab.{Slab, get}
-use Rattle.sm_names.specs.declared.keys.NodeKey.{NodeKey}
-use Rattle.node_table.specs.Table.{Row}
-use Rattle.node_table.specs.Sound.{Edits, Relinks, LinksLast, Joins, HasEntry, entry_in, stamp_in, link_in}
-use Rattle.node_table.specs.Sound.{core_of, with_first, with_last, with_prev, with_next, with_adopted, childless}
-use Rattle.node_table.specs.declared.slot.SlotEntry.{SlotEntry}
-use Rattle.node_table.specs.declared.slot.Slot.{Slot}
-use Rattle.node_table.specs.declared.slot.Slot.TheVariants.{Taken}
+use Rattle.node_table.proofs.Common.{Edits, HasEntry, Joins, LinksLast, NodeKey, None, Option, Row, Slab, Slot, SlotEntry, Some, Taken}
+use Rattle.node_table.proofs.Common.{ap, cases_eq, cond, core_of, entry_in, get, inl, inr, is_some, link_in, option_map, refl, stamp_in}
+use Rattle.node_table.proofs.Common.{sym, with_adopted, with_first, with_next, ℕ, ◌==◌, ◌∙◌, ◌≡◌, ◌≢◌}
+use Rattle.node_table.specs.Sound.{Relinks, with_last, with_prev, childless}
 use Rattle.node_table.proofs.Keys.{eq-true, eq-false}
 use Rattle.node_table.proofs.Slots.{write-same, write-other, option_map-keeps}
 

@@ -1,24 +1,18 @@
 -- What a change that keeps all links does to a table, as a write of one node.
-use Rattle.std.proofs.Common.{◌≡◌, ◌≢◌, ℕ, ◌+◌, ◌==◌, Bool, true, false, List, map, Option, Some, None, is_some, IsSome}
-use Rattle.std.proofs.Common.{cond, option_map, arith, refl, ap, sym, ◌∙◌, slice_index_or, slice_set, inl, inr, subst}
-use Rattle.std.proofs.lemmas.Bool.{cases_eq}
-use Rattle.slab.specs.Slab.{Slab, get, with_value}
-use Rattle.sm_names.specs.declared.keys.NodeKey.{NodeKey}
-use Rattle.node_table.specs.Table.{Row, Table, row_at, node_at, parent_in, children_in, next_at}
-use Rattle.node_table.specs.Changes.{Writes, at_parent, with_node}
-use Rattle.node_table.specs.Lending.{table_with_node}
-use Rattle.node_table.specs.Sound.{row_in, rows_of, run_in, first_in, last_in, prev_in, next_in, link_in, stamp_in}
-use Rattle.node_table.specs.Sound.{given_count, IsRun, table_of, table_in, IsSound, EditsRows, Edits, at_slot}
-use Rattle.node_table.specs.declared.slot.SlotEntry.{SlotEntry}
-use Rattle.node_table.specs.declared.slot.Slot.{Slot}
-use Rattle.node_table.specs.declared.slot.Slot.TheVariants.{Taken}
+use Rattle.node_table.proofs.Common.{Bool, Edits, EditsRows, IsRun, IsSome, IsSound, List, NodeKey, None, Option, Row, Slab, Slot}
+use Rattle.node_table.proofs.Common.{SlotEntry, Some, Table, Taken, ap, arith, at_parent, at_slot, cases_eq, children_in, cond, false}
+use Rattle.node_table.proofs.Common.{first_in, get, given_count, inl, inr, is_some, last_in, link_in, map, next_at, next_in, node_at}
+use Rattle.node_table.proofs.Common.{option_map, parent_in, prev_in, refl, row_at, row_in, rows_of, run_in, slice_index_or, slice_set}
+use Rattle.node_table.proofs.Common.{stamp_in, subst, sym, table_in, table_of, table_with_node, true, ℕ, ◌+◌, ◌==◌, ◌∙◌, ◌≡◌, ◌≢◌}
+use Rattle.slab.specs.Slab.{with_value}
+use Rattle.node_table.specs.Changes.{Writes, with_node}
 use Rattle.node_table.proofs.Rows.{count-same}
 use Rattle.node_table.proofs.Keys.{eq-true, eq-false, same-fields}
 use Rattle.node_table.proofs.Parents.{map-up, map-down}
 use Rattle.node_table.proofs.Links.{IsLinked-same}
 use Rattle.node_table.proofs.Depths.{next-there, slot-there}
-use Rattle.node_table.proofs.Slots.{row-at, is_some-option_map, edit-one, map-write, write-same}
-use Rattle.node_table.proofs.Slots.{write-other, edited-key, edited-count, vacant-before}
+use Rattle.node_table.proofs.Slots.{row-at, is_some-option_map, edit-one, map-write, write-same, write-other, edited-key, edited-count}
+use Rattle.node_table.proofs.Slots.{vacant-before}
 use Rattle.node_table.proofs.Steps.{part-kept, kinds}
 use Rattle.node_table.proofs.Runs.{run-frame}
 use Rattle.node_table.proofs.Chains.{chained_so, runs_short}

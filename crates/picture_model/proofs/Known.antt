@@ -1,33 +1,21 @@
 -- That the picture state knows each node that the core keeps.
-use Rattle.std.proofs.Common.{◌≡◌, ◌∙◌, ap, sym, refl, subst, ◌⊎◌, inl, inr, ℕ, ◌+◌, ◌==◌, ◌||◌, ◌&&◌, not}
-use Rattle.std.proofs.Common.{if◌then◌else◌, Bool, true, false, List, [], ◌∷◌, ◌++◌, map, Option, Some, None}
-use Rattle.std.proofs.lemmas.Bool.{eq-eqb}
+use Rattle.picture_model.proofs.Common.{Birth, Bool, Call, Called, Event, In-find, List, Moment, Node, NodeKey, None, Option, Reply, Some}
+use Rattle.picture_model.proofs.Common.{State, Timeline, [], ap, birth_at, births, eq-eqb, false, find, is_kept, is_of, known_after}
+use Rattle.picture_model.proofs.Common.{laid_on, list_any, map, mark_told, marked_in, node_at, not, option_map_or, refl, refreshed}
+use Rattle.picture_model.proofs.Common.{same_key, seen_again, seen_in, subst, sym, true, with_told, ℕ, ◌&&◌, ◌++◌, ◌+◌, ◌==◌, ◌||◌, ◌∙◌}
+use Rattle.picture_model.proofs.Common.{◌∷◌, ◌≡◌, ◌⊎◌}
+use Rattle.std.proofs.Common.{inl, inr, if◌then◌else◌}
 use Rattle.std.proofs.lemmas.List.Folds.{list_any-append}
-use Rattle.std.specs.List.{cons_option, find, list_any}
-use Rattle.std.specs.Option.{option_map_or}
-use Rattle.sm_names.proofs.ListLaws.{In-find}
+use Rattle.std.specs.List.{cons_option}
 use Rattle.sm_names.proofs.SamenessLaws.{same_key-refl, same_key-true}
-use Rattle.sm_names.specs.declared.keys.NodeKey.{NodeKey}
-use Rattle.sm_names.specs.declared.messages.Call.{Call}
-use Rattle.sm_names.specs.declared.messages.Reply.{Reply}
-use Rattle.sm_names.specs.Births.{Birth, birth_at, births}
-use Rattle.sm_names.specs.Kept.{is_kept}
 use Rattle.sm_names.specs.Ends.{spends, spent}
 use Rattle.sm_names.specs.Losses.{gone, takes}
-use Rattle.sm_names.specs.Marks.{Called, Mark, Timeline}
-use Rattle.sm_names.specs.Sameness.{same_key}
+use Rattle.sm_names.specs.Marks.{Mark}
 use Rattle.forest_store.specs.declared.node.End.{End}
-use Rattle.forest_store.specs.declared.node.Node.{Node}
-use Rattle.forest_store.specs.Forest.{all_nodes, node_at}
-use Rattle.forest_store.specs.Nodes.{is_of, is_spent, node_of}
-use Rattle.core_state.specs.State.{State}
+use Rattle.forest_store.specs.Forest.{all_nodes}
+use Rattle.forest_store.specs.Nodes.{is_spent, node_of}
 use Rattle.forced_marks.specs.declared.decision.Forced.{Forced}
-use Rattle.forced_marks.specs.declared.moment.Moment.{Moment}
-use Rattle.forced_marks.specs.Marks.{laid_on}
-use Rattle.forced_marks.specs.Steps.{mark_told}
-use Rattle.event_facts.specs.declared.event.Event.{Event}
-use Rattle.picture_model.specs.Seen.{seen_in}
-use Rattle.picture_model.specs.PictureStates.{forgotten, known_after, marked_in, refreshed, seen_again, walked, with_named, with_told}
+use Rattle.picture_model.specs.PictureStates.{forgotten, walked, with_named}
 
 -- ---- which nodes are kept
 

@@ -1,8 +1,5 @@
 -- What the last element of a list decides.
-use Rattle.std.proofs.Common.{◌≡◌, refl, List, [], ◌∷◌, ◌++◌}
-use Rattle.sm_names.specs.declared.keys.NodeKey.{NodeKey}
-use Rattle.forest_store.specs.declared.node.Node.{Node}
-use Rattle.forced_marks.specs.declared.moment.Moment.{Moment}
+use Rattle.picture_model.proofs.Common.{List, Moment, Node, NodeKey, [], refl, ◌++◌, ◌∷◌, ◌≡◌}
 use Rattle.picture_model.specs.PictureStates.{marked, top_of, walked_from}
 
 -- the last mark decides

@@ -1,41 +1,29 @@
 -- That no node that the core keeps is missing from the picture state, nor from a picture.
-use Rattle.std.proofs.Common.{◌≡◌, ◌∙◌, ap, sym, refl, subst, ◌⊎◌, ⊎_elim, ℕ, ◌+◌, ◌==◌, ◌||◌, ◌&&◌, cond}
-use Rattle.std.proofs.Common.{arith, Bool, true, false, List, [], ◌∷◌, ◌++◌, map, Option, Some, None, is_some}
-use Rattle.std.proofs.lemmas.Bool.{eq-eqb}
+use Rattle.picture_model.proofs.Common.{Birth, Bool, Call, Called, Event, Family, In-find, List, Moment, Node, NodeKey, None, Option}
+use Rattle.picture_model.proofs.Common.{Reply, Some, State, Timeline, TreeLists, [], ap, arith, birth_at, births, collection_at, eq-eqb}
+use Rattle.picture_model.proofs.Common.{false, filter, find, is_kept, is_of, is_shown, is_some, known_after, known_in, laid_on, list_any}
+use Rattle.picture_model.proofs.Common.{lists_of, map, mark_told, node_at, option_map_or, refl, same_key, subst, sym, tree_in, trees_of}
+use Rattle.picture_model.proofs.Common.{true, ℕ, ◌&&◌, ◌++◌, ◌+◌, ◌==◌, ◌||◌, ◌∙◌, ◌∷◌, ◌≡◌, ◌⊎◌}
+use Rattle.std.proofs.Common.{⊎_elim, cond}
 use Rattle.std.proofs.lemmas.Bool.Decides.{nat_tests}
 use Rattle.std.specs.Prelude.{Vec}
 use Rattle.std.specs.declared.alloc.Global.{Global}
-use Rattle.std.specs.List.{filter, find, list_any}
 use Rattle.std.specs.Map.{lookup}
-use Rattle.std.specs.Option.{option_map_or}
 use Rattle.std.specs.Ordering.{is_eq, nat_cmp}
-use Rattle.sm_names.proofs.ListLaws.{In-find, list_any-map}
-use Rattle.sm_names.specs.declared.keys.NodeKey.{NodeKey}
-use Rattle.sm_names.specs.declared.messages.Call.{Call}
-use Rattle.sm_names.specs.declared.messages.Reply.{Reply}
-use Rattle.sm_names.specs.Births.{Birth, birth_at, birth_of, births}
-use Rattle.sm_names.specs.Kept.{is_kept}
-use Rattle.sm_names.specs.Marks.{Called, Entry, Timeline, events}
-use Rattle.sm_names.specs.Sameness.{same_key}
+use Rattle.sm_names.proofs.ListLaws.{list_any-map}
+use Rattle.sm_names.specs.Births.{birth_of}
+use Rattle.sm_names.specs.Marks.{Entry, events}
 use Rattle.sm_names.specs.Timelines.{timeline}
 use Rattle.history_laws.proofs.HistoryLaws.{timeline-push}
-use Rattle.forest_store.specs.declared.node.Node.{Node}
-use Rattle.forest_store.specs.Forest.{collection_at, node_at}
-use Rattle.forest_store.specs.Nodes.{is_of}
 use Rattle.core_state.specs.Shown.{Shows, node_after}
-use Rattle.core_state.specs.State.{State}
 use Rattle.core_state.proofs.collections.Roots.{collection_of_kept}
 use Rattle.core_state.proofs.views.Nodes.{collection_kept, node_kept, node_there, node_unknown}
 use Rattle.core_state.proofs.views.Shown.{grown}
-use Rattle.forced_marks.specs.declared.moment.Moment.{Moment}
-use Rattle.forced_marks.specs.Marks.{laid_on}
-use Rattle.forced_marks.specs.Steps.{mark_told}
-use Rattle.event_facts.specs.declared.event.Event.{Event}
 use Rattle.event_texts.specs.EventLines.{IsEventOf}
 use Rattle.picture_model.specs.declared.picture_state.PictureState.{PictureState}
-use Rattle.picture_model.specs.PictureStates.{KnowsKept, known_after, known_in}
+use Rattle.picture_model.specs.PictureStates.{KnowsKept}
 use Rattle.picture_model.specs.declared.picture.Tree.{Tree}
-use Rattle.picture_model.specs.Shown.{Family, ShowsKept, TreeLists, is_shown, lists_of, tree_in, trees_of}
+use Rattle.picture_model.specs.Shown.{ShowsKept}
 use Rattle.picture_model.proofs.Known.{birth_from, births_laid, born_told, kept_before, known_more, known_new, seen_any}
 
 module _ (old s : State) (history : List Entry) (client : ℕ) (call : Call) (e : Event) (shows : Shows old history)

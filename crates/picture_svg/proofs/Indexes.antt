@@ -1,12 +1,11 @@
 -- The buffers of a tree by index, one index more at a time.
-use Rattle.std.proofs.Common.{◌≡◌, ◌∙◌, ap, append-nil, arith, refl, ℕ, ◌+◌, List, [], ◌∷◌, ◌++◌, map}
-use Rattle.std.specs.List.{flat_map, range_with_len}
+use Rattle.picture_svg.proofs.Common.{List, Names, Shown, [], ap, append-nil, arith, flat_map, map, shown_at, shown_to, ℕ, ◌++◌, ◌∙◌, ◌≡◌}
+use Rattle.std.proofs.Common.{refl, ◌+◌, ◌∷◌}
+use Rattle.std.specs.List.{range_with_len}
 use Rattle.std.proofs.lemmas.Grind.{flat_map-append}
 use Rattle.std.proofs.lemmas.List.FromFn.{map-range_with_len_more}
 use Rattle.core_state.specs.State.{State}
-use Rattle.script_labels.specs.Names.{Names}
 use Rattle.picture_model.specs.declared.picture.Tree.{Tree}
-use Rattle.picture_svg.specs.Bars.{Shown, shown_at, shown_to}
 
 -- none is below 0
 pub shown-none : (s : State) (names : Names) (clients : List ℕ) (tree : Tree) → shown_to s names clients tree 0 ≡ []

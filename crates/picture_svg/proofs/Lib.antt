@@ -1,2 +1,3 @@
+mod Common
 pub mod Indexes
 pub mod Rows

@@ -7,10 +7,11 @@ use Rattle.sm_names.specs.declared.keys.BufferName.{BufferName}
 use Rattle.sm_names.specs.declared.keys.NodeKey.{NodeKey}
 use Rattle.sm_names.specs.Sameness.{same_buffer, same_key}
 use Rattle.sm_names.proofs.ListLaws.{In, In-list_any}
-use Rattle.sm_names.proofs.SamenessLaws.{either_way, same_buffer-true, same_key-refl, same_key-true}
+use Rattle.sm_names.proofs.SamenessLaws.{either_way, same_buffer-true, same_key-true}
 use Rattle.alike_cores.specs.Alike.{KeepsIds}
 use Rattle.alike_cores.specs.Renamed.{KeepsKeys, buffer_renamed}
 use Rattle.play_likeness.proofs.Listed.{each-listed}
+use Rattle.alike_cores.proofs.Finding.{one_key}
 
 -- ---- labels
 
@@ -53,11 +54,6 @@ named-alike same is to apart nothing one other keys others none none_too first n
       ]
     ]
 
--- Names that stay apart are of nodes that are.
-key-apart : (to : NodeKey → NodeKey) → KeepsKeys to → (a b : NodeKey) → to a ≡ to b → a ≡ b
-key-apart to keeps a b same =
-    same_key-true a b (sym (keeps a b) ∙ subst (λ (x : NodeKey). same_key (to a) x ≡ true) same (same_key-refl (to a)))
-
 -- And of buffers.
 buffer-apart : (id : ℕ → ℕ) → KeepsIds id → (a b : BufferName) → buffer_renamed id a ≡ buffer_renamed id b → a ≡ b
 buffer-apart id keeps a b same = λ i. record {
@@ -73,7 +69,7 @@ pub keys-alike : {V : Type 0} (to : NodeKey → NodeKey) → KeepsKeys to → (n
     ((key : NodeKey) → list_any (same_key key) others ≡ false → other key ≡ nothing) →
     ((key : NodeKey) → In key keys → other (to key) ≡ one key) →
     ((new : NodeKey) → In new others → (key : NodeKey) × In key keys × (to key ≡ new)) → (key : NodeKey) → other (to key) ≡ one key
-keys-alike to keeps = named-alike same_key same_key-true to (key-apart to keeps)
+keys-alike to keeps = named-alike same_key same_key-true to (one_key to keeps)
 
 -- and of buffers.
 pub buffers-alike : {V : Type 0} (id : ℕ → ℕ) → KeepsIds id → (nothing : V) (one other : BufferName →

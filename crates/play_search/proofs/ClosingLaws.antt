@@ -1,7 +1,6 @@
 -- When no turn leads out of the ways that a search met.
-use Rattle.std.proofs.Common.{ℕ, zero, suc, ◌≡◌, ◌<◌, ◌⊎◌, inl, inr, refl, ap, sym, subst, ◌∙◌, true, false, ◌&&◌}
-use Rattle.std.proofs.Common.{List, [], ◌∷◌, length, Option, slice_get}
-use Rattle.std.proofs.Common.{◌+◌, add-one, arith, le_of_suc-le-suc, length-append}
+use Rattle.std.proofs.Common.{ℕ, zero, suc, ◌≡◌, ◌<◌, ◌⊎◌, inl, inr, refl, ap, sym, subst, ◌∙◌, true, false, ◌&&◌, List, [], ◌∷◌, length}
+use Rattle.std.proofs.Common.{Option, slice_get, ◌+◌, add-one, arith, le_of_suc-le-suc}
 use Rattle.std.proofs.Math.Nat.{eq-or-lt_of_le}
 use Rattle.std.specs.Option.{option_and_then, option_map_or}
 use Rattle.sm_names.specs.Answers.{answer}
@@ -15,7 +14,7 @@ use Rattle.actor_plays.specs.declared.play.Play.{Play}
 use Rattle.explore_model.specs.declared.found.Turn.{Turn}
 use Rattle.actor_plays.specs.declared.play.Turned.{Turned}
 use Rattle.actor_plays.specs.Moves.{HavePassed, IsOfSetup, TakesLeave, TakesTurn, may_go_at, position_of}
-use Rattle.actor_plays.specs.Plays.{AsksNothing, Stage, first_clients, is_wait, next_step}
+use Rattle.actor_plays.specs.Plays.{AsksNothing, Stage, is_wait, next_step}
 use Rattle.actor_plays.specs.Positions.{Asks, Begins, HasToWait, PassOn, Position, ReachedBy, Rests, Setup, may_go}
 use Rattle.actor_plays.proofs.PositionLaws.{all_rest, further}
 use Rattle.alike_plays.specs.Closed.{IsSimulation}
@@ -29,6 +28,7 @@ use Rattle.explore_model.specs.declared.found.Vanishing.{Vanishing}
 use Rattle.play_search.specs.Closing.{AlikeIn, AreAllMet, AreClosedIn, IsBack, IsBackIn, IsRowTriedIn, way_to, ways_first, ways_of}
 use Rattle.play_search.specs.Searches.{IsReplay, is_made, setup_of}
 use Rattle.play_search.specs.Vanishings.{began_early, may_begin}
+use Rattle.actor_plays.proofs.MoveLaws.{count_first}
 
 -- One more has what all before it have: it is that one, or one before it.
 pub one_more : (P : ℕ → Type 0) (n : ℕ) → ((k : ℕ) → k < n → P k) → P n → (k : ℕ) → k < n + 1 → P k
@@ -226,12 +226,6 @@ from_start setup _ _ (ReachedBy.ByLeave actor turns old new before leave) none =
 first_way : (rows : List Row) → 0 < length rows → way_to rows 0 ≡ []
 first_way [] less = absurd (omega (arith, less))
 first_way (row ∷ rows) less = refl
-
--- So many clients join as there are plans.
-count_first : (count : ℕ) → length (first_clients count) ≡ count
-count_first zero = refl
-count_first (suc count) = length-append (first_clients count) ((count + 1) ∷ [])
-    ∙ (ap (λ n. n + 1) (count_first count) ∙ add-one count)
 
 -- Plays of a search that are alike, but for what lies behind actors that leave, do the same: who may leave goes by how many left early.
 pub do_the_same : (plans : List Plan) (vanishing : Vanishing) (setting : Setting) →

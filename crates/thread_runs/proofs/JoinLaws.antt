@@ -1,7 +1,6 @@
 -- Records in which all actors join before all other events.
-use Rattle.std.proofs.Common.{ℕ, zero, suc, ◌+◌, ◌-◌, ◌≡◌, ◌<◌, ◌≤◌, ◌==◌, ◌∙◌, ◌&&◌, refl, sym, ap, subst, inl, inr, arith}
-use Rattle.std.proofs.Common.{Bool, true, false, if◌then◌else◌, nat_lt, List, [], ◌∷◌, ◌++◌, append_assoc, append-nil}
-use Rattle.std.proofs.Common.{length, length-append, map}
+use Rattle.std.proofs.Common.{ℕ, zero, suc, ◌+◌, ◌-◌, ◌≡◌, ◌<◌, ◌≤◌, ◌==◌, ◌∙◌, ◌&&◌, refl, sym, ap, subst, inl, inr, arith, Bool, true}
+use Rattle.std.proofs.Common.{false, if◌then◌else◌, nat_lt, List, [], ◌∷◌, ◌++◌, append_assoc, append-nil, length, length-append, map}
 use Rattle.std.proofs.Common.{Some, None, slice_get}
 use Rattle.std.proofs.lemmas.Bool.{lt-ltb, ne_eqb}
 use Rattle.std.proofs.lemmas.List.{length-map, map-append}
@@ -22,16 +21,11 @@ use Rattle.core_state.specs.Theorem.{Leads}
 use Rattle.client_actors.specs.ActorSteps.{pairs_of}
 use Rattle.actor_plays.specs.Plays.{first_clients, first_stage, joins}
 use Rattle.thread_runs.proofs.OncePlanLaws.{get-before, get-behind}
-use Rattle.thread_runs.proofs.RunPlays.{AreOf, calls_by, shows-on}
+use Rattle.thread_runs.proofs.RunPlays.{AreOf, calls_by}
+use Rattle.alike_plays.proofs.Reaching.{shows_on}
+use Rattle.actor_plays.proofs.MoveLaws.{count_first}
 
 -- ---- the clients that join first
-
--- they are as many
-pub first-many : (count : ℕ) → length (first_clients count) ≡ count
-first-many zero = refl
-first-many (suc count) =
-    let more = first-many count in
-    omega (arith, more, length-append (first_clients count) ((count + 1) ∷ []))
 
 -- each has the number of its place and one, by induction on how many
 pub first-at : (count actor : ℕ) → actor < count → slice_get (first_clients count) actor ≡ Some (actor + 1)
@@ -39,7 +33,7 @@ first-at zero actor less = absurd (omega (arith, less))
 first-at (suc count) actor less = elim (eq-or-lt_of_le {n = actor} {m = count} (omega (arith, less))) [
   | inl is ↦
       ap (λ (n : ℕ). slice_get (first_clients count ++ (n + 1) ∷ []) actor) (sym is)
-      ∙ (ap (slice_get (first_clients count ++ (actor + 1) ∷ [])) (is ∙ sym (first-many count))
+      ∙ (ap (slice_get (first_clients count ++ (actor + 1) ∷ [])) (is ∙ sym (count_first count))
       ∙ get-behind (first_clients count) [] (actor + 1))
   | inr before ↦ get-before (first_clients count) ((count + 1) ∷ []) actor (actor + 1) (first-at count actor before)
 ]
@@ -54,7 +48,7 @@ first-there count actor less = slice_get-map (λ (client : ℕ). first_stage) (f
 pub none-beyond : (count actor : ℕ) → count ≤ actor →
     slice_get (map (λ (client : ℕ). first_stage) (first_clients count)) actor ≡ None
 none-beyond count actor past = slice_get_past (map (λ (client : ℕ). first_stage) (first_clients count)) actor
-    (omega (arith, past, first-many count, length-map (first_clients count) (λ (client : ℕ). first_stage)))
+    (omega (arith, past, count_first count, length-map (first_clients count) (λ (client : ℕ). first_stage)))
 
 -- ---- their joins
 
@@ -89,7 +83,7 @@ just-first count rest many =
     let more : length (joined (joins (first_clients count) ++ rest)) ≡ length (first_clients count ++ joined_from (count + 1) rest) =
     ap length all in
     all ∙ (ap (λ (l : List ℕ). first_clients count ++ l) (none-there (joined_from (count + 1) rest)
-    (omega (arith, many, more, first-many count, length-append (first_clients count) (joined_from (count + 1) rest))))
+    (omega (arith, many, more, count_first count, length-append (first_clients count) (joined_from (count + 1) rest))))
     ∙ append-nil (first_clients count))
 
 -- ---- a client's part of the record
@@ -155,4 +149,4 @@ leads-shows [] history first last shows leads =
     subst (λ (s : State). Shows s (history ++ [])) (sym leads) (subst (Shows first) (sym (append-nil history)) shows)
 leads-shows (e ∷ made) history first last shows leads =
     subst (Shows last) (append_assoc history (e ∷ []) made)
-    (leads-shows made (history ++ e ∷ []) leads.0 last (shows-on first leads.0 history e.0 e.1 e.2 shows leads.1) leads.2)
+    (leads-shows made (history ++ e ∷ []) leads.0 last (shows_on first leads.0 history e.0 e.1 e.2 shows leads.1) leads.2)

@@ -34,12 +34,13 @@ use Rattle.play_search.specs.Vanishings.{began_early, is_done, may_vanish}
 use Rattle.thread_runs.specs.RunPlays.{IsPlayOf, JoinsFirst}
 use Rattle.thread_runs.specs.Runs.{IsPlayed}
 use Rattle.thread_runs.proofs.Comings.{ComesThrough}
-use Rattle.thread_runs.proofs.JoinLaws.{calls-of-part, first-at, first-many, first-there, just-first, leads-shows}
-use Rattle.thread_runs.proofs.JoinLaws.{leads-split, none-beyond, theirs-are}
+use Rattle.thread_runs.proofs.JoinLaws.{calls-of-part, first-at, first-there, just-first, leads-shows, leads-split, none-beyond}
+use Rattle.thread_runs.proofs.JoinLaws.{theirs-are}
 use Rattle.thread_runs.proofs.LeavingTurns.{comes-through}
 use Rattle.thread_runs.proofs.OncePlanLaws.{planned-length, there}
 use Rattle.thread_runs.proofs.RecordPlays.{AllComeThrough, HasPlayed, all-gone, all-rest, none-asks, plays-on}
 use Rattle.thread_runs.proofs.RunPlays.{starts-at}
+use Rattle.actor_plays.proofs.MoveLaws.{count_first}
 
 -- ---- the play of a record
 
@@ -159,7 +160,7 @@ module _ (pages : ℕ) (limits : Bound) (scripts : List (List Step)) (history : 
   pub ends-as-outcome : (outcomes : List Found) → NoneIsMissing vanishing.at_end setup outcomes →
       (end : Position) × IsPlayOf setup history end × EndsAsOne vanishing.at_end plans outcomes end
   ends-as-outcome outcomes none =
-      let run = record-played setup (length plans) refl (first-many (length plans)) history first-is came-there all-come in (
+      let run = record-played setup (length plans) refl (count_first (length plans)) history first-is came-there all-come in (
         run.end,
         run.play,
         none run.end run.play.reached (all-rest setup (length plans) run.end run.all run.none) (record {

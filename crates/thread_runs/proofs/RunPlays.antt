@@ -1,6 +1,6 @@
 -- The events of a record, each a turn of its actor, are a play.
-use Rattle.std.proofs.Common.{ℕ, ◌+◌, ◌≡◌, ◌<◌, ◌==◌, ◌∙◌, ◌&&◌, ◌||◌, refl, sym, ap, subst, Bool, true, false, if◌then◌else◌}
-use Rattle.std.proofs.Common.{List, [], ◌∷◌, ◌++◌, map, Option, Some, None, is_some, slice_get, slice_set}
+use Rattle.std.proofs.Common.{ℕ, ◌+◌, ◌≡◌, ◌<◌, ◌==◌, ◌∙◌, ◌&&◌, ◌||◌, refl, sym, ap, subst, Bool, true, false, if◌then◌else◌, List, []}
+use Rattle.std.proofs.Common.{◌∷◌, ◌++◌, map, Option, Some, None, is_some, slice_get, slice_set}
 use Rattle.std.specs.List.{flat_map}
 use Rattle.std.specs.Option.{option_and_then}
 use Rattle.sm_names.specs.declared.messages.Call.{Call}
@@ -9,18 +9,18 @@ use Rattle.sm_names.specs.Marks.{Entry}
 use Rattle.core_state.specs.Shown.{Shows}
 use Rattle.core_state.specs.State.{State}
 use Rattle.core_state.specs.Theorem.{Makes}
-use Rattle.core_state.proofs.theorem.GoesOn.{goes_on}
 use Rattle.actor_scripts.specs.declared.object.StepCall.{StepCall}
 use Rattle.actor_scripts.specs.ActorStates.{step_call}
 use Rattle.explore_model.specs.declared.found.Turn.{Turn}
 use Rattle.explore_model.specs.declared.plan.Planned.{Planned}
 use Rattle.actor_plays.specs.Fates.{AreFalls, falls_at}
 use Rattle.actor_plays.specs.Plays.{Plays, Stage, is_silent, is_wait, joins, leaves_by, left, next_step, passed, stage_after}
-use Rattle.actor_plays.specs.Positions.{Begins, Calls, Fell, Leaves, Passes, Position, Reached, Setup, left_at}
+use Rattle.actor_plays.specs.Positions.{Begins, Calls, Leaves, Passes, Position, Reached, Setup, left_at}
 use Rattle.actor_plays.proofs.PositionLaws.{done_rests, get-other, get-set}
 use Rattle.thread_runs.specs.RunPlays.{IsPlayOf}
 use Rattle.thread_runs.proofs.Comings.{ComesThrough}
-use Rattle.thread_runs.proofs.EventMarks.{stages-there}
+use Rattle.actor_plays.proofs.FallLaws.{stages_there}
+use Rattle.alike_plays.proofs.Reaching.{falls_on, shows_on}
 
 -- the calls that this client made in the record, with their replies
 abbrev pub calls_by : ℕ → List Entry → List (Call × Reply)
@@ -31,21 +31,6 @@ calls_by client (e ∷ es) = let later = calls_by client es in if e.0 == client 
 abbrev pub AreOf : ℕ → List Entry → Type 0
 AreOf count [] = Unit {0}
 AreOf count (e ∷ es) = ((actor : ℕ) × (actor < count) × (e.0 ≡ actor + 1)) × AreOf count es
-
--- the core shows one event more
-pub shows-on : (s later : State) (history : List Entry) (client : ℕ) (call : Call) (reply : Reply) → Shows s history →
-    Makes s later (client, call, reply) → Shows later (history ++ (client, call, reply) ∷ [])
-shows-on s later history client call reply shows makes =
-    goes_on s later client call reply makes.answer makes.after makes.room history shows
-
--- those nodes fell that its marks take
-falls-on : (old new : Position) (history : List Entry) (client : ℕ) (call : Call) (reply : Reply) → Shows old.core history →
-    Makes old.core new.core (client, call, reply) → Fell old new client call reply → AreFalls history old.falls →
-    AreFalls (history ++ (client, call, reply) ∷ []) new.falls
-falls-on old new history client call reply shows makes fell before =
-    subst (AreFalls (history ++ (client, call, reply) ∷ [])) (sym fell.falls)
-    (AreFalls.Tells history old.falls old.core new.core client call reply fell.marks before shows
-    (shows-on old.core new.core history client call reply shows makes) fell.are)
 
 module _ (setup : Setup) where
   -- at the start the history is that of the joins
@@ -81,8 +66,8 @@ module _ (setup : Setup) where
         (history ++ (c.asks.client, c.asks.asked.call, c.reply) ∷ [])) (sym c.stages)
         (Plays.Calls play.turns history old.stages actor c.asks.client c.asks.stage c.asks.next c.asks.asked c.reply play.plays c.asks.at
         c.asks.step c.asks.call c.asks.caller c.waits);
-    shows = shows-on old.core new.core history c.asks.client c.asks.asked.call c.reply play.shows c.made;
-    fell = falls-on old new history c.asks.client c.asks.asked.call c.reply play.shows c.made c.fell play.fell;
+    shows = shows_on old.core new.core history c.asks.client c.asks.asked.call c.reply play.shows c.made;
+    fell = falls_on old new history c.asks.client c.asks.asked.call c.reply play.shows c.made c.fell play.fell;
   }
 
   -- and so is a leave
@@ -95,8 +80,8 @@ module _ (setup : Setup) where
         (history ++ (l.goes.client, l.goes.call, l.reply) ∷ [])) (sym l.stages)
         (Plays.Leaves play.turns history old.stages actor l.goes.client l.goes.stage l.goes.call l.reply play.plays l.goes.at l.goes.by
         l.goes.caller);
-    shows = shows-on old.core new.core history l.goes.client l.goes.call l.reply play.shows l.made;
-    fell = falls-on old new history l.goes.client l.goes.call l.reply play.shows l.made l.fell play.fell;
+    shows = shows_on old.core new.core history l.goes.client l.goes.call l.reply play.shows l.made;
+    fell = falls_on old new history l.goes.client l.goes.call l.reply play.shows l.made l.fell play.fell;
   }
 
   -- by this event of the actor its play went on to this core: the actor comes through by these calls, and the others stay where they are
@@ -152,7 +137,7 @@ module _ (setup : Setup) where
         next.waits ≡ false → ComesThrough setup actor (stage_after stage next asked reply) told →
         GoesOnBy stage ((asked.call, reply) ∷ told)
     asks-on stage next asked reply told step call waits on = λ history old play at core makes.
-        let marks = stages-there old.core core client asked.call reply makes in
+        let marks = stages_there old.core core client asked.call reply makes in
         let after : Stage = stage_after stage next asked reply in
         let new : Position =
         record { core = core; stages = slice_set old.stages actor after; falls = old.falls ++ flat_map falls_at marks.0 } in
@@ -179,7 +164,7 @@ module _ (setup : Setup) where
         leaves_by stage ≡ Some call → ((begun : List (Option ℕ)) → (is_some stage.vanish || setup.may_leave begun actor stage.at) ≡ true) →
         ComesThrough setup actor (left stage reply) told → GoesOnBy stage ((call, reply) ∷ told)
     leaves-on stage call reply told none by may on = λ history old play at core makes.
-        let marks = stages-there old.core core client call reply makes in
+        let marks = stages_there old.core core client call reply makes in
         let after : Stage = left stage reply in
         let new : Position =
         record { core = core; stages = slice_set old.stages actor after; falls = old.falls ++ flat_map falls_at marks.0 } in

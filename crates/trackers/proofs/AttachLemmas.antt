@@ -1,15 +1,10 @@
 -- What one row more leaves.
-use Rattle.std.proofs.Common.{◌≡◌, ℕ, ◌+◌, ◌<◌, ◌≤◌, Bool, ◌==◌, if◌then◌else◌, cond, List, [], ◌∷◌}
-use Rattle.std.proofs.Common.{◌++◌, map, length, count_by, refl, sym, ap, ◌∙◌, arith}
-use Rattle.std.specs.List.{filter_map, cons_option, AllByRecursion}
-use Rattle.std.proofs.lemmas.List.{map_push, length_push}
-use Rattle.std.proofs.lemmas.List.Sums.{sum_by-append, sum_by-cons}
-use Rattle.sm_names.specs.declared.tracking.Fired.{Fired}
-use Rattle.trackers.specs.declared.waiting.Waiting.{Waiting}
-use Rattle.trackers.specs.Table.{Cell, Attaches, firing_of}
-use Rattle.trackers.specs.Row.{TrackerRow, RowState, Waits, Over, is_waiting, waiting_of_row, firing_of_row}
-use Rattle.trackers.specs.WaitIndex.{WaitIndex, trackers_in, waiters_of}
-use Rattle.trackers.specs.Held.{cell_of_row, untaken_of_row, IdsRise, TableInvariant, NoneHas, table_of, attached}
+use Rattle.trackers.proofs.Common.{AllByRecursion, Attaches, Bool, Cell, Fired, IdsRise, List, NoneHas, Over, RowState, TableInvariant}
+use Rattle.trackers.proofs.Common.{TrackerRow, WaitIndex, Waiting, Waits, [], ap, arith, cell_of_row, cond, cons_option, count_by}
+use Rattle.trackers.proofs.Common.{filter_map, firing_of, firing_of_row, if◌then◌else◌, is_waiting, length, length_push, map, map_push}
+use Rattle.trackers.proofs.Common.{refl, sum_by-append, sum_by-cons, sym, table_of, trackers_in, untaken_of_row, waiters_of}
+use Rattle.trackers.proofs.Common.{waiting_of_row, ℕ, ◌++◌, ◌+◌, ◌<◌, ◌==◌, ◌∙◌, ◌∷◌, ◌≡◌, ◌≤◌}
+use Rattle.trackers.specs.Held.{attached}
 use Rattle.trackers.proofs.IndexLemmas.{indexed_push}
 use Rattle.trackers.proofs.FoundLemmas.{table_with}
 use Rattle.trackers.proofs.Walks.{filter_map_push}

@@ -1,17 +1,13 @@
 -- What is left once the last row is taken out, where that was attached just now.
-use Rattle.std.proofs.Common.{◌≡◌, ◌≢◌, ℕ, ◌+◌, ◌<◌, Bool, true, false, ◌==◌, if◌then◌else◌, List, [], ◌∷◌, ◌++◌, map}
-use Rattle.std.proofs.Common.{◌-◌, take, length, count_by, cond, Option, Some, None, refl, sym, ap, subst, ◌∙◌, arith, append-nil}
-use Rattle.std.specs.List.{filter_map, cons_option, AllByRecursion}
+use Rattle.trackers.proofs.Common.{AllByRecursion, Attaches, Bool, Cell, Fired, IdsRise, IsIndexed, List, None, NoneHas, Option, Over}
+use Rattle.trackers.proofs.Common.{RowState, Some, TableInvariant, TrackerRow, TrackerTable, WaitIndex, Waiting, Waits, [], ap}
+use Rattle.trackers.proofs.Common.{append-nil, arith, cell_of_row, cond, cons_option, count_by, eqb-true, false, filter_map, firing_of}
+use Rattle.trackers.proofs.Common.{firing_of_row, if◌then◌else◌, is_waiting, length, length_push, map, map_push, refl, subst}
+use Rattle.trackers.proofs.Common.{sum_by-append, sum_by-cons, sym, table_of, take, true, untaken_of_row, waiters_of, waiting_of_row, ℕ}
+use Rattle.trackers.proofs.Common.{◌++◌, ◌+◌, ◌-◌, ◌<◌, ◌==◌, ◌∙◌, ◌∷◌, ◌≡◌, ◌≢◌}
 use Rattle.std.specs.Option.{option_to_list}
-use Rattle.std.proofs.lemmas.Bool.{eqb-true, eq-eqb}
-use Rattle.std.proofs.lemmas.List.{map_push, length_push, same_from_push}
-use Rattle.std.proofs.lemmas.List.Sums.{sum_by-append, sum_by-cons}
-use Rattle.sm_names.specs.declared.tracking.Fired.{Fired}
-use Rattle.trackers.specs.declared.waiting.Waiting.{Waiting}
-use Rattle.trackers.specs.Table.{Cell, TrackerTable, Attaches, firing_of}
-use Rattle.trackers.specs.Row.{TrackerRow, RowState, Waits, Over, is_waiting, waiting_of_row, firing_of_row}
-use Rattle.trackers.specs.WaitIndex.{WaitIndex, IsIndexed, waiters_of}
-use Rattle.trackers.specs.Held.{cell_of_row, untaken_of_row, IdsRise, TableInvariant, NoneHas, table_of}
+use Rattle.std.proofs.lemmas.Bool.{eq-eqb}
+use Rattle.std.proofs.lemmas.List.{same_from_push}
 use Rattle.trackers.proofs.IndexLemmas.{indexed_pop}
 use Rattle.trackers.proofs.Walks.{filter_map_push, row_of}
 

@@ -1,15 +1,10 @@
 -- What the firing of one row leaves.
-use Rattle.std.proofs.Common.{◌≡◌, ◌≢◌, ℕ, ◌<◌, Bool, true, false, List, [], ◌∷◌, ◌++◌, length, get_or, set, if◌then◌else◌}
-use Rattle.std.proofs.Common.{Option, Some, None, IsSomeAnd, refl, sym, ap, subst, ◌∙◌, arith}
-use Rattle.std.specs.Bool.{OnTrue}
-use Rattle.std.proofs.lemmas.List.{length_push, get_or_push, get_or_append_left}
-use Rattle.sm_names.specs.declared.tracking.Fired.{Fired}
-use Rattle.trackers.specs.declared.place.Place.{Place}
-use Rattle.trackers.specs.declared.place.Stage.{Stage}
-use Rattle.trackers.specs.declared.place.Stage.TheVariants.{InSlot, Untaken, Taken}
-use Rattle.trackers.specs.Row.{TrackerRow, Over, WaitingRow, is_waiting}
-use Rattle.trackers.specs.Places.{Slots, slot_at, firing_or_none, row_in, row_over, row_as, row_at}
-use Rattle.trackers.specs.Places.{rows_of, IsKept, IsKeptAt, IsHere, IsFiredAt, RowsInvariant}
+use Rattle.trackers.proofs.Common.{Bool, Fired, InSlot, IsKept, IsKeptAt, IsSomeAnd, List, None, OnTrue, Option, Over, Place}
+use Rattle.trackers.proofs.Common.{RowsInvariant, Slots, Some, Stage, Taken, TrackerRow, Untaken, WaitingRow, [], ap, arith, false}
+use Rattle.trackers.proofs.Common.{firing_or_none, get_or, if◌then◌else◌, is_waiting, length, length_push, refl, row_as, row_at, row_in}
+use Rattle.trackers.proofs.Common.{row_over, rows_of, set, slot_at, subst, sym, true, ℕ, ◌++◌, ◌<◌, ◌∙◌, ◌∷◌, ◌≡◌, ◌≢◌}
+use Rattle.std.proofs.lemmas.List.{get_or_push, get_or_append_left}
+use Rattle.trackers.specs.Places.{IsHere, IsFiredAt}
 use Rattle.trackers.proofs.SlotLemmas.{rows_long, row_there, kept_there, in_slot, at_place}
 
 -- ---- the place after the firing

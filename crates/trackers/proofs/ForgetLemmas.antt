@@ -1,19 +1,11 @@
 -- What is left of the table once the trackers that fired are forgotten.
-use Rattle.std.proofs.Common.{◌≡◌, ℕ, ◌+◌, ◌<◌, ◌≤◌, Bool, true, false, cond, List, [], ◌∷◌}
-use Rattle.std.proofs.Common.{map, length, count_by, Option, None, refl, sym, ap, ◌∙◌, arith}
-use Rattle.std.specs.List.{filter, filter_map, cons_option, AllByRecursion}
-use Rattle.std.proofs.lemmas.List.Sums.{sum_by-cons}
-use Rattle.sm_names.specs.declared.tracking.Fired.{Fired}
-use Rattle.trackers.specs.declared.place.Place.{Place}
-use Rattle.trackers.specs.declared.place.Stage.{Stage}
-use Rattle.trackers.specs.declared.place.Stage.TheVariants.{InSlot, Untaken, Taken}
-use Rattle.trackers.specs.declared.waiting.Waiting.{Waiting}
-use Rattle.trackers.specs.Table.{Cell, firing_of, forgetful, is_unfired}
-use Rattle.trackers.specs.Row.{TrackerRow, RowState, Waits, Over, is_waiting, waiting_of_row, firing_of_row}
-use Rattle.trackers.specs.WaitIndex.{WaitIndex}
-use Rattle.trackers.specs.Held.{IdsRise, TableInvariant}
-use Rattle.trackers.specs.Held.{cell_of_row, table_of, untaken_of_row}
-use Rattle.trackers.specs.Places.{IsKept, IsKeptAt, RowsInvariant, Slots, in_slot, row_as, row_at, rows_of}
+use Rattle.trackers.proofs.Common.{AllByRecursion, Bool, Cell, Fired, IdsRise, InSlot, IsKept, IsKeptAt, List, None, Option, Over, Place}
+use Rattle.trackers.proofs.Common.{RowState, RowsInvariant, Slots, Stage, TableInvariant, Taken, TrackerRow, Untaken, WaitIndex, Waiting}
+use Rattle.trackers.proofs.Common.{Waits, [], ap, arith, cell_of_row, cond, cons_option, count_by, false, filter, filter_map, firing_of}
+use Rattle.trackers.proofs.Common.{firing_of_row, is_waiting, length, map, refl, row_as, row_at, rows_of, sum_by-cons, sym, table_of}
+use Rattle.trackers.proofs.Common.{true, untaken_of_row, waiting_of_row, ℕ, ◌+◌, ◌<◌, ◌∙◌, ◌∷◌, ◌≡◌, ◌≤◌}
+use Rattle.trackers.specs.Table.{forgetful, is_unfired}
+use Rattle.trackers.specs.Places.{in_slot}
 use Rattle.trackers.proofs.FoundLemmas.{other_id, same_id, table_with}
 use Rattle.trackers.proofs.Walks.{row_of}
 

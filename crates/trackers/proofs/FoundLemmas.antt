@@ -1,18 +1,12 @@
 -- Rows by their ids: where one stands, what is found there, and what its change leaves.
-use Rattle.std.proofs.Common.{◌≡◌, ◌≢◌, ◌↔◌, ℕ, zero, suc, ◌+◌, ◌<◌, Bool, true, false, ◌==◌, List, [], ◌∷◌, map, length}
-use Rattle.std.proofs.Common.{get_or, set, Option, Some, None, IfSome, count_by, cond, if◌then◌else◌, refl, sym, ap, ◌∙◌, arith}
-use Rattle.std.specs.List.{filter_map, cons_option, AllByRecursion}
-use Rattle.std.specs.Bool.{OnTrue}
-use Rattle.std.proofs.lemmas.List.Elements.{All-from_recursion}
-use Rattle.std.proofs.lemmas.List.Sums.{sum_by-cons}
-use Rattle.std.proofs.lemmas.Bool.Decides.{nat_tests}
-use Rattle.sm_names.specs.declared.tracking.Fired.{Fired}
-use Rattle.trackers.specs.declared.waiting.Waiting.{Waiting}
-use Rattle.trackers.specs.Table.{TrackerTable, Reader, Cell, firing_of, cell_of, is_untaken, without_id, reader_of}
-use Rattle.trackers.specs.WaitIndex.{WaitIndex}
-use Rattle.trackers.specs.Row.{TrackerRow, is_waiting, waiting_of_row, firing_of_row, reader_of_row}
-use Rattle.trackers.specs.Held.{cell_of_row, untaken_of_row, IdsRise}
-use Rattle.trackers.specs.Held.{AreHeld, TableInvariant, NoneHas, Found, here, later, table_of}
+use Rattle.trackers.proofs.Common.{All-from_recursion, AllByRecursion, AreHeld, Bool, Cell, Fired, Found, IdsRise, List, None, NoneHas}
+use Rattle.trackers.proofs.Common.{OnTrue, Option, Some, TableInvariant, TrackerRow, TrackerTable, WaitIndex, Waiting, [], ap, arith}
+use Rattle.trackers.proofs.Common.{cell_of_row, cond, cons_option, count_by, false, filter_map, firing_of, firing_of_row, get_or, here}
+use Rattle.trackers.proofs.Common.{if◌then◌else◌, is_waiting, later, length, map, nat_tests, refl, set, suc, sum_by-cons, sym, table_of}
+use Rattle.trackers.proofs.Common.{true, untaken_of_row, waiting_of_row, zero, ℕ, ◌+◌, ◌<◌, ◌==◌, ◌∙◌, ◌∷◌, ◌≡◌, ◌≢◌}
+use Rattle.std.proofs.Common.{◌↔◌, IfSome}
+use Rattle.trackers.specs.Table.{Reader, cell_of, is_untaken, without_id, reader_of}
+use Rattle.trackers.specs.Row.{reader_of_row}
 
 -- the test of an id against itself
 pub same_id : (i : ℕ) → (i == i) ≡ true

@@ -1,16 +1,13 @@
 -- What a sweep leaves of the rows, and what it shows.
-use Rattle.std.proofs.Common.{option_to_list, get_or, ◌≡◌, ◌≢◌, ℕ, ◌+◌, ◌<◌, Bool, true, false, not, ◌==◌, List, [], ◌∷◌, ◌++◌, map}
-use Rattle.std.proofs.Common.{length, Option, Some, None, count_by, cond, if◌then◌else◌, refl, sym, ap, subst, ◌∙◌, arith, length-append}
-use Rattle.std.specs.List.{filter, filter_map, cons_option, AllByRecursion}
-use Rattle.std.proofs.lemmas.List.{length-map, get_or-map}
-use Rattle.std.proofs.lemmas.List.Elements.{All-from_recursion, recursion_from_All}
-use Rattle.std.proofs.lemmas.List.Sums.{sum_by-cons}
-use Rattle.sm_names.specs.declared.tracking.Fired.{Fired}
-use Rattle.sm_names.specs.Trackers.{World, holds}
-use Rattle.trackers.specs.declared.waiting.Waiting.{Waiting}
-use Rattle.trackers.specs.Table.{is_due, firing, firings, still_waiting, firing_of}
-use Rattle.trackers.specs.Row.{TrackerRow, RowState, Waits, Over, is_waiting, waiting_of_row, firing_of_row}
-use Rattle.trackers.specs.Held.{cell_of_row, untaken_of_row, is_met, row_after, fires, IdsRise, AreHeld, NoneHas, Found, here, later}
+use Rattle.trackers.proofs.Common.{All-from_recursion, AllByRecursion, AreHeld, Bool, Fired, Found, IdsRise, List, None, NoneHas, Option}
+use Rattle.trackers.proofs.Common.{Over, RowState, Some, TrackerRow, Waiting, Waits, World, [], ap, arith, cell_of_row, cond, cons_option}
+use Rattle.trackers.proofs.Common.{count_by, false, filter, filter_map, fires, firing_of, firing_of_row, get_or, here, holds}
+use Rattle.trackers.proofs.Common.{if◌then◌else◌, is_due, is_met, is_waiting, later, length, length-append, length-map, map, not}
+use Rattle.trackers.proofs.Common.{recursion_from_All, refl, row_after, still_waiting, subst, sum_by-cons, sym, true, untaken_of_row}
+use Rattle.trackers.proofs.Common.{waiting_of_row, ℕ, ◌++◌, ◌+◌, ◌<◌, ◌==◌, ◌∙◌, ◌∷◌, ◌≡◌, ◌≢◌}
+use Rattle.std.proofs.Common.{option_to_list}
+use Rattle.std.proofs.lemmas.List.{get_or-map}
+use Rattle.trackers.specs.Table.{firing, firings}
 use Rattle.trackers.proofs.FoundLemmas.{found_at, same_id, other_id}
 use Rattle.trackers.proofs.Walks.{balance, id_after, row_of}
 

@@ -1,18 +1,12 @@
 -- The index: what a sweep needs of it, and what it leaves.
-use Rattle.std.proofs.Common.{◌≡◌, ◌≢◌, ℕ, ◌-◌, ◌≤◌, Bool, true, false, not, ◌==◌, List, [], ◌∷◌, ◌++◌, map, length, take}
-use Rattle.std.proofs.Common.{cond, Some, None, if◌then◌else◌, refl, sym, ap, ◌∙◌, arith, append-nil}
-use Rattle.std.specs.List.{filter, filter_map, cons_option, AllByRecursion}
+use Rattle.trackers.proofs.Common.{AllByRecursion, Bool, IsIndexed, List, None, Over, RowState, Some, TrackerRow, WaitIndex, Waiter}
+use Rattle.trackers.proofs.Common.{Waiting, Waits, World, [], ap, append-nil, arith, cond, cons_option, due_id, false, filter}
+use Rattle.trackers.proofs.Common.{filter-append, filter_map, holds, ids_of, if◌then◌else◌, is_due, is_waiter_due, length, length-map}
+use Rattle.trackers.proofs.Common.{length_push, map, map_push, nat_tests, not, refl, still_waiting, sym, take, trackers_in, true}
+use Rattle.trackers.proofs.Common.{waiters_of, waiting_of_row, ℕ, ◌++◌, ◌-◌, ◌==◌, ◌∙◌, ◌∷◌, ◌≡◌, ◌≢◌, ◌≤◌}
 use Rattle.std.specs.List.{take-map}
-use Rattle.std.proofs.lemmas.Bool.Decides.{nat_tests}
-use Rattle.std.proofs.lemmas.List.{length-map, length_push, map_push, take-append-le, take_all}
-use Rattle.std.proofs.lemmas.List.Elements.{filter-append}
-use Rattle.sm_names.specs.Trackers.{World, holds}
-use Rattle.trackers.specs.declared.index.Waiter.{Waiter}
-use Rattle.trackers.specs.declared.waiting.Waiting.{Waiting}
-use Rattle.trackers.specs.Table.{is_due, still_waiting}
-use Rattle.trackers.specs.Row.{TrackerRow, RowState, Waits, Over, waiting_of_row}
-use Rattle.trackers.specs.WaitIndex.{WaitIndex, IsIndexed, ids_of, is_under, is_waiter_due, trackers_in, waiters_of}
-use Rattle.trackers.specs.Held.{due_id}
+use Rattle.std.proofs.lemmas.List.{take-append-le, take_all}
+use Rattle.trackers.specs.WaitIndex.{is_under}
 use Rattle.trackers.proofs.Walks.{row_of}
 
 -- ---- one tracker more or less

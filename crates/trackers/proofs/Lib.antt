@@ -1,3 +1,4 @@
+mod Common
 pub mod AttachLemmas
 pub mod DetachLemmas
 pub mod IndexLemmas

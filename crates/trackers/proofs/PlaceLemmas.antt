@@ -1,15 +1,8 @@
 -- What a search among places of rising ids finds.
-use Rattle.std.proofs.Common.{◌≡◌, ◌≢◌, ℕ, zero, suc, ◌<◌, ◌≤◌, true, false, length, get_or, List, [], ◌∷◌, subst, nat_lt, arith}
-use Rattle.std.specs.List.{AllByRecursion}
+use Rattle.trackers.proofs.Common.{All-from_recursion, AllByRecursion, Fired, Found, IdsRise, List, NoneHas, Place, Slots, TrackerRow, []}
+use Rattle.trackers.proofs.Common.{arith, false, get_or, length, length-map, nat_lt, nat_tests, recursion_from_All, row_at, rows_of}
+use Rattle.trackers.proofs.Common.{subst, suc, true, zero, ℕ, ◌<◌, ◌∷◌, ◌≡◌, ◌≢◌, ◌≤◌}
 use Rattle.std.specs.List.Sorted.{IsNonDecreasingBy, IsPartitionPoint}
-use Rattle.std.proofs.lemmas.List.{length-map}
-use Rattle.std.proofs.lemmas.List.Elements.{All-from_recursion, recursion_from_All}
-use Rattle.std.proofs.lemmas.Bool.Decides.{nat_tests}
-use Rattle.sm_names.specs.declared.tracking.Fired.{Fired}
-use Rattle.trackers.specs.declared.place.Place.{Place}
-use Rattle.trackers.specs.Row.{TrackerRow}
-use Rattle.trackers.specs.Held.{IdsRise, NoneHas, Found}
-use Rattle.trackers.specs.Places.{Slots, row_at, rows_of}
 use Rattle.trackers.proofs.SlotLemmas.{get_map, found_there}
 
 -- each id is below those of later rows

@@ -1,18 +1,11 @@
 -- What a change of one place, its slot and the firings leaves of the rows.
-use Rattle.std.proofs.Common.{◌≡◌, ◌≢◌, ℕ, zero, suc, ◌<◌, ◌≤◌, true, false, List, [], ◌∷◌, ◌++◌, map, length}
-use Rattle.std.proofs.Common.{get_or, set, Option, Some, None, IsSomeAnd, refl, sym, ap, subst, ◌∙◌, arith}
-use Rattle.std.specs.Bool.{OnTrue}
-use Rattle.std.specs.List.{AllByRecursion}
-use Rattle.std.proofs.lemmas.List.{map_push, length-map, get_or_default}
-use Rattle.std.proofs.lemmas.List.Elements.{All-from_recursion}
-use Rattle.sm_names.specs.declared.tracking.Fired.{Fired}
-use Rattle.trackers.specs.declared.place.Place.{Place}
-use Rattle.trackers.specs.declared.place.Stage.{Stage}
-use Rattle.trackers.specs.declared.place.Stage.TheVariants.{InSlot, Untaken, Taken}
-use Rattle.trackers.specs.Row.{TrackerRow, KeptRows, WaitingRow, row_of_waiting}
-use Rattle.trackers.specs.Held.{IdsRise, NoneHas, Found, here, later}
-use Rattle.trackers.specs.Places.{Slots, slot_at, firing_or_none, row_in, row_over, row_as}
-use Rattle.trackers.specs.Places.{row_at, rows_of, IsKept, IsKeptAt, RowsInvariant, Leaves, Names}
+use Rattle.trackers.proofs.Common.{All-from_recursion, AllByRecursion, Fired, Found, IdsRise, InSlot, IsKept, IsKeptAt, IsSomeAnd, List}
+use Rattle.trackers.proofs.Common.{None, NoneHas, OnTrue, Option, Place, RowsInvariant, Slots, Some, Stage, Taken, TrackerRow, Untaken}
+use Rattle.trackers.proofs.Common.{WaitingRow, [], ap, arith, false, firing_or_none, get_or, get_or_default, here, later, length}
+use Rattle.trackers.proofs.Common.{length-map, map, map_push, refl, row_as, row_at, row_in, row_over, rows_of, set, slot_at, subst, suc}
+use Rattle.trackers.proofs.Common.{sym, true, zero, ℕ, ◌++◌, ◌<◌, ◌∙◌, ◌∷◌, ◌≡◌, ◌≢◌, ◌≤◌}
+use Rattle.trackers.specs.Row.{KeptRows, row_of_waiting}
+use Rattle.trackers.specs.Places.{Leaves, Names}
 use Rattle.trackers.proofs.FoundLemmas.{found_at}
 use Rattle.trackers.proofs.AttachLemmas.{rising_push, fresh}
 use Rattle.trackers.proofs.DetachLemmas.{front_of, below_last, front_rises}

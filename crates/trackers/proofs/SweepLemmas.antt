@@ -1,12 +1,7 @@
 -- What a sweep leaves, from what its walk did.
-use Rattle.std.proofs.Common.{◌≡◌, ℕ, ◌≤◌, not, ◌==◌, if◌then◌else◌, List, ◌++◌, map, ap, ◌∙◌, arith}
-use Rattle.std.specs.List.{filter, filter_map, AllByRecursion}
-use Rattle.sm_names.specs.declared.tracking.Fired.{Fired}
-use Rattle.sm_names.specs.Trackers.{World}
-use Rattle.trackers.specs.Table.{still_waiting}
-use Rattle.trackers.specs.Row.{TrackerRow, waiting_of_row}
-use Rattle.trackers.specs.WaitIndex.{WaitIndex, is_waiter_due, waiters_of}
-use Rattle.trackers.specs.Held.{cell_of_row, untaken_of_row, row_after, fires, TableInvariant, table_of}
+use Rattle.trackers.proofs.Common.{AllByRecursion, Fired, List, TableInvariant, TrackerRow, WaitIndex, World, ap, arith, cell_of_row}
+use Rattle.trackers.proofs.Common.{filter, filter_map, fires, if◌then◌else◌, is_waiter_due, map, not, row_after, still_waiting, table_of}
+use Rattle.trackers.proofs.Common.{untaken_of_row, waiters_of, waiting_of_row, ℕ, ◌++◌, ◌==◌, ◌∙◌, ◌≡◌, ◌≤◌}
 use Rattle.trackers.proofs.IndexLemmas.{Elsewhere, indexed_dropped}
 use Rattle.trackers.proofs.FoundLemmas.{table_with}
 use Rattle.trackers.proofs.HeldLemmas.{count_after, held_after, cells_after, untaken_after, unfired_after}

@@ -1,17 +1,12 @@
 -- The walk over what is due: what is done, where it stands, and what it leaves.
-use Rattle.std.proofs.Common.{◌≡◌, ℕ, ◌+◌, ◌<◌, Bool, true, false, List, [], ◌∷◌, ◌++◌, map, length, get_or}
-use Rattle.std.proofs.Common.{set, drop, Option, Some, None, cond, if◌then◌else◌, refl, sym, ap, subst}
-use Rattle.std.proofs.Common.{◌∙◌, arith, append-nil, append_assoc, option_to_list}
-use Rattle.std.specs.List.{filter_map, cons_option, AllByRecursion}
-use Rattle.std.proofs.lemmas.List.{map-append, map_push, length-map, set_at, drop_more}
+use Rattle.trackers.proofs.Common.{AllByRecursion, Bool, Fired, Found, IdsRise, List, None, Option, Over, RowState, Some, TrackerRow}
+use Rattle.trackers.proofs.Common.{Waiter, Waits, World, [], ap, append-nil, arith, cond, cons_option, drop, drop_more, due_id, false}
+use Rattle.trackers.proofs.Common.{filter_map, fires, get_or, here, holds, ids_of, if◌then◌else◌, is_met, is_waiting, later, length}
+use Rattle.trackers.proofs.Common.{length-map, map, map_push, refl, row_after, set, subst, sym, true, ℕ, ◌++◌, ◌+◌, ◌<◌, ◌∙◌, ◌∷◌, ◌≡◌}
+use Rattle.std.proofs.Common.{append_assoc, option_to_list}
+use Rattle.std.proofs.lemmas.List.{map-append, set_at}
 use Rattle.std.proofs.lemmas.List.Elements.{filter_map-append}
 use Rattle.sm_names.specs.declared.tracking.Condition.{Condition}
-use Rattle.sm_names.specs.declared.tracking.Fired.{Fired}
-use Rattle.sm_names.specs.Trackers.{World, holds}
-use Rattle.trackers.specs.declared.index.Waiter.{Waiter}
-use Rattle.trackers.specs.WaitIndex.{ids_of}
-use Rattle.trackers.specs.Row.{TrackerRow, RowState, Waits, Over, is_waiting}
-use Rattle.trackers.specs.Held.{is_met, row_after, fires, due_id, Found, here, later, IdsRise}
 use Rattle.trackers.proofs.FoundLemmas.{none_below}
 
 -- what h gives of a list with one more item

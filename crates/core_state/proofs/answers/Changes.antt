@@ -1,45 +1,16 @@
 -- Which events change a collection, and which change none.
-use Rattle.std.proofs.lemmas.Bool.{false≢true}
-use Rattle.std.proofs.Common.{ℕ, ◌≡◌, ◌≤◌, ◌<◌, refl, ap, sym, ◌∙◌, subst, Bool, true, false}
-use Rattle.std.proofs.Common.{cond, not, inl, inr, [], ◌∷◌, Some, None, arith, is_some}
-use Rattle.std.specs.Option.{option_map, option_and_then}
-use Rattle.sm_names.specs.declared.keys.BufferName.{BufferName}
-use Rattle.sm_names.specs.declared.keys.NodeKey.{NodeKey}
-use Rattle.sm_names.specs.declared.keys.Strength.{Strength}
-use Rattle.sm_names.specs.declared.messages.Call.{Call}
-use Rattle.sm_names.specs.declared.messages.Reply.{Reply}
-use Rattle.sm_names.specs.declared.outcomes.Cause.{Cause}
-use Rattle.sm_names.specs.declared.outcomes.Misuse.{Misuse}
-use Rattle.sm_names.specs.Answers.{IsAnswer}
-use Rattle.sm_names.specs.Births.{birth_at, births}
-use Rattle.sm_names.specs.Bounds.{Bound}
-use Rattle.sm_names.specs.Handles.{open_of, open_total}
-use Rattle.sm_names.specs.Kept.{is_kept, is_kept_collection}
-use Rattle.sm_names.specs.Losses.{gone}
-use Rattle.sm_names.specs.Marks.{Timeline, Called, Loss}
-use Rattle.sm_names.specs.Reading.{readings}
-use Rattle.sm_names.specs.Timelines.{collection_of, key_of, own_loss}
-use Rattle.sm_names.specs.Words.{when}
-use Rattle.history_laws.proofs.AnswerLaws.{took_effect_all}
-use Rattle.history_laws.proofs.BirthLaws.{HasEnd, birth_is}
-use Rattle.history_laws.proofs.CountLaws.{caller_joined, client-le-total, counted}
-use Rattle.history_laws.proofs.GrowthLaws.{Grows}
-use Rattle.history_laws.proofs.HandleLaws.{some_open}
-use Rattle.history_laws.proofs.LifeLaws.{whole}
-use Rattle.history_laws.proofs.RejectLaws.{is_refusal, not_refused_end}
-use Rattle.sm_names.proofs.SamenessLaws.{either_way, none_or_some, or_right, and_then-Some, map-Some}
-use Rattle.buffer_holds.specs.Counts.{total}
-use Rattle.forest_store.specs.declared.change.Change.{Change}
-use Rattle.forest_store.specs.declared.change.Effect.{Effect}
-use Rattle.forest_store.specs.declared.node.Node.{Node}
-use Rattle.forest_store.specs.Forest.{Collection, collection_at, node_at}
-use Rattle.forest_store.specs.Nodes.{affected}
-use Rattle.forest_store.specs.Settling.{no_key}
-use Rattle.core_state.specs.Shown.{IsAfter, node_after}
-use Rattle.core_state.specs.State.{HandleCounts, State}
-use Rattle.core_state.specs.Steps.{Work, at_collection, at_node, done_to, drop_at, loss_at, work_of}
-use Rattle.core_state.proofs.forced.Beginning.{IsFound, at_found, effect_starts, loss_starts}
-use Rattle.core_state.proofs.forced.Beginning.{nothing_starts, root_starts, child_starts, attached_starts}
+use Rattle.core_state.proofs.Common.{Bool, Bound, BufferName, Call, Called, Cause, Change, Collection, Effect, Grows, HandleCounts}
+use Rattle.core_state.proofs.Common.{HasEnd, IsAfter, IsAnswer, Loss, Misuse, Node, NodeKey, None, Reply, Some, State, Strength, Timeline}
+use Rattle.core_state.proofs.Common.{Work, [], affected, and_then-Some, ap, arith, at_collection, at_node, birth_at, birth_is, births}
+use Rattle.core_state.proofs.Common.{caller_joined, client-le-total, collection_at, collection_of, cond, done_to, drop_at, either_way}
+use Rattle.core_state.proofs.Common.{false, false≢true, gone, inl, inr, is_kept, is_kept_collection, is_refusal, is_some, key_of, loss_at}
+use Rattle.core_state.proofs.Common.{map-Some, no_key, node_after, node_at, none_or_some, not, not_refused_end, open_of, open_total}
+use Rattle.core_state.proofs.Common.{option_and_then, or_right, own_loss, readings, refl, some_open, subst, sym, took_effect_all, total}
+use Rattle.core_state.proofs.Common.{true, when, whole, work_of, ℕ, ◌<◌, ◌∙◌, ◌∷◌, ◌≡◌, ◌≤◌}
+use Rattle.std.specs.Option.{option_map}
+use Rattle.history_laws.proofs.CountLaws.{counted}
+use Rattle.core_state.proofs.forced.Beginning.{IsFound, at_found, effect_starts, loss_starts, nothing_starts, root_starts, child_starts}
+use Rattle.core_state.proofs.forced.Beginning.{attached_starts}
 use Rattle.core_state.proofs.nodes.Called.{said}
 use Rattle.core_state.proofs.forced.CallStep.{IsIdle}
 use Rattle.core_state.proofs.forced.Dropping.{stays, took_last}
@@ -55,7 +26,7 @@ use Rattle.core_state.proofs.forced.Work.{Starts}
 -- ---- misuses
 
 -- a misuse loses the node that the call names
-own_misused : (marks : Timeline) (call : Call) (m : Misuse) → own_loss marks call (Reply.Misused m) ≡ option_map (λ key.
+pub own_misused : (marks : Timeline) (call : Call) (m : Misuse) → own_loss marks call (Reply.Misused m) ≡ option_map (λ key.
     Loss key (Cause.Misused m)) (key_of call)
 own_misused marks (Call.Close key) m = refl
 own_misused marks _ m = refl

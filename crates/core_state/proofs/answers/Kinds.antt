@@ -1,25 +1,15 @@
 -- Each reply is one that its call can have.
-use Rattle.std.proofs.lemmas.Bool.{false≢true}
-use Rattle.std.proofs.Common.{ℕ, ◌≡◌, refl, ap, ◌∙◌, subst, Bool, true, false, List, [], ◌∷◌, Option, Some, None, is_some, ◌&&◌, nat_le}
-use Rattle.std.specs.Option.{option_and_then, option_map, option_map_or, unwrap_or}
+use Rattle.core_state.proofs.Common.{Bool, Bound, Buffers, Call, Fault, List, Misuse, NodeKey, None, OpenEnd, Option, Parcel, Readings}
+use Rattle.core_state.proofs.Common.{Refusal, Reply, Some, [], answer, answers_first, ap, closing, collected, effect, end_in_transit}
+use Rattle.core_state.proofs.Common.{end_named, false, false≢true, first_some, fits_call, in_transit_rejects, is_refusal, is_some, key_of}
+use Rattle.core_state.proofs.Common.{makes_node, makes_tracker, misuse, nat_le, no_end, no_end_rejects, no_handle, option_and_then}
+use Rattle.core_state.proofs.Common.{option_map_or, peer_closed, refl, refused_if, shut_client, shut_rejects, subst, true, unknown_client}
+use Rattle.core_state.proofs.Common.{unknown_rejects, unwrap_or, wrong_kind, ℕ, ◌&&◌, ◌∙◌, ◌∷◌, ◌≡◌}
+use Rattle.std.specs.Option.{option_map}
 use Rattle.sm_names.specs.declared.call_parts.Answer.{Answer}
-use Rattle.sm_names.specs.declared.keys.NodeKey.{NodeKey}
-use Rattle.sm_names.specs.declared.messages.Call.{Call}
-use Rattle.sm_names.specs.declared.messages.Parcel.{Parcel}
-use Rattle.sm_names.specs.declared.messages.Reply.{Reply}
-use Rattle.sm_names.specs.declared.outcomes.Buffers.{Buffers}
-use Rattle.sm_names.specs.declared.outcomes.Fault.{Fault}
-use Rattle.sm_names.specs.declared.outcomes.Misuse.{Misuse}
-use Rattle.sm_names.specs.declared.outcomes.Refusal.{Refusal}
-use Rattle.sm_names.specs.Answers.{OpenEnd, Readings, answer, answers_first, closing, collected, effect, end_in_transit, end_named}
-use Rattle.sm_names.specs.Answers.{misuse, misuse_of, misused_if, no_end, no_handle, peer_closed, refused_if, shut_client}
-use Rattle.sm_names.specs.Answers.{unknown_client, wrong_kind, makes_collection, makes_node, makes_tracker, too_many_handles}
-use Rattle.sm_names.specs.Bounds.{Bound}
-use Rattle.sm_names.specs.Timelines.{key_of}
-use Rattle.sm_names.specs.Words.{first_some}
-use Rattle.history_laws.proofs.RejectLaws.{Rejects, is_refusal, rejects_if, unknown_rejects, shut_rejects}
-use Rattle.history_laws.proofs.RejectLaws.{no_end_rejects, in_transit_rejects, wrong_kind_rejects}
-use Rattle.core_state.specs.Kinds.{fits_call, is_answered}
+use Rattle.sm_names.specs.Answers.{misuse_of, misused_if, makes_collection, too_many_handles}
+use Rattle.history_laws.proofs.RejectLaws.{Rejects, rejects_if, wrong_kind_rejects}
+use Rattle.core_state.specs.Kinds.{is_answered}
 
 -- ---- what the table says
 

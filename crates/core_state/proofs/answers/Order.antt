@@ -1,12 +1,7 @@
 -- The order of answers, line by line.
-use Rattle.std.proofs.Common.{ℕ, ◌≡◌, refl, List, [], ◌∷◌, ◌++◌, Option, Some, None}
-use Rattle.std.specs.Option.{option_or}
-use Rattle.sm_names.specs.declared.messages.Call.{Call}
-use Rattle.sm_names.specs.declared.messages.Reply.{Reply}
-use Rattle.sm_names.specs.Answers.{Readings, answers_first, unknown_client, shut_client, no_end}
-use Rattle.sm_names.specs.Answers.{end_in_transit, closing, peer_closed, wrong_kind, misuse, no_handle, limits_met}
-use Rattle.sm_names.specs.Bounds.{Bound}
-use Rattle.sm_names.specs.Words.{first_some}
+use Rattle.core_state.proofs.Common.{Bound, Call, List, None, Option, Readings, Reply, Some, [], answers_first, closing, end_in_transit}
+use Rattle.core_state.proofs.Common.{first_some, limits_met, misuse, no_end, no_handle, option_or, peer_closed, refl, shut_client}
+use Rattle.core_state.proofs.Common.{unknown_client, wrong_kind, ℕ, ◌++◌, ◌∷◌, ◌≡◌}
 use Rattle.core_state.specs.declared.traits.Traits.{Traits}
 use Rattle.core_state.specs.Lines.{limits_of}
 use Rattle.core_state.specs.Traits.{Describes}

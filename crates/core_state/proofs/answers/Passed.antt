@@ -1,17 +1,12 @@
 -- What a call has passed that was answered so.
-use Rattle.std.proofs.Common.{ℕ, ◌≡◌, refl, ap, Bool, true, false, List, ◌∷◌, Option, Some, None}
-use Rattle.std.specs.Option.{option_map, option_map_or, unwrap_or}
-use Rattle.sm_names.specs.declared.keys.NodeKey.{NodeKey}
-use Rattle.sm_names.specs.declared.messages.Call.{Call}
-use Rattle.sm_names.specs.declared.messages.Reply.{Reply}
-use Rattle.sm_names.specs.declared.outcomes.Fault.{Fault}
-use Rattle.sm_names.specs.Answers.{OpenEnd, Readings, answer, effect, closing, no_end, is_anothers, refused_if, unknown_client}
-use Rattle.sm_names.specs.Answers.{shut_client, end_in_transit, peer_closed, wrong_kind, misuse, no_handle, limits_met}
-use Rattle.sm_names.specs.declared.outcomes.Refusal.{Refusal}
-use Rattle.sm_names.specs.Bounds.{Bound}
-use Rattle.sm_names.specs.Timelines.{key_of}
-use Rattle.sm_names.specs.Words.{first_some}
-use Rattle.history_laws.proofs.RejectLaws.{is_refusal, strip, unknown_rejects, shut_rejects, no_end_rejects, in_transit_rejects}
+use Rattle.core_state.proofs.Common.{Bool, Bound, Call, Fault, List, NodeKey, None, OpenEnd, Option, Readings, Refusal, Reply, Some}
+use Rattle.core_state.proofs.Common.{answer, ap, closing, effect, end_in_transit, false, first_some, in_transit_rejects, is_refusal}
+use Rattle.core_state.proofs.Common.{key_of, limits_met, misuse, no_end, no_end_rejects, no_handle, option_map_or, peer_closed, refl}
+use Rattle.core_state.proofs.Common.{refused_if, shut_client, shut_rejects, true, unknown_client, unknown_rejects, unwrap_or, wrong_kind}
+use Rattle.core_state.proofs.Common.{ℕ, ◌∷◌, ◌≡◌}
+use Rattle.std.specs.Option.{option_map}
+use Rattle.sm_names.specs.Answers.{is_anothers}
+use Rattle.history_laws.proofs.RejectLaws.{strip}
 
 -- the reply tells why the node is gone
 abbrev pub is_closed : Reply → Bool

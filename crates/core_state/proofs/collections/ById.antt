@@ -1,14 +1,10 @@
 -- Collections by their ids.
-use Rattle.std.proofs.Common.{ℕ, ◌≡◌, ◌≢◌, ◌<◌, ◌≤◌, refl, ap, sym, ◌∙◌, subst, Bool, true, false, ◌==◌}
-use Rattle.std.proofs.Common.{not, nat_lt, if◌then◌else◌, List, [], ◌∷◌, map, Some, ◌⊎◌, inl, inr, arith}
-use Rattle.std.proofs.lemmas.Bool.{eqb-true, eqb-false, eq-eqb, ltb-true, ltb-false}
-use Rattle.std.specs.List.{find, AllByRecursion}
+use Rattle.core_state.proofs.Common.{AllByRecursion, Bool, Collection, IsTidy, List, Rise, Some, [], ap, arith, either_way, eq-eqb}
+use Rattle.core_state.proofs.Common.{eqb-false, eqb-true, false, false_if, find, if◌then◌else◌, inl, inr, ltb-false, ltb-true, map}
+use Rattle.core_state.proofs.Common.{nat_lt, not, put, refl, subst, sym, tidied, true, without_unkept, without_unkept_in, ℕ, ◌<◌, ◌==◌}
+use Rattle.core_state.proofs.Common.{◌∙◌, ◌∷◌, ◌≡◌, ◌≢◌, ◌≤◌, ◌⊎◌}
 use Rattle.sm_names.proofs.ListLaws.{In}
-use Rattle.sm_names.proofs.SamenessLaws.{either_way, false_if}
-use Rattle.forest_store.specs.Forest.{Collection, is_left, tidied, without_unkept_in}
-use Rattle.forest_store.specs.Settling.{put}
-use Rattle.core_state.specs.Steps.{without_unkept}
-use Rattle.core_state.specs.Whole.{Rise, IsTidy}
+use Rattle.forest_store.specs.Forest.{is_left}
 
 -- the ids of collections
 abbrev pub ids : List Collection → List ℕ

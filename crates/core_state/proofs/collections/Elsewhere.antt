@@ -1,41 +1,19 @@
 -- An event leaves each collection but its own as it was.
-use Rattle.std.proofs.Common.{ℕ, ◌≡◌, ◌+◌, refl, ap, sym, ◌∙◌, subst, Bool, true, false, not}
-use Rattle.std.proofs.Common.{◌&&◌, ◌==◌, inl, inr, [], ◌∷◌, map, Option, Some, None, is_some}
-use Rattle.std.proofs.lemmas.Bool.{eqb-true, eq-eqb}
-use Rattle.std.specs.List.{filter, cons_option}
-use Rattle.std.specs.Option.{option_map, option_map_or, option_and_then}
-use Rattle.sm_names.specs.declared.keys.BufferName.{BufferName}
-use Rattle.sm_names.specs.declared.keys.NodeKey.{NodeKey}
-use Rattle.sm_names.specs.declared.keys.Strength.{Strength}
-use Rattle.sm_names.specs.declared.messages.Call.{Call}
-use Rattle.sm_names.specs.declared.messages.Reply.{Reply}
-use Rattle.sm_names.specs.declared.outcomes.Cause.{Cause}
-use Rattle.sm_names.specs.Answers.{IsAnswer}
-use Rattle.sm_names.specs.Births.{Birth, births, birth_at, birth_of, was_born, ancestors}
-use Rattle.sm_names.specs.Bounds.{Bound}
-use Rattle.sm_names.specs.Handles.{home, buffers_of, is_doomed, open_total}
-use Rattle.sm_names.specs.Marks.{Mark, Timeline, Called, Loss, events}
-use Rattle.sm_names.specs.Members.{births_in, member, members, some_strong_live}
-use Rattle.sm_names.specs.Reading.{readings}
-use Rattle.sm_names.specs.Sameness.{same_key}
-use Rattle.sm_names.specs.declared.keys.HeldBuffer.{HeldBuffer}
-use Rattle.sm_names.specs.Timelines.{after, collection_of, own_loss, key_of, buffer_of, opened_by, settled, placed}
-use Rattle.sm_names.specs.Words.{first_some}
-use Rattle.history_laws.proofs.BirthLaws.{HasEnd, birth_is, Comes, comes, ancestors_old}
-use Rattle.history_laws.proofs.GrowthLaws.{Grows, Answers, own_loss_origin, grows_lost}
-use Rattle.history_laws.proofs.IsolationLaws.{birth_of_collection, of_ours}
-use Rattle.history_laws.proofs.LifeLaws.{whole, In_old}
-use Rattle.sm_names.proofs.ListLaws.{In, In-filter, map-In, filter-In, filter-swap}
-use Rattle.history_laws.proofs.ReachLaws.{other_key}
-use Rattle.history_laws.proofs.RejectLaws.{not_refused_end}
-use Rattle.sm_names.proofs.SamenessLaws.{both_ways, false_if, none_or_some, same_key-true}
-use Rattle.history_laws.proofs.SettledLaws.{In-was_born, find_birth}
-use Rattle.history_laws.proofs.WholeLaws.{IsWhole}
-use Rattle.forest_store.specs.declared.node.End.{End}
-use Rattle.forest_store.specs.Nodes.{is_unkept}
-use Rattle.core_state.specs.declared.task.EndPlace.{EndPlace}
-use Rattle.core_state.specs.Shown.{node_after, nodes_after, held_after, collection_after}
-use Rattle.core_state.specs.Steps.{end_by}
+use Rattle.core_state.proofs.Common.{Answers, Birth, Bool, Bound, BufferName, Call, Called, Cause, Comes, End, EndPlace, Grows, HasEnd}
+use Rattle.core_state.proofs.Common.{HeldBuffer, In-filter, In-was_born, In_old, IsAnswer, IsWhole, Loss, Mark, NodeKey, None, Option}
+use Rattle.core_state.proofs.Common.{Reply, Some, Strength, Timeline, [], after, ancestors, ap, birth_at, birth_is, birth_of}
+use Rattle.core_state.proofs.Common.{birth_of_collection, births, births_in, both_ways, buffers_of, collection_after, collection_of}
+use Rattle.core_state.proofs.Common.{comes, cons_option, end_by, eq-eqb, eqb-true, events, false, false_if, filter, filter-In}
+use Rattle.core_state.proofs.Common.{filter-swap, find_birth, first_some, grows_lost, held_after, home, inl, inr, is_doomed, is_some}
+use Rattle.core_state.proofs.Common.{is_unkept, key_of, map, map-In, member, members, node_after, nodes_after, none_or_some, not}
+use Rattle.core_state.proofs.Common.{not_refused_end, of_ours, open_total, option_and_then, option_map_or, other_key, own_loss, placed}
+use Rattle.core_state.proofs.Common.{readings, refl, same_key, same_key-true, settled, some_strong_live, subst, sym, true, was_born}
+use Rattle.core_state.proofs.Common.{whole, ℕ, ◌&&◌, ◌+◌, ◌==◌, ◌∙◌, ◌∷◌, ◌≡◌}
+use Rattle.std.specs.Option.{option_map}
+use Rattle.sm_names.specs.Timelines.{buffer_of, opened_by}
+use Rattle.history_laws.proofs.BirthLaws.{ancestors_old}
+use Rattle.history_laws.proofs.GrowthLaws.{own_loss_origin}
+use Rattle.sm_names.proofs.ListLaws.{In}
 use Rattle.core_state.proofs.nodes.Answered.{nodes-answered, answered_other, said_other, no_birth}
 use Rattle.core_state.proofs.collections.MarksApart.{IsIn}
 use Rattle.core_state.proofs.nodes.Called.{answered, rest_called}

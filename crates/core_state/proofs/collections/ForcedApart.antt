@@ -1,17 +1,8 @@
 -- What a collection forces leaves the others as they were.
-use Rattle.std.proofs.Common.{ℕ, ◌≡◌, refl, ◌∙◌, false, ◌==◌, [], ◌∷◌, Some}
-use Rattle.std.specs.List.{filter}
-use Rattle.sm_names.specs.declared.keys.BufferName.{BufferName}
-use Rattle.sm_names.specs.Bounds.{Bound}
-use Rattle.sm_names.specs.Handles.{buffers_of, home}
-use Rattle.sm_names.specs.Marks.{Mark, Timeline}
-use Rattle.sm_names.specs.Timelines.{held, settled, Settles, Rests, Forces, next_forced}
-use Rattle.history_laws.proofs.GrowthLaws.{Grows, grows_forced}
-use Rattle.history_laws.proofs.IsolationLaws.{of_ours}
-use Rattle.history_laws.proofs.LifeLaws.{whole}
-use Rattle.history_laws.proofs.SettledLaws.{Why, No_live, Fails, Initial, Logical, forced_why, settled_rests}
-use Rattle.history_laws.proofs.WholeLaws.{IsWhole}
-use Rattle.core_state.specs.Shown.{nodes_after, held_after}
+use Rattle.core_state.proofs.Common.{Bound, BufferName, Fails, Grows, Initial, IsWhole, Logical, Mark, No_live, Some, Timeline, Why, []}
+use Rattle.core_state.proofs.Common.{buffers_of, false, filter, forced_why, grows_forced, held, held_after, home, next_forced}
+use Rattle.core_state.proofs.Common.{nodes_after, of_ours, refl, settled, settled_rests, whole, ℕ, ◌==◌, ◌∙◌, ◌∷◌, ◌≡◌}
+use Rattle.sm_names.specs.Timelines.{Settles, Rests, Forces}
 use Rattle.core_state.proofs.collections.MarksApart.{IsIn, is_beside, buffers_apart, nodes_apart, held_apart, home_apart, beside_apart}
 
 -- the other collections are as they were

@@ -1,21 +1,11 @@
 -- The ids of collections, the earliest first: they rise, and a new one comes last.
-use Rattle.std.proofs.Common.{ℕ, ◌≡◌, ◌≤◌, ◌+◌, refl, ap, sym, ◌∙◌, subst, Bool, inl, inr, List}
-use Rattle.std.proofs.Common.{[], ◌∷◌, ◌++◌, map, reverse, Option, Some, None, is_none, arith}
-use Rattle.std.proofs.lemmas.List.{reverse-append, map-append, append-nil}
-use Rattle.std.proofs.lemmas.List.Elements.{filter-append}
-use Rattle.std.specs.List.{filter, cons_option}
-use Rattle.sm_names.specs.declared.keys.NodeKey.{NodeKey}
-use Rattle.sm_names.specs.Births.{Birth, births, birth_at}
-use Rattle.sm_names.specs.Bounds.{Bound}
-use Rattle.sm_names.specs.Kept.{is_kept_collection}
-use Rattle.sm_names.specs.Marks.{Timeline, Called, events}
-use Rattle.history_laws.proofs.BirthLaws.{comes}
-use Rattle.history_laws.proofs.GrowthLaws.{Grows, Stays, Answers, Loses, Allocates, Ends}
-use Rattle.history_laws.proofs.LifeLaws.{ordered}
-use Rattle.sm_names.proofs.ListLaws.{In, In-filter, In-filter-back, In-map, In-map-back, In-reverse, In-reverse-back}
-use Rattle.sm_names.proofs.SamenessLaws.{none_if}
-use Rattle.history_laws.proofs.WholeLaws.{IsWhole}
-use Rattle.core_state.specs.Shown.{kept_ids}
+use Rattle.core_state.proofs.Common.{Allocates, Answers, Birth, Bool, Bound, Called, Ends, Grows, In-filter, In-filter-back, In-map}
+use Rattle.core_state.proofs.Common.{In-map-back, In-reverse, In-reverse-back, IsWhole, List, Loses, NodeKey, None, Option, Some, Stays}
+use Rattle.core_state.proofs.Common.{Timeline, [], ap, arith, birth_at, births, comes, cons_option, events, filter, filter-append, inl}
+use Rattle.core_state.proofs.Common.{inr, is_kept_collection, is_none, kept_ids, map, map-append, none_if, ordered, refl, reverse}
+use Rattle.core_state.proofs.Common.{reverse-append, subst, sym, ℕ, ◌++◌, ◌+◌, ◌∙◌, ◌∷◌, ◌≡◌, ◌≤◌}
+use Rattle.std.proofs.lemmas.List.{append-nil}
+use Rattle.sm_names.proofs.ListLaws.{In}
 use Rattle.core_state.proofs.collections.Replacing.{IsRising, rising-push, filter-map_asked}
 use Rattle.core_state.proofs.collections.Roots.{HasRoot, has_root}
 

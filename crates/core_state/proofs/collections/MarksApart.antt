@@ -1,26 +1,14 @@
 -- A mark at a node of one collection leaves the others as they stood.
-use Rattle.std.proofs.Common.{ℕ, ◌≡◌, refl, ap, sym, ◌∙◌, Bool, true, false, not, ◌&&◌, ◌==◌, inl, inr, List, ◌∷◌, ◌++◌, map, Some, is_some}
-use Rattle.std.proofs.lemmas.Bool.{eqb-true, not-true}
-use Rattle.std.proofs.lemmas.List.Elements.{filter-append}
-use Rattle.std.specs.List.{filter}
-use Rattle.sm_names.specs.declared.keys.BufferName.{BufferName}
-use Rattle.sm_names.specs.declared.keys.Interval.{Interval}
-use Rattle.sm_names.specs.declared.keys.Strength.{Strength}
-use Rattle.sm_names.specs.Births.{births, collection_in}
-use Rattle.sm_names.specs.Handles.{buffers_of, is_initial, is_doomed, open_total, home}
-use Rattle.sm_names.specs.Losses.{fault}
-use Rattle.sm_names.specs.Marks.{Mark, Timeline, Called, Loss, Allocated, Ended}
-use Rattle.sm_names.specs.Members.{member, members, births_in, some_strong_live}
-use Rattle.sm_names.specs.declared.keys.HeldBuffer.{HeldBuffer}
-use Rattle.sm_names.specs.Timelines.{held, placed, layout_at}
-use Rattle.history_laws.proofs.IsolationLaws.{fault_loss, of_ours, not_initial, members_loss, members_end}
-use Rattle.history_laws.proofs.IsolationLaws.{members_allocation, buffers_allocation, birth_of_collection}
+use Rattle.core_state.proofs.Common.{Allocated, Bool, BufferName, Called, Ended, HeldBuffer, In-filter, Interval, IsWhole, List, Loss}
+use Rattle.core_state.proofs.Common.{Mark, Some, Strength, Timeline, ap, birth_of_collection, births, births_in, both_ways, buffers_of}
+use Rattle.core_state.proofs.Common.{collection_in, either_way, eqb-true, false, fault, filter, filter-In, filter-append, filter-less}
+use Rattle.core_state.proofs.Common.{filter-none, filter-swap, held, held_after, home, inl, inr, is_doomed, is_initial, is_some}
+use Rattle.core_state.proofs.Common.{layout_at, map, map-In, member, members, node_after, nodes_after, not, not-true, of_ours, open_total}
+use Rattle.core_state.proofs.Common.{placed, refl, some_strong_live, sym, true, ℕ, ◌&&◌, ◌++◌, ◌==◌, ◌∙◌, ◌∷◌, ◌≡◌}
+use Rattle.history_laws.proofs.IsolationLaws.{fault_loss, not_initial, members_loss, members_end, members_allocation, buffers_allocation}
 use Rattle.history_laws.proofs.LayoutLaws.{layout_given}
-use Rattle.sm_names.proofs.ListLaws.{In, In-filter, map-In, map-at, filter-swap, filter-In, filter-none, filter-less}
-use Rattle.sm_names.proofs.SamenessLaws.{either_way, both_ways}
-use Rattle.history_laws.proofs.WholeLaws.{IsWhole}
+use Rattle.sm_names.proofs.ListLaws.{In, map-at}
 use Rattle.history_laws.proofs.SumLaws.{swap_eq}
-use Rattle.core_state.specs.Shown.{node_after, nodes_after, held_after}
 
 -- the mark is no event, and is at a node of the collection
 abbrev pub IsIn : Timeline → ℕ → Mark → Type 0

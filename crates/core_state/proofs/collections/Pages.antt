@@ -1,9 +1,6 @@
 -- The pages that the forest holds.
-use Rattle.std.proofs.Common.{ℕ, ◌≡◌, ◌+◌, refl, nat_lt, List, [], ◌∷◌, map, arith, inl, inr}
-use Rattle.std.proofs.lemmas.List.Sums.{sum_by-cons}
-use Rattle.std.specs.List.{sum_by}
-use Rattle.sm_names.specs.Words.{insert_by, sorted_by}
-use Rattle.sm_names.proofs.SamenessLaws.{either_way}
+use Rattle.core_state.proofs.Common.{List, [], arith, either_way, inl, inr, insert_by, map, nat_lt, refl, sorted_by, sum_by, sum_by-cons}
+use Rattle.core_state.proofs.Common.{ℕ, ◌+◌, ◌∷◌, ◌≡◌}
 
 -- a sum is the same with the element in its place
 sum-insert : {A : Type 0} (f number : A → ℕ) (x : A) (xs : List A) → sum_by f (insert_by number x xs) ≡ f x + sum_by f xs

@@ -1,12 +1,8 @@
 -- Collections by their ids: one is put in its place, and some are forgotten.
-use Rattle.std.proofs.Common.{ℕ, ◌≡◌, ◌<◌, refl, ap, sym, ◌∙◌, Bool, true, false, cond, ◌&&◌}
-use Rattle.std.proofs.Common.{◌||◌, ◌==◌, nat_lt, inl, inr, List, [], ◌∷◌, ◌++◌, map, arith}
-use Rattle.std.proofs.lemmas.Bool.{eq-eqb, lt-ltb, ltb-true}
-use Rattle.std.specs.List.{filter}
-use Rattle.sm_names.proofs.ListLaws.{In, In-append}
-use Rattle.sm_names.proofs.SamenessLaws.{either_way, false_if}
-use Rattle.forest_store.specs.Forest.{Collection}
-use Rattle.forest_store.specs.Settling.{put}
+use Rattle.core_state.proofs.Common.{Bool, Collection, In-append, List, [], ap, arith, cond, either_way, eq-eqb, false, false_if, filter}
+use Rattle.core_state.proofs.Common.{inl, inr, lt-ltb, ltb-true, map, nat_lt, put, refl, sym, true, ℕ, ◌&&◌, ◌++◌, ◌<◌, ◌==◌, ◌||◌, ◌∙◌}
+use Rattle.core_state.proofs.Common.{◌∷◌, ◌≡◌}
+use Rattle.sm_names.proofs.ListLaws.{In}
 use Rattle.forest_store.proofs.lists.StableSort.{other_number, other_greater}
 
 -- ---- numbers in order
@@ -46,11 +42,6 @@ filter-map_asked test f asked (x ∷ xs) =
       ]
       | inr e ↦ rw e (filter-map_asked test f asked xs)
     ]
-
--- maps that leave each element leave the list
-pub map-stays : {A : Type 0} (f : A → A) (xs : List A) → ((x : A) → In x xs → f x ≡ x) → map f xs ≡ xs
-map-stays f [] same = refl
-map-stays f (x ∷ xs) same = λ i. same x (inl refl) i ∷ map-stays f xs (λ y on. same y (inr on)) i
 
 -- maps of those that are asked for agree where what is asked and what is made do
 pub map-asked : {A B : Type 0} (f g : A → B) (p q : A → Bool) (xs : List A) → ((x : A) → In x xs → p x ≡ q x) →

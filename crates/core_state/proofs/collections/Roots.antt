@@ -1,26 +1,12 @@
 -- The collections that are kept, each of which has one root.
-use Rattle.std.proofs.Common.{ℕ, ◌≡◌, ◌+◌, refl, ap, sym, ◌∙◌, subst, Bool, true, false, not, ◌&&◌, ◌==◌}
-use Rattle.std.proofs.Common.{◌⊎◌, inl, inr, List, [], ◌∷◌, reverse, Option, Some, None, is_some, is_none}
-use Rattle.std.proofs.lemmas.Bool.{eqb-true, eq-eqb, not-true}
-use Rattle.std.specs.List.{find, list_any}
-use Rattle.std.specs.Option.{option_map_or}
-use Rattle.sm_names.specs.declared.keys.NodeKey.{NodeKey}
-use Rattle.sm_names.specs.declared.outcomes.Buffers.{Buffers}
-use Rattle.sm_names.specs.Births.{Birth, births, birth_at, birth_of, was_born, collection_in, AreSound, AreTogether}
-use Rattle.sm_names.specs.Bounds.{Bound}
-use Rattle.sm_names.specs.Handles.{buffers_of, is_initial, left}
-use Rattle.sm_names.specs.Kept.{is_kept, is_kept_collection}
-use Rattle.sm_names.specs.Marks.{Mark, Timeline, Called, Loss, Allocated, Ended, events}
-use Rattle.sm_names.specs.Sameness.{same_key}
-use Rattle.sm_names.specs.Words.{times}
-use Rattle.history_laws.proofs.BirthLaws.{birth_is}
-use Rattle.history_laws.proofs.GrowthLaws.{Grows}
-use Rattle.history_laws.proofs.LifeLaws.{IsOrdered, ordered, whole, In_old}
-use Rattle.sm_names.proofs.ListLaws.{In, In-find, In-list_any, times-map_filter, times-reverse, times-zero, In-any}
-use Rattle.sm_names.proofs.SamenessLaws.{either_way, both_ways, and_left, and_right, and_both, or_left, none_if, map-Some}
-use Rattle.history_laws.proofs.SettledLaws.{In-was_born}
-use Rattle.history_laws.proofs.SumLaws.{one}
-use Rattle.core_state.specs.Shown.{kept_ids}
+use Rattle.core_state.proofs.Common.{Allocated, AreSound, AreTogether, Birth, Bool, Bound, Buffers, Called, Ended, Grows, In-any, In-find}
+use Rattle.core_state.proofs.Common.{In-list_any, In-was_born, In_old, IsOrdered, List, Loss, Mark, NodeKey, None, Option, Some, Timeline}
+use Rattle.core_state.proofs.Common.{[], and_both, and_left, and_right, ap, birth_at, birth_is, birth_of, births, both_ways, buffers_of}
+use Rattle.core_state.proofs.Common.{collection_in, either_way, eq-eqb, eqb-true, events, false, find, inl, inr, is_initial, is_kept}
+use Rattle.core_state.proofs.Common.{is_kept_collection, is_none, is_some, kept_ids, left, list_any, map-Some, none_if, not, not-true}
+use Rattle.core_state.proofs.Common.{one, option_map_or, or_left, ordered, refl, reverse, same_key, subst, sym, times, true, was_born}
+use Rattle.core_state.proofs.Common.{whole, ℕ, ◌&&◌, ◌+◌, ◌==◌, ◌∙◌, ◌∷◌, ◌≡◌, ◌⊎◌}
+use Rattle.sm_names.proofs.ListLaws.{In, times-map_filter, times-reverse, times-zero}
 
 -- the collection of a kept node is kept
 pub collection_of_kept : (marks : Timeline) (b : Birth) → In b (births marks) → is_kept marks b.node ≡ true →

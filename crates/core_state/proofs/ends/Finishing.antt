@@ -1,42 +1,29 @@
 -- An end gets a new holder and the nodes that are over are forgotten: the marks keep just the remaining nodes.
-use Rattle.std.proofs.Common.{ℕ, ◌≡◌, refl, ap, sym, ◌∙◌, Bool, true, false, not, ◌&&◌, ◌||◌, ◌==◌}
-use Rattle.std.proofs.Common.{◌⊎◌, inl, inr, List, [], ◌∷◌, map, length, Option, Some, None, arith}
-use Rattle.std.proofs.lemmas.Bool.{eqb-true}
-use Rattle.std.specs.List.{filter}
-use Rattle.sm_names.specs.declared.keys.NodeKey.{NodeKey}
-use Rattle.sm_names.specs.Births.{births}
-use Rattle.sm_names.specs.declared.keys.Interval.{Interval}
-use Rattle.sm_names.specs.Bounds.{Bound}
-use Rattle.sm_names.specs.Kept.{is_kept, is_kept_collection}
-use Rattle.sm_names.specs.Ends.{spends, spent}
-use Rattle.sm_names.specs.Losses.{gone}
-use Rattle.sm_names.specs.Marks.{Mark, Timeline, Called, Loss, Allocated, Ended}
-use Rattle.sm_names.specs.Members.{births_in}
-use Rattle.history_laws.proofs.GoneLaws.{gone_stays}
-use Rattle.history_laws.proofs.GrowthLaws.{Grows, Stays, Answers, Loses, Allocates, Ends}
-use Rattle.sm_names.proofs.ListLaws.{In, In-map, filter-In, map-map}
-use Rattle.sm_names.proofs.SamenessLaws.{and_left, and_right, either_way, or_right}
-use Rattle.forest_store.specs.declared.node.Node.{Node}
-use Rattle.forest_store.specs.Forest.{Collection, Forest, with_nodes, is_left}
-use Rattle.forest_store.specs.Nodes.{is_unkept}
-use Rattle.core_state.specs.declared.task.EndPlace.{EndPlace}
-use Rattle.core_state.specs.Shown.{node_after, nodes_after, held_after, collection_after, kept_ids}
-use Rattle.core_state.specs.Steps.{place_of, with_place, without_unkept}
+use Rattle.core_state.proofs.Common.{Allocated, Allocates, Answers, Bool, Bound, Called, Collection, EndPlace, Ended, Ends, Forest, Grows}
+use Rattle.core_state.proofs.Common.{In-map, Interval, List, Loses, Loss, Mark, Node, NodeKey, None, Option, Some, Stays, Timeline, []}
+use Rattle.core_state.proofs.Common.{and_left, and_right, ap, arith, births, births_in, collection_after, either_way, eqb-true, false}
+use Rattle.core_state.proofs.Common.{filter, filter-In, gone, gone_stays, held_after, inl, inr, is_kept, is_kept_collection, is_unkept}
+use Rattle.core_state.proofs.Common.{kept_ids, length, map, map-map, node_after, nodes_after, not, or_right, place_of, refl, spent, sym}
+use Rattle.core_state.proofs.Common.{true, with_nodes, with_place, without_unkept, ℕ, ◌&&◌, ◌==◌, ◌||◌, ◌∙◌, ◌∷◌, ◌≡◌, ◌⊎◌}
+use Rattle.sm_names.specs.Ends.{spends}
+use Rattle.sm_names.proofs.ListLaws.{In}
+use Rattle.forest_store.specs.Forest.{is_left}
 use Rattle.core_state.proofs.ends.NotRead.{placed_node, placed_in}
 use Rattle.core_state.proofs.collections.Ids.{ids, kept_are}
 use Rattle.core_state.proofs.ends.Forgotten.{left_after}
 use Rattle.core_state.proofs.lists.Maps.{filter-filter}
 use Rattle.core_state.proofs.theorem.Follows.{Matches}
 use Rattle.core_state.proofs.views.Nodes.{not_unkept}
-use Rattle.core_state.proofs.collections.Replacing.{filter-map_asked, map-asked, map-stays}
+use Rattle.core_state.proofs.collections.Replacing.{filter-map_asked, map-asked}
+use Rattle.forest_store.proofs.lists.Elements.{map-same}
 
 -- ---- an end elsewhere
 
 -- the collections with that end there
 pub placed_collections : (o : Option EndPlace) (f : Forest) → (with_place o f).collections ≡ map (placed_in (place_of o)) f.collections
 placed_collections None f =
-    sym (map-stays (placed_in (place_of None)) f.collections (λ c on i.
-    record c { nodes = map-stays (placed_node (place_of None)) c.nodes (λ n there. refl) i }))
+    sym (map-same (placed_in (place_of None)) f.collections (λ c on i.
+    record c { nodes = map-same (placed_node (place_of None)) c.nodes (λ n there. refl) i }))
 placed_collections (Some place) f = refl
 
 -- ---- what is left

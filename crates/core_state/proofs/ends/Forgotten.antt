@@ -1,35 +1,18 @@
 -- A collection is forgotten exactly where nothing of it is left.
-use Rattle.std.proofs.Common.{ℕ, suc, arith, ◌≡◌, ◌<◌, refl, ap, sym, ◌∙◌, subst, Bool, true}
-use Rattle.std.proofs.Common.{false, cond, not, ◌&&◌, ◌||◌, ◌==◌, List, [], ◌∷◌, length}
-use Rattle.std.proofs.lemmas.Bool.{eqb-true}
-use Rattle.std.specs.List.{list_any, filter}
-use Rattle.sm_names.specs.declared.keys.BufferName.{BufferName}
-use Rattle.sm_names.specs.declared.keys.Strength.{Strength}
-use Rattle.sm_names.specs.declared.keys.Strength.TheVariants.{Strong, Weak}
-use Rattle.sm_names.specs.Births.{Birth, births}
-use Rattle.sm_names.specs.Bounds.{Bound}
-use Rattle.sm_names.specs.Handles.{doomed, home, left, buffer_names, open_total}
-use Rattle.sm_names.specs.Kept.{is_kept, is_kept_collection}
-use Rattle.sm_names.specs.Marks.{Timeline}
-use Rattle.sm_names.specs.Members.{births_in}
-use Rattle.sm_names.specs.Sameness.{same_buffer}
-use Rattle.sm_names.specs.declared.keys.HeldBuffer.{HeldBuffer}
-use Rattle.sm_names.specs.Timelines.{held}
+use Rattle.core_state.proofs.Common.{Birth, Bool, Bound, BufferName, Grows, HeldBuffer, In-any, In-list_any, In-map, In-map-back, List}
+use Rattle.core_state.proofs.Common.{Node, Strength, Strong, Timeline, Weak, [], and_both, and_left, and_right, ap, arith}
+use Rattle.core_state.proofs.Common.{birth_of_collection, births, births_in, both_tests, collection_after, cond, doomed, eqb-true, false}
+use Rattle.core_state.proofs.Common.{false_if, filter, held, held_after, home, is_kept, is_kept_collection, is_unkept, left, length}
+use Rattle.core_state.proofs.Common.{list_any, node_after, nodes_after, not, open_total, refl, same_buffer, same_buffer-true, stands_held}
+use Rattle.core_state.proofs.Common.{subst, suc, sym, true, ℕ, ◌&&◌, ◌<◌, ◌==◌, ◌||◌, ◌∙◌, ◌∷◌, ◌≡◌}
+use Rattle.sm_names.specs.Handles.{buffer_names}
 use Rattle.history_laws.proofs.DoomLaws.{doomed_parts}
-use Rattle.history_laws.proofs.GrowthLaws.{Grows}
-use Rattle.sm_names.proofs.SamenessLaws.{same_buffer-true, and_left, and_right, and_both, false_if, both_tests}
-use Rattle.history_laws.proofs.HeldLaws.{stands_held}
-use Rattle.history_laws.proofs.IsolationLaws.{birth_of_collection}
-use Rattle.sm_names.proofs.ListLaws.{In-list_any, In-map, In-map-back, In-any}
 use Rattle.event_laws.proofs.HandleBufferLaws.{open_named}
-use Rattle.forest_store.specs.declared.node.Node.{Node}
 use Rattle.forest_store.specs.Forest.{is_left}
-use Rattle.forest_store.specs.Nodes.{is_unkept}
 use Rattle.core_state.proofs.handles.HeldNames.{held_left}
 use Rattle.core_state.proofs.nodes.Members.{in_order}
 use Rattle.core_state.proofs.views.Nodes.{not_unkept}
 use Rattle.core_state.proofs.views.Held.{held_kept}
-use Rattle.core_state.specs.Shown.{node_after, nodes_after, held_after, collection_after}
 
 -- ---- lists
 

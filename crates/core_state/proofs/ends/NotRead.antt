@@ -1,27 +1,12 @@
 -- The forced steps read nothing of ends: they are the same, and come to the same, wherever the ends are.
-use Rattle.std.proofs.Common.{ℕ, ◌≡◌, refl, ap, sym, ◌∙◌, subst, Bool, true, false, cond, not, ◌||◌}
-use Rattle.std.proofs.Common.{◌&&◌, ◌++◌, List, [], ◌∷◌, map, reverse, Option, Some, None, is_none}
-use Rattle.std.specs.List.{filter}
-use Rattle.std.specs.Option.{option_map, option_map_or}
-use Rattle.sm_names.specs.declared.keys.Interval.{Interval}
-use Rattle.sm_names.specs.declared.keys.NodeKey.{NodeKey}
-use Rattle.sm_names.specs.declared.keys.Strength.{Strength}
-use Rattle.sm_names.specs.declared.outcomes.Fault.{Fault}
-use Rattle.sm_names.specs.Changes.{highest}
-use Rattle.sm_names.specs.Forced.{forced}
-use Rattle.sm_names.specs.Marks.{Mark, Called, Loss, Allocated, Ended}
-use Rattle.sm_names.specs.Handles.{is_home}
-use Rattle.sm_names.specs.Members.{Member, asked, is_under, some_strong_live}
-use Rattle.sm_names.specs.Sameness.{same_key}
-use Rattle.sm_names.specs.declared.keys.HeldBuffer.{HeldBuffer}
-use Rattle.sm_names.specs.Timelines.{layout}
-use Rattle.sm_names.proofs.ListLaws.{map-map}
-use Rattle.forest_store.specs.declared.node.End.{End}
-use Rattle.forest_store.specs.declared.node.Node.{Node}
-use Rattle.forest_store.specs.Forest.{Collection, pages_in, with_nodes}
-use Rattle.forest_store.specs.Nodes.{above_among, member_of, members_of, node_of, is_of, is_taken, lost}
-use Rattle.forest_store.specs.Nodes.{after_loss, given_buffers, after_allocation, ended, after_end}
-use Rattle.forest_store.specs.Settling.{Handles, Settles, Rests, Forces, made, standing, is_root_of, given_back}
+use Rattle.core_state.proofs.Common.{Allocated, Bool, Called, Collection, End, Ended, Fault, Handles, HeldBuffer, Interval, List, Loss}
+use Rattle.core_state.proofs.Common.{Mark, Member, Node, NodeKey, None, Option, Some, Strength, [], above_among, after_allocation}
+use Rattle.core_state.proofs.Common.{after_end, after_loss, ap, asked, cond, ended, false, filter, forced, given_back, given_buffers}
+use Rattle.core_state.proofs.Common.{highest, is_home, is_none, is_of, is_root_of, is_taken, is_under, layout, lost, map, map-map}
+use Rattle.core_state.proofs.Common.{member_of, members_of, node_of, not, option_map_or, pages_in, refl, reverse, same_key}
+use Rattle.core_state.proofs.Common.{some_strong_live, subst, sym, true, with_nodes, ℕ, ◌&&◌, ◌++◌, ◌||◌, ◌∙◌, ◌∷◌, ◌≡◌}
+use Rattle.std.specs.Option.{option_map}
+use Rattle.forest_store.specs.Settling.{Settles, Rests, Forces, made, standing}
 use Rattle.core_state.proofs.lists.Maps.{filter-map, find-map, map-reverse}
 
 module _ (place : NodeKey → End → End) where

@@ -1,22 +1,13 @@
 -- An end is spent, and the nodes that are over are forgotten.
-use Rattle.std.proofs.Common.{ℕ, ◌≡◌, refl, ap, sym, ◌∙◌, subst, Bool, true, false, ◌==◌, ◌&&◌, not}
-use Rattle.std.proofs.Common.{if◌then◌else◌, List, [], ◌∷◌, ◌++◌, length, map, Option, Some, None, arith}
-use Rattle.std.proofs.lemmas.Bool.{eqb-true}
-use Rattle.std.specs.List.{flat_map}
-use Rattle.sm_names.specs.declared.keys.NodeKey.{NodeKey}
-use Rattle.sm_names.specs.Sameness.{same_key}
-use Rattle.sm_names.specs.declared.keys.HeldBuffer.{HeldBuffer}
-use Rattle.sm_names.proofs.ListLaws.{In, In-map}
-use Rattle.sm_names.proofs.SamenessLaws.{and_right, false_if, same_key-true}
-use Rattle.forest_store.specs.declared.node.End.{End}
-use Rattle.forest_store.specs.declared.node.Node.{Node}
-use Rattle.forest_store.specs.Forest.{Collection, Forest, SameKeys, all_held, is_left, tidied, with_nodes, without_unkept_in}
-use Rattle.forest_store.specs.Nodes.{with_end}
-use Rattle.core_state.specs.Steps.{with_place, without_unkept}
-use Rattle.core_state.specs.Tasks.{spent_place}
-use Rattle.core_state.specs.Whole.{IsAmid, IsTidy, Rise}
+use Rattle.core_state.proofs.Common.{Bool, Collection, End, Forest, HeldBuffer, In-map, IsAmid, IsTidy, List, Node, NodeKey, None, Option}
+use Rattle.core_state.proofs.Common.{Rise, SameKeys, Some, [], all_held, and_right, ap, arith, eqb-true, false, false_if, flat_map}
+use Rattle.core_state.proofs.Common.{if◌then◌else◌, length, map, not, refl, same_key, same_key-true, spent_place, subst, sym, tidied}
+use Rattle.core_state.proofs.Common.{true, with_end, with_nodes, with_place, without_unkept, without_unkept_in, ℕ, ◌&&◌, ◌++◌, ◌==◌, ◌∙◌}
+use Rattle.core_state.proofs.Common.{◌∷◌, ◌≡◌}
+use Rattle.sm_names.proofs.ListLaws.{In}
+use Rattle.forest_store.specs.Forest.{is_left}
 use Rattle.core_state.proofs.collections.ById.{ids, others_tidy}
-use Rattle.core_state.proofs.collections.Replacing.{map-stays}
+use Rattle.forest_store.proofs.lists.Elements.{map-same}
 
 -- the collection once the end is spent
 abbrev spent_in_one : Option NodeKey → Collection → Collection
@@ -26,7 +17,7 @@ spent_in_one (Some key) c = with_nodes (map (with_end key End.Spent)) c
 -- each collection, once the end is spent
 spent_is : (leaving : Option NodeKey) (f : Forest) →
     (with_place (spent_place leaving) f).collections ≡ map (spent_in_one leaving) f.collections
-spent_is None f = sym (map-stays (λ c. c) f.collections (λ c on. refl))
+spent_is None f = sym (map-same (λ c. c) f.collections (λ c on. refl))
 spent_is (Some key) f = refl
 
 -- spending keeps the ids
@@ -79,7 +70,7 @@ module _ (f : Forest) (id : ℕ) (leaving : Option NodeKey) (amid : IsAmid f id 
   -- another collection stays as it is
   untouched : (o : Option NodeKey) → leaving ≡ o → (c : Collection) → In c f.collections → (c.id == id) ≡ false → spent_in_one o c ≡ c
   untouched None is c on apart = refl
-  untouched (Some key) is c on apart = λ i. record c { nodes = map-stays (with_end key End.Spent) c.nodes others i }
+  untouched (Some key) is c on apart = λ i. record c { nodes = map-same (with_end key End.Spent) c.nodes others i }
     where
       -- a node of another collection has another key than the spent one, so its end stays
       others : (n : Node) → In n c.nodes → with_end key End.Spent n ≡ n

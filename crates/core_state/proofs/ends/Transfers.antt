@@ -1,20 +1,10 @@
 -- An end is moved to another client or to a parcel.
-use Rattle.std.proofs.Common.{◌≡◌, refl, ap, sym, subst, Bool, true, false, ◌&&◌, not}
-use Rattle.std.proofs.Common.{if◌then◌else◌, List, [], ◌∷◌, ◌++◌, map, Option, Some, None}
-use Rattle.std.proofs.lemmas.List.{length-map}
-use Rattle.std.specs.List.{filter, flat_map}
-use Rattle.std.proofs.lemmas.Bool.{not-true}
-use Rattle.sm_names.specs.declared.keys.NodeKey.{NodeKey}
-use Rattle.sm_names.specs.Sameness.{same_key}
-use Rattle.sm_names.specs.declared.keys.HeldBuffer.{HeldBuffer}
-use Rattle.sm_names.proofs.ListLaws.{In, In-filter, In-map, filter-all}
-use Rattle.forest_store.specs.declared.node.End.{End}
-use Rattle.forest_store.specs.declared.node.Node.{Node}
-use Rattle.forest_store.specs.Forest.{Collection, Forest, SameKeys, all_held, node_at, with_nodes}
-use Rattle.forest_store.specs.Nodes.{is_unkept, is_spent, with_end}
-use Rattle.core_state.specs.declared.task.EndPlace.{EndPlace}
-use Rattle.core_state.specs.Steps.{with_place, without_unkept}
-use Rattle.core_state.specs.Whole.{CanCarry, IsSound, IsTidy}
+use Rattle.core_state.proofs.Common.{Bool, CanCarry, Collection, End, EndPlace, Forest, HeldBuffer, In-filter, In-map, IsTidy, List, Node}
+use Rattle.core_state.proofs.Common.{NodeKey, None, Option, SameKeys, Some, [], all_held, ap, false, filter, filter-all, flat_map}
+use Rattle.core_state.proofs.Common.{if◌then◌else◌, is_spent, is_unkept, length-map, map, node_at, not, not-true, refl, same_key, subst}
+use Rattle.core_state.proofs.Common.{sym, true, with_end, with_nodes, with_place, without_unkept, ◌&&◌, ◌++◌, ◌∷◌, ◌≡◌}
+use Rattle.sm_names.proofs.ListLaws.{In}
+use Rattle.core_state.specs.Whole.{IsSound}
 use Rattle.core_state.proofs.collections.ById.{all_tidy}
 
 module _ (key : NodeKey) (end : End) (unspent : is_spent end ≡ false) where

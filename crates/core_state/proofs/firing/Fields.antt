@@ -1,29 +1,12 @@
 -- What an event keeps of the trackers.
-use Rattle.std.proofs.Common.{ℕ, ◌≡◌, ◌<◌, ◌≤◌, ◌+◌, refl, ap, sym, ◌∙◌, subst, Bool, true, false, nat_le}
-use Rattle.std.proofs.Common.{if◌then◌else◌, length, ◌⊎◌, inl, inr, [], ◌∷◌, Option, Some, None, is_some, IfSome, arith}
-use Rattle.std.proofs.lemmas.Bool.{leb-false, false≢true}
+use Rattle.core_state.proofs.Common.{Bool, Bound, Call, Cell, Condition, GainsTracker, IfSome, In-all, In-append, Node, None, Option}
+use Rattle.core_state.proofs.Common.{Refusal, Reply, Some, State, TrackerTable, Waiting, World, [], all-In, answer, ap, arith, closing}
+use Rattle.core_state.proofs.Common.{effect, false, false≢true, holds, if◌then◌else◌, inl, inr, is_due, is_some, leb-false, length}
+use Rattle.core_state.proofs.Common.{looked_in, makes_tracker, map-Some, nat_le, no_key, node_at, readings_of, refl, subst, sym}
+use Rattle.core_state.proofs.Common.{took_effect_all, tracker_by, true, ℕ, ◌+◌, ◌<◌, ◌∙◌, ◌∷◌, ◌≡◌, ◌≤◌, ◌⊎◌}
 use Rattle.std.specs.List.{All}
-use Rattle.sm_names.specs.declared.messages.Call.{Call}
-use Rattle.sm_names.specs.declared.messages.Reply.{Reply}
-use Rattle.sm_names.specs.declared.outcomes.Refusal.{Refusal}
-use Rattle.sm_names.specs.declared.tracking.Condition.{Condition}
-use Rattle.sm_names.specs.Answers.{answer, closing, effect, makes_tracker}
-use Rattle.sm_names.specs.Bounds.{Bound}
-use Rattle.sm_names.specs.Trackers.{World, holds}
-use Rattle.history_laws.proofs.AnswerLaws.{took_effect_all}
-use Rattle.sm_names.proofs.SamenessLaws.{map-Some}
-use Rattle.sm_names.proofs.ListLaws.{In, In-append}
-use Rattle.event_laws.proofs.NumberLaws.{all-In, In-all}
+use Rattle.sm_names.proofs.ListLaws.{In}
 use Rattle.event_laws.proofs.FreeEndLaws.{passed}
-use Rattle.trackers.specs.declared.waiting.Waiting.{Waiting}
-use Rattle.trackers.specs.Table.{Cell, TrackerTable, is_due}
-use Rattle.forest_store.specs.declared.node.Node.{Node}
-use Rattle.forest_store.specs.Forest.{node_at}
-use Rattle.forest_store.specs.Settling.{no_key}
-use Rattle.core_state.specs.Reads.{readings_of}
-use Rattle.core_state.specs.State.{State}
-use Rattle.core_state.specs.Steps.{GainsTracker, tracker_by}
-use Rattle.core_state.specs.Tasks.{looked_in}
 
 -- ---- the tracker that is attached
 

@@ -1,39 +1,22 @@
 -- The trackers of the next state are those of the marks.
-use Rattle.std.proofs.Common.{ℕ, ◌≡◌, ◌+◌, refl, ap, sym, ◌∙◌, subst, true, false, not, ◌||◌}
-use Rattle.std.proofs.Common.{◌==◌, inl, inr, List, [], ◌∷◌, ◌++◌, map, Option, Some, None}
-use Rattle.std.proofs.lemmas.List.{append-nil, map-append}
-use Rattle.std.proofs.lemmas.List.Folds.{list_any-append}
-use Rattle.std.specs.List.{list_any, filter, cons_option}
+use Rattle.core_state.proofs.Common.{Bound, Call, Called, Entry, Fired, Follows, GainsTracker, Grows, IsAfter, IsAnswer, IsRecalled, List}
+use Rattle.core_state.proofs.Common.{NodeKey, None, Option, Reply, Some, State, Stays, Timeline, TrackerTable, Waiting, World, [], after}
+use Rattle.core_state.proofs.Common.{ap, cons_option, events, events_after, false, filter, filter-In, grows_after, inl, inr, is_kept}
+use Rattle.core_state.proofs.Common.{list_any, list_any-append, map, map-append, map-map, node_after, node_at, none_key, not, or_cases}
+use Rattle.core_state.proofs.Common.{or_left, or_right, readings, recalled_due, refl, subst, swept, sym, took_effect_all, total}
+use Rattle.core_state.proofs.Common.{tracked_as, tracker_by, trackers_to_test, true, unfired_trackers, world, world_in, ℕ, ◌++◌, ◌+◌}
+use Rattle.core_state.proofs.Common.{◌==◌, ◌||◌, ◌∙◌, ◌∷◌, ◌≡◌}
+use Rattle.std.proofs.lemmas.List.{append-nil}
 use Rattle.std.specs.Option.{option_map}
-use Rattle.sm_names.specs.declared.messages.Call.{Call}
-use Rattle.sm_names.specs.declared.messages.Reply.{Reply}
-use Rattle.sm_names.specs.declared.keys.NodeKey.{NodeKey}
-use Rattle.sm_names.specs.declared.tracking.Fired.{Fired}
-use Rattle.sm_names.specs.Answers.{IsAnswer}
-use Rattle.sm_names.specs.Bounds.{Bound}
-use Rattle.sm_names.specs.Kept.{is_kept}
-use Rattle.sm_names.specs.Marks.{Entry, Timeline, Called, events}
-use Rattle.sm_names.specs.Reading.{readings}
-use Rattle.sm_names.specs.Timelines.{after}
-use Rattle.sm_names.specs.Trackers.{Tracked, World, fired, tracked, tracked_at, world}
-use Rattle.history_laws.proofs.AnswerLaws.{took_effect_all}
+use Rattle.sm_names.specs.Trackers.{Tracked, fired, tracked, tracked_at}
 use Rattle.history_laws.proofs.BirthLaws.{Named, named}
-use Rattle.history_laws.proofs.GrowthLaws.{Grows, Stays, grows_after}
-use Rattle.sm_names.proofs.ListLaws.{In, filter-In, map-map}
-use Rattle.sm_names.proofs.SamenessLaws.{or_cases, or_first, or_left, or_right}
-use Rattle.history_laws.proofs.TakeLaws.{none_key}
-use Rattle.event_laws.specs.Waiting.{IsRecalled, trackers_to_test, tracked_firing, is_tracked_met, unfired_trackers}
-use Rattle.event_laws.proofs.MomentLaws.{events_after, tracked_after}
-use Rattle.event_laws.proofs.RecallLaws.{recalled_due}
+use Rattle.sm_names.proofs.ListLaws.{In}
+use Rattle.sm_names.proofs.SamenessLaws.{or_first}
+use Rattle.event_laws.specs.Waiting.{tracked_firing, is_tracked_met}
+use Rattle.event_laws.proofs.MomentLaws.{tracked_after}
 use Rattle.event_laws.proofs.WaitingLaws.{fired_next, waiting_next}
-use Rattle.buffer_holds.specs.Counts.{total}
-use Rattle.trackers.specs.declared.waiting.Waiting.{Waiting}
-use Rattle.trackers.specs.Table.{TrackerTable, firing as firing_in, is_due as is_due_in, is_untaken}
-use Rattle.forest_store.specs.Forest.{node_at}
-use Rattle.core_state.specs.Reads.{world_in}
-use Rattle.core_state.specs.Shown.{AreTrackers, IsAfter, node_after, tracked_as}
-use Rattle.core_state.specs.State.{State}
-use Rattle.core_state.specs.Steps.{Follows, GainsTracker, swept, tracker_by}
+use Rattle.trackers.specs.Table.{firing as firing_in, is_due as is_due_in, is_untaken}
+use Rattle.core_state.specs.Shown.{AreTrackers}
 use Rattle.core_state.proofs.lists.Maps.{filter-map}
 use Rattle.core_state.proofs.views.Nodes.{node_kept}
 use Rattle.core_state.proofs.views.ForTrackers.{IsSeen, recalled}

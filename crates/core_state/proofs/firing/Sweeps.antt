@@ -1,11 +1,9 @@
 -- A sweep where no tracker is due.
-use Rattle.std.proofs.Common.{ℕ, ◌≡◌, ap, ◌∙◌, false, not, List, ◌++◌, map}
+use Rattle.core_state.proofs.Common.{List, TrackerTable, Waiting, World, ap, false, filter-all, filter-none, firings, is_due, map, not}
+use Rattle.core_state.proofs.Common.{swept, ℕ, ◌++◌, ◌∙◌, ◌≡◌}
 use Rattle.std.proofs.lemmas.List.{append-nil}
-use Rattle.sm_names.specs.Trackers.{World}
-use Rattle.sm_names.proofs.ListLaws.{In, filter-none, filter-all}
-use Rattle.trackers.specs.declared.waiting.Waiting.{Waiting}
-use Rattle.trackers.specs.Table.{TrackerTable, firing, firings, is_due, still_waiting}
-use Rattle.core_state.specs.Steps.{swept}
+use Rattle.sm_names.proofs.ListLaws.{In}
+use Rattle.trackers.specs.Table.{firing, still_waiting}
 
 -- where none is due, a sweep leaves the trackers
 pub none_swept : (w : World) (event : ℕ) (t : TrackerTable) → ((x : Waiting) → In x t.unfired → is_due w x ≡ false) → swept w event t ≡ t

@@ -1,41 +1,18 @@
 -- How an event begins in the collection that it changes.
-use Rattle.std.proofs.Common.{ℕ, ◌≡◌, ◌<◌, ◌+◌, refl, ap, sym, ◌∙◌, subst, Bool, true, false, not}
-use Rattle.std.proofs.Common.{◌++◌, inl, inr, ◌⊎◌, List, [], ◌∷◌, map, Option, Some, None, arith}
-use Rattle.std.specs.List.{cons_option}
-use Rattle.std.specs.Option.{option_map_or, unwrap_or}
-use Rattle.sm_names.specs.declared.keys.NodeKey.{NodeKey}
-use Rattle.sm_names.specs.declared.messages.Call.{Call}
-use Rattle.sm_names.specs.declared.messages.Reply.{Reply}
-use Rattle.sm_names.specs.declared.outcomes.Cause.{Cause}
-use Rattle.sm_names.specs.Answers.{IsAnswer, new_key}
-use Rattle.sm_names.specs.Births.{Birth, births, birth_at}
-use Rattle.sm_names.specs.Bounds.{Bound}
-use Rattle.sm_names.specs.Ends.{spent}
-use Rattle.sm_names.specs.Kept.{is_kept, is_kept_collection}
-use Rattle.sm_names.specs.Losses.{fault, gone}
-use Rattle.sm_names.specs.Marks.{Mark, Timeline, Called, Loss, events}
-use Rattle.sm_names.specs.Reading.{readings}
-use Rattle.sm_names.specs.Timelines.{collection_of, own_loss}
-use Rattle.history_laws.proofs.BirthLaws.{birth_is, Comes}
-use Rattle.history_laws.proofs.GrowthLaws.{Grows, Answers}
-use Rattle.history_laws.proofs.LifeLaws.{In_old, whole}
-use Rattle.sm_names.proofs.ListLaws.{In, map-map}
-use Rattle.sm_names.proofs.SamenessLaws.{or_right, map-Some}
-use Rattle.forest_store.specs.declared.change.Change.{Change}
-use Rattle.forest_store.specs.declared.change.Effect.{Effect}
-use Rattle.forest_store.specs.declared.node.Node.{Node}
-use Rattle.forest_store.specs.Forest.{Collection, beside, node_at, with_nodes}
-use Rattle.forest_store.specs.Nodes.{affected, after_effect, after_loss, node_of, new_root, new_child}
-use Rattle.forest_store.specs.Settling.{changed, collection_or_new, no_key}
-use Rattle.core_state.specs.declared.task.EndPlace.{EndPlace}
-use Rattle.core_state.specs.Shown.{IsAfter, node_after, collection_after}
-use Rattle.core_state.specs.State.{State}
-use Rattle.core_state.specs.Steps.{Work, at_node, end_by, place_of}
+use Rattle.core_state.proofs.Common.{Answers, Birth, Bool, Bound, Call, Called, Cause, Change, Collection, Comes, Effect, EndPlace, Grows}
+use Rattle.core_state.proofs.Common.{In_old, IsAfter, IsAnswer, List, Loss, Mark, Node, NodeKey, None, Option, Reply, Some, State}
+use Rattle.core_state.proofs.Common.{Timeline, Work, [], affected, after_loss, ap, arith, at_node, beside, birth_at, birth_is, births}
+use Rattle.core_state.proofs.Common.{changed, collection_after, collection_of, collection_or_new, cons_option, end_by, events, false}
+use Rattle.core_state.proofs.Common.{fault, gone, inl, inr, is_kept, is_kept_collection, map, map-Some, map-map, new_child, new_key}
+use Rattle.core_state.proofs.Common.{new_root, no_key, node_after, node_at, node_of, not, option_map_or, or_right, own_loss, place_of}
+use Rattle.core_state.proofs.Common.{readings, refl, spent, subst, sym, true, unwrap_or, whole, with_nodes, ℕ, ◌++◌, ◌+◌, ◌<◌, ◌∙◌, ◌∷◌}
+use Rattle.core_state.proofs.Common.{◌≡◌, ◌⊎◌}
+use Rattle.sm_names.proofs.ListLaws.{In}
+use Rattle.forest_store.specs.Nodes.{after_effect}
 use Rattle.core_state.proofs.nodes.Called.{said}
 use Rattle.core_state.proofs.forced.CallStep.{matches_called, kept_answered, kept_born, homes_elsewhere, follows_placed}
 use Rattle.core_state.proofs.collections.Elsewhere.{came, born_in}
 use Rattle.core_state.proofs.ends.NotRead.{placed_node, placed_in, lost_placed}
-use Rattle.core_state.proofs.collections.Replacing.{map-stays}
 use Rattle.core_state.proofs.theorem.Follows.{Matches}
 use Rattle.core_state.proofs.nodes.Members.{node_found}
 use Rattle.core_state.proofs.nodes.Newborn.{new_root_is, child_stands, attached_stands}
@@ -44,10 +21,11 @@ use Rattle.core_state.proofs.collections.Roots.{collection_of_kept}
 use Rattle.core_state.proofs.forced.Starting.{follows, there_or_new, new_or_there}
 use Rattle.core_state.proofs.forced.ForcedStep.{loss_matches}
 use Rattle.core_state.proofs.forced.Work.{Starts}
+use Rattle.forest_store.proofs.lists.Elements.{map-same}
 
 -- where no end is put elsewhere, all nodes stay
 none_moved : (o : Option EndPlace) → o ≡ None → (ns : List Node) → map (placed_node (place_of o)) ns ≡ ns
-none_moved None e ns = map-stays (placed_node (place_of None)) ns (λ n on. refl)
+none_moved None e ns = map-same (placed_node (place_of None)) ns (λ n on. refl)
 none_moved (Some place) e ns = cc
 
 module _ (s : State) (marks : Timeline) (shown : IsAfter s marks) (limits : Bound) (grown : Grows s.pool limits [] marks) where

@@ -1,34 +1,12 @@
 -- A collection of a state follows the mark of an event, once the event took effect on it.
-use Rattle.std.proofs.Common.{ℕ, ◌≡◌, ◌+◌, refl, ap, sym, ◌∙◌, Bool, true, false, not, ◌&&◌, ◌==◌}
-use Rattle.std.proofs.Common.{◌++◌, inl, inr, List, [], ◌∷◌, map, Option, Some, None, is_some}
-use Rattle.std.proofs.lemmas.Bool.{eq-eqb}
-use Rattle.std.proofs.lemmas.List.Elements.{filter-append}
-use Rattle.std.specs.List.{cons_option, filter, list_any}
-use Rattle.sm_names.specs.declared.keys.BufferName.{BufferName}
-use Rattle.sm_names.specs.declared.keys.NodeKey.{NodeKey}
-use Rattle.sm_names.specs.declared.keys.Strength.{Strength}
-use Rattle.sm_names.specs.declared.messages.Call.{Call}
-use Rattle.sm_names.specs.declared.messages.Reply.{Reply}
-use Rattle.sm_names.specs.Answers.{IsAnswer}
-use Rattle.sm_names.specs.Births.{Birth, births, birth_at, ancestors, was_born}
-use Rattle.sm_names.specs.Bounds.{Bound}
-use Rattle.sm_names.specs.Handles.{home, buffers_of, open_total}
-use Rattle.sm_names.specs.Kept.{is_kept}
-use Rattle.sm_names.specs.Losses.{gone}
-use Rattle.sm_names.specs.Marks.{Timeline, Called, events}
-use Rattle.sm_names.specs.Members.{Member, births_in, member, members, some_strong_live}
-use Rattle.sm_names.specs.Reading.{readings}
-use Rattle.sm_names.specs.declared.keys.HeldBuffer.{HeldBuffer}
-use Rattle.sm_names.specs.Timelines.{collection_of, held, own_loss, placed}
-use Rattle.history_laws.proofs.GrowthLaws.{Grows, Stays, Answers}
-use Rattle.sm_names.proofs.ListLaws.{In-filter, filter-In, filter-swap, map-In}
-use Rattle.sm_names.proofs.SamenessLaws.{either_way, both_ways, or_left}
-use Rattle.forest_store.specs.declared.node.End.{End}
-use Rattle.forest_store.specs.declared.node.Node.{Node}
-use Rattle.forest_store.specs.Forest.{Collection, beside}
-use Rattle.core_state.specs.Shown.{IsAfter, node_after, nodes_after, held_after, collection_after}
-use Rattle.core_state.specs.State.{State}
-use Rattle.core_state.specs.Steps.{end_by, place_of}
+use Rattle.core_state.proofs.Common.{Answers, Birth, Bool, Bound, BufferName, Call, Called, Collection, End, Grows, HeldBuffer, In-filter}
+use Rattle.core_state.proofs.Common.{IsAfter, IsAnswer, List, Member, Node, NodeKey, None, Option, Reply, Some, State, Stays, Strength}
+use Rattle.core_state.proofs.Common.{Timeline, [], ancestors, ap, beside, birth_at, births, births_in, both_ways, buffers_of}
+use Rattle.core_state.proofs.Common.{collection_after, collection_of, cons_option, either_way, end_by, eq-eqb, events, false, filter}
+use Rattle.core_state.proofs.Common.{filter-In, filter-append, filter-swap, gone, held, held_after, home, inl, inr, is_kept, is_some}
+use Rattle.core_state.proofs.Common.{list_any, map, map-In, member, members, node_after, nodes_after, not, open_total, or_left, own_loss}
+use Rattle.core_state.proofs.Common.{place_of, placed, readings, refl, some_strong_live, sym, true, was_born, ℕ, ◌&&◌, ◌++◌, ◌+◌, ◌==◌}
+use Rattle.core_state.proofs.Common.{◌∙◌, ◌∷◌, ◌≡◌}
 use Rattle.core_state.proofs.nodes.Answered.{no_birth, nodes-answered, answered_key}
 use Rattle.core_state.proofs.collections.MarksApart.{is_beside, pages_beside}
 use Rattle.core_state.proofs.nodes.Called.{answered, said, node_called}

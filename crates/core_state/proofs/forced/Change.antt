@@ -1,15 +1,8 @@
 -- What the change of a task leaves of the forest.
-use Rattle.std.proofs.Common.{ℕ, ◌≡◌, refl, sym, ◌∙◌, subst, Option, Some, None, IfSome, is_some, true}
+use Rattle.core_state.proofs.Common.{CanFinish, Change, EventTask, Forest, Handles, IfSome, IsAmid, MayDo, Node, NodeKey, None, Option}
+use Rattle.core_state.proofs.Common.{Reworked, Settled, Some, is_some, map-Some, node_at, refl, subst, sym, true, work_in, ℕ, ◌∙◌, ◌≡◌}
 use Rattle.std.specs.Option.{option_map}
-use Rattle.sm_names.specs.declared.keys.NodeKey.{NodeKey}
-use Rattle.sm_names.proofs.SamenessLaws.{map-Some}
-use Rattle.forest_store.specs.declared.change.Change.{Change}
-use Rattle.forest_store.specs.declared.node.Node.{Node}
-use Rattle.forest_store.specs.Forest.{Forest, node_at}
-use Rattle.forest_store.specs.Settling.{Handles, Settled}
-use Rattle.core_state.specs.declared.task.EventTask.{EventTask}
-use Rattle.core_state.specs.Tasks.{MayDo, Reworked, work_in}
-use Rattle.core_state.specs.Whole.{CanFinish, IsAmid, IsSound}
+use Rattle.core_state.specs.Whole.{IsSound}
 use Rattle.core_state.proofs.forced.Forest.{IsThere, amid_same, amid_settled, key_is_there, node_with_key}
 
 -- the end that the task spends is of a node of its collection

@@ -1,13 +1,6 @@
 -- A drop of a handle.
-use Rattle.std.proofs.Common.{◌≡◌, ◌≤◌, ap, sym, ◌∙◌, Bool, cond, nat_le, inl, inr, ◌⊎◌, Option, Some, None}
-use Rattle.std.proofs.lemmas.Bool.{leb-true}
-use Rattle.sm_names.specs.declared.keys.BufferName.{BufferName}
-use Rattle.sm_names.specs.declared.keys.Strength.{Strength}
-use Rattle.sm_names.proofs.SamenessLaws.{either_way}
-use Rattle.buffer_holds.specs.Counts.{total}
-use Rattle.forest_store.specs.declared.change.Change.{Change}
-use Rattle.core_state.specs.State.{State}
-use Rattle.core_state.specs.Steps.{Work, at_collection, drop_at}
+use Rattle.core_state.proofs.Common.{Bool, BufferName, Change, None, Option, Some, State, Strength, Work, ap, at_collection, cond}
+use Rattle.core_state.proofs.Common.{drop_at, either_way, inl, inr, leb-true, nat_le, sym, total, ◌∙◌, ◌≡◌, ◌≤◌, ◌⊎◌}
 use Rattle.core_state.proofs.forced.Losing.{no_work}
 
 module _ (s : State) (buffer : BufferName) (strength : Strength) where

@@ -1,30 +1,14 @@
 -- What a call changes fits the collection that it changes.
-use Rattle.std.proofs.Common.{ℕ, ◌≡◌, refl, ap, sym, ◌∙◌, subst, true, false, ◌==◌, ◌&&◌}
-use Rattle.std.proofs.Common.{not, nat_lt, [], Option, Some, None, ◌⊎◌, inl, inr, arith}
-use Rattle.std.proofs.lemmas.Bool.{eqb-true}
-use Rattle.std.specs.List.{list_any}
-use Rattle.std.specs.Option.{option_map_or, unwrap_or}
-use Rattle.sm_names.specs.declared.keys.NodeKey.{NodeKey}
-use Rattle.sm_names.specs.declared.messages.Call.{Call}
-use Rattle.sm_names.specs.declared.messages.Reply.{Reply}
-use Rattle.sm_names.specs.declared.outcomes.Refusal.{Refusal}
-use Rattle.sm_names.specs.declared.rules.TheConstants.{MAX_NODE_TRACKERS}
-use Rattle.sm_names.specs.Answers.{IsAnswer, OpenEnd, answer, answers_first, effect, key_told}
+use Rattle.core_state.proofs.Common.{Call, Change, Collection, Effect, Forest, In-find, In-list_any, IsAnswer, MAX_NODE_TRACKERS}
+use Rattle.core_state.proofs.Common.{MayChange, Node, NodeKey, None, OpenEnd, Option, Refusal, Reply, Some, State, Work, [], and_left}
+use Rattle.core_state.proofs.Common.{answer, answers_first, ap, arith, both_ways, collection_at, collection_or_new, effect, either_way}
+use Rattle.core_state.proofs.Common.{eqb-true, false, first_some, given, inl, inr, is_of, key_told, list_any, nat_lt, no_key, node_at}
+use Rattle.core_state.proofs.Common.{not, option_map_or, readings_of, refl, same_key, same_key-true, subst, sym, true, unwrap_or, work_of}
+use Rattle.core_state.proofs.Common.{ℕ, ◌&&◌, ◌==◌, ◌∙◌, ◌≡◌, ◌⊎◌}
 use Rattle.sm_names.specs.Elements.{In}
-use Rattle.sm_names.specs.Sameness.{same_key}
-use Rattle.sm_names.specs.Words.{first_some}
-use Rattle.sm_names.proofs.ListLaws.{In-find, In-list_any, all_on}
-use Rattle.sm_names.proofs.SamenessLaws.{and_left, both_ways, either_way, same_key-true}
-use Rattle.forest_store.specs.declared.change.Change.{Change}
-use Rattle.forest_store.specs.declared.change.Effect.{Effect}
-use Rattle.forest_store.specs.declared.node.Node.{Node}
-use Rattle.forest_store.specs.Forest.{Collection, Forest, collection_at, given, node_at}
-use Rattle.forest_store.specs.Nodes.{is_of}
+use Rattle.sm_names.proofs.ListLaws.{all_on}
 use Rattle.forest_store.specs.Scenes.{has_tracker_room}
-use Rattle.forest_store.specs.Settling.{MayChange, collection_or_new, no_key}
-use Rattle.core_state.specs.Reads.{readings_of}
-use Rattle.core_state.specs.State.{State}
-use Rattle.core_state.specs.Steps.{Work, leaves_tracker_room, work_of}
+use Rattle.core_state.specs.Steps.{leaves_tracker_room}
 use Rattle.core_state.specs.Whole.{IsSound}
 use Rattle.core_state.proofs.forced.Known.{IsKnown}
 use Rattle.core_state.proofs.collections.ById.{found_by_id}

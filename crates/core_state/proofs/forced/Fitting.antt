@@ -1,18 +1,11 @@
 -- What an event leaves of a collection: its id, and the keys of its nodes.
-use Rattle.std.proofs.Common.{ℕ, ◌≡◌, refl, sym, ◌∙◌, subst, Bool, true, false, if◌then◌else◌, List, [], ◌∷◌, ◌++◌, map, Option, Some, None}
-use Rattle.std.specs.Option.{option_map_or}
-use Rattle.sm_names.specs.declared.keys.Interval.{Interval}
-use Rattle.sm_names.specs.declared.keys.NodeKey.{NodeKey}
-use Rattle.sm_names.specs.Marks.{Mark, Called, Loss, Allocated, Ended}
-use Rattle.sm_names.specs.Members.{asked}
-use Rattle.sm_names.specs.Timelines.{layout}
-use Rattle.sm_names.proofs.ListLaws.{In, In-front, In-map-back}
-use Rattle.forest_store.specs.declared.change.Change.{Change}
-use Rattle.forest_store.specs.declared.node.Node.{Node}
-use Rattle.forest_store.specs.Forest.{Collection, pages_in, with_nodes}
-use Rattle.forest_store.specs.Nodes.{affected, after_allocation, ended, given_buffers}
-use Rattle.forest_store.specs.Nodes.{is_taken, lost, members_of, new_child, new_root, node_of}
-use Rattle.forest_store.specs.Settling.{Handles, Settles, Rests, Forces, changed, is_root_of, made}
+use Rattle.core_state.proofs.Common.{Allocated, Bool, Called, Change, Collection, Ended, Handles, In-front, In-map-back, Interval, List}
+use Rattle.core_state.proofs.Common.{Loss, Mark, Node, NodeKey, None, Option, Some, [], affected, after_allocation, asked, changed, ended}
+use Rattle.core_state.proofs.Common.{false, given_buffers, if◌then◌else◌, is_root_of, is_taken, layout, lost, map, members_of, new_child}
+use Rattle.core_state.proofs.Common.{new_root, node_of, option_map_or, pages_in, refl, subst, sym, true, with_nodes, ℕ, ◌++◌, ◌∙◌, ◌∷◌}
+use Rattle.core_state.proofs.Common.{◌≡◌}
+use Rattle.sm_names.proofs.ListLaws.{In}
+use Rattle.forest_store.specs.Settling.{Settles, Rests, Forces, made}
 use Rattle.forest_store.proofs.changes.Altering.{same_affected}
 
 -- the second collection is what became of the first

@@ -1,40 +1,18 @@
 -- One forced mark, in a state and in the history that it follows.
-use Rattle.std.proofs.Common.{ℕ, ◌≡◌, refl, ap, sym, ◌∙◌, subst, Bool, true, false, not, ◌==◌, ◌++◌}
-use Rattle.std.proofs.Common.{inl, inr, List, [], ◌∷◌, map, Option, Some, None, is_some, is_none}
-use Rattle.std.proofs.lemmas.Bool.{eqb-true, eq-eqb}
-use Rattle.std.proofs.lemmas.List.Elements.{filter-append}
-use Rattle.std.specs.List.{list_any, filter}
-use Rattle.std.specs.Option.{option_map_or}
-use Rattle.sm_names.specs.declared.keys.Interval.{Interval}
-use Rattle.sm_names.specs.declared.keys.NodeKey.{NodeKey}
-use Rattle.sm_names.specs.declared.outcomes.Buffers.{Buffers}
-use Rattle.sm_names.specs.declared.outcomes.Cause.{Cause}
-use Rattle.sm_names.specs.Births.{Birth, births, birth_of}
-use Rattle.sm_names.specs.Bounds.{Bound}
-use Rattle.sm_names.specs.Handles.{buffers_of, home, names}
-use Rattle.sm_names.specs.Losses.{gone, allocated}
-use Rattle.sm_names.specs.Marks.{Mark, Timeline, Loss, Allocated, Ended}
-use Rattle.sm_names.specs.Members.{members, asked}
-use Rattle.sm_names.specs.Pages.{places, pages_of}
-use Rattle.sm_names.specs.declared.keys.HeldBuffer.{HeldBuffer}
-use Rattle.sm_names.specs.Timelines.{held, placed, layout, layout_at, laid_out, still_out, next_forced}
+use Rattle.core_state.proofs.Common.{Allocated, Birth, Bool, Bound, Buffers, Cause, Collection, Ended, Fails, Grows, HeldBuffer}
+use Rattle.core_state.proofs.Common.{In-append, In-was_born, Initial, Interval, IsWhole, List, Logical, Loses, Loss, Mark, No_live, Node}
+use Rattle.core_state.proofs.Common.{NodeKey, None, Option, Some, Stays, Timeline, Why, [], after_allocation, after_end, after_loss}
+use Rattle.core_state.proofs.Common.{allocated, ap, asked, birth_of, births, both_ways, buffers_of, eq-eqb, eqb-true, false, false_if}
+use Rattle.core_state.proofs.Common.{filter, filter-all, filter-append, filter-less, filter-none, filter-swap, find_birth, forced_why}
+use Rattle.core_state.proofs.Common.{given_root, gone, grows_forced, held, held_after, home, inl, inr, is_none, is_root_of, is_some}
+use Rattle.core_state.proofs.Common.{laid_out, layout, layout_at, list_any, map, members, members_of, names, next_forced, node_of, not}
+use Rattle.core_state.proofs.Common.{of_ours, option_map_or, pages_in, pages_of, placed, placed_given, places, places_same, refl}
+use Rattle.core_state.proofs.Common.{still_out, subst, sym, true, whole, with_nodes, ℕ, ◌++◌, ◌==◌, ◌∙◌, ◌∷◌, ◌≡◌}
 use Rattle.history_laws.proofs.DoomLaws.{home_on}
-use Rattle.history_laws.proofs.GrowthLaws.{Grows, Stays, Loses, grows_forced}
-use Rattle.history_laws.proofs.HeldLaws.{given_root, not_turned}
-use Rattle.history_laws.proofs.IsolationLaws.{of_ours}
-use Rattle.history_laws.proofs.LayoutLaws.{placed_given}
-use Rattle.history_laws.proofs.LifeLaws.{whole}
-use Rattle.sm_names.proofs.ListLaws.{In, In-append, filter-swap, filter-none, filter-all, filter-less}
-use Rattle.sm_names.proofs.PlaceLaws.{places_same}
-use Rattle.sm_names.proofs.SamenessLaws.{false_if, both_ways}
-use Rattle.history_laws.proofs.SettledLaws.{In-was_born, find_birth, Why, No_live, Fails, Initial, Logical, forced_why}
-use Rattle.history_laws.proofs.WholeLaws.{IsWhole}
+use Rattle.history_laws.proofs.HeldLaws.{not_turned}
+use Rattle.sm_names.proofs.ListLaws.{In}
 use Rattle.history_laws.proofs.ForgetLaws.{asked-left}
-use Rattle.forest_store.specs.declared.node.Node.{Node}
-use Rattle.forest_store.specs.Forest.{Collection, pages_in, with_nodes}
-use Rattle.forest_store.specs.Nodes.{node_of, members_of, after_loss, after_allocation, after_end}
-use Rattle.forest_store.specs.Settling.{is_root_of, made}
-use Rattle.core_state.specs.Shown.{held_after}
+use Rattle.forest_store.specs.Settling.{made}
 use Rattle.core_state.proofs.collections.MarksApart.{IsIn, is_beside, beside_apart, laid_in}
 use Rattle.core_state.proofs.theorem.Follows.{Matches, members_match, pages_match}
 use Rattle.core_state.proofs.nodes.Members.{node_found}

@@ -1,19 +1,12 @@
 -- What an event does to the forest, before ends are spent.
-use Rattle.std.proofs.Common.{ℕ, ◌≡◌, refl, ap, sym, ◌∙◌, subst, true, false, ◌==◌, List, [], ◌∷◌, Option, Some, is_some, ◌⊎◌, inl, inr}
-use Rattle.std.proofs.lemmas.Bool.{eq-eqb}
-use Rattle.std.specs.List.{flat_map}
-use Rattle.std.specs.Option.{unwrap_or}
-use Rattle.sm_names.specs.declared.keys.NodeKey.{NodeKey}
-use Rattle.sm_names.specs.Sameness.{same_key}
-use Rattle.sm_names.proofs.ListLaws.{In, In-append, In-behind, In-find, In-front, is_some-find, In-any}
-use Rattle.sm_names.proofs.SamenessLaws.{both_ways, same_key-refl, same_key-true}
-use Rattle.forest_store.specs.declared.change.Change.{Change}
-use Rattle.forest_store.specs.declared.node.Node.{Node}
-use Rattle.forest_store.specs.Forest.{Collection, Forest, all_nodes, collection_at, beside, node_at}
-use Rattle.forest_store.specs.Nodes.{is_of}
-use Rattle.forest_store.specs.Settling.{Handles, Settled, collection_or_new, given_back, no_key}
+use Rattle.core_state.proofs.Common.{Change, Collection, Forest, Handles, In-any, In-append, In-find, In-front, IsAmid, List, Node}
+use Rattle.core_state.proofs.Common.{NodeKey, Option, Rise, Settled, Some, [], all_nodes, ap, beside, both_ways, collection_at}
+use Rattle.core_state.proofs.Common.{collection_or_new, eq-eqb, false, flat_map, given_back, inl, inr, is_of, is_some, is_some-find}
+use Rattle.core_state.proofs.Common.{no_key, node_at, refl, same_key, same_key-refl, same_key-true, subst, sym, true, unwrap_or, ℕ, ◌==◌}
+use Rattle.core_state.proofs.Common.{◌∙◌, ◌∷◌, ◌≡◌, ◌⊎◌}
+use Rattle.sm_names.proofs.ListLaws.{In, In-behind}
 use Rattle.forest_store.proofs.tallies.Slots.{or_new_id}
-use Rattle.core_state.specs.Whole.{IsAmid, IsSound, Rise}
+use Rattle.core_state.specs.Whole.{IsSound}
 use Rattle.core_state.proofs.forced.Fitting.{Keeps, event_keeps}
 use Rattle.core_state.proofs.collections.ById.{ids, found_by_id, put_from, put_rises, put_there}
 

@@ -1,18 +1,10 @@
 -- What is known of a core's fields.
-use Rattle.std.proofs.Common.{ℕ, ◌≡◌, ◌≤◌, false, List, map}
-use Rattle.std.specs.List.{All, count_by, sum_by}
-use Rattle.sm_names.specs.declared.keys.BufferName.{BufferName}
-use Rattle.sm_names.specs.declared.keys.Strength.{Strength}
-use Rattle.sm_names.specs.Bounds.{Bound}
-use Rattle.sm_names.specs.Ends.{is_handle_of}
+use Rattle.core_state.proofs.Common.{Bound, BufferName, Cell, Client, Collection, Forest, HandleCounts, List, NoBufferHome, Rise, State}
+use Rattle.core_state.proofs.Common.{Strength, Waiting, count_by, counts_of, false, is_due, is_handle_of, map, sum_by, total, world_in, ℕ}
+use Rattle.core_state.proofs.Common.{◌≡◌, ◌≤◌}
+use Rattle.std.specs.List.{All}
 use Rattle.sm_names.specs.Elements.{In}
-use Rattle.buffer_holds.specs.Counts.{total}
-use Rattle.trackers.specs.declared.waiting.Waiting.{Waiting}
-use Rattle.trackers.specs.Table.{Cell, is_due}
-use Rattle.forest_store.specs.Forest.{Collection, Forest}
-use Rattle.core_state.specs.Reads.{world_in}
-use Rattle.core_state.specs.State.{Client, HandleCounts, State, counts_of}
-use Rattle.core_state.specs.Whole.{IsSound, NoBufferHome, Rise}
+use Rattle.core_state.specs.Whole.{IsSound}
 
 -- how many handles of a buffer and strength wait for the client
 abbrev pub waiting_in : BufferName → Strength → Client → ℕ

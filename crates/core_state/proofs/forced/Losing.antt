@@ -1,13 +1,7 @@
 -- A Close that loses its node.
-use Rattle.std.proofs.Common.{◌≡◌, ap, sym, ◌∙◌, Bool, false, cond, inl, inr, Some, None}
+use Rattle.core_state.proofs.Common.{Bool, Cause, Change, Forest, Node, NodeKey, None, Some, Work, and_then-Some, ap, at_node, cond}
+use Rattle.core_state.proofs.Common.{either_way, false, inl, inr, loss_at, node_at, sym, ◌∙◌, ◌≡◌}
 use Rattle.std.specs.Option.{option_map}
-use Rattle.sm_names.specs.declared.keys.NodeKey.{NodeKey}
-use Rattle.sm_names.specs.declared.outcomes.Cause.{Cause}
-use Rattle.sm_names.proofs.SamenessLaws.{either_way, and_then-Some}
-use Rattle.forest_store.specs.declared.change.Change.{Change}
-use Rattle.forest_store.specs.declared.node.Node.{Node}
-use Rattle.forest_store.specs.Forest.{Forest, node_at}
-use Rattle.core_state.specs.Steps.{Work, at_node, loss_at}
 
 -- what is lost is there, and not gone
 pub record IsLosing (f : Forest) (key : NodeKey) (cause : Cause) (work : Work) : Type 0 where

@@ -1,33 +1,13 @@
 -- An event that changes no node, but for an end: nothing is forced.
-use Rattle.std.proofs.Common.{ℕ, zero, suc, ◌≡◌, refl, ap, sym, ◌∙◌, true, not, ◌==◌, nat_lt}
-use Rattle.std.proofs.Common.{inl, inr, List, [], ◌∷◌, map, Option, Some, None, arith}
-use Rattle.std.proofs.lemmas.Bool.{lt-ltb, not-false}
-use Rattle.std.specs.List.{list_any, filter, cons_option}
-use Rattle.std.specs.Option.{option_map_or}
-use Rattle.sm_names.specs.declared.keys.BufferName.{BufferName}
-use Rattle.sm_names.specs.declared.keys.Interval.{Interval}
-use Rattle.sm_names.specs.declared.keys.Strength.{Strength}
-use Rattle.sm_names.specs.declared.messages.Call.{Call}
-use Rattle.sm_names.specs.declared.messages.Reply.{Reply}
-use Rattle.sm_names.specs.Answers.{IsAnswer}
-use Rattle.sm_names.specs.Births.{Birth, births}
-use Rattle.sm_names.specs.Bounds.{Bound}
-use Rattle.sm_names.specs.Forced.{forced}
-use Rattle.sm_names.specs.Handles.{open_total}
-use Rattle.sm_names.specs.Kept.{is_kept, is_kept_collection}
-use Rattle.sm_names.specs.Marks.{Mark, Timeline, Called}
-use Rattle.sm_names.specs.Reading.{readings}
-use Rattle.sm_names.specs.declared.keys.HeldBuffer.{HeldBuffer}
-use Rattle.sm_names.specs.Timelines.{after, collection_of, next_forced, settled}
-use Rattle.history_laws.proofs.GrowthLaws.{Grows, Stays, Answers}
-use Rattle.history_laws.proofs.LifeLaws.{whole}
-use Rattle.sm_names.proofs.SamenessLaws.{either_way}
-use Rattle.forest_store.specs.Forest.{Collection, beside, is_left}
-use Rattle.forest_store.specs.Settling.{Handles, buffer_names, standing}
-use Rattle.core_state.specs.declared.task.EndPlace.{EndPlace}
-use Rattle.core_state.specs.Shown.{IsAfter, held_after, collection_after, kept_ids}
-use Rattle.core_state.specs.State.{State}
-use Rattle.core_state.specs.Steps.{end_by, place_of, with_place, without_unkept}
+use Rattle.core_state.proofs.Common.{Answers, Birth, Bound, BufferName, Call, Called, Collection, EndPlace, Grows, Handles, HeldBuffer}
+use Rattle.core_state.proofs.Common.{Interval, IsAfter, IsAnswer, List, Mark, None, Option, Reply, Some, State, Stays, Strength, Timeline}
+use Rattle.core_state.proofs.Common.{[], after, ap, arith, beside, births, collection_after, collection_of, cons_option, either_way}
+use Rattle.core_state.proofs.Common.{end_by, filter, forced, held_after, inl, inr, is_kept, is_kept_collection, kept_ids, list_any}
+use Rattle.core_state.proofs.Common.{lt-ltb, map, nat_lt, next_forced, not, open_total, option_map_or, place_of, readings, refl, settled}
+use Rattle.core_state.proofs.Common.{suc, sym, true, whole, with_place, without_unkept, zero, ℕ, ◌==◌, ◌∙◌, ◌∷◌, ◌≡◌}
+use Rattle.std.proofs.lemmas.Bool.{not-false}
+use Rattle.forest_store.specs.Forest.{is_left}
+use Rattle.forest_store.specs.Settling.{buffer_names, standing}
 use Rattle.core_state.proofs.forced.CallStep.{IsIdle, births_idle, follows_idle, held_idle}
 use Rattle.core_state.proofs.ends.NotRead.{placed_in, standing_placed}
 use Rattle.core_state.proofs.ends.Finishing.{finished, ComesTo, finished_is, finished_kept, left_finished}

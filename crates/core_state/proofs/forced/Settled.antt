@@ -1,28 +1,15 @@
 -- What a state settles to is what its history settles to.
-use Rattle.std.proofs.Common.{ℕ, ◌≡◌, refl, ap, sym, ◌∙◌, subst, Bool, true, false, not}
-use Rattle.std.proofs.Common.{◌&&◌, ◌==◌, List, [], ◌∷◌, Option, Some, None, is_some}
-use Rattle.std.specs.List.{filter}
-use Rattle.sm_names.specs.declared.keys.Interval.{Interval}
-use Rattle.sm_names.specs.declared.keys.NodeKey.{NodeKey}
-use Rattle.sm_names.specs.declared.keys.Strength.{Strength}
-use Rattle.sm_names.specs.declared.outcomes.Buffers.{Buffers}
-use Rattle.sm_names.specs.Bounds.{Bound}
-use Rattle.sm_names.specs.Handles.{buffers_of, is_doomed, home}
-use Rattle.sm_names.specs.Marks.{Mark, Timeline, Called, Loss, Allocated, Ended, is_event}
-use Rattle.sm_names.specs.Members.{members, some_strong_live}
-use Rattle.sm_names.specs.declared.keys.HeldBuffer.{HeldBuffer}
-use Rattle.sm_names.specs.Timelines.{still_out, settled, Settles, Rests, Forces, next_forced}
-use Rattle.history_laws.proofs.ForgetLaws.{strong-left}
-use Rattle.history_laws.proofs.GrowthLaws.{Grows, grows_forced}
-use Rattle.history_laws.proofs.LifeLaws.{whole}
-use Rattle.sm_names.proofs.ListLaws.{In, In-filter, filter-In, filter-less}
-use Rattle.history_laws.proofs.SettledLaws.{Settles-one, settled_rests, forced_no_event}
-use Rattle.history_laws.proofs.WholeLaws.{IsWhole}
-use Rattle.forest_store.specs.Forest.{Collection}
-use Rattle.forest_store.specs.Nodes.{members_of}
-use Rattle.forest_store.specs.Settling.{Handles, made, is_home_in, given_back, Settles as SettlesIn, Rests as RestsIn, Forces as ForcesIn}
+use Rattle.core_state.proofs.Common.{Allocated, Bool, Bound, Buffers, Called, Collection, Ended, Grows, Handles, HeldBuffer, In-filter}
+use Rattle.core_state.proofs.Common.{Interval, IsWhole, List, Loss, Mark, NodeKey, None, Option, Some, Strength, Timeline, [], ap}
+use Rattle.core_state.proofs.Common.{buffers_of, false, filter, filter-In, filter-less, given_back, grows_forced, held_after, home}
+use Rattle.core_state.proofs.Common.{is_doomed, is_event, is_home_in, is_some, members, members_of, next_forced, not, refl, settled}
+use Rattle.core_state.proofs.Common.{settled_rests, some_strong_live, still_out, strong-left, subst, sym, true, whole, ℕ, ◌&&◌, ◌==◌, ◌∙◌}
+use Rattle.core_state.proofs.Common.{◌∷◌, ◌≡◌}
+use Rattle.sm_names.specs.Timelines.{Settles, Rests, Forces}
+use Rattle.sm_names.proofs.ListLaws.{In}
+use Rattle.history_laws.proofs.SettledLaws.{Settles-one, forced_no_event}
+use Rattle.forest_store.specs.Settling.{made, Settles as SettlesIn, Rests as RestsIn, Forces as ForcesIn}
 use Rattle.forest_store.proofs.tallies.Slots.{made_id}
-use Rattle.core_state.specs.Shown.{held_after}
 use Rattle.core_state.proofs.theorem.Follows.{Counts, Matches, members_match, forced_matches}
 use Rattle.core_state.proofs.forced.ForcedStep.{step_matches}
 

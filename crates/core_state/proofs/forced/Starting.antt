@@ -1,35 +1,14 @@
 -- A collection of a state follows the marks that the state shows, and one more event.
-use Rattle.std.proofs.Common.{ℕ, ◌≡◌, ◌≤◌, ◌<◌, refl, ap, sym, ◌∙◌, subst, Bool, true, not, ◌==◌}
-use Rattle.std.proofs.Common.{◌++◌, inl, inr, List, [], ◌∷◌, map, Option, Some, None, is_some, arith}
-use Rattle.std.proofs.lemmas.Bool.{eqb-true}
-use Rattle.std.proofs.lemmas.List.{map-append}
-use Rattle.std.proofs.lemmas.List.Elements.{filter-append}
-use Rattle.std.proofs.lemmas.List.Folds.{flat_map-map}
-use Rattle.std.specs.List.{filter, list_any, flat_map}
-use Rattle.sm_names.specs.declared.keys.Interval.{Interval}
-use Rattle.sm_names.specs.declared.outcomes.Buffers.{Buffers}
-use Rattle.sm_names.specs.Births.{Birth}
-use Rattle.sm_names.specs.Bounds.{Bound}
-use Rattle.sm_names.specs.Handles.{buffers_of, home}
-use Rattle.sm_names.specs.Kept.{is_kept, is_kept_collection}
-use Rattle.sm_names.specs.Losses.{gone}
-use Rattle.sm_names.specs.Marks.{Timeline, events}
-use Rattle.sm_names.specs.Members.{births_in}
-use Rattle.sm_names.specs.declared.keys.HeldBuffer.{HeldBuffer}
-use Rattle.sm_names.specs.Timelines.{held, placed, still_out}
+use Rattle.core_state.proofs.Common.{Birth, Bool, Bound, Buffers, Collection, Grows, HeldBuffer, In-any, In-filter, In-list_any, In-map}
+use Rattle.core_state.proofs.Common.{Interval, IsAfter, List, Node, None, Option, Some, State, Timeline, [], all_held, ap, arith, beside}
+use Rattle.core_state.proofs.Common.{birth_of_collection, births_in, both_tests, both_ways, buffers_of, collection_after}
+use Rattle.core_state.proofs.Common.{collection_or_new, either_way, eqb-true, events, false_if, filter, filter-In, filter-all}
+use Rattle.core_state.proofs.Common.{filter-append, filter-none, flat_map, flat_map-map, gone, held, held_after, home, inl, inr, is_kept}
+use Rattle.core_state.proofs.Common.{is_kept_collection, is_some, is_unkept, kept_ids, list_any, map, map-append, node_after, nodes_after}
+use Rattle.core_state.proofs.Common.{not, or_left, ordered, pages_in, placed, placed_given, refl, still_out, subst, sym, true, ℕ, ◌++◌}
+use Rattle.core_state.proofs.Common.{◌<◌, ◌==◌, ◌∙◌, ◌∷◌, ◌≡◌, ◌≤◌}
 use Rattle.history_laws.proofs.DoomLaws.{buffers_early}
-use Rattle.history_laws.proofs.GrowthLaws.{Grows}
-use Rattle.history_laws.proofs.IsolationLaws.{birth_of_collection}
-use Rattle.history_laws.proofs.LayoutLaws.{placed_given}
-use Rattle.history_laws.proofs.LifeLaws.{ordered}
-use Rattle.sm_names.proofs.ListLaws.{In, In-filter, In-list_any, In-map, filter-In, filter-none, filter-all, In-any}
-use Rattle.sm_names.proofs.SamenessLaws.{either_way, false_if, both_ways, or_left, both_tests}
-use Rattle.forest_store.specs.declared.node.Node.{Node}
-use Rattle.forest_store.specs.Forest.{Collection, all_held, beside, pages_in}
-use Rattle.forest_store.specs.Nodes.{is_unkept}
-use Rattle.forest_store.specs.Settling.{collection_or_new}
-use Rattle.core_state.specs.Shown.{IsAfter, node_after, nodes_after, held_after, collection_after, kept_ids}
-use Rattle.core_state.specs.State.{State}
+use Rattle.sm_names.proofs.ListLaws.{In}
 use Rattle.core_state.proofs.collections.MarksApart.{is_beside, pages_beside}
 use Rattle.core_state.proofs.nodes.Ancestors.{Keeps, nodes_kept}
 use Rattle.core_state.proofs.theorem.Follows.{Matches}

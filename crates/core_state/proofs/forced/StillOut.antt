@@ -1,33 +1,18 @@
 -- No held buffer is home between events, and each is one of its collection.
-use Rattle.std.proofs.Common.{ℕ, ◌≡◌, ◌+◌, refl, ap, sym, ◌∙◌, subst, Bool, true, false, ◌==◌, if◌then◌else◌}
-use Rattle.std.proofs.Common.{inl, inr, List, [], ◌∷◌, Option, Some, None, IfSome, is_some, arith}
-use Rattle.std.proofs.lemmas.Bool.{eq-eqb}
+use Rattle.core_state.proofs.Common.{Bool, BufferName, Call, Called, Change, Collection, EventTask, Forest, HeldBuffer, IfSome, In-find}
+use Rattle.core_state.proofs.Common.{List, Mark, MayChange, MayDo, MovesHandles, NoBufferHome, None, Option, Reply, Some, State, Strength}
+use Rattle.core_state.proofs.Common.{Work, [], and_both, ap, arith, both_ways, collection_at, drops, either_way, eq-eqb, false, false_if}
+use Rattle.core_state.proofs.Common.{if◌then◌else◌, inl, inr, is_home, is_home_in, is_some, members_of, one_if, opens, option_map_or}
+use Rattle.core_state.proofs.Common.{refl, same_buffer, same_buffer-true, some_strong_live, subst, sym, total, true, work_in, work_of, ℕ}
+use Rattle.core_state.proofs.Common.{◌+◌, ◌==◌, ◌∙◌, ◌∷◌, ◌≡◌}
 use Rattle.std.specs.List.{list_all}
-use Rattle.std.specs.Option.{option_map, option_map_or}
-use Rattle.sm_names.specs.declared.keys.BufferName.{BufferName}
-use Rattle.sm_names.specs.declared.keys.Strength.{Strength}
-use Rattle.sm_names.specs.declared.messages.Call.{Call}
-use Rattle.sm_names.specs.declared.messages.Reply.{Reply}
-use Rattle.sm_names.specs.Handles.{drops, is_home, opens}
-use Rattle.sm_names.specs.Marks.{Mark, Called}
-use Rattle.sm_names.specs.Members.{some_strong_live}
-use Rattle.sm_names.specs.Sameness.{same_buffer}
-use Rattle.sm_names.specs.declared.keys.HeldBuffer.{HeldBuffer}
-use Rattle.sm_names.proofs.SamenessLaws.{same_buffer-true, and_both, both_ways, either_way, false_if}
-use Rattle.sm_names.proofs.ListLaws.{In, In-find}
-use Rattle.event_laws.specs.ByEvent.{anyone, one_if}
-use Rattle.buffer_holds.specs.Counts.{Counts, total}
-use Rattle.forest_store.specs.declared.change.Change.{Change}
+use Rattle.std.specs.Option.{option_map}
+use Rattle.sm_names.proofs.ListLaws.{In}
+use Rattle.event_laws.specs.ByEvent.{anyone}
+use Rattle.buffer_holds.specs.Counts.{Counts}
 use Rattle.forest_store.specs.Dropped.{are_others_out}
-use Rattle.forest_store.specs.Forest.{Collection, Forest, collection_at}
-use Rattle.forest_store.specs.Nodes.{members_of}
-use Rattle.forest_store.specs.Settling.{MayChange, fits, is_home_in}
-use Rattle.core_state.specs.declared.task.EventTask.{EventTask}
-use Rattle.core_state.specs.Hands.{MovesHandles}
-use Rattle.core_state.specs.State.{State}
-use Rattle.core_state.specs.Steps.{Work, work_of}
-use Rattle.core_state.specs.Tasks.{AsksOnly, MayDo, OthersStay, work_in}
-use Rattle.core_state.specs.Whole.{NoBufferHome}
+use Rattle.forest_store.specs.Settling.{fits}
+use Rattle.core_state.specs.Tasks.{AsksOnly, OthersStay}
 
 -- ---- each is one of its collection
 

@@ -1,37 +1,14 @@
 -- What an answered call may do to the forest.
-use Rattle.std.proofs.Common.{ℕ, ◌≡◌, ◌<◌, ◌≤◌, ◌+◌, refl, ap, sym, ◌∙◌, subst, Bool, true, false, ◌==◌}
-use Rattle.std.proofs.Common.{◌||◌, nat_le, Option, Some, None, is_some, if◌then◌else◌, ◌⊎◌, inl, inr, arith}
-use Rattle.std.proofs.lemmas.Bool.{eqb-true, eq-eqb, leb-false}
-use Rattle.std.specs.Option.{option_map_or}
-use Rattle.std.proofs.Math.Bool.{and-false}
-use Rattle.sm_names.specs.declared.keys.BufferName.{BufferName}
-use Rattle.sm_names.specs.declared.keys.NodeKey.{NodeKey}
-use Rattle.sm_names.specs.declared.keys.Strength.{Strength}
-use Rattle.sm_names.specs.declared.messages.Call.{Call}
-use Rattle.sm_names.specs.declared.messages.Reply.{Reply}
-use Rattle.sm_names.specs.declared.outcomes.Cause.{Cause}
-use Rattle.sm_names.specs.declared.outcomes.Fault.{Fault}
-use Rattle.sm_names.specs.declared.outcomes.Misuse.{Misuse}
-use Rattle.sm_names.specs.declared.outcomes.Refusal.{Refusal}
-use Rattle.sm_names.specs.declared.rules.TheConstants.{MAX_NODE_TRACKERS}
-use Rattle.sm_names.specs.Answers.{OpenEnd, answer, closing, effect, makes_node, new_key, of_end}
-use Rattle.sm_names.specs.Bounds.{Bound}
-use Rattle.sm_names.specs.Marks.{took_effect}
-use Rattle.sm_names.specs.Timelines.{key_of}
-use Rattle.sm_names.specs.Words.{when}
-use Rattle.history_laws.proofs.AnswerLaws.{took_effect_all}
-use Rattle.sm_names.proofs.ListLaws.{In, In-find}
-use Rattle.history_laws.proofs.RejectLaws.{is_refusal}
-use Rattle.sm_names.proofs.SamenessLaws.{none_or_some, and_then-Some, map-Some}
-use Rattle.forest_store.specs.declared.change.Change.{Change}
-use Rattle.forest_store.specs.declared.change.Effect.{Effect}
-use Rattle.forest_store.specs.declared.node.Node.{Node}
-use Rattle.forest_store.specs.Forest.{Collection, Forest, collection_at, node_count, node_at}
-use Rattle.forest_store.specs.Nodes.{is_spent}
-use Rattle.forest_store.specs.Settling.{MayChange, is_birth, is_there, no_key}
-use Rattle.core_state.specs.Reads.{end_in, open_end_of, readings_of}
-use Rattle.core_state.specs.State.{State}
-use Rattle.core_state.specs.Steps.{Work, at_node, done_to, drop_at, loss_at, work_of}
+use Rattle.core_state.proofs.Common.{Bool, Bound, BufferName, Call, Cause, Change, Collection, Effect, Fault, Forest, In-find}
+use Rattle.core_state.proofs.Common.{MAX_NODE_TRACKERS, MayChange, Misuse, Node, NodeKey, None, OpenEnd, Option, Refusal, Reply, Some}
+use Rattle.core_state.proofs.Common.{State, Strength, Work, and-false, and_then-Some, answer, ap, arith, at_node, closing, collection_at}
+use Rattle.core_state.proofs.Common.{done_to, drop_at, effect, end_in, eq-eqb, eqb-true, false, if◌then◌else◌, inl, inr, is_refusal}
+use Rattle.core_state.proofs.Common.{is_some, is_spent, key_of, leb-false, loss_at, makes_node, map-Some, nat_le, new_key, no_key}
+use Rattle.core_state.proofs.Common.{node_at, node_count, none_or_some, open_end_of, option_map_or, readings_of, refl, subst, sym}
+use Rattle.core_state.proofs.Common.{took_effect, took_effect_all, true, when, work_of, ℕ, ◌+◌, ◌<◌, ◌==◌, ◌||◌, ◌∙◌, ◌≡◌, ◌≤◌, ◌⊎◌}
+use Rattle.sm_names.specs.Answers.{of_end}
+use Rattle.sm_names.proofs.ListLaws.{In}
+use Rattle.forest_store.specs.Settling.{is_birth, is_there}
 use Rattle.core_state.specs.Whole.{IsSound}
 use Rattle.core_state.proofs.forced.Known.{AreUpTo, IsKnown}
 use Rattle.core_state.proofs.forced.Dropping.{took_last}

@@ -1,45 +1,28 @@
 -- An event that changes a collection, and all that it forces.
-use Rattle.std.proofs.Common.{ℕ, ◌≡◌, ◌<◌, ◌+◌, refl, ap, sym, ◌∙◌, subst, false, not, ◌||◌, ◌==◌}
-use Rattle.std.proofs.Common.{inl, inr, List, [], ◌∷◌, ◌++◌, map, Option, Some, None, arith}
-use Rattle.std.proofs.lemmas.Bool.{eqb-true, eq-eqb}
+use Rattle.core_state.proofs.Common.{Answers, Birth, Bound, Call, Called, Collection, EndPlace, Forest, Grows, Handles, In-filter, In-map}
+use Rattle.core_state.proofs.Common.{IsAfter, IsAnswer, List, Mark, Node, None, Option, Reply, Settled, Some, State, Stays, Timeline}
+use Rattle.core_state.proofs.Common.{Work, [], after, ap, arith, beside, birth_at, birth_of_collection, births, births_in, both_ways}
+use Rattle.core_state.proofs.Common.{changed, collection_after, collection_of, collection_or_new, cons_option, either_way, end_by, eq-eqb}
+use Rattle.core_state.proofs.Common.{eqb-true, events, false, false_if, filter, filter-all, filter-append, given_back, grows_after}
+use Rattle.core_state.proofs.Common.{grows_lost, held_after, inl, inr, is_kept, is_kept_collection, is_unkept, kept_ids, key_of, map}
+use Rattle.core_state.proofs.Common.{new_key, no_key, node_after, nodes_after, not, option_map_or, own_loss, place_of, put, readings}
+use Rattle.core_state.proofs.Common.{refl, same_key, same_key-true, settled, subst, sym, unwrap_or, whole, with_place, without_unkept, ℕ}
+use Rattle.core_state.proofs.Common.{◌++◌, ◌+◌, ◌<◌, ◌==◌, ◌||◌, ◌∙◌, ◌∷◌, ◌≡◌}
 use Rattle.std.proofs.lemmas.List.{append-nil}
-use Rattle.std.proofs.lemmas.List.Elements.{filter-append}
-use Rattle.std.specs.List.{filter, cons_option}
-use Rattle.std.specs.Option.{option_map_or, unwrap_or}
-use Rattle.sm_names.specs.declared.messages.Call.{Call}
-use Rattle.sm_names.specs.declared.messages.Reply.{Reply}
-use Rattle.sm_names.specs.Answers.{IsAnswer, new_key}
-use Rattle.sm_names.specs.Births.{Birth, births, birth_at}
-use Rattle.sm_names.specs.Bounds.{Bound}
-use Rattle.sm_names.specs.Kept.{is_kept, is_kept_collection}
-use Rattle.sm_names.specs.Marks.{Mark, Timeline, Called, events}
-use Rattle.sm_names.specs.Members.{births_in}
-use Rattle.sm_names.specs.Reading.{readings}
-use Rattle.sm_names.specs.Sameness.{same_key}
-use Rattle.sm_names.specs.Timelines.{after, collection_of, key_of, own_loss, settled}
-use Rattle.history_laws.proofs.GrowthLaws.{Grows, Stays, Answers, grows_after, grows_lost}
-use Rattle.history_laws.proofs.IsolationLaws.{birth_of_collection}
 use Rattle.history_laws.proofs.LegalLaws.{births-after, own_loss_no_event}
-use Rattle.history_laws.proofs.LifeLaws.{whole}
-use Rattle.sm_names.proofs.ListLaws.{In, In-filter, In-map, filter-all}
-use Rattle.sm_names.proofs.SamenessLaws.{either_way, both_ways, false_if, same_key-true}
-use Rattle.forest_store.specs.declared.node.Node.{Node}
-use Rattle.forest_store.specs.Forest.{Collection, Forest, beside, is_left}
-use Rattle.forest_store.specs.Nodes.{is_unkept}
-use Rattle.forest_store.specs.Settling.{Handles, Settled, Settles, changed, collection_or_new, given_back, no_key, put}
-use Rattle.core_state.specs.declared.task.EndPlace.{EndPlace}
-use Rattle.core_state.specs.Shown.{IsAfter, node_after, nodes_after, held_after, collection_after, kept_ids}
-use Rattle.core_state.specs.State.{State}
-use Rattle.core_state.specs.Steps.{Work, end_by, place_of, with_place, without_unkept}
+use Rattle.sm_names.proofs.ListLaws.{In}
+use Rattle.forest_store.specs.Forest.{is_left}
+use Rattle.forest_store.specs.Settling.{Settles}
 use Rattle.core_state.proofs.collections.Elsewhere.{came, named_in, collects_end, ends_named, collection_elsewhere}
 use Rattle.core_state.proofs.ends.NotRead.{placed_node, placed_in, settles_placed, given_placed}
 use Rattle.core_state.proofs.ends.Finishing.{finished, ComesTo, finished_is, finished_kept}
 use Rattle.core_state.proofs.collections.Ids.{ids, kept_are, ids-root, ids-child, ids_rise, node_id}
 use Rattle.core_state.proofs.ends.Forgotten.{left_after}
 use Rattle.core_state.proofs.theorem.Follows.{Counts, Matches}
-use Rattle.core_state.proofs.collections.Replacing.{with_new, put-map, map-stays}
+use Rattle.core_state.proofs.collections.Replacing.{with_new, put-map}
 use Rattle.core_state.proofs.forced.Settled.{IsSettled, counts_on, settled_matches, given_matches, given_held}
 use Rattle.core_state.proofs.forced.Starting.{still_empty}
+use Rattle.forest_store.proofs.lists.Elements.{map-same}
 
 -- an event of a collection is no Collect
 collects_none : (marks : Timeline) (call : Call) (reply : Reply) (collection : ℕ) → collection_of marks call reply ≡ Some collection →
@@ -179,7 +162,7 @@ module _ (s : State) (marks : Timeline) (shown : IsAfter s marks) (limits : Boun
     untouched d other =
         let c : Collection = collection_after s.pool marks d in
         let ends : map (placed_node (place_of moved)) c.nodes ≡ c.nodes =
-        map-stays (placed_node (place_of moved)) c.nodes (λ n on. stays n (birth_there n on)) in
+        map-same (placed_node (place_of moved)) c.nodes (λ n on. stays n (birth_there n on)) in
         let none_unkept : filter (λ n. not (is_unkept n)) c.nodes ≡ c.nodes =
         filter-all (λ n. not (is_unkept n)) c.nodes (λ n on. (In-filter (λ n. not (is_unkept n)) (nodes_after marks d) n on).1) in
         λ i. record c { nodes = (ap (filter (λ n. not (is_unkept n))) ends ∙ none_unkept) i }

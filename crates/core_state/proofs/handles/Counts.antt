@@ -1,30 +1,17 @@
 -- What an event does to the counts of handles.
-use Rattle.std.proofs.Common.{ℕ, ◌≡◌, ◌≤◌, ◌<◌, ◌+◌, ◌-◌, ◌==◌, refl, ap, sym, ◌∙◌}
-use Rattle.std.proofs.Common.{subst, Bool, true, false, inl, inr, [], ◌∷◌, Some, arith}
-use Rattle.std.proofs.lemmas.Bool.{eqb-true}
-use Rattle.sm_names.specs.declared.keys.BufferName.{BufferName}
-use Rattle.sm_names.specs.declared.keys.Strength.{Strength}
-use Rattle.sm_names.specs.declared.messages.Call.{Call}
-use Rattle.sm_names.specs.declared.messages.Reply.{Reply}
-use Rattle.sm_names.specs.Answers.{IsAnswer}
-use Rattle.sm_names.specs.Bounds.{Bound}
-use Rattle.sm_names.specs.Handles.{opens, drops, lifts, lands, open_of, open_total, moving}
-use Rattle.sm_names.specs.Marks.{Mark, Timeline, Called}
-use Rattle.sm_names.specs.Reading.{readings}
-use Rattle.sm_names.specs.Sameness.{same_buffer}
-use Rattle.sm_names.specs.Timelines.{after, collection_of}
-use Rattle.sm_names.specs.Words.{times}
-use Rattle.history_laws.proofs.CountLaws.{IsCounted, counted, caller_joined, client-le-total, drops-le-opens, lands-le-lifts}
+use Rattle.core_state.proofs.Common.{Answers, Bool, Bound, BufferName, Call, Called, Grows, IsAnswer, Mark, Reply, SameHands, Some}
+use Rattle.core_state.proofs.Common.{Strength, Timeline, [], after, and_left, and_right, ap, arith, caller_joined, client-le-total}
+use Rattle.core_state.proofs.Common.{collection_of, drops, either_way, eqb-true, false, false_if, gains, handles_after, handles_by, inl}
+use Rattle.core_state.proofs.Common.{inr, lands, lifts, loses, one_if, only, open_of, open_total, opens, readings, refl, same_after}
+use Rattle.core_state.proofs.Common.{same_buffer, same_buffer-true, subst, sym, times, true, ℕ, ◌+◌, ◌-◌, ◌<◌, ◌==◌, ◌∙◌, ◌∷◌, ◌≡◌, ◌≤◌}
+use Rattle.sm_names.specs.Handles.{moving}
+use Rattle.history_laws.proofs.CountLaws.{IsCounted, counted, drops-le-opens, lands-le-lifts}
 use Rattle.history_laws.proofs.EventLaws.{same_after as same_in}
-use Rattle.history_laws.proofs.GrowthLaws.{Grows, Answers}
-use Rattle.sm_names.proofs.SamenessLaws.{same_buffer-true, same_strength-true, either_way, and_left, and_right, false_if}
+use Rattle.sm_names.proofs.SamenessLaws.{same_strength-true}
 use Rattle.history_laws.proofs.HandleLaws.{dup_was_open}
 use Rattle.history_laws.proofs.SumLaws.{times-cons}
-use Rattle.event_laws.specs.ByEvent.{SameHands, one_if, anyone, only, gains, loses}
-use Rattle.event_laws.proofs.HandLaws.{same_after}
+use Rattle.event_laws.specs.ByEvent.{anyone}
 use Rattle.event_laws.proofs.HandleEventLaws.{open_of_mark}
-use Rattle.core_state.specs.Shown.{handles_after}
-use Rattle.core_state.specs.Steps.{handles_by}
 
 -- the call leaves each buffer with open handles, or without any: it may give one, take one or open one where one was open
 abbrev pub opens_alike : Call → Reply → Bool

@@ -1,28 +1,16 @@
 -- The buffers of a collection are laid out in their order, so as many are held as are left.
-use Rattle.std.proofs.Common.{ℕ, ◌≡◌, refl, ap, sym, ◌∙◌, subst, Bool, true, false, cond, not, ◌==◌, ◌⊎◌}
-use Rattle.std.proofs.Common.{inl, inr, List, [], ◌∷◌, ◌++◌, length, map, Option, Some, None, arith}
-use Rattle.std.proofs.lemmas.Bool.{eqb-true}
-use Rattle.std.proofs.lemmas.List.{append-nil, length-map, map-append}
-use Rattle.std.proofs.lemmas.List.Elements.{filter-append}
+use Rattle.core_state.proofs.Common.{Allocated, Allocates, Answers, Bool, Bound, BufferName, Buffers, Ends, Grows, HeldBuffer, In-map}
+use Rattle.core_state.proofs.Common.{In-map-back, List, Loses, Mark, None, Option, Some, Stays, Timeline, [], ap, arith, buffers_of, cond}
+use Rattle.core_state.proofs.Common.{either_way, eqb-true, false, filter, filter-all, filter-append, filter-none, filter-swap, forced_why}
+use Rattle.core_state.proofs.Common.{held_after, home, inl, inr, laid_out, left, length, length-filter, length-map, map, map-append}
+use Rattle.core_state.proofs.Common.{names, not, option_map_or, pages_of, placed, range_with_len, refl, subst, sym, true, ℕ, ◌++◌, ◌==◌}
+use Rattle.core_state.proofs.Common.{◌∙◌, ◌∷◌, ◌≡◌, ◌⊎◌}
+use Rattle.std.proofs.lemmas.List.{append-nil}
 use Rattle.std.proofs.lemmas.List.FromFn.{length-map-range_with_len}
-use Rattle.std.proofs.lemmas.List.Sums.{length-filter}
-use Rattle.std.specs.List.{filter, range_with_len}
-use Rattle.std.specs.Option.{option_map_or}
-use Rattle.sm_names.specs.declared.keys.BufferName.{BufferName}
-use Rattle.sm_names.specs.declared.outcomes.Buffers.{Buffers}
-use Rattle.sm_names.specs.Bounds.{Bound}
-use Rattle.sm_names.specs.Handles.{buffer_names, buffers_of, home, left, names}
-use Rattle.sm_names.specs.Marks.{Mark, Timeline, Allocated}
-use Rattle.sm_names.specs.Pages.{pages_of}
-use Rattle.sm_names.specs.declared.keys.HeldBuffer.{HeldBuffer}
-use Rattle.sm_names.specs.Timelines.{laid_out, placed}
-use Rattle.history_laws.proofs.GrowthLaws.{Grows, Stays, Answers, Loses, Allocates, Ends}
+use Rattle.sm_names.specs.Handles.{buffer_names}
 use Rattle.history_laws.proofs.HeldLaws.{Lays, Nothing_new, New, allocation_lays}
-use Rattle.sm_names.proofs.ListLaws.{In, In-map, In-map-back, filter-none, filter-swap, filter-all}
+use Rattle.sm_names.proofs.ListLaws.{In}
 use Rattle.history_laws.proofs.PageLaws.{placed_apart}
-use Rattle.sm_names.proofs.SamenessLaws.{either_way}
-use Rattle.history_laws.proofs.SettledLaws.{forced_why}
-use Rattle.core_state.specs.Shown.{held_after}
 use Rattle.core_state.proofs.lists.Maps.{filter-map}
 
 -- the buffer of the pages

@@ -1,41 +1,18 @@
 -- The handles that an event may move.
-use Rattle.std.proofs.Common.{ℕ, ◌≡◌, ◌<◌, ◌+◌, refl, ap, sym, ◌∙◌, subst, Bool, true, false, cond, ◌==◌, ◌&&◌}
-use Rattle.std.proofs.Common.{nat_lt, not, if◌then◌else◌, inl, inr, List, [], ◌∷◌, Option, Some, None, arith}
-use Rattle.std.proofs.lemmas.Bool.{eqb-true, eq-eqb, leb-false}
-use Rattle.std.proofs.lemmas.List.Sums.{sum_by-cons}
-use Rattle.std.proofs.lemmas.Nat.Bits.{bit_at-zero}
-use Rattle.std.specs.List.{count_by, filter, list_any}
-use Rattle.std.specs.Option.{option_map_or}
-use Rattle.sm_names.specs.declared.keys.BufferName.{BufferName}
-use Rattle.sm_names.specs.declared.keys.NodeKey.{NodeKey}
-use Rattle.sm_names.specs.declared.keys.Strength.{Strength}
-use Rattle.sm_names.specs.declared.keys.Strength.TheVariants.{Strong, Weak}
-use Rattle.sm_names.specs.declared.messages.Call.{Call}
-use Rattle.sm_names.specs.declared.messages.Parcel.{Parcel}
-use Rattle.sm_names.specs.declared.messages.Reply.{Reply}
-use Rattle.sm_names.specs.declared.outcomes.Buffers.{Buffers}
-use Rattle.sm_names.specs.declared.outcomes.Refusal.{Refusal}
-use Rattle.sm_names.specs.Answers.{OpenEnd, Readings, answer, closing, collected, is_at_limit, set_of, strength_of}
-use Rattle.sm_names.specs.Bounds.{Bound}
-use Rattle.sm_names.specs.Ends.{is_handle_of}
-use Rattle.sm_names.specs.Handles.{is_doomed, names}
-use Rattle.sm_names.specs.Marks.{took_effect}
-use Rattle.sm_names.specs.Members.{some_strong_live}
-use Rattle.sm_names.specs.Sameness.{same_buffer}
-use Rattle.history_laws.proofs.AnswerLaws.{TookEffect, took_effect_all}
-use Rattle.history_laws.proofs.BitLaws.{bit_of_set, named_below, one_is}
-use Rattle.sm_names.proofs.SamenessLaws.{same_buffer-true, and_left, and_right, either_way, and_then-Some}
-use Rattle.history_laws.proofs.HandleLaws.{some_open}
-use Rattle.sm_names.proofs.ListLaws.{In, In-find, In-list_any, none-In}
-use Rattle.history_laws.proofs.SumLaws.{In-le-sum_by, one}
-use Rattle.buffer_holds.specs.Counts.{moving_count, total}
-use Rattle.forest_store.specs.declared.node.Node.{Node}
-use Rattle.forest_store.specs.Forest.{Collection, collection_at, node_at}
-use Rattle.forest_store.specs.Nodes.{is_spent, members_of}
-use Rattle.forest_store.specs.Settling.{buffer_names, no_key}
-use Rattle.core_state.specs.Hands.{CanOpen, MayMove}
-use Rattle.core_state.specs.Reads.{buffers_in, joined_client, end_in, open_end_of, readings_of, to_open_in}
-use Rattle.core_state.specs.State.{Client, State, counts_of}
+use Rattle.core_state.proofs.Common.{Bool, Bound, BufferName, Buffers, Call, Client, Collection, In-find, In-le-sum_by, In-list_any, List}
+use Rattle.core_state.proofs.Common.{MayMove, Node, NodeKey, None, OpenEnd, Option, Parcel, Readings, Refusal, Reply, Some, State}
+use Rattle.core_state.proofs.Common.{Strength, Strong, TookEffect, Weak, [], and_left, and_right, and_then-Some, answer, ap, arith}
+use Rattle.core_state.proofs.Common.{bit_at-zero, bit_of_set, buffers_in, closing, collected, collection_at, cond, count_by, counts_of}
+use Rattle.core_state.proofs.Common.{either_way, end_in, eq-eqb, eqb-true, false, filter, if◌then◌else◌, inl, inr, is_doomed}
+use Rattle.core_state.proofs.Common.{is_handle_of, is_spent, joined_client, leb-false, list_any, members_of, moving_count, named_below}
+use Rattle.core_state.proofs.Common.{names, nat_lt, no_key, node_at, not, one, open_end_of, option_map_or, readings_of, refl, same_buffer}
+use Rattle.core_state.proofs.Common.{same_buffer-true, set_of, some_open, some_strong_live, strength_of, subst, sum_by-cons, sym}
+use Rattle.core_state.proofs.Common.{to_open_in, took_effect, took_effect_all, total, true, ℕ, ◌&&◌, ◌+◌, ◌<◌, ◌==◌, ◌∙◌, ◌∷◌, ◌≡◌}
+use Rattle.sm_names.specs.Answers.{is_at_limit}
+use Rattle.history_laws.proofs.BitLaws.{one_is}
+use Rattle.sm_names.proofs.ListLaws.{In, none-In}
+use Rattle.forest_store.specs.Settling.{buffer_names}
+use Rattle.core_state.specs.Hands.{CanOpen}
 use Rattle.core_state.proofs.forced.Known.{AreSent, waiting_in}
 use Rattle.event_laws.proofs.FreeEndLaws.{passed}
 

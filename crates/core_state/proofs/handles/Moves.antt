@@ -1,12 +1,8 @@
 -- What an event makes of the counts of handles.
-use Rattle.std.proofs.Common.{ℕ, ◌≡◌, ◌+◌, ◌-◌, sym, subst, Bool, arith}
-use Rattle.sm_names.specs.Handles.{opens, drops, lifts, lands}
-use Rattle.sm_names.specs.Marks.{Mark}
-use Rattle.event_laws.specs.ByEvent.{GoesBy, anyone, one_if, only, gains, loses}
-use Rattle.buffer_holds.specs.Counts.{Counts, of, moving_count, total}
-use Rattle.core_state.specs.Hands.{MovesHandles}
-use Rattle.core_state.specs.State.{HandleCounts, counts_of}
-use Rattle.core_state.specs.Steps.{handles_by}
+use Rattle.core_state.proofs.Common.{Bool, GoesBy, HandleCounts, Mark, MovesHandles, arith, counts_of, drops, gains, handles_by, lands}
+use Rattle.core_state.proofs.Common.{lifts, loses, moving_count, of, one_if, only, opens, subst, sym, total, ℕ, ◌+◌, ◌-◌, ◌≡◌}
+use Rattle.event_laws.specs.ByEvent.{anyone}
+use Rattle.buffer_holds.specs.Counts.{Counts}
 
 -- other rows with the same counts
 pub moves_to : (old new other : Counts) (mark : Mark) → MovesHandles old new mark → counts_of other ≡ counts_of new →

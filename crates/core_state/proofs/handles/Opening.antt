@@ -1,24 +1,15 @@
 -- What opening and closing handles does to the counts.
-use Rattle.std.proofs.Common.{ℕ, ◌≡◌, ◌+◌, ◌-◌, ◌<◌, ◌≤◌, ◌==◌, ◌&&◌, nat_lt}
-use Rattle.std.proofs.Common.{refl, sym, ap, ◌∙◌, Bool, true, false, if◌then◌else◌, arith}
-use Rattle.std.specs.Int.{bit_at}
-use Rattle.std.proofs.lemmas.Bool.{eq-eqb}
-use Rattle.std.proofs.lemmas.Grind.{common_steps}
-use Rattle.sm_names.specs.declared.keys.BufferName.{BufferName}
-use Rattle.sm_names.specs.declared.keys.Strength.{Strength}
-use Rattle.sm_names.specs.Sameness.{same_buffer, same_strength}
-use Rattle.sm_names.proofs.SamenessLaws.{and_right}
-use Rattle.event_laws.specs.ByEvent.{one_if}
-use Rattle.buffer_holds.specs.Changes.{AddsSet, Sets, Tidies, is_in_set_below}
-use Rattle.buffer_holds.specs.Counts.{Counts, of, moving_count, total, share}
+use Rattle.core_state.proofs.Common.{AddsSet, Bool, BufferName, Opens, Sets, Strength, Tidies, and_right, ap, arith, bit_at, common_steps}
+use Rattle.core_state.proofs.Common.{counts_of, eq-eqb, false, if◌then◌else◌, is_in_set_below, is_the, moving_count, nat_lt, of, one_if}
+use Rattle.core_state.proofs.Common.{refl, same_buffer, same_strength, still, sym, total, true, up, ℕ, ◌&&◌, ◌+◌, ◌-◌, ◌<◌, ◌==◌, ◌∙◌}
+use Rattle.core_state.proofs.Common.{◌≡◌, ◌≤◌}
+use Rattle.buffer_holds.specs.Counts.{Counts, share}
 use Rattle.buffer_holds.specs.Kinds.{kind_of, hold_of, same_hold}
 use Rattle.buffer_holds.specs.Rows.{row_at}
 use Rattle.buffer_holds.proofs.KindLemmas.{same_hold-one, same_kind-one, same_hold-refl, same_kind-refl}
 use Rattle.buffer_holds.proofs.RowLemmas.{weight_at-le-sum_by}
-use Rattle.buffer_holds.proofs.SetLemmas.{next_below, nothing_below, still, up}
+use Rattle.buffer_holds.proofs.SetLemmas.{next_below, nothing_below}
 use Rattle.buffer_holds.proofs.SoundLemmas.{weight_at-share}
-use Rattle.core_state.specs.Hands.{Opens, is_the}
-use Rattle.core_state.specs.State.{counts_of}
 
 -- a client's handles are at most all
 pub of-le-total : (holds : Counts) (client : ℕ) (buffer : BufferName) (strength : Strength) →

@@ -1,12 +1,9 @@
 -- The places for the handles in parcels, after a change of one count.
-use Rattle.std.proofs.Common.{◌≡◌, ◌+◌, ◌-◌, ◌<◌, ℕ, Bool, true, false, Result, Ok, Err, OnOk, OnErr, ap, subst, sym, arith}
+use Rattle.core_state.proofs.Common.{AddsSet, Bool, BufferName, Err, HasPlaces, Mark, MovesHandles, Ok, OnOk, Result, Sets, Strength}
+use Rattle.core_state.proofs.Common.{Tidies, ap, arith, false, moving_count, subst, sym, true, ℕ, ◌+◌, ◌-◌, ◌<◌, ◌≡◌}
+use Rattle.std.proofs.Common.{OnErr}
 use Rattle.std.specs.Bool.{OnTrue, OnFalse}
-use Rattle.sm_names.specs.declared.keys.BufferName.{BufferName}
-use Rattle.sm_names.specs.declared.keys.Strength.{Strength}
-use Rattle.buffer_holds.specs.Counts.{Counts, HasPlaces, moving_count, sent}
-use Rattle.buffer_holds.specs.Changes.{AddsSet, Sets, Tidies}
-use Rattle.sm_names.specs.Marks.{Mark}
-use Rattle.core_state.specs.Hands.{MovesHandles}
+use Rattle.buffer_holds.specs.Counts.{Counts, sent}
 
 -- the same counts have the same places
 pub same_places : (old new : Counts) → new ≡ old → HasPlaces old → HasPlaces new

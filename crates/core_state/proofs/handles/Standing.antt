@@ -1,15 +1,9 @@
 -- Which events may be refused memory, and which stand at once.
-use Rattle.std.proofs.lemmas.Bool.{false≢true}
-use Rattle.std.proofs.Common.{◌≡◌, ◌||◌, refl, ap, ◌∙◌, ℕ, Bool, true, false, Option, None, is_some}
-use Rattle.sm_names.specs.declared.messages.Call.{Call}
-use Rattle.sm_names.specs.declared.messages.Reply.{Reply}
-use Rattle.trackers.specs.declared.waiting.Waiting.{Waiting}
-use Rattle.core_state.specs.declared.task.EventTask.{EventTask}
-use Rattle.core_state.specs.Hands.{collects_handle, takes_handle_room}
+use Rattle.core_state.proofs.Common.{Bool, Call, EventTask, None, Option, Reply, State, Waiting, ap, collects_handle, false, false≢true}
+use Rattle.core_state.proofs.Common.{is_some, refl, takes_room, tracker_by, true, work_in, work_of, ℕ, ◌||◌, ◌∙◌, ◌≡◌}
+use Rattle.core_state.specs.Hands.{takes_handle_room}
 use Rattle.core_state.specs.Kinds.{takes_no_memory}
-use Rattle.core_state.specs.State.{State}
-use Rattle.core_state.specs.Steps.{tracker_by, work_of}
-use Rattle.core_state.specs.Tasks.{may_take_memory, takes_room, work_in}
+use Rattle.core_state.specs.Tasks.{may_take_memory}
 
 module _ (call : Call) (asked : Reply) {task : Option EventTask} {tracking : Option Waiting}
     (lands : collects_handle call asked ≡ true → (task ≡ None) × (tracking ≡ None)) where

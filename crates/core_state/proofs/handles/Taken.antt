@@ -1,53 +1,28 @@
 -- A Take is never answered with an empty set.
-use Rattle.std.proofs.Common.{ℕ, zero, suc, ◌≡◌, ◌<◌, refl, ap, sym, ◌∙◌, subst, Bool, true, false, cond, not, ◌&&◌, ◌==◌}
-use Rattle.std.proofs.Common.{nat_lt, ◌⊎◌, inl, inr, List, [], ◌∷◌, ◌++◌, Option, Some, None, is_some, is_none, arith}
-use Rattle.std.proofs.lemmas.Bool.{eqb-true, eq-eqb, lt-ltb, ltb-true}
-use Rattle.std.proofs.lemmas.Nat.Bits.{bit_at-zero}
-use Rattle.std.specs.Int.{bit_at}
-use Rattle.std.specs.List.{filter, find, list_any, range_with_len}
-use Rattle.std.specs.Option.{option_map_or}
-use Rattle.std.proofs.Math.Bool.{and-false}
-use Rattle.sm_names.specs.declared.keys.BufferName.{BufferName}
-use Rattle.sm_names.specs.declared.keys.NodeKey.{NodeKey}
-use Rattle.sm_names.specs.declared.keys.Strength.{Strength}
-use Rattle.sm_names.specs.declared.messages.Call.{Call}
-use Rattle.sm_names.specs.declared.messages.Reply.{Reply}
-use Rattle.sm_names.specs.declared.outcomes.Buffers.{Buffers}
-use Rattle.sm_names.specs.declared.outcomes.Cause.{Cause}
-use Rattle.sm_names.specs.declared.outcomes.Failure.{Failure}
-use Rattle.sm_names.specs.declared.rules.TheConstants.{MAX_BUFFERS}
-use Rattle.sm_names.specs.Answers.{IsAnswer, set_of, strength_of}
-use Rattle.sm_names.specs.Births.{Birth, births, birth_of, collection_in, AreTogether}
-use Rattle.sm_names.specs.Bounds.{Bound}
-use Rattle.sm_names.specs.Forced.{Standing, abandoned, initial_failure}
-use Rattle.sm_names.specs.Handles.{buffers_of, buffer_names, doomed, names, opens, open_total}
-use Rattle.sm_names.specs.Ends.{spent}
+use Rattle.core_state.proofs.Common.{Allocated, Allocates, Answers, AreTogether, Birth, Bool, Bound, BufferName, Buffers, Call, Called}
+use Rattle.core_state.proofs.Common.{Cause, Ends, Entry, Failure, Grows, In-any, In-find, In-list_any, In-map, Initial, IsAnswer}
+use Rattle.core_state.proofs.Common.{IsOrdered, List, Logical, Loses, Loss, MAX_BUFFERS, Mark, Member, NodeKey, None, Option, Reply, Some}
+use Rattle.core_state.proofs.Common.{Standing, Stays, Strength, Timeline, Why, [], abandoned, allocated, and-false, and_left, and_right}
+use Rattle.core_state.proofs.Common.{ap, arith, asked, birth_of, births, bit_at, bit_at-zero, bit_of_set, both_ways, buffers_of}
+use Rattle.core_state.proofs.Common.{collection_in, cond, doomed, either_way, eq-eqb, eqb-true, every_rests, false, false_if, fault}
+use Rattle.core_state.proofs.Common.{filter, find, find_birth, first_some, forced_why, given_root, gone, initial_failure, inl, inr}
+use Rattle.core_state.proofs.Common.{is_none, is_root, is_some, is_some-find, list_any, lt-ltb, ltb-true, map-Some, member, member_birth}
+use Rattle.core_state.proofs.Common.{members, named_below, names, nat_lt, next_forced, none_if, none_key, none_or_some, not, one}
+use Rattle.core_state.proofs.Common.{open_end, open_total, opens, option_map_or, ordered, pages_of, places, range_with_len, readings}
+use Rattle.core_state.proofs.Common.{refl, root_left, same_buffer, same_buffer-refl, same_key, same_key-true, same_strength, set_of}
+use Rattle.core_state.proofs.Common.{some_strong_live, spent, strength_of, subst, suc, sym, timeline, took_effect_all, true, weak, when}
+use Rattle.core_state.proofs.Common.{whole, zero, ℕ, ◌&&◌, ◌++◌, ◌<◌, ◌==◌, ◌∙◌, ◌∷◌, ◌≡◌, ◌⊎◌}
+use Rattle.sm_names.specs.Handles.{buffer_names}
 use Rattle.sm_names.specs.Legality.{AreAnswers}
-use Rattle.sm_names.specs.Losses.{allocated, fault, gone}
-use Rattle.sm_names.specs.Marks.{Entry, Mark, Timeline, Called, Loss, Allocated}
-use Rattle.sm_names.specs.Members.{Member, member, members, asked, is_root, root_left, some_strong_live}
-use Rattle.sm_names.specs.Pages.{places, pages_of}
-use Rattle.sm_names.specs.Reading.{readings, open_end}
-use Rattle.sm_names.specs.Sameness.{same_buffer, same_key, same_strength}
-use Rattle.sm_names.specs.Timelines.{standing, next_forced, timeline}
-use Rattle.sm_names.specs.Weakness.{weak}
-use Rattle.sm_names.specs.Words.{first_some, when}
-use Rattle.history_laws.proofs.AnswerLaws.{took_effect_all}
+use Rattle.sm_names.specs.Timelines.{standing}
 use Rattle.history_laws.proofs.BirthLaws.{named}
-use Rattle.history_laws.proofs.BitLaws.{bit_of_set, named_below}
 use Rattle.history_laws.proofs.CountLaws.{anyone}
-use Rattle.history_laws.proofs.GrowthLaws.{Grows, Stays, Answers, Loses, Allocates, Ends, grows_history, AreAnswers-append}
-use Rattle.history_laws.proofs.HeldLaws.{given_root}
-use Rattle.history_laws.proofs.LifeLaws.{IsOrdered, ordered, members_on, whole}
-use Rattle.sm_names.proofs.ListLaws.{In, In-find, In-list_any, In-map, is_some-find, In-any}
+use Rattle.history_laws.proofs.GrowthLaws.{grows_history, AreAnswers-append}
+use Rattle.history_laws.proofs.LifeLaws.{members_on}
+use Rattle.sm_names.proofs.ListLaws.{In}
 use Rattle.sm_names.proofs.ForcedLaws.{at_rest}
-use Rattle.history_laws.proofs.RestLaws.{every_rests}
-use Rattle.sm_names.proofs.SamenessLaws.{and_left, and_right, both_ways, either_way, false_if, none_or_some}
-use Rattle.sm_names.proofs.SamenessLaws.{not_none, same_key-true, map-Some, none_if, same_strength-refl}
-use Rattle.history_laws.proofs.SettledLaws.{find_birth, member_birth, Why, Initial, Logical, forced_why}
-use Rattle.history_laws.proofs.SumLaws.{one}
-use Rattle.history_laws.proofs.TakeLaws.{took, none_key}
-use Rattle.event_laws.proofs.HandleCaseLaws.{same_buffer-refl}
+use Rattle.sm_names.proofs.SamenessLaws.{not_none, same_strength-refl}
+use Rattle.history_laws.proofs.TakeLaws.{took}
 use Rattle.core_state.proofs.collections.Roots.{HasRoot, has_root}
 
 -- ---- a collection is given one buffer at least

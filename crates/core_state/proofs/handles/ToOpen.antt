@@ -1,25 +1,12 @@
 -- The buffers that a Take opens, one after another.
-use Rattle.std.proofs.Common.{ℕ, suc, ◌≡◌, ◌<◌, ◌≤◌, ◌+◌, ◌-◌, ◌*◌, ◌%◌, ◌^◌, refl, ap, ◌∙◌, Bool, true, false}
-use Rattle.std.proofs.Common.{not, ◌&&◌, ◌||◌, ◌==◌, cond, List, [], ◌∷◌, map, Option, Some, None, arith}
+use Rattle.core_state.proofs.Common.{Bool, BufferName, Buffers, Collection, In-find, List, None, Option, Some, State, Strength, [], ap}
+use Rattle.core_state.proofs.Common.{arith, buffers_in, collection_at, cond, eqb-true, false, filter, is_doomed, list_any, map}
+use Rattle.core_state.proofs.Common.{members_of, not, option_map_or, range_with_len, refl, set_of, some_strong_live, suc, sum_by-cons}
+use Rattle.core_state.proofs.Common.{to_open_in, total, true, ℕ, ◌&&◌, ◌+◌, ◌-◌, ◌<◌, ◌==◌, ◌^◌, ◌||◌, ◌∙◌, ◌∷◌, ◌≡◌, ◌≤◌}
+use Rattle.std.proofs.Common.{◌*◌, ◌%◌}
 use Rattle.std.proofs.Math.Nat.{pow-succ'}
 use Rattle.std.proofs.Math.Pow.{pow_mono}
-use Rattle.std.proofs.lemmas.Bool.{eqb-true}
-use Rattle.std.proofs.lemmas.List.Sums.{sum_by-cons}
-use Rattle.std.specs.List.{filter, list_any, range_with_len}
-use Rattle.std.specs.Option.{option_map_or}
-use Rattle.sm_names.specs.declared.keys.BufferName.{BufferName}
-use Rattle.sm_names.specs.declared.keys.Strength.{Strength}
-use Rattle.sm_names.specs.declared.outcomes.Buffers.{Buffers}
-use Rattle.sm_names.specs.Answers.{set_of}
-use Rattle.sm_names.specs.Handles.{is_doomed}
-use Rattle.sm_names.specs.Members.{some_strong_live}
-use Rattle.sm_names.proofs.ListLaws.{In-find}
-use Rattle.buffer_holds.specs.Counts.{total}
-use Rattle.forest_store.specs.Forest.{Collection, collection_at}
-use Rattle.forest_store.specs.Nodes.{members_of}
 use Rattle.forest_store.specs.Settling.{buffer_names}
-use Rattle.core_state.specs.Reads.{buffers_in, to_open_in}
-use Rattle.core_state.specs.State.{State}
 
 -- a strong node of the collection is live
 abbrev pub strong_live_in : State → ℕ → Bool

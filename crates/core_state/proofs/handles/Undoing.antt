@@ -1,27 +1,15 @@
 -- What an event does to the counts of handles, and how it is undone.
-use Rattle.std.proofs.Common.{ℕ, ◌≡◌, ◌+◌, ◌-◌, ◌<◌, ◌≤◌, ◌^◌, ◌==◌, ◌&&◌, nat_lt, refl, sym, ap, ◌∙◌, ◌⊎◌}
-use Rattle.std.proofs.Common.{inl, inr, ◌↔◌, Result, Ok, Err, OnOk, IsErrOf, IsOkUnless, Bool, false, arith}
-use Rattle.std.specs.Int.{bit_at}
-use Rattle.std.proofs.lemmas.Bool.{cases_lt, false≢true}
-use Rattle.std.proofs.lemmas.Grind.{common_steps}
+use Rattle.core_state.proofs.Common.{Bool, BufferName, Call, Called, Err, GoesBy, Mark, MovesHandles, NodeKey, Ok, OnOk, Opens, Reply}
+use Rattle.core_state.proofs.Common.{Result, SET_BITS, Sets, Strength, ap, arith, bit_at, cases_lt, collects_handle, common_steps}
+use Rattle.core_state.proofs.Common.{counts_of, false, false≢true, idle_drops, idle_gains, idle_lands, idle_lifts, idle_loses, idle_opens}
+use Rattle.core_state.proofs.Common.{inl, inr, is_about_handles, is_in_set_below, is_the, moving_count, nat_lt, of, one_if, only}
+use Rattle.core_state.proofs.Common.{or_false, refl, same_strength, still, sym, total, up, ℕ, ◌&&◌, ◌+◌, ◌-◌, ◌<◌, ◌==◌, ◌^◌, ◌↔◌, ◌∙◌}
+use Rattle.core_state.proofs.Common.{◌≡◌, ◌≤◌, ◌⊎◌}
+use Rattle.std.proofs.Common.{IsErrOf, IsOkUnless}
 use Rattle.std.proofs.lemmas.Nat.Bits.{bit_at_above}
-use Rattle.sm_names.specs.declared.keys.BufferName.{BufferName}
-use Rattle.sm_names.specs.declared.keys.NodeKey.{NodeKey}
-use Rattle.sm_names.specs.declared.keys.Strength.{Strength}
-use Rattle.sm_names.specs.declared.messages.Call.{Call}
-use Rattle.sm_names.specs.declared.messages.Reply.{Reply}
-use Rattle.sm_names.specs.Marks.{Mark, Called}
-use Rattle.sm_names.specs.Sameness.{same_strength}
-use Rattle.sm_names.proofs.SamenessLaws.{or_false}
-use Rattle.event_laws.specs.ByEvent.{GoesBy, one_if, anyone, only, is_about_handles}
-use Rattle.event_laws.proofs.HandleEventLaws.{idle_gains, idle_loses, idle_opens, idle_drops, idle_lifts, idle_lands}
-use Rattle.buffer_holds.specs.Changes.{Sets, is_in_set_below}
+use Rattle.event_laws.specs.ByEvent.{anyone}
 use Rattle.buffer_holds.specs.declared.fault.HoldFault.{HoldFault}
-use Rattle.buffer_holds.specs.Counts.{Counts, of, moving_count, total}
-use Rattle.buffer_holds.proofs.SetLemmas.{still, up}
-use Rattle.core_state.specs.declared.handle_changes.TheConstants.{SET_BITS}
-use Rattle.core_state.specs.Hands.{MovesHandles, Opens, collects_handle, is_the}
-use Rattle.core_state.specs.State.{counts_of}
+use Rattle.buffer_holds.specs.Counts.{Counts}
 use Rattle.core_state.proofs.handles.Opening.{same_counts, down, one_hold, one_kind, of-le-total}
 
 -- ---- one count

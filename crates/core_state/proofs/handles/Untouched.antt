@@ -1,16 +1,10 @@
 -- A call that is about no handles, or answered otherwise, changes no count.
-use Rattle.std.proofs.Common.{ℕ, ◌≡◌, ◌+◌, refl, ap, sym, ◌∙◌, Bool, false}
-use Rattle.std.proofs.lemmas.Bool.{false≢true}
-use Rattle.sm_names.specs.declared.keys.BufferName.{BufferName}
-use Rattle.sm_names.specs.declared.keys.NodeKey.{NodeKey}
-use Rattle.sm_names.specs.declared.keys.Strength.{Strength}
-use Rattle.sm_names.specs.declared.messages.Call.{Call}
-use Rattle.sm_names.specs.declared.messages.Reply.{Reply}
-use Rattle.sm_names.specs.Marks.{Mark, Called}
-use Rattle.event_laws.specs.ByEvent.{GoesBy, one_if, anyone, only, is_about_handles}
-use Rattle.event_laws.proofs.HandleEventLaws.{idle_gains, idle_loses, idle_opens, idle_drops, idle_lifts, idle_lands}
+use Rattle.core_state.proofs.Common.{Bool, BufferName, Call, Called, GoesBy, Mark, MovesHandles, NodeKey, Reply, Strength, ap}
+use Rattle.core_state.proofs.Common.{collects_handle, false, false≢true, idle_drops, idle_gains, idle_lands, idle_lifts, idle_loses}
+use Rattle.core_state.proofs.Common.{idle_opens, is_about_handles, one_if, only, refl, sym, ℕ, ◌+◌, ◌∙◌, ◌≡◌}
+use Rattle.event_laws.specs.ByEvent.{anyone}
 use Rattle.buffer_holds.specs.Counts.{Counts}
-use Rattle.core_state.specs.Hands.{CanUndo, MovesHandles, collects_handle}
+use Rattle.core_state.specs.Hands.{CanUndo}
 use Rattle.core_state.proofs.handles.Undoing.{not_taken, not_doubled, not_dropped, not_handed, not_handles}
 
 -- where nothing is gained or lost, a count stays

@@ -1,33 +1,16 @@
 -- What an event does to the clients, and what is known of a client that has not joined.
-use Rattle.std.proofs.Common.{ℕ, ◌≡◌, refl, ap, sym, ◌∙◌, subst, Bool, true, false, not, ◌||◌, inl, inr}
-use Rattle.std.proofs.Common.{List, [], ◌∷◌, ◌++◌, drop, map, reverse, Option, Some, None, is_some}
-use Rattle.std.proofs.lemmas.Bool.{eqb-true, false≢true}
-use Rattle.std.proofs.lemmas.List.{append-nil, map-append, reverse-append}
-use Rattle.std.specs.List.{cons_option}
-use Rattle.sm_names.specs.declared.messages.Call.{Call}
-use Rattle.sm_names.specs.declared.messages.Reply.{Reply}
-use Rattle.sm_names.specs.declared.outcomes.Refusal.{Refusal}
-use Rattle.sm_names.specs.Answers.{IsAnswer, refused_if}
-use Rattle.sm_names.specs.Bounds.{Bound}
-use Rattle.sm_names.specs.Ends.{clients, joined_at, has_joined, shuts, is_shut, given_at, collects, parcels}
-use Rattle.sm_names.specs.Marks.{Mark, Timeline, Called}
-use Rattle.sm_names.specs.Reading.{readings}
-use Rattle.sm_names.specs.Timelines.{after}
-use Rattle.history_laws.proofs.AnswerLaws.{TookEffect, took_effect_all}
+use Rattle.core_state.proofs.Common.{Allocates, Answers, Bool, Bound, Call, Called, Client, Ends, Grows, IsAnswer, List, Loses, Mark}
+use Rattle.core_state.proofs.Common.{None, Option, Refusal, Reply, SameHands, Some, Stays, Timeline, TookEffect, [], after, ap, both_ways}
+use Rattle.core_state.proofs.Common.{client_after, client_by, clients, clients_by, collects, cons_option, drop, either_way, eqb-true}
+use Rattle.core_state.proofs.Common.{false, false_if, false≢true, given_at, has_joined, inl, inr, is_shut, is_some, joined_at, map}
+use Rattle.core_state.proofs.Common.{map-append, map-map, new_client, none_key, none_or_some, not, one_if, parcels, readings, refl}
+use Rattle.core_state.proofs.Common.{refused_if, reverse, reverse-append, same_after, shuts, stranger_waits_for_none, subst, sym}
+use Rattle.core_state.proofs.Common.{took_effect_all, true, ℕ, ◌++◌, ◌||◌, ◌∙◌, ◌∷◌, ◌≡◌}
+use Rattle.std.proofs.lemmas.List.{append-nil}
 use Rattle.history_laws.proofs.CountLaws.{AreClients, counted}
-use Rattle.history_laws.proofs.GrowthLaws.{Grows, Stays, Answers, Loses, Allocates, Ends}
 use Rattle.history_laws.proofs.ParcelLaws.{IsDrawn, parcels-given, parcels-collected, parcels-kept}
-use Rattle.sm_names.proofs.SamenessLaws.{both_ways, either_way, false_if, none_or_some}
 use Rattle.history_laws.proofs.SumLaws.{AreOnce}
-use Rattle.history_laws.proofs.TakeLaws.{none_key}
-use Rattle.sm_names.proofs.ListLaws.{map-map}
-use Rattle.event_laws.specs.ByEvent.{SameHands, one_if}
-use Rattle.event_laws.proofs.HandLaws.{same_after}
 use Rattle.event_laws.proofs.HandleBufferLaws.{still_joined}
-use Rattle.event_laws.proofs.ParcelEventLaws.{stranger_waits_for_none}
-use Rattle.core_state.specs.Shown.{client_after}
-use Rattle.core_state.specs.State.{Client}
-use Rattle.core_state.specs.Steps.{client_by, clients_by, new_client}
 
 -- ---- a client that has not joined
 

@@ -1,15 +1,8 @@
 -- What an event makes of the rows of the clients.
-use Rattle.std.proofs.Common.{ℕ, ◌≡◌, refl, sym, Bool, true, false, List, [], ◌∷◌, ◌++◌, map}
+use Rattle.core_state.proofs.Common.{Bool, BufferName, Call, Called, Client, List, NodeKey, Reply, Strength, [], clients_by, false, map}
+use Rattle.core_state.proofs.Common.{new_client, refl, sym, true, ℕ, ◌++◌, ◌∷◌, ◌≡◌}
 use Rattle.std.proofs.lemmas.List.{append-nil}
-use Rattle.sm_names.specs.declared.keys.BufferName.{BufferName}
-use Rattle.sm_names.specs.declared.keys.NodeKey.{NodeKey}
 use Rattle.sm_names.specs.declared.keys.Kind.{Kind}
-use Rattle.sm_names.specs.declared.keys.Strength.{Strength}
-use Rattle.sm_names.specs.declared.messages.Call.{Call}
-use Rattle.sm_names.specs.declared.messages.Reply.{Reply}
-use Rattle.sm_names.specs.Marks.{Called}
-use Rattle.core_state.specs.State.{Client}
-use Rattle.core_state.specs.Steps.{clients_by, new_client}
 
 -- the events that change the clients
 abbrev changes_clients : Call → Reply → Bool

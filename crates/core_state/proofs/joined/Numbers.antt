@@ -1,14 +1,6 @@
 -- Which number a new client and a new tracker have.
-use Rattle.std.proofs.Common.{ℕ, ◌≡◌, ◌+◌, refl, true, false, inl, inr, ◌⊎◌}
-use Rattle.sm_names.specs.declared.keys.NodeKey.{NodeKey}
-use Rattle.sm_names.specs.declared.messages.Call.{Call}
-use Rattle.sm_names.specs.declared.messages.Reply.{Reply}
-use Rattle.sm_names.specs.Answers.{Readings, answer, effect}
-use Rattle.sm_names.specs.Bounds.{Bound}
-use Rattle.sm_names.specs.Marks.{took_effect}
-use Rattle.history_laws.proofs.AnswerLaws.{took_effect_all}
-use Rattle.history_laws.proofs.RejectLaws.{is_refusal}
-use Rattle.sm_names.proofs.SamenessLaws.{both_ways}
+use Rattle.core_state.proofs.Common.{Bound, Call, NodeKey, Readings, Reply, answer, both_ways, effect, false, inl, inr, is_refusal, refl}
+use Rattle.core_state.proofs.Common.{took_effect, took_effect_all, true, ℕ, ◌+◌, ◌≡◌, ◌⊎◌}
 use Rattle.core_state.proofs.answers.Passed.{passed}
 use Rattle.core_state.proofs.answers.Kinds.{reply-fits}
 

@@ -1,26 +1,21 @@
 -- The rows of the clients, by rising ids.
-use Rattle.std.proofs.Common.{ℕ, zero, suc, ◌≡◌, ◌<◌, ◌≤◌, ◌==◌, refl, sym, ap, ◌∙◌, inl, inr, Bool, true, false}
-use Rattle.std.proofs.Common.{List, [], ◌∷◌, length, get_or, set, map, arith, Some, None, is_some, Result, Ok, Err}
-use Rattle.std.specs.List.{find, list_any, position, position_or_len, AllByRecursion}
+use Rattle.core_state.proofs.Common.{AllByRecursion, Bool, Client, Err, List, None, Ok, Result, Rise, Some, [], ap, arith, cases_lt}
+use Rattle.core_state.proofs.Common.{common_steps, either_way, eq-eqb, eqb-true, false, false_if, find, get_or, inl, inr, is_some}
+use Rattle.core_state.proofs.Common.{is_some-find, length, list_any, map, new_client, option_map_or, refl, set, suc, sym, true, unwrap_or}
+use Rattle.core_state.proofs.Common.{zero, ℕ, ◌<◌, ◌==◌, ◌∙◌, ◌∷◌, ◌≡◌, ◌≤◌}
+use Rattle.std.specs.List.{position, position_or_len}
 use Rattle.std.specs.List.Sorted.{IsSearchInRange, IsBinarySearchResult, IsNonDecreasingBy, IsPartitionPoint}
-use Rattle.std.specs.Option.{option_map, option_map_or, unwrap_or}
+use Rattle.std.specs.Option.{option_map}
 use Rattle.std.specs.Ordering.{nat_cmp, ordering_index}
 use Rattle.std.specs.Result.{result_ok}
 use Rattle.std.specs.declared.cmp.Ordering.TheVariants.{Less, Greater}
-use Rattle.std.proofs.lemmas.Bool.{eqb-true, eq-eqb, cases_lt}
 use Rattle.std.proofs.lemmas.Bool.Decides.{nat_tests}
 use Rattle.std.proofs.lemmas.Cmp.{ranked}
-use Rattle.std.proofs.lemmas.Grind.{common_steps}
 use Rattle.std.proofs.lemmas.List.Folds.{find_at}
 use Rattle.std.proofs.lemmas.List.Quantifiers.{position-Some}
 use Rattle.std.proofs.lemmas.List.Sums.{position_or_len_is, passes_at_first}
 use Rattle.std.proofs.lemmas.Option.{gets, slice_get_read}
-use Rattle.sm_names.proofs.ListLaws.{is_some-find}
-use Rattle.sm_names.proofs.SamenessLaws.{either_way, false_if}
 use Rattle.core_state.specs.ClientRows.{with_client}
-use Rattle.core_state.specs.State.{Client}
-use Rattle.core_state.specs.Steps.{new_client}
-use Rattle.core_state.specs.Whole.{Rise}
 
 -- the rows stand by rising ids
 abbrev pub AreRising : List Client → Type 0

@@ -1,12 +1,8 @@
 -- Elements by their numbers, where no two have the same one.
-use Rattle.std.proofs.Common.{ℕ, ◌≡◌, ◌<◌, ◌≤◌, refl, ap, sym, ◌∙◌, Bool, true, false}
-use Rattle.std.proofs.Common.{cond, nat_lt, inl, inr, List, [], ◌∷◌, ◌++◌, reverse, arith}
-use Rattle.std.proofs.lemmas.Bool.{ltb-true, ltb-false, lt-ltb}
-use Rattle.std.proofs.lemmas.List.{reverse-append}
-use Rattle.std.specs.List.{filter}
-use Rattle.sm_names.specs.Words.{insert_by, sorted_by}
-use Rattle.sm_names.proofs.ListLaws.{In, In-filter, In-reverse}
-use Rattle.sm_names.proofs.SamenessLaws.{either_way}
+use Rattle.core_state.proofs.Common.{Bool, In-filter, In-reverse, List, [], ap, arith, cond, either_way, false, filter, inl, inr}
+use Rattle.core_state.proofs.Common.{insert_by, lt-ltb, ltb-false, ltb-true, nat_lt, refl, reverse, reverse-append, sorted_by, sym, true}
+use Rattle.core_state.proofs.Common.{ℕ, ◌++◌, ◌<◌, ◌∙◌, ◌∷◌, ◌≡◌, ◌≤◌}
+use Rattle.sm_names.proofs.ListLaws.{In}
 use Rattle.core_state.proofs.lists.Reorderings.{Adds, First, Later, Mixed, Nothing, Puts, In-mixed}
 
 module _ {A : Type 0} (number : A → ℕ) where

@@ -1,12 +1,9 @@
 -- Lists that are mapped, filtered and turned round.
-use Rattle.std.proofs.Common.{ℕ, ◌≡◌, refl, ap, sym, ◌∙◌, Bool, true, false, cond, ◌||◌, ◌&&◌}
-use Rattle.std.proofs.Common.{◌==◌, inl, inr, List, [], ◌∷◌, ◌++◌, map, reverse, Some, None}
-use Rattle.std.proofs.lemmas.Bool.{eqb-true}
-use Rattle.std.proofs.lemmas.List.{map-append}
-use Rattle.std.specs.List.{filter, find, list_any, flat_map}
+use Rattle.core_state.proofs.Common.{Bool, List, None, Some, [], ap, both_ways, cond, either_way, eqb-true, false, filter, find, flat_map}
+use Rattle.core_state.proofs.Common.{inl, inr, list_any, map, map-append, refl, reverse, sym, true, ℕ, ◌&&◌, ◌++◌, ◌==◌, ◌||◌, ◌∙◌, ◌∷◌}
+use Rattle.core_state.proofs.Common.{◌≡◌}
 use Rattle.std.specs.Option.{option_map}
 use Rattle.sm_names.proofs.ListLaws.{In}
-use Rattle.sm_names.proofs.SamenessLaws.{either_way, both_ways}
 use Rattle.forest_store.proofs.tables.KeptRoots.{filter-reverse_aux, map-reverse_aux}
 
 -- ---- filters

@@ -1,11 +1,7 @@
 -- Lists that are put together of parts.
-use Rattle.std.proofs.Common.{ℕ, ◌≡◌, ◌+◌, refl, sym, false, ◌==◌, inl, inr, List, [], ◌∷◌, reverse, arith}
-use Rattle.std.proofs.lemmas.Bool.{eqb-true, eq-eqb}
-use Rattle.std.proofs.lemmas.List.{reverse-append}
-use Rattle.std.specs.List.{filter, flat_map}
-use Rattle.sm_names.specs.Words.{times}
+use Rattle.core_state.proofs.Common.{List, [], arith, both_ways, either_way, eq-eqb, eqb-true, false, filter, flat_map, inl, inr, refl}
+use Rattle.core_state.proofs.Common.{reverse, reverse-append, sym, times, ℕ, ◌+◌, ◌==◌, ◌∷◌, ◌≡◌}
 use Rattle.sm_names.proofs.ListLaws.{In}
-use Rattle.sm_names.proofs.SamenessLaws.{either_way, both_ways}
 use Rattle.core_state.proofs.lists.Reorderings.{Adds, First, Mixed, Nothing, Puts, adds_last, adds_before, adds_behind}
 
 -- numbers differ both ways

@@ -1,9 +1,7 @@
 -- Lists of the same elements in another order.
-use Rattle.std.proofs.Common.{ℕ, ◌≡◌, ◌+◌, refl, ap, Bool, true, false, cond, ◌⊎◌, inl, inr, List, [], ◌∷◌, ◌++◌, map, length, arith}
-use Rattle.std.proofs.lemmas.List.Sums.{sum_by-cons}
-use Rattle.std.specs.List.{filter, sum_by}
+use Rattle.core_state.proofs.Common.{Bool, List, [], ap, arith, cond, either_way, false, filter, inl, inr, length, map, refl, sum_by}
+use Rattle.core_state.proofs.Common.{sum_by-cons, true, ℕ, ◌++◌, ◌+◌, ◌∷◌, ◌≡◌, ◌⊎◌}
 use Rattle.sm_names.proofs.ListLaws.{In}
-use Rattle.sm_names.proofs.SamenessLaws.{either_way}
 
 -- the second list is the first with the element put in somewhere
 pub data Adds {A : Type 0} (x : A) : List A → List A → Type 0 where

@@ -1,6 +1,5 @@
 -- What is sorted, mapped.
-use Rattle.std.proofs.Common.{ℕ, ◌≡◌, refl, ap, ◌∙◌, nat_lt, cond, Bool, true, false, List, [], ◌∷◌, map}
-use Rattle.sm_names.specs.Words.{insert_by, sorted_by}
+use Rattle.core_state.proofs.Common.{Bool, List, [], ap, cond, false, insert_by, map, nat_lt, refl, sorted_by, true, ℕ, ◌∙◌, ◌∷◌, ◌≡◌}
 
 -- one that is made of another is put into the place of that
 insert_by-map : {A B : Type 0} (number : B → ℕ) (f : A → B) (x : A) (xs : List A) →

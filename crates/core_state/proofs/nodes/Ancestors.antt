@@ -1,25 +1,14 @@
 -- The nodes above a node, read of births and of the nodes that are kept.
-use Rattle.std.proofs.Common.{ℕ, ◌≡◌, refl, ap, sym, ◌∙◌, Bool, true, false, ◌&&◌, ◌==◌}
-use Rattle.std.proofs.Common.{inl, inr, List, [], ◌∷◌, map, reverse, Option, Some, None}
-use Rattle.std.proofs.lemmas.Bool.{eq-eqb}
+use Rattle.core_state.proofs.Common.{Birth, Bool, In-list_any, IsWhole, List, Node, NodeKey, None, Option, Some, Timeline, []}
+use Rattle.core_state.proofs.Common.{above_among, ancestors, ap, births, births_in, both_ways, collection_in, either_way, eq-eqb, false}
+use Rattle.core_state.proofs.Common.{false_if, filter, find_birth, gone, inl, inr, list_any, map, node_after, nodes_after, option_map_or}
+use Rattle.core_state.proofs.Common.{or_left, or_right, refl, reverse, same_key, same_key-true, sym, true, ℕ, ◌&&◌, ◌==◌, ◌∙◌, ◌∷◌, ◌≡◌}
 use Rattle.std.proofs.lemmas.List.{reverse-reverse}
-use Rattle.std.specs.List.{list_any, filter}
-use Rattle.std.specs.Option.{option_map_or, option_map}
-use Rattle.sm_names.specs.declared.keys.NodeKey.{NodeKey}
-use Rattle.sm_names.specs.Births.{Birth, births, ancestors, collection_in}
-use Rattle.sm_names.specs.Losses.{gone}
-use Rattle.sm_names.specs.Marks.{Timeline}
-use Rattle.sm_names.specs.Members.{births_in}
-use Rattle.sm_names.specs.Sameness.{same_key}
-use Rattle.sm_names.proofs.ListLaws.{In, In-list_any}
+use Rattle.std.specs.Option.{option_map}
+use Rattle.sm_names.proofs.ListLaws.{In}
 use Rattle.sm_names.proofs.ChainLaws.{IsChain}
 use Rattle.history_laws.proofs.ReachLaws.{parent_in, ancestors_chain}
-use Rattle.sm_names.proofs.SamenessLaws.{either_way, same_key-true, both_ways, false_if, or_left, or_right}
-use Rattle.history_laws.proofs.SettledLaws.{find_birth}
-use Rattle.history_laws.proofs.WholeLaws.{IsWhole, line_collection}
-use Rattle.forest_store.specs.declared.node.Node.{Node}
-use Rattle.forest_store.specs.Nodes.{above_among}
-use Rattle.core_state.specs.Shown.{node_after, nodes_after}
+use Rattle.history_laws.proofs.WholeLaws.{line_collection}
 use Rattle.core_state.proofs.lists.Maps.{filter-map, filter-filter, filter-reverse, map-reverse}
 
 -- ---- the line of a node

@@ -1,23 +1,8 @@
 -- What an event that bears no node makes of the nodes of a collection.
-use Rattle.std.proofs.Common.{ℕ, ◌≡◌, ◌+◌, refl, ap, ◌∙◌, false, [], ◌∷◌, map, Option, Some, None}
-use Rattle.sm_names.specs.declared.keys.NodeKey.{NodeKey}
-use Rattle.sm_names.specs.declared.messages.Call.{Call}
-use Rattle.sm_names.specs.declared.messages.Reply.{Reply}
-use Rattle.sm_names.specs.Answers.{IsAnswer}
-use Rattle.sm_names.specs.Births.{birth_at}
-use Rattle.sm_names.specs.Bounds.{Bound}
-use Rattle.sm_names.specs.Marks.{Mark, Timeline, Called, events}
-use Rattle.sm_names.specs.Members.{births_in}
-use Rattle.sm_names.specs.Reading.{readings}
-use Rattle.sm_names.specs.Sameness.{same_key}
-use Rattle.sm_names.specs.Timelines.{key_of}
-use Rattle.history_laws.proofs.GrowthLaws.{Grows}
-use Rattle.forest_store.specs.declared.change.Effect.{Effect}
-use Rattle.forest_store.specs.declared.node.Node.{Node}
+use Rattle.core_state.proofs.Common.{Bound, Call, Called, Effect, EndPlace, Grows, IsAnswer, Mark, Node, NodeKey, None, Option, Reply}
+use Rattle.core_state.proofs.Common.{Some, Timeline, [], ap, birth_at, births_in, end_by, events, false, key_of, map, node_after}
+use Rattle.core_state.proofs.Common.{nodes_after, place_of, readings, refl, same_key, ℕ, ◌+◌, ◌∙◌, ◌∷◌, ◌≡◌}
 use Rattle.forest_store.proofs.changes.Effecting.{alone_affected}
-use Rattle.core_state.specs.declared.task.EndPlace.{EndPlace}
-use Rattle.core_state.specs.Shown.{node_after, nodes_after}
-use Rattle.core_state.specs.Steps.{end_by, place_of}
 use Rattle.core_state.proofs.nodes.Called.{answered, said, node_called}
 use Rattle.core_state.proofs.ends.NotRead.{placed_node}
 use Rattle.core_state.proofs.lists.Maps.{map-map_In}

@@ -1,34 +1,16 @@
 -- What an event makes of each node, before what it forces.
-use Rattle.std.proofs.Common.{ℕ, ◌≡◌, refl, ap, sym, ◌∙◌, Bool, true, false, cond, not, ◌||◌, ◌&&◌, [], ◌∷◌, Option, Some, None, is_some}
-use Rattle.std.proofs.Math.Bool.{and-true, and-false, or_assoc}
-use Rattle.std.specs.List.{list_any}
-use Rattle.std.specs.Option.{option_map_or}
-use Rattle.sm_names.specs.declared.keys.NodeKey.{NodeKey}
-use Rattle.sm_names.specs.declared.messages.Call.{Call}
-use Rattle.sm_names.specs.declared.messages.Reply.{Reply}
-use Rattle.sm_names.specs.Answers.{IsAnswer}
-use Rattle.sm_names.specs.Births.{Birth, birth_at, birth_of}
-use Rattle.sm_names.specs.Bounds.{Bound}
+use Rattle.core_state.proofs.Common.{Birth, Bool, Bound, Call, Called, Effect, End, EndPlace, Grows, IsAnswer, Node, NodeKey, None}
+use Rattle.core_state.proofs.Common.{Option, Reply, Some, Timeline, [], affected, and-false, ap, birth_at, birth_of, collector, cond}
+use Rattle.core_state.proofs.Common.{constraints, covered, covers_children, end_after, end_by, false, holder, in_transit, is_some}
+use Rattle.core_state.proofs.Common.{list_any, node_after, not, option_map_or, place_of, readings, refl, same_key, sets_weak}
+use Rattle.core_state.proofs.Common.{sets_weak_ok, spent, sym, true, ℕ, ◌&&◌, ◌||◌, ◌∙◌, ◌∷◌, ◌≡◌}
+use Rattle.std.proofs.Math.Bool.{and-true, or_assoc}
 use Rattle.sm_names.specs.Demands.{Demand}
-use Rattle.sm_names.specs.Ends.{in_transit, collector, holder, spent}
-use Rattle.sm_names.specs.Marks.{Timeline, Called}
-use Rattle.sm_names.specs.Members.{constraints}
-use Rattle.sm_names.specs.Reading.{readings}
-use Rattle.sm_names.specs.Sameness.{same_key}
-use Rattle.sm_names.specs.Weakness.{sets_weak, sets_weak_ok, covered, covers_children}
 use Rattle.history_laws.proofs.CountLaws.{counted}
-use Rattle.history_laws.proofs.GrowthLaws.{Grows}
 use Rattle.event_laws.specs.ByEvent.{sends, delivers}
 use Rattle.event_laws.proofs.FreeEndLaws.{FreeEnd, sends_free}
 use Rattle.event_laws.proofs.TransitLaws.{EndAt, end_at, transit_mark, delivers_waited}
-use Rattle.forest_store.specs.declared.change.Effect.{Effect}
-use Rattle.forest_store.specs.declared.node.End.{End}
-use Rattle.forest_store.specs.declared.node.Node.{Node}
 use Rattle.forest_store.specs.Effects.{effect_of}
-use Rattle.forest_store.specs.Nodes.{affected}
-use Rattle.core_state.specs.declared.task.EndPlace.{EndPlace}
-use Rattle.core_state.specs.Shown.{node_after, end_after}
-use Rattle.core_state.specs.Steps.{end_by, place_of}
 use Rattle.core_state.proofs.ends.NotRead.{placed_node}
 
 -- ---- words

@@ -1,21 +1,11 @@
 -- What a mark makes of the nodes of a collection.
-use Rattle.std.proofs.Common.{ℕ, ◌≡◌, refl, ap, sym, ◌∙◌, Bool, true, false, cond, not}
-use Rattle.std.proofs.Common.{◌&&◌, ◌||◌, ◌⊎◌, inl, inr, List, ◌∷◌, map, Option, Some, None}
-use Rattle.std.specs.Option.{option_map_or}
-use Rattle.sm_names.specs.declared.keys.NodeKey.{NodeKey}
-use Rattle.sm_names.specs.declared.outcomes.Cause.{Cause}
-use Rattle.sm_names.specs.declared.outcomes.Fault.{Fault}
-use Rattle.sm_names.specs.Births.{Birth, births, is_at_or_below}
-use Rattle.sm_names.specs.Losses.{gone, fault, reaches}
-use Rattle.sm_names.specs.Marks.{Mark, Timeline, Loss, Allocated, Ended}
-use Rattle.sm_names.specs.Members.{births_in, is_under}
-use Rattle.history_laws.proofs.GoneLaws.{gone_stays}
-use Rattle.sm_names.proofs.ListLaws.{In, In-filter}
-use Rattle.sm_names.proofs.SamenessLaws.{false_if, both_ways}
-use Rattle.history_laws.proofs.WholeLaws.{IsWhole}
-use Rattle.forest_store.specs.declared.node.Node.{Node}
-use Rattle.forest_store.specs.Nodes.{member_of, lost, is_taken, after_loss, given_buffers, after_allocation, ended, after_end}
-use Rattle.core_state.specs.Shown.{node_after}
+use Rattle.core_state.proofs.Common.{Allocated, Birth, Bool, Cause, Ended, Fault, In-filter, IsWhole, List, Loss, Mark, Node, NodeKey}
+use Rattle.core_state.proofs.Common.{None, Option, Some, Timeline, after_allocation, after_end, after_loss, ap, births, births_in}
+use Rattle.core_state.proofs.Common.{both_ways, cond, ended, false, false_if, fault, given_buffers, gone, gone_stays, inl, inr, is_taken}
+use Rattle.core_state.proofs.Common.{is_under, lost, map, member_of, node_after, not, option_map_or, reaches, refl, sym, true, ℕ, ◌&&◌}
+use Rattle.core_state.proofs.Common.{◌||◌, ◌∙◌, ◌∷◌, ◌≡◌, ◌⊎◌}
+use Rattle.sm_names.specs.Births.{is_at_or_below}
+use Rattle.sm_names.proofs.ListLaws.{In}
 use Rattle.core_state.proofs.nodes.Ancestors.{Keeps, kept_in, nodes_kept, kept_births}
 use Rattle.core_state.proofs.lists.Maps.{map-map_In}
 use Rattle.core_state.proofs.nodes.Members.{of_collection, member_kept, taken_kept}

@@ -1,25 +1,16 @@
 -- What the forced steps read of the nodes that are kept.
-use Rattle.std.proofs.Common.{ℕ, ◌≡◌, refl, ap, sym, ◌∙◌, Bool, true, false, not, ◌&&◌, ◌==◌, inl, inr, List, ◌∷◌, map, Some}
-use Rattle.std.proofs.lemmas.Bool.{eqb-true, eq-eqb, not-true}
-use Rattle.std.specs.List.{find, filter}
-use Rattle.sm_names.specs.declared.keys.NodeKey.{NodeKey}
-use Rattle.sm_names.specs.Births.{Birth, births, ancestors, AreSound}
-use Rattle.sm_names.specs.Changes.{blocks, highest}
-use Rattle.sm_names.specs.Losses.{top, gone, blocked, reaches}
-use Rattle.sm_names.specs.Marks.{Timeline}
-use Rattle.sm_names.specs.Members.{Member, member, members, births_in, is_under}
-use Rattle.sm_names.specs.Sameness.{same_key}
-use Rattle.history_laws.proofs.ForgetLaws.{is_left, left_of, any-left}
-use Rattle.history_laws.proofs.IsolationLaws.{birth_of_collection}
-use Rattle.sm_names.proofs.ListLaws.{In, In-filter, In-filter-back, In-map, In-map-back, In-reverse-back, filter-less}
-use Rattle.sm_names.proofs.SamenessLaws.{either_way, same_key-true, same_key-refl, both_ways}
-use Rattle.history_laws.proofs.SettledLaws.{find_birth, member_birth}
+use Rattle.core_state.proofs.Common.{AreSound, Birth, Bool, In-filter, In-filter-back, In-map, In-map-back, In-reverse-back, IsWhole}
+use Rattle.core_state.proofs.Common.{List, Member, Node, NodeKey, Some, Timeline, ancestors, any-left, ap, birth_of_collection, births}
+use Rattle.core_state.proofs.Common.{births_in, both_ways, either_way, eq-eqb, eqb-true, false, filter, filter-less, find, find_birth}
+use Rattle.core_state.proofs.Common.{gone, highest, inl, inr, is_of, is_taken, is_under, left_of, map, member, member_birth, member_of}
+use Rattle.core_state.proofs.Common.{members, members_of, node_after, node_of, not, not-true, reaches, refl, same_key, same_key-refl}
+use Rattle.core_state.proofs.Common.{same_key-true, sym, true, ℕ, ◌&&◌, ◌==◌, ◌∙◌, ◌∷◌, ◌≡◌}
+use Rattle.sm_names.specs.Changes.{blocks}
+use Rattle.sm_names.specs.Losses.{top, blocked}
+use Rattle.history_laws.proofs.ForgetLaws.{is_left}
+use Rattle.sm_names.proofs.ListLaws.{In}
 use Rattle.history_laws.proofs.StandingLaws.{highest-members}
 use Rattle.sm_names.proofs.ChainLaws.{top-same}
-use Rattle.history_laws.proofs.WholeLaws.{IsWhole}
-use Rattle.forest_store.specs.declared.node.Node.{Node}
-use Rattle.forest_store.specs.Nodes.{is_of, node_of, member_of, members_of, is_taken}
-use Rattle.core_state.specs.Shown.{node_after}
 use Rattle.core_state.proofs.nodes.Ancestors.{Keeps, kept_in, nodes_kept, kept_births, above_kept, line_left}
 use Rattle.core_state.proofs.lists.Maps.{filter-map, map-map_In, find_only}
 

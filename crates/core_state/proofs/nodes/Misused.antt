@@ -1,25 +1,10 @@
 -- A node that is misused is not gone.
-use Rattle.std.proofs.Common.{ℕ, ◌≡◌, refl, false, List, [], ◌∷◌, Option, Some, None}
-use Rattle.std.specs.Option.{option_map, option_and_then, unwrap_or}
-use Rattle.sm_names.specs.declared.keys.NodeKey.{NodeKey}
-use Rattle.sm_names.specs.declared.messages.Call.{Call}
-use Rattle.sm_names.specs.declared.messages.Reply.{Reply}
-use Rattle.sm_names.specs.declared.outcomes.Fault.{Fault}
-use Rattle.sm_names.specs.declared.outcomes.Misuse.{Misuse}
-use Rattle.sm_names.specs.Answers.{OpenEnd, Readings, IsAnswer, effect, closing, peer_closed}
-use Rattle.sm_names.specs.Answers.{wrong_kind, misuse, no_handle, limits_met, end_named, key_told}
-use Rattle.sm_names.specs.Bounds.{Bound}
-use Rattle.sm_names.specs.Ends.{spent}
-use Rattle.sm_names.specs.Losses.{fault, gone}
-use Rattle.sm_names.specs.Marks.{Timeline}
-use Rattle.sm_names.specs.Reading.{readings}
-use Rattle.sm_names.specs.Timelines.{key_of}
-use Rattle.sm_names.specs.Words.{first_some}
-use Rattle.history_laws.proofs.BirthLaws.{HasEnd, has_no_fault}
-use Rattle.history_laws.proofs.GrowthLaws.{Grows}
-use Rattle.history_laws.proofs.LifeLaws.{ordered}
-use Rattle.history_laws.proofs.RejectLaws.{not_refused_end}
-use Rattle.sm_names.proofs.SamenessLaws.{both_ways, false_if}
+use Rattle.core_state.proofs.Common.{Bound, Call, Fault, Grows, HasEnd, IsAnswer, List, Misuse, NodeKey, None, OpenEnd, Option, Readings}
+use Rattle.core_state.proofs.Common.{Reply, Some, Timeline, [], both_ways, closing, effect, end_named, false, false_if, fault, first_some}
+use Rattle.core_state.proofs.Common.{gone, key_of, key_told, limits_met, misuse, no_handle, not_refused_end, option_and_then, ordered}
+use Rattle.core_state.proofs.Common.{peer_closed, readings, refl, spent, unwrap_or, wrong_kind, ℕ, ◌∷◌, ◌≡◌}
+use Rattle.std.specs.Option.{option_map}
+use Rattle.history_laws.proofs.BirthLaws.{has_no_fault}
 use Rattle.history_laws.proofs.TakeLaws.{from_closing}
 
 -- ---- a misuse

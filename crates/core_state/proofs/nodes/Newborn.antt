@@ -1,31 +1,15 @@
 -- What a birth makes of the nodes of a collection.
-use Rattle.std.proofs.Common.{ℕ, ◌≡◌, ◌+◌, refl, ap, ◌∙◌, subst, Bool, true, false}
-use Rattle.std.proofs.Common.{◌||◌, ◌==◌, List, [], ◌∷◌, ◌++◌, map, Option, Some, None}
-use Rattle.std.proofs.lemmas.Bool.{eq-eqb}
-use Rattle.std.proofs.lemmas.List.{reverse-append, map-append}
-use Rattle.std.specs.List.{list_any, filter}
-use Rattle.std.specs.Option.{option_map, option_map_or}
-use Rattle.sm_names.specs.declared.keys.NodeKey.{NodeKey}
-use Rattle.sm_names.specs.declared.messages.Call.{Call}
-use Rattle.sm_names.specs.declared.messages.Reply.{Reply}
-use Rattle.sm_names.specs.Births.{Birth, births, birth_at, was_born, head}
-use Rattle.sm_names.specs.Bounds.{Bound}
-use Rattle.sm_names.specs.Ends.{binds, spent, holder, collector, in_transit}
-use Rattle.sm_names.specs.Losses.{allocated, is_allocation}
-use Rattle.sm_names.specs.Marks.{Mark, Timeline, Called, events}
-use Rattle.sm_names.specs.Members.{births_in}
-use Rattle.sm_names.specs.Sameness.{same_key}
-use Rattle.sm_names.specs.Weakness.{weak, covered, covers_children, sets_weak, sets_weak_ok}
-use Rattle.history_laws.proofs.GrowthLaws.{Grows}
-use Rattle.sm_names.proofs.ListLaws.{In, In-filter, In-reverse, map-In}
-use Rattle.history_laws.proofs.ReachLaws.{other_key}
-use Rattle.sm_names.proofs.SamenessLaws.{or_false, same_key-refl}
-use Rattle.history_laws.proofs.SettledLaws.{In-was_born}
+use Rattle.core_state.proofs.Common.{Birth, Bool, Bound, Call, Called, End, Grows, In-filter, In-reverse, In-was_born, List, Mark, Node}
+use Rattle.core_state.proofs.Common.{NodeKey, None, Option, Reply, Some, Timeline, [], allocated, ap, birth_at, births, births_in}
+use Rattle.core_state.proofs.Common.{collector, covered, covers_children, end_after, eq-eqb, events, false, filter, holder, in_transit}
+use Rattle.core_state.proofs.Common.{is_allocation, list_any, map, map-In, map-append, new_child, new_root, node_after, nodes_after}
+use Rattle.core_state.proofs.Common.{option_map_or, or_false, other_key, refl, reverse-append, same_key, same_key-refl, sets_weak}
+use Rattle.core_state.proofs.Common.{sets_weak_ok, spent, subst, true, was_born, weak, ℕ, ◌++◌, ◌+◌, ◌==◌, ◌||◌, ◌∙◌, ◌∷◌, ◌≡◌}
+use Rattle.std.specs.Option.{option_map}
+use Rattle.sm_names.specs.Births.{head}
+use Rattle.sm_names.specs.Ends.{binds}
+use Rattle.sm_names.proofs.ListLaws.{In}
 use Rattle.event_laws.proofs.TransitLaws.{end_at}
-use Rattle.forest_store.specs.declared.node.End.{End}
-use Rattle.forest_store.specs.declared.node.Node.{Node}
-use Rattle.forest_store.specs.Nodes.{new_root, new_child}
-use Rattle.core_state.specs.Shown.{node_after, nodes_after, end_after}
 use Rattle.core_state.proofs.nodes.Unborn.{IsUnsaid, unsaid}
 
 -- ---- the nodes that were there

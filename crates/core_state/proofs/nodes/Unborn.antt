@@ -1,30 +1,19 @@
 -- Nothing was ever said of a node that was not born.
-use Rattle.std.proofs.lemmas.Bool.{false≢true}
-use Rattle.std.proofs.Common.{ℕ, ◌≡◌, ◌+◌, refl, ap, sym, ◌∙◌, Bool, true, false, inl, inr, List, [], ◌∷◌, Option, Some, None, is_some}
-use Rattle.std.specs.List.{list_any, cons_option}
-use Rattle.sm_names.specs.declared.keys.NodeKey.{NodeKey}
-use Rattle.sm_names.specs.declared.messages.Call.{Call}
-use Rattle.sm_names.specs.declared.messages.Reply.{Reply}
-use Rattle.sm_names.specs.Answers.{IsAnswer}
-use Rattle.sm_names.specs.Births.{Birth, births, birth_at, was_born}
-use Rattle.sm_names.specs.Bounds.{Bound}
-use Rattle.sm_names.specs.Losses.{is_allocation, is_dispensable, is_release, released, gone, fault}
-use Rattle.sm_names.specs.Marks.{Mark, Timeline, Called, Loss, Allocated, Ended, events, is_event}
-use Rattle.sm_names.specs.Members.{constraints_at, constraints}
-use Rattle.sm_names.specs.Reading.{readings, is_taking, is_tracking}
-use Rattle.sm_names.specs.Sameness.{same_key}
-use Rattle.sm_names.specs.Timelines.{key_of}
-use Rattle.sm_names.specs.Weakness.{born_to, sets_weak, sets_weak_ok, covers_children, weak, covered}
-use Rattle.sm_names.specs.Words.{times}
-use Rattle.history_laws.proofs.BirthLaws.{HasEnd, birth_was_born}
-use Rattle.history_laws.proofs.GoneLaws.{fault_gone}
-use Rattle.history_laws.proofs.GrowthLaws.{Grows, Stays, Answers, Loses, Allocates, Ends}
-use Rattle.history_laws.proofs.LifeLaws.{ordered}
-use Rattle.history_laws.proofs.RejectLaws.{is_refusal, not_refused_end}
-use Rattle.sm_names.proofs.SamenessLaws.{either_way, same_key-true, both_ways, false_if, none_or_some, or_none_left, or_none_right, or_both}
-use Rattle.history_laws.proofs.SettledLaws.{In-was_born, Why, Initial, Logical, forced_why}
-use Rattle.history_laws.proofs.EventLaws.{Names, is_none_if, releases_it, dispenses_it, weakens_it, allows_it, covers_it}
-use Rattle.history_laws.proofs.EventLaws.{takes_it, tracks_it, constrains_it}
+use Rattle.core_state.proofs.Common.{Allocated, Allocates, Answers, Birth, Bool, Bound, Call, Called, Ended, Ends, Grows, HasEnd}
+use Rattle.core_state.proofs.Common.{In-was_born, Initial, IsAnswer, List, Logical, Loses, Loss, Mark, NodeKey, None, Option, Reply, Some}
+use Rattle.core_state.proofs.Common.{Stays, Timeline, Why, [], ap, birth_at, births, both_ways, cons_option, constraints, covered}
+use Rattle.core_state.proofs.Common.{covers_children, either_way, events, false, false_if, false≢true, fault, fault_gone, forced_why}
+use Rattle.core_state.proofs.Common.{gone, inl, inr, is_allocation, is_event, is_refusal, is_some, is_taking, is_tracking, key_of}
+use Rattle.core_state.proofs.Common.{list_any, none_or_some, not_refused_end, or_none_left, or_none_right, ordered, readings, refl}
+use Rattle.core_state.proofs.Common.{released, same_key, same_key-true, sets_weak, sets_weak_ok, sym, times, true, was_born, weak, ℕ, ◌+◌}
+use Rattle.core_state.proofs.Common.{◌∙◌, ◌∷◌, ◌≡◌}
+use Rattle.sm_names.specs.Losses.{is_dispensable, is_release}
+use Rattle.sm_names.specs.Members.{constraints_at}
+use Rattle.sm_names.specs.Weakness.{born_to}
+use Rattle.history_laws.proofs.BirthLaws.{birth_was_born}
+use Rattle.sm_names.proofs.SamenessLaws.{or_both}
+use Rattle.history_laws.proofs.EventLaws.{Names, is_none_if, releases_it, dispenses_it, weakens_it, allows_it, covers_it, takes_it}
+use Rattle.history_laws.proofs.EventLaws.{tracks_it, constrains_it}
 
 -- ---- a mark that speaks of another node
 

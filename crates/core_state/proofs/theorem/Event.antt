@@ -1,23 +1,10 @@
 -- What the whole event tells and makes.
-use Rattle.std.proofs.Common.{ℕ, ◌≡◌, ◌+◌, refl, ap, sym, ◌∙◌, subst, true, false, List, Option, Some, None, IfSome, is_some}
-use Rattle.std.specs.Option.{option_map_or}
-use Rattle.sm_names.specs.declared.keys.NodeKey.{NodeKey}
-use Rattle.sm_names.specs.declared.messages.Call.{Call}
-use Rattle.sm_names.specs.declared.messages.Reply.{Reply}
-use Rattle.sm_names.specs.declared.outcomes.Refusal.{Refusal}
-use Rattle.sm_names.specs.Answers.{IsAnswer, OpenEnd, Readings, answer, closing, effect, makes_node, new_key}
-use Rattle.sm_names.specs.Bounds.{Bound}
-use Rattle.sm_names.specs.Marks.{Called}
-use Rattle.history_laws.proofs.AnswerLaws.{TookEffect, took_effect_all}
-use Rattle.sm_names.proofs.SamenessLaws.{both_ways}
-use Rattle.forest_store.specs.declared.change.Change.{Change}
-use Rattle.forest_store.specs.Forest.{Forest, given}
-use Rattle.forest_store.specs.Settling.{Handles, MayChange, no_key}
-use Rattle.core_state.specs.declared.task.EventTask.{EventTask}
-use Rattle.core_state.specs.Reads.{readings_of}
-use Rattle.core_state.specs.State.{Client, HandleCounts, State}
-use Rattle.core_state.specs.Steps.{Work, Worked, clients_by, end_by, handles_by, tracker_by, work_of}
-use Rattle.core_state.specs.Tasks.{MayDo, Reworked, SpendsThere, with_key, work_in, work_on}
+use Rattle.core_state.proofs.Common.{Bound, Call, Called, Change, Client, EventTask, Forest, HandleCounts, Handles, IfSome, IsAnswer}
+use Rattle.core_state.proofs.Common.{List, MayChange, MayDo, NodeKey, None, OpenEnd, Option, Readings, Refusal, Reply, Reworked, Some}
+use Rattle.core_state.proofs.Common.{SpendsThere, State, TookEffect, Work, Worked, answer, ap, both_ways, clients_by, closing, effect}
+use Rattle.core_state.proofs.Common.{end_by, false, given, handles_by, is_some, makes_node, new_key, no_key, option_map_or, readings_of}
+use Rattle.core_state.proofs.Common.{refl, subst, sym, took_effect_all, tracker_by, true, with_key, work_in, work_of, work_on, ℕ, ◌+◌}
+use Rattle.core_state.proofs.Common.{◌∙◌, ◌≡◌}
 use Rattle.core_state.proofs.forced.Whole.{Known, Well, well}
 use Rattle.core_state.proofs.answers.Kinds.{reply-fits, token-made}
 

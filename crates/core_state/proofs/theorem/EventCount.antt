@@ -1,7 +1,5 @@
 -- There are as many events as calls.
-use Rattle.std.proofs.Common.{ℕ, ◌≡◌, List, [], length, arith}
-use Rattle.sm_names.specs.Marks.{Entry, events}
-use Rattle.sm_names.specs.Timelines.{timeline}
+use Rattle.core_state.proofs.Common.{Entry, List, [], arith, events, length, timeline, ℕ, ◌≡◌}
 use Rattle.event_laws.proofs.MomentLaws.{events-fold}
 
 -- the timeline of a history has an event for each call

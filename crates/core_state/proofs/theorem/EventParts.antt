@@ -1,39 +1,18 @@
 -- What the parts of an event come to.
-use Rattle.std.proofs.lemmas.Bool.{false≢true}
-use Rattle.std.proofs.Common.{ℕ, ◌≡◌, ◌+◌, refl, ap, sym, ◌∙◌, subst, true, false, ◌||◌, List}
-use Rattle.std.proofs.Common.{[], ◌∷◌, Option, Some, None, IfSome, is_some, if◌then◌else◌}
-use Rattle.std.specs.Option.{option_map_or, option_or}
-use Rattle.sm_names.specs.declared.keys.NodeKey.{NodeKey}
-use Rattle.sm_names.specs.declared.messages.Call.{Call}
-use Rattle.sm_names.specs.declared.messages.Parcel.{Parcel}
-use Rattle.sm_names.specs.declared.messages.Reply.{Reply}
-use Rattle.sm_names.specs.Answers.{IsAnswer, OpenEnd, answer, collected}
-use Rattle.sm_names.specs.Marks.{Called}
-use Rattle.history_laws.proofs.AnswerLaws.{took_effect_all}
-use Rattle.sm_names.proofs.SamenessLaws.{and_then-Some}
-use Rattle.trackers.specs.declared.waiting.Waiting.{Waiting}
-use Rattle.trackers.specs.Table.{TrackerTable}
-use Rattle.buffer_holds.specs.Counts.{total}
-use Rattle.forest_store.specs.declared.change.Change.{Change}
-use Rattle.forest_store.specs.declared.node.End.{End}
-use Rattle.forest_store.specs.declared.node.Node.{Node}
-use Rattle.forest_store.specs.Forest.{Forest, SameKeys, node_at}
-use Rattle.forest_store.specs.Nodes.{is_spent}
-use Rattle.forest_store.specs.Settling.{no_key}
-use Rattle.core_state.specs.declared.task.EndPlace.{EndPlace}
-use Rattle.core_state.specs.declared.task.EventTask.{EventTask}
-use Rattle.core_state.specs.Hands.{collects_handle}
-use Rattle.core_state.specs.Reads.{open_end_of, readings_of, world_in}
-use Rattle.core_state.specs.State.{State, counts_of}
-use Rattle.core_state.specs.Steps.{Follows, GainsTracker, end_by, swept, tracker_by, with_place, without_unkept, work_of}
-use Rattle.core_state.specs.Tasks.{DoesSome, MayDo, Parts, Reworked, SpendsThere, TakesEffect, carried_by, with_key}
-use Rattle.core_state.specs.Tasks.{end_placed, spent_by, spent_in, spent_place, takes_room, work_in, work_on}
-use Rattle.core_state.specs.Whole.{CanCarry, CanFinish}
+use Rattle.core_state.proofs.Common.{Call, Called, CanCarry, CanFinish, Change, End, EndPlace, EventTask, Follows, Forest, GainsTracker}
+use Rattle.core_state.proofs.Common.{IfSome, IsAnswer, List, MayDo, Node, NodeKey, None, OpenEnd, Option, Parcel, Parts, Reply, Reworked}
+use Rattle.core_state.proofs.Common.{SameKeys, Some, SpendsThere, State, TakesEffect, TrackerTable, Waiting, [], and_then-Some, answer}
+use Rattle.core_state.proofs.Common.{ap, carried_by, collected, collects_handle, counts_of, end_by, false, false≢true, if◌then◌else◌}
+use Rattle.core_state.proofs.Common.{is_some, is_spent, no_key, node_at, open_end_of, option_map_or, option_or, readings_of, refl}
+use Rattle.core_state.proofs.Common.{spent_by, spent_place, subst, swept, sym, takes_room, took_effect_all, total, tracker_by, true}
+use Rattle.core_state.proofs.Common.{with_key, with_place, without_unkept, work_in, work_of, work_on, world_in, ℕ, ◌+◌, ◌||◌, ◌∙◌, ◌∷◌}
+use Rattle.core_state.proofs.Common.{◌≡◌}
+use Rattle.core_state.specs.Tasks.{DoesSome, end_placed, spent_in}
 use Rattle.core_state.proofs.forced.Known.{IsKnown}
 use Rattle.core_state.proofs.forced.Change.{can_finish}
 use Rattle.core_state.proofs.handles.Moves.{moved}
-use Rattle.core_state.proofs.theorem.Event.{IsKeyed, is_answer, is_keyed, may_do, same_clients}
-use Rattle.core_state.proofs.theorem.Event.{same_end, same_handles, same_tracker, worked_is}
+use Rattle.core_state.proofs.theorem.Event.{IsKeyed, is_answer, is_keyed, may_do, same_clients, same_end, same_handles, same_tracker}
+use Rattle.core_state.proofs.theorem.Event.{worked_is}
 use Rattle.core_state.proofs.forced.Whole.{Known, Named, end_at, named}
 
 -- ---- no task

@@ -1,22 +1,11 @@
 -- What an event keeps true of the fields of a core.
-use Rattle.std.proofs.Common.{ℕ, ◌≡◌, ◌<◌, ap, sym, ◌∙◌, subst, false, [], ◌∷◌, length, Option, Some, IfSome, option_map}
+use Rattle.core_state.proofs.Common.{Call, Called, Cell, EventTask, GainsTracker, Grows, HandleCounts, Holdings, IfSome, IsAnswer, IsCore}
+use Rattle.core_state.proofs.Common.{MayMove, Option, Parts, Reply, Some, State, TakesEffect, Timeline, Waiting, Work, Worked, [], all-In}
+use Rattle.core_state.proofs.Common.{ap, counts_of, every_rests, false, handles_by, is_due, legal_grows, length, looked_in, new_key}
+use Rattle.core_state.proofs.Common.{readings, recalling, subst, sym, timeline, total, tracker_by, work_in, work_of, world_in, ℕ, ◌<◌}
+use Rattle.core_state.proofs.Common.{◌∙◌, ◌∷◌, ◌≡◌}
+use Rattle.std.proofs.Common.{option_map}
 use Rattle.std.specs.List.{All}
-use Rattle.sm_names.specs.declared.messages.Call.{Call}
-use Rattle.sm_names.specs.declared.messages.Reply.{Reply}
-use Rattle.sm_names.specs.Answers.{IsAnswer, new_key}
-use Rattle.sm_names.specs.Marks.{Called, Timeline}
-use Rattle.buffer_holds.specs.Counts.{total}
-use Rattle.buffer_pool.specs.Holdings.{Holdings}
-use Rattle.trackers.specs.declared.waiting.Waiting.{Waiting}
-use Rattle.trackers.specs.Table.{Cell, is_due}
-use Rattle.core_state.specs.declared.task.EventTask.{EventTask}
-use Rattle.core_state.specs.Hands.{MayMove}
-use Rattle.core_state.specs.Reads.{world_in}
-use Rattle.core_state.specs.Shown.{recalling}
-use Rattle.core_state.specs.State.{HandleCounts, State, counts_of}
-use Rattle.core_state.specs.Steps.{GainsTracker, Work, handles_by, Worked, tracker_by, work_of}
-use Rattle.core_state.specs.Tasks.{Parts, TakesEffect, looked_in, work_in}
-use Rattle.core_state.specs.Whole.{IsCore}
 use Rattle.core_state.proofs.theorem.EventParts.{Begins, made, step_answers}
 use Rattle.core_state.proofs.handles.Movable.{may_move}
 use Rattle.core_state.proofs.firing.Fields.{attached_above, attached_fits}
@@ -27,11 +16,6 @@ use Rattle.core_state.proofs.theorem.Follows.{Counts}
 use Rattle.core_state.proofs.theorem.Recalling.{behind, gains_recall, work_recalls, worked_recalls}
 use Rattle.core_state.proofs.theorem.Sweeping.{elsewhere}
 use Rattle.core_state.proofs.views.SameAnswers.{answer_is}
-use Rattle.history_laws.proofs.GrowthLaws.{Grows, legal_grows}
-use Rattle.history_laws.proofs.RestLaws.{every_rests}
-use Rattle.event_laws.proofs.NumberLaws.{all-In}
-use Rattle.sm_names.specs.Reading.{readings}
-use Rattle.sm_names.specs.Timelines.{timeline}
 
 -- the collection to which a task makes a change, if it makes one
 abbrev pub changed_by : Option EventTask → Option ℕ

@@ -1,41 +1,19 @@
 -- How a collection of a state follows a history.
-use Rattle.std.proofs.Common.{ℕ, ◌≡◌, refl, ap, sym, ◌∙◌, Bool, true, not, ◌&&◌, ◌==◌, ◌++◌, inl}
-use Rattle.std.proofs.Common.{inr, List, [], ◌∷◌, map, Option, Some, None, is_some, is_none, nat_lt}
-use Rattle.std.proofs.lemmas.Bool.{eqb-true}
-use Rattle.std.specs.List.{list_any, filter}
-use Rattle.std.specs.Option.{option_map_or, option_and_then}
-use Rattle.sm_names.specs.declared.keys.BufferName.{BufferName}
-use Rattle.sm_names.specs.declared.keys.Interval.{Interval}
-use Rattle.sm_names.specs.declared.keys.NodeKey.{NodeKey}
-use Rattle.sm_names.specs.declared.keys.Strength.{Strength}
-use Rattle.sm_names.specs.declared.outcomes.Buffers.{Buffers}
-use Rattle.sm_names.specs.declared.outcomes.Failure.{Failure}
-use Rattle.sm_names.specs.declared.rules.TheConstants.{MAX_BUFFERS}
-use Rattle.sm_names.specs.Births.{Birth}
-use Rattle.sm_names.specs.Bounds.{Bound}
+use Rattle.core_state.proofs.Common.{Birth, Bool, Bound, BufferName, Buffers, Collection, Failure, Grows, Handles, HeldBuffer, In-filter}
+use Rattle.core_state.proofs.Common.{In-find, Interval, IsWhole, List, MAX_BUFFERS, Member, NodeKey, None, Option, Some, Standing}
+use Rattle.core_state.proofs.Common.{Strength, Timeline, [], abandoned, and_left, ap, asked, both_ways, buffers_of, either_way, eqb-true}
+use Rattle.core_state.proofs.Common.{filter, filter-all, first_some, forced, given_root, held, held_after, home, initial_failure, inl}
+use Rattle.core_state.proofs.Common.{inr, is_none, is_root, is_some, left_of, list_any, map, member_birth, members, members_of, names}
+use Rattle.core_state.proofs.Common.{nat_lt, next_forced, none_if, not, open_total, option_and_then, option_map_or, pages_in, pages_of}
+use Rattle.core_state.proofs.Common.{placed, placed_given, places, places_same, refl, root_left, some_strong_live, still_out, sym, true}
+use Rattle.core_state.proofs.Common.{when, whole, ℕ, ◌&&◌, ◌++◌, ◌==◌, ◌∙◌, ◌∷◌, ◌≡◌}
 use Rattle.sm_names.specs.Changes.{without_gone}
-use Rattle.sm_names.specs.Forced.{Standing, forced, ending, abandoned, initial_allocation, initial_failure, logical_allocation, outcome}
-use Rattle.sm_names.specs.Handles.{buffers_of, open_total, home, names}
-use Rattle.sm_names.specs.Marks.{Timeline}
-use Rattle.sm_names.specs.Members.{Member, members, root_left, is_root, is_ready, asked, some_strong_live}
-use Rattle.sm_names.specs.Pages.{places, pages_of}
-use Rattle.sm_names.specs.declared.keys.HeldBuffer.{HeldBuffer}
-use Rattle.sm_names.specs.Timelines.{held, placed, still_out, standing, next_forced}
-use Rattle.sm_names.specs.Words.{first_some, when}
-use Rattle.history_laws.proofs.ForgetLaws.{is_left, left_of, next-left}
-use Rattle.history_laws.proofs.GrowthLaws.{Grows}
-use Rattle.history_laws.proofs.HeldLaws.{given_root}
-use Rattle.history_laws.proofs.LayoutLaws.{placed_given}
-use Rattle.history_laws.proofs.LifeLaws.{whole}
-use Rattle.sm_names.proofs.ListLaws.{In, In-filter, In-find, filter-all}
-use Rattle.sm_names.proofs.PlaceLaws.{places_same}
-use Rattle.sm_names.proofs.SamenessLaws.{either_way, and_left, both_ways, none_if}
-use Rattle.history_laws.proofs.SettledLaws.{member_birth}
-use Rattle.history_laws.proofs.WholeLaws.{IsWhole}
-use Rattle.forest_store.specs.Forest.{Collection, pages_in}
-use Rattle.forest_store.specs.Nodes.{members_of}
-use Rattle.forest_store.specs.Settling.{Handles, standing as standing_in}
-use Rattle.core_state.specs.Shown.{held_after}
+use Rattle.sm_names.specs.Forced.{ending, initial_allocation, logical_allocation, outcome}
+use Rattle.sm_names.specs.Members.{is_ready}
+use Rattle.sm_names.specs.Timelines.{standing}
+use Rattle.history_laws.proofs.ForgetLaws.{is_left, next-left}
+use Rattle.sm_names.proofs.ListLaws.{In}
+use Rattle.forest_store.specs.Settling.{standing as standing_in}
 use Rattle.core_state.proofs.collections.MarksApart.{is_beside, pages_beside}
 use Rattle.core_state.proofs.nodes.Ancestors.{Keeps, nodes_kept}
 use Rattle.core_state.proofs.nodes.Members.{members_kept}

@@ -1,35 +1,15 @@
 -- Each legal history that a state shows, extended by an answered event, is legal, and the next state shows it.
-use Rattle.std.proofs.Common.{ℕ, ◌≡◌, ◌<◌, ◌+◌, refl, ap, sym, ◌∙◌, subst, true, false, ◌||◌, ◌==◌, not}
-use Rattle.std.proofs.Common.{inl, inr, List, [], ◌∷◌, ◌++◌, map, length, Option, Some, None, arith}
-use Rattle.std.specs.List.{cons_option}
-use Rattle.std.specs.Option.{option_map_or}
-use Rattle.sm_names.specs.declared.keys.NodeKey.{NodeKey}
-use Rattle.sm_names.specs.declared.messages.Call.{Call}
-use Rattle.sm_names.specs.declared.messages.Reply.{Reply}
-use Rattle.sm_names.specs.Answers.{IsAnswer, new_key}
-use Rattle.sm_names.specs.Births.{Birth, births, birth_at, was_born}
-use Rattle.sm_names.specs.Bounds.{Bound}
+use Rattle.core_state.proofs.Common.{Birth, Bound, Call, Called, Entry, Follows, Forest, GoesOn, Grows, HandleCounts, Handles, In-any}
+use Rattle.core_state.proofs.Common.{In-filter, In-list_any, IsAfter, IsAnswer, List, NodeKey, None, Option, Reply, Shows, Some, State}
+use Rattle.core_state.proofs.Common.{Timeline, Work, Worked, [], after, ap, arith, birth_at, births, clients_by, collection_after}
+use Rattle.core_state.proofs.Common.{cons_option, counts_of, empty_state, end_by, events, events_after, every_rests, false, given}
+use Rattle.core_state.proofs.Common.{handles_after, handles_by, inl, inr, kept_ids, legal_grows, length, map, new_key, next_forced, not}
+use Rattle.core_state.proofs.Common.{option_map_or, or_cases, or_left, or_right, readings, readings_of, refl, same_key, subst, sym}
+use Rattle.core_state.proofs.Common.{timeline, timeline-push, total, true, was_born, with_place, without_id, without_unkept, work_of, ℕ}
+use Rattle.core_state.proofs.Common.{◌++◌, ◌+◌, ◌<◌, ◌==◌, ◌||◌, ◌∙◌, ◌∷◌, ◌≡◌}
 use Rattle.sm_names.specs.Legality.{IsLegal}
-use Rattle.sm_names.specs.Marks.{Entry, Timeline, Called, events}
-use Rattle.sm_names.specs.Reading.{readings}
-use Rattle.sm_names.specs.Sameness.{same_key}
-use Rattle.sm_names.specs.Timelines.{after, timeline, next_forced}
 use Rattle.sm_names.specs.Views.{views}
-use Rattle.history_laws.proofs.GrowthLaws.{Grows, legal_grows}
-use Rattle.history_laws.proofs.HistoryLaws.{legal_on, timeline-push}
-use Rattle.sm_names.proofs.ListLaws.{In-filter, In-list_any, In-any}
-use Rattle.history_laws.proofs.RestLaws.{every_rests}
-use Rattle.sm_names.proofs.SamenessLaws.{or_cases, or_left, or_right}
-use Rattle.buffer_holds.specs.Counts.{total}
-use Rattle.trackers.specs.Table.{without_id}
-use Rattle.forest_store.specs.Forest.{Forest, given}
-use Rattle.forest_store.specs.Settling.{Handles}
-use Rattle.event_laws.proofs.MomentLaws.{events_after}
-use Rattle.core_state.specs.Reads.{readings_of}
-use Rattle.core_state.specs.Shown.{IsAfter, Shows, collection_after, handles_after, kept_ids}
-use Rattle.core_state.specs.State.{HandleCounts, State, counts_of, empty_state}
-use Rattle.core_state.specs.Steps.{Follows, Work, Worked, clients_by, end_by, handles_by, with_place, without_unkept, work_of}
-use Rattle.core_state.specs.Theorem.{GoesOn}
+use Rattle.history_laws.proofs.HistoryLaws.{legal_on}
 use Rattle.core_state.proofs.forced.CallStep.{IsIdle}
 use Rattle.core_state.proofs.answers.Changes.{idle, starts}
 use Rattle.core_state.proofs.joined.Joining.{clients_event}

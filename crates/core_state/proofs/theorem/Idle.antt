@@ -1,24 +1,13 @@
 -- A call that changes nothing, but that it is one event more.
-use Rattle.std.proofs.lemmas.Bool.{false≢true}
-use Rattle.std.proofs.Common.{ℕ, ◌≡◌, ◌+◌, refl, sym, ◌∙◌, Bool, true, false, List, [], ◌∷◌, append-nil, map, None}
-use Rattle.sm_names.specs.declared.messages.Call.{Call}
-use Rattle.sm_names.specs.declared.messages.Reply.{Reply}
-use Rattle.sm_names.specs.Answers.{answer}
-use Rattle.sm_names.specs.Ends.{joined_at, shuts, given_at, collects}
-use Rattle.sm_names.specs.Marks.{Called, Mark}
-use Rattle.event_laws.specs.ByEvent.{is_about_handles}
-use Rattle.buffer_holds.specs.Counts.{total}
-use Rattle.forest_store.specs.Forest.{Forest}
-use Rattle.forest_store.specs.Settling.{no_key}
-use Rattle.core_state.specs.Reads.{readings_of, world_in}
-use Rattle.core_state.specs.State.{Client, State}
-use Rattle.core_state.specs.Steps.{Follows, client_by, clients_by, swept, tracker_by, without_unkept, work_of}
-use Rattle.trackers.specs.declared.waiting.Waiting.{Waiting}
-use Rattle.trackers.specs.Table.{is_due}
-use Rattle.core_state.specs.Tasks.{Parts, TakesEffect, carried_by, changes_nothing, with_key, spent_by}
+use Rattle.core_state.proofs.Common.{Bool, Call, Called, Client, Follows, Forest, In-all, List, Mark, None, Parts, Reply, State}
+use Rattle.core_state.proofs.Common.{TakesEffect, Waiting, [], answer, carried_by, client_by, clients_by, collects, false, false≢true}
+use Rattle.core_state.proofs.Common.{given_at, is_about_handles, is_due, joined_at, map, no_key, readings_of, refl, shuts, spent_by}
+use Rattle.core_state.proofs.Common.{swept, sym, total, tracker_by, true, with_key, without_unkept, work_of, world_in, ℕ, ◌+◌, ◌∙◌, ◌∷◌}
+use Rattle.core_state.proofs.Common.{◌≡◌}
+use Rattle.std.proofs.Common.{append-nil}
+use Rattle.core_state.specs.Tasks.{changes_nothing}
 use Rattle.core_state.proofs.forced.Known.{IsKnown}
 use Rattle.core_state.proofs.collections.ById.{all_tidy}
-use Rattle.event_laws.proofs.NumberLaws.{In-all}
 use Rattle.core_state.proofs.firing.Sweeps.{none_swept}
 use Rattle.core_state.proofs.handles.Untouched.{moves_none}
 use Rattle.core_state.proofs.theorem.EventParts.{Begins, begins, step_follows}

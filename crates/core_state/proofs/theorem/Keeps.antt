@@ -1,37 +1,18 @@
 -- A core shows a legal history, but for the firings that it forgot, and an event keeps it so.
-use Rattle.std.proofs.lemmas.Bool.{false≢true}
-use Rattle.std.proofs.Common.{ℕ, ◌≡◌, ◌<◌, ◌≤◌, ◌+◌, ◌^◌, refl, ap, sym, ◌∙◌, subst, not, inl}
-use Rattle.std.proofs.Common.{inr, List, ◌∷◌, ◌++◌, replicate, Option, Some, None, is_some, arith, []}
+use Rattle.core_state.proofs.Common.{Bound, Call, Cell, Fired, Follows, Forest, GainsTracker, Grows, Handles, HasPlaces, Holdings, In-all}
+use Rattle.core_state.proofs.Common.{In-append, In-filter, IsAfter, IsAnswer, IsCore, IsOf, IsPoolOf, IsSame, List, NodeKey, None, Option}
+use Rattle.core_state.proofs.Common.{Reply, Shows, Some, State, Timeline, TrackerTable, Waiting, Work, Worked, [], after, all-In, answer}
+use Rattle.core_state.proofs.Common.{ap, arith, empty_state, false≢true, forgetting, inl, inr, is_due, is_some, is_unfired, key_told}
+use Rattle.core_state.proofs.Common.{legal_grows, not, readings_of, recalling, refl, refused_call, replicate, subst, sym, timeline}
+use Rattle.core_state.proofs.Common.{timeline-push, total, tracker_by, without_id, work_of, world_in, ℕ, ◌++◌, ◌+◌, ◌<◌, ◌^◌, ◌∙◌, ◌∷◌}
+use Rattle.core_state.proofs.Common.{◌≡◌, ◌≤◌}
 use Rattle.std.specs.List.{All}
 use Rattle.std.proofs.lemmas.List.Elements.{All-nil}
-use Rattle.sm_names.specs.declared.messages.Call.{Call}
-use Rattle.sm_names.specs.declared.messages.Reply.{Reply}
-use Rattle.sm_names.specs.declared.keys.NodeKey.{NodeKey}
-use Rattle.sm_names.specs.declared.tracking.Fired.{Fired}
-use Rattle.sm_names.specs.Answers.{IsAnswer, answer, key_told}
 use Rattle.sm_names.specs.declared.rules.TheConstants.{MAX_PAGES}
-use Rattle.sm_names.specs.Bounds.{Bound}
-use Rattle.sm_names.specs.Isolation.{IsOf}
-use Rattle.sm_names.specs.Marks.{Timeline}
-use Rattle.sm_names.specs.Timelines.{after, timeline}
-use Rattle.history_laws.proofs.GrowthLaws.{Grows, legal_grows}
-use Rattle.history_laws.proofs.HistoryLaws.{timeline-push}
-use Rattle.sm_names.proofs.ListLaws.{In, In-append, In-filter}
+use Rattle.sm_names.proofs.ListLaws.{In}
 use Rattle.event_laws.proofs.ConcernLaws.{of_after}
-use Rattle.event_laws.proofs.NumberLaws.{In-all, all-In}
-use Rattle.buffer_holds.specs.Counts.{total}
-use Rattle.buffer_pool.specs.Holdings.{Holdings}
-use Rattle.trackers.specs.declared.waiting.Waiting.{Waiting}
-use Rattle.trackers.specs.Table.{Cell, TrackerTable, forgetful, is_due, is_unfired, without_id}
-use Rattle.forest_store.specs.Forest.{Forest, IsPoolOf}
-use Rattle.forest_store.specs.Settling.{Handles}
-use Rattle.buffer_holds.specs.Counts.{HasPlaces}
-use Rattle.core_state.specs.Reads.{readings_of, world_in}
-use Rattle.core_state.specs.Shown.{IsAfter, Shows, forgetting, recalling}
-use Rattle.core_state.specs.State.{IsSame, State, empty_state}
-use Rattle.core_state.specs.Steps.{Follows, GainsTracker, Work, Worked, tracker_by, work_of}
-use Rattle.core_state.specs.Theorem.{refused_call}
-use Rattle.core_state.specs.Whole.{IsCore, IsWholeCore}
+use Rattle.trackers.specs.Table.{forgetful}
+use Rattle.core_state.specs.Whole.{IsWholeCore}
 use Rattle.core_state.proofs.forced.Known.{IsKnown}
 use Rattle.core_state.proofs.firing.Fields.{is_made}
 use Rattle.core_state.proofs.theorem.GoesOn.{goes_on, shows_nothing, take_shows}

@@ -1,25 +1,15 @@
 -- What several events lead to, one after another.
-use Rattle.std.proofs.Common.{ℕ, zero, suc, ◌+◌, ◌≡◌, ◌<◌, ◌≤◌, ◌↔◌, refl, ap, sym, ◌∙◌, subst, Bool, true, false, nat_le, List}
-use Rattle.std.proofs.Common.{[], ◌∷◌, ◌++◌, length, get_or, append_assoc, replicate, Option, Some, None, Result, Ok, Err, arith}
-use Rattle.std.proofs.lemmas.Bool.{leb-false, leb-true}
+use Rattle.core_state.proofs.Common.{Bool, Bound, Call, Entry, Err, Follows, GainsTracker, IsAnswer, IsSame, Leads, List, Makes, None, Ok}
+use Rattle.core_state.proofs.Common.{Option, Reply, Result, Some, State, TrackerTable, Waiting, [], ap, append_assoc, arith, cons_option}
+use Rattle.core_state.proofs.Common.{empty_state, entries, false, fits_call, get_or, key_told, leb-false, leb-true, length, nat_le}
+use Rattle.core_state.proofs.Common.{no_key, readings_of, refl, refused_call, replicate, subst, suc, sym, tracker_by, true, zero, ℕ, ◌++◌}
+use Rattle.core_state.proofs.Common.{◌+◌, ◌<◌, ◌↔◌, ◌∙◌, ◌∷◌, ◌≡◌, ◌≤◌}
 use Rattle.std.proofs.lemmas.List.{append-nil}
-use Rattle.std.specs.List.{cons_option}
 use Rattle.std.specs.Option.{option_map}
-use Rattle.sm_names.specs.declared.messages.Call.{Call}
-use Rattle.sm_names.specs.declared.messages.Reply.{Reply}
 use Rattle.sm_names.specs.declared.outcomes.StepFault.{StepFault}
-use Rattle.sm_names.specs.Answers.{IsAnswer, key_told}
-use Rattle.sm_names.specs.Bounds.{Bound}
-use Rattle.sm_names.specs.Marks.{Entry}
-use Rattle.trackers.specs.declared.waiting.Waiting.{Waiting}
-use Rattle.trackers.specs.Table.{TrackerTable, empty}
+use Rattle.trackers.specs.Table.{empty}
 use Rattle.forest_store.specs.Forest.{empty_forest}
-use Rattle.forest_store.specs.Settling.{no_key}
-use Rattle.core_state.specs.Kinds.{fits_call}
-use Rattle.core_state.specs.Reads.{readings_of}
-use Rattle.core_state.specs.State.{IsSame, State, empty_state}
-use Rattle.core_state.specs.Steps.{Follows, GainsTracker, tracker_by}
-use Rattle.core_state.specs.Theorem.{Leads, Makes, Stops, entries, refused_call, tracker_told, trackers_told}
+use Rattle.core_state.specs.Theorem.{Stops, tracker_told, trackers_told}
 use Rattle.core_state.proofs.answers.Kinds.{reply-fits}
 use Rattle.core_state.proofs.theorem.Runs.{entries-none, entries-push}
 use Rattle.core_state.proofs.forced.Whole.{Named, named}

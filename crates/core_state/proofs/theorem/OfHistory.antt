@@ -1,51 +1,25 @@
 -- What a state keeps true of its fields since it shows a legal history.
-use Rattle.std.proofs.Common.{ℕ, ◌≡◌, ◌≤◌, ◌<◌, ◌+◌, refl, ap, sym, ◌∙◌, subst, Bool, true, false, cond, ◌||◌, ◌&&◌, ◌==◌, not}
-use Rattle.std.proofs.Common.{nat_le, if◌then◌else◌, inl, inr, List, ◌∷◌, ◌++◌, map, reverse, Option, Some, None, is_some, arith, []}
-use Rattle.std.proofs.lemmas.Bool.{not-true, eqb-true, false≢true}
-use Rattle.std.proofs.lemmas.List.{reverse-append}
-use Rattle.std.proofs.lemmas.List.Sums.{sum_by-cons, sum_by-append}
-use Rattle.std.specs.List.{All, AllByRecursion, count_by, sum_by, filter}
-use Rattle.sm_names.specs.declared.keys.HeldBuffer.{HeldBuffer}
-use Rattle.sm_names.specs.declared.keys.Strength.{Strength}
-use Rattle.sm_names.specs.declared.messages.Call.{Call}
-use Rattle.sm_names.specs.declared.messages.Reply.{Reply}
-use Rattle.sm_names.specs.declared.tracking.Condition.{Condition}
-use Rattle.sm_names.specs.Answers.{key_told}
-use Rattle.sm_names.specs.Births.{Birth, births, birth_of}
-use Rattle.sm_names.specs.Bounds.{Bound}
-use Rattle.sm_names.specs.Ends.{clients, is_handle_of, joined_at, parcels, spent}
-use Rattle.sm_names.specs.Handles.{buffers_of, doomed, home, is_doomed, is_home, left}
-use Rattle.sm_names.specs.Isolation.{IsOf}
-use Rattle.sm_names.specs.Kept.{is_kept, is_kept_collection}
-use Rattle.sm_names.specs.Losses.{allocated, gone}
-use Rattle.sm_names.specs.Marks.{Timeline, Called, events}
-use Rattle.sm_names.specs.Members.{births_in, members, some_strong_live}
-use Rattle.sm_names.specs.Reading.{readings}
-use Rattle.sm_names.specs.Timelines.{held, placed}
-use Rattle.sm_names.specs.Trackers.{holds, world}
-use Rattle.sm_names.specs.Words.{times}
-use Rattle.history_laws.proofs.BirthLaws.{birth_is}
+use Rattle.core_state.proofs.Common.{AllByRecursion, Allocates, Answers, Birth, Bool, Bound, Call, Called, Client, Collection, Condition}
+use Rattle.core_state.proofs.Common.{Ends, Grows, HandleCounts, HeldBuffer, In-all, In-filter, In-map, In-map-back, In-reverse}
+use Rattle.core_state.proofs.Common.{In-was_born, IsAfter, IsOf, IsTidy, List, Loses, NoBufferHome, Node, None, Option, Reply, Rise, Some}
+use Rattle.core_state.proofs.Common.{State, Stays, Strength, Timeline, Waiting, [], all-In, allocated, ap, arith, birth_is, birth_of}
+use Rattle.core_state.proofs.Common.{births, births_in, buffers_of, client_after, clients, collection_after, cond, count_by, counts_of}
+use Rattle.core_state.proofs.Common.{doomed, either_way, eqb-true, events, false, false≢true, filter, filter-all, given, gone, held}
+use Rattle.core_state.proofs.Common.{holds, home, if◌then◌else◌, inl, inr, is_doomed, is_due, is_handle_of, is_home, is_kept}
+use Rattle.core_state.proofs.Common.{is_kept_collection, is_some, is_unkept, joined_at, kept_ids, key_told, left, map, map-Some, members}
+use Rattle.core_state.proofs.Common.{members_of, nat_le, node_after, nodes_after, not, not-true, or_left, ordered, parcels, placed}
+use Rattle.core_state.proofs.Common.{placed_given, readings, refl, reverse, reverse-append, some_strong_live, spent, subst, sum_by}
+use Rattle.core_state.proofs.Common.{sum_by-cons, sym, times, total, tracked_as, true, unfired_trackers, whole, world, world_in, ℕ, ◌&&◌}
+use Rattle.core_state.proofs.Common.{◌++◌, ◌+◌, ◌<◌, ◌==◌, ◌||◌, ◌∙◌, ◌∷◌, ◌≡◌, ◌≤◌}
+use Rattle.std.proofs.lemmas.List.Sums.{sum_by-append}
+use Rattle.std.specs.List.{All}
 use Rattle.history_laws.proofs.CountLaws.{counted, moving_is}
-use Rattle.history_laws.proofs.GrowthLaws.{Grows, Stays, Answers, Loses, Allocates, Ends}
-use Rattle.history_laws.proofs.LayoutLaws.{placed_given}
-use Rattle.history_laws.proofs.LifeLaws.{ordered, whole}
-use Rattle.history_laws.proofs.SettledLaws.{In-was_born}
 use Rattle.history_laws.proofs.WholeLaws.{released_spent}
-use Rattle.sm_names.proofs.ListLaws.{In, In-filter, In-map, In-map-back, In-reverse, filter-all}
-use Rattle.sm_names.proofs.SamenessLaws.{either_way, map-Some, or_left}
-use Rattle.event_laws.specs.Waiting.{IsWaitedFor, unfired_trackers}
-use Rattle.event_laws.proofs.NumberLaws.{In-all, all-In}
+use Rattle.sm_names.proofs.ListLaws.{In}
+use Rattle.event_laws.specs.Waiting.{IsWaitedFor}
 use Rattle.event_laws.proofs.WaitingLaws.{waited_for, waiting_not_due}
-use Rattle.trackers.specs.declared.waiting.Waiting.{Waiting}
-use Rattle.trackers.specs.Table.{is_due}
-use Rattle.buffer_holds.specs.Counts.{total}
-use Rattle.forest_store.specs.declared.node.Node.{Node}
-use Rattle.forest_store.specs.Forest.{Collection, given, is_left}
-use Rattle.forest_store.specs.Nodes.{is_unkept, members_of}
-use Rattle.core_state.specs.Reads.{world_in}
-use Rattle.core_state.specs.Shown.{IsAfter, client_after, collection_after, kept_ids, node_after, nodes_after, tracked_as}
-use Rattle.core_state.specs.State.{Client, HandleCounts, State, counts_of}
-use Rattle.core_state.specs.Whole.{AreFit, IsNodeFit, IsSound, IsTidy, NoBufferHome, Rise}
+use Rattle.forest_store.specs.Forest.{is_left}
+use Rattle.core_state.specs.Whole.{AreFit, IsNodeFit, IsSound}
 use Rattle.core_state.proofs.forced.Known.{AreSent, AreUpTo, waiting_in}
 use Rattle.core_state.proofs.collections.Ids.{id_root, ids, ids_rise, kept_are}
 use Rattle.core_state.proofs.collections.Pages.{sum-map}
@@ -57,6 +31,7 @@ use Rattle.core_state.proofs.nodes.Members.{of_collection, one_birth}
 use Rattle.core_state.proofs.views.Ends.{strong_live_is, totals_are}
 use Rattle.core_state.proofs.views.ForTrackers.{none_left, over_gone}
 use Rattle.core_state.proofs.views.Nodes.{collection_forgotten, collection_kept, node_forgotten, node_kept, not_unkept, spent_end}
+use Rattle.history_laws.proofs.SumLaws.{sum_by-same}
 
 -- ---- numbers that rise
 
@@ -129,10 +104,6 @@ times-count test (x ∷ xs) =
     let here : times test (x ∷ xs) ≡ cond (test x) 1 0 + times test xs = one_more (test x) (times test xs) in
     count ∙ (ap (λ (n : ℕ). cond (test x) 1 0 + n) (times-count test xs) ∙ sym here)
 
--- sums of the same numbers
-sum-same : {A : Type 0} (f g : A → ℕ) (xs : List A) → ((x : A) → f x ≡ g x) → sum_by f xs ≡ sum_by g xs
-sum-same f g xs same = λ i. sum_by (λ x. same x i) xs
-
 -- ---- the state
 
 module _ (s : State) (marks : Timeline) (shown : IsAfter s marks) (limits : Bound) (grown : Grows s.pool limits [] marks) where
@@ -156,7 +127,7 @@ module _ (s : State) (marks : Timeline) (shown : IsAfter s marks) (limits : Boun
       ∙ sym (ap (sum_by (waiting_in buffer strength)) shown.clients
       ∙ (sum-map (waiting_in buffer strength) (client_after marks) (reverse (clients marks))
       ∙ (sum-reverse (λ k. waiting_in buffer strength (client_after marks k)) (clients marks)
-      ∙ sum-same (λ k. waiting_in buffer strength (client_after marks k)) (λ k. times (is_handle_of buffer strength) (parcels marks k))
+      ∙ sum_by-same (λ k. waiting_in buffer strength (client_after marks k)) (λ k. times (is_handle_of buffer strength) (parcels marks k))
       (clients marks) (λ k. times-count (is_handle_of buffer strength) (parcels marks k))))))
 
   -- ---- the forest

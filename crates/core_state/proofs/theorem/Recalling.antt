@@ -1,20 +1,10 @@
 -- A state that forgot its first firings goes on as the one that did not: no answer and no change rests on a firing.
-use Rattle.std.proofs.Common.{ℕ, ◌≡◌, refl, ap, sym, ◌∙◌, ◌==◌, List, [], ◌∷◌, ◌++◌, append_assoc, append-nil, Option, Some, None}
-use Rattle.sm_names.specs.declared.keys.NodeKey.{NodeKey}
-use Rattle.sm_names.specs.declared.messages.Call.{Call}
-use Rattle.sm_names.specs.declared.messages.Reply.{Reply}
-use Rattle.sm_names.specs.declared.tracking.Fired.{Fired}
-use Rattle.sm_names.specs.Marks.{Entry}
-use Rattle.sm_names.specs.Trackers.{World}
-use Rattle.sm_names.proofs.ListLaws.{In-filter, In-list_any, In-any}
-use Rattle.trackers.specs.declared.waiting.Waiting.{Waiting}
-use Rattle.trackers.specs.Table.{TrackerTable, firings, is_unfired}
-use Rattle.forest_store.specs.Forest.{Forest}
-use Rattle.forest_store.specs.Settling.{Handles}
-use Rattle.core_state.specs.Shown.{ShowsBut, forgetting, recalling}
-use Rattle.core_state.specs.State.{State}
-use Rattle.core_state.specs.Steps.{Follows, GainsTracker, Work, Worked, swept, work_of}
-use Rattle.core_state.specs.Theorem.{Leads, Makes}
+use Rattle.core_state.proofs.Common.{Call, Entry, Fired, Follows, Forest, GainsTracker, Handles, In-any, In-filter, In-list_any, Leads}
+use Rattle.core_state.proofs.Common.{List, Makes, NodeKey, None, Option, Reply, Some, State, TrackerTable, Waiting, Work, Worked, World}
+use Rattle.core_state.proofs.Common.{[], ap, append_assoc, firings, forgetting, is_unfired, recalling, refl, swept, sym, work_of, ℕ, ◌++◌}
+use Rattle.core_state.proofs.Common.{◌==◌, ◌∙◌, ◌∷◌, ◌≡◌}
+use Rattle.std.proofs.Common.{append-nil}
+use Rattle.core_state.specs.Shown.{ShowsBut}
 use Rattle.core_state.proofs.theorem.GoesOn.{goes_on}
 
 -- the trackers with these firings before their own

@@ -1,12 +1,7 @@
 -- Histories that go on by several entries, one call after another.
-use Rattle.std.proofs.Common.{ℕ, ◌≡◌, ◌<◌, refl, ap, sym, ◌∙◌, subst, List, [], ◌∷◌, ◌++◌, length, get_or, append_assoc, arith}
+use Rattle.core_state.proofs.Common.{Call, Entry, GoesOn, List, Reply, Shows, State, [], ap, append_assoc, arith, entries, get_or, length}
+use Rattle.core_state.proofs.Common.{refl, subst, sym, ℕ, ◌++◌, ◌<◌, ◌∙◌, ◌∷◌, ◌≡◌}
 use Rattle.std.proofs.lemmas.List.{append-nil}
-use Rattle.sm_names.specs.declared.messages.Call.{Call}
-use Rattle.sm_names.specs.declared.messages.Reply.{Reply}
-use Rattle.sm_names.specs.Marks.{Entry}
-use Rattle.core_state.specs.Shown.{Shows}
-use Rattle.core_state.specs.State.{State}
-use Rattle.core_state.specs.Theorem.{GoesOn, entries}
 
 -- a state advances by no entries to itself
 pub goes_nowhere : (s : State) → GoesOn s s []

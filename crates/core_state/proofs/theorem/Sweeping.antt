@@ -1,42 +1,15 @@
 -- Which trackers an event has to look at: a tracker elsewhere is not due.
-use Rattle.std.proofs.lemmas.Bool.{false≢true}
-use Rattle.std.proofs.Common.{ℕ, ◌≡◌, refl, ap, sym, ◌∙◌, subst, Bool, false, ◌&&◌, ◌==◌, not}
-use Rattle.std.proofs.Common.{inl, inr, ◌∷◌, Option, Some, None, is_some, option_map, []}
+use Rattle.core_state.proofs.Common.{Birth, Bool, Bound, Call, Called, Collection, Condition, Forest, GainsTracker, Grows, Handles}
+use Rattle.core_state.proofs.Common.{In-all, In-map-back, IsAfter, IsAnswer, IsOf, Node, NodeKey, None, Option, Reply, Some, State, Stays}
+use Rattle.core_state.proofs.Common.{Strength, Timeline, TrackerTable, Waiting, Work, Worked, [], after, ap, false, false≢true}
+use Rattle.core_state.proofs.Common.{grows_after, holds, inl, inr, is_due, is_some, looked_in, map-Some, members_of, new_key, next_forced}
+use Rattle.core_state.proofs.Common.{node_at, not, option_map_or, readings, recalled_due, refl, some_strong_live, subst, sym, total}
+use Rattle.core_state.proofs.Common.{tracked_as, tracker_by, trackers_to_test, work_of, world_in, ℕ, ◌&&◌, ◌==◌, ◌∙◌, ◌∷◌, ◌≡◌}
+use Rattle.std.proofs.Common.{option_map}
 use Rattle.std.specs.List.{All}
-use Rattle.std.specs.Option.{option_map_or}
-use Rattle.sm_names.specs.declared.keys.NodeKey.{NodeKey}
-use Rattle.sm_names.specs.declared.keys.Strength.{Strength}
-use Rattle.sm_names.specs.declared.messages.Call.{Call}
-use Rattle.sm_names.specs.declared.messages.Reply.{Reply}
-use Rattle.sm_names.specs.declared.tracking.Condition.{Condition}
-use Rattle.sm_names.specs.Answers.{IsAnswer, new_key}
-use Rattle.sm_names.specs.Births.{Birth}
-use Rattle.sm_names.specs.Bounds.{Bound}
-use Rattle.sm_names.specs.Isolation.{IsOf}
-use Rattle.sm_names.specs.Marks.{Timeline, Called}
-use Rattle.sm_names.specs.Members.{some_strong_live}
-use Rattle.sm_names.specs.Reading.{readings}
-use Rattle.sm_names.specs.Timelines.{after, next_forced}
-use Rattle.sm_names.specs.Trackers.{holds}
-use Rattle.history_laws.proofs.GrowthLaws.{Grows, Stays, grows_after}
-use Rattle.sm_names.proofs.ListLaws.{In, In-map-back}
-use Rattle.sm_names.proofs.SamenessLaws.{map-Some}
-use Rattle.event_laws.specs.Waiting.{trackers_to_test}
+use Rattle.sm_names.proofs.ListLaws.{In}
 use Rattle.event_laws.proofs.ConcernLaws.{others_not_due}
-use Rattle.event_laws.proofs.NumberLaws.{In-all}
-use Rattle.event_laws.proofs.RecallLaws.{recalled_due}
-use Rattle.buffer_holds.specs.Counts.{total}
-use Rattle.trackers.specs.declared.waiting.Waiting.{Waiting}
-use Rattle.trackers.specs.Table.{TrackerTable, is_due}
-use Rattle.forest_store.specs.declared.node.Node.{Node}
-use Rattle.forest_store.specs.Forest.{Collection, Forest, collection_at as collection_told, node_at}
-use Rattle.forest_store.specs.Nodes.{members_of}
-use Rattle.forest_store.specs.Settling.{Handles}
-use Rattle.core_state.specs.Reads.{world_in}
-use Rattle.core_state.specs.Shown.{IsAfter, tracked_as}
-use Rattle.core_state.specs.State.{State}
-use Rattle.core_state.specs.Steps.{GainsTracker, Work, Worked, tracker_by, work_of}
-use Rattle.core_state.specs.Tasks.{looked_in}
+use Rattle.forest_store.specs.Forest.{collection_at as collection_told}
 use Rattle.core_state.proofs.answers.Changes.{idle, starts}
 use Rattle.core_state.proofs.firing.Fields.{attached_from, new_elsewhere}
 use Rattle.core_state.proofs.firing.NextTrackers.{AreAsked, are_asked, tracker_is}

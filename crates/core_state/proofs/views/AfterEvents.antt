@@ -1,34 +1,13 @@
 -- After the work of an event the forest has what trackers look at.
-use Rattle.std.proofs.Common.{ℕ, ◌≡◌, ◌+◌, refl, ap, sym, ◌∙◌, subst, Bool, true, false, cond}
-use Rattle.std.proofs.Common.{not, ◌||◌, ◌==◌, inl, inr, List, [], ◌∷◌, length, map, Option, None}
-use Rattle.std.proofs.lemmas.Bool.{eqb-true}
-use Rattle.sm_names.specs.declared.keys.Interval.{Interval}
-use Rattle.sm_names.specs.declared.messages.Call.{Call}
-use Rattle.sm_names.specs.declared.messages.Reply.{Reply}
-use Rattle.sm_names.specs.Answers.{IsAnswer, new_key}
-use Rattle.sm_names.specs.Births.{Birth, births, birth_at}
-use Rattle.sm_names.specs.Bounds.{Bound}
-use Rattle.sm_names.specs.Handles.{buffers_of}
-use Rattle.sm_names.specs.Kept.{is_kept, is_kept_collection}
-use Rattle.sm_names.specs.Losses.{gone, allocated}
-use Rattle.sm_names.specs.Marks.{Timeline, Called, events}
-use Rattle.sm_names.specs.Members.{births_in, members, some_strong_live}
-use Rattle.sm_names.specs.Reading.{readings}
-use Rattle.sm_names.specs.Timelines.{after, next_forced}
-use Rattle.history_laws.proofs.ForgetLaws.{strong-left}
-use Rattle.history_laws.proofs.GrowthLaws.{Grows}
-use Rattle.history_laws.proofs.KeptLaws.{kept-after}
-use Rattle.history_laws.proofs.LifeLaws.{In_old, whole}
-use Rattle.sm_names.proofs.ListLaws.{In, In-filter, In-filter-back, In-map, In-map-back}
-use Rattle.sm_names.proofs.SamenessLaws.{both_ways, or_none_left, or_none_right, or_cases}
-use Rattle.forest_store.specs.declared.node.Node.{Node}
-use Rattle.forest_store.specs.Forest.{Collection, Forest, beside}
-use Rattle.forest_store.specs.Nodes.{is_unkept, members_of}
-use Rattle.forest_store.specs.Settling.{Handles, Settled, given_back}
-use Rattle.core_state.specs.declared.task.EndPlace.{EndPlace}
-use Rattle.core_state.specs.Shown.{IsAfter, collection_after, held_after, node_after, nodes_after}
-use Rattle.core_state.specs.State.{State}
-use Rattle.core_state.specs.Steps.{Work, end_by, place_of}
+use Rattle.core_state.proofs.Common.{Birth, Bool, Bound, Call, Called, Collection, EndPlace, Forest, Grows, Handles, In-filter}
+use Rattle.core_state.proofs.Common.{In-filter-back, In-map, In-map-back, In_old, Interval, IsAfter, IsAnswer, List, Node, None, Option}
+use Rattle.core_state.proofs.Common.{Reply, Settled, State, Timeline, Work, [], after, allocated, ap, beside, birth_at, births, births_in}
+use Rattle.core_state.proofs.Common.{both_ways, buffers_of, collection_after, cond, end_by, eqb-true, events, false, given_back, gone}
+use Rattle.core_state.proofs.Common.{held_after, inl, inr, is_kept, is_kept_collection, is_unkept, kept-after, length, map, members}
+use Rattle.core_state.proofs.Common.{members_of, new_key, next_forced, node_after, nodes_after, not, or_cases, or_none_left}
+use Rattle.core_state.proofs.Common.{or_none_right, place_of, readings, refl, some_strong_live, strong-left, subst, sym, true, whole, ℕ}
+use Rattle.core_state.proofs.Common.{◌+◌, ◌==◌, ◌||◌, ◌∙◌, ◌∷◌, ◌≡◌}
+use Rattle.sm_names.proofs.ListLaws.{In}
 use Rattle.core_state.proofs.forced.CallStep.{IsIdle}
 use Rattle.core_state.proofs.ends.NotRead.{placed_in, placed_node, members_placed}
 use Rattle.core_state.proofs.handles.HeldNames.{held_left}
@@ -44,8 +23,8 @@ use Rattle.core_state.proofs.collections.Roots.{HasRoot, kept_root}
 use Rattle.core_state.proofs.views.Forests.{AreStanding, Stands, standing_seen}
 use Rattle.core_state.proofs.views.ForTrackers.{IsSeen}
 use Rattle.core_state.proofs.forced.Settled.{counts_on}
-use Rattle.core_state.proofs.forced.Work.{Starts, grown_later, kept_elsewhere, out_held}
-use Rattle.core_state.proofs.forced.Work.{out_listed, out_matches, same_elsewhere, worked_are}
+use Rattle.core_state.proofs.forced.Work.{Starts, grown_later, kept_elsewhere, out_held, out_listed, out_matches, same_elsewhere}
+use Rattle.core_state.proofs.forced.Work.{worked_are}
 
 module _ (s : State) (marks : Timeline) (shown : IsAfter s marks) (limits : Bound) (grown : Grows s.pool limits [] marks) (client : ℕ)
     (reply : Reply) (call : Call)

@@ -1,36 +1,20 @@
 -- The ends that a core keeps read as those of the marks.
-use Rattle.std.proofs.Common.{ℕ, ◌≡◌, refl, ap, sym, ◌∙◌, Bool, true, false, cond, not, ◌&&◌, List, [], Option, Some, None, is_some}
-use Rattle.std.specs.List.{filter, list_any, range_with_len}
-use Rattle.std.specs.Option.{option_map, option_map_or, option_and_then}
+use Rattle.core_state.proofs.Common.{Birth, Bool, Bound, BufferName, Buffers, End, Grows, HandleCounts, In-map, IsAfter, List, Member}
+use Rattle.core_state.proofs.Common.{Node, NodeKey, None, OpenEnd, Option, Some, State, Strength, Timeline, [], allocated, any-left, ap}
+use Rattle.core_state.proofs.Common.{birth_is, birth_of, births, births_in, buffers_in, buffers_of, collection_after, cond, constraints}
+use Rattle.core_state.proofs.Common.{doomed, end_after, end_in, false, fault, filter, filter-In, gone, holder, in_transit, is_doomed}
+use Rattle.core_state.proofs.Common.{is_kept, is_kept_collection, is_some, is_spent, is_taking, is_tracking, is_unkept, list_any, member}
+use Rattle.core_state.proofs.Common.{member_of, members, members_of, names, node_after, node_at, nodes_after, not, open_end, open_end_of}
+use Rattle.core_state.proofs.Common.{open_total, option_and_then, option_map_or, range_with_len, readings, refl, some_strong_live, spent}
+use Rattle.core_state.proofs.Common.{sym, times, to_open_in, total, true, weak, ℕ, ◌&&◌, ◌∙◌, ◌≡◌}
+use Rattle.std.specs.Option.{option_map}
 use Rattle.std.proofs.Math.Bool.{or-true}
-use Rattle.sm_names.specs.declared.keys.BufferName.{BufferName}
-use Rattle.sm_names.specs.declared.keys.NodeKey.{NodeKey}
-use Rattle.sm_names.specs.declared.keys.Strength.{Strength}
-use Rattle.sm_names.specs.declared.outcomes.Buffers.{Buffers}
-use Rattle.sm_names.specs.Answers.{OpenEnd}
-use Rattle.sm_names.specs.Births.{Birth, births, birth_of}
-use Rattle.sm_names.specs.Bounds.{Bound}
-use Rattle.sm_names.specs.Ends.{spent, in_transit, holder, kind}
-use Rattle.sm_names.specs.Handles.{buffers_of, buffer_names, doomed, is_doomed, names, open_total}
-use Rattle.sm_names.specs.Kept.{is_kept, is_kept_collection}
-use Rattle.sm_names.specs.Losses.{gone, fault, allocated}
-use Rattle.sm_names.specs.Marks.{Timeline}
-use Rattle.sm_names.specs.Members.{Member, member, members, births_in, constraints, is_live, some_strong_live}
-use Rattle.sm_names.specs.Reading.{readings, open_end, is_taking, is_tracking}
-use Rattle.sm_names.specs.Weakness.{weak, weak_ok}
-use Rattle.sm_names.specs.Words.{times}
-use Rattle.history_laws.proofs.BirthLaws.{birth_is}
-use Rattle.history_laws.proofs.GrowthLaws.{Grows}
-use Rattle.sm_names.proofs.ListLaws.{In, In-map, filter-In}
-use Rattle.history_laws.proofs.ForgetLaws.{any-left}
-use Rattle.buffer_holds.specs.Counts.{total}
-use Rattle.forest_store.specs.declared.node.End.{End}
-use Rattle.forest_store.specs.declared.node.Node.{Node}
-use Rattle.forest_store.specs.Forest.{node_at}
-use Rattle.forest_store.specs.Nodes.{is_unkept, is_spent, member_of, members_of}
-use Rattle.core_state.specs.Reads.{holder_of, is_moving, buffers_in, to_open_in, open_end_of, end_in}
-use Rattle.core_state.specs.Shown.{IsAfter, end_after, node_after, nodes_after, collection_after}
-use Rattle.core_state.specs.State.{HandleCounts, State}
+use Rattle.sm_names.specs.Ends.{kind}
+use Rattle.sm_names.specs.Handles.{buffer_names}
+use Rattle.sm_names.specs.Members.{is_live}
+use Rattle.sm_names.specs.Weakness.{weak_ok}
+use Rattle.sm_names.proofs.ListLaws.{In}
+use Rattle.core_state.specs.Reads.{holder_of, is_moving}
 use Rattle.core_state.proofs.lists.Maps.{list_any-map}
 use Rattle.core_state.proofs.views.Nodes.{spent_end, node_kept, node_forgotten, node_unknown, collection_kept}
 use Rattle.core_state.proofs.collections.Roots.{collection_of_kept}

@@ -1,32 +1,12 @@
 -- What trackers look at in a forest, once the work of an event is done, is what the marks tell.
-use Rattle.std.proofs.Common.{ℕ, ◌≡◌, ◌≢◌, refl, ap, sym, ◌∙◌, Bool, true, false, not, ◌&&◌, ◌||◌}
-use Rattle.std.proofs.Common.{◌==◌, ◌⊎◌, inl, inr, [], length, Option, Some, None, is_some, arith}
-use Rattle.std.proofs.lemmas.Bool.{eqb-true, eqb-false, eq-eqb}
-use Rattle.std.specs.Option.{option_map_or}
-use Rattle.sm_names.specs.declared.keys.BufferName.{BufferName}
-use Rattle.sm_names.specs.declared.keys.NodeKey.{NodeKey}
-use Rattle.sm_names.specs.declared.keys.Strength.{Strength}
-use Rattle.sm_names.specs.Births.{births, was_born}
-use Rattle.sm_names.specs.Bounds.{Bound}
-use Rattle.sm_names.specs.Ends.{spent}
-use Rattle.sm_names.specs.Handles.{buffers_of, doomed, home, is_doomed, left, open_total}
-use Rattle.sm_names.specs.Kept.{is_kept, is_kept_collection}
-use Rattle.sm_names.specs.Losses.{gone, allocated}
-use Rattle.sm_names.specs.Marks.{Entry, Timeline, Called}
-use Rattle.sm_names.specs.Members.{members, some_strong_live}
-use Rattle.sm_names.specs.Timelines.{after}
+use Rattle.core_state.proofs.Common.{Bool, Bound, BufferName, Called, Collection, Entry, Forest, Grows, Handles, IsRecalled, Node}
+use Rattle.core_state.proofs.Common.{NodeKey, None, Option, Some, Strength, Timeline, World, [], after, allocated, and_both, and_left, ap}
+use Rattle.core_state.proofs.Common.{arith, births, both_ways, buffers_of, collection_at, doomed, either_way, eq-eqb, eqb-false, eqb-true}
+use Rattle.core_state.proofs.Common.{false, false_if, gone, gone_stays, home, inl, inr, is_doomed, is_kept, is_kept_collection, is_some}
+use Rattle.core_state.proofs.Common.{kept-after, left, length, members, members_of, node_at, not, open_total, option_map_or, or_left}
+use Rattle.core_state.proofs.Common.{or_none_right, refl, some_strong_live, spent, sym, true, was_born, world_in, ℕ, ◌&&◌, ◌==◌, ◌||◌}
+use Rattle.core_state.proofs.Common.{◌∙◌, ◌≡◌, ◌≢◌, ◌⊎◌}
 use Rattle.history_laws.proofs.DoomLaws.{StrongLive, strong_live, doomed_whole}
-use Rattle.history_laws.proofs.GoneLaws.{gone_stays}
-use Rattle.history_laws.proofs.GrowthLaws.{Grows}
-use Rattle.history_laws.proofs.KeptLaws.{kept-after}
-use Rattle.sm_names.proofs.SamenessLaws.{either_way, and_left, and_both, or_none_right, or_left, both_ways, false_if}
-use Rattle.sm_names.specs.Trackers.{World}
-use Rattle.event_laws.specs.Waiting.{IsRecalled}
-use Rattle.forest_store.specs.declared.node.Node.{Node}
-use Rattle.forest_store.specs.Forest.{Collection, Forest, collection_at, node_at}
-use Rattle.forest_store.specs.Nodes.{members_of}
-use Rattle.forest_store.specs.Settling.{Handles}
-use Rattle.core_state.specs.Reads.{world_in}
 use Rattle.core_state.proofs.ends.Forgotten.{open_kept}
 use Rattle.core_state.proofs.theorem.Follows.{Counts}
 use Rattle.core_state.proofs.collections.Roots.{collection_of_kept}

@@ -1,19 +1,10 @@
 -- A forest whose collections stand as the marks tell has what trackers look at.
-use Rattle.std.proofs.Common.{ℕ, ◌≡◌, refl, ap, sym, ◌∙◌, subst, Bool, true, false, ◌==◌, inl, inr, List, map, Option, Some, None, is_some}
-use Rattle.std.proofs.lemmas.Bool.{eqb-true, eq-eqb}
-use Rattle.std.specs.List.{find, filter, list_any}
-use Rattle.sm_names.specs.declared.keys.NodeKey.{NodeKey}
-use Rattle.sm_names.specs.Births.{Birth, births, was_born}
-use Rattle.sm_names.specs.Kept.{is_kept, is_kept_collection}
-use Rattle.sm_names.specs.Losses.{gone, allocated}
-use Rattle.sm_names.specs.Marks.{Timeline}
-use Rattle.sm_names.specs.Sameness.{same_key}
-use Rattle.sm_names.proofs.ListLaws.{In, In-filter, In-filter-back, In-find, In-map, In-map-back, is_some-find, In-list_any, In-any}
-use Rattle.sm_names.proofs.SamenessLaws.{either_way, both_ways, same_key-true, same_key-refl}
-use Rattle.forest_store.specs.declared.node.Node.{Node}
-use Rattle.forest_store.specs.Forest.{Collection, Forest, all_nodes, collection_at, node_at}
-use Rattle.forest_store.specs.Nodes.{is_of}
-use Rattle.forest_store.specs.Settling.{Handles}
+use Rattle.core_state.proofs.Common.{Birth, Bool, Collection, Forest, Handles, In-any, In-filter, In-filter-back, In-find, In-list_any}
+use Rattle.core_state.proofs.Common.{In-map, In-map-back, List, Node, NodeKey, None, Option, Some, Timeline, all_nodes, allocated, ap}
+use Rattle.core_state.proofs.Common.{births, both_ways, collection_at, either_way, eq-eqb, eqb-true, false, filter, find, gone, inl, inr}
+use Rattle.core_state.proofs.Common.{is_kept, is_kept_collection, is_of, is_some, is_some-find, list_any, map, node_at, refl, same_key}
+use Rattle.core_state.proofs.Common.{same_key-refl, same_key-true, subst, sym, true, was_born, ℕ, ◌==◌, ◌∙◌, ◌≡◌}
+use Rattle.sm_names.proofs.ListLaws.{In}
 use Rattle.core_state.proofs.collections.Roots.{collection_of_kept}
 use Rattle.core_state.proofs.theorem.Follows.{Counts}
 use Rattle.core_state.proofs.forced.Forest.{node_in, in_all_nodes}

@@ -1,33 +1,19 @@
 -- Which buffers are seen as held.
-use Rattle.std.proofs.Common.{ℕ, ◌≡◌, ◌≤◌, ◌<◌, ◌+◌, refl, ap, sym, ◌∙◌, subst, true, false, not}
-use Rattle.std.proofs.Common.{◌&&◌, ◌==◌, nat_lt, nat_le, inl, inr, List, [], ◌∷◌, map, arith}
-use Rattle.std.proofs.lemmas.Bool.{eqb-true, lt-ltb, ltb-true}
-use Rattle.std.proofs.lemmas.List.Folds.{flat_map-map}
-use Rattle.std.specs.List.{flat_map, list_any, sum_by}
-use Rattle.event_laws.proofs.HandleCaseLaws.{same_buffer-refl}
-use Rattle.sm_names.specs.declared.keys.BufferName.{BufferName}
-use Rattle.sm_names.specs.declared.keys.Interval.{Interval}
+use Rattle.core_state.proofs.Common.{Bound, BufferName, Collection, Forest, Grows, HeldBuffer, Holdings, In-any, In-le-sum_by}
+use Rattle.core_state.proofs.Common.{In-list_any, In-map-back, Interval, IsAfter, IsPoolOf, List, State, Timeline, [], all_held, and_both}
+use Rattle.core_state.proofs.Common.{and_left, and_right, ap, arith, both_ways, collection_after, end_of, eqb-true, false, false_if}
+use Rattle.core_state.proofs.Common.{flat_map, flat_map-map, held, held_after, home, inl, inr, is_kept_collection, kept_ids, left}
+use Rattle.core_state.proofs.Common.{list_any, lt-ltb, ltb-true, map, nat_le, nat_lt, not, one, or_right, refl, same_buffer}
+use Rattle.core_state.proofs.Common.{same_buffer-refl, same_buffer-true, sorted_by, stands_held, subst, sum_by, sym, true, ℕ, ◌&&◌, ◌+◌}
+use Rattle.core_state.proofs.Common.{◌<◌, ◌==◌, ◌∙◌, ◌∷◌, ◌≡◌, ◌≤◌}
 use Rattle.sm_names.specs.Apart.{AreApart}
-use Rattle.sm_names.specs.Bounds.{Bound}
-use Rattle.sm_names.specs.Handles.{buffer_names, home, left}
-use Rattle.sm_names.specs.Kept.{is_kept_collection}
-use Rattle.sm_names.specs.Marks.{Timeline}
+use Rattle.sm_names.specs.Handles.{buffer_names}
 use Rattle.sm_names.specs.Pages.{meets}
-use Rattle.sm_names.specs.Sameness.{same_buffer}
-use Rattle.sm_names.specs.declared.keys.HeldBuffer.{HeldBuffer}
-use Rattle.sm_names.specs.Timelines.{held}
 use Rattle.sm_names.specs.Views.{held_by_page}
-use Rattle.sm_names.specs.Words.{sorted_by}
-use Rattle.history_laws.proofs.GrowthLaws.{Grows}
-use Rattle.sm_names.proofs.SamenessLaws.{same_buffer-true, false_if, both_ways, and_left, and_right, and_both, or_right}
-use Rattle.history_laws.proofs.HeldLaws.{are_held, stands_held}
-use Rattle.sm_names.proofs.ListLaws.{In, In-list_any, In-map-back, In-any}
-use Rattle.history_laws.proofs.SumLaws.{one, In-le-sum_by}
-use Rattle.buffer_pool.specs.Holdings.{Holdings, IsSound, in_order}
-use Rattle.buffer_pool.specs.Holes.{end_of}
-use Rattle.forest_store.specs.Forest.{Collection, Forest, IsPoolOf, all_held, held_by_page as held_in}
-use Rattle.core_state.specs.Shown.{IsAfter, collection_after, held_after, kept_ids}
-use Rattle.core_state.specs.State.{State}
+use Rattle.history_laws.proofs.HeldLaws.{are_held}
+use Rattle.sm_names.proofs.ListLaws.{In}
+use Rattle.buffer_pool.specs.Holdings.{IsSound, in_order}
+use Rattle.forest_store.specs.Forest.{held_by_page as held_in}
 use Rattle.core_state.proofs.lists.Parts.{mixed_parts}
 use Rattle.core_state.proofs.lists.Reorderings.{Mixed, In-mixed_back, sum_by-mixed}
 use Rattle.core_state.proofs.collections.Roots.{listed_once}

@@ -1,16 +1,12 @@
 -- Held buffers in order of page: each ends before the next one begins.
-use Rattle.std.proofs.Common.{ℕ, ◌≡◌, ◌≤◌, ◌+◌, ◌∙◌, subst, true, nat_lt, nat_le, List, [], ◌∷◌, map, arith}
-use Rattle.std.proofs.lemmas.Bool.{leb-true}
+use Rattle.core_state.proofs.Common.{Forest, HeldBuffer, Holdings, Interval, IsPoolOf, List, [], all_held, and_left, and_right, arith}
+use Rattle.core_state.proofs.Common.{end_of, leb-true, map, nat_le, nat_lt, subst, true, ℕ, ◌+◌, ◌∙◌, ◌∷◌, ◌≡◌, ◌≤◌}
 use Rattle.std.proofs.lemmas.List.Elements.{All-cons}
 use Rattle.std.proofs.lemmas.List.Kept.{AllPairs-cons}
 use Rattle.std.specs.Prelude.{All}
 use Rattle.std.specs.List.{AllPairs}
-use Rattle.sm_names.specs.declared.keys.Interval.{Interval}
-use Rattle.sm_names.specs.declared.keys.HeldBuffer.{HeldBuffer}
-use Rattle.sm_names.proofs.SamenessLaws.{and_left, and_right}
-use Rattle.buffer_pool.specs.Holdings.{Holdings, IsSound, in_order}
-use Rattle.buffer_pool.specs.Holes.{end_of}
-use Rattle.forest_store.specs.Forest.{Forest, IsPoolOf, all_held, held_by_page}
+use Rattle.buffer_pool.specs.Holdings.{IsSound, in_order}
+use Rattle.forest_store.specs.Forest.{held_by_page}
 use Rattle.core_state.proofs.lists.Sorted.{sorted_by-map}
 
 -- the first ends before the second begins

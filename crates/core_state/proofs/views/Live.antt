@@ -1,38 +1,19 @@
 -- Which nodes are seen as live, and how others failed.
-use Rattle.std.proofs.lemmas.Bool.{false≢true}
-use Rattle.std.proofs.Common.{ℕ, ◌≡◌, ◌≤◌, ◌+◌, refl, ap, sym, ◌∙◌, Bool, true, false, cond, not, ◌&&◌, ◌||◌}
-use Rattle.std.proofs.Common.{inl, inr, List, [], ◌∷◌, map, reverse, Option, Some, None, is_some, arith}
-use Rattle.std.specs.List.{filter, cons_option}
-use Rattle.std.specs.Option.{option_map_or}
-use Rattle.sm_names.specs.declared.keys.NodeKey.{NodeKey}
-use Rattle.sm_names.specs.declared.messages.Call.{Call}
-use Rattle.sm_names.specs.declared.messages.Reply.{Reply}
-use Rattle.sm_names.specs.Births.{Birth, births, birth_at, birth_of, was_born}
-use Rattle.sm_names.specs.Bounds.{Bound}
-use Rattle.sm_names.specs.Ends.{spent}
-use Rattle.sm_names.specs.Kept.{is_kept}
-use Rattle.sm_names.specs.Losses.{gone, released, fault, live}
-use Rattle.sm_names.specs.Marks.{Mark, Timeline, Called, events, is_event}
-use Rattle.sm_names.specs.Sameness.{same_key}
-use Rattle.sm_names.specs.Views.{live_nodes}
-use Rattle.sm_names.specs.Words.{sorted_by}
-use Rattle.history_laws.proofs.BirthLaws.{birth_is}
-use Rattle.history_laws.proofs.GoneLaws.{fault_gone, live_born, not_live}
-use Rattle.history_laws.proofs.GrowthLaws.{Grows}
-use Rattle.history_laws.proofs.LifeLaws.{ordered, In_new}
-use Rattle.sm_names.proofs.ListLaws.{In, In-reverse, filter-In, is_some-find, map-map}
-use Rattle.sm_names.proofs.SamenessLaws.{both_ways, none_or_some}
-use Rattle.history_laws.proofs.SettledLaws.{In-was_born}
-use Rattle.forest_store.specs.declared.node.Node.{Node}
-use Rattle.forest_store.specs.Forest.{node_at, live_keys}
+use Rattle.core_state.proofs.Common.{Birth, Bool, Bound, Call, Called, Grows, In-reverse, In-was_born, IsAfter, List, Mark, Node, NodeKey}
+use Rattle.core_state.proofs.Common.{None, Option, Reply, Some, State, Timeline, [], ap, arith, birth_at, birth_is, birth_of, births}
+use Rattle.core_state.proofs.Common.{both_ways, cond, cons_option, events, false, false≢true, fault, fault_gone, fault_in, filter}
+use Rattle.core_state.proofs.Common.{filter-In, gone, inl, inr, is_event, is_kept, is_live_in, is_some, is_some-find, live, live_keys}
+use Rattle.core_state.proofs.Common.{live_nodes, map, map-map, node_after, node_at, none_or_some, not, option_map_or, ordered, refl}
+use Rattle.core_state.proofs.Common.{released, reverse, same_key, sorted_by, spent, sym, true, was_born, ℕ, ◌&&◌, ◌+◌, ◌||◌, ◌∙◌, ◌∷◌}
+use Rattle.core_state.proofs.Common.{◌≡◌, ◌≤◌}
+use Rattle.history_laws.proofs.GoneLaws.{live_born, not_live}
+use Rattle.history_laws.proofs.LifeLaws.{In_new}
+use Rattle.sm_names.proofs.ListLaws.{In}
 use Rattle.core_state.proofs.lists.Sorted.{sorted_by-map}
-use Rattle.core_state.specs.Reads.{is_live_in, fault_in}
-use Rattle.core_state.specs.Shown.{IsAfter, node_after}
-use Rattle.core_state.specs.State.{State}
 use Rattle.core_state.proofs.lists.Maps.{filter-map, filter-filter, filter-reverse}
 use Rattle.core_state.proofs.lists.Reorderings.{Mixed, mixed_filter}
-use Rattle.core_state.proofs.views.Nodes.{kept_births, kept_by_collection, all_nodes_are}
-use Rattle.core_state.proofs.views.Nodes.{mixed_births, node_kept, node_forgotten, node_unknown}
+use Rattle.core_state.proofs.views.Nodes.{kept_births, kept_by_collection, all_nodes_are, mixed_births, node_kept, node_forgotten}
+use Rattle.core_state.proofs.views.Nodes.{node_unknown}
 use Rattle.core_state.proofs.lists.ByNumber.{AreFalling, falling_filter, falling_numbered, sorted_falling, sorted-mixed}
 
 -- ---- births come one after another

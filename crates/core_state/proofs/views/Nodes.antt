@@ -1,34 +1,17 @@
 -- The nodes and collections that a core keeps, as the marks make them.
-use Rattle.std.proofs.Common.{ℕ, ◌≡◌, refl, ap, sym, ◌∙◌, Bool, true, false, cond, not, ◌&&◌, ◌||◌}
-use Rattle.std.proofs.Common.{◌==◌, ◌⊎◌, inl, inr, List, [], map, reverse, Option, Some, None}
-use Rattle.std.proofs.lemmas.List.Folds.{flat_map-map}
-use Rattle.std.specs.List.{find, filter, flat_map}
+use Rattle.core_state.proofs.Common.{Birth, Bool, Bound, Collection, End, Grows, In-filter, In-filter-back, IsAfter, List, Node, NodeKey}
+use Rattle.core_state.proofs.Common.{None, Option, Some, State, Timeline, [], all_nodes, ap, birth_is, birth_of, births, births_in}
+use Rattle.core_state.proofs.Common.{both_ways, collection_after, collection_at, cond, either_way, end_after, false, filter, filter-swap}
+use Rattle.core_state.proofs.Common.{find, find_birth, flat_map, flat_map-map, gone, holder, in_transit, inl, inr, is_kept}
+use Rattle.core_state.proofs.Common.{is_kept_collection, is_of, is_spent, is_unkept, kept_ids, map, node_after, node_at, not, ordered}
+use Rattle.core_state.proofs.Common.{refl, reverse, same_key, same_key-refl, same_key-true, spent, sym, true, ℕ, ◌&&◌, ◌==◌, ◌||◌, ◌∙◌}
+use Rattle.core_state.proofs.Common.{◌≡◌, ◌⊎◌}
 use Rattle.std.specs.Option.{option_map}
-use Rattle.sm_names.specs.declared.keys.NodeKey.{NodeKey}
-use Rattle.sm_names.specs.Births.{Birth, births, birth_of}
-use Rattle.sm_names.specs.Bounds.{Bound}
-use Rattle.sm_names.specs.Ends.{spent, in_transit, holder}
-use Rattle.sm_names.specs.Kept.{is_kept, is_kept_collection}
-use Rattle.sm_names.specs.Losses.{gone}
-use Rattle.sm_names.specs.Marks.{Timeline}
-use Rattle.sm_names.specs.Members.{births_in}
-use Rattle.sm_names.specs.Sameness.{same_key}
-use Rattle.history_laws.proofs.BirthLaws.{birth_is}
-use Rattle.history_laws.proofs.GrowthLaws.{Grows}
-use Rattle.history_laws.proofs.LifeLaws.{ordered}
-use Rattle.sm_names.proofs.ListLaws.{In, In-filter, In-filter-back, filter-swap}
-use Rattle.sm_names.proofs.SamenessLaws.{either_way, both_ways, same_key-true, same_key-refl}
-use Rattle.history_laws.proofs.SettledLaws.{find_birth}
+use Rattle.sm_names.proofs.ListLaws.{In}
 use Rattle.history_laws.proofs.SumLaws.{any_one}
-use Rattle.forest_store.specs.declared.node.End.{End}
-use Rattle.forest_store.specs.declared.node.Node.{Node}
-use Rattle.forest_store.specs.Forest.{Collection, collection_at, node_at, all_nodes}
-use Rattle.forest_store.specs.Nodes.{is_of, is_unkept, is_spent}
-use Rattle.core_state.specs.Shown.{IsAfter, end_after, node_after, collection_after, kept_ids}
-use Rattle.core_state.specs.State.{State}
 use Rattle.core_state.proofs.lists.Parts.{mixed_turned}
-use Rattle.core_state.proofs.lists.Maps.{filter-map, filter-reverse, map-flat_map, flat_map-same}
-use Rattle.core_state.proofs.lists.Maps.{find-map, find_only, find_none, find_number}
+use Rattle.core_state.proofs.lists.Maps.{filter-map, filter-reverse, map-flat_map, flat_map-same, find-map, find_only, find_none}
+use Rattle.core_state.proofs.lists.Maps.{find_number}
 use Rattle.core_state.proofs.lists.Reorderings.{Mixed, In-mixed, In-mixed_back}
 use Rattle.core_state.proofs.collections.Roots.{listed_once, listed_kept}
 

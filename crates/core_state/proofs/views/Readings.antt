@@ -1,28 +1,15 @@
 -- What answers read of a core's state is what they read of the marks.
-use Rattle.std.proofs.Common.{ℕ, ◌≡◌, refl, ap, sym, ◌∙◌, Bool, true, false, cond, ◌&&◌, ◌||◌}
-use Rattle.std.proofs.Common.{◌==◌, List, [], ◌∷◌, reverse, length, Option, Some, None, is_none}
-use Rattle.std.proofs.lemmas.List.{reverse-append, length-map, length-reverse}
-use Rattle.std.proofs.lemmas.List.Sums.{length-filter}
-use Rattle.std.specs.List.{find, filter, list_any}
-use Rattle.std.specs.Option.{option_map, option_map_or}
-use Rattle.std.proofs.lemmas.List.Folds.{list_any-append}
-use Rattle.sm_names.specs.declared.keys.NodeKey.{NodeKey}
-use Rattle.sm_names.specs.Births.{Birth, births}
-use Rattle.sm_names.specs.Bounds.{Bound}
-use Rattle.sm_names.specs.Ends.{has_joined, clients, is_shut, parcels}
-use Rattle.sm_names.specs.Kept.{is_kept, is_kept_collection, kept_nodes, kept_collections}
-use Rattle.sm_names.specs.Marks.{Timeline}
-use Rattle.sm_names.specs.Reading.{readings}
-use Rattle.sm_names.specs.Sameness.{same_key}
+use Rattle.core_state.proofs.Common.{Birth, Bool, Bound, Client, Grows, In-any, In-list_any, In-reverse, In-reverse-back, IsAfter, List}
+use Rattle.core_state.proofs.Common.{NodeKey, None, Option, Some, State, Timeline, [], ap, births, both_tests, client_after, clients}
+use Rattle.core_state.proofs.Common.{collection_after, cond, false, filter, find, has_joined, is_kept, is_kept_collection, is_none}
+use Rattle.core_state.proofs.Common.{is_shut, is_some-find, joined_client, kept_ids, length, length-filter, length-map, list_any}
+use Rattle.core_state.proofs.Common.{node_after, node_count, option_map_or, parcels, readings, readings_of, refl, reverse, same_key}
+use Rattle.core_state.proofs.Common.{stranger_waits_for_none, sym, tracked_as, true, ℕ, ◌&&◌, ◌==◌, ◌∙◌, ◌≡◌}
+use Rattle.std.proofs.lemmas.List.{length-reverse}
+use Rattle.std.specs.Option.{option_map}
+use Rattle.sm_names.specs.Kept.{kept_nodes, kept_collections}
 use Rattle.sm_names.specs.Trackers.{unfired}
-use Rattle.history_laws.proofs.GrowthLaws.{Grows}
-use Rattle.sm_names.proofs.ListLaws.{is_some-find}
-use Rattle.event_laws.proofs.ParcelEventLaws.{stranger_waits_for_none}
 use Rattle.event_laws.proofs.WaitingLaws.{counted}
-use Rattle.forest_store.specs.Forest.{node_count}
-use Rattle.core_state.specs.Reads.{joined_client, readings_of}
-use Rattle.core_state.specs.Shown.{IsAfter, node_after, collection_after, kept_ids, client_after, tracked_as}
-use Rattle.core_state.specs.State.{Client, State}
 use Rattle.core_state.proofs.joined.Joining.{stranger_not_shut}
 use Rattle.core_state.proofs.lists.Maps.{filter-reverse, find-map, find_number, list_any-map}
 use Rattle.core_state.proofs.lists.Reorderings.{length-mixed}
@@ -30,18 +17,10 @@ use Rattle.core_state.proofs.views.Ends.{end_is}
 use Rattle.core_state.proofs.views.Nodes.{kept_births, kept_by_collection, all_nodes_are, mixed_births}
 
 -- a test that some element passes does not see the order
-any-reverse : {A : Type 0} (p : A → Bool) (xs : List A) → list_any p (reverse xs) ≡ list_any p xs
-any-reverse p [] = refl
-any-reverse p (x ∷ xs) =
-    ap (list_any p) (reverse-append (x ∷ []) xs)
-    ∙ (list_any-append p (reverse xs) (x ∷ []) ∙ (ap (λ (b : Bool). b || (p x || false)) (any-reverse p xs) ∙ turned (list_any p xs) (p x)))
-  where
-    -- by cases on both switches
-    turned : (a b : Bool) → (a || (b || false)) ≡ (b || a)
-    turned true true = refl
-    turned true false = refl
-    turned false true = refl
-    turned false false = refl
+pub any-reverse : {A : Type 0} (p : A → Bool) (xs : List A) → list_any p (reverse xs) ≡ list_any p xs
+any-reverse p xs = both_tests (list_any p (reverse xs)) (list_any p xs)
+    (λ h. let x = In-list_any p (reverse xs) h in In-any p xs x.0 (In-reverse xs x.0 x.1) x.2)
+    (λ h. let x = In-list_any p xs h in In-any p (reverse xs) x.0 (In-reverse-back xs x.0 x.1) x.2)
 
 -- ---- the readings
 

@@ -1,18 +1,7 @@
 -- A core's state is answered as the marks are.
-use Rattle.std.proofs.Common.{ℕ, ◌≡◌, refl, ap, ◌∙◌, Bool, false, inl, inr, [], Option, Some, None}
-use Rattle.std.specs.Option.{option_map_or}
-use Rattle.sm_names.specs.declared.keys.NodeKey.{NodeKey}
-use Rattle.sm_names.specs.declared.messages.Call.{Call}
-use Rattle.sm_names.specs.declared.messages.Reply.{Reply}
-use Rattle.sm_names.specs.Answers.{Readings, IsAnswer, answer, new_key, key_told}
-use Rattle.sm_names.specs.Bounds.{Bound}
-use Rattle.sm_names.specs.Marks.{Timeline}
-use Rattle.sm_names.specs.Reading.{readings}
-use Rattle.history_laws.proofs.GrowthLaws.{Grows}
-use Rattle.sm_names.proofs.SamenessLaws.{either_way, both_ways}
-use Rattle.core_state.specs.Reads.{readings_of}
-use Rattle.core_state.specs.Shown.{IsAfter}
-use Rattle.core_state.specs.State.{State}
+use Rattle.core_state.proofs.Common.{Bool, Bound, Call, Grows, IsAfter, IsAnswer, NodeKey, None, Option, Readings, Reply, Some, State}
+use Rattle.core_state.proofs.Common.{Timeline, [], answer, ap, both_ways, either_way, false, inl, inr, key_told, new_key, option_map_or}
+use Rattle.core_state.proofs.Common.{readings, readings_of, refl, ℕ, ◌∙◌, ◌≡◌}
 use Rattle.core_state.proofs.views.Readings.{readings_are, was_given}
 
 -- no answer reads which keys were given

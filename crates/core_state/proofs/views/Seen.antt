@@ -1,12 +1,5 @@
 -- What is seen of a core's state is what is seen of the marks.
-use Rattle.std.proofs.Common.{ℕ, ◌≡◌, ◌-◌, ap, []}
-use Rattle.sm_names.specs.Bounds.{Bound}
-use Rattle.sm_names.specs.Marks.{Timeline}
-use Rattle.sm_names.specs.Views.{free_pages}
-use Rattle.history_laws.proofs.GrowthLaws.{Grows}
-use Rattle.core_state.specs.Reads.{views_of}
-use Rattle.core_state.specs.Shown.{IsAfter}
-use Rattle.core_state.specs.State.{State}
+use Rattle.core_state.proofs.Common.{Bound, Grows, IsAfter, State, Timeline, [], ap, free_pages, views_of, ℕ, ◌-◌, ◌≡◌}
 use Rattle.core_state.proofs.views.Held.{held_pages_are}
 
 module _ (s : State) (marks : Timeline) (shown : IsAfter s marks) (limits : Bound) (grown : Grows s.pool limits [] marks) where

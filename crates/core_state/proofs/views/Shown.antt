@@ -1,29 +1,16 @@
 -- What is read and seen of a state that shows a history.
-use Rattle.std.proofs.Common.{ℕ, ◌≡◌, refl, ap, ◌∙◌, Bool, true, false, ◌==◌, not, cond}
-use Rattle.std.proofs.Common.{List, [], ◌∷◌, ◌++◌, length, map, reverse, Option, Some, None}
-use Rattle.std.proofs.lemmas.List.Folds.{flat_map-map}
-use Rattle.std.specs.List.{filter, flat_map}
-use Rattle.std.specs.Option.{option_map, option_map_or}
-use Rattle.sm_names.specs.declared.keys.BufferName.{BufferName}
-use Rattle.sm_names.specs.declared.keys.Interval.{Interval}
-use Rattle.sm_names.specs.declared.keys.Strength.{Strength}
-use Rattle.sm_names.specs.declared.keys.NodeKey.{NodeKey}
-use Rattle.sm_names.specs.declared.outcomes.Cause.{Cause}
-use Rattle.sm_names.specs.declared.outcomes.Fault.{Fault}
-use Rattle.sm_names.specs.Ends.{clients}
-use Rattle.sm_names.specs.Handles.{buffers_of, open_of, open_total, moving as moving_of}
-use Rattle.sm_names.specs.Kept.{is_kept, is_kept_collection}
-use Rattle.sm_names.specs.Losses.{fault, live}
-use Rattle.sm_names.specs.Marks.{Entry}
-use Rattle.sm_names.specs.Timelines.{timeline}
-use Rattle.sm_names.specs.Views.{live_nodes, held_by_page, free_pages}
-use Rattle.history_laws.proofs.GrowthLaws.{Grows, legal_grows}
-use Rattle.buffer_holds.specs.Counts.{of, moving_count, total}
-use Rattle.sm_names.specs.Births.{birth_of}
-use Rattle.forest_store.specs.Forest.{Collection, all_nodes, beside, collection_at, node_at, live_keys, held_by_page as held_in, pages_in}
-use Rattle.core_state.specs.Reads.{buffers_in, is_live_in, fault_in, views_of}
-use Rattle.core_state.specs.Shown.{Shows, client_after, collection_after, kept_ids, all_kept_nodes, node_after, pages_beside_after}
-use Rattle.core_state.specs.State.{Client, HandleCounts, State}
+use Rattle.core_state.proofs.Common.{Bool, BufferName, Cause, Client, Collection, Entry, Fault, Grows, HandleCounts, Interval, List}
+use Rattle.core_state.proofs.Common.{NodeKey, None, Option, Shows, Some, State, Strength, [], all_nodes, ap, beside, birth_of, buffers_in}
+use Rattle.core_state.proofs.Common.{buffers_of, client_after, clients, collection_after, collection_at, cond, false, fault, fault_in}
+use Rattle.core_state.proofs.Common.{filter, flat_map, flat_map-map, free_pages, is_kept, is_kept_collection, is_live_in, kept_ids}
+use Rattle.core_state.proofs.Common.{legal_grows, length, live, live_keys, live_nodes, map, moving_count, node_after, node_at, not, of}
+use Rattle.core_state.proofs.Common.{open_of, open_total, option_map_or, pages_in, refl, reverse, timeline, total, true, views_of, ℕ}
+use Rattle.core_state.proofs.Common.{◌++◌, ◌==◌, ◌∙◌, ◌∷◌, ◌≡◌}
+use Rattle.std.specs.Option.{option_map}
+use Rattle.sm_names.specs.Handles.{moving as moving_of}
+use Rattle.sm_names.specs.Views.{held_by_page}
+use Rattle.forest_store.specs.Forest.{held_by_page as held_in}
+use Rattle.core_state.specs.Shown.{all_kept_nodes, pages_beside_after}
 use Rattle.core_state.proofs.theorem.EventCount.{events-timeline}
 use Rattle.core_state.proofs.views.Seen.{free_is}
 use Rattle.core_state.proofs.views.Held.{HavePages, held_by_page_is}

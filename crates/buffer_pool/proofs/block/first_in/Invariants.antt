@@ -1,6 +1,5 @@
 -- Those that are passed have no room.
-use Rattle.std.proofs.Common.{◌≡◌, ◌≤◌, ◌-◌, length, take}
-use Rattle.buffer_pool.specs.Fitting.{rooms}
+use Rattle.buffer_pool.proofs.Common.{length, rooms, take, ◌-◌, ◌≡◌, ◌≤◌}
 use Rattle.buffer_pool.proofs.block.first_in.Given as goal
 
 abbrev pub invariant-loop-at : goal.invariant-loop-at

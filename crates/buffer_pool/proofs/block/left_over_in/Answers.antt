@@ -1,12 +1,9 @@
 -- The room of the first of those that remain is subtracted.
-use Rattle.std.proofs.Common.{List, ◌≡◌, ◌+◌, ◌-◌, ◌/◌, ◌∙◌, ap, arith, drop, get_or}
-use Rattle.std.proofs.Math.Nat.{div-eq_of_lt}
-use Rattle.std.proofs.lemmas.List.{drop_more}
-use Rattle.sm_names.specs.declared.keys.Interval.{Interval}
-use Rattle.buffer_pool.specs.Fitting.{rooms}
+use Rattle.buffer_pool.proofs.Common.{Interval, ap, arith, div-eq_of_lt, drop, drop_more, get_or, rooms, ◌+◌, ◌-◌, ◌/◌, ◌∙◌, ◌≡◌}
+use Rattle.std.proofs.Common.{List}
 use Rattle.buffer_pool.proofs.Taking.{rooms-cons}
-use Rattle.buffer_pool.proofs.block.left_over_in.Goals as goal
 use Rattle.buffer_pool.proofs.block.left_over_in.Goals.{then-holes-at+else-left-eq0, else-holes-at}
+use Rattle.buffer_pool.proofs.block.left_over_in.Goals as goal
 
 pub loop-at-preserved : goal.loop-at-preserved
 loop-at-preserved c =

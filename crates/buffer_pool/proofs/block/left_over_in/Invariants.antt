@@ -1,6 +1,5 @@
 -- The rest of the count after all is the rest of the present count after those that remain.
-use Rattle.std.proofs.Common.{◌≡◌, ◌-◌, drop}
-use Rattle.buffer_pool.specs.Fitting.{rooms}
+use Rattle.buffer_pool.proofs.Common.{drop, rooms, ◌-◌, ◌≡◌}
 use Rattle.buffer_pool.proofs.block.left_over_in.Given as goal
 
 abbrev pub invariant-loop-at : goal.invariant-loop-at

@@ -1,6 +1,5 @@
 -- Those so far and those still to come make the whole.
-use Rattle.std.proofs.Common.{◌≡◌, ◌≤◌, ◌+◌, ◌*◌, ◌++◌, length, vec_capacity}
-use Rattle.buffer_pool.specs.Fitting.{run_starts}
+use Rattle.buffer_pool.proofs.Common.{length, run_starts, vec_capacity, ◌*◌, ◌++◌, ◌+◌, ◌≡◌, ◌≤◌}
 use Rattle.buffer_pool.proofs.block.push_starts.Given as goal
 
 abbrev pub invariant-loop-left : goal.invariant-loop-left

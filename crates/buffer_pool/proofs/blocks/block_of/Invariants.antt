@@ -1,6 +1,5 @@
 -- The block lies between the two ends of the search.
-use Rattle.std.proofs.Common.{◌-◌}
-use Rattle.buffer_pool.specs.Holes.{end_of}
+use Rattle.buffer_pool.proofs.Common.{end_of, ◌-◌}
 use Rattle.buffer_pool.proofs.Finding.{IsBlockSearch}
 use Rattle.buffer_pool.proofs.blocks.block_of.Given as goal
 

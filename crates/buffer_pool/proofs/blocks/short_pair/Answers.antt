@@ -1,5 +1,4 @@
-use Rattle.std.proofs.Common.{arith}
-use Rattle.std.proofs.lemmas.Grind.{common_steps}
+use Rattle.buffer_pool.proofs.Common.{arith, common_steps}
 use Rattle.buffer_pool.proofs.blocks.short_pair.Goals as goal
 
 -- by arithmetic and the usual steps

@@ -1,7 +1,5 @@
 -- The pairs so far have too many intervals to be made one.
-use Rattle.std.proofs.Common.{◌≤◌, ◌+◌, ◌*◌, ◌-◌, length, take, get_or, []}
-use Rattle.buffer_pool.specs.declared.block.TheConstants.{FULL}
-use Rattle.buffer_pool.specs.Rows.{all_in}
+use Rattle.buffer_pool.proofs.Common.{FULL, [], all_in, get_or, length, take, ◌*◌, ◌+◌, ◌-◌, ◌≤◌}
 use Rattle.buffer_pool.proofs.blocks.short_pair.Given as goal
 
 abbrev pub invariant-loop-at : goal.invariant-loop-at

@@ -1,10 +1,8 @@
 -- Each lies where first fit puts it, so nothing begins there.
-use Rattle.std.proofs.Common.{ℕ, List, ◌≡◌, ◌+◌, ◌∷◌, ◌<◌, ◌∙◌, ap, sym, subst, arith, length, get_or, set, drop}
-use Rattle.std.proofs.lemmas.List.{drop_more, length-set}
-use Rattle.sm_names.specs.declared.keys.Interval.{Interval}
-use Rattle.buffer_pool.specs.Fitting.{AreFirstFits}
-use Rattle.buffer_pool.specs.Holdings.{with_buffers, with_interval}
-use Rattle.buffer_pool.specs.Lengths.{held_from}
+use Rattle.buffer_pool.proofs.Common.{AreFirstFits, Interval, ap, arith, drop, drop_more, get_or, held_from, length, set, subst, sym}
+use Rattle.buffer_pool.proofs.Common.{with_buffers, with_interval, ℕ, ◌+◌, ◌<◌, ◌∙◌, ◌∷◌, ◌≡◌}
+use Rattle.std.proofs.Common.{List}
+use Rattle.std.proofs.lemmas.List.{length-set}
 use Rattle.buffer_pool.proofs.Keeping.{held_next}
 use Rattle.buffer_pool.proofs.Lengths.{held-free, held-set}
 use Rattle.buffer_pool.proofs.holding.hold.Goals as goal

@@ -1,8 +1,5 @@
 -- Those so far are held, and those that are left lie where first fit puts them.
-use Rattle.std.proofs.Common.{◌≡◌, length, drop}
-use Rattle.buffer_pool.specs.Fitting.{AreFirstFits}
-use Rattle.buffer_pool.specs.Holdings.{with_buffers}
-use Rattle.buffer_pool.specs.Lengths.{held_from}
+use Rattle.buffer_pool.proofs.Common.{AreFirstFits, drop, held_from, length, with_buffers, ◌≡◌}
 use Rattle.buffer_pool.proofs.holding.hold.Given as goal
 
 abbrev pub invariant-loop-start : goal.invariant-loop-start

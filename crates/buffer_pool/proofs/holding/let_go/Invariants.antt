@@ -1,7 +1,5 @@
 -- Those so far are gone.
-use Rattle.std.proofs.Common.{◌≡◌, ◌+◌, ◌-◌, ◌*◌, ◌≤◌, length}
-use Rattle.buffer_pool.specs.Holdings.{without_run}
-use Rattle.buffer_pool.specs.Lengths.{held_from}
+use Rattle.buffer_pool.proofs.Common.{held_from, length, without_run, ◌*◌, ◌+◌, ◌-◌, ◌≡◌, ◌≤◌}
 use Rattle.buffer_pool.proofs.holding.let_go.Given as goal
 
 abbrev pub invariant-loop-left : goal.invariant-loop-left

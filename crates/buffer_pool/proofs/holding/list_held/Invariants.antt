@@ -1,6 +1,5 @@
 -- Those so far and those still to come make the whole.
-use Rattle.std.proofs.Common.{◌≡◌, ◌+◌, ◌++◌, ◌≤◌, drop, vec_capacity}
-use Rattle.buffer_pool.specs.Lengths.{held_from}
+use Rattle.buffer_pool.proofs.Common.{drop, held_from, vec_capacity, ◌++◌, ◌+◌, ◌≡◌, ◌≤◌}
 use Rattle.buffer_pool.proofs.holding.list_held.Given as goal
 
 abbrev pub invariant-loop-pages : goal.invariant-loop-pages

@@ -1,8 +1,5 @@
 -- The hole at the spot is the first of those behind the place.
-use Rattle.std.proofs.lemmas.Grind.{common_steps}
-use Rattle.std.proofs.Common.{sym, refl, arith}
-use Rattle.std.proofs.lemmas.List.{drop_more}
-use Rattle.buffer_pool.specs.Rows.{all_in, spot_index}
+use Rattle.buffer_pool.proofs.Common.{all_in, arith, common_steps, drop_more, refl, spot_index, sym}
 use Rattle.buffer_pool.proofs.Joins.{place-within}
 use Rattle.buffer_pool.proofs.holes.begins_at.Goals as goal
 

@@ -1,18 +1,12 @@
 -- The next hole is removed if the two touch.
-use Rattle.std.proofs.Common.{◌∙◌, ◌≡◌, ◌≤◌, ◌+◌, ◌<◌, ◌^◌, arith, rules, ap, sym, get_or}
-use Rattle.std.proofs.Common.{set, take, drop, [], List, length-set, true, refl, subst}
-use Rattle.std.specs.List.{remove}
-use Rattle.std.proofs.lemmas.List.{take-take}
-use Rattle.sm_names.specs.declared.rules.TheConstants.{MAX_PAGES}
-use Rattle.sm_names.specs.declared.keys.Interval.{Interval}
-use Rattle.buffer_pool.specs.Merging.{first_begins}
-use Rattle.buffer_pool.specs.Holes.{end_of}
-use Rattle.buffer_pool.specs.Rows.{all_in, spot_index, HasIntervalAt}
+use Rattle.buffer_pool.proofs.Common.{HasIntervalAt, Interval, MAX_PAGES, [], all_in, ap, arith, drop, end_of, first_begins, get_or, refl}
+use Rattle.buffer_pool.proofs.Common.{remove, rules, set, spot_index, subst, sym, take, take-take, true, ◌+◌, ◌<◌, ◌^◌, ◌∙◌, ◌≡◌, ◌≤◌}
+use Rattle.std.proofs.Common.{List, length-set}
 use Rattle.buffer_pool.proofs.Joins.{place-within, within-all, same-place, remove-next}
 use Rattle.buffer_pool.proofs.Spaces.{join_apart, join_touching, first_within}
 use Rattle.buffer_pool.proofs.Touching.{there_if, begins_there, holds_there, still_there}
-use Rattle.buffer_pool.proofs.holes.join_next.Goals as goal
 use Rattle.buffer_pool.proofs.holes.join_next.Goals.{After-settle-next}
+use Rattle.buffer_pool.proofs.holes.join_next.Goals as goal
 
 pub overflow_add-behind : goal.overflow_add-behind
 overflow_add-behind c =

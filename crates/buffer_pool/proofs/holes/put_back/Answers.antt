@@ -1,9 +1,7 @@
 -- The pages come back behind the holes that end before them.
-use Rattle.std.proofs.Common.{◌≡◌, ◌+◌, ◌<◌, ◌^◌, ◌∙◌, sym, refl, subst, arith, rules}
-use Rattle.sm_names.specs.declared.keys.Interval.{Interval}
-use Rattle.buffer_pool.specs.Holes.{end_of}
-use Rattle.buffer_pool.specs.Merging.{first_ends, first_begins}
-use Rattle.buffer_pool.specs.Rows.{all_in, spot_index, capacity_of}
+use Rattle.buffer_pool.proofs.Common.{Interval, all_in, arith, end_of, first_begins, first_ends, refl, rules, spot_index, subst, sym, ◌+◌}
+use Rattle.buffer_pool.proofs.Common.{◌<◌, ◌^◌, ◌∙◌, ◌≡◌}
+use Rattle.buffer_pool.specs.Rows.{capacity_of}
 use Rattle.buffer_pool.proofs.Spaces.{released_behind, released_before, released_apart, room_apart}
 use Rattle.buffer_pool.proofs.Touching.{there_if, ends_there, begins_there, holds_there}
 use Rattle.buffer_pool.proofs.holes.put_back.Goals as goal

@@ -1,6 +1,4 @@
-use Rattle.std.proofs.Common.{arith, subst, sym}
-use Rattle.std.specs.List.{All}
-use Rattle.client_actors.specs.ObjectCalls.{SlotHeldBy, lies}
+use Rattle.client_actors.proofs.Common.{All, SlotHeldBy, arith, lies, subst, sym}
 use Rattle.client_actors.proofs.ActorStepLaws.{answers, room_for, stored_owned}
 use Rattle.client_actors.proofs.actor.ask.Goals as goal
 

@@ -1,6 +1,5 @@
-use Rattle.std.proofs.Common.{subst}
+use Rattle.client_actors.proofs.Common.{lies, subst}
 use Rattle.actor_scripts.specs.ActorStates.{Fits}
-use Rattle.client_actors.specs.ObjectCalls.{lies}
 use Rattle.client_actors.proofs.ActorStepLaws.{asks_there, within}
 use Rattle.client_actors.proofs.actor.ask_on.Goals as goal
 

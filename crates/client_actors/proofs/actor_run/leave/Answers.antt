@@ -1,7 +1,4 @@
-use Rattle.std.proofs.Common.{◌∙◌, ap, subst, sym}
-use Rattle.client_vanish.specs.Vanishings.{AllHeldBy, sorted}
-use Rattle.client_vanish.specs.Stacks.{both}
-use Rattle.client_actors.specs.ActorSteps.{last_objects_first}
+use Rattle.client_actors.proofs.Common.{AllHeldBy, ap, both, last_objects_first, sorted, subst, sym, ◌∙◌}
 use Rattle.client_actors.proofs.ActorStepLaws.{left_owned, left_turned}
 use Rattle.client_actors.proofs.actor_run.leave.Goals as goal
 

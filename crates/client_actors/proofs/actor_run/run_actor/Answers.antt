@@ -1,10 +1,4 @@
-use Rattle.std.proofs.Common.{◌≡◌, ◌∙◌, ap, subst}
-use Rattle.client_ends.specs.Clients.{Seen}
-use Rattle.client_vanish.specs.Vanishings.{held_in}
-use Rattle.actor_scripts.specs.Tables.{known}
-use Rattle.client_actors.specs.ActorSteps.{HasRunSome, pairs_of}
-use Rattle.client_actors.specs.ObjectCalls.{lies}
-use Rattle.client_actors.specs.PatientRuns.{RunsPatiently}
+use Rattle.client_actors.proofs.Common.{HasRunSome, RunsPatiently, Seen, ap, held_in, known, lies, pairs_of, subst, ◌∙◌, ◌≡◌}
 use Rattle.client_actors.proofs.ScriptLaws.{broken_id, has_broken, has_finished, has_stopped, runs_none}
 use Rattle.client_actors.proofs.actor_run.run_actor.Goals as goal
 

@@ -1,5 +1,4 @@
-use Rattle.std.proofs.Common.{◌≡◌, length}
-use Rattle.client_actors.specs.ActorSteps.{HasRunTo, IsAware, ActorInvariant}
+use Rattle.client_actors.proofs.Common.{ActorInvariant, HasRunTo, IsAware, length, ◌≡◌}
 use Rattle.client_actors.proofs.actor_run.run_steps.Given as goal
 
 -- some steps are made, and the others are left

@@ -1,5 +1,4 @@
-use Rattle.std.proofs.Common.{◌≡◌}
-use Rattle.client_actors.specs.ActorSteps.{ActorInvariant, IsAware, IsWaiting}
+use Rattle.client_actors.proofs.Common.{ActorInvariant, IsAware, IsWaiting, ◌≡◌}
 use Rattle.client_actors.proofs.actor_run.take_step.Given as goal
 
 -- nothing was there so far

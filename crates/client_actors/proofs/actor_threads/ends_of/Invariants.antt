@@ -1,6 +1,5 @@
-use Rattle.std.proofs.Common.{◌≡◌, ◌+◌, ◌≤◌, ◌++◌, Some, map, reverse, vec_len, vec_capacity}
-use Rattle.std.specs.Prelude.{IsSome}
-use Rattle.std.specs.List.{All}
+use Rattle.client_actors.proofs.Common.{All, IsSome, Some, map, vec_len, ◌++◌, ◌+◌, ◌≡◌, ◌≤◌}
+use Rattle.std.proofs.Common.{reverse, vec_capacity}
 use Rattle.client_actors.proofs.actor_threads.ends_of.Given as goal
 
 -- those that were taken out, and those that are left

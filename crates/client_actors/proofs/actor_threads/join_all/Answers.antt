@@ -1,7 +1,5 @@
-use Rattle.std.proofs.Common.{◌∙◌, ap, arith, map, subst, sym}
-use Rattle.std.specs.List.{All}
+use Rattle.client_actors.proofs.Common.{All, CanStart, ap, arith, id_there, map, subst, sym, ◌∙◌}
 use Rattle.std.proofs.lemmas.List.Elements.{All-push}
-use Rattle.client_actors.specs.ActorEnds.{CanStart, id_there}
 use Rattle.client_actors.proofs.RunLaws.{map_push}
 use Rattle.client_actors.proofs.actor_threads.join_all.Goals as goal
 

@@ -1,6 +1,5 @@
-use Rattle.std.proofs.Common.{◌≡◌, map, vec_len, vec_capacity}
-use Rattle.std.specs.List.{All}
-use Rattle.client_actors.specs.ActorEnds.{CanStart, id_there}
+use Rattle.client_actors.proofs.Common.{All, CanStart, id_there, map, vec_len, ◌≡◌}
+use Rattle.std.proofs.Common.{vec_capacity}
 use Rattle.client_actors.proofs.actor_threads.join_all.Given as goal
 
 -- the clients that joined are ready

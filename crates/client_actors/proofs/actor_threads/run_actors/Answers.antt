@@ -1,7 +1,4 @@
-use Rattle.std.proofs.Common.{rules, ◌≡◌, ◌∙◌, ap, length, map, subst, sym}
-use Rattle.std.specs.Prelude.{IsSome}
-use Rattle.std.specs.List.{All}
-use Rattle.client_actors.specs.ActorEnds.{id_there}
+use Rattle.client_actors.proofs.Common.{All, IsSome, ap, id_there, length, map, rules, subst, sym, ◌∙◌, ◌≡◌}
 use Rattle.client_actors.proofs.RunLaws.{all_some, have_run, whole}
 use Rattle.client_actors.proofs.actor_threads.run_actors.Goals as goal
 

@@ -1,11 +1,5 @@
-use Rattle.std.proofs.Common.{◌≡◌, ◌∙◌, ap, map, refl, sym, subst}
-use Rattle.std.specs.List.{All}
-use Rattle.sm_names.specs.declared.messages.Call.{Call}
-use Rattle.sm_names.specs.declared.messages.Reply.{Reply}
-use Rattle.event_laws.specs.HandleSums.{indices_in}
-use Rattle.client_ends.specs.Clients.{Grip}
+use Rattle.client_actors.proofs.Common.{All, Call, Grip, Reply, ap, handle_seen, indices_in, map, refl, subst, sym, ◌∙◌, ◌≡◌}
 use Rattle.actor_scripts.specs.ActorStates.{FitsCollection}
-use Rattle.client_actors.specs.ObjectCalls.{handle_seen}
 use Rattle.client_actors.proofs.ObjectCallLaws.{grips_owned, seen_all}
 use Rattle.client_actors.proofs.lent_objects.on_collection.Goals as goal
 

@@ -1,7 +1,4 @@
-use Rattle.std.proofs.Common.{rules, ◌≡◌}
-use Rattle.client_ends.specs.declared.why.Why.{Why}
-use Rattle.client_ends.specs.Clients.{MadeOr}
-use Rattle.actor_scripts.specs.ActorStates.{spends_object}
+use Rattle.client_actors.proofs.Common.{MadeOr, Why, rules, spends_object, ◌≡◌}
 use Rattle.client_actors.proofs.ObjectCallLaws.{kept_back}
 use Rattle.client_actors.proofs.slots.spend_there.Goals as goal
 

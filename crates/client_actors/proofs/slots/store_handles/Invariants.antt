@@ -1,6 +1,5 @@
-use Rattle.std.proofs.Common.{◌≡◌, ◌++◌, ◌+◌, ◌≤◌, map, vec_len}
+use Rattle.client_actors.proofs.Common.{filled_by, map, vec_len, ◌++◌, ◌+◌, ◌≡◌, ◌≤◌}
 use Rattle.std.specs.Prelude.{vec_capacity}
-use Rattle.client_actors.specs.ObjectCalls.{filled_by}
 use Rattle.client_actors.proofs.slots.store_handles.Given as goal
 
 -- what is stored, with what is left, is all

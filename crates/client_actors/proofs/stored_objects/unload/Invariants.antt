@@ -1,7 +1,5 @@
-use Rattle.std.proofs.Common.{◌≡◌, vec_len}
-use Rattle.client_vanish.specs.Vanishings.{held_in, sorted}
-use Rattle.client_vanish.specs.Stacks.{both}
-use Rattle.client_actors.specs.ActorSteps.{ListsHaveRoom, last_objects_first}
+use Rattle.client_actors.proofs.Common.{both, held_in, last_objects_first, sorted, vec_len, ◌≡◌}
+use Rattle.client_actors.specs.ActorSteps.{ListsHaveRoom}
 use Rattle.client_actors.proofs.stored_objects.unload.Given as goal
 
 -- what is in its list, with what is left, is all

@@ -1,8 +1,5 @@
-use Rattle.std.proofs.Common.{ℕ, ◌<◌, ◌≤◌, Ok, ap, arith, length}
-use Rattle.sm_names.specs.Timelines.{timeline}
-use Rattle.core_state.specs.Shown.{client_after}
-use Rattle.alike_cores.specs.Alike.{client_renamed}
-use Rattle.core_likeness.specs.Naming.{new_id, new_key}
+use Rattle.core_likeness.proofs.Common.{ap, arith, client_after, client_renamed, length, new_id, new_key, timeline, ℕ, ◌<◌, ◌≤◌}
+use Rattle.std.proofs.Common.{Ok}
 use Rattle.core_likeness.proofs.Steps.{alike-all, alike-more}
 use Rattle.core_likeness.proofs.clients.are_new_clients.Goals as goal
 

@@ -1,8 +1,4 @@
-use Rattle.std.proofs.Common.{ℕ, ◌≡◌, map, take}
-use Rattle.sm_names.specs.Timelines.{timeline}
-use Rattle.core_state.specs.Shown.{client_after}
-use Rattle.alike_cores.specs.Alike.{client_renamed}
-use Rattle.core_likeness.specs.Naming.{new_id, new_key}
+use Rattle.core_likeness.proofs.Common.{client_after, client_renamed, map, new_id, new_key, take, timeline, ℕ, ◌≡◌}
 use Rattle.core_likeness.proofs.clients.are_new_clients.Given as goal
 
 -- so far each client stands alike

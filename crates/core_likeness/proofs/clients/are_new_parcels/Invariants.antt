@@ -1,6 +1,5 @@
-use Rattle.std.proofs.Common.{◌≡◌, map, take}
+use Rattle.core_likeness.proofs.Common.{map, new_id, new_key, take, ◌≡◌}
 use Rattle.alike_cores.specs.Alike.{parcel_renamed}
-use Rattle.core_likeness.specs.Naming.{new_id, new_key}
 use Rattle.core_likeness.proofs.clients.are_new_parcels.Given as goal
 
 -- so far the parcels are the ones

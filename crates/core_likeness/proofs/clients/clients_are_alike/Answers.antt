@@ -1,8 +1,5 @@
-use Rattle.std.proofs.Common.{ℕ, ◌≡◌, ◌∙◌, List, [], map, refl, subst, sym}
-use Rattle.sm_names.specs.Timelines.{timeline}
-use Rattle.core_state.specs.Shown.{client_after}
-use Rattle.alike_cores.specs.Alike.{client_renamed}
-use Rattle.core_likeness.specs.Naming.{new_id, new_key}
+use Rattle.core_likeness.proofs.Common.{List, [], client_after, client_renamed, map, new_id, new_key, refl, subst, sym, timeline, ℕ, ◌∙◌}
+use Rattle.core_likeness.proofs.Common.{◌≡◌}
 use Rattle.core_likeness.proofs.ClientLaws.{clients-alike}
 use Rattle.core_likeness.proofs.clients.clients_are_alike.Goals as goal
 

@@ -1,6 +1,4 @@
-use Rattle.std.proofs.Common.{◌≡◌, map, take}
-use Rattle.alike_cores.specs.Renamed.{held_renamed}
-use Rattle.core_likeness.specs.Naming.{new_id}
+use Rattle.core_likeness.proofs.Common.{held_renamed, map, new_id, take, ◌≡◌}
 use Rattle.core_likeness.proofs.collections.are_new_held.Given as goal
 
 -- so far the buffers are the ones

@@ -1,9 +1,6 @@
-use Rattle.std.proofs.Common.{ℕ, ◌≡◌, ◌∙◌, List, ap, map, option_map, refl, subst}
-use Rattle.forest_store.specs.Forest.{collection_at}
-use Rattle.alike_cores.specs.Renamed.{collection_renamed}
-use Rattle.alike_cores.specs.Cores.{undated}
-use Rattle.alike_cores.specs.Mixed.{Mixed}
-use Rattle.core_likeness.specs.Naming.{new_id, new_key}
+use Rattle.core_likeness.proofs.Common.{List, Mixed, ap, collection_at, collection_renamed, map, new_id, new_key, refl, subst, undated, ℕ}
+use Rattle.core_likeness.proofs.Common.{◌∙◌, ◌≡◌}
+use Rattle.std.proofs.Common.{option_map}
 use Rattle.core_likeness.proofs.CollectionLaws.{collections-alike}
 use Rattle.core_likeness.proofs.collections.collections_are_alike.Goals as goal
 

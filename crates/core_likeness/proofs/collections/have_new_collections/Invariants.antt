@@ -1,8 +1,5 @@
-use Rattle.std.proofs.Common.{◌≡◌, map, option_map, take}
-use Rattle.forest_store.specs.Forest.{collection_at}
-use Rattle.alike_cores.specs.Renamed.{collection_renamed}
-use Rattle.alike_cores.specs.Cores.{undated}
-use Rattle.core_likeness.specs.Naming.{new_id, new_key}
+use Rattle.core_likeness.proofs.Common.{collection_at, collection_renamed, map, new_id, new_key, take, undated, ◌≡◌}
+use Rattle.std.proofs.Common.{option_map}
 use Rattle.core_likeness.proofs.collections.have_new_collections.Given as goal
 
 -- so far the collections are the ones

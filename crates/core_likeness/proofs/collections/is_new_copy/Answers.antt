@@ -1,8 +1,5 @@
-use Rattle.std.proofs.Common.{◌≡◌, ◌∙◌, ap, map, refl, sym}
+use Rattle.core_likeness.proofs.Common.{ap, held_renamed, map, new_id, new_key, node_renamed, node_undated, refl, sym, ◌∙◌, ◌≡◌}
 use Rattle.forest_store.specs.Snapshots.{collection_of}
-use Rattle.alike_cores.specs.Renamed.{held_renamed, node_renamed}
-use Rattle.alike_cores.specs.Cores.{node_undated}
-use Rattle.core_likeness.specs.Naming.{new_id, new_key}
 use Rattle.core_likeness.proofs.CollectionLaws.{copy-alike}
 use Rattle.core_likeness.proofs.collections.is_new_copy.Goals as goal
 

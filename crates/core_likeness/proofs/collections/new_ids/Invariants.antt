@@ -1,5 +1,4 @@
-use Rattle.std.proofs.Common.{◌≡◌, map, take}
-use Rattle.core_likeness.specs.Naming.{new_id}
+use Rattle.core_likeness.proofs.Common.{map, new_id, take, ◌≡◌}
 use Rattle.core_likeness.proofs.collections.new_ids.Given as goal
 
 -- so far those of these

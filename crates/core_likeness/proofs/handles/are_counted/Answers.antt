@@ -1,11 +1,5 @@
-use Rattle.std.proofs.Common.{◌≡◌, ◌<◌, ◌≤◌, arith, length, refl, subst, sym, true}
-use Rattle.sm_names.specs.declared.keys.BufferName.{BufferName}
-use Rattle.sm_names.specs.declared.keys.Strength.{Strength}
-use Rattle.sm_names.specs.Marks.{Entry}
-use Rattle.core_likeness.specs.Told.{is_opened, opening_by}
-use Rattle.core_likeness.specs.declared.readings.openings.Opening.{Opening}
-use Rattle.core_likeness.specs.Naming.{new_id}
-use Rattle.core_likeness.specs.Parts.{IsCounted}
+use Rattle.core_likeness.proofs.Common.{BufferName, Entry, IsCounted, Opening, Strength, arith, is_opened, length, new_id, opening_by}
+use Rattle.core_likeness.proofs.Common.{refl, subst, sym, true, ◌<◌, ◌≡◌, ◌≤◌}
 use Rattle.core_likeness.proofs.HandleLaws.{counted-all, counted-more}
 use Rattle.core_likeness.proofs.handles.are_counted.Goals as goal
 

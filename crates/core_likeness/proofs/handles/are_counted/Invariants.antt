@@ -1,6 +1,4 @@
-use Rattle.std.proofs.Common.{take}
-use Rattle.core_likeness.specs.Naming.{new_id}
-use Rattle.core_likeness.specs.Parts.{AreCounted}
+use Rattle.core_likeness.proofs.Common.{AreCounted, new_id, take}
 use Rattle.core_likeness.proofs.handles.are_counted.Given as goal
 
 -- so far those of these entries are

@@ -1,5 +1,4 @@
-use Rattle.std.proofs.Common.{refl}
-use Rattle.core_likeness.specs.Naming.{new_id}
+use Rattle.core_likeness.proofs.Common.{new_id, refl}
 use Rattle.core_likeness.proofs.HandleLaws.{open-alike, total-alike}
 use Rattle.core_likeness.proofs.Swapping.{ids-apart}
 use Rattle.core_likeness.proofs.handles.handles_are_alike.Goals as goal

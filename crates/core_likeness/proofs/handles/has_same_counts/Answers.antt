@@ -1,6 +1,4 @@
-use Rattle.sm_names.specs.declared.keys.Strength.{Strength}
-use Rattle.std.proofs.Common.{refl}
-use Rattle.core_likeness.specs.Parts.{SameCounts}
+use Rattle.core_likeness.proofs.Common.{SameCounts, Strength, refl}
 use Rattle.core_likeness.proofs.handles.has_same_counts.Goals as goal
 
 -- by the strength

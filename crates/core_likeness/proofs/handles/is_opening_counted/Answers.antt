@@ -1,10 +1,5 @@
-use Rattle.std.proofs.Common.{◌≡◌, subst, true}
-use Rattle.sm_names.specs.declared.keys.BufferName.{BufferName}
+use Rattle.core_likeness.proofs.Common.{BufferName, IsCounted, Opening, is_opened, new_id, subst, true, ◌≡◌}
 use Rattle.sm_names.proofs.SamenessLaws.{same_buffer-true}
-use Rattle.core_likeness.specs.Told.{is_opened}
-use Rattle.core_likeness.specs.declared.readings.openings.Opening.{Opening}
-use Rattle.core_likeness.specs.Naming.{new_id}
-use Rattle.core_likeness.specs.Parts.{IsCounted}
 use Rattle.core_likeness.proofs.handles.is_opening_counted.Goals as goal
 
 -- the buffer is this one

@@ -1,12 +1,9 @@
-use Rattle.std.proofs.Common.{◌≡◌, ◌==◌, arith, below_more, refl, sym, true, false, ◌∙◌}
-use Rattle.std.proofs.lemmas.Bool.{eq-eqb, false≢true}
-use Rattle.std.specs.Int.{bit_at}
-use Rattle.sm_names.specs.declared.keys.Strength.{Strength}
-use Rattle.core_likeness.specs.Naming.{new_id}
-use Rattle.core_likeness.specs.Parts.{IsCounted}
+use Rattle.core_likeness.proofs.Common.{IsCounted, Strength, arith, bit_at, eq-eqb, false, new_id, refl, sym, true, ◌==◌, ◌∙◌, ◌≡◌}
+use Rattle.std.proofs.Common.{below_more}
+use Rattle.std.proofs.lemmas.Bool.{false≢true}
 use Rattle.core_likeness.proofs.HandleLaws.{set-counted}
-use Rattle.core_likeness.proofs.handles.is_set_counted.Goals as goal
 use Rattle.core_likeness.proofs.handles.is_set_counted.Goals.{then-has_buffer+else-not-is_counted, else-has_buffer}
+use Rattle.core_likeness.proofs.handles.is_set_counted.Goals as goal
 
 -- one more is counted, or is not of the set
 pub counting-preserved : goal.counting-preserved

@@ -1,8 +1,4 @@
-use Rattle.std.proofs.Common.{ℕ, ◌≡◌, ◌<◌}
-use Rattle.std.specs.Int.{bit_at}
-use Rattle.sm_names.specs.declared.keys.Strength.{Strength}
-use Rattle.core_likeness.specs.Naming.{new_id}
-use Rattle.core_likeness.specs.Parts.{IsCounted}
+use Rattle.core_likeness.proofs.Common.{IsCounted, Strength, bit_at, new_id, ℕ, ◌<◌, ◌≡◌}
 use Rattle.core_likeness.proofs.handles.is_set_counted.Given as goal
 
 -- so far those of these buffers are

@@ -1,7 +1,5 @@
-use Rattle.std.proofs.Common.{ℕ, ◌≡◌, ◌+◌, ◌<◌, ◌≤◌, List, [], arith, drop, get_or, length, subst, sym}
-use Rattle.std.proofs.lemmas.Grind.{common_steps}
-use Rattle.std.proofs.lemmas.List.{drop_all, nil_from_length}
-use Rattle.alike_cores.specs.Mixed.{Mixed, Nothing}
+use Rattle.core_likeness.proofs.Common.{List, Mixed, Nothing, [], arith, common_steps, drop, drop_all, get_or, length, nil_from_length}
+use Rattle.core_likeness.proofs.Common.{subst, sym, ℕ, ◌+◌, ◌<◌, ◌≡◌, ◌≤◌}
 use Rattle.core_likeness.proofs.MixedLaws.{mixed-step}
 use Rattle.core_likeness.proofs.matching.are_mixed.Goals as goal
 

@@ -1,5 +1,4 @@
-use Rattle.std.proofs.Common.{drop}
-use Rattle.alike_cores.specs.Mixed.{Mixed}
+use Rattle.core_likeness.proofs.Common.{Mixed, drop}
 use Rattle.core_likeness.proofs.matching.are_mixed.Given as goal
 
 -- where those that are left are the same, all are

@@ -1,5 +1,4 @@
-use Rattle.std.proofs.Common.{◌+◌, ◌<◌, ◌≤◌, ◌∙◌, ap, arith, drop, length, sym}
-use Rattle.core_likeness.specs.Naming.{same_number, under}
+use Rattle.core_likeness.proofs.Common.{ap, arith, drop, length, same_number, sym, under, ◌+◌, ◌<◌, ◌∙◌, ◌≤◌}
 use Rattle.core_likeness.proofs.Swapping.{under-done, under-more}
 use Rattle.core_likeness.proofs.names.swap_all.Goals as goal
 

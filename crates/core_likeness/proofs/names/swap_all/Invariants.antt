@@ -1,5 +1,4 @@
-use Rattle.std.proofs.Common.{◌≡◌, drop}
-use Rattle.core_likeness.specs.Naming.{same_number, under}
+use Rattle.core_likeness.proofs.Common.{drop, same_number, under, ◌≡◌}
 use Rattle.core_likeness.proofs.names.swap_all.Given as goal
 
 -- the swaps that are left give the name

@@ -1,6 +1,4 @@
-use Rattle.std.proofs.Common.{◌+◌, ◌<◌, ◌≤◌, ◌∙◌, ap, arith, drop, length, sym}
-use Rattle.sm_names.specs.Sameness.{same_key}
-use Rattle.core_likeness.specs.Naming.{under}
+use Rattle.core_likeness.proofs.Common.{ap, arith, drop, length, same_key, sym, under, ◌+◌, ◌<◌, ◌∙◌, ◌≤◌}
 use Rattle.core_likeness.proofs.Swapping.{under-done, under-more}
 use Rattle.core_likeness.proofs.names.swap_keys.Goals as goal
 

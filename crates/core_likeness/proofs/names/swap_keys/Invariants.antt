@@ -1,6 +1,4 @@
-use Rattle.std.proofs.Common.{◌≡◌, drop}
-use Rattle.sm_names.specs.Sameness.{same_key}
-use Rattle.core_likeness.specs.Naming.{under}
+use Rattle.core_likeness.proofs.Common.{drop, same_key, under, ◌≡◌}
 use Rattle.core_likeness.proofs.names.swap_keys.Given as goal
 
 -- the swaps that are left give the name

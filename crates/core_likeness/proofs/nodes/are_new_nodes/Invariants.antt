@@ -1,7 +1,4 @@
-use Rattle.std.proofs.Common.{◌≡◌, map, take}
-use Rattle.alike_cores.specs.Renamed.{node_renamed}
-use Rattle.alike_cores.specs.Cores.{node_undated}
-use Rattle.core_likeness.specs.Naming.{new_id, new_key}
+use Rattle.core_likeness.proofs.Common.{map, new_id, new_key, node_renamed, node_undated, take, ◌≡◌}
 use Rattle.core_likeness.proofs.nodes.are_new_nodes.Given as goal
 
 -- so far the nodes are the same

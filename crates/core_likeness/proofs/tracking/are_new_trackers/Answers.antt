@@ -1,14 +1,7 @@
-use Rattle.std.proofs.Common.{◌≡◌, ◌+◌, ◌<◌, ◌≤◌, List, [], arith, drop, length, map, subst, sym}
-use Rattle.std.proofs.lemmas.Grind.{common_steps}
-use Rattle.std.proofs.lemmas.List.{drop_all, nil_from_length}
-use Rattle.std.specs.List.{remove}
+use Rattle.core_likeness.proofs.Common.{Attached, List, Mixed, Nothing, Tracked, [], arith, common_steps, drop, drop_all, length, map}
+use Rattle.core_likeness.proofs.Common.{new_id, new_key, new_number, nil_from_length, remove, subst, sym, tracked_of, tracker_renamed}
+use Rattle.core_likeness.proofs.Common.{◌+◌, ◌<◌, ◌≡◌, ◌≤◌}
 use Rattle.sm_names.specs.declared.tracking.Condition.{Condition}
-use Rattle.sm_names.specs.Trackers.{Tracked}
-use Rattle.core_likeness.specs.declared.readings.tracking.Attached.{Attached}
-use Rattle.core_likeness.specs.Told.{tracked_of}
-use Rattle.alike_cores.specs.Cores.{tracker_renamed}
-use Rattle.alike_cores.specs.Mixed.{Mixed, Nothing}
-use Rattle.core_likeness.specs.Naming.{new_id, new_key, new_number}
 use Rattle.core_likeness.proofs.MixedLaws.{mixed-next}
 use Rattle.core_likeness.proofs.tracking.are_new_trackers.Goals as goal
 

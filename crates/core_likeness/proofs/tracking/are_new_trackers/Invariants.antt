@@ -1,8 +1,4 @@
-use Rattle.std.proofs.Common.{drop, map}
-use Rattle.core_likeness.specs.Told.{tracked_of}
-use Rattle.alike_cores.specs.Cores.{tracker_renamed}
-use Rattle.alike_cores.specs.Mixed.{Mixed}
-use Rattle.core_likeness.specs.Naming.{new_id, new_key, new_number}
+use Rattle.core_likeness.proofs.Common.{Mixed, drop, map, new_id, new_key, new_number, tracked_of, tracker_renamed}
 use Rattle.core_likeness.proofs.tracking.are_new_trackers.Given as goal
 
 -- where those that are left are the same, all are

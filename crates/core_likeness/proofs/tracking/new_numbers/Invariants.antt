@@ -1,6 +1,4 @@
-use Rattle.std.proofs.Common.{◌≡◌, map, take}
-use Rattle.sm_names.specs.declared.tracking.Fired.{Fired}
-use Rattle.core_likeness.specs.Naming.{new_number}
+use Rattle.core_likeness.proofs.Common.{Fired, map, new_number, take, ◌≡◌}
 use Rattle.core_likeness.proofs.tracking.new_numbers.Given as goal
 
 -- so far those of these

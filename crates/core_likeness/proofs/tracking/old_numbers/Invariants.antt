@@ -1,5 +1,4 @@
-use Rattle.std.proofs.Common.{◌≡◌, map, take}
-use Rattle.sm_names.specs.declared.tracking.Fired.{Fired}
+use Rattle.core_likeness.proofs.Common.{Fired, map, take, ◌≡◌}
 use Rattle.core_likeness.proofs.tracking.old_numbers.Given as goal
 
 -- so far those of these

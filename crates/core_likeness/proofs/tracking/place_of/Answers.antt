@@ -1,6 +1,5 @@
-use Rattle.std.proofs.Common.{◌<◌, ◌∙◌, ap, arith, length, refl}
+use Rattle.core_likeness.proofs.Common.{ap, arith, length, refl, tracked_of, ◌<◌, ◌∙◌}
 use Rattle.std.proofs.lemmas.List.{get_or_default}
-use Rattle.core_likeness.specs.Told.{tracked_of}
 use Rattle.core_likeness.proofs.tracking.place_of.Goals as goal
 
 -- this one is

@@ -1,11 +1,6 @@
-use Rattle.std.proofs.Common.{◌≡◌, ◌∙◌, List, ap, map, subst, sym, true}
-use Rattle.sm_names.specs.Trackers.{Tracked}
-use Rattle.sm_names.proofs.ListLaws.{map-map}
+use Rattle.core_likeness.proofs.Common.{List, Mixed, Tracked, ap, map, map-map, new_id, new_key, new_number, subst, sym, tracked_of}
+use Rattle.core_likeness.proofs.Common.{tracker_renamed, true, ◌∙◌, ◌≡◌}
 use Rattle.core_state.specs.Shown.{tracked_as}
-use Rattle.core_likeness.specs.Told.{tracked_of}
-use Rattle.alike_cores.specs.Cores.{tracker_renamed}
-use Rattle.alike_cores.specs.Mixed.{Mixed}
-use Rattle.core_likeness.specs.Naming.{new_id, new_key, new_number}
 use Rattle.core_likeness.proofs.tracking.unfired_are_alike.Goals as goal
 
 -- those that wait are told by the entries

@@ -1,5 +1,4 @@
-use Rattle.std.proofs.Common.{◌∙◌, ap, sym, set}
-use Rattle.core_state.specs.State.{Client}
+use Rattle.core_state.proofs.Common.{Client, ap, set, sym, ◌∙◌}
 use Rattle.core_state.specs.ClientRows.{without_first}
 use Rattle.core_state.proofs.joined.Rows.{one_changed, none_changed, finds_none}
 use Rattle.core_state.proofs.clients.collect.Goals as goal

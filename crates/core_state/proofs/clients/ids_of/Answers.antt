@@ -1,7 +1,6 @@
-use Rattle.std.proofs.Common.{◌++◌, ◌∷◌, [], ◌∙◌, ap, map, sym}
+use Rattle.core_state.proofs.Common.{Client, [], ap, map, sym, ◌++◌, ◌∙◌, ◌∷◌}
 use Rattle.std.proofs.lemmas.List.{map_more, take_all}
 use Rattle.std.proofs.lemmas.Result.{IfOk-from_err}
-use Rattle.core_state.specs.State.{Client}
 use Rattle.core_state.proofs.clients.ids_of.Goals as goal
 
 -- the number of one client more

@@ -1,5 +1,4 @@
-use Rattle.std.proofs.Common.{◌≡◌, ◌∙◌, ap, sym}
-use Rattle.core_state.specs.State.{Client}
+use Rattle.core_state.proofs.Common.{Client, ap, sym, ◌∙◌, ◌≡◌}
 use Rattle.core_state.proofs.joined.Rows.{stands_at}
 use Rattle.core_state.proofs.clients.place_of.Goals as goal
 

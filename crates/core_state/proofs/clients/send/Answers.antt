@@ -1,6 +1,4 @@
-use Rattle.std.proofs.Common.{◌∙◌, ap, sym, set}
-use Rattle.std.proofs.lemmas.Result.{on_ok_weaker}
-use Rattle.core_state.specs.State.{Client}
+use Rattle.core_state.proofs.Common.{Client, ap, on_ok_weaker, set, sym, ◌∙◌}
 use Rattle.core_state.specs.ClientRows.{with_parcel}
 use Rattle.core_state.proofs.joined.Rows.{one_changed, none_changed, finds_none}
 use Rattle.core_state.proofs.clients.send.Goals as goal

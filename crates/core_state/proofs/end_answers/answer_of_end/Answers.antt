@@ -1,5 +1,4 @@
-use Rattle.std.proofs.Common.{arith}
-use Rattle.std.proofs.lemmas.Grind.{common_steps}
+use Rattle.core_state.proofs.Common.{arith, common_steps}
 use Rattle.core_state.proofs.end_answers.answer_of_end.Goals as goal
 
 pub returns-in-Some : goal.returns-in-Some

@@ -1,5 +1,4 @@
-use Rattle.std.proofs.Common.{◌-◌, rules}
-use Rattle.buffer_holds.specs.Counts.{of, total}
+use Rattle.core_state.proofs.Common.{of, rules, total, ◌-◌}
 use Rattle.core_state.proofs.handles.Opening.{closes_one}
 use Rattle.core_state.proofs.handles.Places.{places_closed, places_tidied}
 use Rattle.core_state.proofs.handle_changes.close.Goals as goal

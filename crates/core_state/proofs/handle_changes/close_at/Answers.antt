@@ -1,6 +1,4 @@
-use Rattle.std.proofs.Common.{◌∙◌, sym}
-use Rattle.std.specs.Int.{bit_at}
-use Rattle.std.proofs.lemmas.Bool.{eqb-true}
+use Rattle.core_state.proofs.Common.{bit_at, eqb-true, sym, ◌∙◌}
 use Rattle.core_state.proofs.handles.Opening.{opens_less}
 use Rattle.core_state.proofs.handle_changes.close_at.Goals as goal
 

@@ -1,6 +1,4 @@
-use Rattle.std.proofs.Common.{◌≡◌, subst, arith}
-use Rattle.buffer_holds.specs.Changes.{is_in_set_below}
-use Rattle.core_state.specs.Hands.{Opens}
+use Rattle.core_state.proofs.Common.{Opens, arith, is_in_set_below, subst, ◌≡◌}
 use Rattle.core_state.proofs.handles.Opening.{all_closed}
 use Rattle.core_state.proofs.handle_changes.close_below.Goals as goal
 

@@ -1,8 +1,5 @@
-use Rattle.std.proofs.Common.{◌≡◌, ◌≤◌}
-use Rattle.buffer_holds.specs.Counts.{Counts, HasPlaces}
-use Rattle.buffer_holds.specs.Changes.{is_in_set_below}
-use Rattle.core_state.specs.declared.handle_changes.TheConstants.{SET_BITS}
-use Rattle.core_state.specs.Hands.{Opens}
+use Rattle.core_state.proofs.Common.{HasPlaces, Opens, SET_BITS, is_in_set_below, ◌≡◌, ◌≤◌}
+use Rattle.buffer_holds.specs.Counts.{Counts}
 use Rattle.core_state.proofs.handle_changes.close_below.Given as goal
 
 -- the handles from the end on are closed

@@ -1,11 +1,8 @@
-use Rattle.std.proofs.Common.{rules, refl, ◌<◌, ◌+◌, ◌^◌}
-use Rattle.buffer_holds.specs.Counts.{of, total}
-use Rattle.sm_names.specs.Marks.{Called}
-use Rattle.core_state.specs.Hands.{is_the}
+use Rattle.core_state.proofs.Common.{Called, is_the, of, refl, rules, total, ◌+◌, ◌<◌, ◌^◌}
 use Rattle.core_state.proofs.handles.Opening.{same_before, has_one}
 use Rattle.core_state.proofs.handles.Places.{places_landed, places_opened}
-use Rattle.core_state.proofs.handles.Undoing.{taken_opens, doubled_opens, undrops, ungives, opened, moved_none}
-use Rattle.core_state.proofs.handles.Undoing.{not_taken, not_doubled, not_dropped, not_handed, not_handles}
+use Rattle.core_state.proofs.handles.Undoing.{taken_opens, doubled_opens, undrops, ungives, opened, moved_none, not_taken, not_doubled}
+use Rattle.core_state.proofs.handles.Undoing.{not_dropped, not_handed, not_handles}
 use Rattle.core_state.proofs.handle_changes.undo_handles.Goals as goal
 
 pub returns-in-Taken-clause-counts : goal.returns-in-Taken-clause-counts

@@ -1,5 +1,4 @@
-use Rattle.sm_names.specs.Timelines.{timeline}
-use Rattle.history_laws.proofs.GrowthLaws.{legal_grows}
+use Rattle.core_state.proofs.Common.{legal_grows, timeline}
 use Rattle.core_state.proofs.views.SameAnswers.{answer_is, answers_are}
 use Rattle.core_state.proofs.laws.a_core_answers_as_its_history.Goals as goal
 

@@ -1,5 +1,4 @@
-use Rattle.sm_names.specs.Timelines.{timeline}
-use Rattle.history_laws.proofs.GrowthLaws.{legal_grows}
+use Rattle.core_state.proofs.Common.{legal_grows, timeline}
 use Rattle.core_state.proofs.views.Readings.{readings_are, was_given}
 use Rattle.core_state.proofs.laws.a_core_reads_as_its_history.Goals as goal
 

@@ -1,10 +1,6 @@
-use Rattle.std.proofs.Common.{◌≡◌, refl, ap, sym, ◌∙◌, List, [], ◌∷◌, ◌++◌, length, drop}
+use Rattle.core_state.proofs.Common.{Collection, Fired, List, [], ap, drop, legal_grows, length, recalling, refl, sym, timeline, ◌++◌}
+use Rattle.core_state.proofs.Common.{◌∙◌, ◌∷◌, ◌≡◌}
 use Rattle.std.specs.Option.{option_map}
-use Rattle.sm_names.specs.declared.tracking.Fired.{Fired}
-use Rattle.sm_names.specs.Timelines.{timeline}
-use Rattle.history_laws.proofs.GrowthLaws.{legal_grows}
-use Rattle.forest_store.specs.Forest.{Collection}
-use Rattle.core_state.specs.Shown.{recalling}
 use Rattle.core_state.proofs.views.Live.{fault_is}
 use Rattle.core_state.proofs.views.Readings.{readings_are}
 use Rattle.core_state.proofs.views.Shown.{collection_shown, events_shown, free_shown, live_keys_shown}

@@ -1,8 +1,4 @@
-use Rattle.sm_names.specs.declared.messages.Call.{Call}
-use Rattle.sm_names.specs.declared.messages.Reply.{Reply}
-use Rattle.sm_names.specs.Timelines.{timeline}
-use Rattle.history_laws.proofs.GrowthLaws.{legal_grows}
-use Rattle.history_laws.proofs.RestLaws.{every_rests}
+use Rattle.core_state.proofs.Common.{Call, Reply, every_rests, legal_grows, timeline}
 use Rattle.core_state.proofs.views.SameAnswers.{answer_is}
 use Rattle.core_state.proofs.handles.Taken.{stood, not_empty, some_opened}
 use Rattle.core_state.proofs.laws.a_take_is_never_empty.Goals as goal

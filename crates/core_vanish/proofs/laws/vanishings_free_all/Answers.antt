@@ -1,8 +1,4 @@
-use Rattle.std.proofs.Common.{◌≡◌, ◌∙◌, ◌-◌, [], ap, arith, List}
-use Rattle.std.specs.List.{sum_by}
-use Rattle.sm_names.specs.Births.{births}
-use Rattle.sm_names.specs.declared.keys.HeldBuffer.{HeldBuffer}
-use Rattle.sm_names.specs.Timelines.{timeline, held}
+use Rattle.core_vanish.proofs.Common.{HeldBuffer, List, [], ap, arith, births, held, sum_by, timeline, ◌-◌, ◌∙◌, ◌≡◌}
 use Rattle.history_laws.proofs.EndLaws.{no_live_nodes, none_held}
 use Rattle.history_laws.proofs.SettledLaws.{In-was_born}
 use Rattle.core_vanish.proofs.AllGone.{all_spent, none_open}

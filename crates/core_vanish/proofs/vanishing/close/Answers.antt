@@ -1,7 +1,4 @@
-use Rattle.std.proofs.Common.{◌∙◌, sym}
-use Rattle.core_vanish.specs.Events.{Lets, Whatever}
-use Rattle.core_vanish.specs.Vanishes.{IsClose}
-use Rattle.core_vanish.specs.Phases.{Phase}
+use Rattle.core_vanish.proofs.Common.{IsClose, Lets, Phase, Whatever, sym, ◌∙◌}
 use Rattle.core_vanish.proofs.PhaseLemmas.{on_fault, phase_same}
 use Rattle.core_vanish.proofs.PhaseSteps.{close_none, close_one, let_none}
 use Rattle.core_vanish.proofs.vanishing.close.Goals as goal

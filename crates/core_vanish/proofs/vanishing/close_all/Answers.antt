@@ -1,7 +1,4 @@
-use Rattle.std.proofs.Common.{◌∙◌, subst}
-use Rattle.core_vanish.specs.Events.{Lets, Whatever}
-use Rattle.core_vanish.specs.Vanishes.{IsClose}
-use Rattle.core_vanish.specs.Phases.{HoldsAmong, Phase}
+use Rattle.core_vanish.proofs.Common.{HoldsAmong, IsClose, Lets, Phase, Whatever, subst, ◌∙◌}
 use Rattle.core_vanish.proofs.PhaseLemmas.{none_left, on_fault}
 use Rattle.core_vanish.proofs.PhaseSteps.{close_first, close_next, let_none, let_on}
 use Rattle.core_vanish.proofs.vanishing.close_all.Goals as goal

@@ -1,7 +1,4 @@
-use Rattle.std.proofs.Common.{length}
-use Rattle.core_vanish.specs.Events.{Lets}
-use Rattle.core_vanish.specs.Vanishes.{IsClose}
-use Rattle.core_vanish.specs.Phases.{HoldsAmong, Phase}
+use Rattle.core_vanish.proofs.Common.{HoldsAmong, IsClose, Lets, Phase, length}
 use Rattle.core_vanish.proofs.vanishing.close_all.Given as goal
 
 -- what the client holds still is among the rest

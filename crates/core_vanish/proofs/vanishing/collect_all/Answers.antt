@@ -1,6 +1,4 @@
-use Rattle.std.proofs.Common.{ℕ, ◌≡◌, ◌+◌, ◌≤◌, subst, arith}
-use Rattle.core_vanish.specs.Events.{Collecting}
-use Rattle.core_vanish.specs.Phases.{Phase}
+use Rattle.core_vanish.proofs.Common.{Collecting, Phase, arith, subst, ℕ, ◌+◌, ◌≡◌, ◌≤◌}
 use Rattle.core_vanish.proofs.PhaseLemmas.{on_fault, phase_same}
 use Rattle.core_vanish.proofs.PhaseSteps.{collect_more, collect_none}
 use Rattle.core_vanish.proofs.vanishing.collect_all.Goals as goal

@@ -1,6 +1,4 @@
-use Rattle.std.proofs.Common.{ℕ, ◌≡◌, ◌+◌}
-use Rattle.core_vanish.specs.Events.{Collecting}
-use Rattle.core_vanish.specs.Phases.{Phase}
+use Rattle.core_vanish.proofs.Common.{Collecting, Phase, ℕ, ◌+◌, ◌≡◌}
 use Rattle.core_vanish.proofs.vanishing.collect_all.Given as goal
 
 -- this many were collected so far

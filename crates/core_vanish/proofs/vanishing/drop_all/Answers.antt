@@ -1,7 +1,4 @@
-use Rattle.std.proofs.Common.{◌∙◌, subst}
-use Rattle.core_vanish.specs.Events.{Lets, Whatever}
-use Rattle.core_vanish.specs.Vanishes.{IsDrop}
-use Rattle.core_vanish.specs.Phases.{HasAmong, Phase}
+use Rattle.core_vanish.proofs.Common.{HasAmong, IsDrop, Lets, Phase, Whatever, subst, ◌∙◌}
 use Rattle.core_vanish.proofs.PhaseLemmas.{none_left, on_fault}
 use Rattle.core_vanish.proofs.PhaseSteps.{drop_held, drop_next, let_none, let_on}
 use Rattle.core_vanish.proofs.vanishing.drop_all.Goals as goal

@@ -1,7 +1,4 @@
-use Rattle.std.proofs.Common.{length}
-use Rattle.core_vanish.specs.Events.{Lets}
-use Rattle.core_vanish.specs.Vanishes.{IsDrop}
-use Rattle.core_vanish.specs.Phases.{HasAmong, Phase}
+use Rattle.core_vanish.proofs.Common.{HasAmong, IsDrop, Lets, Phase, length}
 use Rattle.core_vanish.proofs.vanishing.drop_all.Given as goal
 
 -- what the client has open still is among the rest

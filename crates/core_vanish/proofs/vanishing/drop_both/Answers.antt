@@ -1,9 +1,4 @@
-use Rattle.std.proofs.Common.{◌≡◌}
-use Rattle.std.proofs.lemmas.Result.{on_err_weaker, on_ok_weaker}
-use Rattle.sm_names.specs.declared.keys.Strength.{Strength}
-use Rattle.sm_names.specs.Handles.{open_of}
-use Rattle.core_vanish.specs.Events.{Whatever}
-use Rattle.core_vanish.specs.Vanishes.{IsDrop}
+use Rattle.core_vanish.proofs.Common.{IsDrop, Strength, Whatever, on_err_weaker, on_ok_weaker, open_of, ◌≡◌}
 use Rattle.core_vanish.proofs.PhaseSteps.{drop_strengths, let_on}
 use Rattle.core_vanish.proofs.vanishing.drop_both.Goals as goal
 

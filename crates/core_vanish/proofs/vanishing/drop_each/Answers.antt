@@ -1,10 +1,5 @@
-use Rattle.std.proofs.Common.{ℕ, ◌≡◌, ◌∙◌, subst, arith}
-use Rattle.sm_names.specs.Handles.{open_of}
-use Rattle.core_state.specs.Shown.{recalling}
+use Rattle.core_vanish.proofs.Common.{IsDrop, Lets, Phase, Whatever, arith, open_of, recalling, subst, ℕ, ◌∙◌, ◌≡◌}
 use Rattle.core_state.proofs.views.Shown.{open_shown}
-use Rattle.core_vanish.specs.Events.{Lets, Whatever}
-use Rattle.core_vanish.specs.Vanishes.{IsDrop}
-use Rattle.core_vanish.specs.Phases.{Phase}
 use Rattle.core_vanish.proofs.PhaseLemmas.{on_fault, phase_same}
 use Rattle.core_vanish.proofs.PhaseSteps.{drop_first, drop_more, let_some}
 use Rattle.core_vanish.proofs.vanishing.drop_each.Goals as goal

@@ -1,8 +1,4 @@
-use Rattle.std.proofs.Common.{◌≡◌}
-use Rattle.sm_names.specs.Handles.{open_of}
-use Rattle.core_vanish.specs.Events.{Lets}
-use Rattle.core_vanish.specs.Vanishes.{IsDrop}
-use Rattle.core_vanish.specs.Phases.{Phase}
+use Rattle.core_vanish.proofs.Common.{IsDrop, Lets, Phase, open_of, ◌≡◌}
 use Rattle.core_vanish.proofs.vanishing.drop_each.Given as goal
 
 -- this many are open still

@@ -1,6 +1,4 @@
-use Rattle.std.proofs.lemmas.Result.{on_err_weaker, on_ok_weaker}
-use Rattle.core_vanish.specs.Events.{Gathered, Leaving}
-use Rattle.core_vanish.specs.Phases.{Phase}
+use Rattle.core_vanish.proofs.Common.{Gathered, Leaving, Phase, on_err_weaker, on_ok_weaker}
 use Rattle.core_vanish.proofs.VanishParts.{closes_some, collects_some, drops_some, gathered_leaving, leaves}
 use Rattle.core_vanish.proofs.PhaseLemmas.{at_fault, not_memory, on_each, on_fault}
 use Rattle.core_vanish.proofs.vanishing.let_go.Goals as goal

@@ -1,7 +1,4 @@
-use Rattle.std.proofs.Common.{◌∙◌, refl, sym, subst}
-use Rattle.std.specs.Result.{IfErr, IfOk}
-use Rattle.core_vanish.specs.Events.{IsShut}
-use Rattle.core_vanish.specs.Phases.{IsUnshut, Phase}
+use Rattle.core_vanish.proofs.Common.{IfErr, IfOk, IsShut, IsUnshut, Phase, refl, subst, sym, ◌∙◌}
 use Rattle.core_vanish.proofs.PhaseSteps.{told_err, told_full, told_ok, unmade_phase}
 use Rattle.core_vanish.proofs.vanishing.shut.Goals as goal
 

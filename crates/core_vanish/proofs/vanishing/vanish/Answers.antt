@@ -1,7 +1,4 @@
-use Rattle.std.proofs.Common.{◌-◌, ap, Result, Err, arith}
-use Rattle.core_vanish.specs.declared.vanishing.VanishFault.{VanishFault}
-use Rattle.core_vanish.specs.Vanishing.{IsBegun}
-use Rattle.core_vanish.specs.Phases.{HasLeft}
+use Rattle.core_vanish.proofs.Common.{Err, HasLeft, IsBegun, Result, VanishFault, ap, arith, ◌-◌}
 use Rattle.core_vanish.proofs.VanishParts.{vanishes_by, stops_by}
 use Rattle.core_vanish.proofs.PhaseLemmas.{events_grew}
 use Rattle.core_vanish.proofs.vanishing.vanish.Goals as goal

@@ -1,6 +1,4 @@
-use Rattle.std.proofs.Common.{sym, subst}
-use Rattle.core_vanish.specs.Vanishing.{IsBegun}
-use Rattle.core_vanish.specs.Phases.{Phase}
+use Rattle.core_vanish.proofs.Common.{IsBegun, Phase, subst, sym}
 use Rattle.core_vanish.proofs.VanishParts.{has_begun, has_left, unshut}
 use Rattle.core_vanish.proofs.vanishing.vanish_by_events.Goals as goal
 

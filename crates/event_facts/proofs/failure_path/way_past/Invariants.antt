@@ -1,7 +1,5 @@
-use Rattle.std.proofs.Common.{◌≡◌, ◌++◌, length, reverse}
-use Rattle.forest_store.specs.Nodes.{above_among}
-use Rattle.forced_marks.specs.Explanations.{climb}
-use Rattle.forced_marks.specs.KeySets.{has}
+use Rattle.event_facts.proofs.Common.{above_among, climb, has, reverse, ◌++◌, ◌≡◌}
+use Rattle.std.proofs.Common.{length}
 use Rattle.event_facts.proofs.failure_path.way_past.Given as goal
 
 -- the way so far and the climb that is left make the whole

@@ -1,9 +1,5 @@
-use Rattle.std.proofs.Common.{◌∙◌, ap, List, reverse}
-use Rattle.std.specs.List.{list_any}
-use Rattle.forest_store.specs.declared.node.Node.{Node}
-use Rattle.forest_store.specs.Nodes.{above_among}
+use Rattle.event_facts.proofs.Common.{List, Node, above_among, ap, climb, list_any, reverse, ◌∙◌}
 use Rattle.forest_store.specs.Questions.{blocks_here}
-use Rattle.forced_marks.specs.Explanations.{climb}
 use Rattle.event_facts.proofs.failure_path.way_up.Goals as goal
 
 -- the way ends at the first link that is blocked

@@ -1,6 +1,4 @@
-use Rattle.std.proofs.Common.{◌≡◌, map, take}
-use Rattle.std.specs.List.{filter}
-use Rattle.forest_store.specs.declared.node.Node.{Node}
+use Rattle.event_facts.proofs.Common.{Node, filter, map, take, ◌≡◌}
 use Rattle.event_facts.specs.Facts.{is_keeper}
 use Rattle.event_facts.proofs.keepers.strong_live.Given as goal
 

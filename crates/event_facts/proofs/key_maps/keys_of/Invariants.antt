@@ -1,8 +1,4 @@
-use Rattle.std.proofs.Common.{◌≡◌, take}
-use Rattle.std.specs.List.{list_any}
-use Rattle.sm_names.specs.declared.keys.NodeKey.{NodeKey}
-use Rattle.sm_names.specs.Sameness.{same_key}
-use Rattle.forced_marks.specs.KeySets.{has}
+use Rattle.event_facts.proofs.Common.{NodeKey, has, list_any, same_key, take, ◌≡◌}
 use Rattle.event_facts.proofs.key_maps.keys_of.Given as goal
 
 -- those so far

@@ -1,10 +1,5 @@
-use Rattle.std.proofs.Common.{◌∙◌, refl, ap, sym, subst, Option, None}
-use Rattle.std.specs.List.{list_any}
-use Rattle.forest_store.specs.Forest.{Collection}
-use Rattle.forest_store.specs.Nodes.{is_of}
-use Rattle.core_state.specs.Steps.{Work, leaves_tracker_room, work_of}
-use Rattle.event_facts.specs.declared.marked_steps.Start.{Start}
-use Rattle.event_facts.specs.Walks.{IsStart}
+use Rattle.event_facts.proofs.Common.{Collection, IsStart, None, Option, Start, Work, ap, is_of, leaves_tracker_room, list_any, refl}
+use Rattle.event_facts.proofs.Common.{subst, sym, work_of, ◌∙◌}
 use Rattle.event_facts.proofs.Copied.{copied, none_paired, some_paired}
 use Rattle.event_facts.proofs.marked_steps.copy_before.Goals as goal
 

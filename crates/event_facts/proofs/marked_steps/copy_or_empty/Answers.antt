@@ -1,8 +1,5 @@
-use Rattle.std.proofs.Common.{◌∙◌, ap, sym, subst, option_map, [], Option, None}
-use Rattle.std.specs.Option.{IfSome, unwrap_or}
-use Rattle.forest_store.specs.Forest.{Collection}
-use Rattle.forest_store.specs.Scenes.{IsSound}
-use Rattle.forest_store.specs.Snapshots.{collection_of}
+use Rattle.event_facts.proofs.Common.{Collection, IsSound, None, Option, [], ap, collection_of, option_map, subst, sym, unwrap_or, ◌∙◌}
+use Rattle.std.specs.Option.{IfSome}
 use Rattle.event_facts.proofs.marked_steps.copy_or_empty.Goals as goal
 
 pub returns-in_default-clause-value : goal.returns-in_default-clause-value

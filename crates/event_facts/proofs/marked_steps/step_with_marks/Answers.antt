@@ -1,17 +1,12 @@
-use Rattle.std.proofs.Common.{◌∙◌, ◌∷◌, [], ap, refl, sym, subst, map, List, Option}
+use Rattle.event_facts.proofs.Common.{IsStart, List, Option, Start, [], ap, map, refl, rules, stage_of, subst, sym, work_of, ◌∙◌, ◌∷◌}
 use Rattle.sm_names.specs.Marks.{Called, Mark}
 use Rattle.sm_names.specs.Timelines.{timeline}
-use Rattle.core_state.specs.Steps.{work_of}
-use Rattle.event_facts.specs.declared.marked_steps.Start.{Start}
 use Rattle.forced_marks.specs.declared.moment.Moment.{Moment}
 use Rattle.forced_marks.specs.Marks.{AreStages, laid_on}
-use Rattle.forced_marks.specs.Moments.{stage_of}
-use Rattle.event_facts.specs.Walks.{IsStart}
 use Rattle.forced_marks.specs.Steps.{mark_told}
 use Rattle.event_facts.proofs.Copied.{changed_copy, if_ok_some, roomy_copy, unwalked, walked}
 use Rattle.forced_marks.proofs.EventTold.{told_of_stages}
 use Rattle.forced_marks.proofs.Staged.{marks_of_moments}
-use Rattle.std.proofs.Common.{rules}
 use Rattle.event_facts.proofs.marked_steps.step_with_marks.Goals as goal
 
 -- an event that changes nothing has no stage

@@ -1,12 +1,5 @@
-use Rattle.std.proofs.Common.{◌∙◌, ap, sym, subst, map}
+use Rattle.event_facts.proofs.Common.{Collection, IsSound, NodeKey, ap, changed, collection_of, map, stage_of, subst, sym, total, ◌∙◌}
 use Rattle.std.proofs.lemmas.Result.{IfOk-weaker}
-use Rattle.sm_names.specs.declared.keys.NodeKey.{NodeKey}
-use Rattle.buffer_holds.specs.Counts.{total}
-use Rattle.forest_store.specs.Forest.{Collection}
-use Rattle.forest_store.specs.Scenes.{IsSound}
-use Rattle.forest_store.specs.Settling.{changed}
-use Rattle.forest_store.specs.Snapshots.{collection_of}
-use Rattle.forced_marks.specs.Moments.{stage_of}
 use Rattle.event_facts.proofs.Copied.{stages_walked}
 use Rattle.event_facts.proofs.marked_steps.walk.Goals as goal
 

@@ -1,5 +1,4 @@
-use Rattle.std.proofs.Common.{w64, arith}
-use Rattle.std.proofs.lemmas.Grind.{common_steps}
+use Rattle.event_facts.proofs.Common.{arith, common_steps, w64}
 use Rattle.std.proofs.lemmas.Nat.Bits.{bit_at_set_other, bit_at_set_same}
 use Rattle.event_facts.proofs.pages.add_if.Goals as goal
 

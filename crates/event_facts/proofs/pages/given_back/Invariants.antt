@@ -1,5 +1,4 @@
-use Rattle.std.proofs.Common.{◌≡◌, take}
-use Rattle.std.specs.List.{filter}
+use Rattle.event_facts.proofs.Common.{filter, take, ◌≡◌}
 use Rattle.event_facts.specs.Facts.{is_back}
 use Rattle.event_facts.proofs.pages.given_back.Given as goal
 

@@ -1,8 +1,4 @@
-use Rattle.std.proofs.Common.{◌∙◌, ◌&&◌, not, false, map}
-use Rattle.std.specs.List.{filter}
-use Rattle.std.specs.Option.{option_map_or}
-use Rattle.sm_names.specs.Sameness.{same_key}
-use Rattle.forest_store.specs.declared.node.Node.{Node}
+use Rattle.event_facts.proofs.Common.{Node, false, filter, map, not, option_map_or, same_key, ◌&&◌, ◌∙◌}
 use Rattle.event_facts.proofs.takings.handed_on.Goals as goal
 
 -- those by which a failure came up are those on the way

@@ -1,10 +1,5 @@
-use Rattle.std.proofs.Common.{◌≡◌, map, take}
-use Rattle.std.specs.List.{filter}
-use Rattle.sm_names.specs.declared.keys.NodeKey.{NodeKey}
-use Rattle.forest_store.specs.declared.node.Node.{Node}
-use Rattle.forced_marks.specs.KeySets.{has}
+use Rattle.event_facts.proofs.Common.{Node, NodeKey, filter, has, map, take, values_at, ◌≡◌}
 use Rattle.event_facts.specs.Facts.{is_handed_past}
-use Rattle.event_facts.specs.KeyMaps.{values_at}
 use Rattle.event_facts.proofs.takings.handed_past.Given as goal
 
 -- those among the nodes so far

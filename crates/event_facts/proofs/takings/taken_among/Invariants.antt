@@ -1,6 +1,4 @@
-use Rattle.std.proofs.Common.{◌≡◌, take}
-use Rattle.std.specs.List.{filter}
-use Rattle.forced_marks.specs.KeySets.{has}
+use Rattle.event_facts.proofs.Common.{filter, has, take, ◌≡◌}
 use Rattle.event_facts.specs.Facts.{is_taken_of}
 use Rattle.event_facts.proofs.takings.taken_among.Given as goal
 

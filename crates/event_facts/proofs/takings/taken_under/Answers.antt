@@ -1,6 +1,4 @@
-use Rattle.std.proofs.Common.{◌∙◌, ◌&&◌, ap, not, List}
-use Rattle.std.specs.List.{filter}
-use Rattle.forest_store.specs.declared.node.Node.{Node}
+use Rattle.event_facts.proofs.Common.{List, Node, ap, filter, not, ◌&&◌, ◌∙◌}
 use Rattle.event_facts.specs.Facts.{is_lost_with}
 use Rattle.event_facts.proofs.takings.taken_under.Goals as goal
 

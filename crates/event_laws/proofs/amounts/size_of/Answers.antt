@@ -1,9 +1,7 @@
-use Rattle.std.proofs.Common.{Bool, ℕ, ◌≡◌, ◌+◌, ◌-◌, ◌∙◌, ap, arith, cond, length, sym}
-use Rattle.event_laws.specs.declared.amounts.TheConstants.{SET_BITS}
-use Rattle.event_laws.specs.HandleSums.{indices_below, indices_in}
+use Rattle.event_laws.proofs.Common.{Bool, SET_BITS, ap, arith, cond, indices_below, indices_in, length, sym, ℕ, ◌+◌, ◌-◌, ◌∙◌, ◌≡◌}
 use Rattle.event_laws.proofs.SetLaws.{below_most, below_push, below_rest}
-use Rattle.event_laws.proofs.amounts.size_of.Goals as goal
 use Rattle.event_laws.proofs.amounts.size_of.Goals.{then-has_buffer, else-has_buffer}
+use Rattle.event_laws.proofs.amounts.size_of.Goals as goal
 
 pub overflow_add-size : goal.overflow_add-size
 overflow_add-size c = let most = below_most c.loop-index.index c.args.set in

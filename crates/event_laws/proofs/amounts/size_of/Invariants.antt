@@ -1,6 +1,4 @@
-use Rattle.std.proofs.Common.{◌-◌, ◌≡◌, ◌≤◌, length}
-use Rattle.event_laws.specs.declared.amounts.TheConstants.{SET_BITS}
-use Rattle.event_laws.specs.HandleSums.{indices_below}
+use Rattle.event_laws.proofs.Common.{SET_BITS, indices_below, length, ◌-◌, ◌≡◌, ◌≤◌}
 use Rattle.event_laws.proofs.amounts.size_of.Given as goal
 
 -- the indices looked at so far are counted

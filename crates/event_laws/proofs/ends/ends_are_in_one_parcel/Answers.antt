@@ -1,6 +1,5 @@
-use Rattle.sm_names.specs.Timelines.{timeline}
+use Rattle.event_laws.proofs.Common.{legal_grows, timeline}
 use Rattle.event_laws.proofs.EndEventLaws.{at_most_one, waits_in_transit, in_transit_born, in_transit_unspent}
-use Rattle.history_laws.proofs.GrowthLaws.{legal_grows}
 use Rattle.event_laws.proofs.ends.ends_are_in_one_parcel.Goals as goal
 
 pub returns-clause-once : goal.returns-clause-once

@@ -1,5 +1,4 @@
-use Rattle.sm_names.specs.Timelines.{timeline}
-use Rattle.history_laws.proofs.GrowthLaws.{legal_grows}
+use Rattle.event_laws.proofs.Common.{legal_grows, timeline}
 use Rattle.event_laws.proofs.ParcelEventLaws.{given_event, collected_event, idle_event, stranger_waits_for_none}
 use Rattle.event_laws.proofs.ends.events_move_parcels.Goals as goal
 

@@ -1,5 +1,4 @@
-use Rattle.sm_names.specs.Timelines.{timeline}
-use Rattle.history_laws.proofs.GrowthLaws.{legal_grows}
+use Rattle.event_laws.proofs.Common.{legal_grows, timeline}
 use Rattle.event_laws.proofs.HandleSumNamedLaws.{lists_allocated}
 use Rattle.event_laws.proofs.handles.allocated_collections_are_listed.Goals as goal
 

@@ -1,5 +1,4 @@
-use Rattle.sm_names.specs.Timelines.{timeline}
-use Rattle.history_laws.proofs.GrowthLaws.{legal_grows}
+use Rattle.event_laws.proofs.Common.{legal_grows, timeline}
 use Rattle.event_laws.proofs.HandleSumNamedLaws.{by_name}
 use Rattle.event_laws.proofs.handles.counts_add_up_by_name.Goals as goal
 

@@ -1,5 +1,4 @@
-use Rattle.sm_names.specs.Timelines.{timeline}
-use Rattle.history_laws.proofs.GrowthLaws.{legal_grows}
+use Rattle.event_laws.proofs.Common.{legal_grows, timeline}
 use Rattle.event_laws.proofs.HandleBufferLaws.{has_named, open_named, moving_named, stranger_has_none}
 use Rattle.event_laws.proofs.handles.handles_are_on_buffers.Goals as goal
 

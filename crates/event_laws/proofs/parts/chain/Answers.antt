@@ -1,5 +1,4 @@
-use Rattle.std.proofs.Common.{arith}
-use Rattle.std.proofs.lemmas.Grind.{common_steps}
+use Rattle.event_laws.proofs.Common.{arith, common_steps}
 use Rattle.event_laws.proofs.parts.chain.Goals as goal
 
 -- where nothing is chained yet, all numbers are 0

@@ -1,5 +1,4 @@
-use Rattle.std.proofs.Common.{◌≤◌, length}
-use Rattle.event_laws.specs.Links.{Links}
+use Rattle.event_laws.proofs.Common.{Links, length, ◌≤◌}
 use Rattle.event_laws.proofs.parts.chain.Given as goal
 
 -- the events that were looked at are chained

@@ -1,7 +1,5 @@
-use Rattle.std.proofs.Common.{◌++◌}
-use Rattle.sm_names.specs.Timelines.{timeline}
+use Rattle.event_laws.proofs.Common.{legal_grows_on, timeline, ◌++◌}
 use Rattle.event_laws.proofs.AllocatedLaws.{allocated_on}
-use Rattle.history_laws.proofs.GrowthLaws.{legal_grows_on}
 use Rattle.event_laws.proofs.trackers.allocated_is_for_good.Goals as goal
 
 pub returns : goal.returns

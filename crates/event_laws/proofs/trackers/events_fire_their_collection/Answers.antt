@@ -1,13 +1,6 @@
-use Rattle.std.proofs.Common.{◌≡◌, ◌∷◌, [], false, sym, subst}
-use Rattle.std.specs.List.{All}
-use Rattle.sm_names.specs.Isolation.{IsOf}
-use Rattle.sm_names.specs.Marks.{Timeline}
-use Rattle.sm_names.specs.Timelines.{after, timeline}
-use Rattle.sm_names.specs.Trackers.{Tracked, world}
-use Rattle.event_laws.specs.Waiting.{trackers_to_test, is_tracked_met}
+use Rattle.event_laws.proofs.Common.{All, AreAnswers-last, IsOf, Timeline, Tracked, [], after, false, is_tracked_met, legal_grows_on}
+use Rattle.event_laws.proofs.Common.{subst, sym, timeline, timeline-push, trackers_to_test, world, ◌∷◌, ◌≡◌}
 use Rattle.event_laws.proofs.ConcernLaws.{others_not_due}
-use Rattle.history_laws.proofs.GrowthLaws.{legal_grows_on}
-use Rattle.history_laws.proofs.HistoryLaws.{AreAnswers-last, timeline-push}
 use Rattle.event_laws.proofs.NumberLaws.{all-In}
 use Rattle.event_laws.proofs.trackers.events_fire_their_collection.Goals as goal
 

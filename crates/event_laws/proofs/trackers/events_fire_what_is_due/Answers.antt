@@ -1,11 +1,6 @@
-use Rattle.std.proofs.Common.{◌≡◌, ◌∷◌, ◌++◌, [], map, not, refl, sym, subst}
-use Rattle.std.specs.List.{filter}
-use Rattle.sm_names.specs.Marks.{Timeline, events}
-use Rattle.sm_names.specs.Timelines.{timeline}
-use Rattle.sm_names.specs.Trackers.{fired, world}
-use Rattle.event_laws.specs.Waiting.{trackers_to_test, tracked_firing, is_tracked_met, unfired_trackers}
-use Rattle.history_laws.proofs.GrowthLaws.{legal_grows_on}
-use Rattle.history_laws.proofs.HistoryLaws.{AreAnswers-last, timeline-push}
+use Rattle.event_laws.proofs.Common.{AreAnswers-last, Timeline, [], events, filter, fired, is_tracked_met, legal_grows_on, map, not, refl}
+use Rattle.event_laws.proofs.Common.{subst, sym, timeline, timeline-push, tracked_firing, trackers_to_test, unfired_trackers, world, ◌++◌}
+use Rattle.event_laws.proofs.Common.{◌∷◌, ◌≡◌}
 use Rattle.event_laws.proofs.WaitingLaws.{fired_next, waiting_next}
 use Rattle.event_laws.proofs.trackers.events_fire_what_is_due.Goals as goal
 

@@ -1,10 +1,6 @@
-use Rattle.std.proofs.Common.{◌≡◌, ◌∷◌, ◌++◌, []}
-use Rattle.sm_names.specs.Marks.{Timeline}
-use Rattle.sm_names.specs.Timelines.{timeline}
-use Rattle.sm_names.specs.Trackers.{Tracked, world}
-use Rattle.event_laws.specs.Waiting.{trackers_to_test, is_tracked_met}
-use Rattle.history_laws.proofs.GrowthLaws.{GrowsOn, legal_grows_on}
-use Rattle.history_laws.proofs.HistoryLaws.{AreAnswers-last}
+use Rattle.event_laws.proofs.Common.{AreAnswers-last, Timeline, Tracked, [], is_tracked_met, legal_grows_on, timeline, trackers_to_test}
+use Rattle.event_laws.proofs.Common.{world, ◌++◌, ◌∷◌, ◌≡◌}
+use Rattle.history_laws.proofs.GrowthLaws.{GrowsOn}
 use Rattle.event_laws.proofs.NumberLaws.{all-In}
 use Rattle.event_laws.proofs.RecallLaws.{recalled_due}
 use Rattle.event_laws.proofs.trackers.gone_nodes_and_home_buffers_may_be_forgotten.Goals as goal

@@ -1,11 +1,7 @@
-use Rattle.std.proofs.Common.{◌≡◌, ◌≤◌, ◌<◌, ◌∷◌, ◌++◌, ◌+◌, [], reverse, is_none, ap, sym, ◌∙◌, arith}
+use Rattle.event_laws.proofs.Common.{AreAnswers-last, Timeline, Tracked, [], ap, arith, events, fired_at, is_none, legal_grows}
+use Rattle.event_laws.proofs.Common.{legal_grows_on, reverse, sym, timeline, timeline-push, tracked, tracker_made, unfired_trackers, ◌++◌}
+use Rattle.event_laws.proofs.Common.{◌+◌, ◌<◌, ◌∙◌, ◌∷◌, ◌≡◌, ◌≤◌}
 use Rattle.std.proofs.lemmas.List.Kept.{AllPairs-filter}
-use Rattle.sm_names.specs.Marks.{Timeline, events}
-use Rattle.sm_names.specs.Timelines.{timeline}
-use Rattle.sm_names.specs.Trackers.{Tracked, tracked, fired_at}
-use Rattle.event_laws.specs.Waiting.{tracker_made, unfired_trackers}
-use Rattle.history_laws.proofs.GrowthLaws.{legal_grows, legal_grows_on}
-use Rattle.history_laws.proofs.HistoryLaws.{AreAnswers-last, timeline-push}
 use Rattle.event_laws.proofs.MomentLaws.{events_after}
 use Rattle.event_laws.proofs.NumberLaws.{IsBefore, all-In, made_numbered, numbered}
 use Rattle.event_laws.proofs.WaitingLaws.{In-waiting}

@@ -1,12 +1,6 @@
-use Rattle.std.proofs.Common.{ℕ, ◌≡◌, [], Some, sym, subst}
-use Rattle.sm_names.specs.Isolation.{IsOf, collection_at}
-use Rattle.sm_names.specs.Marks.{Timeline}
-use Rattle.sm_names.specs.Timelines.{timeline}
-use Rattle.sm_names.specs.Trackers.{Tracked, tracked}
-use Rattle.event_laws.specs.Waiting.{tracker_made}
+use Rattle.event_laws.proofs.Common.{AreAnswers-last, IsOf, Some, Timeline, Tracked, [], collection_at, legal_grows, subst, sym, timeline}
+use Rattle.event_laws.proofs.Common.{timeline-push, tracked, tracker_made, ℕ, ◌≡◌}
 use Rattle.event_laws.proofs.ConcernLaws.{concerned, made_together, of_after}
-use Rattle.history_laws.proofs.GrowthLaws.{legal_grows}
-use Rattle.history_laws.proofs.HistoryLaws.{AreAnswers-last, timeline-push}
 use Rattle.event_laws.proofs.NumberLaws.{all-In}
 use Rattle.event_laws.proofs.trackers.trackers_concern_a_collection.Goals as goal
 

@@ -1,6 +1,4 @@
-use Rattle.std.proofs.Common.{◌≡◌, false}
-use Rattle.sm_names.specs.Trackers.{Tracked, world}
-use Rattle.event_laws.specs.Waiting.{IsWaitedFor, is_tracked_met, unfired_trackers}
+use Rattle.event_laws.proofs.Common.{IsWaitedFor, Tracked, false, is_tracked_met, unfired_trackers, world, ◌≡◌}
 use Rattle.event_laws.proofs.WaitingLaws.{waited_for, waiting_not_due}
 use Rattle.event_laws.proofs.NumberLaws.{all-In}
 use Rattle.event_laws.proofs.trackers.waiting_trackers_are_not_due.Goals as goal

@@ -1,5 +1,4 @@
-use Rattle.std.proofs.Common.{arith}
-use Rattle.forest_store.specs.Nodes.{given_buffers}
+use Rattle.forced_marks.proofs.Common.{arith, given_buffers}
 use Rattle.forced_marks.proofs.InPlace.{map_step}
 use Rattle.forced_marks.proofs.allocation.allocate.Goals as goal
 

@@ -1,5 +1,4 @@
-use Rattle.std.proofs.Common.{◌≡◌, ◌++◌, map, take, drop}
-use Rattle.forest_store.specs.Nodes.{given_buffers}
+use Rattle.forced_marks.proofs.Common.{drop, given_buffers, map, take, ◌++◌, ◌≡◌}
 use Rattle.forced_marks.proofs.allocation.allocate.Given as goal
 
 -- those so far that are in the unit are allocated

@@ -1,8 +1,5 @@
-use Rattle.std.proofs.Common.{◌≡◌, ◌≤◌, ◌+◌, ◌*◌, drop}
-use Rattle.std.specs.List.{fold, sum_by}
-use Rattle.sm_names.specs.declared.rules.TheConstants.{MAX_CAMPING}
-use Rattle.sm_names.specs.Demands.{Demand}
-use Rattle.forest_store.specs.Questions.{demands_of, has_buffers}
+use Rattle.forced_marks.proofs.Common.{Demand, MAX_CAMPING, demands_of, drop, fold, sum_by, ◌*◌, ◌+◌, ◌≡◌, ◌≤◌}
+use Rattle.forest_store.specs.Questions.{has_buffers}
 use Rattle.forced_marks.proofs.demand.reserved.Given as goal
 
 -- with those that are still to come it is what all camp on

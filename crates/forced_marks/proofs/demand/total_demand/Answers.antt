@@ -1,6 +1,5 @@
 -- Each goal that is proved at once by the tactic that is named.
-use Rattle.std.proofs.Common.{arith}
-use Rattle.std.proofs.lemmas.Grind.{common_steps}
+use Rattle.forced_marks.proofs.Common.{arith, common_steps}
 use Rattle.forced_marks.proofs.demand.total_demand.Goals as goal
 
 pub loop-node-preserved : goal.loop-node-preserved

@@ -1,9 +1,8 @@
-use Rattle.std.proofs.Common.{◌≡◌, ◌≤◌, ◌+◌, ◌*◌, max, drop}
-use Rattle.std.specs.List.{fold, sum_by}
-use Rattle.sm_names.specs.declared.rules.TheConstants.{MAX_CAMPING, MAX_SIZE}
-use Rattle.sm_names.specs.Demands.{Demand}
+use Rattle.forced_marks.proofs.Common.{Demand, MAX_CAMPING, demands_of, drop, fold, sum_by, ◌*◌, ◌+◌, ◌≡◌, ◌≤◌}
+use Rattle.std.proofs.Common.{max}
+use Rattle.sm_names.specs.declared.rules.TheConstants.{MAX_SIZE}
 use Rattle.sm_names.specs.Members.{greatest}
-use Rattle.forest_store.specs.Questions.{demands_of, is_in_unit}
+use Rattle.forest_store.specs.Questions.{is_in_unit}
 use Rattle.forced_marks.proofs.demand.total_demand.Given as goal
 
 -- with those that are still to come it is what all ask for

@@ -1,6 +1,5 @@
 -- Each goal that is proved at once by the tactic that is named.
-use Rattle.std.proofs.Common.{arith}
-use Rattle.std.proofs.lemmas.Grind.{common_steps}
+use Rattle.forced_marks.proofs.Common.{arith, common_steps}
 use Rattle.forced_marks.proofs.forced_steps.all_pages.Goals as goal
 
 pub loop-buffer-preserved : goal.loop-buffer-preserved

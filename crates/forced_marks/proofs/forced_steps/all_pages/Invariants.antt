@@ -1,5 +1,4 @@
-use Rattle.std.proofs.Common.{◌≡◌, map, take}
-use Rattle.sm_names.specs.declared.keys.HeldBuffer.{HeldBuffer}
+use Rattle.forced_marks.proofs.Common.{HeldBuffer, map, take, ◌≡◌}
 use Rattle.forced_marks.proofs.forced_steps.all_pages.Given as goal
 
 -- so far the pages of these buffers

@@ -1,21 +1,10 @@
-use Rattle.std.proofs.Common.{◌≡◌, ◌∙◌, ◌++◌, [], length, map, sym, ap, subst, List, ℕ, Option, Some, option_map}
-use Rattle.std.specs.Option.{option_map_or, IfSome}
-use Rattle.std.specs.Vec.{with_items}
-use Rattle.sm_names.specs.declared.keys.HeldBuffer.{HeldBuffer}
-use Rattle.sm_names.specs.declared.keys.Interval.{Interval}
-use Rattle.sm_names.specs.declared.outcomes.Buffers.{Buffers}
-use Rattle.sm_names.specs.Handles.{names}
-use Rattle.sm_names.specs.Members.{asked}
-use Rattle.sm_names.specs.Pages.{places, pages_of}
+use Rattle.forced_marks.proofs.Common.{Buffers, Collection, HeldBuffer, IfSome, Interval, List, Option, Some, [], after_allocation, ap}
+use Rattle.forced_marks.proofs.Common.{arith, asked, collection_of, common_steps, given_buffers, laid, length, map, members_of, names}
+use Rattle.forced_marks.proofs.Common.{option_map_or, pages_in, pages_of, places, rules, subst, sym, with_items, ℕ, ◌++◌, ◌∙◌, ◌≡◌}
+use Rattle.std.proofs.Common.{option_map}
 use Rattle.sm_names.specs.Timelines.{laid_out, layout}
-use Rattle.forest_store.specs.Forest.{Collection, pages_in}
-use Rattle.forest_store.specs.Nodes.{after_allocation, given_buffers, members_of}
-use Rattle.forest_store.specs.Scenes.{laid}
 use Rattle.forest_steps.proofs.intervals.Placings.{scene_laid}
-use Rattle.forest_store.specs.Snapshots.{collection_of}
 use Rattle.forced_marks.proofs.InPlace.{written}
-use Rattle.std.proofs.Common.{rules, arith}
-use Rattle.std.proofs.lemmas.Grind.{common_steps}
 use Rattle.forced_marks.proofs.forced_steps.allocate_root.Goals as goal
 
 -- the unit is allocated, and its buffers are laid out as the pool has places for them

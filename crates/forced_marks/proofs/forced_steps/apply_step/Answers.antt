@@ -1,6 +1,5 @@
 -- Each goal that is proved at once by the tactic that is named.
-use Rattle.std.proofs.Common.{rules, arith}
-use Rattle.std.proofs.lemmas.Grind.{common_steps}
+use Rattle.forced_marks.proofs.Common.{arith, common_steps, rules}
 use Rattle.forced_marks.proofs.forced_steps.apply_step.Goals as goal
 
 pub returns-in-Places-clause-made : goal.returns-in-Places-clause-made

@@ -1,5 +1,4 @@
-use Rattle.std.proofs.Common.{◌≡◌, ◌++◌, drop}
-use Rattle.forest_store.specs.Scenes.{laid}
+use Rattle.forced_marks.proofs.Common.{drop, laid, ◌++◌, ◌≡◌}
 use Rattle.forced_marks.proofs.forced_steps.insert_held.Given as goal
 
 -- those so far and those still to come make the whole

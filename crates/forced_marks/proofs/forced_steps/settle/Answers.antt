@@ -1,15 +1,10 @@
-use Rattle.std.proofs.Common.{◌≡◌, ◌<◌, ◌∙◌, ◌++◌, [], ◌∷◌, Option, Some, map, option_map, sym, ap, subst}
-use Rattle.buffer_holds.specs.Counts.{total}
-use Rattle.std.specs.Option.{IfSome}
-use Rattle.forest_store.specs.Decisions.{IsStep, mark_of}
-use Rattle.forest_store.specs.Forest.{Collection, pages_in}
-use Rattle.forest_store.specs.Scenes.{IsSound}
-use Rattle.forest_store.specs.Snapshots.{collection_of}
-use Rattle.forced_marks.specs.declared.decision.PendingStep.{PendingStep}
+use Rattle.forced_marks.proofs.Common.{Collection, IfSome, IsSound, IsStep, Option, PendingStep, SettlesBy, Some, [], ap, collection_of}
+use Rattle.forced_marks.proofs.Common.{map, mark_of, mark_told, pages_in, stage_of, stages, subst, sym, told, total, ◌++◌, ◌<◌, ◌∙◌, ◌∷◌}
+use Rattle.forced_marks.proofs.Common.{◌≡◌}
+use Rattle.std.proofs.Common.{option_map}
 use Rattle.forced_marks.specs.declared.decision.Forced.{Forced}
-use Rattle.forced_marks.specs.Marks.{SettlesBy, Rests, Forces, stages}
-use Rattle.forced_marks.specs.Moments.{stage_of}
-use Rattle.forced_marks.specs.Steps.{IsSized, mark_told, told}
+use Rattle.forced_marks.specs.Marks.{Rests, Forces}
+use Rattle.forced_marks.specs.Steps.{IsSized}
 use Rattle.forced_marks.proofs.Sound.{step_sound}
 use Rattle.forced_marks.proofs.Staged.{no_stage_more, one_stage_more}
 use Rattle.forced_marks.proofs.StepsLeft.{step_falls, steps_left}

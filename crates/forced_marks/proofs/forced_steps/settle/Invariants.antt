@@ -1,11 +1,4 @@
-use Rattle.std.proofs.Common.{◌≡◌, List, ◌++◌, map}
-use Rattle.buffer_holds.specs.Counts.{total}
-use Rattle.sm_names.specs.Marks.{Mark}
-use Rattle.forest_store.specs.Forest.{Collection}
-use Rattle.forest_store.specs.Scenes.{IsSound}
-use Rattle.forest_store.specs.Snapshots.{collection_of}
-use Rattle.forced_marks.specs.Marks.{SettlesBy, stages}
-use Rattle.forced_marks.specs.Moments.{stage_of}
+use Rattle.forced_marks.proofs.Common.{Collection, IsSound, List, Mark, SettlesBy, collection_of, map, stage_of, stages, total, ◌++◌, ◌≡◌}
 use Rattle.forced_marks.proofs.StepsLeft.{steps_left}
 use Rattle.forced_marks.proofs.forced_steps.settle.Given as goal
 

@@ -1,7 +1,6 @@
+use Rattle.forced_marks.proofs.Common.{Handing, subst}
 use Rattle.forced_marks.proofs.Rows.{below_is, end_row, loss_row, one_row, row_is}
-use Rattle.std.proofs.Common.{subst}
 use Rattle.sm_names.specs.Elements.{In}
-use Rattle.forced_marks.specs.Explanations.{Handing}
 use Rattle.forced_marks.proofs.laws.each_taken_node_stands_in_one_row.Goals as goal
 
 pub returns-clause-rows : goal.returns-clause-rows

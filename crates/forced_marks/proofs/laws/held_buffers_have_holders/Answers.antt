@@ -1,6 +1,5 @@
-use Rattle.sm_names.specs.Timelines.{timeline}
+use Rattle.forced_marks.proofs.Common.{legal_grows, timeline}
 use Rattle.history_laws.proofs.CountLaws.{counted, total_is}
-use Rattle.history_laws.proofs.GrowthLaws.{legal_grows}
 use Rattle.forced_marks.proofs.Holders.{held_by}
 use Rattle.forced_marks.proofs.laws.held_buffers_have_holders.Goals as goal
 

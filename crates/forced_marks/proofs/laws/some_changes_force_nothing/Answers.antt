@@ -1,7 +1,4 @@
-use Rattle.std.proofs.Common.{[], Option, sym, subst}
-use Rattle.buffer_holds.specs.Counts.{total}
-use Rattle.core_state.specs.Steps.{Work}
-use Rattle.forced_marks.specs.Marks.{StagesIn}
+use Rattle.forced_marks.proofs.Common.{Option, StagesIn, Work, [], subst, sym, total}
 use Rattle.forced_marks.proofs.Unforced.{unforced}
 use Rattle.forced_marks.proofs.laws.some_changes_force_nothing.Goals as goal
 

@@ -1,6 +1,5 @@
-use Rattle.std.proofs.Common.{◌≡◌, drop}
-use Rattle.std.specs.List.{find}
-use Rattle.forced_marks.specs.KeySets.{has, is_next_by}
+use Rattle.forced_marks.proofs.Common.{drop, find, has, ◌≡◌}
+use Rattle.forced_marks.specs.KeySets.{is_next_by}
 use Rattle.forced_marks.proofs.logical_allocation.first_next.Given as goal
 
 -- the first is still to come

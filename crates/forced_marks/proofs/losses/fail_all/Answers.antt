@@ -1,6 +1,4 @@
-use Rattle.std.proofs.Common.{arith}
-use Rattle.forest_store.specs.Nodes.{lost}
-use Rattle.forced_marks.specs.KeySets.{has}
+use Rattle.forced_marks.proofs.Common.{arith, has, lost}
 use Rattle.forced_marks.proofs.InPlace.{map_step}
 use Rattle.forced_marks.proofs.losses.fail_all.Goals as goal
 

@@ -1,6 +1,4 @@
-use Rattle.std.proofs.Common.{◌≡◌, ◌++◌, map, take, drop}
-use Rattle.forest_store.specs.Nodes.{lost}
-use Rattle.forced_marks.specs.KeySets.{has}
+use Rattle.forced_marks.proofs.Common.{drop, has, lost, map, take, ◌++◌, ◌≡◌}
 use Rattle.forced_marks.proofs.losses.fail_all.Given as goal
 
 -- those so far failed that are taken

@@ -1,7 +1,5 @@
-use Rattle.std.proofs.Common.{◌≡◌, length, reverse}
+use Rattle.forced_marks.proofs.Common.{above_among, has, length, reverse, ◌≡◌}
 use Rattle.sm_names.specs.Losses.{top as topmost}
-use Rattle.forest_store.specs.Nodes.{above_among}
-use Rattle.forced_marks.specs.KeySets.{has}
 use Rattle.forced_marks.proofs.losses.highest.Given as goal
 
 -- the climb that is left ends where the whole does

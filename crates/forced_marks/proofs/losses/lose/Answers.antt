@@ -1,10 +1,5 @@
-use Rattle.std.proofs.Common.{◌≡◌, ◌∙◌, sym, ap, map, reverse}
-use Rattle.std.specs.List.{list_any}
-use Rattle.sm_names.specs.declared.keys.NodeKey.{NodeKey}
+use Rattle.forced_marks.proofs.Common.{NodeKey, above_among, ap, blocks_here, has, is_below, list_any, lost, map, reverse, sym, ◌∙◌, ◌≡◌}
 use Rattle.sm_names.specs.Losses.{top as topmost}
-use Rattle.forest_store.specs.Nodes.{above_among, lost}
-use Rattle.forest_store.specs.Questions.{blocks_here, is_below}
-use Rattle.forced_marks.specs.KeySets.{has}
 use Rattle.forced_marks.proofs.Takings.{highest_of, lost_there, lost_nowhere}
 use Rattle.forced_marks.proofs.losses.lose.Goals as goal
 

@@ -1,13 +1,7 @@
-use Rattle.std.proofs.Common.{◌≡◌, ◌∙◌, ◌++◌, refl, sym, ap, subst, Bool, Option, Some, None}
-use Rattle.std.specs.Option.{option_map, IfSome}
-use Rattle.buffer_holds.specs.Counts.{total}
-use Rattle.forced_marks.specs.declared.decision.PendingStep.{PendingStep}
-use Rattle.forest_store.specs.Decisions.{Decision as Step, decided, mark_of, IsStep}
-use Rattle.forest_store.specs.Forest.{Collection, pages_in}
-use Rattle.forest_store.specs.Snapshots.{collection_of}
-use Rattle.forced_marks.specs.Steps.{told}
-use Rattle.forest_store.specs.Settling.{standing}
-use Rattle.forest_store.proofs.quiescence.Forcing.{forced_made}
+use Rattle.forced_marks.proofs.Common.{Bool, Collection, IfSome, IsStep, None, Option, PendingStep, Some, ap, collection_of, decided}
+use Rattle.forced_marks.proofs.Common.{forced_made, mark_of, pages_in, refl, standing, subst, sym, told, total, ◌++◌, ◌∙◌, ◌≡◌}
+use Rattle.std.specs.Option.{option_map}
+use Rattle.forest_store.specs.Decisions.{Decision as Step}
 use Rattle.forest_store.proofs.quiescence.Steps.{decided_steps}
 use Rattle.forced_marks.proofs.next_step.decide.Goals as goal
 

@@ -1,8 +1,5 @@
-use Rattle.std.proofs.Common.{ℕ, ◌≡◌, ◌+◌, ◌-◌, ◌<◌, ◌∙◌, ◌||◌, sym, ap, Bool, false, map, nat_lt, arith}
-use Rattle.std.specs.List.{list_any, range_with_len}
-use Rattle.sm_names.specs.declared.keys.BufferName.{BufferName}
-use Rattle.sm_names.specs.declared.keys.Strength.{Strength}
-use Rattle.buffer_holds.specs.Counts.{total}
+use Rattle.forced_marks.proofs.Common.{Bool, BufferName, Strength, ap, arith, false, list_any, map, nat_lt, range_with_len, sym, total, ℕ}
+use Rattle.forced_marks.proofs.Common.{◌+◌, ◌-◌, ◌<◌, ◌||◌, ◌∙◌, ◌≡◌}
 use Rattle.forest_steps.proofs.lists.Ranges.{any_from}
 use Rattle.forced_marks.proofs.next_step.is_any_open.Goals as goal
 

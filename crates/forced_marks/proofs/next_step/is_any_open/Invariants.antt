@@ -1,9 +1,4 @@
-use Rattle.std.proofs.Common.{◌≡◌, ◌-◌, map, nat_lt}
-use Rattle.std.specs.List.{list_any, range_with_len}
-use Rattle.sm_names.specs.declared.keys.BufferName.{BufferName}
-use Rattle.sm_names.specs.declared.keys.Strength.{Strength}
-use Rattle.sm_names.specs.Handles.{names}
-use Rattle.buffer_holds.specs.Counts.{total}
+use Rattle.forced_marks.proofs.Common.{BufferName, Strength, list_any, map, names, nat_lt, range_with_len, total, ◌-◌, ◌≡◌}
 use Rattle.forest_store.specs.Scenes.{name_of}
 use Rattle.forced_marks.proofs.next_step.is_any_open.Given as goal
 

@@ -1,8 +1,5 @@
-use Rattle.std.proofs.Common.{◌≡◌, take}
-use Rattle.std.specs.List.{list_any}
-use Rattle.sm_names.specs.declared.keys.NodeKey.{NodeKey}
+use Rattle.forced_marks.proofs.Common.{NodeKey, has, list_any, take, ◌≡◌}
 use Rattle.forest_store.specs.Questions.{is_allocated_node}
-use Rattle.forced_marks.specs.KeySets.{has}
 use Rattle.forced_marks.proofs.node_sets.allocated_nodes.Given as goal
 
 -- those among the nodes so far

@@ -1,8 +1,4 @@
-use Rattle.std.proofs.Common.{◌≡◌, take}
-use Rattle.std.specs.List.{list_any}
-use Rattle.sm_names.specs.declared.keys.NodeKey.{NodeKey}
-use Rattle.forest_store.specs.Questions.{blocks_here}
-use Rattle.forced_marks.specs.KeySets.{has}
+use Rattle.forced_marks.proofs.Common.{NodeKey, blocks_here, has, list_any, take, ◌≡◌}
 use Rattle.forced_marks.proofs.node_sets.blocking_nodes.Given as goal
 
 -- those among the nodes so far

@@ -1,5 +1,4 @@
-use Rattle.std.proofs.Common.{◌∙◌, reverse}
-use Rattle.forced_marks.specs.KeySets.{climbs_into}
+use Rattle.forced_marks.proofs.Common.{climbs_into, reverse, ◌∙◌}
 use Rattle.forced_marks.proofs.Climbs.{busy_is}
 use Rattle.forced_marks.proofs.node_sets.busy_nodes.Goals as goal
 

@@ -1,6 +1,4 @@
-use Rattle.std.proofs.Common.{◌≡◌, length, reverse}
-use Rattle.sm_names.specs.declared.keys.NodeKey.{NodeKey}
-use Rattle.forced_marks.specs.KeySets.{climbs_into, has}
+use Rattle.forced_marks.proofs.Common.{NodeKey, climbs_into, has, length, reverse, ◌≡◌}
 use Rattle.forced_marks.proofs.node_sets.climb_all.Given as goal
 
 -- the climbs that are left come to what all come to

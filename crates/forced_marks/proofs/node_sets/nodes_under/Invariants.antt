@@ -1,7 +1,4 @@
-use Rattle.std.proofs.Common.{◌≡◌, take}
-use Rattle.sm_names.specs.declared.keys.NodeKey.{NodeKey}
-use Rattle.forest_store.specs.Questions.{is_below}
-use Rattle.forced_marks.specs.KeySets.{has}
+use Rattle.forced_marks.proofs.Common.{NodeKey, has, is_below, take, ◌≡◌}
 use Rattle.forced_marks.proofs.node_sets.nodes_under.Given as goal
 
 -- so far the top node and those below it among the nodes so far

@@ -1,8 +1,5 @@
-use Rattle.std.proofs.Common.{◌≡◌, not, take}
-use Rattle.std.specs.List.{list_all}
-use Rattle.sm_names.specs.declared.keys.NodeKey.{NodeKey}
+use Rattle.forced_marks.proofs.Common.{NodeKey, has, list_all, not, take, ◌≡◌}
 use Rattle.forest_store.specs.Questions.{is_ready_node}
-use Rattle.forced_marks.specs.KeySets.{has}
 use Rattle.forced_marks.proofs.node_sets.waiting_heads.Given as goal
 
 -- those of the nodes so far

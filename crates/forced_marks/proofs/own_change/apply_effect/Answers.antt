@@ -1,5 +1,4 @@
-use Rattle.std.proofs.Common.{arith}
-use Rattle.forest_store.specs.Nodes.{affected}
+use Rattle.forced_marks.proofs.Common.{affected, arith}
 use Rattle.forced_marks.proofs.InPlace.{map_step}
 use Rattle.forced_marks.proofs.own_change.apply_effect.Goals as goal
 

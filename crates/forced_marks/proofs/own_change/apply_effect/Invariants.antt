@@ -1,5 +1,4 @@
-use Rattle.std.proofs.Common.{◌≡◌, ◌++◌, map, take, drop}
-use Rattle.forest_store.specs.Nodes.{affected}
+use Rattle.forced_marks.proofs.Common.{affected, drop, map, take, ◌++◌, ◌≡◌}
 use Rattle.forced_marks.proofs.own_change.apply_effect.Given as goal
 
 -- those so far are affected

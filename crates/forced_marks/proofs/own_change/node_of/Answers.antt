@@ -1,7 +1,4 @@
-use Rattle.std.proofs.Common.{◌∙◌, rules, tests}
-use Rattle.std.proofs.lemmas.Iterator.{YieldsList-from_slice}
-use Rattle.std.proofs.lemmas.Iterator.Search.{find_from_yields_List}
-use Rattle.forest_store.specs.Nodes.{is_of}
+use Rattle.forced_marks.proofs.Common.{YieldsList-from_slice, find_from_yields_List, is_of, rules, tests, ◌∙◌}
 use Rattle.forced_marks.proofs.own_change.node_of.Goals as goal
 
 -- the call finds the first that passes

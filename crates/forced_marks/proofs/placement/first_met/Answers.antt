@@ -1,7 +1,4 @@
-use Rattle.std.proofs.Common.{◌∙◌, rules, tests}
-use Rattle.std.proofs.lemmas.Iterator.{YieldsList-from_slice}
-use Rattle.std.proofs.lemmas.Iterator.Search.{find_from_yields_List}
-use Rattle.sm_names.specs.Pages.{meets}
+use Rattle.forced_marks.proofs.Common.{YieldsList-from_slice, find_from_yields_List, meets, rules, tests, ◌∙◌}
 use Rattle.forced_marks.proofs.placement.first_met.Goals as goal
 
 -- the call finds the first that is met

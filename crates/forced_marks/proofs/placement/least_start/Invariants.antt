@@ -1,6 +1,4 @@
-use Rattle.std.proofs.Common.{◌≡◌, ◌-◌}
-use Rattle.std.specs.List.{find, range_with_len}
-use Rattle.sm_names.specs.Pages.{has_room, least_start}
+use Rattle.forced_marks.proofs.Common.{find, has_room, least_start, range_with_len, ◌-◌, ◌≡◌}
 use Rattle.forced_marks.proofs.placement.least_start.Given as goal
 
 -- the first with room is still to come

@@ -1,7 +1,5 @@
-use Rattle.std.proofs.Common.{◌∙◌, sym, arith}
-use Rattle.std.proofs.lemmas.Grind.{common_steps}
+use Rattle.forced_marks.proofs.Common.{arith, common_steps, rules, sym, ◌∙◌}
 use Rattle.forced_marks.proofs.Places.{place_next, place_none}
-use Rattle.std.proofs.Common.{rules}
 use Rattle.forced_marks.proofs.placement.place.Goals as goal
 
 pub returns-in_default-clause-placed : goal.returns-in_default-clause-placed

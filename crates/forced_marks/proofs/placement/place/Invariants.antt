@@ -1,6 +1,5 @@
-use Rattle.std.proofs.Common.{◌≡◌, ◌-◌, ◌++◌, length}
+use Rattle.forced_marks.proofs.Common.{length, places, ◌++◌, ◌-◌, ◌≡◌}
 use Rattle.std.specs.Option.{option_map}
-use Rattle.sm_names.specs.Pages.{places}
 use Rattle.forced_marks.proofs.placement.place.Given as goal
 
 -- those so far, and those that are still to come

@@ -1,7 +1,4 @@
-use Rattle.std.proofs.Common.{◌∙◌, rules, tests}
-use Rattle.std.proofs.lemmas.Iterator.{YieldsList-from_slice}
-use Rattle.std.proofs.lemmas.Iterator.Search.{find_from_yields_List}
-use Rattle.forest_store.specs.Questions.{is_root_left}
+use Rattle.forced_marks.proofs.Common.{YieldsList-from_slice, find_from_yields_List, is_root_left, rules, tests, ◌∙◌}
 use Rattle.forced_marks.proofs.questions.root_left.Goals as goal
 
 -- the call finds the first that passes

@@ -1,5 +1,4 @@
-use Rattle.std.proofs.Common.{arith}
-use Rattle.forced_marks.specs.KeySets.{has, left_by}
+use Rattle.forced_marks.proofs.Common.{arith, has, left_by}
 use Rattle.forced_marks.proofs.InPlace.{map_step}
 use Rattle.forced_marks.proofs.subtree_end.end_all.Goals as goal
 

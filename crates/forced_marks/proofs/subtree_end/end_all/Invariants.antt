@@ -1,5 +1,4 @@
-use Rattle.std.proofs.Common.{◌≡◌, ◌++◌, map, take, drop}
-use Rattle.forced_marks.specs.KeySets.{has, left_by}
+use Rattle.forced_marks.proofs.Common.{drop, has, left_by, map, take, ◌++◌, ◌≡◌}
 use Rattle.forced_marks.proofs.subtree_end.end_all.Given as goal
 
 -- those so far left that are taken

@@ -1,6 +1,5 @@
-use Rattle.std.proofs.Common.{◌≡◌, drop}
-use Rattle.std.specs.List.{find}
-use Rattle.forced_marks.specs.KeySets.{has, is_deserted_by}
+use Rattle.forced_marks.proofs.Common.{drop, find, has, ◌≡◌}
+use Rattle.forced_marks.specs.KeySets.{is_deserted_by}
 use Rattle.forced_marks.proofs.subtree_end.first_deserted.Given as goal
 
 -- the first is still to come

@@ -1,7 +1,4 @@
-use Rattle.std.proofs.Common.{◌∷◌, [], sym, subst}
-use Rattle.sm_names.specs.Isolation.{IsAsBefore}
-use Rattle.sm_names.specs.Marks.{Timeline}
-use Rattle.sm_names.specs.Timelines.{timeline}
+use Rattle.history_laws.proofs.Common.{IsAsBefore, Timeline, [], subst, sym, timeline, ◌∷◌}
 use Rattle.history_laws.proofs.ApartLaws.{as_before}
 use Rattle.history_laws.proofs.GrowthLaws.{legal_grows_on}
 use Rattle.history_laws.proofs.HistoryLaws.{AreAnswers-last, timeline-push}

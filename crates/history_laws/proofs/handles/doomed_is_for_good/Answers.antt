@@ -1,7 +1,4 @@
-use Rattle.std.proofs.Common.{[], ◌++◌}
-use Rattle.sm_names.specs.declared.messages.Call.{Call}
-use Rattle.sm_names.specs.declared.messages.Reply.{Reply}
-use Rattle.sm_names.specs.Timelines.{timeline}
+use Rattle.history_laws.proofs.Common.{Call, Reply, [], timeline, ◌++◌}
 use Rattle.history_laws.proofs.DoomLaws.{doomed_on, home_on}
 use Rattle.history_laws.proofs.GrowthLaws.{legal_grows_on}
 use Rattle.history_laws.proofs.HistoryLaws.{AreAnswers-last}

@@ -1,5 +1,4 @@
-use Rattle.std.proofs.Common.{[]}
-use Rattle.sm_names.specs.Timelines.{timeline}
+use Rattle.history_laws.proofs.Common.{[], timeline}
 use Rattle.history_laws.proofs.ParcelLaws.{drawn_history, drawn_nothing, parcels-given, parcels-collected}
 use Rattle.history_laws.proofs.histories.parcels_wait_in_order.Goals as goal
 

@@ -1,8 +1,4 @@
-use Rattle.std.proofs.Common.{◌≡◌, ◌∙◌, ◌-◌, [], ap, arith, List}
-use Rattle.std.specs.List.{sum_by}
-use Rattle.sm_names.specs.Births.{births}
-use Rattle.sm_names.specs.declared.keys.HeldBuffer.{HeldBuffer}
-use Rattle.sm_names.specs.Timelines.{timeline, held}
+use Rattle.history_laws.proofs.Common.{HeldBuffer, List, [], ap, arith, births, held, sum_by, timeline, ◌-◌, ◌∙◌, ◌≡◌}
 use Rattle.history_laws.proofs.EndLaws.{spent_left, no_live_nodes, none_held}
 use Rattle.history_laws.proofs.SettledLaws.{In-was_born}
 use Rattle.history_laws.proofs.lives.spent_ends_and_dropped_handles_free_all.Goals as goal

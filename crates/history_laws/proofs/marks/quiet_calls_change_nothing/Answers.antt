@@ -1,5 +1,4 @@
-use Rattle.std.proofs.Common.{ap}
-use Rattle.sm_names.specs.Forced.{forced}
+use Rattle.history_laws.proofs.Common.{ap, forced}
 use Rattle.history_laws.proofs.QuietLaws.{readings-quiet, standing-quiet, seen-quiet, fired-quiet}
 use Rattle.history_laws.proofs.marks.quiet_calls_change_nothing.Goals as goal
 

@@ -1,6 +1,4 @@
-use Rattle.std.proofs.lemmas.Grind.{common_steps}
-use Rattle.std.proofs.Common.{None, IfSome, subst, arith}
-use Rattle.node_table.specs.Sound.{HasEntry, with_first, with_next}
+use Rattle.node_table.proofs.Common.{HasEntry, IfSome, None, arith, common_steps, subst, with_first, with_next}
 use Rattle.node_table.proofs.Steps.{has, joins_first, joins_last, joins_mid}
 use Rattle.node_table.proofs.slot.join.Goals as goal
 

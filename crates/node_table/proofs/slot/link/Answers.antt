@@ -1,5 +1,4 @@
-use Rattle.std.proofs.Common.{◌∙◌, Some, IfSome, ap, sym, subst}
-use Rattle.node_table.specs.Sound.{HasEntry, last_under, with_adopted}
+use Rattle.node_table.proofs.Common.{HasEntry, IfSome, Some, ap, last_under, subst, sym, with_adopted, ◌∙◌}
 use Rattle.node_table.proofs.Steps.{has, links_more}
 use Rattle.node_table.proofs.slot.link.Goals as goal
 

@@ -1,11 +1,6 @@
-use Rattle.std.proofs.Common.{◌≡◌, ◌++◌, List, take}
-use Rattle.std.specs.List.{flat_map}
+use Rattle.picture_dot.proofs.Common.{Calls, Keeps, List, Names, box_text, flat_map, take, ◌++◌, ◌≡◌}
 use Rattle.sm_names.specs.declared.keys.NodeKey.{NodeKey}
 use Rattle.event_facts.specs.KeyMaps.{HasKeys}
-use Rattle.script_labels.specs.Names.{Names}
-use Rattle.script_labels.specs.Tables.{Keeps}
-use Rattle.event_texts.specs.Called.{Calls}
-use Rattle.picture_dot.specs.DotPictures.{box_text}
 use Rattle.picture_dot.proofs.boxes.push_each_box.Given as goal
 
 -- those so far

@@ -1,9 +1,7 @@
-use Rattle.std.specs.Prelude.{codes}
-use Rattle.std.proofs.lemmas.Result.{on_ok_weaker}
+use Rattle.picture_dot.proofs.Common.{after, codes, last, on_ok_weaker}
 use Rattle.picture_model.specs.BoxLines.{kind_words, state_words}
 use Rattle.picture_model.specs.Features.{place_text}
 use Rattle.picture_dot.specs.DotPictures.{asked_line, box_lines}
-use Rattle.picture_model.proofs.Texts.{after, last}
 use Rattle.picture_dot.proofs.boxes.push_lines.Goals as goal
 
 -- one line behind the other

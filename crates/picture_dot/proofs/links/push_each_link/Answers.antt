@@ -1,7 +1,4 @@
-use Rattle.std.proofs.Common.{◌≡◌, ◌<◌, arith, get_or, length}
-use Rattle.std.proofs.lemmas.Grind.{common_steps}
-use Rattle.picture_dot.specs.DotPictures.{link_to}
-use Rattle.picture_model.proofs.Loops.{one-more}
+use Rattle.picture_dot.proofs.Common.{arith, common_steps, get_or, length, link_to, one-more, ◌<◌, ◌≡◌}
 use Rattle.picture_dot.proofs.links.push_each_link.Goals as goal
 
 -- one more comes last

@@ -1,10 +1,5 @@
-use Rattle.std.proofs.Common.{◌≡◌, ◌++◌, List, take}
-use Rattle.std.specs.List.{flat_map}
-use Rattle.forest_store.specs.declared.node.Node.{Node}
-use Rattle.picture_model.specs.declared.failure_view.Travel.{Travel}
+use Rattle.picture_dot.proofs.Common.{FindsTravels, List, Node, Travel, flat_map, link_to, take, ◌++◌, ◌≡◌}
 use Rattle.picture_model.specs.Kin.{FindsNodes}
-use Rattle.picture_model.specs.Travels.{FindsTravels}
-use Rattle.picture_dot.specs.DotPictures.{link_to}
 use Rattle.picture_dot.proofs.links.push_each_link.Given as goal
 
 -- those so far

@@ -1,8 +1,5 @@
-use Rattle.std.specs.Prelude.{codes, decimal}
-use Rattle.std.specs.List.{flat_map}
-use Rattle.std.proofs.lemmas.Result.{on_ok_weaker}
-use Rattle.picture_dot.specs.DotPictures.{box_text, buffers_table, cluster_text}
-use Rattle.picture_model.proofs.Texts.{after, last}
+use Rattle.picture_dot.proofs.Common.{after, box_text, codes, decimal, flat_map, last, on_ok_weaker}
+use Rattle.picture_dot.specs.DotPictures.{buffers_table, cluster_text}
 use Rattle.picture_dot.proofs.picture.push_cluster.Goals as goal
 
 -- one text behind the other

@@ -1,7 +1,4 @@
-use Rattle.std.proofs.Common.{◌≡◌, ◌++◌, take}
-use Rattle.std.specs.List.{flat_map}
-use Rattle.script_labels.specs.Names.{Names}
-use Rattle.script_labels.specs.Tables.{Keeps}
+use Rattle.picture_dot.proofs.Common.{Keeps, Names, flat_map, take, ◌++◌, ◌≡◌}
 use Rattle.picture_dot.specs.DotPictures.{firing_text}
 use Rattle.picture_dot.proofs.picture.push_firings.Given as goal
 

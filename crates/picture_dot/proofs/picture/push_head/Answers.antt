@@ -1,8 +1,6 @@
-use Rattle.std.specs.Prelude.{codes}
+use Rattle.picture_dot.proofs.Common.{after, codes, on_ok_weaker}
 use Rattle.picture_dot.specs.DotPictures.{graph_head}
-use Rattle.std.proofs.lemmas.Result.{on_ok_weaker}
 use Rattle.picture_model.specs.BoxLines.{header_text}
-use Rattle.picture_model.proofs.Texts.{after}
 use Rattle.picture_dot.proofs.picture.push_head.Goals as goal
 
 -- the title, and what is set behind it

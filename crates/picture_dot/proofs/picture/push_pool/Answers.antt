@@ -1,9 +1,7 @@
-use Rattle.std.specs.Prelude.{codes}
-use Rattle.std.proofs.lemmas.Result.{on_ok_weaker}
+use Rattle.picture_dot.proofs.Common.{after, codes, last, on_ok_weaker}
 use Rattle.core_state.specs.Reads.{views_of}
 use Rattle.picture_model.specs.Features.{free_words}
 use Rattle.picture_dot.specs.DotPictures.{pool_words}
-use Rattle.picture_model.proofs.Texts.{after, last}
 use Rattle.picture_dot.proofs.picture.push_pool.Goals as goal
 
 -- the numbers are the core's

@@ -1,5 +1,4 @@
-use Rattle.std.proofs.Common.{◌≡◌, ◌++◌, take}
-use Rattle.std.specs.List.{flat_map}
+use Rattle.picture_dot.proofs.Common.{flat_map, take, ◌++◌, ◌≡◌}
 use Rattle.picture_dot.specs.DotPictures.{rank_text}
 use Rattle.picture_dot.proofs.picture.push_ranks.Given as goal
 

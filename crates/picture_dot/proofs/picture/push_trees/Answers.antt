@@ -1,7 +1,4 @@
-use Rattle.std.proofs.Common.{◌≡◌, ◌<◌, arith, get_or, length}
-use Rattle.std.proofs.lemmas.Grind.{common_steps}
-use Rattle.picture_dot.specs.DotPictures.{dot_tree}
-use Rattle.picture_model.proofs.Loops.{one-more}
+use Rattle.picture_dot.proofs.Common.{arith, common_steps, dot_tree, get_or, length, one-more, ◌<◌, ◌≡◌}
 use Rattle.picture_dot.proofs.picture.push_trees.Goals as goal
 
 -- one more comes last

@@ -1,11 +1,4 @@
-use Rattle.std.proofs.Common.{◌≡◌, ◌++◌, List, take}
-use Rattle.std.specs.List.{flat_map}
-use Rattle.script_labels.specs.Names.{Names}
-use Rattle.script_labels.specs.Tables.{Keeps}
-use Rattle.event_texts.specs.Called.{Calls}
-use Rattle.picture_model.specs.declared.failure_view.Travel.{Travel}
-use Rattle.picture_model.specs.Travels.{FindsTravels}
-use Rattle.picture_dot.specs.DotPictures.{dot_tree}
+use Rattle.picture_dot.proofs.Common.{Calls, FindsTravels, Keeps, List, Names, Travel, dot_tree, flat_map, take, ◌++◌, ◌≡◌}
 use Rattle.picture_dot.proofs.picture.push_trees.Given as goal
 
 -- those so far

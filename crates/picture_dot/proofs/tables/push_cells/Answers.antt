@@ -1,9 +1,6 @@
-use Rattle.std.specs.Prelude.{codes}
-use Rattle.picture_dot.specs.DotPictures.{cells_text}
-use Rattle.std.proofs.lemmas.Result.{on_ok_weaker}
+use Rattle.picture_dot.proofs.Common.{after, cells_text, codes, last, on_ok_weaker}
 use Rattle.event_texts.specs.FactTexts.{buffer_name}
 use Rattle.picture_model.specs.Features.{pages_text}
-use Rattle.picture_model.proofs.Texts.{after, last}
 use Rattle.picture_dot.proofs.tables.push_cells.Goals as goal
 
 -- one text behind the other

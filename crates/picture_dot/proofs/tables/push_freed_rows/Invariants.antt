@@ -1,8 +1,4 @@
-use Rattle.std.proofs.Common.{◌≡◌, ◌++◌, take}
-use Rattle.std.specs.List.{flat_map}
-use Rattle.script_labels.specs.Names.{Names}
-use Rattle.script_labels.specs.Tables.{Keeps}
-use Rattle.picture_dot.specs.DotPictures.{freed_row}
+use Rattle.picture_dot.proofs.Common.{Keeps, Names, flat_map, freed_row, take, ◌++◌, ◌≡◌}
 use Rattle.picture_dot.proofs.tables.push_freed_rows.Given as goal
 
 -- those so far

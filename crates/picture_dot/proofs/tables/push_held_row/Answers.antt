@@ -1,8 +1,5 @@
-use Rattle.std.specs.Prelude.{codes}
-use Rattle.std.proofs.lemmas.Result.{on_ok_weaker}
-use Rattle.picture_dot.specs.DotPictures.{cells_text, held_row}
+use Rattle.picture_dot.proofs.Common.{after, cells_text, codes, held_row, last, on_ok_weaker}
 use Rattle.event_texts.specs.KeeperTexts.{keepers_words}
-use Rattle.picture_model.proofs.Texts.{after, last}
 use Rattle.picture_dot.proofs.tables.push_held_row.Goals as goal
 
 -- one text behind the other

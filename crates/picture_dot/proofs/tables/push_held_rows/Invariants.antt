@@ -1,9 +1,4 @@
-use Rattle.std.proofs.Common.{◌≡◌, ◌++◌, take}
-use Rattle.std.specs.List.{flat_map}
-use Rattle.script_labels.specs.Names.{Names}
-use Rattle.script_labels.specs.Tables.{Keeps}
-use Rattle.event_texts.specs.Called.{Calls}
-use Rattle.picture_dot.specs.DotPictures.{held_row}
+use Rattle.picture_dot.proofs.Common.{Calls, Keeps, Names, flat_map, held_row, take, ◌++◌, ◌≡◌}
 use Rattle.picture_dot.proofs.tables.push_held_rows.Given as goal
 
 -- those so far

@@ -1,8 +1,5 @@
-use Rattle.std.specs.Prelude.{codes, decimal}
-use Rattle.std.specs.List.{flat_map}
-use Rattle.std.proofs.lemmas.Result.{on_ok_weaker}
-use Rattle.picture_dot.specs.DotPictures.{freed_row, held_row, table_text, table_words}
-use Rattle.picture_model.proofs.Texts.{after, last}
+use Rattle.picture_dot.proofs.Common.{after, codes, decimal, flat_map, freed_row, held_row, last, on_ok_weaker}
+use Rattle.picture_dot.specs.DotPictures.{table_text, table_words}
 use Rattle.picture_dot.proofs.tables.push_table.Goals as goal
 
 -- one text behind the other

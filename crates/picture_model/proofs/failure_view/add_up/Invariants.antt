@@ -1,5 +1,4 @@
-use Rattle.std.proofs.Common.{◌≡◌, [], take}
-use Rattle.std.specs.List.{fold}
+use Rattle.picture_model.proofs.Common.{[], fold, take, ◌≡◌}
 use Rattle.picture_model.specs.Travels.{summed, sums_of}
 use Rattle.picture_model.proofs.failure_view.add_up.Given as goal
 

@@ -1,5 +1,4 @@
-use Rattle.std.proofs.Common.{arith, sym}
-use Rattle.picture_model.specs.Travels.{followed, trace_in}
+use Rattle.picture_model.proofs.Common.{arith, followed, sym, trace_in}
 use Rattle.picture_model.proofs.Loops.{one-folded}
 use Rattle.picture_model.proofs.failure_view.follow.Goals as goal
 

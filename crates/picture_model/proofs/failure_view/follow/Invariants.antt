@@ -1,6 +1,4 @@
-use Rattle.std.proofs.Common.{◌≡◌, take}
-use Rattle.std.specs.List.{fold}
-use Rattle.picture_model.specs.Travels.{followed, trace_in}
+use Rattle.picture_model.proofs.Common.{fold, followed, take, trace_in, ◌≡◌}
 use Rattle.picture_model.proofs.failure_view.follow.Given as goal
 
 -- those so far

@@ -1,7 +1,4 @@
-use Rattle.std.proofs.Common.{◌<◌, ◌∙◌, ap, arith, sym, ℕ, List, [], ◌∷◌, ◌++◌, length}
-use Rattle.std.proofs.lemmas.Grind.{common_steps}
-use Rattle.std.proofs.lemmas.List.Folds.{find-append}
-use Rattle.picture_model.specs.declared.failure_view.Reached.{Reached}
+use Rattle.picture_model.proofs.Common.{List, Reached, [], ap, arith, common_steps, find-append, length, sym, ℕ, ◌++◌, ◌<◌, ◌∙◌, ◌∷◌}
 use Rattle.picture_model.specs.Travels.{with_generation}
 use Rattle.picture_model.proofs.Loops.{one-folded}
 use Rattle.picture_model.proofs.failure_view.generations_of.Goals as goal

@@ -1,6 +1,4 @@
-use Rattle.std.proofs.Common.{arith, append_assoc}
-use Rattle.std.proofs.lemmas.Grind.{common_steps}
-use Rattle.std.proofs.lemmas.List.{map-append}
+use Rattle.picture_model.proofs.Common.{append_assoc, arith, common_steps, map-append}
 use Rattle.picture_model.proofs.failure_view.link_all.Goals as goal
 
 -- one more comes last

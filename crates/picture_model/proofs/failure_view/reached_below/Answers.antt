@@ -1,8 +1,5 @@
-use Rattle.std.proofs.Common.{◌∙◌, ap, ◌&&◌, not, nat_lt, List}
-use Rattle.std.specs.List.{filter, list_any}
-use Rattle.sm_names.specs.Sameness.{same_key}
-use Rattle.picture_model.specs.declared.failure_view.Reached.{Reached}
-use Rattle.picture_model.specs.Travels.{is_past}
+use Rattle.picture_model.proofs.Common.{List, Reached, ap, filter, is_past, list_any, not, same_key, ◌&&◌, ◌∙◌}
+use Rattle.std.proofs.Common.{nat_lt}
 use Rattle.picture_model.proofs.failure_view.reached_below.Goals as goal
 
 -- those by which the failure came up are those on the way

@@ -1,7 +1,4 @@
-use Rattle.std.proofs.Common.{◌≡◌, take}
-use Rattle.std.specs.List.{filter}
-use Rattle.forced_marks.specs.KeySets.{has}
-use Rattle.picture_model.specs.Travels.{is_past}
+use Rattle.picture_model.proofs.Common.{filter, has, is_past, take, ◌≡◌}
 use Rattle.picture_model.proofs.failure_view.reached_past.Given as goal
 
 -- so far those among these

@@ -1,6 +1,5 @@
-use Rattle.std.proofs.Common.{◌≡◌, take}
-use Rattle.std.specs.List.{fold}
-use Rattle.picture_model.specs.Travels.{climbed, trace_in}
+use Rattle.picture_model.proofs.Common.{fold, take, trace_in, ◌≡◌}
+use Rattle.picture_model.specs.Travels.{climbed}
 use Rattle.picture_model.proofs.failure_view.trace_up.Given as goal
 
 -- those so far

@@ -1,8 +1,5 @@
-use Rattle.std.proofs.Common.{◌∙◌, ap, List, [], map}
-use Rattle.std.specs.List.{filter}
-use Rattle.std.specs.Option.{option_map, option_map_or}
+use Rattle.picture_model.proofs.Common.{List, Node, [], ap, filter, map, option_map, option_map_or, ◌∙◌}
 use Rattle.sm_names.specs.declared.keys.HeldBuffer.{HeldBuffer}
-use Rattle.forest_store.specs.declared.node.Node.{Node}
 use Rattle.event_facts.specs.Facts.{is_keeper}
 use Rattle.picture_model.specs.Shown.{before_in, freed_since}
 use Rattle.picture_model.proofs.picture.grow.Goals as goal

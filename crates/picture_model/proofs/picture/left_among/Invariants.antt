@@ -1,7 +1,4 @@
-use Rattle.std.proofs.Common.{◌≡◌, List, map, take}
-use Rattle.std.specs.List.{filter}
-use Rattle.forest_store.specs.declared.node.Node.{Node}
-use Rattle.picture_model.specs.Kin.{FindsNodes}
+use Rattle.picture_model.proofs.Common.{FindsNodes, List, Node, filter, map, take, ◌≡◌}
 use Rattle.picture_model.specs.Shown.{has_gone}
 use Rattle.picture_model.proofs.picture.left_among.Given as goal
 

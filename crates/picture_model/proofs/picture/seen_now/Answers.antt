@@ -1,5 +1,4 @@
-use Rattle.std.proofs.Common.{◌<◌, arith, length, sym}
-use Rattle.picture_model.specs.Seen.{seen_in}
+use Rattle.picture_model.proofs.Common.{arith, length, seen_in, sym, ◌<◌}
 use Rattle.picture_model.proofs.Loops.{one-mapped}
 use Rattle.picture_model.proofs.picture.seen_now.Goals as goal
 

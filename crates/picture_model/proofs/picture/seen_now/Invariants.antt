@@ -1,5 +1,4 @@
-use Rattle.std.proofs.Common.{◌≡◌, map, take}
-use Rattle.picture_model.specs.Seen.{seen_in}
+use Rattle.picture_model.proofs.Common.{map, seen_in, take, ◌≡◌}
 use Rattle.picture_model.proofs.picture.seen_now.Given as goal
 
 -- so far these nodes

@@ -1,12 +1,11 @@
-use Rattle.std.proofs.Common.{◌∙◌, ap, sym, ℕ, List, [], ◌∷◌, ◌++◌, append_assoc, append-nil, map}
-use Rattle.std.proofs.lemmas.List.{map-append, nil_from_length}
-use Rattle.core_state.specs.Reads.{views_of}
-use Rattle.forced_marks.specs.declared.moment.Moment.{Moment}
+use Rattle.picture_model.proofs.Common.{List, Moment, [], ap, append-nil, append_assoc, map, map-append, sym, told_in, views_of, words_of}
+use Rattle.picture_model.proofs.Common.{ℕ, ◌++◌, ◌∙◌, ◌∷◌}
+use Rattle.std.proofs.lemmas.List.{nil_from_length}
 use Rattle.event_facts.specs.Events.{scene_after}
 use Rattle.event_texts.specs.MarkTexts.{Placed, mark_text}
 use Rattle.event_texts.proofs.Marks.{placed_is}
 use Rattle.picture_model.specs.declared.picture.ToldMark.{ToldMark}
-use Rattle.picture_model.specs.Shown.{ToldWords, first_line, is_failure, told_in, words_of}
+use Rattle.picture_model.specs.Shown.{ToldWords, first_line, is_failure}
 use Rattle.picture_model.proofs.picture.told_marks.Goals as goal
 
 -- one more mark

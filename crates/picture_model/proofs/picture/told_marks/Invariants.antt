@@ -1,8 +1,6 @@
-use Rattle.std.proofs.Common.{◌≡◌, ◌++◌, length, map}
-use Rattle.core_state.specs.Reads.{views_of}
+use Rattle.picture_model.proofs.Common.{length, map, told_in, views_of, words_of, ◌++◌, ◌≡◌}
 use Rattle.script_labels.specs.Names.{Names}
 use Rattle.script_labels.specs.Tables.{Keeps}
-use Rattle.picture_model.specs.Shown.{told_in, words_of}
 use Rattle.picture_model.proofs.picture.told_marks.Given as goal
 
 -- the marks so far, with those that are left, are all

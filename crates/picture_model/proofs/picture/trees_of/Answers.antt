@@ -1,11 +1,6 @@
-use Rattle.std.proofs.Common.{◌∙◌, ap, sym, List, [], ◌∷◌, ◌++◌, append_assoc, append-nil, map, Option, is_some}
-use Rattle.std.proofs.lemmas.List.Elements.{filter-append}
-use Rattle.std.specs.List.{filter}
-use Rattle.std.specs.Option.{option_map}
-use Rattle.forest_store.specs.Forest.{collection_at}
-use Rattle.core_state.specs.State.{State}
-use Rattle.event_facts.specs.declared.event.Event.{Event}
-use Rattle.picture_model.specs.Shown.{Family, TreeLists, is_shown, lists_of, tree_in, trees_of}
+use Rattle.picture_model.proofs.Common.{Event, Family, List, Option, State, TreeLists, [], ap, append-nil, append_assoc, collection_at}
+use Rattle.picture_model.proofs.Common.{filter, filter-append, is_shown, is_some, lists_of, map, option_map, sym, tree_in, trees_of, ◌++◌}
+use Rattle.picture_model.proofs.Common.{◌∙◌, ◌∷◌}
 use Rattle.picture_model.proofs.picture.trees_of.Goals as goal
 
 -- one more tree comes last, if it is shown

@@ -1,7 +1,6 @@
-use Rattle.std.proofs.Common.{◌≡◌, ◌++◌, All, map}
-use Rattle.std.specs.Option.{option_map}
+use Rattle.picture_model.proofs.Common.{lists_of, map, option_map, trees_of, ◌++◌, ◌≡◌}
+use Rattle.std.proofs.Common.{All}
 use Rattle.picture_model.specs.Seen.{IsTree}
-use Rattle.picture_model.specs.Shown.{lists_of, trees_of}
 use Rattle.picture_model.proofs.picture.trees_of.Given as goal
 
 -- those so far, and with those that are left all

@@ -1,5 +1,4 @@
-use Rattle.std.proofs.Common.{arith}
-use Rattle.std.proofs.lemmas.Grind.{common_steps}
+use Rattle.picture_model.proofs.Common.{arith, common_steps}
 use Rattle.picture_model.proofs.Lasts.{top-last}
 use Rattle.picture_model.proofs.picture_state.last_key.Goals as goal
 

@@ -1,5 +1,4 @@
-use Rattle.std.proofs.Common.{◌<◌, arith, length, sym}
-use Rattle.picture_model.specs.PictureStates.{left_if}
+use Rattle.picture_model.proofs.Common.{arith, left_if, length, sym, ◌<◌}
 use Rattle.picture_model.proofs.Loops.{one-mapped}
 use Rattle.picture_model.proofs.picture_state.left_among.Goals as goal
 

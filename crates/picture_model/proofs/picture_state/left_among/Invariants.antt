@@ -1,7 +1,4 @@
-use Rattle.std.proofs.Common.{◌≡◌, Bool, map, take}
-use Rattle.sm_names.specs.declared.keys.NodeKey.{NodeKey}
-use Rattle.forced_marks.specs.KeySets.{has}
-use Rattle.picture_model.specs.PictureStates.{left_if}
+use Rattle.picture_model.proofs.Common.{Bool, NodeKey, has, left_if, map, take, ◌≡◌}
 use Rattle.picture_model.proofs.picture_state.left_among.Given as goal
 
 -- those so far

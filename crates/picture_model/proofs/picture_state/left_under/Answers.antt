@@ -1,5 +1,4 @@
-use Rattle.std.proofs.Common.{◌∙◌, ap, List}
-use Rattle.forest_store.specs.declared.node.Node.{Node}
+use Rattle.picture_model.proofs.Common.{List, Node, ap, ◌∙◌}
 use Rattle.forest_store.specs.Questions.{is_below}
 use Rattle.picture_model.proofs.picture_state.left_under.Goals as goal
 

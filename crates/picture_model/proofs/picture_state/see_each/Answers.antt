@@ -1,5 +1,4 @@
-use Rattle.std.proofs.Common.{◌<◌, arith, length, sym}
-use Rattle.picture_model.specs.PictureStates.{seen_again}
+use Rattle.picture_model.proofs.Common.{arith, length, seen_again, sym, ◌<◌}
 use Rattle.picture_model.proofs.Loops.{one-mapped}
 use Rattle.picture_model.proofs.picture_state.see_each.Goals as goal
 

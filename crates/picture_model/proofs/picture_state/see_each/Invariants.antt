@@ -1,7 +1,4 @@
-use Rattle.std.proofs.Common.{◌≡◌, List, map, take}
-use Rattle.forest_store.specs.declared.node.Node.{Node}
-use Rattle.picture_model.specs.PictureStates.{seen_again}
-use Rattle.picture_model.specs.Kin.{FindsNodes}
+use Rattle.picture_model.proofs.Common.{FindsNodes, List, Node, map, seen_again, take, ◌≡◌}
 use Rattle.picture_model.proofs.picture_state.see_each.Given as goal
 
 -- those so far

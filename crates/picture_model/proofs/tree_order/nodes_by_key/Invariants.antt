@@ -1,5 +1,4 @@
-use Rattle.std.proofs.Common.{take}
-use Rattle.picture_model.specs.Kin.{FindsNodes}
+use Rattle.picture_model.proofs.Common.{FindsNodes, take}
 use Rattle.picture_model.proofs.tree_order.nodes_by_key.Given as goal
 
 -- those so far

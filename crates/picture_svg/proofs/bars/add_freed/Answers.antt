@@ -1,7 +1,4 @@
-use Rattle.std.proofs.Common.{arith}
-use Rattle.std.proofs.lemmas.Grind.{common_steps}
-use Rattle.std.proofs.lemmas.List.{map-append}
-use Rattle.std.proofs.lemmas.List.Elements.{filter-append}
+use Rattle.picture_svg.proofs.Common.{arith, common_steps, filter-append, map-append}
 use Rattle.picture_svg.proofs.bars.add_freed.Goals as goal
 
 -- one more comes last, or is left out

@@ -1,8 +1,5 @@
-use Rattle.std.proofs.Common.{◌≡◌, ◌++◌, map, take}
-use Rattle.std.specs.List.{filter}
-use Rattle.script_labels.specs.Names.{Names}
-use Rattle.script_labels.specs.Tables.{Keeps}
-use Rattle.picture_svg.specs.Bars.{freed_shown, has_index, shown_in}
+use Rattle.picture_svg.proofs.Common.{Keeps, Names, filter, has_index, map, shown_in, take, ◌++◌, ◌≡◌}
+use Rattle.picture_svg.specs.Bars.{freed_shown}
 use Rattle.picture_svg.proofs.bars.add_freed.Given as goal
 
 -- those so far

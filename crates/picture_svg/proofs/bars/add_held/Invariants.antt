@@ -1,9 +1,5 @@
-use Rattle.std.proofs.Common.{◌≡◌, ◌++◌, map, take}
-use Rattle.std.specs.List.{filter}
-use Rattle.script_labels.specs.Names.{Names}
-use Rattle.script_labels.specs.Tables.{Keeps}
-use Rattle.event_texts.specs.Called.{Calls}
-use Rattle.picture_svg.specs.Bars.{has_index, held_shown, shown_in}
+use Rattle.picture_svg.proofs.Common.{Calls, Keeps, Names, filter, has_index, map, shown_in, take, ◌++◌, ◌≡◌}
+use Rattle.picture_svg.specs.Bars.{held_shown}
 use Rattle.picture_svg.proofs.bars.add_held.Given as goal
 
 -- those so far

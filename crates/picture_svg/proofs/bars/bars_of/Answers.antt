@@ -1,5 +1,4 @@
-use Rattle.std.proofs.Common.{◌≡◌, ◌∙◌, ap, sym, List, ◌++◌, arith}
-use Rattle.picture_svg.specs.Bars.{Shown, shown_at, shown_to}
+use Rattle.picture_svg.proofs.Common.{List, Shown, ap, arith, shown_at, shown_to, sym, ◌++◌, ◌∙◌, ◌≡◌}
 use Rattle.picture_svg.specs.declared.bars.TheConstants.{INDICES}
 use Rattle.picture_svg.proofs.Indexes.{shown-more, shown-none}
 use Rattle.picture_svg.proofs.bars.bars_of.Goals as goal

@@ -1,8 +1,4 @@
-use Rattle.std.proofs.Common.{◌≡◌, map}
-use Rattle.script_labels.specs.Names.{Names}
-use Rattle.script_labels.specs.Tables.{Keeps}
-use Rattle.event_texts.specs.Called.{Calls}
-use Rattle.picture_svg.specs.Bars.{shown_in, shown_to}
+use Rattle.picture_svg.proofs.Common.{Calls, Keeps, Names, map, shown_in, shown_to, ◌≡◌}
 use Rattle.picture_svg.proofs.bars.bars_of.Given as goal
 
 -- those with the indexes so far

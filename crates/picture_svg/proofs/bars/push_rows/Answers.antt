@@ -1,7 +1,5 @@
-use Rattle.std.proofs.Common.{◌∙◌, ap, sym, ℕ, ◌++◌, map}
-use Rattle.std.proofs.lemmas.List.{nil_from_length}
-use Rattle.picture_layout.specs.Lengths.{capped_sum}
-use Rattle.picture_svg.specs.Bars.{bar_text, bars_bottom, bars_text, shown_in}
+use Rattle.picture_svg.proofs.Common.{ap, bars_bottom, bars_text, capped_sum, map, nil_from_length, shown_in, sym, ℕ, ◌++◌, ◌∙◌}
+use Rattle.picture_svg.specs.Bars.{bar_text}
 use Rattle.picture_svg.proofs.Rows.{more, none}
 use Rattle.picture_svg.proofs.bars.push_rows.Goals as goal
 

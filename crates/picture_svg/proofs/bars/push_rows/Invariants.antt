@@ -1,5 +1,4 @@
-use Rattle.std.proofs.Common.{◌≡◌, ◌++◌, length, map}
-use Rattle.picture_svg.specs.Bars.{bars_bottom, bars_text, shown_in}
+use Rattle.picture_svg.proofs.Common.{bars_bottom, bars_text, length, map, shown_in, ◌++◌, ◌≡◌}
 use Rattle.picture_svg.proofs.bars.push_rows.Given as goal
 
 -- those so far, and those that are left, are all

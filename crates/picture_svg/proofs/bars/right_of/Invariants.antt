@@ -1,7 +1,6 @@
-use Rattle.std.proofs.Common.{◌≡◌, map, max, take}
-use Rattle.std.specs.List.{fold}
-use Rattle.picture_layout.specs.Lengths.{capped_product, capped_sum}
-use Rattle.picture_svg.specs.Bars.{Shown, words_column, shown_in}
+use Rattle.picture_svg.proofs.Common.{Shown, capped_sum, fold, map, max, shown_in, take, ◌≡◌}
+use Rattle.picture_layout.specs.Lengths.{capped_product}
+use Rattle.picture_svg.specs.Bars.{words_column}
 use Rattle.picture_svg.proofs.bars.right_of.Given as goal
 
 -- that of those so far

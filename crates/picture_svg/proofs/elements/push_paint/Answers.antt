@@ -1,7 +1,5 @@
-use Rattle.std.specs.Prelude.{codes}
-use Rattle.std.proofs.lemmas.Result.{on_ok_weaker}
-use Rattle.picture_model.proofs.Texts.{after, last}
-use Rattle.picture_svg.specs.Elements.{attribute, paint_text, rounded_text}
+use Rattle.picture_svg.proofs.Common.{after, attribute, codes, last, on_ok_weaker}
+use Rattle.picture_svg.specs.Elements.{paint_text, rounded_text}
 use Rattle.picture_svg.proofs.elements.push_paint.Goals as goal
 
 -- one attribute behind the other

@@ -1,8 +1,6 @@
-use Rattle.std.specs.Prelude.{◌+◌, ◌∷◌, codes}
-use Rattle.std.proofs.lemmas.Result.{on_ok_weaker}
+use Rattle.picture_svg.proofs.Common.{MARGIN, after, codes, last, on_ok_weaker}
+use Rattle.std.specs.Prelude.{◌+◌, ◌∷◌}
 use Rattle.picture_model.specs.declared.features.Class.{Class}
-use Rattle.picture_model.proofs.Texts.{after, last}
-use Rattle.picture_svg.specs.declared.elements.TheConstants.{MARGIN}
 use Rattle.picture_svg.specs.Legend.{kept_signs, sample_text}
 use Rattle.picture_svg.proofs.legend.push_kept_boxes.Goals as goal
 

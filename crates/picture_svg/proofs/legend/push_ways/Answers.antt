@@ -1,9 +1,7 @@
-use Rattle.std.specs.Prelude.{◌+◌, Some, codes}
-use Rattle.std.proofs.lemmas.Result.{on_ok_weaker}
+use Rattle.picture_svg.proofs.Common.{MARGIN, after, codes, last, on_ok_weaker}
+use Rattle.std.specs.Prelude.{◌+◌, Some}
 use Rattle.picture_model.specs.declared.features.LinkStyle.{LinkStyle}
 use Rattle.picture_model.specs.declared.failure_view.TravelWay.{TravelWay}
-use Rattle.picture_model.proofs.Texts.{after, last}
-use Rattle.picture_svg.specs.declared.elements.TheConstants.{MARGIN}
 use Rattle.picture_svg.specs.Legend.{sample_line, stop_sample, way_signs}
 use Rattle.picture_svg.proofs.legend.push_ways.Goals as goal
 

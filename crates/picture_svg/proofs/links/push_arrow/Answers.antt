@@ -1,7 +1,4 @@
-use Rattle.std.specs.Prelude.{codes}
-use Rattle.std.proofs.lemmas.Result.{on_ok_weaker}
-use Rattle.picture_model.proofs.Texts.{after, last}
-use Rattle.picture_layout.specs.Lengths.{capped_sum}
+use Rattle.picture_svg.proofs.Common.{after, capped_sum, codes, last, on_ok_weaker}
 use Rattle.picture_svg.specs.Elements.{circle_text}
 use Rattle.picture_svg.specs.Links.{svg_arrow, middle_row}
 use Rattle.picture_svg.proofs.links.push_arrow.Goals as goal

@@ -1,7 +1,4 @@
-use Rattle.std.specs.Prelude.{codes}
-use Rattle.std.proofs.lemmas.Result.{on_ok_weaker}
-use Rattle.picture_model.proofs.Texts.{after, last}
-use Rattle.picture_svg.specs.Elements.{attribute}
+use Rattle.picture_svg.proofs.Common.{after, attribute, codes, last, on_ok_weaker}
 use Rattle.picture_svg.specs.Links.{line_dashes, line_start, svg_line}
 use Rattle.picture_svg.proofs.links.push_line.Goals as goal
 

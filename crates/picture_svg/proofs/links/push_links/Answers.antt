@@ -1,6 +1,4 @@
-use Rattle.std.proofs.Common.{arith, sym}
-use Rattle.picture_svg.specs.Links.{box_link}
-use Rattle.picture_model.proofs.Loops.{one-more}
+use Rattle.picture_svg.proofs.Common.{arith, box_link, one-more, sym}
 use Rattle.picture_svg.proofs.links.push_links.Goals as goal
 
 -- one more comes last

@@ -1,8 +1,4 @@
-use Rattle.std.proofs.Common.{◌≡◌, ◌++◌, List, take}
-use Rattle.std.specs.List.{flat_map}
-use Rattle.picture_model.specs.declared.failure_view.Travel.{Travel}
-use Rattle.picture_model.specs.Travels.{FindsTravels}
-use Rattle.picture_svg.specs.Links.{box_link}
+use Rattle.picture_svg.proofs.Common.{FindsTravels, List, Travel, box_link, flat_map, take, ◌++◌, ◌≡◌}
 use Rattle.picture_svg.proofs.links.push_links.Given as goal
 
 -- those so far

@@ -1,8 +1,4 @@
-use Rattle.std.proofs.Common.{◌≡◌, take}
-use Rattle.std.specs.List.{fold}
-use Rattle.script_labels.specs.Names.{Names}
-use Rattle.script_labels.specs.Tables.{Keeps}
-use Rattle.event_texts.specs.Called.{Calls}
+use Rattle.picture_svg.proofs.Common.{Calls, Keeps, Names, fold, take, ◌≡◌}
 use Rattle.picture_svg.specs.SvgPictures.{tree_tenths}
 use Rattle.picture_svg.proofs.picture.all_tenths.Given as goal
 

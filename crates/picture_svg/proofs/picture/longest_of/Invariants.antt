@@ -1,6 +1,5 @@
-use Rattle.std.proofs.Common.{◌≡◌, map, take}
+use Rattle.picture_svg.proofs.Common.{line_items, map, take, ◌≡◌}
 use Rattle.picture_svg.specs.SvgPictures.{longest_of}
-use Rattle.picture_svg.specs.Trees.{line_items}
 use Rattle.picture_svg.proofs.picture.longest_of.Given as goal
 
 -- that of those so far

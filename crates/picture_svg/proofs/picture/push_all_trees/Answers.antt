@@ -1,6 +1,5 @@
-use Rattle.std.proofs.Common.{◌∙◌, ap}
+use Rattle.picture_svg.proofs.Common.{ap, trees_bottom, trees_right, ◌∙◌}
 use Rattle.picture_svg.specs.SvgPictures.{box_width, last_column, pool_row}
-use Rattle.picture_svg.specs.Trees.{trees_bottom, trees_right}
 use Rattle.picture_svg.proofs.picture.push_all_trees.Goals as goal
 
 -- the row below the trees

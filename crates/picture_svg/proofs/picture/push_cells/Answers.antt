@@ -1,5 +1,4 @@
-use Rattle.std.proofs.Common.{arith}
-use Rattle.picture_svg.specs.SvgPictures.{held_cell}
+use Rattle.picture_svg.proofs.Common.{arith, held_cell}
 use Rattle.event_texts.proofs.Loops.{one-read}
 use Rattle.picture_svg.proofs.picture.push_cells.Goals as goal
 

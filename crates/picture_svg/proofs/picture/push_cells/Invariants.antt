@@ -1,8 +1,4 @@
-use Rattle.std.proofs.Common.{◌≡◌, ◌++◌, take}
-use Rattle.std.specs.List.{flat_map}
-use Rattle.script_labels.specs.Names.{Names}
-use Rattle.script_labels.specs.Tables.{Keeps}
-use Rattle.picture_svg.specs.SvgPictures.{held_cell}
+use Rattle.picture_svg.proofs.Common.{Keeps, Names, flat_map, held_cell, take, ◌++◌, ◌≡◌}
 use Rattle.picture_svg.proofs.picture.push_cells.Given as goal
 
 -- those so far

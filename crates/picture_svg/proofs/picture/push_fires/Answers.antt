@@ -1,9 +1,5 @@
-use Rattle.std.proofs.Common.{◌∙◌, ap, sym, ℕ, ◌++◌, false}
-use Rattle.std.specs.Prelude.{codes}
-use Rattle.std.proofs.lemmas.List.{nil_from_length}
-use Rattle.picture_layout.specs.Lengths.{capped_sum}
-use Rattle.picture_svg.specs.Elements.{look}
-use Rattle.picture_svg.specs.SvgPictures.{fact_text, fires_bottom, svg_fires}
+use Rattle.picture_svg.proofs.Common.{ap, capped_sum, codes, fact_text, false, fires_bottom, look, nil_from_length, svg_fires, sym, ℕ}
+use Rattle.picture_svg.proofs.Common.{◌++◌, ◌∙◌}
 use Rattle.picture_model.specs.BoxLines.{fired_words}
 use Rattle.picture_svg.proofs.Rows.{more, none}
 use Rattle.picture_svg.proofs.picture.push_fires.Goals as goal

@@ -1,7 +1,4 @@
-use Rattle.std.proofs.Common.{◌≡◌, ◌++◌, length}
-use Rattle.script_labels.specs.Names.{Names}
-use Rattle.script_labels.specs.Tables.{Keeps}
-use Rattle.picture_svg.specs.SvgPictures.{fires_bottom, svg_fires}
+use Rattle.picture_svg.proofs.Common.{Keeps, Names, fires_bottom, length, svg_fires, ◌++◌, ◌≡◌}
 use Rattle.picture_svg.proofs.picture.push_fires.Given as goal
 
 -- those so far, and those that are left, are all

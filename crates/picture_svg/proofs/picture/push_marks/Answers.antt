@@ -1,7 +1,5 @@
-use Rattle.std.proofs.Common.{◌∙◌, ap, arith, sym, ℕ, ◌++◌}
-use Rattle.std.proofs.lemmas.List.{nil_from_length}
-use Rattle.picture_layout.specs.Lengths.{capped_sum}
-use Rattle.picture_svg.specs.SvgPictures.{fact_text, mark_look, marks_bottom, svg_marks}
+use Rattle.picture_svg.proofs.Common.{ap, arith, capped_sum, fact_text, marks_bottom, nil_from_length, svg_marks, sym, ℕ, ◌++◌, ◌∙◌}
+use Rattle.picture_svg.specs.SvgPictures.{mark_look}
 use Rattle.picture_svg.proofs.Rows.{more, none}
 use Rattle.picture_svg.proofs.picture.push_marks.Goals as goal
 

@@ -1,5 +1,4 @@
-use Rattle.std.proofs.Common.{◌≡◌, ◌++◌, length}
-use Rattle.picture_svg.specs.SvgPictures.{marks_bottom, svg_marks}
+use Rattle.picture_svg.proofs.Common.{length, marks_bottom, svg_marks, ◌++◌, ◌≡◌}
 use Rattle.picture_svg.proofs.picture.push_marks.Given as goal
 
 -- those so far, and those that are left, are all

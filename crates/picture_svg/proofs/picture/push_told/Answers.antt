@@ -1,7 +1,6 @@
-use Rattle.std.proofs.Common.{◌∙◌, ap, ◌+◌, ℕ}
-use Rattle.picture_layout.specs.Lengths.{capped_sum}
-use Rattle.picture_svg.specs.declared.elements.TheConstants.{MARGIN}
-use Rattle.picture_svg.specs.SvgPictures.{fires_bottom, marks_bottom, trees_row}
+use Rattle.picture_svg.proofs.Common.{MARGIN, ap, capped_sum, fires_bottom, marks_bottom, ℕ, ◌∙◌}
+use Rattle.std.proofs.Common.{◌+◌}
+use Rattle.picture_svg.specs.SvgPictures.{trees_row}
 use Rattle.picture_svg.proofs.picture.push_told.Goals as goal
 
 -- the trees begin below the marks and the firings

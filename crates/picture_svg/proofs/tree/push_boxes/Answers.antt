@@ -1,6 +1,4 @@
-use Rattle.std.proofs.Common.{arith, sym}
-use Rattle.picture_svg.specs.Trees.{svg_box}
-use Rattle.picture_model.proofs.Loops.{one-more}
+use Rattle.picture_svg.proofs.Common.{arith, one-more, svg_box, sym}
 use Rattle.picture_svg.proofs.tree.push_boxes.Goals as goal
 
 -- one more comes last

@@ -1,9 +1,4 @@
-use Rattle.std.proofs.Common.{◌≡◌, ◌++◌, take}
-use Rattle.std.specs.List.{flat_map}
-use Rattle.script_labels.specs.Names.{Names}
-use Rattle.script_labels.specs.Tables.{Keeps}
-use Rattle.event_texts.specs.Called.{Calls}
-use Rattle.picture_svg.specs.Trees.{svg_box}
+use Rattle.picture_svg.proofs.Common.{Calls, Keeps, Names, flat_map, svg_box, take, ◌++◌, ◌≡◌}
 use Rattle.picture_svg.proofs.tree.push_boxes.Given as goal
 
 -- those so far

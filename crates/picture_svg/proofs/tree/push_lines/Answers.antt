@@ -1,8 +1,5 @@
-use Rattle.std.proofs.Common.{◌∙◌, ap, arith, List, ℕ, ◌++◌, false, map}
-use Rattle.std.proofs.lemmas.List.{nil_from_length}
-use Rattle.picture_layout.specs.Lengths.{capped_sum}
-use Rattle.picture_svg.specs.Elements.{look, words_text}
-use Rattle.picture_svg.specs.Trees.{line_items, svg_lines}
+use Rattle.picture_svg.proofs.Common.{List, ap, arith, capped_sum, false, line_items, look, map, nil_from_length, svg_lines, ℕ, ◌++◌, ◌∙◌}
+use Rattle.picture_svg.specs.Elements.{words_text}
 use Rattle.picture_svg.proofs.Rows.{more, none}
 use Rattle.picture_svg.proofs.tree.push_lines.Goals as goal
 

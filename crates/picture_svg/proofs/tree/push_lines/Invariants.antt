@@ -1,5 +1,4 @@
-use Rattle.std.proofs.Common.{◌≡◌, ◌++◌, length, map}
-use Rattle.picture_svg.specs.Trees.{line_items, svg_lines}
+use Rattle.picture_svg.proofs.Common.{length, line_items, map, svg_lines, ◌++◌, ◌≡◌}
 use Rattle.picture_svg.proofs.tree.push_lines.Given as goal
 
 -- those so far, and those that are left, are all

@@ -1,11 +1,8 @@
-use Rattle.std.proofs.Common.{◌∙◌, ap, ◌+◌, ◌++◌, ℕ, max}
-use Rattle.std.specs.List.{flat_map}
-use Rattle.picture_model.proofs.Texts.{after, last}
+use Rattle.picture_svg.proofs.Common.{after, ap, box_link, capped_sum, flat_map, last, max, svg_box, ℕ, ◌++◌, ◌∙◌}
+use Rattle.std.proofs.Common.{◌+◌}
 use Rattle.picture_layout.specs.declared.layout.TheConstants.{BOX_HEIGHT}
-use Rattle.picture_layout.specs.Lengths.{capped_sum}
 use Rattle.picture_layout.specs.Layouts.{lowest_of, rightmost_of}
-use Rattle.picture_svg.specs.Links.{box_link}
-use Rattle.picture_svg.specs.Trees.{svg_box, tree_boxes}
+use Rattle.picture_svg.specs.Trees.{tree_boxes}
 use Rattle.picture_svg.proofs.tree.push_nodes.Goals as goal
 
 -- the links, and the boxes

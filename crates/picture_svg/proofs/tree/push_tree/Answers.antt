@@ -1,8 +1,7 @@
-use Rattle.std.proofs.Common.{◌∙◌, ap, ◌++◌, ℕ, map}
-use Rattle.picture_model.proofs.Texts.{after, last}
-use Rattle.picture_layout.specs.Lengths.{capped_sum}
-use Rattle.picture_svg.specs.Bars.{bars_bottom, bars_right, bars_text, shown_in, shown_of}
-use Rattle.picture_svg.specs.Trees.{bars_row, svg_nodes, svg_tree, tree_bottom, tree_right}
+use Rattle.picture_svg.proofs.Common.{after, ap, bars_bottom, bars_text, capped_sum, last, map, shown_in, svg_tree, tree_bottom, ℕ, ◌++◌}
+use Rattle.picture_svg.proofs.Common.{◌∙◌}
+use Rattle.picture_svg.specs.Bars.{bars_right, shown_of}
+use Rattle.picture_svg.specs.Trees.{bars_row, svg_nodes, tree_right}
 use Rattle.picture_svg.proofs.tree.push_tree.Goals as goal
 
 -- the links and the boxes, and the buffers in the row below the lowest box

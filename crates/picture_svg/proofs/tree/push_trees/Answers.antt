@@ -1,6 +1,4 @@
-use Rattle.std.proofs.Common.{◌∙◌, ap, sym, ℕ, ◌++◌}
-use Rattle.std.proofs.lemmas.List.{nil_from_length}
-use Rattle.picture_svg.specs.Trees.{tree_bottom, svg_tree, trees_bottom, trees_right, svg_trees}
+use Rattle.picture_svg.proofs.Common.{ap, nil_from_length, svg_tree, svg_trees, sym, tree_bottom, trees_bottom, trees_right, ℕ, ◌++◌, ◌∙◌}
 use Rattle.picture_svg.proofs.Rows.{more, none}
 use Rattle.picture_svg.proofs.tree.push_trees.Goals as goal
 

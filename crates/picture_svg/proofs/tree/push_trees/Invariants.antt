@@ -1,10 +1,5 @@
-use Rattle.std.proofs.Common.{◌≡◌, ◌++◌, length, List}
-use Rattle.script_labels.specs.Names.{Names}
-use Rattle.script_labels.specs.Tables.{Keeps}
-use Rattle.event_texts.specs.Called.{Calls}
-use Rattle.picture_model.specs.declared.failure_view.Travel.{Travel}
-use Rattle.picture_model.specs.Travels.{FindsTravels}
-use Rattle.picture_svg.specs.Trees.{trees_bottom, trees_right, svg_trees}
+use Rattle.picture_svg.proofs.Common.{Calls, FindsTravels, Keeps, List, Names, Travel, length, svg_trees, trees_bottom, trees_right, ◌++◌}
+use Rattle.picture_svg.proofs.Common.{◌≡◌}
 use Rattle.picture_svg.proofs.tree.push_trees.Given as goal
 
 -- those so far, and those that are left, are all

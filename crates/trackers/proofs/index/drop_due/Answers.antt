@@ -1,7 +1,4 @@
-use Rattle.std.proofs.Common.{not, rules}
-use Rattle.std.proofs.lemmas.Fn.{filter_same}
-use Rattle.trackers.specs.declared.index.Waiter.{Waiter}
-use Rattle.trackers.specs.WaitIndex.{is_waiter_due}
+use Rattle.trackers.proofs.Common.{Waiter, filter_same, is_waiter_due, not, rules}
 use Rattle.trackers.proofs.index.drop_due.Goals as goal
 
 -- the closure computes the test

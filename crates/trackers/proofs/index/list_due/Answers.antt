@@ -1,11 +1,7 @@
-use Rattle.std.proofs.Common.{◌+◌, List, drop, take, length, length-append, ap, arith}
-use Rattle.std.specs.List.{filter}
+use Rattle.trackers.proofs.Common.{List, Waiter, World, ap, arith, drop, filter, filter-append, is_waiter_due, length, length-append}
+use Rattle.trackers.proofs.Common.{take, ◌+◌}
 use Rattle.std.proofs.lemmas.List.{take-append-drop}
-use Rattle.std.proofs.lemmas.List.Elements.{filter-append}
 use Rattle.std.proofs.lemmas.List.Filters.{length-filter_more}
-use Rattle.sm_names.specs.Trackers.{World}
-use Rattle.trackers.specs.declared.index.Waiter.{Waiter}
-use Rattle.trackers.specs.WaitIndex.{is_waiter_due}
 use Rattle.trackers.proofs.Walks.{no_waiter}
 use Rattle.trackers.proofs.index.list_due.Goals as goal
 

@@ -1,6 +1,4 @@
-use Rattle.std.proofs.Common.{◌≡◌, ◌++◌, take, vec_capacity}
-use Rattle.std.specs.List.{filter}
-use Rattle.trackers.specs.WaitIndex.{is_waiter_due}
+use Rattle.trackers.proofs.Common.{filter, is_waiter_due, take, vec_capacity, ◌++◌, ◌≡◌}
 use Rattle.trackers.proofs.index.list_due.Given as goal
 
 -- those so far that are due are listed

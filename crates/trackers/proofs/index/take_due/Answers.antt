@@ -1,10 +1,5 @@
-use Rattle.std.proofs.Common.{◌≡◌, ◌++◌, List, length, length-append, ap, arith}
-use Rattle.std.specs.List.{filter}
-use Rattle.std.proofs.lemmas.Bool.Decides.{nat_tests}
+use Rattle.trackers.proofs.Common.{List, Waiter, World, ap, arith, filter, is_waiter_due, length, length-append, nat_tests, ◌++◌, ◌≡◌}
 use Rattle.std.proofs.lemmas.List.{nil_from_length}
-use Rattle.sm_names.specs.Trackers.{World}
-use Rattle.trackers.specs.declared.index.Waiter.{Waiter}
-use Rattle.trackers.specs.WaitIndex.{is_waiter_due}
 use Rattle.trackers.proofs.IndexLemmas.{none_passes}
 use Rattle.trackers.proofs.index.take_due.Goals as goal
 

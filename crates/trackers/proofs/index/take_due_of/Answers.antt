@@ -1,10 +1,5 @@
-use Rattle.std.proofs.Common.{◌≡◌, true, false, not, ◌==◌, if◌then◌else◌, List, refl, sym, ap, ◌∙◌, arith}
-use Rattle.std.specs.List.{filter}
-use Rattle.std.proofs.lemmas.Bool.{eqb-true}
-use Rattle.std.proofs.lemmas.Grind.{common_steps}
-use Rattle.sm_names.specs.Trackers.{World}
-use Rattle.trackers.specs.declared.index.Waiter.{Waiter}
-use Rattle.trackers.specs.WaitIndex.{is_waiter_due, waiters_of}
+use Rattle.trackers.proofs.Common.{List, Waiter, World, ap, arith, common_steps, eqb-true, false, filter, if◌then◌else◌, is_waiter_due}
+use Rattle.trackers.proofs.Common.{not, refl, sym, true, waiters_of, ◌==◌, ◌∙◌, ◌≡◌}
 use Rattle.trackers.proofs.index.take_due_of.Goals as goal
 
 -- the list of the collection is the one without those that are due

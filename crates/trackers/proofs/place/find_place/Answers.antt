@@ -1,9 +1,6 @@
 -- The search is partitioned, since the ids rise.
-use Rattle.std.proofs.Common.{rules, nat_lt, sym, ap, ◌∙◌, arith}
-use Rattle.std.proofs.lemmas.List.{get_or_default}
+use Rattle.trackers.proofs.Common.{Place, ap, arith, get_or_default, nat_lt, row_at, rules, sym, ◌∙◌}
 use Rattle.std.proofs.lemmas.List.Sorted.{IsPartitionedBy-ltb, IsPartitionPoint-from_clause}
-use Rattle.trackers.specs.declared.place.Place.{Place}
-use Rattle.trackers.specs.Places.{row_at}
 use Rattle.trackers.proofs.PlaceLemmas.{ids_rise, found_id, none_found}
 use Rattle.trackers.proofs.place.find_place.Goals.{else-at-places-via-then-at-places+else-id_at-id, else-at-places-via-else-at-places}
 use Rattle.trackers.proofs.place.find_place.Goals as goal

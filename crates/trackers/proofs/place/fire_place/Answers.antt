@@ -1,10 +1,8 @@
 -- The place is told what the setting of the cell was answered.
-use Rattle.std.proofs.Common.{◌≡◌, Option, Some, Result, Ok, Err, Bool, true, false, is_ok, MatchResult, sym, ap, ◌∙◌}
+use Rattle.trackers.proofs.Common.{Bool, Fired, OnTrue, Option, Some, WaitingRow, ap, false, sym, true, ◌∙◌, ◌≡◌}
+use Rattle.std.proofs.Common.{Result, Ok, Err, is_ok, MatchResult}
 use Rattle.std.specs.Prelude.{unwrap_or}
-use Rattle.std.specs.Bool.{OnTrue}
-use Rattle.sm_names.specs.declared.tracking.Fired.{Fired}
 use Rattle.slab.specs.Slab.{get}
-use Rattle.trackers.specs.Row.{WaitingRow}
 use Rattle.trackers.specs.Places.{no_row}
 use Rattle.trackers.proofs.place.fire_place.Goals.{in-Some+in-Err-1, in-Some+in-Ok-1, in-None}
 use Rattle.trackers.proofs.place.fire_place.Goals as goal

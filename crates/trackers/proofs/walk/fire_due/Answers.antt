@@ -1,8 +1,5 @@
-use Rattle.std.proofs.Common.{List, length, get_or, ap, subst, ◌∙◌, arith}
-use Rattle.std.proofs.lemmas.List.{drop_all, drop_more, length_push}
-use Rattle.sm_names.specs.Trackers.{World}
-use Rattle.trackers.specs.declared.index.Waiter.{Waiter}
-use Rattle.trackers.specs.WaitIndex.{ids_of}
+use Rattle.trackers.proofs.Common.{List, Waiter, World, ap, arith, drop_more, get_or, ids_of, length, length_push, subst, ◌∙◌}
+use Rattle.std.proofs.lemmas.List.{drop_all}
 use Rattle.trackers.proofs.Walks.{Walked, met_row, no_waiter, stand_here, stands_found, stands_step, walked_rows, walked_fired}
 use Rattle.trackers.proofs.walk.fire_due.Goals as goal
 

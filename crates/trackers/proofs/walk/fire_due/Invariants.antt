@@ -1,5 +1,4 @@
-use Rattle.std.proofs.Common.{◌≡◌, ◌+◌, ◌≤◌, drop, length}
-use Rattle.trackers.specs.WaitIndex.{ids_of}
+use Rattle.trackers.proofs.Common.{drop, ids_of, length, ◌+◌, ◌≡◌, ◌≤◌}
 use Rattle.trackers.proofs.Walks.{Walked}
 use Rattle.trackers.proofs.walk.fire_due.Given as goal
 

@@ -1,11 +1,9 @@
 -- Those from the place on move.
-use Rattle.std.proofs.Common.{◌≡◌, ◌∙◌, ◌++◌, ◌≤◌, drop, ap, arith, length-drop, []}
+use Rattle.buffer_pool.proofs.Common.{All-drop, Interval, [], ap, arith, drop, length-drop, ◌++◌, ◌∙◌, ◌≡◌, ◌≤◌}
 use Rattle.std.specs.Prelude.{All}
 use Rattle.std.proofs.lemmas.List.{take_rest}
-use Rattle.std.proofs.lemmas.List.Elements.{All-drop}
-use Rattle.sm_names.specs.declared.keys.Interval.{Interval}
-use Rattle.buffer_pool.proofs.block.Block.cut_into.Goals as goal
 use Rattle.buffer_pool.proofs.block.Block.cut_into.Goals.{After-truncate}
+use Rattle.buffer_pool.proofs.block.Block.cut_into.Goals as goal
 
 moved : (c : After-truncate) → c.extend_from_slice.new.self.items ≡ drop c.args.at c.self.inside.cells.items
 moved c =

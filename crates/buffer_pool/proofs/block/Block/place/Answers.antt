@@ -1,7 +1,5 @@
 -- The edges rise, so what is before a smaller one is smaller.
-use Rattle.std.proofs.lemmas.Grind.{common_steps}
-use Rattle.std.proofs.Common.{arith}
-use Rattle.buffer_pool.specs.Holes.{end_of}
+use Rattle.buffer_pool.proofs.Common.{arith, common_steps, end_of}
 use Rattle.buffer_pool.proofs.Searches.{search_upper, search_ends}
 use Rattle.buffer_pool.proofs.block.Block.place.Goals as goal
 

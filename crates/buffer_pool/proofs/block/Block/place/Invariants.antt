@@ -1,6 +1,5 @@
 -- The place lies between the two ends of the search.
-use Rattle.std.proofs.Common.{◌-◌}
-use Rattle.buffer_pool.specs.Holes.{end_of}
+use Rattle.buffer_pool.proofs.Common.{end_of, ◌-◌}
 use Rattle.buffer_pool.proofs.Searches.{IsSearch}
 use Rattle.buffer_pool.proofs.block.Block.place.Given as goal
 

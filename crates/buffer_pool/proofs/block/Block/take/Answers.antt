@@ -1,15 +1,14 @@
 -- Each hole gives as many buffers as have room, and what stays of it moves to the front.
-use Rattle.std.proofs.Common.{ℕ, ◌≡◌, ◌+◌, ◌*◌, ◌<◌, ◌≤◌, ◌∙◌, ◌++◌, refl, ap, sym, arith, rules, length, take, drop, append_assoc}
-use Rattle.std.proofs.Math.Nat.{mul-le-mul_left, add-mul}
-use Rattle.std.proofs.lemmas.List.{append-nil, drop_all, length-take-le, length-append}
-use Rattle.sm_names.specs.declared.rules.TheConstants.{MAX_PAGES}
-use Rattle.buffer_pool.specs.Rows.{IsSane}
-use Rattle.buffer_pool.specs.Fitting.{starts_in, looks_in, run_starts}
+use Rattle.buffer_pool.proofs.Common.{IsSane, MAX_PAGES, add-mul, ap, append-nil, append_assoc, arith, drop, drop_all, length}
+use Rattle.buffer_pool.proofs.Common.{length-take-le, looks_in, mul-le-mul_left, refl, rules, run_starts, starts_in, sym, take, ℕ, ◌*◌}
+use Rattle.buffer_pool.proofs.Common.{◌++◌, ◌+◌, ◌<◌, ◌∙◌, ◌≡◌, ◌≤◌}
+use Rattle.std.proofs.lemmas.List.{length-append}
 use Rattle.buffer_pool.proofs.HeldRuns.{length-run}
-use Rattle.buffer_pool.proofs.Taking.{IsNext, rooms-few, walked_start, walked_kept, walked_gone, next_here, hole-sane, taken_all, looks-more}
+use Rattle.buffer_pool.proofs.Taking.{IsNext, rooms-few, walked_start, walked_kept, walked_gone, next_here, hole-sane, taken_all}
+use Rattle.buffer_pool.proofs.Taking.{looks-more}
+use Rattle.buffer_pool.proofs.block.Block.take.Goals.{After-min-more, then-pages-hole, else-pages-hole, then-loop-count-test+else-at-len}
+use Rattle.buffer_pool.proofs.block.Block.take.Goals.{else-loop-count-test}
 use Rattle.buffer_pool.proofs.block.Block.take.Goals as goal
-use Rattle.buffer_pool.proofs.block.Block.take.Goals.{After-min-more, then-pages-hole, else-pages-hole}
-use Rattle.buffer_pool.proofs.block.Block.take.Goals.{then-loop-count-test+else-at-len, else-loop-count-test}
 
 pub returns-then-self-pages_each-clause-count : goal.returns-then-self-pages_each-clause-count
 returns-then-self-pages_each-clause-count c =

@@ -1,8 +1,5 @@
 -- Those that stay lie before those that are left.
-use Rattle.std.proofs.Common.{◌≡◌, ◌≤◌, ◌+◌, ◌-◌, ◌*◌, ◌++◌, length, vec_capacity}
-use Rattle.sm_names.specs.declared.rules.TheConstants.{MAX_PAGES}
-use Rattle.buffer_pool.specs.declared.block.TheConstants.{FULL}
-use Rattle.buffer_pool.specs.Fitting.{starts_in, looks_in}
+use Rattle.buffer_pool.proofs.Common.{FULL, MAX_PAGES, length, looks_in, starts_in, vec_capacity, ◌*◌, ◌++◌, ◌+◌, ◌-◌, ◌≡◌, ◌≤◌}
 use Rattle.buffer_pool.proofs.Taking.{IsWalked}
 use Rattle.buffer_pool.proofs.block.Block.take.Given as goal
 

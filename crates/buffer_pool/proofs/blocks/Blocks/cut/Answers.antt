@@ -1,8 +1,7 @@
 -- A spare block is used, and both have intervals.
-use Rattle.std.proofs.lemmas.Grind.{common_steps}
-use Rattle.std.proofs.Common.{◌<◌, ◌≡◌, ◌-◌, ◌+◌, arith, length, get_or, set, [], length-drop}
-use Rattle.std.proofs.lemmas.List.{get_or_read, length-take-le, length-set}
-use Rattle.buffer_pool.specs.declared.block.TheConstants.{HALF}
+use Rattle.buffer_pool.proofs.Common.{HALF, [], arith, common_steps, get_or, get_or_read, length, length-drop, length-take-le, set, ◌+◌}
+use Rattle.buffer_pool.proofs.Common.{◌-◌, ◌<◌, ◌≡◌}
+use Rattle.std.proofs.lemmas.List.{length-set}
 use Rattle.buffer_pool.proofs.Blocking.{blocks-begun, blocks-set}
 use Rattle.buffer_pool.proofs.blocks.Blocks.cut.Goals as goal
 

@@ -1,16 +1,9 @@
 -- The place in the block is the place of all.
-use Rattle.std.proofs.lemmas.Grind.{common_steps}
-use Rattle.std.proofs.Common.{◌≡◌, ◌<◌, ◌≤◌, ◌∙◌, ap, arith, sym, subst, length, get_or, take, [], nat_lt, ◌+◌}
-use Rattle.std.specs.List.{prefix_len}
-use Rattle.std.specs.List.Sorted.{IsNonDecreasingBy}
-use Rattle.std.proofs.lemmas.List.{get_or_read}
-use Rattle.std.proofs.lemmas.List.Sums.{prefix_len-le-length}
-use Rattle.sm_names.specs.declared.keys.Interval.{Interval}
-use Rattle.buffer_pool.specs.Rows.{all_in}
-use Rattle.buffer_pool.specs.Holes.{end_of}
+use Rattle.buffer_pool.proofs.Common.{Interval, IsNonDecreasingBy, [], all_in, ap, arith, common_steps, end_of, get_or, get_or_read}
+use Rattle.buffer_pool.proofs.Common.{length, nat_lt, prefix_len, prefix_len-le-length, subst, sym, take, ◌+◌, ◌<◌, ◌∙◌, ◌≡◌, ◌≤◌}
 use Rattle.buffer_pool.proofs.Finding.{rises-in, found-in}
-use Rattle.buffer_pool.proofs.blocks.Blocks.find.Goals as goal
 use Rattle.buffer_pool.proofs.blocks.Blocks.find.Goals.{After-index}
+use Rattle.buffer_pool.proofs.blocks.Blocks.find.Goals as goal
 
 there : (c : After-index) → c.block_of-block.result < length c.self.inside.used.items
 there c = omega (arith, c.if-block-len.true, c.len.ensures, c.self.inside.used.ok.0)

@@ -1,13 +1,10 @@
 -- A block that is passed has no room.
-use Rattle.std.proofs.Common.{◌≡◌, ◌+◌, ◌<◌, ◌≤◌, ◌∙◌, ap, sym, arith, rules, length, get_or, []}
-use Rattle.std.proofs.lemmas.List.{get_or_read}
-use Rattle.sm_names.specs.declared.rules.TheConstants.{MAX_PAGES}
-use Rattle.buffer_pool.specs.Fitting.{rooms}
-use Rattle.buffer_pool.specs.Rows.{all_in}
+use Rattle.buffer_pool.proofs.Common.{MAX_PAGES, [], all_in, ap, arith, get_or, get_or_read, length, rooms, rules, sym, ◌+◌, ◌<◌, ◌∙◌}
+use Rattle.buffer_pool.proofs.Common.{◌≡◌, ◌≤◌}
 use Rattle.buffer_pool.proofs.Joins.{within-all}
 use Rattle.buffer_pool.proofs.Passing.{passed-next}
-use Rattle.buffer_pool.proofs.blocks.Blocks.first.Goals as goal
 use Rattle.buffer_pool.proofs.blocks.Blocks.first.Goals.{After-len-before}
+use Rattle.buffer_pool.proofs.blocks.Blocks.first.Goals as goal
 
 there : (c : After-len-before) → c.loop-block.block < length c.self.inside.used.items
 there c = omega (arith, c.loop-block-test.true, c.len.ensures, c.self.inside.used.ok.0)

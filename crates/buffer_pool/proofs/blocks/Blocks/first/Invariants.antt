@@ -1,6 +1,5 @@
 -- None is passed that has this many pages.
-use Rattle.std.proofs.Common.{◌-◌, length}
-use Rattle.buffer_pool.specs.Rows.{IsPassed}
+use Rattle.buffer_pool.proofs.Common.{IsPassed, length, ◌-◌}
 use Rattle.buffer_pool.proofs.blocks.Blocks.first.Given as goal
 
 abbrev pub invariant-loop-block : goal.invariant-loop-block

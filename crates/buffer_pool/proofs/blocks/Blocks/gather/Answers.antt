@@ -1,13 +1,10 @@
 -- The intervals are the same.
-use Rattle.std.proofs.Common.{◌≡◌, ◌<◌, ◌+◌, ◌-◌, ◌*◌, ◌∙◌, ◌++◌, ap, arith, length, get_or, []}
-use Rattle.std.specs.List.{remove}
+use Rattle.buffer_pool.proofs.Common.{HALF, [], all_in, ap, arith, get_or, length, length-remove, remove, ◌*◌, ◌++◌, ◌+◌, ◌-◌, ◌<◌, ◌∙◌}
+use Rattle.buffer_pool.proofs.Common.{◌≡◌}
 use Rattle.std.proofs.lemmas.List.{length-set}
-use Rattle.std.proofs.lemmas.List.Edits.{length-remove}
-use Rattle.buffer_pool.specs.declared.block.TheConstants.{HALF}
-use Rattle.buffer_pool.specs.Rows.{all_in}
 use Rattle.buffer_pool.proofs.Joins.{merge_in}
-use Rattle.buffer_pool.proofs.blocks.Blocks.gather.Goals as goal
 use Rattle.buffer_pool.proofs.blocks.Blocks.gather.Goals.{After-merge}
+use Rattle.buffer_pool.proofs.blocks.Blocks.gather.Goals as goal
 
 there : (c : After-merge) → c.short_pair-at.result + 1 < length c.args.self.now.lists
 there c = rw (← c.self.view_is) (omega (arith, c.if-at-len.true, c.len.ensures, c.self.inside.used.ok.0))

@@ -1,8 +1,6 @@
 -- The interval lies in its block.
-use Rattle.std.proofs.lemmas.Grind.{common_steps}
-use Rattle.std.proofs.Common.{◌≡◌, ◌∙◌, ap, get_or, [], List, arith}
-use Rattle.std.proofs.lemmas.List.{get_or_read}
-use Rattle.sm_names.specs.declared.keys.Interval.{Interval}
+use Rattle.buffer_pool.proofs.Common.{Interval, [], ap, arith, common_steps, get_or, get_or_read, ◌∙◌, ◌≡◌}
+use Rattle.std.proofs.Common.{List}
 use Rattle.buffer_pool.proofs.Joins.{get_in}
 use Rattle.buffer_pool.proofs.blocks.Blocks.get.Goals as goal
 

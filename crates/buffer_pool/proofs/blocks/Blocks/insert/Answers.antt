@@ -1,15 +1,12 @@
 -- The interval comes into its block, into a half of it, or into one of its own.
-use Rattle.std.proofs.lemmas.Grind.{common_steps}
-use Rattle.std.proofs.Common.{◌≡◌, ◌<◌, ◌≤◌, ◌+◌, ◌-◌, ◌*◌, ◌∙◌, ap, arith, length, get_or, take, [], ◌∷◌, List, length-drop}
-use Rattle.std.specs.List.{insert}
-use Rattle.std.proofs.lemmas.List.{get_or_read, length-set, take-set, take-set-le, length-take-le}
-use Rattle.std.proofs.lemmas.List.Edits.{length-insert}
-use Rattle.buffer_pool.specs.declared.block.TheConstants.{HALF, FULL}
-use Rattle.sm_names.specs.declared.keys.Interval.{Interval}
-use Rattle.buffer_pool.specs.Rows.{all_in}
+use Rattle.buffer_pool.proofs.Common.{FULL, HALF, Interval, [], all_in, ap, arith, common_steps, get_or, get_or_read, insert, length}
+use Rattle.buffer_pool.proofs.Common.{length-drop, length-insert, length-take-le, take, take-set, take-set-le, ◌*◌, ◌+◌, ◌-◌, ◌<◌, ◌∙◌}
+use Rattle.buffer_pool.proofs.Common.{◌∷◌, ◌≡◌, ◌≤◌}
+use Rattle.std.proofs.Common.{List}
+use Rattle.std.proofs.lemmas.List.{length-set}
 use Rattle.buffer_pool.proofs.Joins.{insert_in, begin_in, before-next, take-insert, IsCut, is_cut}
-use Rattle.buffer_pool.proofs.blocks.Blocks.insert.Goals as goal
 use Rattle.buffer_pool.proofs.blocks.Blocks.insert.Goals.{After-len-else-spot-len, After-cut}
+use Rattle.buffer_pool.proofs.blocks.Blocks.insert.Goals as goal
 
 there : (c : After-len-else-spot-len) → c.args.spot.block < length c.args.self.now.lists
 there c =

@@ -1,10 +1,9 @@
 -- The room of each block is subtracted from the count, and the blocks stay as they are.
-use Rattle.std.proofs.Common.{◌≡◌, ◌+◌, ◌-◌, ◌<◌, ◌∙◌, refl, ap, sym, arith, length, get_or, set, []}
-use Rattle.std.proofs.lemmas.List.{get_or_read, set-get_or}
-use Rattle.buffer_pool.specs.Fitting.{rooms}
+use Rattle.buffer_pool.proofs.Common.{[], ap, arith, get_or, get_or_read, length, refl, rooms, set, sym, ◌+◌, ◌-◌, ◌<◌, ◌∙◌, ◌≡◌}
+use Rattle.std.proofs.lemmas.List.{set-get_or}
 use Rattle.buffer_pool.proofs.Passing.{rooms-drop, rooms-rest}
-use Rattle.buffer_pool.proofs.blocks.Blocks.left_over.Goals as goal
 use Rattle.buffer_pool.proofs.blocks.Blocks.left_over.Goals.{After-index_mut}
+use Rattle.buffer_pool.proofs.blocks.Blocks.left_over.Goals as goal
 
 pub loop-left-init : goal.loop-left-init
 loop-left-init c =

@@ -1,12 +1,11 @@
 -- One block has the intervals of both, and the other is spare.
-use Rattle.std.proofs.lemmas.Grind.{common_steps}
-use Rattle.std.proofs.Common.{◌<◌, ◌≡◌, ◌+◌, ◌++◌, ◌∙◌, ap, arith, length, get_or, set, [], length-append}
-use Rattle.std.specs.List.{remove}
-use Rattle.std.proofs.lemmas.List.{get_or_read}
-use Rattle.std.proofs.lemmas.List.Edits.{length-remove, get_or-remove_below}
+use Rattle.buffer_pool.proofs.Common.{[], ap, arith, common_steps, get_or, get_or_read, length, length-remove, remove, set, ◌++◌, ◌+◌}
+use Rattle.buffer_pool.proofs.Common.{◌<◌, ◌∙◌, ◌≡◌}
+use Rattle.std.proofs.Common.{length-append}
+use Rattle.std.proofs.lemmas.List.Edits.{get_or-remove_below}
 use Rattle.buffer_pool.proofs.Blocking.{blocks-gone, blocks-set}
-use Rattle.buffer_pool.proofs.blocks.Blocks.merge.Goals as goal
 use Rattle.buffer_pool.proofs.blocks.Blocks.merge.Goals.{After-push_reserved}
+use Rattle.buffer_pool.proofs.blocks.Blocks.merge.Goals as goal
 
 -- the two blocks
 first : (c : After-push_reserved) → c.index_mut.result.now ≡ get_or c.self.inside.used.items c.args.at []

@@ -1,15 +1,11 @@
 -- The interval lies in one block, which is spare without it if it has no other.
-use Rattle.std.proofs.Common.{◌≡◌, ◌+◌, ◌-◌, ◌*◌, ◌<◌, ◌∙◌, ap, arith, length, get_or, set, take, []}
-use Rattle.std.specs.List.{remove}
-use Rattle.std.proofs.lemmas.List.{get_or_read}
-use Rattle.sm_names.specs.declared.keys.Interval.{Interval}
+use Rattle.buffer_pool.proofs.Common.{HALF, Interval, [], all_in, ap, arith, get_or, get_or_read, length, remove, set, take, ◌*◌, ◌+◌}
+use Rattle.buffer_pool.proofs.Common.{◌-◌, ◌<◌, ◌∙◌, ◌≡◌}
 use Rattle.std.specs.Prelude.{List}
-use Rattle.buffer_pool.specs.declared.block.TheConstants.{HALF}
-use Rattle.buffer_pool.specs.Rows.{all_in}
 use Rattle.buffer_pool.proofs.Blocking.{IsCleared, cleared}
 use Rattle.buffer_pool.proofs.Joins.{remove_in}
-use Rattle.buffer_pool.proofs.blocks.Blocks.remove.Goals as goal
 use Rattle.buffer_pool.proofs.blocks.Blocks.remove.Goals.{After-clear}
+use Rattle.buffer_pool.proofs.blocks.Blocks.remove.Goals as goal
 
 clears : (c : After-clear) → IsCleared c.self.inside.used.items c.self.inside.spare.items c.args.spot.block c.remove.new.self
     c.clear.new.used.items c.clear.new.spare.items c.clear.new.used.cap c.clear.new.spare.cap

@@ -1,10 +1,8 @@
 -- The interval lies in its block.
-use Rattle.std.proofs.lemmas.Grind.{common_steps}
-use Rattle.std.proofs.Common.{◌≡◌, ◌+◌, ◌-◌, ◌*◌, ◌∙◌, ap, length, get_or, set, [], List, arith}
-use Rattle.std.proofs.lemmas.List.{get_or_read, length-set, take-set}
-use Rattle.buffer_pool.specs.declared.block.TheConstants.{HALF}
-use Rattle.sm_names.specs.declared.keys.Interval.{Interval}
-use Rattle.buffer_pool.specs.Rows.{all_in}
+use Rattle.buffer_pool.proofs.Common.{HALF, Interval, [], all_in, ap, arith, common_steps, get_or, get_or_read, length, set, take-set}
+use Rattle.buffer_pool.proofs.Common.{◌*◌, ◌+◌, ◌-◌, ◌∙◌, ◌≡◌}
+use Rattle.std.proofs.Common.{List}
+use Rattle.std.proofs.lemmas.List.{length-set}
 use Rattle.buffer_pool.proofs.Joins.{set_in}
 use Rattle.buffer_pool.proofs.blocks.Blocks.set.Goals as goal
 

@@ -1,19 +1,15 @@
 -- Each block gives as many buffers as have room in it.
-use Rattle.std.proofs.Common.{◌≡◌, ◌+◌, ◌-◌, ◌*◌, ◌<◌, ◌≤◌, ◌∙◌, ◌++◌, refl, ap, sym, subst, arith, rules, length, get_or, set, [], List, append_assoc}
+use Rattle.buffer_pool.proofs.Common.{Interval, IsSane, MAX_PAGES, [], add-mul, all_in, ap, append-nil, append_assoc, arith, get_or}
+use Rattle.buffer_pool.proofs.Common.{get_or-set_same, get_or_read, holes_after, length, length-remove, looks_in, nil_from_length, refl}
+use Rattle.buffer_pool.proofs.Common.{remove, rules, set, starts_in, subst, sym, ◌*◌, ◌++◌, ◌+◌, ◌-◌, ◌<◌, ◌∙◌, ◌≡◌, ◌≤◌}
+use Rattle.std.proofs.Common.{List}
 use Rattle.std.specs.Prelude.{All}
-use Rattle.std.specs.List.{remove}
-use Rattle.std.proofs.Math.Nat.{add-mul}
-use Rattle.std.proofs.lemmas.List.{append-nil, get_or_read, get_or-set_same, length-append, length-set, nil_from_length}
-use Rattle.std.proofs.lemmas.List.Edits.{length-remove}
-use Rattle.sm_names.specs.declared.rules.TheConstants.{MAX_PAGES}
-use Rattle.sm_names.specs.declared.keys.Interval.{Interval}
-use Rattle.buffer_pool.specs.Fitting.{starts_in, holes_after, looks_in}
-use Rattle.buffer_pool.specs.Rows.{all_in, IsSane}
+use Rattle.std.proofs.lemmas.List.{length-append, length-set}
 use Rattle.buffer_pool.proofs.Blocking.{IsCleared, cleared}
 use Rattle.buffer_pool.proofs.Filling.{IsFilling, IsFilled, filling-start, block-left, block-sane, block-few, block-looks, filled}
 use Rattle.buffer_pool.proofs.Taking.{length-starts, length-after}
-use Rattle.buffer_pool.proofs.blocks.Blocks.take.Goals as goal
 use Rattle.buffer_pool.proofs.blocks.Blocks.take.Goals.{After-index_mut, After-take-taken, After-clear-kept}
+use Rattle.buffer_pool.proofs.blocks.Blocks.take.Goals as goal
 
 pub loop-count-init : goal.loop-count-init
 loop-count-init c =

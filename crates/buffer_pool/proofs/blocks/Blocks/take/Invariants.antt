@@ -1,8 +1,6 @@
 -- The buffers so far are placed, and before the block none has room.
-use Rattle.std.proofs.Common.{◌≡◌, ◌≤◌, ◌+◌, ◌-◌, ◌*◌, ◌++◌, length, vec_capacity}
-use Rattle.sm_names.specs.declared.rules.TheConstants.{MAX_PAGES}
-use Rattle.buffer_pool.specs.Fitting.{starts_in, looks_in}
-use Rattle.buffer_pool.specs.Rows.{all_in, AreBlocks}
+use Rattle.buffer_pool.proofs.Common.{AreBlocks, MAX_PAGES, all_in, length, looks_in, starts_in, vec_capacity, ◌*◌, ◌++◌, ◌+◌, ◌-◌, ◌≡◌}
+use Rattle.buffer_pool.proofs.Common.{◌≤◌}
 use Rattle.buffer_pool.proofs.Filling.{IsFilling}
 use Rattle.buffer_pool.proofs.blocks.Blocks.take.Given as goal
 

@@ -1,8 +1,5 @@
 -- The ends rise, and the blocks before the place stay.
-use Rattle.std.proofs.Common.{subst, sym}
-use Rattle.std.specs.List.Sorted.{IsNonDecreasingBy}
-use Rattle.buffer_pool.specs.Holes.{end_of}
-use Rattle.buffer_pool.specs.Rows.{all_in}
+use Rattle.buffer_pool.proofs.Common.{IsNonDecreasingBy, all_in, end_of, subst, sym}
 use Rattle.buffer_pool.proofs.Spaces.{spaced-rises}
 use Rattle.buffer_pool.proofs.Passing.{passed-kept}
 use Rattle.buffer_pool.proofs.holes.Holes.release.Goals as goal

@@ -1,10 +1,9 @@
 -- The intervals that go back leave one hole, which is joined with those that it touches.
-use Rattle.std.proofs.Common.{◌∙◌, arith}
-use Rattle.buffer_pool.specs.Lengths.{held_from}
+use Rattle.buffer_pool.proofs.Common.{arith, held_from, ◌∙◌}
 use Rattle.buffer_pool.proofs.Backs.{KeepsBack, keeps_back}
 use Rattle.buffer_pool.proofs.Sounds.{sound_from}
-use Rattle.buffer_pool.proofs.pages.Pool.give_back_run.Goals as goal
 use Rattle.buffer_pool.proofs.pages.Pool.give_back_run.Goals.{After-let_go}
+use Rattle.buffer_pool.proofs.pages.Pool.give_back_run.Goals as goal
 
 pub let_go-requires : goal.let_go-requires
 let_go-requires c =

@@ -1,9 +1,6 @@
 -- No page is held, so that all of them are one hole.
-use Rattle.std.proofs.Common.{◌≡◌, ◌-◌, ◌∙◌, ap, arith, refl, sym, length, [], ◌∷◌}
-use Rattle.std.proofs.lemmas.Bool.{le-leb}
+use Rattle.buffer_pool.proofs.Common.{[], ap, arith, held_from, le-leb, length, refl, sym, total_pages, ◌-◌, ◌∙◌, ◌∷◌, ◌≡◌}
 use Rattle.std.proofs.lemmas.List.{length-replicate}
-use Rattle.buffer_pool.specs.Holdings.{total_pages}
-use Rattle.buffer_pool.specs.Lengths.{held_from}
 use Rattle.buffer_pool.proofs.Gaps.{gap_some}
 use Rattle.buffer_pool.proofs.Lengths.{held-zeros}
 use Rattle.buffer_pool.proofs.pages.Pool.new.Goals as goal

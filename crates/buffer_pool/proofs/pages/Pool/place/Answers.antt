@@ -1,16 +1,12 @@
 -- What all the buffers together make of the pool.
-use Rattle.std.proofs.Common.{◌<◌, ◌≤◌, ◌∙◌, refl, sym, ap, rules, arith, ◌+◌}
-use Rattle.std.proofs.lemmas.Bool.{leb-true, leb-false}
-use Rattle.sm_names.specs.declared.rules.TheConstants.{MAX_PAGES}
-use Rattle.buffer_pool.specs.Fitting.{rooms, starts_in}
-use Rattle.buffer_pool.specs.Holdings.{AreGaps, with_buffers}
-use Rattle.buffer_pool.specs.Lengths.{held_from}
+use Rattle.buffer_pool.proofs.Common.{AreGaps, MAX_PAGES, ap, arith, held_from, leb-false, leb-true, refl, rooms, rules, starts_in, sym}
+use Rattle.buffer_pool.proofs.Common.{with_buffers, ◌+◌, ◌<◌, ◌∙◌, ◌≤◌}
 use Rattle.buffer_pool.specs.Rows.{BlockRows}
 use Rattle.buffer_pool.proofs.Keeping.{KeepsRun, gaps_of, keeps_run, lists_of, first_fits, places_buffers, not_full, is_full}
 use Rattle.buffer_pool.proofs.Orders.{length-le}
 use Rattle.buffer_pool.proofs.Sounds.{sound_from}
-use Rattle.buffer_pool.proofs.pages.Pool.place.Goals as goal
 use Rattle.buffer_pool.proofs.pages.Pool.place.Goals.{Else-not-has_rooms}
+use Rattle.buffer_pool.proofs.pages.Pool.place.Goals as goal
 
 pub returns-then-not-has_rooms-clause-full : goal.returns-then-not-has_rooms-clause-full
 returns-then-not-has_rooms-clause-full c =

@@ -1,5 +1,4 @@
-use Rattle.std.proofs.Common.{rules, ◌≡◌, ◌∙◌, false, sym}
-use Rattle.std.specs.Prelude.{is_err}
+use Rattle.client_actors.proofs.Common.{false, is_err, rules, sym, ◌∙◌, ◌≡◌}
 use Rattle.client_actors.proofs.ScriptLaws.{has_made, on_ok}
 use Rattle.client_actors.proofs.actor.Actor.make_call.Goals as goal
 

@@ -1,5 +1,4 @@
-use Rattle.std.proofs.Common.{ℕ, List, [], ◌∷◌, ◌++◌, ◌∙◌, ap}
-use Rattle.core_likeness.specs.Naming.{same_number, under}
+use Rattle.core_likeness.proofs.Common.{List, [], ap, same_number, under, ℕ, ◌++◌, ◌∙◌, ◌∷◌}
 use Rattle.core_likeness.proofs.Swapping.{number-pushed}
 use Rattle.core_likeness.proofs.names.Names.pair_ids.Goals as goal
 

@@ -1,7 +1,4 @@
-use Rattle.std.proofs.Common.{List, [], ◌∷◌, ◌++◌, ◌∙◌, ap}
-use Rattle.sm_names.specs.declared.keys.NodeKey.{NodeKey}
-use Rattle.sm_names.specs.Sameness.{same_key}
-use Rattle.core_likeness.specs.Naming.{under}
+use Rattle.core_likeness.proofs.Common.{List, NodeKey, [], ap, same_key, under, ◌++◌, ◌∙◌, ◌∷◌}
 use Rattle.core_likeness.proofs.Swapping.{key-pushed}
 use Rattle.core_likeness.proofs.names.Names.pair_keys.Goals as goal
 

@@ -1,5 +1,4 @@
-use Rattle.std.proofs.Common.{arith}
-use Rattle.std.proofs.lemmas.Grind.{common_steps}
+use Rattle.core_likeness.proofs.Common.{arith, common_steps}
 use Rattle.sm_names.proofs.ListLaws.{times-append}
 use Rattle.core_likeness.proofs.readings.clients.count_collected.Goals as goal
 

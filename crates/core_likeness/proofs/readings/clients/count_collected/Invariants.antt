@@ -1,8 +1,4 @@
-use Rattle.std.proofs.Common.{◌≡◌, ◌≤◌, take}
-use Rattle.sm_names.specs.Ends.{collects}
-use Rattle.sm_names.specs.Marks.{Entry}
-use Rattle.sm_names.specs.Words.{times}
-use Rattle.event_laws.specs.ByEvent.{entry_mark}
+use Rattle.core_likeness.proofs.Common.{Entry, collects, entry_mark, take, times, ◌≡◌, ◌≤◌}
 use Rattle.core_likeness.proofs.readings.clients.count_collected.Given as goal
 
 -- so far those of these entries

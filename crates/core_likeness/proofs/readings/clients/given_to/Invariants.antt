@@ -1,8 +1,4 @@
-use Rattle.std.proofs.Common.{◌≡◌, take}
-use Rattle.std.specs.List.{filter_map}
-use Rattle.sm_names.specs.Ends.{given_at}
-use Rattle.sm_names.specs.Marks.{Entry}
-use Rattle.event_laws.specs.ByEvent.{entry_mark}
+use Rattle.core_likeness.proofs.Common.{Entry, entry_mark, filter_map, given_at, take, ◌≡◌}
 use Rattle.core_likeness.proofs.readings.clients.given_to.Given as goal
 
 -- so far those of these entries

@@ -1,6 +1,4 @@
-use Rattle.std.proofs.Common.{arith}
-use Rattle.std.proofs.lemmas.Grind.{common_steps}
-use Rattle.std.proofs.lemmas.List.Elements.{filter_map-append}
+use Rattle.core_likeness.proofs.Common.{arith, common_steps, filter_map-append}
 use Rattle.core_likeness.proofs.readings.roots.collect_roots.Goals as goal
 
 -- one more comes last, or none

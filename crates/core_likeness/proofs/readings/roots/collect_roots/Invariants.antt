@@ -1,7 +1,4 @@
-use Rattle.std.proofs.Common.{◌≡◌, take}
-use Rattle.std.specs.List.{filter_map}
-use Rattle.sm_names.specs.Marks.{Entry}
-use Rattle.sm_names.specs.Timelines.{opened_by}
+use Rattle.core_likeness.proofs.Common.{Entry, filter_map, opened_by, take, ◌≡◌}
 use Rattle.core_likeness.proofs.readings.roots.collect_roots.Given as goal
 
 -- so far those of these entries

@@ -1,13 +1,8 @@
-use Rattle.std.proofs.Common.{arith, ◌<◌, length, ap, ◌∙◌, map, take, Some, None}
-use Rattle.std.proofs.lemmas.Grind.{common_steps}
-use Rattle.sm_names.specs.Marks.{Entry}
-use Rattle.sm_names.specs.Timelines.{timeline}
-use Rattle.sm_names.specs.Trackers.{tracked_at}
-use Rattle.event_laws.specs.ByEvent.{entry_mark}
-use Rattle.core_likeness.specs.Told.{tracked_of}
+use Rattle.core_likeness.proofs.Common.{Entry, None, Some, ap, arith, common_steps, entry_mark, length, map, take, timeline, tracked_at}
+use Rattle.core_likeness.proofs.Common.{tracked_of, ◌<◌, ◌∙◌}
 use Rattle.core_likeness.proofs.TrackerLaws.{attached-more}
-use Rattle.core_likeness.proofs.readings.tracking.attached_in.Goals as goal
 use Rattle.core_likeness.proofs.readings.tracking.attached_in.Goals.{in-Some+in_ok-push, in_default}
+use Rattle.core_likeness.proofs.readings.tracking.attached_in.Goals as goal
 
 -- one more comes last, or none
 pub loop-at-preserved : goal.loop-at-preserved

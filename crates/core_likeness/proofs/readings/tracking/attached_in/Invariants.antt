@@ -1,7 +1,4 @@
-use Rattle.std.proofs.Common.{ℕ, ◌≡◌, map, reverse, take}
-use Rattle.sm_names.specs.Timelines.{timeline}
-use Rattle.sm_names.specs.Trackers.{tracked}
-use Rattle.core_likeness.specs.Told.{tracked_of}
+use Rattle.core_likeness.proofs.Common.{map, reverse, take, timeline, tracked, tracked_of, ℕ, ◌≡◌}
 use Rattle.core_likeness.proofs.readings.tracking.attached_in.Given as goal
 
 -- so far those of these entries

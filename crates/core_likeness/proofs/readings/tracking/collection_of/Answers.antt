@@ -1,8 +1,5 @@
-use Rattle.std.proofs.Common.{ℕ, ◌<◌, Option, ap, arith, length, sym, take, unwrap_or, ◌∙◌}
-use Rattle.sm_names.specs.Marks.{Entry}
-use Rattle.sm_names.specs.Timelines.{timeline}
-use Rattle.sm_names.specs.Trackers.{collection_of_node}
-use Rattle.core_likeness.specs.Told.{born_by}
+use Rattle.core_likeness.proofs.Common.{Entry, Option, ap, arith, born_by, collection_of_node, length, sym, take, timeline, unwrap_or, ℕ}
+use Rattle.core_likeness.proofs.Common.{◌<◌, ◌∙◌}
 use Rattle.core_likeness.proofs.TrackerLaws.{collection-more}
 use Rattle.core_likeness.proofs.readings.tracking.collection_of.Goals as goal
 

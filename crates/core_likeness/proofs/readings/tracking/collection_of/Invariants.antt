@@ -1,6 +1,4 @@
-use Rattle.std.proofs.Common.{ℕ, ◌≡◌, take}
-use Rattle.sm_names.specs.Timelines.{timeline}
-use Rattle.sm_names.specs.Trackers.{collection_of_node}
+use Rattle.core_likeness.proofs.Common.{collection_of_node, take, timeline, ℕ, ◌≡◌}
 use Rattle.core_likeness.proofs.readings.tracking.collection_of.Given as goal
 
 -- so far by these entries

@@ -1,8 +1,4 @@
-use Rattle.std.proofs.Common.{◌≡◌, ◌==◌, map, not, take}
-use Rattle.std.specs.List.{filter, list_any}
-use Rattle.sm_names.specs.declared.tracking.Fired.{Fired}
-use Rattle.sm_names.specs.Trackers.{Tracked}
-use Rattle.core_likeness.specs.Told.{tracked_of}
+use Rattle.core_likeness.proofs.Common.{Fired, Tracked, filter, list_any, map, not, take, tracked_of, ◌==◌, ◌≡◌}
 use Rattle.core_likeness.proofs.readings.tracking.unfired_of.Given as goal
 
 -- so far those of these trackers

@@ -1,8 +1,4 @@
-use Rattle.std.proofs.Common.{ap, ◌∙◌, ◌==◌, not, reverse, List}
-use Rattle.std.specs.List.{filter, list_any}
-use Rattle.sm_names.specs.declared.tracking.Fired.{Fired}
-use Rattle.sm_names.specs.Timelines.{timeline}
-use Rattle.sm_names.specs.Trackers.{Tracked, tracked}
+use Rattle.core_likeness.proofs.Common.{Fired, List, Tracked, ap, filter, list_any, not, reverse, timeline, tracked, ◌==◌, ◌∙◌}
 use Rattle.core_likeness.proofs.TrackerLaws.{unfired-told}
 use Rattle.core_likeness.proofs.readings.tracking.waiting_in.Goals as goal
 

@@ -1,9 +1,7 @@
-use Rattle.std.proofs.Common.{◌≡◌, ◌∙◌, ap, sym, append-nil, if◌then◌else◌, List, [], ◌∷◌, ◌++◌, inl, inr}
+use Rattle.event_facts.proofs.Common.{List, NodeKey, [], ap, if◌then◌else◌, same_key, sym, values_at, ◌++◌, ◌∙◌, ◌∷◌, ◌≡◌}
+use Rattle.std.proofs.Common.{append-nil, inl, inr}
 use Rattle.std.proofs.lemmas.Result.{on_ok_weaker}
-use Rattle.sm_names.specs.declared.keys.NodeKey.{NodeKey}
-use Rattle.sm_names.specs.Sameness.{same_key}
 use Rattle.sm_names.proofs.SamenessLaws.{either_way, same_key-true}
-use Rattle.event_facts.specs.KeyMaps.{values_at}
 use Rattle.event_facts.proofs.key_maps.KeyRows.add.Goals as goal
 
 -- one more in this row, where the others stay

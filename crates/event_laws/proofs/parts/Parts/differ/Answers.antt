@@ -1,6 +1,4 @@
-use Rattle.std.proofs.Common.{◌∷◌, []}
-use Rattle.event_laws.specs.Links.{rest_at}
-use Rattle.event_laws.specs.Parts.{part}
+use Rattle.event_laws.proofs.Common.{[], part, rest_at, ◌∷◌}
 use Rattle.event_laws.proofs.DifferLaws.{alike_more, apart_at, none_left}
 use Rattle.event_laws.proofs.parts.Parts.differ.Goals as goal
 

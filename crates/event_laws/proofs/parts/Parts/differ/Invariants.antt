@@ -1,6 +1,4 @@
-use Rattle.std.proofs.Common.{length}
-use Rattle.event_laws.specs.Links.{Stands, rest_at}
-use Rattle.event_laws.specs.Parts.{part}
+use Rattle.event_laws.proofs.Common.{Stands, length, part, rest_at}
 use Rattle.event_laws.proofs.DifferLaws.{Alike}
 use Rattle.event_laws.proofs.parts.Parts.differ.Given as goal
 

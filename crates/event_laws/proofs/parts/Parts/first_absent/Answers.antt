@@ -1,10 +1,8 @@
-use Rattle.std.proofs.Common.{◌≡◌, ◌+◌, ◌∙◌, sym, true, false, length, arith}
-use Rattle.std.proofs.lemmas.Grind.{common_steps}
-use Rattle.event_laws.specs.Members.{is_among, makes_client}
+use Rattle.event_laws.proofs.Common.{arith, common_steps, false, is_among, length, makes_client, sym, true, ◌+◌, ◌∙◌, ◌≡◌}
 use Rattle.event_laws.proofs.MemberLaws.{marked_there, read_next}
-use Rattle.event_laws.proofs.parts.Parts.first_absent.Goals as goal
 use Rattle.event_laws.proofs.parts.Parts.first_absent.Goals.{else-makes_client-via-then-makes_client+else-not-index}
 use Rattle.event_laws.proofs.parts.Parts.first_absent.Goals.{else-makes_client-via-else-makes_client}
+use Rattle.event_laws.proofs.parts.Parts.first_absent.Goals as goal
 
 pub loop-entry-preserved : goal.loop-entry-preserved
 loop-entry-preserved c =

@@ -1,5 +1,4 @@
-use Rattle.std.proofs.Common.{◌≡◌, ◌+◌, length}
-use Rattle.event_laws.specs.Members.{Marks}
+use Rattle.event_laws.proofs.Common.{Marks, length, ◌+◌, ◌≡◌}
 use Rattle.event_laws.proofs.MemberLaws.{IsRead}
 use Rattle.event_laws.proofs.parts.Parts.first_absent.Given as goal
 

@@ -1,6 +1,4 @@
-use Rattle.std.proofs.Common.{◌≡◌, ◌∙◌, ap, subst}
-use Rattle.event_laws.specs.Links.{Stands, rest_at}
-use Rattle.event_laws.specs.Parts.{part}
+use Rattle.event_laws.proofs.Common.{Stands, ap, part, rest_at, subst, ◌∙◌, ◌≡◌}
 use Rattle.event_laws.proofs.LinkLaws.{first_is, none_is}
 use Rattle.event_laws.proofs.parts.Parts.first_of.Goals as goal
 

@@ -1,7 +1,4 @@
-use Rattle.std.proofs.Common.{ap, arith, length}
-use Rattle.sm_names.specs.declared.keys.Strength.TheVariants.{Strong, Weak}
-use Rattle.event_laws.specs.Links.{rest_at}
-use Rattle.event_laws.specs.Parts.{part}
+use Rattle.event_laws.proofs.Common.{Strong, Weak, ap, arith, length, part, rest_at}
 use Rattle.event_laws.proofs.LineLaws.{fits_more, part_most}
 use Rattle.event_laws.proofs.parts.Parts.line.Goals as goal
 

@@ -1,7 +1,4 @@
-use Rattle.std.proofs.Common.{◌≡◌, ◌+◌, length}
-use Rattle.sm_names.specs.declared.keys.Strength.TheVariants.{Strong, Weak}
-use Rattle.event_laws.specs.Links.{Stands, rest_at}
-use Rattle.event_laws.specs.Parts.{part}
+use Rattle.event_laws.proofs.Common.{Stands, Strong, Weak, length, part, rest_at, ◌+◌, ◌≡◌}
 use Rattle.event_laws.proofs.LineLaws.{IsCounted}
 use Rattle.event_laws.proofs.parts.Parts.line.Given as goal
 

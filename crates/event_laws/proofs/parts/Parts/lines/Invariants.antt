@@ -1,6 +1,4 @@
-use Rattle.std.proofs.Common.{◌≡◌, ◌++◌, ◌+◌, length, map}
-use Rattle.event_laws.specs.Lines.{client_line, lines_of}
-use Rattle.event_laws.specs.Members.{joined_from}
+use Rattle.event_laws.proofs.Common.{client_line, joined_from, length, lines_of, map, ◌++◌, ◌+◌, ◌≡◌}
 use Rattle.event_laws.proofs.parts.Parts.lines.Given as goal
 
 -- the lines so far, and those that are left

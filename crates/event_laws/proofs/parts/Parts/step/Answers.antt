@@ -1,5 +1,4 @@
-use Rattle.std.proofs.Common.{◌≡◌, ◌∷◌, ◌∙◌, ap, subst, sym}
-use Rattle.event_laws.specs.Links.{Stands, rest_at}
+use Rattle.event_laws.proofs.Common.{Stands, ap, rest_at, subst, sym, ◌∙◌, ◌∷◌, ◌≡◌}
 use Rattle.event_laws.proofs.LinkLaws.{steps}
 use Rattle.event_laws.proofs.parts.Parts.step.Goals as goal
 

@@ -1,8 +1,6 @@
-use Rattle.std.proofs.lemmas.Grind.{common_steps}
-use Rattle.std.proofs.Common.{◌≡◌, ◌+◌, ◌<◌, [], ◌∷◌, ◌++◌, is_some, rules, arith, refl, ap, subst, length, sym, ◌∙◌}
+use Rattle.node_table.proofs.Common.{Appends, [], ap, arith, children_at, common_steps, is_some, length, refl, rules, subst, sym, ◌++◌}
+use Rattle.node_table.proofs.Common.{◌+◌, ◌<◌, ◌∙◌, ◌∷◌, ◌≡◌}
 use Rattle.std.proofs.lemmas.List.{length_push}
-use Rattle.node_table.specs.Table.{children_at}
-use Rattle.node_table.specs.Sound.{Appends}
 use Rattle.node_table.proofs.Listing.{appends-child, appends-none, appends-more, appends-all, appends-within}
 use Rattle.node_table.proofs.table.NodeTable.append_children.Goals as goal
 

@@ -1,7 +1,5 @@
-use Rattle.std.proofs.Common.{◌+◌, ◌-◌, ◌≤◌, length, vec_capacity}
-use Rattle.node_table.specs.Table.{children_at}
-use Rattle.node_table.specs.Forest.{IsForest}
-use Rattle.node_table.specs.Sound.{Appends}
+use Rattle.node_table.proofs.Common.{Appends, IsForest, children_at, length, ◌+◌, ◌-◌, ◌≤◌}
+use Rattle.std.proofs.Common.{vec_capacity}
 use Rattle.node_table.proofs.table.NodeTable.append_children.Given as goal
 
 -- the children before the next one were appended

@@ -1,7 +1,4 @@
-use Rattle.std.proofs.Common.{sym, subst, ◌∙◌, IsSome}
-use Rattle.node_table.specs.Table.{row_at}
-use Rattle.node_table.specs.Changes.{Cuts}
-use Rattle.node_table.specs.Sound.{table_in}
+use Rattle.node_table.proofs.Common.{Cuts, IsSome, row_at, subst, sym, table_in, ◌∙◌}
 use Rattle.node_table.proofs.Slots.{entry-there}
 use Rattle.node_table.proofs.Leaving.{parent-entry, prev-entry, next-entry}
 use Rattle.node_table.proofs.Cutting.{root-cut, child-cut}

@@ -1,13 +1,9 @@
-use Rattle.std.proofs.Common.{◌≡◌, ◌∙◌, Some, None, sym, ap, arith, rules}
-use Rattle.std.proofs.lemmas.Grind.{common_steps}
-use Rattle.slab.specs.Slab.{get}
-use Rattle.node_table.specs.Table.{row_at}
-use Rattle.node_table.specs.declared.slot.Slot.TheVariants.{Taken}
-use Rattle.node_table.specs.Sound.{entry_in, link_in, stamp_in}
+use Rattle.node_table.proofs.Common.{None, Some, Taken, ap, arith, common_steps, entry_in, get, link_in, row_at, rules, stamp_in, sym}
+use Rattle.node_table.proofs.Common.{◌∙◌, ◌≡◌}
 use Rattle.node_table.proofs.Chains.{Shows, next_shown, entry-shows, none-shown, none-above, not-there}
 use Rattle.node_table.proofs.Readings.{forest}
-use Rattle.node_table.proofs.table.NodeTable.entry.Goals as goal
 use Rattle.node_table.proofs.table.NodeTable.entry.Goals.{Then-entry-key, Else-entry-key}
+use Rattle.node_table.proofs.table.NodeTable.entry.Goals as goal
 
 -- the slot's entry is the key's
 shows : (g : _) (c : Then-entry-key g) → Shows c.args.self.now c.args.key (Some c.in-Some-Taken.entry)

@@ -1,5 +1,4 @@
-use Rattle.std.proofs.Common.{arith}
-use Rattle.std.proofs.lemmas.Grind.{common_steps}
+use Rattle.node_table.proofs.Common.{arith, common_steps}
 use Rattle.node_table.proofs.table.NodeTable.get_mut.Goals as goal
 
 -- by arithmetic and the usual steps

@@ -1,7 +1,5 @@
-use Rattle.std.proofs.Common.{◌≡◌, ◌∙◌, refl, sym, subst, arith, rules, IsSome, IfSome, slice_index_or}
-use Rattle.node_table.specs.Table.{row_at}
-use Rattle.node_table.specs.Changes.{Births}
-use Rattle.node_table.specs.Sound.{table_in, last_under, Bumped}
+use Rattle.node_table.proofs.Common.{Births, Bumped, IfSome, IsSome, arith, last_under, refl, row_at, rules, slice_index_or, subst, sym}
+use Rattle.node_table.proofs.Common.{table_in, ◌∙◌, ◌≡◌}
 use Rattle.node_table.proofs.Slots.{entry-parent}
 use Rattle.node_table.proofs.Joining.{born, last-entry, linked-room}
 use Rattle.node_table.proofs.table.NodeTable.insert.Goals as goal

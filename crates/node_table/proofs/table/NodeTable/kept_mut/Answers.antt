@@ -1,7 +1,4 @@
-use Rattle.std.proofs.lemmas.Grind.{common_steps}
-use Rattle.std.proofs.Common.{◌≡◌, ◌∙◌, Some, refl, sym, ap, subst, IsSome, arith}
-use Rattle.node_table.specs.Table.{row_at, node_at}
-use Rattle.node_table.specs.Lending.{table_with_node}
+use Rattle.node_table.proofs.Common.{IsSome, Some, ap, arith, common_steps, node_at, refl, row_at, subst, sym, table_with_node, ◌∙◌, ◌≡◌}
 use Rattle.node_table.proofs.Slots.{taken-by}
 use Rattle.node_table.proofs.Writes.{sound-written, table-written, node-there, writes}
 use Rattle.node_table.proofs.table.NodeTable.kept_mut.Goals as goal

@@ -1,7 +1,4 @@
-use Rattle.std.proofs.Common.{◌≡◌, ◌∙◌, Some, sym, ap}
-use Rattle.slab.specs.Slab.{get}
-use Rattle.node_table.specs.declared.slot.Slot.TheVariants.{Taken}
-use Rattle.node_table.specs.Sound.{entry_in, link_in}
+use Rattle.node_table.proofs.Common.{Some, Taken, ap, entry_in, get, link_in, sym, ◌∙◌, ◌≡◌}
 use Rattle.node_table.proofs.Chains.{next_shown}
 use Rattle.node_table.proofs.Readings.{forest}
 use Rattle.node_table.proofs.Slots.{taken-by}

@@ -1,8 +1,6 @@
-use Rattle.std.proofs.lemmas.Grind.{common_steps}
-use Rattle.std.proofs.Common.{◌≡◌, ◌∙◌, Some, sym, ap, subst, rules, is_some, IsSome, arith}
-use Rattle.node_table.specs.Table.{row_at}
-use Rattle.node_table.specs.Changes.{Cuts, Removes, without_parent}
-use Rattle.node_table.specs.Sound.{HasEntry, node_in, table_in}
+use Rattle.node_table.proofs.Common.{Cuts, HasEntry, IsSome, Removes, Some, ap, arith, common_steps, is_some, row_at, rules, subst, sym}
+use Rattle.node_table.proofs.Common.{table_in, without_parent, ◌∙◌, ◌≡◌}
+use Rattle.node_table.specs.Sound.{node_in}
 use Rattle.node_table.proofs.Slots.{entry-there, is_some-option_map}
 use Rattle.node_table.proofs.Keys.{eq-false}
 use Rattle.node_table.proofs.Removals.{sound-removed, removes}

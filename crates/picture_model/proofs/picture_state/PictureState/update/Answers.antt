@@ -1,7 +1,4 @@
-use Rattle.std.proofs.Common.{◌≡◌, ◌∙◌, ap, List}
-use Rattle.forest_store.specs.declared.node.Node.{Node}
-use Rattle.forced_marks.specs.declared.moment.Moment.{Moment}
-use Rattle.picture_model.specs.PictureStates.{known_in, marked_in, refreshed, with_told}
+use Rattle.picture_model.proofs.Common.{List, Moment, Node, ap, known_in, marked_in, refreshed, with_told, ◌∙◌, ◌≡◌}
 use Rattle.picture_model.proofs.Showing.{knows-after}
 use Rattle.picture_model.proofs.picture_state.PictureState.update.Goals as goal
 

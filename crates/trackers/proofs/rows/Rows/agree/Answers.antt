@@ -1,6 +1,4 @@
-use Rattle.std.proofs.Common.{◌∙◌, ap, sym}
-use Rattle.trackers.specs.Row.{TrackerRow}
-use Rattle.trackers.specs.Places.{row_at}
+use Rattle.trackers.proofs.Common.{TrackerRow, ap, row_at, sym, ◌∙◌}
 use Rattle.trackers.proofs.FiringLemmas.{cell_here, row_here}
 use Rattle.trackers.proofs.rows.Rows.agree.Goals as goal
 

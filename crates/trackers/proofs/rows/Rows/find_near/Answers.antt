@@ -1,7 +1,4 @@
-use Rattle.std.proofs.Common.{◌≡◌, ◌<◌, length, sym, subst, ◌∙◌, arith}
-use Rattle.trackers.specs.declared.place.Place.{Place}
-use Rattle.trackers.specs.Held.{Found}
-use Rattle.trackers.specs.Places.{row_at, rows_of}
+use Rattle.trackers.proofs.Common.{Found, Place, arith, length, row_at, rows_of, subst, sym, ◌<◌, ◌∙◌, ◌≡◌}
 use Rattle.trackers.proofs.SlotLemmas.{found_there}
 use Rattle.trackers.proofs.rows.Rows.find_near.Goals as goal
 

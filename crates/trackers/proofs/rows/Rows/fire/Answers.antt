@@ -1,5 +1,4 @@
-use Rattle.std.proofs.lemmas.Grind.{common_steps}
-use Rattle.std.proofs.Common.{sym, arith}
+use Rattle.trackers.proofs.Common.{arith, common_steps, sym}
 use Rattle.trackers.proofs.FiringLemmas.{row_here, slot_here, fired_all}
 use Rattle.trackers.proofs.rows.Rows.fire.Goals as goal
 

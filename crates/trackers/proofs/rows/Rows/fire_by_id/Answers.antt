@@ -1,5 +1,4 @@
-use Rattle.std.proofs.Common.{◌++◌, ◌∷◌, [], set, ap, ◌∙◌}
-use Rattle.trackers.specs.Row.{TrackerRow, Over, is_waiting}
+use Rattle.trackers.proofs.Common.{Over, TrackerRow, [], ap, is_waiting, set, ◌++◌, ◌∙◌, ◌∷◌}
 use Rattle.trackers.proofs.FoundLemmas.{found_id, found_once, found_some, found_row, found_within}
 use Rattle.trackers.proofs.rows.Rows.fire_by_id.Goals as goal
 

@@ -1,5 +1,4 @@
-use Rattle.std.proofs.Common.{rules}
-use Rattle.std.proofs.lemmas.Fn.{filter_same}
+use Rattle.trackers.proofs.Common.{filter_same, rules}
 use Rattle.trackers.proofs.ForgetLemmas.{is_in_slot, places_kept, rows_kept}
 use Rattle.trackers.proofs.rows.Rows.forget.Goals as goal
 

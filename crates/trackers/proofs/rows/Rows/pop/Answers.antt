@@ -1,5 +1,4 @@
-use Rattle.std.proofs.Common.{◌≡◌, ◌++◌, ◌∷◌, [], Some, ap, subst, ◌∙◌}
-use Rattle.trackers.specs.Places.{row_at, rows_of, RowsInvariant}
+use Rattle.trackers.proofs.Common.{RowsInvariant, Some, [], ap, row_at, rows_of, subst, ◌++◌, ◌∙◌, ◌∷◌, ◌≡◌}
 use Rattle.trackers.proofs.SlotLemmas.{rows_popped}
 use Rattle.trackers.proofs.rows.Rows.pop.Goals as goal
 

@@ -1,5 +1,4 @@
-use Rattle.std.proofs.Common.{◌≡◌, None, ap, subst, ◌∙◌}
-use Rattle.trackers.specs.Places.{slot_at}
+use Rattle.trackers.proofs.Common.{None, ap, slot_at, subst, ◌∙◌, ◌≡◌}
 use Rattle.trackers.proofs.SlotLemmas.{rows_pushed}
 use Rattle.trackers.proofs.rows.Rows.push.Goals as goal
 

@@ -1,7 +1,5 @@
-use Rattle.std.proofs.lemmas.Grind.{common_steps}
-use Rattle.std.proofs.Common.{◌^◌, ◌<◌, min, length, set, vec_capacity, refl, sym, ap, ◌∙◌, arith}
-use Rattle.trackers.specs.Row.{TrackerRow}
-use Rattle.trackers.specs.Places.{rows_of}
+use Rattle.trackers.proofs.Common.{TrackerRow, ap, arith, common_steps, length, refl, rows_of, set, sym, vec_capacity, ◌<◌, ◌∙◌}
+use Rattle.std.proofs.Common.{◌^◌, min}
 use Rattle.trackers.proofs.SlotLemmas.{kept_with, rows_long, row_there, at_place}
 use Rattle.trackers.proofs.rows.Rows.take.Goals as goal
 

@@ -1,5 +1,4 @@
-use Rattle.std.proofs.Common.{◌≡◌, ℕ, ◌∙◌, sym, ap, Some, get_or}
-use Rattle.trackers.specs.Row.{TrackerRow, firing_of_row}
+use Rattle.trackers.proofs.Common.{Some, TrackerRow, ap, firing_of_row, get_or, sym, ℕ, ◌∙◌, ◌≡◌}
 use Rattle.trackers.proofs.FoundLemmas.{found_within, found_row, found_cell, found_told, known_same}
 use Rattle.trackers.proofs.table.Trackers.agree.Goals as goal
 

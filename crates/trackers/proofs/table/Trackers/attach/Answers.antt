@@ -1,7 +1,4 @@
-use Rattle.std.proofs.Common.{◌≡◌, length, refl, arith}
-use Rattle.std.specs.List.{filter_map}
-use Rattle.std.proofs.lemmas.List.Elements.{recursion_from_All}
-use Rattle.trackers.specs.Row.{waiting_of_row}
+use Rattle.trackers.proofs.Common.{arith, filter_map, length, recursion_from_All, refl, waiting_of_row, ◌≡◌}
 use Rattle.trackers.proofs.AttachLemmas.{count_shown, all_below, sound_push, sound_grown, table_push}
 use Rattle.trackers.proofs.table.Trackers.attach.Goals.{in-Ok, in-Err}
 use Rattle.trackers.proofs.table.Trackers.attach.Goals as goal

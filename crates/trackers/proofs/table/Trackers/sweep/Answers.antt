@@ -1,10 +1,5 @@
-use Rattle.std.proofs.Common.{◌++◌, ap, ◌∙◌, arith, map, length}
-use Rattle.std.specs.List.{filter_map}
-use Rattle.std.proofs.lemmas.List.Elements.{recursion_from_All}
-use Rattle.sm_names.specs.Trackers.{World}
-use Rattle.trackers.specs.declared.waiting.Waiting.{Waiting}
-use Rattle.trackers.specs.Row.{waiting_of_row}
-use Rattle.trackers.specs.WaitIndex.{ids_of}
+use Rattle.trackers.proofs.Common.{Waiting, World, ap, arith, filter_map, ids_of, length, map, recursion_from_All, waiting_of_row, ◌++◌}
+use Rattle.trackers.proofs.Common.{◌∙◌}
 use Rattle.trackers.proofs.AttachLemmas.{count_shown}
 use Rattle.trackers.proofs.IndexLemmas.{due_fit, due_found, due_rows, ids_in}
 use Rattle.trackers.proofs.HeldLemmas.{firings_after}
