@@ -26,11 +26,23 @@ pub fn tick() {
 /// The nanoseconds and the allocations of the timed stretches.
 pub fn timed() -> (f64, f64) {
     TICKS.with(|t| {
-        let (mut ns, mut allocations) = (0.0, 0);
+        let (mut time, mut allocations) = (0.0, 0);
         for pair in t.borrow()[1..].windows(2).step_by(2) {
-            ns += (pair[1].time - pair[0].time).as_secs_f64() * 1e9;
+            time += ns(pair);
             allocations += pair[1].allocations - pair[0].allocations;
         }
-        (ns, allocations as f64)
+        (time, allocations as f64)
     })
+}
+
+/// The nanoseconds of each timed stretch, and of each that is not, but for the first.
+pub fn single() -> (Vec<f64>, Vec<f64>) {
+    TICKS.with(|t| {
+        let each = |from: usize| t.borrow()[from..].windows(2).step_by(2).map(ns).collect();
+        (each(1), each(2))
+    })
+}
+
+fn ns(pair: &[Tick]) -> f64 {
+    (pair[1].time - pair[0].time).as_secs_f64() * 1e9
 }

@@ -8,6 +8,7 @@
 //! `--from` starts each core after so many events, and leaves out the rows of threads.
 mod clock;
 mod count;
+mod latency;
 mod locks;
 mod ours;
 mod stream;
@@ -156,6 +157,14 @@ fn main() {
         for (name, x, y, z) in locks::measure(o.rounds, |name| o.wants(name)) {
             println!("{name:<30} {x:>10.1} {y:>10.1} {:>7.1}   {z:.1} without the lists", x / y);
             writeln!(kept, "{name}|{x}|{y}|{z}").unwrap();
+        }
+        if o.wants(latency::NAME) {
+            let [x, y] = latency::measure(o.rounds);
+            for ((share, _), (x, y)) in latency::SHARES.iter().zip(x.iter().zip(&y)) {
+                println!("{:<30} {x:>10.1} {y:>10.1} {:>7.1}", format!("{}, {share}", latency::NAME), x / y);
+            }
+            let all: Vec<String> = x.iter().chain(&y).map(f64::to_string).collect();
+            writeln!(kept, "{}|{}", latency::NAME, all.join("|")).unwrap();
         }
     }
     if let Some(file) = o.keep {

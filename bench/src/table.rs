@@ -1,4 +1,5 @@
 //! TABLE.md, from what was measured.
+use crate::latency;
 use crate::workloads::{ALL, with_commas};
 use std::collections::HashMap;
 use std::fmt::Write;
@@ -58,6 +59,22 @@ fn growth(out: &mut String, cost: &HashMap<String, Vec<f64>>) {
     }
 }
 
+/// How long single events take, ours before plain's.
+fn single(out: &mut String, all: &[f64]) {
+    writeln!(
+        out,
+        "## Single events\n\nNanoseconds of the events of row e, each timed alone, in order of their times. An event's time is its median over\n\
+         the rounds, less what an empty stretch takes.\n\n```\n{:<8} {:>9} {:>8} {:>6}",
+        "", "ours", "plain", "ratio"
+    )
+    .unwrap();
+    let (ours, plain) = all.split_at(latency::SHARES.len());
+    for ((share, _), (&x, &y)) in latency::SHARES.iter().zip(ours.iter().zip(plain)) {
+        writeln!(out, "{share:<8} {}", cells(Some((x, y)))).unwrap();
+    }
+    writeln!(out, "```\n").unwrap();
+}
+
 /// The table of these files: seconds, and instructions if there are some.
 pub fn table(files: &[String]) -> String {
     let (seconds, order) = read(&files[0]);
@@ -96,9 +113,13 @@ pub fn table(files: &[String]) -> String {
         let (a, b) = (times(x / y), times(x / z));
         writeln!(out, "{name:<30} {:>9} {:>10} {a:>6} {:>13} {b:>6}", times(x), times(y), times(z)).unwrap();
     }
+    writeln!(out, "```\n").unwrap();
+    if let Some(times) = seconds.get(latency::NAME) {
+        single(&mut out, times);
+    }
     let (cost, unit) =
         if instructions.is_empty() { (&seconds, "nanoseconds") } else { (&instructions, "instructions") };
-    writeln!(out, "```\n\n## What grows\n").unwrap();
+    writeln!(out, "## What grows\n").unwrap();
     writeln!(
         out,
         "Each size N counts something that the event does not touch, or by which its cost is divided. By {unit} an event, at\n\

@@ -55,7 +55,7 @@ pub const ALL: &[Row] = &[
     sized("d4 dup, drop beside {}", "clients with handles on the buffer", &[1, 30, 1000], handles::dup_drop_beside),
     sized("d5 handle parcels among {}", PARCELS, &[0, 100, 10_000], handles::parcels),
     sized("d6 give, collect among {}", PARCELS, &[0, 30, 900], handles::give_collect),
-    one("e mixed, 256 collections", |_| mixed::mixed(1, 60_000)),
+    one("e mixed, 256 collections", |_| mixed_row()),
     one("f1 attached cycles", |_| trees::attached(8)),
     one("f2 attached failing", |_| trees::attached(1)),
     sized("f3 {} waiting units /unit", "units allocated at once, which divide", &[10, 100, 900], trees::waiting),
@@ -88,6 +88,11 @@ pub const ALL: &[Row] = &[
     sized("k1 weakok among {} weak", WEAK, &[10, 100, 1000], weak::weak_ok),
     sized("k2 attach, close, {} weak", WEAK, &[10, 100, 900], weak::attach),
 ];
+
+/// Pseudo-random calls.
+pub fn mixed_row() -> Stream {
+    mixed::mixed(1, 60_000)
+}
 
 impl Row {
     /// The name of the row of this size.
