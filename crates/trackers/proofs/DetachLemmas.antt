@@ -1,15 +1,17 @@
 -- What is left once the last row is taken out, where that was attached just now.
-use Rattle.trackers.proofs.Common.{AllByRecursion, Attaches, Bool, Cell, Fired, IdsRise, IsIndexed, List, None, NoneHas, Option, Over}
-use Rattle.trackers.proofs.Common.{RowState, Some, TableInvariant, TrackerRow, TrackerTable, WaitIndex, Waiting, Waits, [], ap}
-use Rattle.trackers.proofs.Common.{append-nil, arith, cell_of_row, cond, cons_option, count_by, eqb-true, false, filter_map, firing_of}
-use Rattle.trackers.proofs.Common.{firing_of_row, if◌then◌else◌, is_waiting, length, length_push, map, map_push, refl, subst}
-use Rattle.trackers.proofs.Common.{sum_by-append, sum_by-cons, sym, table_of, take, true, untaken_of_row, waiters_of, waiting_of_row, ℕ}
-use Rattle.trackers.proofs.Common.{◌++◌, ◌+◌, ◌-◌, ◌<◌, ◌==◌, ◌∙◌, ◌∷◌, ◌≡◌, ◌≢◌}
-use Rattle.std.specs.Option.{option_to_list}
+use Rattle.trackers.proofs.Common.{[], AllByRecursion, ap, append-nil, AreHeld, arith, attached, Attaches, Bool, Cell, cell_of_row, cond}
+use Rattle.trackers.proofs.Common.{cons_option, count_by, eqb-true, false, filter, filter-append, filter_map, Fired, firing_of}
+use Rattle.trackers.proofs.Common.{firing_of_row, holds, IdsRise, if◌then◌else◌, is_under, is_under_in, is_waiting, IsThere, length}
+use Rattle.trackers.proofs.Common.{length_push, List, map, map_push, None, NoneHas, not, Option, option_to_list, Over, refl, row_in}
+use Rattle.trackers.proofs.Common.{rows_of, RowState, slot_at, Slots, slots_under, Some, subst, sum_by-append, sum_by-cons, sym, table_of}
+use Rattle.trackers.proofs.Common.{TableInvariant, take, TrackerRow, TrackerTable, true, untaken_of_row, WaitIndex, Waiting}
+use Rattle.trackers.proofs.Common.{waiting_of_row, Waits, ℕ, ◌++◌, ◌+◌, ◌-◌, ◌<◌, ◌==◌, ◌∙◌, ◌∷◌, ◌≡◌, ◌≢◌}
+use Rattle.std.specs.Option.{option_map_or}
 use Rattle.std.proofs.lemmas.Bool.{eq-eqb}
-use Rattle.std.proofs.lemmas.List.{same_from_push}
-use Rattle.trackers.proofs.IndexLemmas.{indexed_pop}
-use Rattle.trackers.proofs.Walks.{filter_map_push, row_of}
+use Rattle.std.proofs.lemmas.List.{same_from_push, take-append-le, take_all}
+use Rattle.trackers.proofs.AttachLemmas.{fresh}
+use Rattle.trackers.proofs.EventLemmas.{filter_map_push, row_of}
+use Rattle.trackers.proofs.SlotLemmas.{apart_from, others_same, others_there, rows_same, under_same}
 
 -- ---- the last of a list
 
@@ -142,8 +144,8 @@ waits_untold : (id cell : ℕ) (state : RowState) (has : Bool) (tracker : Waitin
 waits_untold id cell (Waits place c) has tracker e = (refl, refl)
 waits_untold id cell (Over event) has tracker e = cc
 
-module _ (limit capacity spare : ℕ) (rows : List TrackerRow) (row : TrackerRow) (fired : List Fired) (old new : WaitIndex)
-    (sound : TableInvariant limit (rows ++ row ∷ []) fired capacity spare old) (tracker : Waiting)
+module _ (limit capacity : ℕ) (rows : List TrackerRow) (row : TrackerRow) (fired : List Fired)
+    (held : AreHeld limit (rows ++ row ∷ []) fired capacity) (tracker : Waiting)
     (waits : waiting_of_row row ≡ Some tracker) where
   -- the last row waits
   waits_on : (firing_of_row row ≡ None) × (is_waiting row ≡ true)
@@ -158,23 +160,18 @@ module _ (limit capacity spare : ℕ) (rows : List TrackerRow) (row : TrackerRow
   own_left id none = from (row.id == id) refl
     where
       from : (b : Bool) → (row.id == id) ≡ b → firing_of fired id ≡ None
-      from true e = ap (firing_of fired) (sym (eqb-true row.id id e)) ∙ (last_of Told rows row sound.held.told ∙ waits_on.0)
-      from false e = sound.held.own id (none_last id rows row (λ same. let no : false ≡ true = sym e ∙ eq-eqb row.id id same in cc) none)
+      from true e = ap (firing_of fired) (sym (eqb-true row.id id e)) ∙ (last_of Told rows row held.told ∙ waits_on.0)
+      from false e = held.own id (none_last id rows row (λ same. let no : false ≡ true = sym e ∙ eq-eqb row.id id same in cc) none)
 
-  -- the table is right without it
-  pub sound_popped : ((c : ℕ) → waiters_of new c ≡ (if c == tracker.collection
-      then take (length (waiters_of old c) - 1) (waiters_of old c) else waiters_of old c)) → TableInvariant limit rows fired capacity spare new
-  sound_popped withdrawn = record {
-    held = record {
-      rising = front_rises rows row sound.held.rising;
-      counted = omega (arith, sound.held.counted, length_push rows row, counts);
-      room = omega (arith, sound.held.room, length_push rows row);
-      within = omega (arith, sound.held.within, counts);
-      told = front_of Told rows row sound.held.told;
-      own = own_left;
-    };
-    indexed = indexed_pop old new (filter_map waiting_of_row rows) tracker indexed withdrawn;
-    spare_room = omega (arith, sound.spare_room, counts);
+  -- the rows are right without it
+  pub held_popped : AreHeld limit rows fired capacity
+  held_popped = record {
+    rising = front_rises rows row held.rising;
+    counted = omega (arith, held.counted, length_push rows row, counts);
+    room = omega (arith, held.room, length_push rows row);
+    within = omega (arith, held.within, counts);
+    told = front_of Told rows row held.told;
+    own = own_left;
   }
     where
       one : count_by is_waiting (row ∷ []) ≡ 1
@@ -183,51 +180,73 @@ module _ (limit capacity spare : ℕ) (rows : List TrackerRow) (row : TrackerRow
       counts : count_by is_waiting (rows ++ row ∷ []) ≡ count_by is_waiting rows + 1
       counts = sum_by-append (λ r. cond (is_waiting r) 1 0) rows (row ∷ []) ∙ ap (λ n. count_by is_waiting rows + n) one
 
-      indexed : IsIndexed (filter_map waiting_of_row rows ++ tracker ∷ []) old
-      indexed = subst (λ (ts : List Waiting). IsIndexed ts old) (filter_map_push waiting_of_row rows row
-          ∙ ap (λ o. filter_map waiting_of_row rows ++ option_to_list o) waits) sound.indexed
+-- ---- the last slot, emptied
 
--- ---- the last row, taken out
+-- without the last of a list
+front : {X : Type 0} (xs : List X) (x : X) → take (length (xs ++ x ∷ []) - 1) (xs ++ x ∷ []) ≡ xs
+front xs x =
+    let short : length (xs ++ x ∷ []) - 1 ≡ length xs = omega (arith, length_push xs x) in
+    ap (λ n. take n (xs ++ x ∷ [])) short ∙ take-append-le (length xs) xs (x ∷ []) (omega arith) ∙ take_all (length xs) xs (omega arith)
 
-module _ (limit capacity spare : ℕ) (rows left : List TrackerRow) (fired : List Fired) (old new : WaitIndex)
-    (sound : TableInvariant limit rows fired
-    capacity spare old) where
-  -- the row that was taken out
-  popped : (o : Option TrackerRow) → rows ≡ left ++ option_to_list o → (o ≡ None → rows ≡ []) →
-      (before : TrackerTable) (tracker : Waiting) →
-      Attaches before (table_of limit rows fired) tracker →
-      (row : TrackerRow) × (rows ≡ left ++ row ∷ [])
-  popped (Some row) is none before tracker attaches = (row, is)
-  popped None is none before tracker attaches =
-      let empty : rows ≡ [] = none refl in
-      let bad : Attaches before (table_of limit [] fired) tracker =
-      subst (λ (rs : List TrackerRow). Attaches before (table_of limit rs fired) tracker) empty attaches in
-      absurd (some_cells (record { id = tracker.id; name = bad.name }) before.cells (ap (λ (t : TrackerTable). t.cells) bad.next))
-    where
-      some_cells : (c : Cell) (cs : List Cell) → ◌≡◌ {A = List Cell} [] (cs ++ c ∷ []) → ⊥
-      some_cells c [] e = cc
-      some_cells c (d ∷ cs) e = cc
+module _ (limit capacity : ℕ) (slots slots' : Slots) (order left : List ℕ) (key : ℕ) (fired : List Fired) (old new : WaitIndex)
+    (last : order ≡ left ++ key ∷ []) (others : (n : ℕ) → n ≢ key → slot_at slots' n ≡ slot_at slots n)
+    (sound : TableInvariant limit slots order fired capacity old) (before : TrackerTable) (tracker : Waiting)
+    (attaches : Attaches before (table_of limit (rows_of slots order) fired) tracker) where
+  -- the rows before and with the last
+  rows_all : rows_of slots order ≡ rows_of slots left ++ row_in slots key ∷ []
+  rows_all = ap (rows_of slots) last ∙ map_push (row_in slots) left key
+
+  -- as they are held
+  held : AreHeld limit (rows_of slots left ++ row_in slots key ∷ []) fired capacity
+  held = subst (λ (rs : List TrackerRow). AreHeld limit rs fired capacity) rows_all sound.held
+
+  -- as the tracker was attached to them
+  attached_last : Attaches before (table_of limit (rows_of slots left ++ row_in slots key ∷ []) fired) tracker
+  attached_last = subst (λ (rs : List TrackerRow). Attaches before (table_of limit rs fired) tracker) rows_all attaches
+
+  -- no other slot is that one
+  apart : AllByRecursion (λ n. n ≢ key) left
+  apart = apart_from slots key left (fresh (row_in slots key).id (rows_of slots left) (below_last (rows_of slots left) (row_in slots key) held.rising))
+
+  -- the rows that are left
+  same : AllByRecursion (λ n. row_in slots' n ≡ row_in slots n) left
+  same = others_same slots slots' key others left apart
 
   -- the table shows what it showed before
-  pub shown_again : (o : Option TrackerRow) → rows ≡ left ++ option_to_list o → (o ≡ None → rows ≡ []) →
-      (before : TrackerTable) (tracker : Waiting) →
-      Attaches before (table_of limit rows fired) tracker → table_of limit left fired ≡ before
-  shown_again o is none before tracker attaches =
-      let p = popped o is none before tracker attaches in
-      table_popped limit left p.0 fired (subst IdsRise p.1 sound.held.rising) before tracker (subst (λ (rs : List TrackerRow).
-      Attaches before (table_of limit rs fired) tracker) p.1 attaches)
+  pub shown_popped : table_of limit (rows_of slots' left) fired ≡ before
+  shown_popped = ap (λ rs. table_of limit rs fired) (rows_same slots slots' left same)
+      ∙ table_popped limit (rows_of slots left) (row_in slots key) fired held.rising before tracker attached_last
+
+  -- the last row waits for this
+  waits_last : waiting_of_row (row_in slots key) ≡ Some tracker
+  waits_last = (waits_same limit (rows_of slots left) (row_in slots key) fired held.rising before tracker attached_last).1
 
   -- and is right
-  pub sound_detached : (o : Option TrackerRow) → rows ≡ left ++ option_to_list o → (o ≡ None → rows ≡ []) →
-      (before : TrackerTable) (tracker : Waiting) →
-      Attaches before (table_of limit rows fired) tracker →
-      ((c : ℕ) → waiters_of new c ≡ (if c == tracker.collection then take (length (waiters_of old c) - 1) (waiters_of old c)
-      else waiters_of old c)) → TableInvariant limit left fired capacity spare new
-  sound_detached o is none before tracker attaches withdrawn =
-      let p = popped o is none before tracker attaches in
-      let so : Attaches before (table_of limit (left ++ p.0 ∷ []) fired) tracker =
-      subst (λ (rs : List TrackerRow). Attaches before (table_of limit rs fired) tracker) p.1 attaches in
-      sound_popped limit capacity spare left p.0 fired old new
-      (subst (λ (rs : List TrackerRow). TableInvariant limit rs fired capacity spare old) p.1
-      sound) tracker
-      (waits_same limit left p.0 fired (subst IdsRise p.1 sound.held.rising) before tracker so).1 withdrawn
+  pub sound_popped : ((c : ℕ) → slots_under new c ≡ (if c == tracker.collection
+      then take (length (slots_under old c) - 1) (slots_under old c) else slots_under old c)) →
+      TableInvariant limit slots' left fired capacity new
+  sound_popped withdrawn = record {
+    there = others_there slots slots' key others left apart (front_of (IsThere slots) left key (subst (AllByRecursion (IsThere slots)) last sound.there));
+    held = subst (λ (rs : List TrackerRow). AreHeld limit rs fired capacity) (sym (rows_same slots slots' left same))
+        (held_popped limit capacity (rows_of slots left) (row_in slots key) fired held tracker waits_last);
+    indexed = λ c. withdrawn c
+        ∙ (elim (c == tracker.collection) as (λ b. slots_under old c ≡ filter (is_under_in slots c) left ++ cond b (key ∷ []) [] →
+        (if b then take (length (slots_under old c) - 1) (slots_under old c) else slots_under old c) ≡ filter (is_under_in slots c) left) [
+          | true ↦ λ all. (λ i. take (length (all i) - 1) (all i)) ∙ front (filter (is_under_in slots c) left) key
+          | false ↦ λ all. all ∙ append-nil (filter (is_under_in slots c) left)
+        ]) (sound.indexed c ∙ ap (filter (is_under_in slots c)) last ∙ filter-append (is_under_in slots c) left (key ∷ [])
+        ∙ ap (λ b. filter (is_under_in slots c) left ++ cond b (key ∷ []) []) (ap (λ o. option_map_or (λ (t : Waiting). c == t.collection) o false) waits_last))
+        ∙ sym (under_same slots slots' c left same);
+  }
+
+-- a table to which a tracker was attached has rows
+pub some_rows : (limit : ℕ) (rows : List TrackerRow) (fired : List Fired) (before : TrackerTable) (tracker : Waiting) →
+    Attaches before (table_of limit rows fired) tracker → rows ≢ []
+some_rows limit rows fired before tracker attaches none =
+    let bad : Attaches before (table_of limit [] fired) tracker =
+    subst (λ (rs : List TrackerRow). Attaches before (table_of limit rs fired) tracker) none attaches in
+    some_cells (record { id = tracker.id; name = bad.name }) before.cells (ap (λ (t : TrackerTable). t.cells) bad.next)
+  where
+    some_cells : (c : Cell) (cs : List Cell) → ◌≡◌ {A = List Cell} [] (cs ++ c ∷ []) → ⊥
+    some_cells c [] e = cc
+    some_cells c (d ∷ cs) e = cc

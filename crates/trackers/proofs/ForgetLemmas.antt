@@ -1,23 +1,15 @@
 -- What is left of the table once the trackers that fired are forgotten.
-use Rattle.trackers.proofs.Common.{AllByRecursion, Bool, Cell, Fired, IdsRise, InSlot, IsKept, IsKeptAt, List, None, Option, Over, Place}
-use Rattle.trackers.proofs.Common.{RowState, RowsInvariant, Slots, Stage, TableInvariant, Taken, TrackerRow, Untaken, WaitIndex, Waiting}
-use Rattle.trackers.proofs.Common.{Waits, [], ap, arith, cell_of_row, cond, cons_option, count_by, false, filter, filter_map, firing_of}
-use Rattle.trackers.proofs.Common.{firing_of_row, is_waiting, length, map, refl, row_as, row_at, rows_of, sum_by-cons, sym, table_of}
-use Rattle.trackers.proofs.Common.{true, untaken_of_row, waiting_of_row, ℕ, ◌+◌, ◌<◌, ◌∙◌, ◌∷◌, ◌≡◌, ◌≤◌}
+use Rattle.trackers.proofs.Common.{[], AllByRecursion, ap, AreHeld, arith, Bool, Cell, cell_of_row, cond, cons_option, count_by, false}
+use Rattle.trackers.proofs.Common.{filter, filter_map, Fired, firing_of, firing_of_row, here, IdsRise, if◌then◌else◌, is_under}
+use Rattle.trackers.proofs.Common.{is_under_in, is_waiting, IsSome, IsThere, later, length, List, map, None, not, Over, refl, row_in}
+use Rattle.trackers.proofs.Common.{rows_of, RowState, slot_at, Slots, subst, sum_by-cons, sym, table_of, TableInvariant, TrackerRow, true}
+use Rattle.trackers.proofs.Common.{untaken_of_row, WaitIndex, Waiting, waiting_of_row, Waits, waits_in, ℕ, ◌+◌, ◌<◌, ◌∙◌, ◌∷◌, ◌≡◌, ◌≤◌}
 use Rattle.trackers.specs.Table.{forgetful, is_unfired}
-use Rattle.trackers.specs.Places.{in_slot}
+use Rattle.trackers.proofs.EventLemmas.{row_of, under_waits}
 use Rattle.trackers.proofs.FoundLemmas.{other_id, same_id, table_with}
-use Rattle.trackers.proofs.Walks.{row_of}
+use Rattle.trackers.proofs.SlotLemmas.{all_kept, filter_both, filter_map_of, row_same, rows_same, under_same}
 
 -- ---- some of a list
-
--- what holds of all holds of those that pass a test
-all_kept : {X : Type 0} (P : X → Type 0) (test : X → Bool) (xs : List X) → AllByRecursion P xs → AllByRecursion P (filter test xs)
-all_kept P test [] all = tt
-all_kept P test (x ∷ xs) all = elim (test x) as (λ b. AllByRecursion P (cond b (x ∷ filter test xs) (filter test xs))) [
-  | true ↦ (all.0, all_kept P test xs all.1)
-  | false ↦ all_kept P test xs all.1
-]
 
 -- they are no more
 kept_le : {X : Type 0} (test : X → Bool) (xs : List X) → length (filter test xs) ≤ length xs
@@ -52,44 +44,6 @@ map_cond : {X Y : Type 0} (f : X → Y) (b : Bool) (x : X) (xs : List X) → map
 map_cond f true x xs = refl
 map_cond f false x xs = refl
 
--- ---- the places of rows in slots
-
--- the place is in a slot
-abbrev pub is_in_slot : Place → Bool
-is_in_slot place = in_slot place.stage
-
-module _ (slots : Slots) (fired : List Fired) where
-  -- their rows are those that wait
-  pub rows_kept : (places : List Place) → rows_of slots [] (filter is_in_slot places) ≡ filter is_waiting (rows_of slots fired places)
-  rows_kept [] = refl
-  rows_kept (p ∷ ps) = map_cond (row_at slots []) (in_slot p.stage) p (filter is_in_slot ps)
-      ∙ elim p.stage as (λ s. cond (in_slot s) (row_as slots [] p.number p.note.cell s ∷ rows_of slots [] (filter is_in_slot ps))
-      (rows_of slots [] (filter is_in_slot ps)) ≡ cond (is_waiting (row_as slots fired p.number p.note.cell s))
-      (row_as slots fired p.number p.note.cell s ∷ filter is_waiting (rows_of slots fired ps))
-      (filter is_waiting (rows_of slots fired ps))) [
-        | InSlot ↦ ap (λ l. row_as slots fired p.number p.note.cell InSlot ∷ l) (rows_kept ps)
-        | Untaken ↦ rows_kept ps
-        | Taken was_set ↦ rows_kept ps
-      ]
-
-  -- what they name is there
-  names_kept : (number name : ℕ) (known : Option Fired) (stage : Stage) → in_slot stage ≡ true →
-      IsKept slots fired number name known stage → IsKept slots [] number name known stage
-  names_kept number name known InSlot is kept = kept
-  names_kept number name known Untaken is kept = let no : false ≡ true = is in cc
-  names_kept number name known (Taken was_set) is kept = let no : false ≡ true = is in cc
-
-  -- by induction: a place that names a slot names it whatever has fired
-  all_named : (places : List Place) → AllByRecursion (IsKeptAt slots fired) places →
-      AllByRecursion (IsKeptAt slots []) (filter is_in_slot places)
-  all_named [] all = tt
-  all_named (p ∷ ps) all = at (in_slot p.stage) refl (all_named ps all.1)
-    where
-      at : (b : Bool) → in_slot p.stage ≡ b → AllByRecursion (IsKeptAt slots []) (filter is_in_slot ps) →
-          AllByRecursion (IsKeptAt slots []) (cond b (p ∷ filter is_in_slot ps) (filter is_in_slot ps))
-      at true e more = (names_kept p.number p.note.cell p.note.known p.stage e all.0, more)
-      at false e more = more
-
 -- the ids of some rows rise too
 pub rising_kept : (test : TrackerRow → Bool) (rows : List TrackerRow) → IdsRise rows → IdsRise (filter test rows)
 rising_kept test [] rising = tt
@@ -97,14 +51,6 @@ rising_kept test (row ∷ rows) rising = elim (test row) as (λ b. IdsRise (cond
   | true ↦ (all_kept (λ (later : TrackerRow). row.id < later.id) test rows rising.0, rising_kept test rows rising.1)
   | false ↦ rising_kept test rows rising.1
 ]
-
--- the rows that wait are sound by themselves
-pub places_kept : (slots : Slots) (fired : List Fired) (places : List Place) → RowsInvariant slots fired places →
-    RowsInvariant slots [] (filter is_in_slot places)
-places_kept slots fired places sound = record {
-  kept = all_named slots fired places sound.kept;
-  rising = rw (rows_kept slots fired places) (rising_kept is_waiting (rows_of slots fired places) sound.rising);
-}
 
 -- ---- the table
 
@@ -148,22 +94,68 @@ rest_waits (row ∷ rows) = at row.id row.cell row.state row.has_reader (rest_wa
         ap (λ (l : List Waiting). record { id = id; collection = place; condition = condition } ∷ l) more
     at id cell (Over event) has more = more
 
--- it is sound without what fired
-pub sound_forgotten : (limit capacity spare : ℕ) (rows rows' : List TrackerRow) (fired fired' : List Fired) (index : WaitIndex) →
-    TableInvariant limit rows fired capacity spare index →
-    rows' ≡ filter is_waiting rows → fired' ≡ [] → TableInvariant limit rows' fired' capacity spare index
-sound_forgotten limit capacity spare rows rows' fired fired' index sound left none = rw (left, none) record {
-  held = record {
-    rising = rising_kept is_waiting rows sound.held.rising;
-    counted = omega (arith, kept_count is_waiting rows, kept_again is_waiting rows);
-    room = omega (arith, sound.held.room, kept_le is_waiting rows);
-    within = omega (arith, sound.held.within, kept_again is_waiting rows);
-    told = untold_all rows;
-    own = λ id none. refl;
-  };
-  indexed = rw (rest_waits rows) sound.indexed;
-  spare_room = omega (arith, sound.spare_room, kept_again is_waiting rows);
+-- the rows are sound without what fired
+pub held_forgotten : (limit capacity : ℕ) (rows : List TrackerRow) (fired : List Fired) → AreHeld limit rows fired capacity →
+    AreHeld limit (filter is_waiting rows) [] capacity
+held_forgotten limit capacity rows fired held = record {
+  rising = rising_kept is_waiting rows held.rising;
+  counted = omega (arith, kept_count is_waiting rows, kept_again is_waiting rows);
+  room = omega (arith, held.room, kept_le is_waiting rows);
+  within = omega (arith, held.within, kept_again is_waiting rows);
+  told = untold_all rows;
+  own = λ id none. refl;
 }
+
+module _ (slots slots' : Slots) (order order' : List ℕ) (there : AllByRecursion (IsThere slots) order)
+    (left : order' ≡ filter (waits_in slots) order)
+    (stay : (n : ℕ) → IsThere slots n → waits_in slots n ≡ true → slot_at slots' n ≡ slot_at slots n) where
+  -- those that are left stay in their slots
+  slots_left : AllByRecursion (λ n. row_in slots' n ≡ row_in slots n) (filter (waits_in slots) order)
+      × AllByRecursion (IsThere slots') (filter (waits_in slots) order)
+  slots_left = over order there
+    where
+      over : (ns : List ℕ) → AllByRecursion (IsThere slots) ns →
+          AllByRecursion (λ n. row_in slots' n ≡ row_in slots n) (filter (waits_in slots) ns)
+          × AllByRecursion (IsThere slots') (filter (waits_in slots) ns)
+      over [] is = (tt, tt)
+      over (n ∷ ns) is =
+          let more = over ns is.1 in
+          elim (waits_in slots n) as (λ b. waits_in slots n ≡ b →
+          AllByRecursion (λ n. row_in slots' n ≡ row_in slots n) (cond b (n ∷ filter (waits_in slots) ns) (filter (waits_in slots) ns))
+          × AllByRecursion (IsThere slots') (cond b (n ∷ filter (waits_in slots) ns) (filter (waits_in slots) ns))) [
+            | true ↦ λ waits.
+                let same = stay n is.0 waits in
+                ((row_same slots slots' n same, more.0), (subst IsSome (sym same) is.0, more.1))
+            | false ↦ λ fired. more
+          ] refl
+
+  -- the rows that are left
+  pub rows_left : rows_of slots' order' ≡ filter is_waiting (rows_of slots order)
+  rows_left = ap (rows_of slots') left ∙ rows_same slots slots' (filter (waits_in slots) order) slots_left.0
+      ∙ filter_map_of (row_in slots) is_waiting order
+
+  -- the table is sound without what fired
+  pub sound_forgotten : (limit capacity : ℕ) (fired : List Fired) (index : WaitIndex) → TableInvariant limit slots order fired capacity index →
+      TableInvariant limit slots' order' [] capacity index
+  sound_forgotten limit capacity fired index sound = record {
+    there = subst (AllByRecursion (IsThere slots')) (sym left) slots_left.1;
+    held = rw rows_left (held_forgotten limit capacity (rows_of slots order) fired sound.held);
+    indexed = λ c. sound.indexed c
+        ∙ sym (filter_both (waits_in slots) (is_under_in slots c) (is_under_in slots c) order (every c order))
+        ∙ sym (under_same slots slots' c (filter (waits_in slots) order) slots_left.0)
+        ∙ ap (filter (is_under_in slots' c)) (sym left);
+  }
+    where
+      -- one that waits under the collection waits
+      both : (c n : ℕ) → is_under_in slots c n ≡ (if waits_in slots n then is_under_in slots c n else false)
+      both c n = elim (is_under_in slots c n) as (λ b. is_under_in slots c n ≡ b → b ≡ (if waits_in slots n then b else false)) [
+        | true ↦ λ under. ap (λ (b : Bool). if b then true else false) (sym (under_waits c (row_in slots n) under))
+        | false ↦ λ other. elim (waits_in slots n) as (λ b. false ≡ (if b then false else false)) [ true ↦ refl | false ↦ refl ]
+      ] refl
+
+      every : (c : ℕ) (ns : List ℕ) → AllByRecursion (λ n. is_under_in slots c n ≡ (if waits_in slots n then is_under_in slots c n else false)) ns
+      every c [] = tt
+      every c (n ∷ ns) = (both c n, every c ns)
 
 -- ---- what is shown of it
 
@@ -237,8 +229,8 @@ module _ (unfired : List Waiting) where
       at false false e more = more
 
 -- so the table is the one without what fired
-pub table_forgotten : (limit : ℕ) (rows rows' : List TrackerRow) (fired fired' : List Fired) → IdsRise rows →
-    rows' ≡ filter is_waiting rows → fired' ≡ [] → table_of limit rows' fired' ≡ forgetful (table_of limit rows fired)
-table_forgotten limit rows rows' fired fired' rising left none =
+pub table_forgotten : (limit : ℕ) (rows rows' : List TrackerRow) (fired : List Fired) → IdsRise rows →
+    rows' ≡ filter is_waiting rows → table_of limit rows' [] ≡ forgetful (table_of limit rows fired)
+table_forgotten limit rows rows' fired rising left =
     let told = all_told rows rising in
-    rw (left, none) (λ i. table_with limit (cells_left _ rows told i) (rest_waits rows i) (untaken_left _ rows told i) [])
+    rw left (λ i. table_with limit (cells_left _ rows told i) (rest_waits rows i) (untaken_left _ rows told i) [])

@@ -1,9 +1,9 @@
 -- Rows by their ids: where one stands, what is found there, and what its change leaves.
-use Rattle.trackers.proofs.Common.{All-from_recursion, AllByRecursion, AreHeld, Bool, Cell, Fired, Found, IdsRise, List, None, NoneHas}
-use Rattle.trackers.proofs.Common.{OnTrue, Option, Some, TableInvariant, TrackerRow, TrackerTable, WaitIndex, Waiting, [], ap, arith}
-use Rattle.trackers.proofs.Common.{cell_of_row, cond, cons_option, count_by, false, filter_map, firing_of, firing_of_row, get_or, here}
-use Rattle.trackers.proofs.Common.{if◌then◌else◌, is_waiting, later, length, map, nat_tests, refl, set, suc, sum_by-cons, sym, table_of}
-use Rattle.trackers.proofs.Common.{true, untaken_of_row, waiting_of_row, zero, ℕ, ◌+◌, ◌<◌, ◌==◌, ◌∙◌, ◌∷◌, ◌≡◌, ◌≢◌}
+use Rattle.trackers.proofs.Common.{[], All-from_recursion, AllByRecursion, ap, AreHeld, arith, Bool, Cell, cell_of_row, cond, cons_option}
+use Rattle.trackers.proofs.Common.{count_by, false, filter_map, Fired, firing_of, firing_of_row, Found, get_or, here, holds, IdsRise}
+use Rattle.trackers.proofs.Common.{if◌then◌else◌, is_waiting, later, length, List, map, nat_tests, None, NoneHas, OnTrue, Option, refl}
+use Rattle.trackers.proofs.Common.{set, Some, suc, sum_by-cons, sym, table_of, TrackerRow, TrackerTable, true, untaken_of_row, Waiting}
+use Rattle.trackers.proofs.Common.{waiting_of_row, zero, ℕ, ◌+◌, ◌<◌, ◌==◌, ◌∙◌, ◌∷◌, ◌≡◌, ◌≢◌}
 use Rattle.std.proofs.Common.{◌↔◌, IfSome}
 use Rattle.trackers.specs.Table.{Reader, cell_of, is_untaken, without_id, reader_of}
 use Rattle.trackers.specs.Row.{reader_of_row}
@@ -199,17 +199,6 @@ module _ (id : ℕ) where
     within = rw (taken_count found) held.within;
     told = taken_told fired found held.told;
     own = λ other none. held.own other (taken_none other found none);
-  }
-
-  -- and so does the table
-  pub sound_taken : (limit : ℕ) (fired : List Fired) (capacity spare : ℕ) (index : WaitIndex)
-      {rows : List TrackerRow} {at : ℕ} {row : TrackerRow} →
-      Found id rows at row → TableInvariant limit rows fired capacity spare index →
-      TableInvariant limit (set rows at (taken row)) fired capacity spare index
-  sound_taken limit fired capacity spare index found sound = record {
-    held = held_taken limit fired capacity found sound.held;
-    indexed = rw (taken_unfired found) sound.indexed;
-    spare_room = rw (taken_count found) sound.spare_room;
   }
 
   -- of what the table shows only those still to be taken change

@@ -1,15 +1,14 @@
 -- What a sweep leaves of the rows, and what it shows.
-use Rattle.trackers.proofs.Common.{All-from_recursion, AllByRecursion, AreHeld, Bool, Fired, Found, IdsRise, List, None, NoneHas, Option}
-use Rattle.trackers.proofs.Common.{Over, RowState, Some, TrackerRow, Waiting, Waits, World, [], ap, arith, cell_of_row, cond, cons_option}
-use Rattle.trackers.proofs.Common.{count_by, false, filter, filter_map, fires, firing_of, firing_of_row, get_or, here, holds}
-use Rattle.trackers.proofs.Common.{if◌then◌else◌, is_due, is_met, is_waiting, later, length, length-append, length-map, map, not}
-use Rattle.trackers.proofs.Common.{recursion_from_All, refl, row_after, still_waiting, subst, sum_by-cons, sym, true, untaken_of_row}
-use Rattle.trackers.proofs.Common.{waiting_of_row, ℕ, ◌++◌, ◌+◌, ◌<◌, ◌==◌, ◌∙◌, ◌∷◌, ◌≡◌, ◌≢◌}
-use Rattle.std.proofs.Common.{option_to_list}
+use Rattle.trackers.proofs.Common.{[], All-from_recursion, AllByRecursion, ap, AreHeld, arith, Bool, cell_of_row, cond, cons_option}
+use Rattle.trackers.proofs.Common.{count_by, false, filter, filter_map, Fired, fires, firing_of, firing_of_row, Found, get_or, here}
+use Rattle.trackers.proofs.Common.{holds, IdsRise, if◌then◌else◌, is_due, is_met, is_waiting, later, length, length-append, length-map}
+use Rattle.trackers.proofs.Common.{List, map, None, NoneHas, not, Option, option_to_list, Over, recursion_from_All, refl, row_after}
+use Rattle.trackers.proofs.Common.{RowState, Some, still_waiting, subst, sum_by-cons, sym, TrackerRow, true, untaken_of_row, Waiting}
+use Rattle.trackers.proofs.Common.{waiting_of_row, Waits, World, ℕ, ◌++◌, ◌+◌, ◌<◌, ◌==◌, ◌∙◌, ◌∷◌, ◌≡◌, ◌≢◌}
 use Rattle.std.proofs.lemmas.List.{get_or-map}
 use Rattle.trackers.specs.Table.{firing, firings}
 use Rattle.trackers.proofs.FoundLemmas.{found_at, same_id, other_id}
-use Rattle.trackers.proofs.Walks.{balance, id_after, row_of}
+use Rattle.trackers.proofs.EventLemmas.{balance, id_after, row_of}
 
 -- the length with one more, if there is one
 length_cons_option : {X : Type 0} (o : Option X) (xs : List X) → length (cons_option o xs) ≡ length (option_to_list o) + length xs

@@ -1,12 +1,13 @@
 mod Common
 pub mod AttachLemmas
 pub mod DetachLemmas
-pub mod IndexLemmas
-pub mod FiringLemmas
+pub mod EventLemmas
 pub mod ForgetLemmas
 pub mod FoundLemmas
 pub mod HeldLemmas
-pub mod PlaceLemmas
+pub mod RetainLemmas
+pub mod SearchLemmas
 pub mod SlotLemmas
 pub mod SweepLemmas
-pub mod Walks
+pub mod TakeLemmas
+pub mod WalkLemmas

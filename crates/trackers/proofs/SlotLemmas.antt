@@ -1,216 +1,254 @@
--- What a change of one place, its slot and the firings leaves of the rows.
-use Rattle.trackers.proofs.Common.{All-from_recursion, AllByRecursion, Fired, Found, IdsRise, InSlot, IsKept, IsKeptAt, IsSomeAnd, List}
-use Rattle.trackers.proofs.Common.{None, NoneHas, OnTrue, Option, Place, RowsInvariant, Slots, Some, Stage, Taken, TrackerRow, Untaken}
-use Rattle.trackers.proofs.Common.{WaitingRow, [], ap, arith, false, firing_or_none, get_or, get_or_default, here, later, length}
-use Rattle.trackers.proofs.Common.{length-map, map, map_push, refl, row_as, row_at, row_in, row_over, rows_of, set, slot_at, subst, suc}
-use Rattle.trackers.proofs.Common.{sym, true, zero, ℕ, ◌++◌, ◌<◌, ◌∙◌, ◌∷◌, ◌≡◌, ◌≢◌, ◌≤◌}
-use Rattle.trackers.specs.Row.{KeptRows, row_of_waiting}
-use Rattle.trackers.specs.Places.{Leaves, Names}
-use Rattle.trackers.proofs.FoundLemmas.{found_at}
-use Rattle.trackers.proofs.AttachLemmas.{rising_push, fresh}
-use Rattle.trackers.proofs.DetachLemmas.{front_of, below_last, front_rises}
+-- What a change of slots leaves of the rows in them.
+use Rattle.trackers.proofs.Common.{[], AllByRecursion, ap, arith, Bool, cond, cons_option, count_by, eqb-true, false, filter, filter_map}
+use Rattle.trackers.proofs.Common.{fires, Found, get_or, here, holds, if◌then◌else◌, is_met, is_one, is_under, is_under_in, is_waiting}
+use Rattle.trackers.proofs.Common.{IsAfter, IsSome, IsThere, later, length, List, map, nat_tests, no_row, None, NoneHas, Option}
+use Rattle.trackers.proofs.Common.{option_map, refl, row_after, row_in, rows_of, set, slot_at, Slots, Some, subst, suc, sum_by-cons, sym}
+use Rattle.trackers.proofs.Common.{TrackerRow, true, waits_in, World, zero, ℕ, ◌==◌, ◌∙◌, ◌∷◌, ◌≡◌, ◌≢◌, ◌≤◌}
+use Rattle.std.proofs.Common.{unwrap_or}
+use Rattle.trackers.proofs.EventLemmas.{after_unmet, fires_unmet, under_after, under_other, under_waits}
 
--- rows as they are kept
-abbrev pub kept_with : List TrackerRow → List Fired → ℕ → KeptRows
-kept_with rows fired room = record { rows = rows; fired = fired; room = room }
+-- ---- lists of numbers
 
--- what a function gives of the element at an index
-pub get_map : {X Y : Type 0} (f : X → Y) (xs : List X) (i : ℕ) (d : X) → get_or (map f xs) i (f d) ≡ f (get_or xs i d)
-get_map f [] i d = refl
-get_map f (x ∷ xs) zero d = refl
-get_map f (x ∷ xs) (suc i) d = get_map f xs i d
+-- what holds of all holds of those that pass a test
+pub all_kept : {X : Type 0} (P : X → Type 0) (test : X → Bool) (xs : List X) → AllByRecursion P xs → AllByRecursion P (filter test xs)
+all_kept P test [] all = tt
+all_kept P test (x ∷ xs) all = elim (test x) as (λ b. AllByRecursion P (cond b (x ∷ filter test xs) (filter test xs))) [
+  | true ↦ (all.0, all_kept P test xs all.1)
+  | false ↦ all_kept P test xs all.1
+]
 
--- ---- the place at an index
+-- by induction: those pass that pass
+pub all_pass : {X : Type 0} (test : X → Bool) (P : X → Type 0) → ((x : X) → test x ≡ true → P x) → (xs : List X) → AllByRecursion P (filter test xs)
+all_pass test P from [] = tt
+all_pass test P from (x ∷ xs) = elim (test x) as (λ b. test x ≡ b → AllByRecursion P (cond b (x ∷ filter test xs) (filter test xs))) [
+  | true ↦ λ pass. (from x pass, all_pass test P from xs)
+  | false ↦ λ fail. all_pass test P from xs
+] refl
 
-module _ (slots : Slots) (fired : List Fired) (places : List Place) (at : ℕ) (place : Place) (is : get_or places at place ≡ place)
-    (within : at < length places) where
-  -- so long are the rows
-  rows_within : at < length (rows_of slots fired places)
-  rows_within = rw (length-map places (row_at slots fired)) within
+-- two tests that agree on each
+pub filter_each : {X : Type 0} (p q : X → Bool) → ((x : X) → p x ≡ q x) → (xs : List X) → filter p xs ≡ filter q xs
+filter_each p q same [] = refl
+filter_each p q same (x ∷ xs) = let more = filter_each p q same xs in λ i. cond (same x i) (x ∷ more i) (more i)
 
-  -- its row stands there
-  pub row_there : (d : TrackerRow) → get_or (rows_of slots fired places) at d ≡ row_at slots fired place
-  row_there d = get_or_default (rows_of slots fired places) at d (row_at slots fired place) rows_within
-      ∙ get_map (row_at slots fired) places at place
-      ∙ ap (row_at slots fired) is
+-- two tests, one after the other
+pub filter_both : {X : Type 0} (p q r : X → Bool) (xs : List X) → AllByRecursion (λ x. r x ≡ (if p x then q x else false)) xs →
+    filter q (filter p xs) ≡ filter r xs
+filter_both p q r [] all = refl
+filter_both p q r (x ∷ xs) all =
+    let more = filter_both p q r xs all.1 in
+    elim (p x) as (λ b. filter q (cond b (x ∷ filter p xs) (filter p xs))
+    ≡ cond (if b then q x else false) (x ∷ filter r xs) (filter r xs)) [
+      | true ↦ λ i. cond (q x) (x ∷ more i) (more i)
+      | false ↦ more
+    ] ∙ ap (λ b. cond b (x ∷ filter r xs) (filter r xs)) (sym all.0)
 
-  -- what it names is there
-  pub kept_there : AllByRecursion (IsKeptAt slots fired) places → IsKeptAt slots fired place
-  kept_there kept = subst (IsKeptAt slots fired) is (All-from_recursion (IsKeptAt slots fired) places kept at place within)
+-- a test of what a function gives
+pub filter_map_of : {X Y : Type 0} (f : X → Y) (p : Y → Bool) (xs : List X) → map f (filter (λ x. p (f x)) xs) ≡ filter p (map f xs)
+filter_map_of f p [] = refl
+filter_map_of f p (x ∷ xs) =
+    let more = filter_map_of f p xs in
+    elim (p (f x)) as (λ b. map f (cond b (x ∷ filter (λ y. p (f y)) xs) (filter (λ y. p (f y)) xs))
+    ≡ cond b (f x ∷ filter p (map f xs)) (filter p (map f xs))) [ true ↦ λ i. f x ∷ more i | false ↦ more ]
 
-  -- its row is found there
-  pub found_there : IdsRise (rows_of slots fired places) →
-      Found (row_at slots fired place).id (rows_of slots fired places) at (row_at slots fired place)
-  found_there rising = subst (λ (r : TrackerRow). Found r.id (rows_of slots fired places) at r) (row_there (row_at slots fired place))
-      (found_at (rows_of slots fired places) rising at (row_at slots fired place) rows_within)
+-- what follows from what holds of all holds of all
+pub all_from : {X : Type 0} (P Q : X → Type 0) → ((x : X) → P x → Q x) → (xs : List X) → AllByRecursion P xs → AllByRecursion Q xs
+all_from P Q from [] all = tt
+all_from P Q from (x ∷ xs) all = (from x all.0, all_from P Q from xs all.1)
 
--- ---- another row of the same id
+-- what holds of the rows in some slots
+pub all_rows : (P : TrackerRow → Type 0) (slots : Slots) (ns : List ℕ) → AllByRecursion P (rows_of slots ns) →
+    AllByRecursion (λ n. P (row_in slots n)) ns
+all_rows P slots [] all = tt
+all_rows P slots (n ∷ ns) all = (all.0, all_rows P slots ns all.1)
 
-module _ (id : ℕ) (row' : TrackerRow) (same : row'.id ≡ id) where
-  -- an id below all stays so
-  set_below : (n : ℕ) {rows : List TrackerRow} {at : ℕ} {row : TrackerRow} → Found id rows at row →
-      AllByRecursion (λ (r : TrackerRow). n < r.id) rows → AllByRecursion (λ (r : TrackerRow). n < r.id) (set rows at row')
-  set_below n (here is rest) below = (omega (arith, same, is, below.0), below.1)
-  set_below n (later differ found) below = (below.0, set_below n found below.1)
+-- a test that fails tells two numbers apart
+pub unequal : (m n : ℕ) → (m == n) ≡ false → n ≢ m
+unequal m n failed same = grind (arith, nat_tests)
 
-  -- the ids rise on
-  set_rising : {rows : List TrackerRow} {at : ℕ} {row : TrackerRow} → Found id rows at row → IdsRise rows → IdsRise (set rows at row')
-  set_rising (here {rows = rows} is rest) rising =
-      (subst (λ (n : ℕ). AllByRecursion (λ (r : TrackerRow). n < r.id) rows) (is ∙ sym same) rising.0, rising.1)
-  set_rising (later {other = other} differ found) rising = (set_below other.id found rising.0, set_rising found rising.1)
+-- ---- slots
 
--- there are as many rows as places
-pub rows_long : (slots : Slots) (fired : List Fired) (places : List Place) → length (rows_of slots fired places) ≡ length places
-rows_long slots fired places = length-map places (row_at slots fired)
+-- the row of what a slot has
+pub row_same : (slots slots' : Slots) (n : ℕ) → slot_at slots' n ≡ slot_at slots n → row_in slots' n ≡ row_in slots n
+row_same slots slots' n same = ap (λ o. unwrap_or o no_row) same
 
--- ---- what a place names, by its stage
+-- rows that are as they were
+pub rows_same : (slots slots' : Slots) (ns : List ℕ) → AllByRecursion (λ n. row_in slots' n ≡ row_in slots n) ns →
+    rows_of slots' ns ≡ rows_of slots ns
+rows_same slots slots' [] all = refl
+rows_same slots slots' (n ∷ ns) all = let more = rows_same slots slots' ns all.1 in λ i. all.0 i ∷ more i
 
-module _ (slots : Slots) (fired : List Fired) (number name : ℕ) (known : Option Fired) (stage : Stage)
-    (kept : IsKept slots fired number name known stage) where
-  -- in a slot there is a row
-  pub in_slot : stage ≡ InSlot → IsSomeAnd (slot_at slots number) (λ (row : WaitingRow). row.cell ≡ name)
-  in_slot is = subst (IsKept slots fired number name known) is kept
+-- they wait where they waited
+pub under_same : (slots slots' : Slots) (c : ℕ) (ns : List ℕ) → AllByRecursion (λ n. row_in slots' n ≡ row_in slots n) ns →
+    filter (is_under_in slots' c) ns ≡ filter (is_under_in slots c) ns
+under_same slots slots' c [] all = refl
+under_same slots slots' c (n ∷ ns) all =
+    let more = under_same slots slots' c ns all.1 in λ i. cond (is_under c (all.0 i)) (n ∷ more i) (more i)
 
--- ---- one slot changes
+-- no number of a row is that of an empty slot
+pub not_vacant : (slots : Slots) (key : ℕ) → slot_at slots key ≡ None → (ns : List ℕ) → AllByRecursion (IsThere slots) ns →
+    AllByRecursion (λ n. n ≢ key) ns
+not_vacant slots key vacant ns there =
+    all_from (IsThere slots) (λ n. n ≢ key) (λ n is same.
+    let no : false ≡ true = subst IsSome (ap (slot_at slots) same ∙ vacant) is in cc) ns there
 
--- two places of one slot have one row
-same_slot : (slots : Slots) (fired : List Fired) (number name : ℕ) (stage : Stage) (number' name' : ℕ) (stage' : Stage) →
-    stage ≡ InSlot → stage' ≡ InSlot → number ≡ number' →
-    (row_as slots fired number name stage).id ≡ (row_as slots fired number' name' stage').id
-same_slot slots fired number name stage number' name' stage' one two same = rw (one, two, same) refl
+-- nor that of a row with another id
+pub apart_from : (slots : Slots) (key : ℕ) (ns : List ℕ) → NoneHas (row_in slots key).id (rows_of slots ns) → AllByRecursion (λ n. n ≢ key) ns
+apart_from slots key [] none = tt
+apart_from slots key (n ∷ ns) none = ((λ same. none.0 (ap (λ m. (row_in slots m).id) same)), apart_from slots key ns none.1)
 
-module _ (slots slots' : Slots) (fired fired' : List Fired) (longer : length fired ≤ length fired')
-    (grown : (n : ℕ) → n < length fired → firing_or_none fired' n ≡ firing_or_none fired n) where
-  -- what a place of this stage names is as it was, where its slot is
-  stays_as : (number name : ℕ) (known : Option Fired) (stage : Stage) → IsKept slots fired number name known stage →
-      (stage ≡ InSlot → slot_at slots' number ≡ slot_at slots number) →
-      (row_as slots' fired' number name stage ≡ row_as slots fired number name stage) × IsKept slots' fired' number name known stage
-  stays_as number name known InSlot kept same =
-      (ap row_in (same refl), subst (λ (o : Option WaitingRow). IsSomeAnd o (λ (row : WaitingRow). row.cell ≡ name)) (sym (same refl)) kept)
-  stays_as number name known Untaken kept same = (ap (row_over name true) (grown number kept), omega (arith, kept, longer))
-  stays_as number name known (Taken was_set) kept same = (
-    ap (row_over name false) (grown number kept.0),
-    (omega (arith, kept.0, longer), subst (λ (f : Fired). OnTrue was_set (known ≡ Some f)) (sym (grown number kept.0)) kept.1),
-  )
+module _ (slots slots' : Slots) (key : ℕ) (others : (n : ℕ) → n ≢ key → slot_at slots' n ≡ slot_at slots n) where
+  -- the other rows stay
+  pub others_same : (ns : List ℕ) → AllByRecursion (λ n. n ≢ key) ns → AllByRecursion (λ n. row_in slots' n ≡ row_in slots n) ns
+  others_same ns all = all_from (λ n. n ≢ key) (λ n. row_in slots' n ≡ row_in slots n) (λ n differ. row_same slots slots' n (others n differ)) ns all
 
-  -- so is the row of a place
-  pub stays : (q : Place) → IsKeptAt slots fired q → (q.stage ≡ InSlot → slot_at slots' q.number ≡ slot_at slots q.number) →
-      (row_at slots' fired' q ≡ row_at slots fired q) × IsKeptAt slots' fired' q
-  stays q kept same = stays_as q.number q.note.cell q.note.known q.stage kept same
+  -- and are there
+  pub others_there : (ns : List ℕ) → AllByRecursion (λ n. n ≢ key) ns → AllByRecursion (IsThere slots) ns → AllByRecursion (IsThere slots') ns
+  others_there [] apart there = tt
+  others_there (n ∷ ns) apart there = (subst IsSome (sym (others n apart.0)) there.0, others_there ns apart.1 there.1)
 
-  module _ (place : Place) (leaves : Leaves slots slots' place) where
-    -- a place of another id has another slot
-    apart : (q : Place) → (row_at slots fired q).id ≢ (row_at slots fired place).id → q.stage ≡ InSlot →
-        slot_at slots' q.number ≡ slot_at slots q.number
-    apart q differ stage = leaves q.number (λ stage' same.
-        differ (same_slot slots fired q.number q.note.cell q.stage place.number place.note.cell place.stage stage stage' same))
+  module _ (row' : TrackerRow) (put : slot_at slots' key ≡ Some row') where
+    -- what holds of the new row, and of each that stays
+    at_each : (P : ℕ → Type 0) → P key → ((n : ℕ) → n ≢ key → P n) → (n : ℕ) → P n
+    at_each P own other n = elim (n == key) as (λ b. (n == key) ≡ b → P n) [
+      | true ↦ λ e. subst P (sym (eqb-true n key e)) own
+      | false ↦ λ e. other n (λ same. unequal n key e (sym same))
+    ] refl
 
-    -- places of other ids stay
-    pub others : (qs : List Place) → NoneHas (row_at slots fired place).id (rows_of slots fired qs) →
-        AllByRecursion (IsKeptAt slots fired) qs →
-        (rows_of slots' fired' qs ≡ rows_of slots fired qs) × AllByRecursion (IsKeptAt slots' fired') qs
-    others [] none kept = (refl, tt)
-    others (q ∷ qs) none kept =
-        let first = stays q kept.0 (apart q none.0) in
-        let more = others qs none.1 kept.1 in
-        ((λ i. first.0 i ∷ more.0 i), (first.1, more.1))
+    -- all are there
+    pub set_there : (ns : List ℕ) → AllByRecursion (IsThere slots) ns → AllByRecursion (IsThere slots') ns
+    set_there ns there = all_from (IsThere slots) (IsThere slots') (at_each (λ n. IsThere slots n → IsThere slots' n)
+        (λ is. subst IsSome (sym put) refl) (λ n differ is. subst IsSome (sym (others n differ)) is)) ns there
 
-    -- and where the place itself is another, its row alone is another
-    changed : (qs : List Place) (at : ℕ) {row : TrackerRow} (place' : Place) → IsKeptAt slots' fired' place' →
-        Found (row_at slots fired place).id (rows_of slots fired qs) at row → AllByRecursion (IsKeptAt slots fired) qs →
-        (rows_of slots' fired' (set qs at place') ≡ set (rows_of slots fired qs) at (row_at slots' fired' place'))
-        × AllByRecursion (IsKeptAt slots' fired') (set qs at place')
-    changed [] at place' now found kept = elim found [ ]
-    changed (q ∷ qs) zero place' now (here same none) kept =
-        let more = others qs none kept.1 in
-        ((λ i. row_at slots' fired' place' ∷ more.0 i), (now, more.1))
-    changed (q ∷ qs) (suc at) place' now (later differ found) kept =
-        let first = stays q kept.0 (apart q differ) in
-        let more = changed qs at place' now found kept.1 in
-        ((λ i. first.0 i ∷ more.0 i), (first.1, more.1))
+    -- and wait where they waited, if that one does
+    pub set_under : (c : ℕ) → is_under c row' ≡ is_under_in slots c key → (ns : List ℕ) →
+        filter (is_under_in slots' c) ns ≡ filter (is_under_in slots c) ns
+    set_under c own ns = filter_each (is_under_in slots' c) (is_under_in slots c) (at_each (λ n. is_under_in slots' c n ≡ is_under_in slots c n)
+        (ap (λ o. is_under c (unwrap_or o no_row)) put ∙ own)
+        (λ n differ. ap (is_under c) (row_same slots slots' n (others n differ)))) ns
 
-    -- the rows stay sound
-    pub at_place : (places : List Place) → RowsInvariant slots fired places → (at : ℕ) →
-        get_or places at place ≡ place → at < length places →
-        (place' : Place) → IsKeptAt slots' fired' place' → (row_at slots' fired' place').id ≡ (row_at slots fired place).id →
-        (rows_of slots' fired' (set places at place') ≡ set (rows_of slots fired places) at (row_at slots' fired' place'))
-        × RowsInvariant slots' fired' (set places at place')
-    at_place places sound at is within place' now same =
-        let found = found_there slots fired places at place is within sound.rising in
-        let all = changed places at place' now found sound.kept in (
-          all.0,
-          record {
-            kept = all.1;
-            rising = subst IdsRise (sym all.0)
-                (set_rising (row_at slots fired place).id (row_at slots' fired' place') same found sound.rising);
-          },
-        )
+    -- of the rows that one alone is another
+    pub rows_set : (order : List ℕ) (at : ℕ) {row : TrackerRow} → Found (row_in slots key).id (rows_of slots order) at row →
+        get_or order at key ≡ key → rows_of slots' order ≡ set (rows_of slots order) at row'
+    rows_set [] at found is = elim found [ ]
+    rows_set (n ∷ ns) zero (here same none) is =
+        let rest = rows_same slots slots' ns (others_same ns (apart_from slots key ns none)) in
+        let first : row_in slots' n ≡ row' = ap (row_in slots') is ∙ ap (λ o. unwrap_or o no_row) put in
+        λ i. first i ∷ rest i
+    rows_set (n ∷ ns) (suc at) (later differ found) is =
+        let first = row_same slots slots' n (others n (λ same. differ (ap (λ m. (row_in slots m).id) same))) in
+        let rest = rows_set ns at found is in
+        λ i. first i ∷ rest i
 
--- ---- the last place
+-- ---- the slots of what waits under a collection
 
--- without the last place the rows are those before it
-pub rows_popped : (slots slots' : Slots) (fired : List Fired) (init : List Place) (place : Place) →
-    RowsInvariant slots fired (init ++ place ∷ []) → Leaves slots slots' place →
-    (rows_of slots fired (init ++ place ∷ []) ≡ rows_of slots' fired init ++ row_at slots fired place ∷ [])
-    × RowsInvariant slots' fired init
-rows_popped slots slots' fired init place sound leaves =
-    let pushed : rows_of slots fired (init ++ place ∷ []) ≡ rows_of slots fired init ++ row_at slots fired place ∷ [] =
-    map_push (row_at slots fired) init place in
-    let rising = subst IdsRise pushed sound.rising in
-    let none = fresh (row_at slots fired place).id (rows_of slots fired init)
-    (below_last (rows_of slots fired init) (row_at slots fired place) rising) in
-    let stay = others slots slots' fired fired (omega arith) (λ n l. refl) place leaves init none
-    (front_of (IsKeptAt slots fired) init place sound.kept) in (
-      pushed ∙ ap (λ l. l ++ row_at slots fired place ∷ []) (sym stay.0),
-      record {
-        kept = stay.1;
-        rising = subst IdsRise (sym stay.0) (front_rises (rows_of slots fired init) (row_at slots fired place) rising);
-      },
-    )
+module _ (slots : Slots) (c : ℕ) where
+  -- each of them is one
+  pub under_listed : (ns : List ℕ) →
+      AllByRecursion (λ n. is_one (filter (is_under_in slots c) ns) n ≡ false → is_under_in slots c n ≡ false) ns
+  under_listed [] = tt
+  under_listed (n ∷ ns) = elim (is_under_in slots c n) as (λ b. is_under_in slots c n ≡ b →
+      (is_one (cond b (n ∷ filter (is_under_in slots c) ns) (filter (is_under_in slots c) ns)) n ≡ false → is_under_in slots c n ≡ false)
+      × AllByRecursion (λ m. is_one (cond b (n ∷ filter (is_under_in slots c) ns) (filter (is_under_in slots c) ns)) m ≡ false → is_under_in slots c m ≡ false) ns) [
+        | true ↦ λ under. ((λ none. absurd (let same : (n == n) ≡ true = grind (arith, nat_tests) in
+            let no : true ≡ false = sym (ap (λ b. if b then true else is_one (filter (is_under_in slots c) ns) n) same) ∙ none in cc)),
+            all_from (λ m. is_one (filter (is_under_in slots c) ns) m ≡ false → is_under_in slots c m ≡ false)
+            (λ m. is_one (n ∷ filter (is_under_in slots c) ns) m ≡ false → is_under_in slots c m ≡ false)
+            (λ m from none. from (elim (n == m) as (λ b. (if b then true else is_one (filter (is_under_in slots c) ns) m) ≡ false → is_one (filter (is_under_in slots c) ns) m ≡ false)
+            [ true ↦ λ no. absurd (cc) | false ↦ λ is. is ] none)) ns (under_listed ns))
+        | false ↦ λ other. ((λ none. other), under_listed ns)
+      ] refl
 
-module _ (slots slots' : Slots) (fired : List Fired) (key : ℕ) (row : WaitingRow) (vacant : slot_at slots key ≡ None)
-    (put : slot_at slots' key ≡ Some row) (rest : (n : ℕ) → n ≢ key → slot_at slots' n ≡ slot_at slots n) where
-  -- no place names the empty slot
-  not_vacant : (number name : ℕ) (known : Option Fired) (stage : Stage) →
-      IsKept slots fired number name known stage → stage ≡ InSlot → number ≢ key
-  not_vacant number name known InSlot kept stage same =
-      subst (λ (o : Option WaitingRow). IsSomeAnd o (λ (row : WaitingRow). row.cell ≡ name)) (ap (slot_at slots) same ∙ vacant) kept
-  not_vacant number name known Untaken kept stage same = absurd (cc)
-  not_vacant number name known (Taken was_set) kept stage same = absurd (cc)
+  -- they are no more than those that wait
+  pub under_fit : (ns : List ℕ) → length (filter (is_under_in slots c) ns) ≤ count_by is_waiting (rows_of slots ns)
+  under_fit [] = omega arith
+  under_fit (n ∷ ns) = elim (is_under_in slots c n) as (λ b. is_under_in slots c n ≡ b →
+      length (cond b (n ∷ filter (is_under_in slots c) ns) (filter (is_under_in slots c) ns))
+      ≤ count_by is_waiting (row_in slots n ∷ rows_of slots ns)) [
+        | true ↦ λ under. omega (arith, under_fit ns, sum_by-cons (λ r. cond (is_waiting r) 1 0) (row_in slots n) (rows_of slots ns),
+            ap (λ (b : Bool). cond {A = ℕ} b 1 0) (under_waits c (row_in slots n) under))
+        | false ↦ λ other. omega (arith, under_fit ns, sum_by-cons (λ r. cond (is_waiting r) 1 0) (row_in slots n) (rows_of slots ns))
+      ] refl
 
-  -- the new row is that of its place
-  new_row : (number name : ℕ) (known : Option Fired) (stage : Stage) → number ≡ key → stage ≡ InSlot → name ≡ row.cell →
-      (row_as slots' fired number name stage ≡ row_of_waiting row) × IsKept slots' fired number name known stage
-  new_row number name known stage number_is stage_is name_is = rw (number_is, stage_is, name_is, put) (refl, refl)
+-- ---- the slots after an event
 
-  -- the rows before it stay
-  before_new : (places : List Place) → AllByRecursion (IsKeptAt slots fired) places →
-      (rows_of slots' fired places ≡ rows_of slots fired places) × AllByRecursion (IsKeptAt slots' fired) places
-  before_new [] kept = (refl, tt)
-  before_new (q ∷ qs) kept =
-      let first = stays slots slots' fired fired (omega arith) (λ n l. refl) q kept.0 (λ stage.
-      rest q.number (not_vacant q.number q.note.cell q.note.known q.stage kept.0 stage)) in
-      let more = before_new qs kept.1 in
-      ((λ i. first.0 i ∷ more.0 i), (first.1, more.1))
-
-  -- what holds of all and of one more holds of all with it
-  all_push : (P : Place → Type 0) (qs : List Place) (q : Place) → AllByRecursion P qs → P q → AllByRecursion P (qs ++ q ∷ [])
-  all_push P [] q all one = (one, tt)
-  all_push P (x ∷ qs) q all one = (all.0, all_push P qs q all.1 one)
-
-  -- one more row stands behind the others
-  pub rows_pushed : (places : List Place) (place : Place) → Names place key row.cell → RowsInvariant slots fired places →
-      AllByRecursion (λ (r : TrackerRow). r.id < row.tracker.id) (rows_of slots fired places) →
-      (rows_of slots' fired (places ++ place ∷ []) ≡ rows_of slots fired places ++ row_of_waiting row ∷ [])
-      × RowsInvariant slots' fired (places ++ place ∷ [])
-  rows_pushed places place names sound below =
-      let new = new_row place.number place.note.cell place.note.known place.stage names.number_is names.stage_is names.cell_is in
-      let stay = before_new places sound.kept in
-      let pushed : rows_of slots' fired (places ++ place ∷ []) ≡ rows_of slots fired places ++ row_of_waiting row ∷ [] =
-      map_push (row_at slots' fired) places place ∙ (λ i. stay.0 i ++ new.0 i ∷ []) in (
-        pushed,
-        record {
-          kept = all_push (IsKeptAt slots' fired) places place stay.1 new.1;
-          rising = subst IdsRise (sym pushed) (rising_push (row_of_waiting row) (rows_of slots fired places) below sound.rising);
-        },
+-- the row that a slot has then, where what is met is one of those that were walked
+pub row_then : (w : World) (e : ℕ) (slots slots' : Slots) (ns : List ℕ) → IsAfter w e ns slots slots' → (n : ℕ) → IsThere slots n →
+    (is_one ns n ≡ false → is_met w (row_in slots n) ≡ false) → (row_in slots' n ≡ row_after w e (row_in slots n)) × IsThere slots' n
+row_then w e slots slots' ns after n is unmet = elim (is_one ns n) as (λ b. is_one ns n ≡ b →
+    slot_at slots' n ≡ (if b then option_map (row_after w e) (slot_at slots n) else slot_at slots n) →
+    (row_in slots' n ≡ row_after w e (row_in slots n)) × IsThere slots' n) [
+      | true ↦ λ one now. on (slot_at slots n) is (slot_at slots' n) now
+      | false ↦ λ none now. (
+        row_same slots slots' n now ∙ sym (after_unmet w e (row_in slots n) (unmet none)),
+        subst IsSome (sym now) is,
       )
+    ] refl (after n)
+  where
+    on : (o : Option TrackerRow) → IsSome o → (o' : Option TrackerRow) → o' ≡ option_map (row_after w e) o →
+        (unwrap_or o' no_row ≡ row_after w e (unwrap_or o no_row)) × IsSome o'
+    on (Some r) is o' now = (ap (λ o. unwrap_or o no_row) now, subst IsSome (sym now) refl)
+    on None is o' now = absurd (let no : false ≡ true = is in cc)
+
+module _ (w : World) (e : ℕ) (slots slots' : Slots) (c : ℕ) (order : List ℕ) (there : AllByRecursion (IsThere slots) order)
+    (after : IsAfter w e (filter (is_under_in slots c) order) slots slots')
+    (elsewhere : AllByRecursion (λ (r : TrackerRow). is_under c r ≡ false → is_met w r ≡ false) (rows_of slots order)) where
+  -- the slot is as the event left it, with a row
+  abbrev pub IsThen : ℕ → Type 0
+  IsThen n = (row_in slots' n ≡ row_after w e (row_in slots n)) × IsThere slots' n
+
+  -- all are
+  pub all_then : AllByRecursion IsThen order
+  all_then = over order there (under_listed slots c order) (all_rows (λ (r : TrackerRow). is_under c r ≡ false → is_met w r ≡ false) slots order elsewhere)
+    where
+      over : (ns : List ℕ) → AllByRecursion (IsThere slots) ns →
+          AllByRecursion (λ n. is_one (filter (is_under_in slots c) order) n ≡ false → is_under_in slots c n ≡ false) ns →
+          AllByRecursion (λ n. is_under_in slots c n ≡ false → is_met w (row_in slots n) ≡ false) ns → AllByRecursion IsThen ns
+      over [] is listed unmet = tt
+      over (n ∷ ns) is listed unmet = (
+        row_then w e slots slots' (filter (is_under_in slots c) order) after n is.0 (λ none. unmet.0 (listed.0 none)),
+        over ns is.1 listed.1 unmet.1,
+      )
+
+  -- so are the rows in their order
+  pub rows_then : rows_of slots' order ≡ map (row_after w e) (rows_of slots order)
+  rows_then = over order all_then
+    where
+      over : (ns : List ℕ) → AllByRecursion IsThen ns → rows_of slots' ns ≡ map (row_after w e) (rows_of slots ns)
+      over [] all = refl
+      over (n ∷ ns) all = let more = over ns all.1 in λ i. all.0.0 i ∷ more i
+
+  -- those fire that wait under the collection
+  pub fires_then : filter_map (fires w e) (rows_of slots (filter (is_under_in slots c) order)) ≡ filter_map (fires w e) (rows_of slots order)
+  fires_then = over order elsewhere
+    where
+      over : (ns : List ℕ) → AllByRecursion (λ (r : TrackerRow). is_under c r ≡ false → is_met w r ≡ false) (rows_of slots ns) →
+          filter_map (fires w e) (rows_of slots (filter (is_under_in slots c) ns)) ≡ filter_map (fires w e) (rows_of slots ns)
+      over [] all = refl
+      over (n ∷ ns) all =
+          let more = over ns all.1 in
+          elim (is_under_in slots c n) as (λ b. is_under_in slots c n ≡ b →
+          filter_map (fires w e) (rows_of slots (cond b (n ∷ filter (is_under_in slots c) ns) (filter (is_under_in slots c) ns)))
+          ≡ cons_option (fires w e (row_in slots n)) (filter_map (fires w e) (rows_of slots ns))) [
+            | true ↦ λ under. ap (cons_option (fires w e (row_in slots n))) more
+            | false ↦ λ other. more
+                ∙ ap (λ o. cons_option o (filter_map (fires w e) (rows_of slots ns))) (sym (fires_unmet w e (row_in slots n) (all.0 other)))
+          ] refl
+
+  -- those of the collection that still wait are under it
+  pub under_then : filter (waits_in slots') (filter (is_under_in slots c) order) ≡ filter (is_under_in slots' c) order
+  under_then = filter_both (is_under_in slots c) (waits_in slots') (is_under_in slots' c) order (all_from IsThen
+      (λ n. is_under_in slots' c n ≡ (if is_under_in slots c n then waits_in slots' n else false))
+      (λ n p. ap (is_under c) p.0 ∙ under_after w e c (row_in slots n)
+      ∙ ap (λ (r : TrackerRow). if is_under_in slots c n then is_waiting r else false) (sym p.0)) order all_then)
+
+  -- and under the others those that were
+  pub others_then : (k : ℕ) → (k == c) ≡ false → filter (is_under_in slots k) order ≡ filter (is_under_in slots' k) order
+  others_then k other = sym (over order all_then (all_rows (λ (r : TrackerRow). is_under c r ≡ false → is_met w r ≡ false) slots order elsewhere))
+    where
+      over : (ns : List ℕ) → AllByRecursion IsThen ns → AllByRecursion (λ n. is_under_in slots c n ≡ false → is_met w (row_in slots n) ≡ false) ns →
+          filter (is_under_in slots' k) ns ≡ filter (is_under_in slots k) ns
+      over [] all unmet = refl
+      over (n ∷ ns) all unmet =
+          let more = over ns all.1 unmet.1 in
+          let here = ap (is_under k) all.0.0 ∙ under_other w e k c (row_in slots n) other unmet.0 in
+          λ i. cond (here i) (n ∷ more i) (more i)

@@ -1,13 +1,12 @@
 -- How the rows of the table show it, and what is always true of them. No public clause cites this module.
-use Rattle.std.specs.Prelude.{◌≡◌, ◌≢◌, ℕ, suc, ◌+◌, ◌<◌, ◌≤◌, Bool, true, false, ⊤, if◌then◌else◌, List, [], ◌∷◌, map, length, Option, Some, None, MatchOption}
+use Rattle.std.specs.Prelude.{◌≡◌, ◌≢◌, ℕ, suc, ◌+◌, ◌<◌, ◌≤◌, Bool, true, false, ⊤, if◌then◌else◌, List, [], ◌∷◌, map, length, Option, Some, None, ◌==◌}
 use Rattle.std.specs.List.{filter_map, AllByRecursion, count_by}
 use Rattle.std.specs.Option.{option_map_or}
 use Rattle.sm_names.specs.declared.tracking.Fired.{Fired}
 use Rattle.sm_names.specs.Trackers.{World}
 use Rattle.trackers.specs.declared.waiting.Waiting.{Waiting}
 use Rattle.trackers.specs.Table.{TrackerTable, Cell, is_due, firing_of}
-use Rattle.trackers.specs.WaitIndex.{WaitIndex, IsIndexed}
-use Rattle.trackers.specs.Row.{TrackerRow, Waits, Over, is_waiting, waiting_of_row, firing_of_row}
+use Rattle.trackers.specs.Row.{TrackerRow, Over, is_waiting, waiting_of_row, firing_of_row}
 
 -- the cell of a row
 abbrev pub cell_of_row : TrackerRow → Cell
@@ -31,6 +30,10 @@ table_of limit rows fired = record {
 abbrev pub is_met : World → TrackerRow → Bool
 is_met world row = option_map_or (is_due world) (waiting_of_row row) false
 
+-- the tracker waits under the collection
+abbrev pub is_under : ℕ → TrackerRow → Bool
+is_under collection row = option_map_or (λ (t : Waiting). collection == t.collection) (waiting_of_row row) false
+
 -- the row after this event
 abbrev pub row_after : World → ℕ → TrackerRow → TrackerRow
 row_after world event row = if is_met world row then record row { state = Over event } else row
@@ -38,10 +41,6 @@ row_after world event row = if is_met world row then record row { state = Over e
 -- the firing of the row at this event, if it fires
 abbrev pub fires : World → ℕ → TrackerRow → Option Fired
 fires world event row = if is_met world row then Some (record { tracker = row.id; event = event }) else None
-
--- its id, if what it waits for holds
-abbrev pub due_id : World → TrackerRow → Option ℕ
-due_id world row = if is_met world row then Some row.id else None
 
 -- the ids rise
 abbrev pub IdsRise : List TrackerRow → Type 0
@@ -62,22 +61,8 @@ pub record AreHeld (limit : ℕ) (rows : List TrackerRow) (fired : List Fired) (
   pub told : AllByRecursion (λ (row : TrackerRow). firing_of fired row.id ≡ firing_of_row row) rows
   pub own : (id : ℕ) → NoneHas id rows → firing_of fired id ≡ None
 
--- the row of a tracker that was attached just now
-abbrev pub attached : ℕ → Waiting → TrackerRow
-attached cell t = record { id = t.id; cell = cell; state = Waits t.collection t.condition; has_reader = true }
-
--- what holds of the table: its rows and firings are sound, those that wait are in the index, and there is room for them
-pub record TableInvariant (limit : ℕ) (rows : List TrackerRow) (fired : List Fired) (capacity : ℕ) (spare : ℕ) (index : WaitIndex) : Type 0 where
-  pub held : AreHeld limit rows fired capacity
-  pub indexed : IsIndexed (filter_map waiting_of_row rows) index
-  pub spare_room : count_by is_waiting rows ≤ spare
-
 -- at this place the only row with this id stands
 pub data Found (id : ℕ) : List TrackerRow → ℕ → TrackerRow → Type 0 where
   here : {row : TrackerRow} {rows : List TrackerRow} → row.id ≡ id → NoneHas id rows → Found id (row ∷ rows) 0 row
   later : {row other : TrackerRow} {rows : List TrackerRow} {at : ℕ} → other.id ≢ id → Found id rows at row →
       Found id (other ∷ rows) (suc at) row
-
--- what a search for this id answers
-abbrev pub IsSearchAnswer : ℕ → List TrackerRow → Option ℕ → Type 0
-IsSearchAnswer id rows answer = MatchOption answer (NoneHas id rows) (λ at. (row : TrackerRow) × Found id rows at row)

@@ -49,28 +49,6 @@ abbrev pub reader_of_row : TrackerRow → Option Reader
 reader_of_row row =
     if row.has_reader then Some (record { tracker = row.id; cell = row.cell; known = firing_of_row row }) else None
 
--- the row of a tracker that waits: the tracker, the name of its cell, and whether its reader is still here
-pub record WaitingRow : Type 0 where
-  pub tracker : Waiting
-  pub cell : ℕ
-  pub has_reader : Bool
-
--- it as a row among the others
-abbrev pub row_of_waiting : WaitingRow → TrackerRow
-row_of_waiting row = record {
-  id = row.tracker.id;
-  cell = row.cell;
-  state = Waits row.tracker.collection row.tracker.condition;
-  has_reader = row.has_reader;
-}
-
--- its reader, if that is still here
-abbrev pub reader_of_waiting : WaitingRow → Option Reader
-reader_of_waiting row =
-    if row.has_reader then Some (record { tracker = row.tracker.id; cell = row.cell; known = None }) else None
-
--- what the table keeps: the rows by rising id, the firings in their order, and how many firings there may be
-pub record KeptRows : Type 0 where
-  pub rows : List TrackerRow
-  pub fired : List Fired
-  pub room : ℕ
+-- the row of a tracker that was attached just now
+abbrev pub attached : ℕ → Waiting → TrackerRow
+attached cell t = record { id = t.id; cell = cell; state = Waits t.collection t.condition; has_reader = true }

@@ -8,10 +8,10 @@ use Rattle.trackers.specs.declared.tracker.Source.TheVariants.{Cell, Told}
 
 -- the firing that a reader knows, where its note knows this much of the cell
 abbrev pub known_from : Source → Option Fired → Option Fired
-known_from (Cell cell) known = known
+known_from (Cell shared) known = known
 known_from (Told fired) known = Some fired
 
 -- a reader that reads a cell reads the one of this name
 abbrev pub IsSourceOf : ℕ → Source → Type 0
-IsSourceOf name (Cell cell) = name ≡ cell_name (arc_value cell)
+IsSourceOf name (Cell shared) = name ≡ cell_name (arc_value shared).cell
 IsSourceOf name (Told fired) = ⊤

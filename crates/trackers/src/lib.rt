@@ -3,9 +3,8 @@
 #![tactic(auto)]
 
 mod index;
-mod place;
 mod row;
-mod rows;
+mod slots;
 mod table;
 mod tracker;
 mod waiting;

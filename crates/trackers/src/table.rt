@@ -2,21 +2,18 @@
 ghost use Rattle.std.specs.Prelude.{◌≡◌, ◌≢◌, ℕ, ◌+◌, ◌^◌, ◌<◌, ◌≤◌, ◌==◌, ◌↔◌, [], ◌∷◌, ◌++◌, length, vec_capacity, true, false, if◌then◌else◌, Some, None, All, IsOk, OnOk, OnErr, IfSome, Err};
 ghost use Rattle.trackers.specs.declared.waiting.Waiting.{Waiting};
 ghost use Rattle.trackers.specs.Table.{TrackerTable, Cell, empty, is_due, firings, still_waiting, firing_of, cell_of, is_untaken, without_id, reader_of, forgetful, Attaches};
-ghost use Rattle.trackers.specs.WaitIndex.{waiters_of};
 ghost use Rattle.std.specs.Bool.{OnTrue};
-ghost use Rattle.std.specs.List.{AllByRecursion};
-ghost use Rattle.trackers.specs.Row.{TrackerRow};
-ghost use Rattle.trackers.specs.Held.{attached};
 
-use crate::index::{WaitIndex, Waiter, insert, remove_last, take_due_of};
+use crate::index::{WaitIndex, remove_last};
 use crate::row::Row;
-use crate::rows::Rows;
+use crate::slots::{add, agree_at, find_slot, forget, take_at};
 use crate::tracker::Tracker;
 use crate::waiting::Waiting;
-use crate::walk::fire_due;
+use crate::walk::sweep_under;
 use crate::world::World;
+use slab::Slab;
 use sm_names::{CollectionId, Fired, NoMemory, TrackerId};
-use std::alloc::{AllocError, Global};
+use std::alloc::Global;
 use std::collections::HashMap;
 use std::marker::Model;
 
@@ -31,15 +28,15 @@ pub enum TrackFault {
 }
 
 /// All trackers of a service. One that waits takes a row, a cell with the room for its value, and its
-/// places in the tables. Of one that fired 24 bytes are kept until it is forgotten: its firing, and the
-/// place that names it.
+/// places in the tables. Of one that fired the row and the firing are kept until it is forgotten.
 #[derive(Drop)]
 pub struct Trackers {
     limit: u32,
-    rows: Rows,
+    slots: Slab<Row>,
+    // The slots in use, by rising id of what they have.
+    order: Vec<u32>,
     index: WaitIndex,
-    // Room for all that wait: a sweep lists there those that are due.
-    due: Vec<Waiter>,
+    fired: Vec<Fired>,
 }
 
 impl Model for Trackers {
@@ -48,12 +45,14 @@ impl Model for Trackers {
     ghost Value = { TrackerTable };
 
     ghost use Rattle.std.specs.Prelude.{vec_capacity};
-    ghost use Rattle.trackers.specs.Held.{table_of, TableInvariant};
+    ghost use Rattle.trackers.specs.Held.{table_of};
+    ghost use Rattle.trackers.specs.Slots.{rows_of};
+    ghost use Rattle.trackers.specs.Kept.{TableInvariant};
 
-    ghost view = { λ t. table_of t.limit t.rows.rows t.rows.fired };
+    ghost view = { λ t. table_of t.limit (rows_of t.slots.slots t.order.items) t.fired.items };
 
     ghost invariant = { λ t.
-        TableInvariant t.limit t.rows.rows t.rows.fired t.rows.room (vec_capacity t.due) t.index };
+        TableInvariant t.limit t.slots.slots t.order.items t.fired.items (vec_capacity t.fired) t.index };
 }
 
 impl Trackers {
@@ -63,9 +62,10 @@ impl Trackers {
     {
         Trackers {
             limit,
-            rows: Rows::new(alloc),
+            slots: Slab::new(alloc),
+            order: Vec::new(alloc),
             index: HashMap::new(alloc),
-            due: Vec::new(alloc),
+            fired: Vec::new(alloc),
         }
     }
 
@@ -80,14 +80,15 @@ impl Trackers {
             ↔ (length self.old.unfired ≡ self.old.limit) }
         ensures err { OnErr result (self.new ≡ self.old) }
     {
-        let waiting = self.rows.waiting();
+        let waiting = self.waiting();
         if waiting >= self.limit as usize {
             return Err(TrackFault::Full);
         }
         match add(
-            &mut self.rows,
+            &mut self.slots,
+            &mut self.order,
             &mut self.index,
-            &mut self.due,
+            &mut self.fired,
             waiting,
             tracker,
         ) {
@@ -100,7 +101,7 @@ impl Trackers {
     pub fn waiting(&self) -> usize
         ensures { result ≡ length self.now.unfired }
     {
-        self.rows.waiting()
+        self.order.len() - self.fired.len()
     }
 
     /// Takes out again the tracker that was attached last, under this collection, before any sweep:
@@ -111,15 +112,17 @@ impl Trackers {
         ensures { (before : TrackerTable) (tracker : Waiting) →
             Attaches before self.old tracker → self.new ≡ before }
     {
-        self.rows.pop();
+        let Some(slot) = self.order.pop() else {
+            return;
+        };
+        let _row = self.slots.try_remove(slot as usize);
         remove_last(&mut self.index, collection);
     }
 
     /// Fires the trackers that wait and whose condition holds, by rising id, at this event, which
     /// concerned one collection: under another none holds. Takes no memory. It looks up that
-    /// collection, and makes one test for each tracker that waits under it; if any fires, it tests each
-    /// once more. One that fires is found where it was attached, or by a binary search if others were
-    /// forgotten since. Those of other collections, and those that fired, cost nothing.
+    /// collection, and makes one test for each tracker that waits under it; if any fires, it looks at each
+    /// once more. Those of other collections, and those that fired, cost nothing.
     pub fn sweep<W: World>(&mut self, event: u64, collection: CollectionId, world: &W)
         requires elsewhere { All (λ (t : Waiting). t.collection ≢ collection
             → is_due (W.seen world.now) t ≡ false) self.old.unfired }
@@ -130,9 +133,14 @@ impl Trackers {
         ensures rest { self.new
             ≡ record self.old { unfired = self.new.unfired; fired = self.new.fired } }
     {
-        self.due.clear();
-        take_due_of(&mut self.index, collection, &mut self.due, world);
-        fire_due(&mut self.rows, &self.due, event, world);
+        sweep_under(
+            &mut self.index,
+            &mut self.slots,
+            &mut self.fired,
+            collection,
+            event,
+            world,
+        );
     }
 
     /// The firings in their order: by event, as the sweeps came, and by rising id within one. It
@@ -140,7 +148,7 @@ impl Trackers {
     pub fn fired(&self) -> &[Fired]
         ensures { result.now ≡ self.now.fired }
     {
-        self.rows.fired()
+        &self.fired
     }
 
     /// Forgets the trackers that fired: their firings, and those of their readers that were not taken. A
@@ -152,7 +160,8 @@ impl Trackers {
         ensures ok { OnOk result (self.new ≡ forgetful self.old) }
         ensures err { OnErr result (self.new ≡ self.old) }
     {
-        self.rows.forget();
+        forget(&mut self.order, &mut self.slots);
+        self.fired.clear();
         Ok(())
     }
 
@@ -166,8 +175,8 @@ impl Trackers {
         ensures taken { self.new
             ≡ record self.old { untaken = without_id self.old.untaken id } }
     {
-        match self.rows.find(id) {
-            Some(at) => self.rows.take(at),
+        match find_slot(&self.order, &self.slots, id) {
+            Some(slot) => take_at(&mut self.slots, slot),
             None => None,
         }
     }
@@ -190,50 +199,9 @@ impl Trackers {
         ensures kept { self.new ≡ self.old }
         ensures tracker_kept { tracker.new ≡ tracker.old }
     {
-        let Some(at) = self.rows.find(tracker.id()) else {
-            return false;
-        };
-        self.rows.agree(at, tracker)
-    }
-}
-
-/// Adds a row that waits, with room for its firing beside those of the others that wait.
-fn add(
-    rows: &mut Rows,
-    index: &mut WaitIndex,
-    due: &mut Vec<Waiter>,
-    waiting: usize,
-    tracker: Waiting,
-) -> Result<(), AllocError>
-    requires small { waiting < 2 ^ 32 }
-    requires placed { length rows.old.rows ≡ length rows.old.fired + waiting }
-    requires rising { AllByRecursion (λ (r : TrackerRow). r.id < tracker.id) rows.old.rows }
-    ensures row { OnOk result ((cell : ℕ) × (rows.new.rows
-        ≡ rows.old.rows ++ attached cell tracker ∷ [])) }
-    ensures room { OnOk result (length rows.old.fired + (waiting + 1) ≤ rows.new.room) }
-    ensures spare { OnOk result (waiting + 1 ≤ vec_capacity due.new) }
-    ensures indexed { OnOk result ((hint : ℕ) × ((c : ℕ) → waiters_of index.new c
-        ≡ (if c == tracker.collection
-        then waiters_of index.old c ++ record { tracker = tracker; hint = hint } ∷ []
-        else waiters_of index.old c))) }
-    ensures fired { rows.new.fired ≡ rows.old.fired }
-    ensures capacity { rows.old.room ≤ rows.new.room }
-    ensures more_spare { vec_capacity due.old ≤ vec_capacity due.new }
-    ensures rows_kept { OnErr result (rows.new.rows ≡ rows.old.rows) }
-    ensures index_kept { OnErr result ((c : ℕ) →
-        waiters_of index.new c ≡ waiters_of index.old c) }
-{
-    let alloc = *due.allocator();
-    due.reserve(waiting + 1)?;
-    let row = Row::new(alloc, tracker)?;
-    let at = rows.len();
-    rows.push(row, waiting)?;
-    let hint = at as u32;
-    match insert(index, alloc, Waiter { tracker, hint }) {
-        Ok(()) => Ok(()),
-        Err(fault) => {
-            rows.pop();
-            Err(fault)
+        match find_slot(&self.order, &self.slots, tracker.id()) {
+            Some(slot) => agree_at(&mut self.slots, slot, tracker),
+            None => false,
         }
     }
 }

@@ -4,16 +4,24 @@ ghost use Rattle.std.specs.Arc.{arc_value};
 ghost use Rattle.once_cell.specs.Once.{cell_name};
 ghost use Rattle.trackers.specs.Table.{Reader};
 
+use crate::waiting::Waiting;
 use once_cell::race::{Note, OnceBox};
 use sm_names::{Fired, TrackerId};
 use std::marker::Model;
 use std::sync::Arc;
 
+/// What a reader shares with the table: the cell, and the tracker, whose condition the sweeps test.
+#[derive(Drop)]
+pub(crate) struct Shared {
+    pub(crate) cell: OnceBox<Fired>,
+    pub(crate) tracker: Waiting,
+}
+
 /// Where a reader finds the firing.
 #[derive(Drop)]
 enum Source {
     /// In the cell, which the table sets.
-    Cell(Arc<OnceBox<Fired>>),
+    Cell(Arc<Shared>),
     /// Here: the reader got it as a value, since the tracker fired before the reader was taken.
     Told(Fired),
 }
@@ -41,13 +49,13 @@ impl Model for Tracker {
 
 impl Tracker {
     /// A reader of this cell, which knows what the note knows.
-    pub(crate) fn new(id: TrackerId, cell: Arc<OnceBox<Fired>>, note: Note<Fired>) -> Tracker
-        requires { note.cell ≡ cell_name (arc_value cell) }
+    pub(crate) fn new(id: TrackerId, shared: Arc<Shared>, note: Note<Fired>) -> Tracker
+        requires { note.cell ≡ cell_name (arc_value shared).cell }
         ensures { result ≡ record { tracker = id; cell = note.cell; known = note.known } }
     {
         Tracker {
             id,
-            source: Source::Cell(cell),
+            source: Source::Cell(shared),
             note,
         }
     }
@@ -72,7 +80,7 @@ impl Tracker {
     {
         match &self.source {
             Source::Told(told) => Some(*told),
-            Source::Cell(cell) => match cell.get_as(&mut self.note) {
+            Source::Cell(shared) => match shared.cell.get_as(&mut self.note) {
                 Some(fired) => Some(*fired),
                 None => None,
             },
@@ -111,7 +119,7 @@ impl Tracker {
         let mut note = self.note.again();
         match &self.source {
             Source::Told(told) => *told == fired,
-            Source::Cell(cell) => match cell.get_as(&mut note) {
+            Source::Cell(shared) => match shared.cell.get_as(&mut note) {
                 Some(seen) => *seen == fired,
                 None => false,
             },

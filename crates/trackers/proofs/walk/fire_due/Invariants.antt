@@ -1,11 +1,13 @@
-use Rattle.trackers.proofs.Common.{drop, ids_of, length, ◌+◌, ◌≡◌, ◌≤◌}
-use Rattle.trackers.proofs.Walks.{Walked}
+use Rattle.trackers.proofs.Common.{IsAfter, filter_map, fires, rows_of, take, vec_capacity, ◌++◌, ◌+◌, ◌≡◌, ◌≤◌}
+use Rattle.std.proofs.Common.{vec_len}
 use Rattle.trackers.proofs.walk.fire_due.Given as goal
 
-abbrev pub invariant-loop-waiter : goal.invariant-loop-waiter
-invariant-loop-waiter g l = record {
-  walked : Walked (g.W.World.seen l.world) l.event l.initial.rows.rows l.initial.rows.fired l.rows.rows l.rows.fired
-      (ids_of (drop l.waiter-index l.due));
-  room : length l.rows.fired + length (drop l.waiter-index l.due) ≤ l.initial.rows.room;
-  same : l.rows.room ≡ l.initial.rows.room;
+-- those so far are as the event left them, and fired
+abbrev pub invariant-loop-slot : goal.invariant-loop-slot
+invariant-loop-slot g l = record {
+  after : IsAfter (g.W.World.seen l.world) l.event (take l.slot-index l.list) l.initial.slots.slots l.slots.slots;
+  fired : l.fired.items ≡ l.initial.fired.items
+      ++ filter_map (fires (g.W.World.seen l.world) l.event) (rows_of l.initial.slots.slots (take l.slot-index l.list));
+  few : vec_len l.fired ≤ vec_len l.initial.fired + l.slot-index;
+  capacity : vec_capacity l.fired ≡ vec_capacity l.initial.fired;
 }

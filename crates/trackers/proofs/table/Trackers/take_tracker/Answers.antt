@@ -1,43 +1,31 @@
-use Rattle.std.proofs.Common.{refl}
-use Rattle.trackers.proofs.FoundLemmas.{found_within, found_row, none_untaken, none_without}
-use Rattle.trackers.proofs.FoundLemmas.{sound_taken, table_taken, reader_taken, reader_cell}
+use Rattle.trackers.proofs.FoundLemmas.{none_untaken, none_without, reader_cell, reader_taken}
+use Rattle.trackers.proofs.Common.{refl, rows_of}
+use Rattle.trackers.proofs.TakeLemmas.{shown_taken, sound_taken, slot_found}
 use Rattle.trackers.proofs.table.Trackers.take_tracker.Goals as goal
 
-pub take-requires : goal.take-requires
-take-requires c = found_within _ c.in-Some.ensures.1
+pub take_at-requires : goal.take_at-requires
+take_at-requires c = slot_found _ _ _ _ c.self.invariant.there c.in-Some.ensures
 
--- the row is the one that was searched for
+-- of the rows the one that was searched for is another
 pub invariant_of-self : goal.invariant_of-self
-invariant_of-self c =
-    let found = c.in-Some.ensures in
-    let here = found_row _ found.1 found.0 in
-    rw (c.take.ensures.taken found.0, here) (sound_taken _ _ _ _ _ _ found.1 c.self.invariant)
+invariant_of-self c = sound_taken _ _ _ _ _ c.in-Some.ensures c.take_at.ensures.others c.take_at.ensures.taken _ _ _ _ c.self.invariant
 
 pub returns-in-Some-clause-tracker : goal.returns-in-Some-clause-tracker
-returns-in-Some-clause-tracker c =
-    let found = c.in-Some.ensures in
-    let here = found_row _ found.1 found.0 in
-    rw (← c.self.view_is, c.take.ensures.reader found.0, here) (reader_taken _ c.self.inside.limit _ found.1 c.self.invariant.held.told)
+returns-in-Some-clause-tracker c = rw (← c.self.view_is, c.take_at.ensures.reader)
+    (reader_taken _ c.self.inside.limit _ c.in-Some.ensures.2 c.self.invariant.held.told)
 
 pub returns-in-Some-clause-cell : goal.returns-in-Some-clause-cell
-returns-in-Some-clause-cell c =
-    let found = c.in-Some.ensures in
-    let here = found_row _ found.1 found.0 in
-    rw (← c.self.view_is, c.take.ensures.reader found.0, here) (reader_cell _ found.1)
+returns-in-Some-clause-cell c = rw (← c.self.view_is, c.take_at.ensures.reader) (reader_cell _ c.in-Some.ensures.2)
 
 pub returns-in-Some-clause-taken : goal.returns-in-Some-clause-taken
-returns-in-Some-clause-taken c =
-    let found = c.in-Some.ensures in
-    let here = found_row _ found.1 found.0 in
-    rw (← c.self.view_is, c.take.ensures.taken found.0, here) (table_taken _ c.self.inside.limit _ found.1)
+returns-in-Some-clause-taken c = rw (← c.self.view_is) (shown_taken _ _ _ _ _ c.in-Some.ensures c.take_at.ensures.others
+    c.take_at.ensures.taken c.self.inside.limit c.self.inside.fired.items)
 
 -- no row has this id
 pub returns-in-None-clause-tracker : goal.returns-in-None-clause-tracker
 returns-in-None-clause-tracker c =
-    let none = c.in-None.ensures in
-    rw (← c.self.view_is, none_untaken c.args.id c.self.inside.rows.rows none) refl
+    rw (← c.self.view_is, none_untaken c.args.id (rows_of c.self.inside.slots.slots c.self.inside.order.items) c.in-None.ensures) refl
 
 pub returns-in-None-clause-taken : goal.returns-in-None-clause-taken
 returns-in-None-clause-taken c =
-    let none = c.in-None.ensures in
-    rw (← c.self.view_is, none_without c.args.id c.self.inside.rows.rows none) refl
+    rw (← c.self.view_is, none_without c.args.id (rows_of c.self.inside.slots.slots c.self.inside.order.items) c.in-None.ensures) refl
