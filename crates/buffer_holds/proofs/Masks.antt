@@ -1,16 +1,16 @@
 -- The cells of a page, by its mask and its counts.
-use Rattle.std.proofs.Common.{◌≡◌, ◌≢◌, ◌+◌, ◌-◌, ◌*◌, ◌%◌, ◌/◌, ◌^◌, ◌<◌, ◌≤◌, ◌∙◌, refl, sym, ap, subst, ℕ, zero, suc, Bool, true, false}
-use Rattle.std.proofs.Common.{if◌then◌else◌, ◌==◌, List, [], ◌∷◌, Option, Some, None, arith, get_or, is_some, length, replicate, set, unwrap_or}
-use Rattle.std.proofs.Common.{bit_and, bit_or, ⊎_elim, max, nat_lt, not, ◌&&◌}
-use Rattle.std.specs.Int.{bit_at, bit_not, w128}
-use Rattle.std.proofs.lemmas.Bool.{cases_eq, cases_lt, eqb-false, eqb-true}
-use Rattle.std.proofs.lemmas.List.{get_or-set_same, get_or-set_other, get_or_past}
-use Rattle.std.proofs.lemmas.Nat.Bits.{bit_at_lowest, bit_at-lt, bit_at-suc, bit_at-zero}
-use Rattle.std.proofs.lemmas.Nat.Bits.{bit_at_set_same, bit_at_set_other, bit_at_clear_same, bit_at_clear_other}
-use Rattle.std.proofs.lemmas.Bool.{le-ltb, lt-ltb}
+use Rattle.buffer_holds.proofs.Common.{Bool, IsBlank, IsIn, IsMasked, List, None, Option, RaisesSet, SetsCell, Some, [], ap, arith}
+use Rattle.buffer_holds.proofs.Common.{bit_at, bit_at-lt, bit_at-zero, bit_at_lowest, cases_eq, cases_lt, cell_at, count_in, eqb-false}
+use Rattle.buffer_holds.proofs.Common.{false≢true, is_some}
+use Rattle.buffer_holds.proofs.Common.{eqb-true, false, get_or, get_or-set_other, get_or-set_same, if◌then◌else◌, is_in, le-ltb, length}
+use Rattle.buffer_holds.proofs.Common.{lt-ltb, masked, nat_lt, not, raised, refl, replicate, set, subst, suc, sym, true, unwrap_or, zero}
+use Rattle.buffer_holds.proofs.Common.{ℕ, ⊎_elim, ◌%◌, ◌&&◌, ◌*◌, ◌+◌, ◌-◌, ◌/◌, ◌<◌, ◌==◌, ◌^◌, ◌∙◌, ◌∷◌, ◌≡◌, ◌≢◌, ◌≤◌}
+use Rattle.std.proofs.Common.{bit_and, bit_or, max}
+use Rattle.std.specs.Int.{bit_not, w128}
+use Rattle.std.proofs.lemmas.List.{get_or_past}
+use Rattle.std.proofs.lemmas.Nat.Bits.{bit_at-suc, bit_at_clear_same, bit_at_clear_other, bit_at_cat_high, bit_at_cat_low, bit_at_or}
+use Rattle.std.proofs.lemmas.Nat.Bits.{same_from_bits_below}
 use Rattle.std.proofs.lemmas.Nat.{pow_pos}
-use Rattle.std.proofs.lemmas.Nat.Bits.{bit_at_cat_high, bit_at_cat_low, bit_at_or}
-use Rattle.buffer_holds.specs.Pages.{cell_at, count_in, is_in, masked, raised, IsBlank, IsIn, IsMasked, RaisesSet, SetsCell}
 
 -- a cell with this bit and count
 abbrev pub cell_of : ℕ → ℕ → Option ℕ
@@ -44,6 +44,19 @@ pub blank_masked : (rows : ℕ) (counts : List ℕ) → rows ≡ 0 → IsBlank (
 blank_masked rows counts none at =
     ⊎_elim (λ less. cell_within rows counts at less ∙ ap (λ b. cell_of b (get_or counts at 0)) (ap (λ n. bit_at n at) none ∙ bit_at-zero at))
     (λ past. cell_past rows counts at past) (cases_lt at (length counts))
+
+-- and where all are empty there is no bit
+pub no_bits : (rows : ℕ) (counts : List ℕ) → length counts ≡ 128 → rows < 2 ^ 128 → IsBlank (masked rows counts) → rows ≡ 0
+no_bits rows counts size fits blank =
+    same_from_bits_below 128 rows 0 fits (omega arith) (λ at small.
+    none at (bit_at rows at) refl (bit_at-lt rows at) (sym (cell_within rows counts at (omega (arith, small, size))) ∙ blank at)
+    ∙ sym (bit_at-zero at))
+  where
+    none : (at b : ℕ) → bit_at rows at ≡ b → b < 2 → cell_of (bit_at rows at) (get_or counts at 0) ≡ None → bit_at rows at ≡ 0
+    none at zero is less empty = is
+    none at (suc zero) is less empty =
+        absurd (false≢true (sym (ap is_some (ap (λ m. cell_of m (get_or counts at 0)) (sym is) ∙ empty))))
+    none at (suc (suc b)) is less empty = absurd (omega (arith, less))
 
 -- a count of nothing is 0
 pub none_in : (n at : ℕ) → ◌≡◌ {A = ℕ} (get_or (replicate n 0) at 0) 0

@@ -1,22 +1,13 @@
 -- What one call does to a page and the sum of its part.
-use Rattle.std.proofs.Common.{◌≡◌, ◌+◌, ◌-◌, ◌≤◌, ◌<◌, ◌==◌, ◌&&◌, refl, sym, ap, subst, ◌∙◌, ℕ, Bool, true, false, cond}
-use Rattle.std.proofs.Common.{List, Option, Some, None, arith, if◌then◌else◌, IsSome, is_some, unwrap_or}
-use Rattle.std.proofs.lemmas.Bool.{eqb-true}
-use Rattle.std.specs.Map.{lookup}
-use Rattle.sm_names.specs.declared.keys.BufferName.{BufferName}
-use Rattle.sm_names.specs.declared.keys.Strength.{Strength}
-use Rattle.buffer_holds.specs.declared.names.Owner.{Owner}
-use Rattle.buffer_holds.specs.declared.names.Part.{Part}
-use Rattle.buffer_holds.specs.declared.sums.Sum.{Sum}
-use Rattle.buffer_holds.specs.Changes.{Sets, Tidies}
-use Rattle.buffer_holds.specs.declared.kinds.HandleKind.{HandleKind}
-use Rattle.buffer_holds.specs.Counts.{Counts, of, moving_count, sent, total}
-use Rattle.buffer_holds.specs.Kinds.{hold_of, kind_of, same_handle_kind}
-use Rattle.buffer_holds.specs.Pages.{cell_at, count_in, owner_of, part_of, page_of, same_owner, same_part, slot_of, tidied, IsBlank}
-use Rattle.buffer_holds.specs.Rows.{weight_at}
-use Rattle.buffer_holds.specs.Sums.{one_page, page_in, sum_in, sum_of, Agrees, IsAlike, Pages, PageBecomes, Sums, SumBecomes}
+use Rattle.buffer_holds.proofs.Common.{Agrees, Bool, BufferName, Counts, HandleKind, IsAlike, IsBlank, IsSome, List, None, Option, Owner}
+use Rattle.buffer_holds.proofs.Common.{PageBecomes, Pages, Part, Sets, Some, Strength, Sum, SumBecomes, Sums, Tidies, ap, arith, cell_at}
+use Rattle.buffer_holds.proofs.Common.{cond, count_in, eqb-true, false, hold_of, if◌then◌else◌, is_some, kind_of, lookup, moving_count}
+use Rattle.buffer_holds.proofs.Common.{of, one_page, owner_of, page_in, page_of, part_of, refl, same_handle_kind, same_owner, same_part}
+use Rattle.buffer_holds.proofs.Common.{slot_of, subst, sum_in, sum_of, sym, tidied, total, true, unwrap_or, weight_at, ℕ, ◌&&◌, ◌+◌, ◌-◌}
+use Rattle.buffer_holds.proofs.Common.{false≢true, ◌<◌, ◌==◌, ◌∙◌, ◌≡◌, ◌≤◌}
+use Rattle.buffer_holds.specs.Counts.{sent}
 use Rattle.buffer_holds.proofs.KindLemmas.{same_kind-one}
-use Rattle.buffer_holds.proofs.PageNames.{same_owner-one, same_part-one, slot_within}
+use Rattle.buffer_holds.proofs.PageNames.{same_owner-one, same_owner-refl, same_part-one, slot_within}
 use Rattle.buffer_holds.proofs.RowLemmas.{weight_at-le-sum_by}
 use Rattle.buffer_holds.proofs.Seen.{moving_is, row_is, seen, sent_same, sent_set, sets_seen, tidied_count, tidies_seen, total_is}
 use Rattle.buffer_holds.proofs.Sound.{agrees_after, cells_after, moving_after, page-has-sum, page-le-clients, sum-is-known, totals_after}
@@ -91,6 +82,17 @@ pub sum_told : {sums sums' : Sums} {part : Part} {clients : ℕ} {totals moving 
     SumBecomes sums sums' part clients totals moving → ((at : ℕ) → totals at ≡ totals' at) → ((at : ℕ) → moving at ≡ moving' at) →
     SumBecomes sums sums' part clients totals' moving'
 sum_told totals' moving' sum same_totals same_moving = sum_told_as _ totals' moving' sum refl same_totals same_moving
+
+-- a page that is not there is not found
+pub not_there : {rows rows' : Pages} {owner : Owner} {cells : ℕ → Option ℕ} → PageBecomes rows rows' owner false cells →
+    lookup (same_owner owner) rows' ≡ None
+not_there {rows} {rows'} {owner} row =
+    row.resets.finds owner ∙ ap (λ (b : Bool). if b then row.now else lookup (same_owner owner) rows) (same_owner-refl owner)
+    ∙ none row.now row.is_there
+  where
+    none : (o : Option (List (Option ℕ))) → is_some o ≡ false → o ≡ None
+    none None is = refl
+    none (Some page) is = absurd (false≢true (sym is))
 
 -- a count that is set to what it was
 pub itself_at : (slot : ℕ) (f : ℕ → ℕ) (at : ℕ) → f at ≡ (if slot == at then f slot else f at)

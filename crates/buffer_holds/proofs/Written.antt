@@ -1,21 +1,15 @@
 -- What is written at the place where an entry stands.
-use Rattle.std.proofs.Common.{◌≡◌, ◌<◌, ◌++◌, ℕ, zero, suc, ◌∙◌, ap, arith, refl, subst, sym, Bool, true, false, List, [], ◌∷◌, Option, Some, None}
-use Rattle.std.proofs.Common.{IfSome, MutBor, get_or, length, length-append, slice_get}
-use Rattle.std.proofs.lemmas.Option.{get_or_from_slice_get, slice_get-get_or, slice_get_within}
-use Rattle.std.specs.HashMap.{HashMap, values, IsUnique, Updates}
-use Rattle.std.specs.List.{IsDistinct, swap_remove}
-use Rattle.std.specs.Map.{lookup, keys_of}
-use Rattle.std.specs.Option.{option_copied_mut}
-use Rattle.indexmap.specs.IndexMap.{insert_entry, set_value_at}
-use Rattle.indexmap.proofs.CallerLemmas.{index_map_len-with_value_at, insert_entry-new}
+use Rattle.buffer_holds.proofs.Common.{HashMap, IfSome, IsDistinct, IsUnique, List, MutBor, None, Option, Owner, PageBecomes, Part, Some}
+use Rattle.buffer_holds.proofs.Common.{Sum, SumBecomes, Updates, [], ap, arith, cell_at, count_in, false, get_or, get_or_from_slice_get}
+use Rattle.buffer_holds.proofs.Common.{insert_entry, insert_entry-new, keys_of, length, lookup, option_copied_mut, page_in, page_of, refl}
+use Rattle.buffer_holds.proofs.Common.{same_owner, same_part, set_value_at, slice_get, slice_get_within, subst, suc, sum_in, sum_of}
+use Rattle.buffer_holds.proofs.Common.{swap_remove, sym, true, values, zero, ℕ, ◌<◌, ◌∙◌, ◌∷◌, ◌≡◌}
+use Rattle.std.proofs.Common.{Bool, if◌then◌else◌, ◌++◌, length-append}
+use Rattle.std.proofs.lemmas.Option.{slice_get-get_or}
+use Rattle.indexmap.proofs.CallerLemmas.{index_map_len-with_value_at}
 use Rattle.buffer_holds.specs.contracts.names.OwnerPartialEq.TheImpl.{eq-value as owner_eq}
 use Rattle.buffer_holds.specs.contracts.names.PartPartialEq.TheImpl.{eq-value as part_eq}
-use Rattle.buffer_holds.specs.declared.names.Owner.{Owner}
-use Rattle.buffer_holds.specs.declared.names.Part.{Part}
-use Rattle.buffer_holds.specs.declared.sums.Sum.{Sum}
-use Rattle.buffer_holds.specs.Pages.{cell_at, count_in, page_of, same_owner, same_part}
 use Rattle.buffer_holds.specs.Rows.{Resets, StandsAt}
-use Rattle.buffer_holds.specs.Sums.{page_in, sum_in, sum_of, PageBecomes, SumBecomes}
 use Rattle.buffer_holds.proofs.PageNames.{derived_owner, derived_part, same_owner-one, same_owner-refl, same_part-one, same_part-refl}
 use Rattle.buffer_holds.proofs.RowLemmas.{lookup_placed, resets_added, resets_placed, resets_taken, value_lent_at}
 
@@ -160,15 +154,18 @@ module _ {S : Type 0} (m n : HashMap Part Sum S) (part : Part) (place : ℕ) (su
       lookup_placed part_eq.it same_part derived_part same_part-one same_part-refl m m part place sum stands
       (subst (λ eq. IsDistinct eq (keys_of m.entries)) (sym derived_part) distinct)
 
-  pub sum_taken : {taken : Option (Part × Sum)} → taken ≡ slice_get m.entries place
-      → IfSome taken (λ e. n.entries ≡ swap_remove m.entries place e) → IfSome taken (λ e. Updates part_eq.it m n e.0 None) →
-      IsUnique part_eq.it n
-      → SumBecomes m.entries n.entries part 0 (λ at. 0) (λ at. 0)
-  sum_taken {taken} entry left updates unique = record {
-    now = None;
-    resets = resets_taken part_eq.it same_part derived_part same_part-one same_part-refl m n part place sum stands
-        (subst (λ s. lookup (s part) m.entries ≡ Some sum) (sym derived_part) sum_found) taken entry left updates unique;
-    clients_are = refl;
-    totals_are = λ at. refl;
-    moving_are = λ at. refl;
-  }
+  module _ {taken : Option (Part × Sum)} (entry : taken ≡ slice_get m.entries place)
+      (left : IfSome taken (λ e. n.entries ≡ swap_remove m.entries place e)) (updates : IfSome taken (λ e. Updates part_eq.it m n e.0 None))
+      (unique : IsUnique part_eq.it n) where
+    sum_reset : Resets same_part m.entries n.entries part (lookup (same_part part) m.entries) None
+    sum_reset =
+        resets_taken part_eq.it same_part derived_part same_part-one same_part-refl m n part place sum stands
+        (subst (λ s. lookup (s part) m.entries ≡ Some sum) (sym derived_part) sum_found) taken entry left updates unique
+
+    pub sum_taken : SumBecomes m.entries n.entries part 0 (λ at. 0) (λ at. 0)
+    sum_taken = record { now = None; resets = sum_reset; clients_are = refl; totals_are = λ at. refl; moving_are = λ at. refl }
+
+    -- it is not found any more
+    pub sum_gone : lookup (same_part part) n.entries ≡ None
+    sum_gone =
+        sum_reset.finds part ∙ ap (λ (b : Bool). if b then None else lookup (same_part part) m.entries) (same_part-refl part)

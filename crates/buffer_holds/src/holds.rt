@@ -172,6 +172,15 @@ impl Holds {
         self.most < self.limit
     }
 
+    // Whether as many of these handles are open as may be. One look-up, and none until as many of one kind were open.
+    #[inline(always)]
+    fn is_full(&self, buffer: BufferName, strength: Strength) -> bool
+        ensures full { IsTrue result ↔ (total self.now buffer strength ≡ self.now.limit) }
+        ensures fewer { OnFalse result (total self.now buffer strength < self.now.limit) }
+    {
+        !self.have_room() && self.total(buffer, strength) >= self.limit
+    }
+
     // Whether it is known that no handle is open on this buffer: none was ever opened on one of its
     // collection, nor of a collection with a greater id.
     #[inline(always)]
@@ -193,7 +202,7 @@ impl Holds {
     }
 
     /// Whether nothing at all keeps this buffer of an allocated collection, so that its pages go
-    /// back: it is doomed, and no weak handle is open, in a parcel or out of it. Two look-ups; none
+    /// back: it is doomed, and no weak handle is open, in a parcel or out of it. Two look-ups at most; none
     /// where no handle was ever opened on a buffer of its collection, nor of one with a greater id.
     #[inline(always)]
     pub fn home(&self, buffer: BufferName, strong_live: bool) -> bool
@@ -206,9 +215,7 @@ impl Holds {
         if self.is_unopened(buffer) {
             return true;
         }
-        let strong = self.total(buffer, Strength::Strong);
-        let weak = self.total(buffer, Strength::Weak);
-        strong == 0 && weak == 0
+        self.total(buffer, Strength::Strong) == 0 && self.total(buffer, Strength::Weak) == 0
     }
 
     /// Opens one more of these handles for the client.
@@ -236,7 +243,7 @@ impl Holds {
         let kind = HandleKind { buffer, strength };
         let owner = owner_of(Hold { client, kind });
         let slot = slot_of(kind);
-        if self.total(buffer, strength) >= self.limit {
+        if self.is_full(buffer, strength) {
             return Err(HoldFault::TooMany);
         }
         match self.gain(owner, slot, 1) {

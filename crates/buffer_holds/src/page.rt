@@ -1,5 +1,5 @@
 //! The counts of one page.
-ghost use Rattle.std.specs.Prelude.{ℕ, ◌≡◌, ◌==◌, ◌+◌, ◌-◌, ◌^◌, ◌<◌, ◌≤◌, true, if◌then◌else◌, get_or, is_some, length, None, Some, IfOk};
+ghost use Rattle.std.specs.Prelude.{ℕ, ◌≡◌, ◌==◌, ◌+◌, ◌-◌, ◌^◌, ◌<◌, ◌≤◌, ◌↔◌, if◌then◌else◌, get_or, is_some, length, None, Some, IfOk, IsTrue};
 ghost use Rattle.buffer_holds.specs.Pages.{cell_at, count_in, in_run, is_in, tidied, IsBlank, IsIn, RaisesSet, SetsCell};
 
 use std::alloc::{AllocError, Global};
@@ -121,7 +121,7 @@ impl Page {
     // Whether all cells are empty.
     #[inline(always)]
     pub(crate) fn is_blank(&self) -> bool
-        ensures { result ≡ true → IsBlank self.now }
+        ensures { IsTrue result ↔ IsBlank self.now }
     {
         self.cells.full == 0
     }

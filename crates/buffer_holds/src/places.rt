@@ -4,7 +4,7 @@ ghost use Rattle.std.specs.Map.{lookup};
 ghost use Rattle.indexmap.specs.IndexMap.{spare};
 ghost use Rattle.buffer_holds.specs.Pages.{count_in, same_owner, same_part, IsBlank};
 ghost use Rattle.buffer_holds.specs.Rows.{StandsAt};
-ghost use Rattle.buffer_holds.specs.Sums.{sum_in, Agrees, IsAlike, PageBecomes, SumBecomes};
+ghost use Rattle.buffer_holds.specs.Sums.{sum_in, Agrees, IsAlike, PageBecomes, StandsBlank, SumBecomes};
 
 use crate::last::Last;
 use crate::names::Owner;
@@ -14,7 +14,6 @@ use crate::sums::{Sums, add_sum, enter, leave, sum_place};
 use sm_names::CollectionId;
 use std::alloc::AllocError;
 use std::cell::Cell;
-use std::mem::replace;
 
 // Where the owner's page and the sum of its part stand.
 #[derive(Clone, Copy)]
@@ -113,7 +112,12 @@ pub(crate) fn find_places(
     let sum = sum_place(sums, *newest, owner.part, &last.sum);
     let Some(row) = row_beside(rows, owner, sum, &last.row) else {
         let _rows = rows.len();
-        let places = make_places(rows, sums, spares, last, owner, sum, free)?;
+        // A copy of its own, as in `row_place`.
+        let made = Owner {
+            client: owner.client,
+            part: owner.part,
+        };
+        let places = make_places(rows, sums, spares, last, made, sum, free)?;
         *newest = (*newest).max(owner.part.collection);
         return Ok(places);
     };
@@ -139,11 +143,14 @@ pub(crate) fn keep_blank(
     requires blank { All IsBlank spares.old.pages.items }
     ensures agrees { Agrees newest rows.new.entries sums.new.entries }
     ensures alike { IsAlike rows.old.entries rows.new.entries sums.old.entries sums.new.entries }
+    ensures gone { (owner : Owner) → StandsBlank rows.old.entries blank.old owner →
+        lookup (same_owner owner) rows.new.entries ≡ None }
     ensures room { spare rows.old ≤ spare rows.new }
     ensures more { length spares.old.pages.items ≤ length spares.new.pages.items }
     ensures blank { All IsBlank spares.new.pages.items }
 {
-    let before = replace(blank, place);
+    let before = *blank;
+    *blank = place;
     let Some(owner) = blank_at(rows, before) else {
         return;
     };

@@ -54,7 +54,12 @@ pub(crate) fn row_place(rows: &Rows, owner: Owner, last: &Cell<usize>) -> Option
     if is_row_at(rows, owner, place) {
         return Some(place);
     }
-    find_row(rows, owner, last)
+    // A copy of its own: the caller's owner stays in registers.
+    let sought = Owner {
+        client: owner.client,
+        part: owner.part,
+    };
+    find_row(rows, sought, last)
 }
 
 // The count in this cell of the owner's page.
@@ -151,7 +156,8 @@ pub(crate) fn clear(rows: &mut Rows, owner: Owner, place: usize, slot: usize) ->
 // Whose page stands at this place, if it is blank.
 #[inline(always)]
 pub(crate) fn blank_at(rows: &Rows, place: usize) -> Option<Owner>
-    ensures { IfSome result (λ owner. StandsBlank rows.now.entries place owner) }
+    ensures found { IfSome result (λ owner. StandsBlank rows.now.entries place owner) }
+    ensures each { (owner : Owner) → StandsBlank rows.now.entries place owner → result ≡ Some owner }
 {
     match rows.get_index(place) {
         Some((owner, page)) => { if page.is_blank() { Some(*owner) } else { None } }

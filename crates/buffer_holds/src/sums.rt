@@ -1,5 +1,5 @@
 //! The sums of parts over all clients.
-ghost use Rattle.std.specs.Prelude.{ℕ, ◌≡◌, ◌==◌, ◌+◌, ◌-◌, ◌^◌, ◌<◌, ◌≤◌, true, if◌then◌else◌, length, All, Some, None, IfSome, IfNone, IsSome};
+ghost use Rattle.std.specs.Prelude.{ℕ, ◌≡◌, ◌==◌, ◌+◌, ◌-◌, ◌^◌, ◌<◌, ◌≤◌, ◌↔◌, true, if◌then◌else◌, length, All, Some, None, IfSome, IfNone, IsSome, IsTrue};
 ghost use Rattle.std.specs.List.{IsDistinct};
 ghost use Rattle.std.specs.Map.{keys_of, lookup};
 ghost use Rattle.indexmap.specs.IndexMap.{spare};
@@ -156,13 +156,16 @@ pub(crate) fn enter(sums: &mut Sums, part: Part, place: usize)
 // Whether the sum at this place, which is the part's, is that of one client of whom nothing is open.
 fn is_last(sums: &Sums, part: Part, place: usize) -> bool
     requires { StandsAt sums.now.entries place part }
-    ensures { result ≡ true → StandsLast sums.now.entries place part }
+    ensures { IsTrue result ↔ StandsLast sums.now.entries place part }
 {
     let sum = sums.get_index(place).unwrap().1;
-    if sum.clients == 1 && sum.totals.is_blank() {
-        return sum.moving.is_blank();
+    if sum.clients != 1 {
+        return false;
     }
-    false
+    if !sum.totals.is_blank() {
+        return false;
+    }
+    sum.moving.is_blank()
 }
 
 // Takes the sum at this place away, which is that of one client of whom nothing is open. Its pages are kept.
@@ -171,6 +174,7 @@ fn take_sum(sums: &mut Sums, spares: &mut Spares, part: Part, place: usize)
     requires distinct { IsDistinct same_part (keys_of sums.old.entries) }
     requires blank { All IsBlank spares.old.pages.items }
     ensures taken { SumBecomes sums.old.entries sums.new.entries part 0 (λ at. 0) (λ at. 0) }
+    ensures gone { lookup (same_part part) sums.new.entries ≡ None }
     ensures blank { All IsBlank spares.new.pages.items }
     ensures more { length spares.old.pages.items ≤ length spares.new.pages.items }
 {
@@ -196,6 +200,8 @@ pub(crate) fn leave(
         ((sum_in sums.old.entries part).clients - 1)
         (count_in (sum_in sums.old.entries part).totals)
         (count_in (sum_in sums.old.entries part).moving) }
+    ensures gone { (sum_in sums.old.entries part).clients ≡ 1 → IsBlank (sum_in sums.old.entries part).totals →
+        IsBlank (sum_in sums.old.entries part).moving → lookup (same_part part) sums.new.entries ≡ None }
     ensures blank { All IsBlank spares.new.pages.items }
     ensures more { length spares.old.pages.items ≤ length spares.new.pages.items }
 {

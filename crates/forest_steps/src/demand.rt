@@ -15,7 +15,7 @@ pub struct TotalDemand {
     pub size: u32,
 }
 
-/// What the node asks for, if it is in the unit with this head and not gone.
+/// What the node asks for, if it is in the unit with this head and not gone. O(1).
 pub fn unit_demand(node: &Node, head: NodeKey) -> Option<Constraints>
     ensures { result ≡ (if is_in_unit head node.now then node.now.constraints else None) }
 {
@@ -27,7 +27,7 @@ pub fn unit_demand(node: &Node, head: NodeKey) -> Option<Constraints>
 }
 
 /// Why the buffers are not enough, of which this many are reserved, where this is asked for besides:
-/// they are too few, or else too small.
+/// they are too few, or else too small. O(1).
 pub fn refusal(buffers: Buffers, reserved: u128, asks: &TotalDemand) -> Option<Failure>
     ensures { result ≡ why buffers reserved asks.now.camping asks.now.at_least asks.now.size }
 {

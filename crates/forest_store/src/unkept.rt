@@ -195,7 +195,7 @@ fn are_own(table: &NodeTable<Node>, id: CollectionId, keys: &[NodeKey]) -> bool
     keys.iter().all(|key| is_own_if_unkept(table, id, *key))
 }
 
-/// Removes this key from those of a collection.
+/// Removes this key from those of a collection. O(keys of the collection).
 #[inline(always)]
 pub fn drop_key(table: &NodeTable<Node>, keys: &mut KeyList, key: NodeKey)
     requires { are_apart keys.old.items ≡ true }

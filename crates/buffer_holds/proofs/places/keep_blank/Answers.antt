@@ -1,17 +1,14 @@
-use Rattle.std.proofs.Common.{◌≡◌, ◌<◌, ap, arith, is_some, refl, Some}
-use Rattle.std.specs.Map.{lookup}
-use Rattle.buffer_holds.specs.Pages.{same_owner}
-use Rattle.buffer_holds.specs.Sums.{one_page}
-use Rattle.buffer_holds.proofs.Moves.{alike_itself, gone}
+use Rattle.buffer_holds.proofs.Common.{None, Some, ap, arith, false≢true, is_some, lookup, one_page, same_owner, subst, unwrap_or, ◌≡◌}
+use Rattle.buffer_holds.proofs.Moves.{alike_itself, gone, not_there}
 use Rattle.buffer_holds.proofs.Sound.{page-le-clients}
 use Rattle.buffer_holds.proofs.Written.{page_found}
 use Rattle.buffer_holds.proofs.places.keep_blank.Goals.{In-Some}
 use Rattle.buffer_holds.proofs.places.keep_blank.Goals as goal
 
 -- the page that stands there is the owner's
-there : (c : In-Some) → lookup (same_owner c.in-Some.owner) c.args.rows.now.entries ≡ Some c.in-Some.ensures.0
+there : (c : In-Some) → lookup (same_owner c.in-Some.owner) c.args.rows.now.entries ≡ Some c.in-Some.ensures.found.0
 there c =
-    page_found c.args.rows.now c.args.rows.now c.in-Some.owner c.replace-before.result c.in-Some.ensures.0 c.in-Some.ensures.1
+    page_found c.args.rows.now c.args.rows.now c.in-Some.owner c.args.blank.now c.in-Some.ensures.found.0 c.in-Some.ensures.found.1
     c.requires.agrees.rows_distinct
 
 pub leave-requires-clause-some : goal.leave-requires-clause-some
@@ -28,10 +25,19 @@ returns-in_default-clause-alike c = alike_itself c.args.rows.now.entries c.args.
 -- it goes, and one client with it
 pub returns-clause-agrees : goal.returns-clause-agrees
 returns-clause-agrees c =
-    (gone c.requires.agrees c.in-Some.owner c.in-Some.ensures.0 (there (goal.at.returns-clause-agrees c).In-Some) c.in-Some.ensures.2
-    c.take_row.ensures.taken c.leave.ensures.left).0
+    (gone c.requires.agrees c.in-Some.owner c.in-Some.ensures.found.0 (there (goal.at.returns-clause-agrees c).In-Some)
+    c.in-Some.ensures.found.2 c.take_row.ensures.taken c.leave.ensures.left).0
 
 pub returns-clause-alike : goal.returns-clause-alike
 returns-clause-alike c =
-    (gone c.requires.agrees c.in-Some.owner c.in-Some.ensures.0 (there (goal.at.returns-clause-alike c).In-Some) c.in-Some.ensures.2
-    c.take_row.ensures.taken c.leave.ensures.left).1
+    (gone c.requires.agrees c.in-Some.owner c.in-Some.ensures.found.0 (there (goal.at.returns-clause-alike c).In-Some)
+    c.in-Some.ensures.found.2 c.take_row.ensures.taken c.leave.ensures.left).1
+
+-- no other blank page stood there
+pub returns-in_default-clause-gone : goal.returns-in_default-clause-gone
+returns-in_default-clause-gone c = λ owner stands. absurd (false≢true (ap is_some (c.in_default.ensures.each owner stands)))
+
+pub returns-clause-gone : goal.returns-clause-gone
+returns-clause-gone c = λ owner stands.
+    let same = ap (λ o. unwrap_or o owner) (c.in-Some.ensures.each owner stands) in
+    subst (λ o. lookup (same_owner o) c.take_row.new.rows.entries ≡ None) same (not_there c.take_row.ensures.taken)

@@ -1,5 +1,4 @@
-use Rattle.std.proofs.Common.{ℕ, ◌≡◌, ◌==◌, ◌∙◌, ap, sym, if◌then◌else◌}
-use Rattle.buffer_holds.specs.Pages.{cell_at, tidied}
+use Rattle.buffer_holds.proofs.Common.{ap, cell_at, if◌then◌else◌, sym, tidied, ◌==◌, ◌∙◌}
 use Rattle.buffer_holds.proofs.RowLemmas.{IsSome-lent_at}
 use Rattle.buffer_holds.proofs.Written.{page_lent, page_written, set_stands, stood}
 use Rattle.buffer_holds.proofs.rows.clear.Goals as goal
@@ -26,5 +25,5 @@ returns-clause-blank c = λ is. (
   c.tidy.new.self,
   set_stands c.args.rows.now c.args.place c.args.owner c.unwrap-page.result.now c.tidy.new.self
       (stood c.args.rows.now c.args.place c.args.owner c.requires.stands c.get_index_mut.ensures.value c.get_index_mut.ensures.unique c.unwrap-page.ensures),
-  c.is_blank.ensures is,
+  c.is_blank.ensures.0 is,
 )

@@ -1,7 +1,5 @@
-use Rattle.std.proofs.Common.{◌≡◌, ◌+◌, ◌-◌, ◌<◌, ◌∙◌, ap, arith, refl, sym, unwrap_or}
-use Rattle.buffer_holds.specs.declared.sums.Sum.{Sum}
-use Rattle.buffer_holds.specs.Pages.{count_in}
-use Rattle.buffer_holds.specs.Sums.{sum_in, sum_of}
+use Rattle.buffer_holds.proofs.Common.{IsBlank, Sum, ap, arith, count_in, false≢true, refl, subst, sum_in, sum_of}
+use Rattle.buffer_holds.proofs.Common.{sym, unwrap_or, ◌-◌, ◌∙◌, ◌≡◌}
 use Rattle.buffer_holds.proofs.Moves.{sum_told_as}
 use Rattle.buffer_holds.proofs.RowLemmas.{IsSome-lent_at}
 use Rattle.buffer_holds.proofs.Written.{sum_found, sum_lent, sum_written}
@@ -27,12 +25,29 @@ overflow_sub-sum c =
 -- nothing is left of the last client
 pub returns-then-is_last-clause-left : goal.returns-then-is_last-clause-left
 returns-then-is_last-clause-left c =
-    let stands = c.if-is_last.ensures refl in
+    let stands = c.if-is_last.ensures.0 refl in
     let sum : sum_in c.args.sums.now.entries c.args.part ≡ stands.0 =
     ap sum_of (sum_found c.args.sums.now c.args.sums.now c.args.part c.in-Some.place stands.0 stands.1 c.requires.distinct) in
     sum_told_as _ _ _ c.take_sum.ensures.taken (omega (arith, ap (λ (s : Sum). s.clients) sum, stands.2))
     (λ at. sym (ap (λ (s : Sum). count_in s.totals at) sum ∙ ap (λ o. unwrap_or o 0) (stands.3 at)))
     (λ at. sym (ap (λ (s : Sum). count_in s.moving at) sum ∙ ap (λ o. unwrap_or o 0) (stands.4 at)))
+
+pub returns-then-is_last-clause-gone : goal.returns-then-is_last-clause-gone
+returns-then-is_last-clause-gone c = λ one totals moving. c.take_sum.ensures.gone
+
+-- a sum that stays tells something
+pub returns-clause-gone : goal.returns-clause-gone
+returns-clause-gone c = λ one totals moving.
+    let found = c.in-Some.ensures.found in
+    let same : sum_in c.args.sums.now.entries c.args.part ≡ found.0 =
+    ap sum_of (sum_found c.args.sums.now c.args.sums.now c.args.part c.in-Some.place found.0 found.1 c.requires.distinct) in
+    absurd (false≢true (c.if-is_last.ensures.1 (
+      found.0,
+      found.1,
+      ap (λ (s : Sum). s.clients) (sym same) ∙ one,
+      subst IsBlank (ap (λ (s : Sum). s.totals) same) totals,
+      subst IsBlank (ap (λ (s : Sum). s.moving) same) moving,
+    )))
 
 -- and one client less of more
 pub returns-clause-left : goal.returns-clause-left

@@ -1,8 +1,5 @@
-use Rattle.std.proofs.Common.{◌≡◌, ◌∙◌, Option, Some, ap, subst, sym, unwrap_or}
-use Rattle.buffer_holds.specs.declared.names.Part.{Part}
-use Rattle.buffer_holds.specs.declared.sums.Sum.{Sum}
-use Rattle.buffer_holds.specs.Pages.{IsBlank}
-use Rattle.buffer_holds.proofs.Written.{sum_taken}
+use Rattle.buffer_holds.proofs.Common.{IsBlank, Option, Part, Sum, ap, subst, sym, unwrap_or, ◌∙◌}
+use Rattle.buffer_holds.proofs.Written.{sum_gone, sum_taken}
 use Rattle.buffer_holds.proofs.sums.take_sum.Goals as goal
 
 -- the entry at the place is gone
@@ -18,6 +15,20 @@ returns-in_default-clause-taken c =
     let stands = c.requires.stands in
     let gone = c.swap_remove_index.ensures in
     sum_taken c.args.sums.now c.swap_remove_index.new.self c.args.part c.args.place stands.0 stands.1 c.requires.distinct
+    gone.entry gone.entries gone.updates gone.unique
+
+pub returns-in-Some-clause-gone : goal.returns-in-Some-clause-gone
+returns-in-Some-clause-gone c =
+    let stands = c.requires.stands in
+    let gone = c.swap_remove_index.ensures in
+    sum_gone c.args.sums.now c.swap_remove_index.new.self c.args.part c.args.place stands.0 stands.1 c.requires.distinct
+    gone.entry gone.entries gone.updates gone.unique
+
+pub returns-in_default-clause-gone : goal.returns-in_default-clause-gone
+returns-in_default-clause-gone c =
+    let stands = c.requires.stands in
+    let gone = c.swap_remove_index.ensures in
+    sum_gone c.args.sums.now c.swap_remove_index.new.self c.args.part c.args.place stands.0 stands.1 c.requires.distinct
     gone.entry gone.entries gone.updates gone.unique
 
 pub keep_spare-requires-clause-page : goal.keep_spare-requires-clause-page

@@ -1,9 +1,5 @@
-use Rattle.std.proofs.Common.{ℕ, ◌∙◌, ap, arith, subst, sym}
-use Rattle.buffer_holds.specs.declared.names.Owner.{Owner}
-use Rattle.buffer_holds.specs.Counts.{Counts, has_handle_room, total}
-use Rattle.buffer_holds.specs.Gains.{Gains, HasRoomIn}
-use Rattle.buffer_holds.specs.Kinds.{hold_of, kind_of}
-use Rattle.buffer_holds.specs.Pages.{owner_of, part_of, same_part, slot_of}
+use Rattle.buffer_holds.proofs.Common.{Gains, HasRoomIn, Owner, ap, arith, has_handle_room, hold_of, kind_of, owner_of, part_of}
+use Rattle.buffer_holds.proofs.Common.{same_part, slot_of, subst, sym, ℕ, ◌∙◌}
 use Rattle.buffer_holds.proofs.Gaining.{fewer_one, sets_gained}
 use Rattle.buffer_holds.proofs.PageNames.{same_part-refl}
 use Rattle.buffer_holds.proofs.Runs.{one_is}
@@ -18,7 +14,7 @@ gain-requires-clause-fewer c =
     subst (λ (s : ℕ). HasRoomIn c.args.self.now c.owner_of-owner.result s 1) (sym c.slot_of-slot.ensures.value)
     (subst (λ (o : Owner). HasRoomIn c.args.self.now o (slot_of (kind_of c.args.buffer c.args.strength)) 1) (sym c.owner_of-owner.ensures)
     (fewer_one c.args.self.now c.args.client c.args.buffer c.args.strength
-    (omega (arith, c.total.ensures.value, ap (λ (counts : Counts). counts.limit) c.self.view_is))))
+    c.if-is_full.ensures.fewer))
 
 -- one count is one more
 pub returns-in-Ok-clause-opened : goal.returns-in-Ok-clause-opened

@@ -1,18 +1,11 @@
-use Rattle.std.proofs.Common.{◌≡◌, ◌∙◌, ◌==◌, ◌&&◌, Bool, true, false, not, ap, refl, sym}
+use Rattle.buffer_holds.proofs.Common.{Bool, Strong, Weak, ap, false, not, refl, sym, total, true, ◌&&◌, ◌==◌, ◌∙◌, ◌≡◌}
 use Rattle.sm_names.specs.Handles.{is_home}
-use Rattle.sm_names.specs.declared.keys.Strength.TheVariants.{Strong, Weak}
-use Rattle.buffer_holds.specs.Counts.{total}
 use Rattle.buffer_holds.proofs.holds.Holds.home.Goals as goal
 
 -- it is not home with a strong node
 never : (x y : Bool) → false ≡ ((x && not true) && y)
 never true y = refl
 never false y = refl
-
--- and without one, the counts tell
-alone : (x y : Bool) → (x && y) ≡ ((x && not false) && y)
-alone true y = refl
-alone false y = refl
 
 -- a strong node keeps it
 pub returns-then-strong_live : goal.returns-then-strong_live
