@@ -47,7 +47,7 @@ try 0 'joined\n' '' 'a join\n' run
 try 3 'joined\n' 'bad line 2: the last line lacks a newline' 'a join\nshow free' run
 try 3 'joined\n' 'bad line 2: the last line lacks a newline' 'a join\na ope' run
 try 3 'joined\n' 'bad line 2: no such word: fly' 'a join\na fly\n' run
-try 3 'joined\n' 'bad line 3: the label b is not bound' 'a join\n\nb open r\na open r\n' run
+try 3 'joined\n' 'bad line 3: no client has the label b' 'a join\n\nb open r\na open r\n' run
 try 3 '' 'bad line 1: put one space between words, and none elsewhere' 'a  join\n' run
 
 # Standard input has a name.
@@ -60,11 +60,16 @@ try 0 'a join\n  joined\n' '' 'a join\n  joined\n    a remark\n' explain
 try 0 '' '' '' explain
 try 3 'a join\n  joined\n' 'bad line 2: the last line lacks a newline' 'a join\nshow free' explain
 try 3 'a join\n  joined\n' 'bad line 3: no such word: opne' 'a join\n  joined\na opne r\n' explain
-try 3 'a join\n  joined\n' 'bad line 2: the label cam is not bound' 'a join\ncam open r\n' explain
+try 3 'a join\n  joined\n' 'bad line 2: no client has the label cam' 'a join\ncam open r\n' explain
+try 3 'a join\n  joined\n' 'bad line 2: no node has the label r' 'a join\na sync r\n' explain
+try 3 'a join\n  joined\n' 'bad line 2: no tracker has the label t' 'a join\na poll t\n' explain
 try 3 'a join\n  joined\n' 'bad line 2: the label a is bound already' 'a join\na join\n' explain
 try 3 '' 'bad line 1: the line ends in CR' 'a join\r\n' explain
 try 3 '' 'bad line 1: put one space between words, and none elsewhere' 'a  join\n' explain
-try 3 '' 'bad line 1: no label: A' 'A join\n' explain
+rule='a label is a lower-case letter and up to 15 lower-case letters or digits'
+try 3 '' "bad line 1: $rule: A" 'A join\n' explain
+try 3 '' "bad line 1: $rule: a?join" 'a\tjoin\n' explain
+try 3 '' "bad line 1: $rule: abcdefghijklmnopq" 'abcdefghijklmnopq join\n' explain
 try 3 '' 'bad line 1: no such view: all' 'show all\n' explain
 bad='a join\na open r\na bind r\n'
 told='a join\n  joined\na open r\n  token r\na bind r\n  done\n'
@@ -164,7 +169,7 @@ try 3 '' 'bad line 3: each client joins once, before all steps' 'a join\na open 
 try 3 '' 'bad line 2: a script of actors has no show' 'a join\nshow free\n' explore
 try 3 '' 'bad line 2: no such word: opne' 'a join\na opne r\n' explore
 try 3 '' 'bad line 3: camping is 0 to 64' 'a join\na open r\na constrain q 65 0 1\n' explore
-try 3 '' 'bad line 2: no label: Root' 'a join\na open Root\n' threads
+try 3 '' "bad line 2: $rule: Root" 'a join\na open Root\n' threads
 try 3 '' 'bad line 2: the last line lacks a newline' 'a join\na open r' explore
 try 3 '' 'bad line 2: the line ends in CR' 'a join\na open r\r\n' explore
 try 3 '' 'bad line 1: no client joins' '' explore

@@ -1,6 +1,6 @@
 -- Bytes that come in, piece after piece.
-use Rattle.std.proofs.Common.{◌≡◌, ℕ, ◌+◌, ◌-◌, ◌<◌, ◌≤◌, List, [], ◌++◌, length, length-append, arith, Option}
-use Rattle.std.proofs.KnownBytes.{Consumes-nil, Consumes-trans, Consumes-kept}
+use Rattle.std.proofs.Common.{◌≡◌, ℕ, ◌+◌, ◌-◌, ◌<◌, ◌≤◌, List, ◌++◌, length, length-append, arith, Option}
+use Rattle.std.proofs.KnownBytes.{Consumes-trans, Consumes-kept}
 use Rattle.std.specs.Io.KnownBytes.{Consumes, Keeps}
 use Rattle.script_lines.specs.declared.TheConstants.{MOST_BYTES}
 use Rattle.report_io.specs.Streams.{Came, CameBeyond}
@@ -9,10 +9,6 @@ use Rattle.report_io.specs.Streams.{Came, CameBeyond}
 pub record IsIn (left_before left : Option (List ℕ)) (script : List ℕ) (room : ℕ) : Type 0 where
   pub taken : Consumes left_before left script
   pub counted : length script + room ≡ MOST_BYTES
-
--- no byte came
-pub in-none : (left : Option (List ℕ)) (script : List ℕ) → script ≡ [] → IsIn left left script MOST_BYTES
-in-none left script none = rw none (record { taken = Consumes-nil left; counted = omega arith })
 
 module _ (left_before left : Option (List ℕ)) (script : List ℕ) (room : ℕ) (so_far : IsIn left_before left script room) where
   -- a piece more came

@@ -2,7 +2,8 @@ pub mod BadLines
 pub mod GoodWords
 pub mod Incoming
 pub mod Indenting
-pub mod LinesTaken
 pub mod Numbering
 pub mod Reporting
+pub mod ScriptsRead
+pub mod Takings
 pub mod Unindented

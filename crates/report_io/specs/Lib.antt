@@ -3,3 +3,4 @@ pub mod Faults
 pub mod IndentedLines
 pub mod Reasons
 pub mod Streams
+pub mod Takings

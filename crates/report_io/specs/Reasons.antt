@@ -67,9 +67,13 @@ no_word word = before_word (codes "no such word: ") word
 abbrev pub bound : List ℕ → Reason
 bound label = record { before = codes "the label "; word = label; behind = codes " is bound already" }
 
--- the label is used, and stands for nothing
-abbrev pub unbound : List ℕ → Reason
-unbound label = record { before = codes "the label "; word = label; behind = codes " is not bound" }
+-- the label of a client is used, and stands for none
+abbrev pub no_client : List ℕ → Reason
+no_client label = before_word (codes "no client has the label ") label
+
+-- the word is no label
+abbrev pub no_label : List ℕ → Reason
+no_label word = before_word (codes "a label is a lower-case letter and up to 15 lower-case letters or digits: ") word
 
 -- the reason of a test that is to hold
 abbrev pub reason_unless : Bool → Reason → Option Reason
@@ -121,14 +125,16 @@ is_within least most word = option_map_or (λ number. nat_le least number && nat
 
 -- the word is a label, and the label passes its own test
 abbrev pub label_reason : (Label → Option Reason) → List ℕ → Option Reason
-label_reason test word = option_map_or test (label_of word) (Some (before_word (codes "no label: ") word))
+label_reason test word = option_map_or test (label_of word) (Some (no_label word))
 
 -- the label is bound, or is not, as it is to be
 abbrev pub named_reason : Names → Wanted → Label → List ℕ → Option Reason
-named_reason names Wanted.Client label word = reason_unless (is_some (labelled_client names label)) (unbound word)
-named_reason names Wanted.Node label word = reason_unless (is_some (labelled_node names label)) (unbound word)
+named_reason names Wanted.Client label word = reason_unless (is_some (labelled_client names label)) (no_client word)
+named_reason names Wanted.Node label word =
+    reason_unless (is_some (labelled_node names label)) (before_word (codes "no node has the label ") word)
 named_reason names Wanted.NewNode label word = reason_unless (not (is_some (labelled_node names label))) (bound word)
-named_reason names Wanted.Tracker label word = reason_unless (is_some (labelled_tracker names label)) (unbound word)
+named_reason names Wanted.Tracker label word =
+    reason_unless (is_some (labelled_tracker names label)) (before_word (codes "no tracker has the label ") word)
 named_reason names Wanted.NewTracker label word = reason_unless (not (is_some (labelled_tracker names label))) (bound word)
 named_reason names _ label word = None
 
@@ -188,7 +194,7 @@ words_reason names last (wanted ∷ more) (word ∷ rest) =
 -- the label of a client is new where it joins, and is bound at any other call
 abbrev pub client_reason : List ℕ → Bool → Bool → Option Reason
 client_reason first joins is_bound =
-    if joins then reason_unless (not is_bound) (bound first) else reason_unless is_bound (unbound first)
+    if joins then reason_unless (not is_bound) (bound first) else reason_unless is_bound (no_client first)
 
 -- the same, if it is known what labels stand for
 abbrev pub caller_reason : Option Names → List ℕ → Label → Bool → Option Reason

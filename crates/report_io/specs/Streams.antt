@@ -1,6 +1,6 @@
 -- How a script comes in.
-use Rattle.std.specs.Prelude.{ℕ, ◌<◌, ◌≤◌, List, length, Option}
-use Rattle.std.specs.Io.KnownBytes.{Consumes}
+use Rattle.std.specs.Prelude.{◌⊎◌, ℕ, ◌<◌, ◌≤◌, List, length, Option, MatchResult, Result}
+use Rattle.std.specs.Io.KnownBytes.{Consumes, IsAtEnd, Keeps}
 use Rattle.script_lines.specs.declared.TheConstants.{MOST_BYTES}
 use Rattle.report_io.specs.declared.fault.ReportFault.{ReportFault}
 
@@ -22,3 +22,10 @@ IsUnread left_before left ReportFault.ReadFault = Came left_before left
 IsUnread left_before left ReportFault.TooLong = CameBeyond left_before left
 IsUnread left_before left ReportFault.NoMemory = Came left_before left
 IsUnread left_before left _ = ⊥
+
+-- a script did not come in, and nothing was written; or this script did, to its end, and of what came of it this holds
+abbrev pub Reads : {A : Type 0} → (List ℕ → Result A ReportFault → Type 0) → Option (List ℕ) → Option (List ℕ) →
+    Option (List ℕ) → Option (List ℕ) → Result A ReportFault → Type 0
+Reads Comes left_before left old new result =
+    MatchResult result (λ _. ⊥) (λ fault. IsUnread left_before left fault × Keeps old new)
+    ⊎ ((script : List ℕ) × Consumes left_before left script × IsAtEnd left × (length script ≤ MOST_BYTES) × Comes script result)

@@ -6,7 +6,7 @@ ghost use Rattle.script_lines.specs.Words.{words_left};
 ghost use Rattle.script_labels.specs.Names.{Names};
 ghost use Rattle.script_labels.specs.Tables.{Keeps};
 ghost use Rattle.report_io.specs.declared.wanted.Wanted.{Wanted as Word};
-ghost use Rattle.report_io.specs.Reasons.{IsFor, before_word, bound, bound_reason, caller_reason, client_reason, is_within, label_reason, line_reason, missing_reason, named_reason, no_word, plain, reason_text, reason_unless, rest_reason, said_reason, told, unbound, verb_reason, view_reason, word_reason, words_reason};
+ghost use Rattle.report_io.specs.Reasons.{IsFor, before_word, bound, bound_reason, caller_reason, client_reason, is_within, label_reason, line_reason, missing_reason, named_reason, no_label as told_no_label, no_word, plain, reason_text, reason_unless, rest_reason, said_reason, told, verb_reason, view_reason, word_reason, words_reason};
 
 use crate::wanted::{Wanted, wanted_words};
 use crate::words::{
@@ -79,17 +79,21 @@ fn new_label<'a>(word: &'a [u8], is_bound: bool) -> Option<Reason<'a>>
     )
 }
 
-// A label that is used is bound.
-fn used_label<'a>(word: &'a [u8], is_bound: bool) -> Option<Reason<'a>>
-    ensures { option_map told result ≡ reason_unless is_bound (unbound word.now) }
+// A label that is used is bound; else these words are told of it.
+fn used_label<'a>(before: &'static str, word: &'a [u8], is_bound: bool) -> Option<Reason<'a>>
+    ensures { option_map told result ≡ reason_unless is_bound (before_word before.now word.now) }
 {
-    unless(
-        is_bound,
-        Reason {
-            before: "the label ",
-            word,
-            behind: " is not bound",
-        },
+    let reason = with_word(before, word);
+    unless(is_bound, reason)
+}
+
+// The word is no label.
+fn no_label<'a>(word: &'a [u8]) -> Reason<'a>
+    ensures { told result ≡ told_no_label word.now }
+{
+    with_word(
+        "a label is a lower-case letter and up to 15 lower-case letters or digits: ",
+        word,
     )
 }
 
@@ -133,7 +137,7 @@ fn said_fault<'a>(
     }
     match Label::new(first) {
         Some(client) => verb_fault(tables, first, client, rest),
-        None => Some(with_word("no label: ", first)),
+        None => Some(no_label(first)),
     }
 }
 
@@ -192,7 +196,7 @@ fn client_fault<'a>(first: &'a [u8], joins: bool, is_bound: bool) -> Option<Reas
     if joins {
         new_label(first, is_bound)
     } else {
-        used_label(first, is_bound)
+        used_label("no client has the label ", first, is_bound)
     }
 }
 
@@ -311,7 +315,7 @@ fn name_fault<'a>(tables: Option<&Tables>, wanted: Wanted, word: &'a [u8]) -> Op
 {
     match Label::new(word) {
         Some(label) => bound_fault(tables, wanted, label, word),
-        None => Some(with_word("no label: ", word)),
+        None => Some(no_label(word)),
     }
 }
 
@@ -342,10 +346,16 @@ fn label_fault<'a>(
         option_map told result ≡ named_reason names wanted label word.now }
 {
     match wanted {
-        Wanted::Client => used_label(word, tables.client(label).is_some()),
-        Wanted::Node => used_label(word, tables.node(label).is_some()),
+        Wanted::Client => client_fault(word, false, tables.client(label).is_some()),
+        Wanted::Node => used_label("no node has the label ", word, tables.node(label).is_some()),
         Wanted::NewNode => new_label(word, tables.node(label).is_some()),
-        Wanted::Tracker => used_label(word, tables.tracker(label).is_some()),
+        Wanted::Tracker => {
+            used_label(
+                "no tracker has the label ",
+                word,
+                tables.tracker(label).is_some(),
+            )
+        }
         Wanted::NewTracker => new_label(word, tables.tracker(label).is_some()),
         _ => None,
     }

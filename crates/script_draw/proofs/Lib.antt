@@ -1,3 +1,2 @@
-pub mod Continuing
 pub mod Outcomes
 pub mod Playing

@@ -1,26 +1,31 @@
 -- The outcome of a drawing once its picture is written.
-use Rattle.std.proofs.Common.{◌≡◌, ℕ, ◌+◌, ◌<◌, ◌≤◌, Bool, true, false, List, [], ◌∷◌, ◌++◌}
-use Rattle.std.proofs.Common.{length, append-nil, sym, ap, subst, Option, Some, None, inl, inr}
-use Rattle.std.proofs.KnownBytes.{Keeps-refl}
-use Rattle.std.specs.Prelude.{Ok, Err, Result, OnOk, IfErr, option_map}
-use Rattle.std.specs.Io.KnownBytes.{Consumes, IsAtEnd}
-use Rattle.script_lines.specs.declared.TheConstants.{MOST_BYTES}
-use Rattle.script_lines.specs.Pieces.{whole_lines}
+use Rattle.std.proofs.Common.{◌≡◌, ◌≢◌, ◌⊎◌, ℕ, zero, suc, ◌+◌, ◌<◌, Bool, true, false, List, [], ◌∷◌, ◌++◌, length, append-nil, refl, sym, ap, ◌∙◌, subst}
+use Rattle.std.proofs.Common.{Option, Some, None, inl, inr, arith}
+use Rattle.std.proofs.KnownBytes.{Appends-trans, Keeps-trans}
+use Rattle.std.specs.Prelude.{Ok, Err, IfErr, OnOk, Result, option_map}
+use Rattle.std.specs.Io.KnownBytes.{Appends, Keeps}
+use Rattle.script_lines.specs.Pieces.{whole_lines, last_part}
+use Rattle.script_lines.specs.Written.{WritesPart}
 use Rattle.report_io.specs.declared.fault.ReportFault.{ReportFault}
 use Rattle.report_io.specs.declared.fault.Sought.{Sought}
-use Rattle.report_io.specs.Streams.{IsUnread}
+use Rattle.report_io.specs.Faults.{HasReason, IsBadLine, IsWriteFault}
+use Rattle.report_io.specs.Reasons.{unended_reason}
+use Rattle.report_io.specs.Takings.{AtLine, IsTaken, WhyNot, Writes}
+use Rattle.report_io.proofs.Reporting.{write_fault_is}
+use Rattle.report_io.proofs.Takings.{part-behind, taken-whole}
 use Rattle.script_labels.specs.Names.{Names}
-use Rattle.sm_script.specs.Scenes.{Setting}
+use Rattle.sm_script.specs.Runs.{IsWhy}
+use Rattle.sm_script.specs.Scenes.{Scene, Setting}
+use Rattle.sm_script.specs.Sessions.{setting_of}
 use Rattle.script_labels.specs.Tables.{Keeps as KeepsNames}
 use Rattle.event_texts.specs.Called.{Calls}
 use Rattle.report_io.specs.declared.view.Format.{Format}
 use Rattle.script_draw.specs.declared.draw.Scroll.{Scroll}
 use Rattle.report_io.specs.declared.view.View.{View}
-use Rattle.script_draw.specs.Draws.{AreAll, Draws, PictureBefore, IsMissing, IsPicture, IsPictured}
-use Rattle.script_draw.specs.Draws.{IsUnplayed, IsUnwritten, LinesDrawn, PictureLinesStop, Pictures}
 use Rattle.report_io.specs.declared.view.Until.{Until}
-use Rattle.script_draw.specs.Played.{ComesBefore, IsAhead, LeadsToScene, asked_number, found, is_reached, wanted}
-use Rattle.script_draw.specs.Reached.{PlayEnds, PlayHalted, IsPlayedOn, PlayLinesHalt, Reached, stops_at_line}
+use Rattle.script_draw.specs.Draws.{AreAll, IsLeftOf, IsPicture, LinesDrawn, PictureBefore, Pictures, PictureStops, PictureTold}
+use Rattle.script_draw.specs.Played.{ComesBefore, IsAhead, LeadsToScene, asked_number, found, is_reached, none_of, none_wanted, wanted}
+use Rattle.script_draw.specs.Reached.{PlayedFrom, PlayStops, Reached, Unplayed, stops_at_line}
 use Rattle.sm_names.specs.Marks.{Entry}
 use Rattle.core_state.specs.Shown.{Shows}
 use Rattle.picture_model.specs.PictureStates.{HasSeen, KnowsKept, known_in}
@@ -45,234 +50,389 @@ pictures-so-far format setting until scroll lines far blank text none on = recor
       (subst (λ (p : ℕ). HasSeen p far.scene.history (known_in scroll.picture_state)) (sym far.pool) far.seen);
 }
 
--- what was written of the lines that were played, and why it was not
-abbrev pub IsWritten : Format → Scroll → Option (List ℕ) → Option (List ℕ) → Type 0
-IsWritten format scroll old new = (setting : Setting) (until : Until) (lines : List (List ℕ))
-    (far : Reached setting until scroll lines) → IsPictured format setting far.scene scroll.line.items old new
+-- nothing was added
+kept-none : (old new : Option (List ℕ)) (text : List ℕ) → text ≡ [] → Appends old new text → Keeps old new
+kept-none None new text none out = tt
+kept-none (Some xs) None text none out = absurd out
+kept-none (Some xs) (Some ys) text none out = out ∙ ap (λ back. xs ++ back) none ∙ append-nil xs
 
--- the fault says why no whole picture of the lines that were played was written
-abbrev pub IsRefused : Format → Scroll → Option (List ℕ) → Option (List ℕ) → ReportFault → Type 0
-IsRefused format scroll old new fault = (setting : Setting) (until : Until) (lines : List (List ℕ))
-    (far : Reached setting until scroll lines) → IsUnwritten format setting far.scene scroll.line.items old new fault
+-- what comes of a picture is the same where nothing was written before
+told-behind : (format : Format) (setting : Setting) (scene : Scene) (last : List ℕ) (old mid new : Option (List ℕ)) (text : List ℕ) →
+    text ≡ [] → Appends old mid text → (result : Result (Unit {0}) ReportFault) → PictureTold format setting scene last mid new result →
+    PictureTold format setting scene last old new result
+told-behind format setting scene last old mid new text none before (Ok done) out = record {
+  text = out.text;
+  is = out.is;
+  written = subst (λ (front : List ℕ). Appends old new (front ++ out.text)) none
+      (Appends-trans old mid new text out.text before out.written);
+}
+told-behind format setting scene last old mid new text none before (Err fault) (inl (is, part)) = inl (
+  is,
+  record {
+    text = part.text;
+    is = part.is;
+    written = subst (λ (front : List ℕ). WritesPart old new (front ++ part.text)) none
+        (part-behind old mid new text part.text before part.written);
+  },
+)
+told-behind format setting scene last old mid new text none before (Err fault) (inr (is, kept)) =
+    inr (is, Keeps-trans old mid new (kept-none old mid text none before) kept)
 
-module _ (setting : Setting) (view : View) (scroll : Scroll) (old new : Option (List ℕ)) (script : List ℕ) where
-  module _ (lines after : List (List ℕ)) (split : whole_lines script ≡ lines ++ after) (far : Reached setting view.until scroll lines) where
-    -- no picture went out, or a part of one
-    cut-off : (fault : ReportFault) → IsUnwritten view.format setting far.scene scroll.line.items old new fault →
-        PictureLinesStop setting view old new script fault
-    cut-off ReportFault.ReadFault stop = absurd stop
-    cut-off ReportFault.TooLong stop = absurd stop
-    cut-off (ReportFault.BadLine n reason) stop = absurd stop
-    cut-off ReportFault.HistoryFull stop = absurd stop
-    cut-off (ReportFault.Missing sought n) stop = absurd stop
-    cut-off (ReportFault.WriteFault failed) stop = record {
+module _ (format : Format) (first now : Scroll) (old new : Option (List ℕ)) (script : List ℕ) where
+  -- what the core is made for, and what is drawn
+  abbrev setting : Setting
+  setting = setting_of first.event_writer.session
+
+  abbrev view : View
+  view = record { format = format; until = first.until }
+
+  module _ (lines after : List (List ℕ)) (split : whole_lines script ≡ lines ++ after) (far : Reached setting first.until now lines) where
+    -- no whole picture was written
+    cut-off : (fault : ReportFault) → PictureTold format setting far.scene now.line.items old new (Err fault) →
+        PictureStops setting view old new script fault
+    cut-off fault (inl (is, part)) = rw (write_fault_is fault is).1 (record {
+      before = lines;
+      after = after;
+      split = split;
+      at = record {
+        scene = far.scene;
+        last = now.line.items;
+        reaches = far-reaches setting first.until now lines far;
+        at = part;
+      };
+    })
+    cut-off fault (inr (is, kept)) = rw is kept
+
+    -- the picture was drawn, or was not
+    drawn-by : AreAll (asked_number first.until) script lines (found first.until setting.pool lines far.scene) →
+        (result : Result (Unit {0}) ReportFault) → PictureTold format setting far.scene now.line.items old new result →
+        LinesDrawn setting view old new script result
+    drawn-by all (Ok done) out = record {
       lines = lines;
       after = after;
       split = split;
       scene = far.scene;
-      last = scroll.line.items;
-      reaches = far-reaches setting view.until scroll lines far;
-      pictured = stop;
+      last = now.line.items;
+      reaches = far-reaches setting first.until now lines far;
+      all = all;
+      soonest = far.ahead;
+      pictured = out;
     }
-    cut-off ReportFault.NoMemory stop = stop
+    drawn-by all (Err fault) stop = cut-off fault stop
 
-  -- the picture of the lines that are asked for
-  pub drawn-all : (all_found : Bool) (played : IsPlayedOn setting view.until all_found scroll script) →
-      AreAll (asked_number view.until) script played.lines (found view.until setting.pool played.lines played.reached.scene) →
-      (result : Result (Unit {0}) ReportFault) →
-      OnOk result (IsWritten view.format scroll old new) → IfErr result (IsRefused view.format scroll old new) →
-      LinesDrawn setting view old new script result
-  drawn-all all_found played all (Ok done) ok err = record {
-    lines = played.lines;
-    after = played.after;
-    split = played.split;
-    scene = played.reached.scene;
-    last = scroll.line.items;
-    reaches = far-reaches setting view.until scroll played.lines played.reached;
-    all = all;
-    soonest = played.reached.ahead;
-    pictured = ok setting view.until played.lines played.reached;
-  }
-  drawn-all all_found played all (Err fault) ok err =
-      cut-off played.lines played.after played.split played.reached fault (err setting view.until played.lines played.reached)
+-- where none of what is sought is wanted, its number is 0
+pub none-is : (w : Option (Sought × ℕ)) (sought : Sought) → none_of w ≡ Some sought → w ≡ Some (sought, 0)
+none-is None sought is = absurd (cc)
+none-is (Some (other, zero)) sought is = cc
+none-is (Some (other, suc number)) sought is = absurd (cc)
 
-  -- what is left of the lines before a stop
-  abbrev Left : Type 0
-  Left = (lines : List (List ℕ)) (far : Reached setting view.until scroll lines) → IsAhead view.until setting.pool lines far.scene →
-      PictureBefore (asked_number view.until)
-      (found view.until setting.pool lines far.scene) view.format setting far.scene scroll.line.items old new
+-- a number of which some is wanted is not 0
+some-number : (sought : Sought) (number : ℕ) → none_of (Some (sought, number)) ≡ None → 0 < number
+some-number sought zero some = absurd (cc)
+some-number sought (suc number) some = omega arith
 
-  -- a line that halts the play leaves the picture that `left` gives of the lines before it
-  halted-left : (fault : ReportFault) (stop : PlayHalted setting view.until scroll (whole_lines script) fault) → Left →
-      IsUnplayed setting view old new script fault
-  halted-left fault stop left = record {
-    before = stop.before;
-    line = stop.line;
-    after = stop.after;
+module _ (format : Format) (first now : Scroll) (old mid : Option (List ℕ)) (script : List ℕ) where
+  -- what is drawn
+  abbrev shown : View
+  shown = record { format = format; until = first.until }
+
+  -- the setting of the play
+  abbrev played_in : Setting
+  played_in = setting_of first.event_writer.session
+
+  -- how many of what is sought some lines have
+  abbrev count : List (List ℕ) → Scene → ℕ
+  count lines scene = found first.until played_in.pool lines scene
+
+  -- all lines were played where the last is asked for: nothing else can be reached
+  all-last : (more : Bool) (taken : IsTaken (PlayedFrom first) now old mid script more) → asked_number first.until ≡ None →
+      AreAll (asked_number first.until) script taken.lines (count taken.lines taken.out.is.2.scene)
+  all-last true taken none = subst (λ (n : Option ℕ). AreAll n script taken.lines (count taken.lines taken.out.is.2.scene)) (sym none)
+      (sym (taken-whole (PlayedFrom first) now old mid script true taken refl), (taken.all refl).1)
+  all-last false taken none =
+      let never : is_reached None (count taken.lines taken.out.is.2.scene) ≡ true =
+      subst (λ (n : Option ℕ). is_reached n (count taken.lines taken.out.is.2.scene) ≡ true) none taken.out.is.3 in
+      absurd (cc)
+
+  -- the lines up to what is asked for were played
+  all-found : (taken : IsTaken (PlayedFrom first) now old mid script false) (sought : Sought) (number : ℕ) →
+      wanted first.until ≡ Some (sought, number) → none_wanted first.until ≡ None →
+      AreAll (asked_number first.until) script taken.lines (count taken.lines taken.out.is.2.scene)
+  all-found taken sought number is some =
+      let number_is : asked_number first.until ≡ Some number = ap (option_map (λ (w : Sought × ℕ). w.1)) is in
+      subst (λ (n : Option ℕ). AreAll n script taken.lines (count taken.lines taken.out.is.2.scene)) (sym number_is) (
+        reached-is number (count taken.lines taken.out.is.2.scene)
+            (subst (λ (n : Option ℕ). is_reached n (count taken.lines taken.out.is.2.scene) ≡ true) number_is taken.out.is.3),
+        some-number sought number (ap none_of (sym is) ∙ some),
+      )
+
+  module _ (new : Option (List ℕ)) (result : Result (Unit {0}) ReportFault) (more : Bool)
+      (taken : IsTaken (PlayedFrom first) now old mid script more)
+      (told : PictureTold format played_in taken.out.is.2.scene now.line.items mid new result) where
+    -- the picture of the lines that are asked for
+    drawn-of : AreAll (asked_number first.until) script taken.lines (count taken.lines taken.out.is.2.scene) →
+        LinesDrawn played_in shown old new script result
+    drawn-of all = drawn-by format first now old new script taken.lines taken.after taken.split taken.out.is.2 all result
+        (told-behind format played_in taken.out.is.2.scene now.line.items old mid new taken.out.text taken.out.is.0 taken.out.written
+        result told)
+
+    -- the last line is asked for
+    pub drawn-last : wanted first.until ≡ None → LinesDrawn played_in shown old new script result
+    drawn-last is = drawn-of (all-last more taken (ap (option_map (λ (w : Sought × ℕ). w.1)) is))
+
+    -- what is asked for was reached
+    pub drawn-found : more ≡ false → (sought : Sought) (number : ℕ) → wanted first.until ≡ Some (sought, number) →
+        none_wanted first.until ≡ None → LinesDrawn played_in shown old new script result
+    drawn-found met sought number is some = by more met taken drawn-of
+      where
+        -- where no more lines are played
+        by : (m : Bool) → m ≡ false → (t : IsTaken (PlayedFrom first) now old mid script m) →
+            (AreAll (asked_number first.until) script t.lines (count t.lines t.out.is.2.scene) → LinesDrawn played_in shown old new script
+            result) → LinesDrawn played_in shown old new script result
+        by true m t on = absurd (cc)
+        by false m t on = on (all-found t sought number is some)
+
+  -- it was not reached by all lines
+  pub none-reached : (taken : IsTaken (PlayedFrom first) now old mid script true) (sought : Sought) (number : ℕ) →
+      wanted first.until ≡ Some (sought, number) → LinesDrawn played_in shown old mid script (Err (ReportFault.Missing sought number))
+  none-reached taken sought number asked =
+      let all = sym (taken-whole (PlayedFrom first) now old mid script true taken refl) in
+      let far = taken.out.is.2 in
+      record {
+        asked = asked;
+        none = inr (
+          (taken.all refl).1,
+          record {
+            scene = far.scene;
+            last = now.line.items;
+            reaches = subst (λ (ls : List (List ℕ)). LeadsToScene played_in ls far.scene now.line.items) all
+                (far-reaches played_in first.until now taken.lines far);
+            at = subst (λ (ls : List (List ℕ)). count ls far.scene < number) all
+                (subst (λ (n : Option ℕ). ComesBefore n (count taken.lines far.scene)) (ap (option_map (λ (w : Sought × ℕ). w.1)) asked)
+                taken.out.is.3);
+          },
+        );
+        kept = kept-none old mid taken.out.text taken.out.is.0 taken.out.written;
+      }
+
+  -- a fault that is told with a reason of a line is one of a line, or memory was refused
+  why-says : (scene : Scene) (line : List ℕ) (number : ℕ) (fault : ReportFault) → IsWhy played_in scene line number fault →
+      (fault ≡ ReportFault.NoMemory) ⊎ (stops_at_line fault ≡ true)
+  why-says scene line number (ReportFault.BadLine n reason) why = inr refl
+  why-says scene line number ReportFault.HistoryFull why = inr refl
+  why-says scene line number ReportFault.NoMemory why = inl refl
+  why-says scene line number ReportFault.ReadFault why = absurd why
+  why-says scene line number ReportFault.TooLong why = absurd why
+  why-says scene line number (ReportFault.WriteFault failed) why = absurd why
+  why-says scene line number (ReportFault.Missing sought n) why = absurd why
+
+  -- the same of the last line
+  last-says : (number : ℕ) (fault : ReportFault) → IsBadLine number fault → (fault ≡ ReportFault.NoMemory) ⊎ (stops_at_line fault ≡ true)
+  last-says number (ReportFault.BadLine n reason) is = inr refl
+  last-says number ReportFault.NoMemory is = inl refl
+  last-says number ReportFault.HistoryFull is = absurd is
+  last-says number ReportFault.ReadFault is = absurd is
+  last-says number ReportFault.TooLong is = absurd is
+  last-says number (ReportFault.WriteFault failed) is = absurd is
+  last-says number (ReportFault.Missing sought n) is = absurd is
+
+  -- where a line stopped the script: behind these lines
+  pub record Stopped (fault : ReportFault) : Type 0 where
+    lines : List (List ℕ)
+    after : List (List ℕ)
+    split : whole_lines script ≡ lines ++ after
+    far : Reached played_in first.until now lines
+    stops : (new : Option (List ℕ)) → (IsAhead first.until played_in.pool lines far.scene →
+        IsLeftOf played_in shown old new lines far.scene now.line.items) → PictureStops played_in shown old new script fault
+
+  -- a line was not played
+  unplayed : (fault : ReportFault) (stop : AtLine (λ before line. Writes (λ text. WhyNot (PlayedFrom first) (Unplayed first) now before text
+      line fault) old mid) (whole_lines script)) → stops_at_line fault ≡ true →
+      Unplayed first now stop.before stop.at.text stop.line fault → Stopped fault
+  unplayed fault stop test (empty, whole, far, ahead, why) = record {
+    lines = stop.before;
+    after = stop.line ∷ stop.after;
     split = stop.split;
-    whole = stop.whole;
-    scene = stop.reached.scene;
-    last = scroll.line.items;
-    reaches = far-reaches setting view.until scroll stop.before stop.reached;
-    why = stop.why;
-    left = left stop.before stop.reached stop.ahead;
+    far = far;
+    stops = λ new left. by new (left ahead) fault test why;
   }
+    where
+      -- by cases on the fault
+      by : (new : Option (List ℕ)) → IsLeftOf played_in shown old new stop.before far.scene now.line.items → (f : ReportFault) →
+          stops_at_line f ≡ true → IsWhy played_in far.scene stop.line (length stop.before + 1) f →
+          PictureStops played_in shown old new script f
+      by new left (ReportFault.BadLine n reason) test why = inl (record {
+        before = stop.before;
+        line = stop.line;
+        after = stop.after;
+        split = stop.split;
+        at = (
+          whole,
+          record {
+            scene = far.scene;
+            last = now.line.items;
+            reaches = far-reaches played_in first.until now stop.before far;
+            at = (why, left);
+          },
+        );
+      })
+      by new left ReportFault.HistoryFull test why = record {
+        before = stop.before;
+        line = stop.line;
+        after = stop.after;
+        split = stop.split;
+        at = (
+          whole,
+          record {
+            scene = far.scene;
+            last = now.line.items;
+            reaches = far-reaches played_in first.until now stop.before far;
+            at = (why, left);
+          },
+        );
+      }
+      by new left ReportFault.NoMemory test why = absurd (cc)
+      by new left ReportFault.ReadFault test why = absurd why
+      by new left ReportFault.TooLong test why = absurd why
+      by new left (ReportFault.WriteFault failed) test why = absurd why
+      by new left (ReportFault.Missing sought n) test why = absurd why
 
-  -- a line stopped the script, and this is left of those before
-  stop-left : (fault : ReportFault) → stops_at_line fault ≡ true → PlayLinesHalt setting view.until scroll script fault → Left →
-      PictureLinesStop setting view old new script fault
-  stop-left ReportFault.ReadFault test stop left = absurd stop
-  stop-left ReportFault.TooLong test stop left = absurd stop
-  stop-left (ReportFault.WriteFault failed) test stop left = absurd stop
-  stop-left (ReportFault.Missing sought n) test stop left = absurd stop
-  stop-left (ReportFault.BadLine n reason) test (inl stop) left = inl (halted-left (ReportFault.BadLine n reason) stop left)
-  stop-left (ReportFault.BadLine n reason) test (inr stop) left = inr (record {
-    unended = stop.unended;
-    numbered = stop.numbered;
-    reasoned = stop.reasoned;
-    scene = stop.reached.scene;
-    last = scroll.line.items;
-    reaches = far-reaches setting view.until scroll (whole_lines script) stop.reached;
-    left = left (whole_lines script) stop.reached stop.ahead;
-  })
-  stop-left ReportFault.HistoryFull test stop left = halted-left ReportFault.HistoryFull stop left
-  stop-left ReportFault.NoMemory test stop left = absurd (cc)
+  -- the last line has no end
+  unended : (fault : ReportFault) → stops_at_line fault ≡ true → last_part script ≢ [] → IsBadLine (length (whole_lines script) + 1) fault →
+      HasReason unended_reason fault → Writes (PlayedFrom first now true (whole_lines script)) old mid → Stopped fault
+  unended fault test some line reason out = record {
+    lines = whole_lines script;
+    after = [];
+    split = sym (append-nil (whole_lines script));
+    far = out.is.2;
+    stops = λ new left. by new (left out.is.3) fault test line reason;
+  }
+    where
+      -- by cases on the fault
+      by : (new : Option (List ℕ)) → IsLeftOf played_in shown old new (whole_lines script) out.is.2.scene now.line.items →
+          (f : ReportFault) → stops_at_line f ≡ true → IsBadLine (length (whole_lines script) + 1) f → HasReason unended_reason f →
+          PictureStops played_in shown old new script f
+      by new left (ReportFault.BadLine n reason) test line told = inr (
+        some,
+        line,
+        told,
+        record {
+          scene = out.is.2.scene;
+          last = now.line.items;
+          reaches = far-reaches played_in first.until now (whole_lines script) out.is.2;
+          at = left;
+        },
+      )
+      by new left ReportFault.NoMemory test line told = absurd (cc)
+      by new left ReportFault.HistoryFull test line told = absurd line
+      by new left ReportFault.ReadFault test line told = absurd line
+      by new left ReportFault.TooLong test line told = absurd line
+      by new left (ReportFault.WriteFault failed) test line told = absurd line
+      by new left (ReportFault.Missing sought n) test line told = absurd line
 
-  -- a line stopped the script, and the picture of those before went out
-  pub none-asked : wanted view.until ≡ None → (fault : ReportFault) → stops_at_line fault ≡ true →
-      PlayLinesHalt setting view.until scroll script fault → IsWritten view.format scroll old new →
-      PictureLinesStop setting view old new script fault
-  none-asked none fault test stop ok = stop-left fault test stop (λ lines far ahead.
-      subst (λ (at : Option ℕ). PictureBefore at (found view.until setting.pool lines far.scene) view.format setting far.scene
-      scroll.line.items old new) (sym (ap (option_map (λ (w : Sought × ℕ). w.1)) none))
-      (ok setting view.until lines far))
+  module _ (fault : ReportFault) (stops : PlayStops first now old mid script fault) where
+    -- nothing was written
+    pub nothing-out : Writes (λ text. text ≡ []) old mid
+    nothing-out = by stops
+      where
+        -- by cases on what stopped the play
+        by : PlayStops first now old mid script fault → Writes (λ text. text ≡ []) old mid
+        by (inl (inl (is, cut))) = absurd (cut.at.is.0 cut.at.is.3.0)
+        by (inl (inr stop)) = record { text = stop.at.text; is = none stop.at.is; written = stop.at.written }
+          where
+            -- nothing is told of a line
+            none : WhyNot (PlayedFrom first) (Unplayed first) now stop.before stop.at.text stop.line fault → stop.at.text ≡ []
+            none (inl (refused, at, played)) = played.0
+            none (inr unplayed) = unplayed.0
+        by (inr (some, line, reason, out)) = record { text = out.text; is = out.is.0; written = out.written }
 
-  -- a line stopped the script, and no picture went out
-  pub none-refused : (fault other : ReportFault) → stops_at_line fault ≡ true → PlayLinesHalt setting view.until scroll script fault →
-      IsRefused view.format scroll old new other → PictureLinesStop setting view old new script other
-  none-refused ReportFault.ReadFault other test stop err = absurd stop
-  none-refused ReportFault.TooLong other test stop err = absurd stop
-  none-refused (ReportFault.WriteFault failed) other test stop err = absurd stop
-  none-refused (ReportFault.Missing sought n) other test stop err = absurd stop
-  none-refused (ReportFault.BadLine n reason) other test (inl stop) err =
-      cut-off stop.before (stop.line ∷ stop.after) stop.split stop.reached other (err setting view.until stop.before stop.reached)
-  none-refused (ReportFault.BadLine n reason) other test (inr stop) err =
-      cut-off (whole_lines script) [] (sym (append-nil (whole_lines script))) stop.reached other
-      (err setting view.until (whole_lines script) stop.reached)
-  none-refused ReportFault.HistoryFull other test stop err =
-      cut-off stop.before (stop.line ∷ stop.after) stop.split stop.reached other (err setting view.until stop.before stop.reached)
-  none-refused ReportFault.NoMemory other test stop err = absurd (cc)
+    -- memory was refused, or a line stopped the script
+    pub stopped-by : (fault ≡ ReportFault.NoMemory) ⊎ ((stops_at_line fault ≡ true) × Stopped fault)
+    stopped-by = by stops
+      where
+        -- by cases on what stopped the play
+        by : PlayStops first now old mid script fault → (fault ≡ ReportFault.NoMemory) ⊎ ((stops_at_line fault ≡ true) × Stopped fault)
+        by (inl (inl (is, cut))) = absurd (cut.at.is.0 cut.at.is.3.0)
+        by (inl (inr stop)) = at stop.at.is
+          where
+            at : WhyNot (PlayedFrom first) (Unplayed first) now stop.before stop.at.text stop.line fault →
+                (fault ≡ ReportFault.NoMemory) ⊎ ((stops_at_line fault ≡ true) × Stopped fault)
+            at (inl (refused, player, played)) = inl refused
+            at (inr why) = or (why-says why.2.scene stop.line (length stop.before + 1) fault why.4)
+              where
+                or : (fault ≡ ReportFault.NoMemory) ⊎ (stops_at_line fault ≡ true) →
+                    (fault ≡ ReportFault.NoMemory) ⊎ ((stops_at_line fault ≡ true) × Stopped fault)
+                or (inl none) = inl none
+                or (inr test) = inr (test, unplayed fault stop test why)
+        by (inr (some, line, reason, out)) = or (last-says (length (whole_lines script) + 1) fault line)
+          where
+            or : (fault ≡ ReportFault.NoMemory) ⊎ (stops_at_line fault ≡ true) →
+                (fault ≡ ReportFault.NoMemory) ⊎ ((stops_at_line fault ≡ true) × Stopped fault)
+            or (inl none) = inl none
+            or (inr test) = inr (test, unended fault test some line reason out)
 
-module _ (setting : Setting) (view : View) (scroll : Scroll) (old : Option (List ℕ)) (script : List ℕ) where
-  -- a line stopped the script before what is asked for: nothing is written
-  pub some-asked : (w : Sought × ℕ) → wanted view.until ≡ Some w → (fault : ReportFault) → stops_at_line fault ≡ true →
-      PlayLinesHalt setting view.until scroll script fault → PictureLinesStop setting view old old script fault
-  some-asked w asked fault test stop =
-      let number_is : asked_number view.until ≡ Some w.1 = ap (option_map (λ (v : Sought × ℕ). v.1)) asked in
-      stop-left setting view scroll old old script fault test stop (λ lines far ahead.
-      let count = found view.until setting.pool lines far.scene in
-      subst (λ (u : Option ℕ). PictureBefore u count view.format setting far.scene scroll.line.items old old) (sym number_is) (
-        subst (λ (u : Option ℕ). ComesBefore u count) number_is ahead,
-        Keeps-refl old,
-      ))
+    -- nothing more was written, where it is not asked for the last line
+    pub stops-asked : (w : Sought × ℕ) → wanted first.until ≡ Some w → PictureStops played_in shown old mid script fault
+    stops-asked w asked = by stopped-by
+      where
+        -- nothing was written
+        kept : Keeps old mid
+        kept = kept-none old mid nothing-out.text nothing-out.is nothing-out.written
 
-  -- memory was refused: nothing is written
-  pub no-line : (fault : ReportFault) → stops_at_line fault ≡ false → PlayLinesHalt setting view.until scroll script fault →
-      PictureLinesStop setting view old old script fault
-  no-line ReportFault.ReadFault test stop = absurd stop
-  no-line ReportFault.TooLong test stop = absurd stop
-  no-line (ReportFault.WriteFault failed) test stop = absurd stop
-  no-line (ReportFault.Missing sought n) test stop = absurd stop
-  no-line (ReportFault.BadLine n reason) test stop = absurd (cc)
-  no-line ReportFault.HistoryFull test stop = absurd (cc)
-  no-line ReportFault.NoMemory test stop = Keeps-refl old
+        -- by cases: memory was refused, or a line stopped the script
+        by : (fault ≡ ReportFault.NoMemory) ⊎ ((stops_at_line fault ≡ true) × Stopped fault) → PictureStops played_in shown old mid script fault
+        by (inl none) = rw none kept
+        by (inr (test, stopped)) = stopped.stops mid (λ ahead.
+            let number_is : asked_number first.until ≡ Some w.1 = ap (option_map (λ (v : Sought × ℕ). v.1)) asked in
+            let at = count stopped.lines stopped.far.scene in
+            subst (λ (n : Option ℕ). PictureBefore n at format played_in stopped.far.scene now.line.items old mid) (sym number_is)
+            (subst (λ (n : Option ℕ). ComesBefore n at) number_is ahead, kept))
 
--- all lines were played where the last is asked for: nothing else can be reached
-pub all-played : (setting : Setting) (until : Until) (all_found : Bool) (scroll : Scroll) (script : List ℕ)
-    (played : IsPlayedOn setting until all_found scroll script) → wanted until ≡ None →
-    AreAll (asked_number until) script played.lines (found until setting.pool played.lines played.reached.scene)
-all-played setting until all_found scroll script played is = by all_found played.ends
-  where
-    -- since the last line was asked for, not a number
-    number_is : asked_number until ≡ None
-    number_is = ap (option_map (λ (w : Sought × ℕ). w.1)) is
+    -- memory was refused: nothing more was written
+    pub stops-refused : stops_at_line fault ≡ false → PictureStops played_in shown old mid script fault
+    stops-refused test = by stopped-by
+      where
+        by : (fault ≡ ReportFault.NoMemory) ⊎ ((stops_at_line fault ≡ true) × Stopped fault) → PictureStops played_in shown old mid script fault
+        by (inl none) = rw none (kept-none old mid nothing-out.text nothing-out.is nothing-out.written)
+        by (inr (line, stopped)) = let never : true ≡ false = sym line ∙ test in absurd (cc)
 
-    -- how many lines were played
-    count : ℕ
-    count = found until setting.pool played.lines played.reached.scene
+    module _ (test : stops_at_line fault ≡ true) (new : Option (List ℕ)) where
+      -- where the script was stopped
+      stopped-at : Stopped fault
+      stopped-at = by stopped-by
+        where
+          by : (fault ≡ ReportFault.NoMemory) ⊎ ((stops_at_line fault ≡ true) × Stopped fault) → Stopped fault
+          by (inl none) =
+              let never : stops_at_line ReportFault.NoMemory ≡ true = subst (λ (f : ReportFault). stops_at_line f ≡ true) none test in
+              absurd (cc)
+          by (inr (line, stopped)) = stopped
 
-    -- by cases: no number can be reached, so all lines were played
-    by : (b : Bool) → PlayEnds b until setting.pool script played.lines played.reached.scene →
-        AreAll (asked_number until) script played.lines count
-    by true reached =
-        let never : is_reached None count ≡ true = subst (λ (n : Option ℕ). is_reached n count ≡ true) number_is reached in
-        absurd (cc)
-    by false rest = subst (λ (n : Option ℕ). AreAll n script played.lines count) (sym number_is) (rest.0, rest.1)
+      -- what came of the picture there
+      here : (result : Result (Unit {0}) ReportFault) → PictureTold format played_in stopped-at.far.scene now.line.items mid new result →
+          PictureTold format played_in stopped-at.far.scene now.line.items old new result
+      here result = told-behind format played_in stopped-at.far.scene now.line.items old mid new nothing-out.text nothing-out.is
+          nothing-out.written result
 
--- the lines up to what is asked for were played
-pub all-found : (setting : Setting) (until : Until) (scroll : Scroll) (script : List ℕ)
-    (played : IsPlayedOn setting until true scroll script)
-    (w : Sought × ℕ) → wanted until ≡ Some w → 0 < w.1 →
-    AreAll (asked_number until) script played.lines (found until setting.pool played.lines played.reached.scene)
-all-found setting until scroll script played w is some =
-    let number_is : asked_number until ≡ Some w.1 = ap (option_map (λ (v : Sought × ℕ). v.1)) is in
-    let count = found until setting.pool played.lines played.reached.scene in
-    let reached : is_reached (Some w.1) count ≡ true =
-    subst (λ (n : Option ℕ). is_reached n count ≡ true) number_is played.ends in
-    subst (λ (n : Option ℕ). AreAll n script played.lines count) (sym number_is) (reached-is w.1 count reached, some)
+      -- the picture of the lines before it was written
+      pub stops-drawn : (done : Unit {0}) → wanted first.until ≡ None → ((setting : Setting) (until : Until) (lines : List (List ℕ))
+          (far : Reached setting until now lines) → PictureTold format setting far.scene now.line.items mid new (Ok done)) →
+          PictureStops played_in shown old new script fault
+      stops-drawn done none told = stopped-at.stops new (λ ahead.
+          subst (λ (n : Option ℕ). PictureBefore n (count stopped-at.lines stopped-at.far.scene) format played_in stopped-at.far.scene
+          now.line.items old new) (sym (ap (option_map (λ (w : Sought × ℕ). w.1)) none))
+          (here (Ok done) (told played_in first.until stopped-at.lines stopped-at.far)))
 
--- what is asked for has the number 0
-pub none-first : (setting : Setting) (view : View) (old : Option (List ℕ)) (script : List ℕ) (w : Sought × ℕ) →
-    wanted view.until ≡ Some w → w.1 ≡ 0 → IsMissing setting view old old script w.0 w.1
-none-first setting view old script w asked zero = record { asked = asked; none = inl zero; kept = Keeps-refl old }
+      -- it was not
+      pub stops-failed : (other : ReportFault) → ((setting : Setting) (until : Until) (lines : List (List ℕ))
+          (far : Reached setting until now lines) → PictureTold format setting far.scene now.line.items mid new (Err other)) →
+          PictureStops played_in shown old new script other
+      stops-failed other told = cut-off format first now old new script stopped-at.lines stopped-at.after stopped-at.split stopped-at.far
+          other (here (Err other) (told played_in first.until stopped-at.lines stopped-at.far))
 
--- it was not reached
-pub none-reached : (setting : Setting) (view : View) (scroll : Scroll) (old : Option (List ℕ)) (script : List ℕ)
-    (played : IsPlayedOn setting view.until false scroll script) (w : Sought × ℕ) → wanted view.until ≡ Some w →
-    IsMissing setting view old old script w.0 w.1
-none-reached setting view scroll old script played w asked = record {
-  asked = asked;
-  none = inr (record {
-    ended = played.ends.1;
-    scene = played.reached.scene;
-    last = scroll.line.items;
-    reaches = subst (λ (ls : List (List ℕ)). LeadsToScene setting ls played.reached.scene scroll.line.items) played.ends.0
-        (far-reaches setting view.until scroll played.lines played.reached);
-    fewer = subst (λ (ls : List (List ℕ)). found view.until setting.pool ls played.reached.scene < w.1) played.ends.0
-        (subst (λ (n : Option ℕ). ComesBefore n (found view.until setting.pool played.lines played.reached.scene))
-        (ap (option_map (λ (v : Sought × ℕ). v.1)) asked) played.ends.2);
-  });
-  kept = Keeps-refl old;
-}
-
-module _ (setting : Setting) (view : View) (left_before left old : Option (List ℕ)) where
-  -- memory was refused before any line was played
-  pub draws-refused : (script : List ℕ) (fault : ReportFault) → fault ≡ ReportFault.NoMemory → Consumes left_before left script →
-      Draws setting view left_before left old old (Err fault)
-  draws-refused script fault is taken = rw is (record { script = script; taken = taken; outcome = Keeps-refl old })
-
-  -- the script did not come in
-  pub draws-unread : (fault : ReportFault) → IsUnread left_before left fault → Draws setting view left_before left old old (Err fault)
-  draws-unread ReportFault.ReadFault came =
-      record { script = came.bytes; taken = came.taken; outcome = (came.within, Keeps-refl old) }
-  draws-unread ReportFault.TooLong came =
-      record { script = came.bytes; taken = came.taken; outcome = (came.beyond, Keeps-refl old) }
-  draws-unread ReportFault.NoMemory came = record { script = came.bytes; taken = came.taken; outcome = Keeps-refl old }
-  draws-unread (ReportFault.WriteFault failed) came = absurd came
-  draws-unread (ReportFault.BadLine n reason) came = absurd came
-  draws-unread ReportFault.HistoryFull came = absurd came
-  draws-unread (ReportFault.Missing sought n) came = absurd came
-
-  module _ (new : Option (List ℕ)) (script : List ℕ) (taken : Consumes left_before left script) (end : IsAtEnd left)
-      (within : length script ≤ MOST_BYTES) where
-    -- the script came in, and its trees were drawn
-    pub draws-told : (result : Result (Unit {0}) ReportFault) → LinesDrawn setting view old new script result →
-        Draws setting view left_before left old new result
-    draws-told (Ok done) drawn = record { script = script; taken = taken; outcome = (end, within, drawn) }
-    draws-told (Err ReportFault.ReadFault) drawn = absurd drawn
-    draws-told (Err ReportFault.TooLong) drawn = absurd drawn
-    draws-told (Err (ReportFault.WriteFault failed)) drawn = record { script = script; taken = taken; outcome = (end, drawn) }
-    draws-told (Err (ReportFault.BadLine n reason)) drawn = record { script = script; taken = taken; outcome = (end, drawn) }
-    draws-told (Err ReportFault.HistoryFull) drawn = record { script = script; taken = taken; outcome = (end, drawn) }
-    draws-told (Err (ReportFault.Missing sought n)) drawn = record { script = script; taken = taken; outcome = (end, drawn) }
-    draws-told (Err ReportFault.NoMemory) drawn = record { script = script; taken = taken; outcome = drawn }
+-- the picture was put, or a part of it
+pub put-told : (format : Format) (setting : Setting) (scene : Scene) (last : List ℕ) (old new : Option (List ℕ)) (text : List ℕ) →
+    Pictures format setting scene last text → (result : Result (Unit {0}) ReportFault) → OnOk result (Appends old new text) →
+    IfErr result (λ fault. IsWriteFault fault × WritesPart old new text) → PictureTold format setting scene last old new result
+put-told format setting scene last old new text is (Ok done) out fails = record { text = text; is = is; written = out }
+put-told format setting scene last old new text is (Err fault) out fails =
+    inl (fails.0, record { text = text; is = is; written = fails.1 })

@@ -1,6 +1,6 @@
 -- A script that is played on by one line, or stops at it.
-use Rattle.std.proofs.Common.{◌≡◌, ◌≢◌, ℕ, ◌+◌, ◌<◌, ◌≤◌, ◌==◌, true, false, List, [], ◌∷◌, ◌++◌, length}
-use Rattle.std.proofs.Common.{length-append, refl, sym, ap, ◌∙◌, subst, Option, Some, None, inl, arith}
+use Rattle.std.proofs.Common.{◌≡◌, ◌≢◌, ◌⊎◌, ℕ, zero, suc, ◌+◌, ◌<◌, ◌≤◌, ◌==◌, Bool, true, false, not, List, [], ◌∷◌, ◌++◌, length}
+use Rattle.std.proofs.Common.{length-append, append-nil, refl, sym, ap, ◌∙◌, subst, Option, Some, None, inl, inr, arith}
 use Rattle.std.proofs.lemmas.Bool.Decides.{nat_tests}
 use Rattle.std.specs.Prelude.{Ok, Err, Result, IfErr, codes, nat_le}
 use Rattle.std.specs.Option.{IfSome}
@@ -12,12 +12,15 @@ use Rattle.report_io.specs.declared.fault.ReportFault.{ReportFault}
 use Rattle.report_io.specs.Faults.{GivesReason, IsFaultOf}
 use Rattle.report_io.specs.IndentedLines.{is_indented, unindented}
 use Rattle.sm_script.proofs.Settings.{legal-in}
+use Rattle.report_io.specs.Takings.{Gains}
 use Rattle.report_io.proofs.Unindented.{unindented-more, unindented-skip}
 use Rattle.script_labels.specs.declared.act.Act.{Act}
 use Rattle.script_labels.specs.declared.act.Binds.{Binds}
 use Rattle.script_labels.specs.declared.stop.LineStop.{LineStop}
-use Rattle.script_labels.specs.Names.{act_in}
+use Rattle.script_labels.specs.Names.{Names, act_in}
+use Rattle.script_labels.specs.Tables.{Keeps}
 use Rattle.sm_script.specs.Scenes.{Answers, Plays, Rests, Scene, Setting, as_line, first_scene, next_scene}
+use Rattle.sm_script.specs.Sessions.{setting_of}
 use Rattle.script_labels.specs.Texts.{reply_text, view_text}
 use Rattle.sm_script.proofs.Playing.{plays-more}
 use Rattle.event_facts.specs.declared.event.Event.{Event}
@@ -29,8 +32,8 @@ use Rattle.script_draw.specs.Draws.{IsLast}
 use Rattle.script_draw.specs.declared.draw.Scroll.{Scroll}
 use Rattle.report_io.specs.declared.view.Until.{Until}
 use Rattle.script_draw.specs.Played.{ComesBefore, IsAhead, IsWithin, Played, Begins, Passes, Looks, Makes}
-use Rattle.script_draw.specs.Played.{LeadsToScene, WasAhead, asked_number, found, is_call, is_reached}
-use Rattle.script_draw.specs.Reached.{AsksFor, PlayHalts, PlayHalted, IsHeldUp, LineMakesCall, Reached, TakesIn}
+use Rattle.script_draw.specs.Played.{LeadsToScene, WasAhead, asked_number, found, is_call, is_reached, none_wanted}
+use Rattle.script_draw.specs.Reached.{AsksFor, IsHeldUp, IsMet, LineMakesCall, PlayedFrom, PlaysLine, Reached, TakesIn, Unplayed}
 
 -- a line that makes no event gives some text, and changes nothing
 looked : (pool : ℕ) (scene : Scene) (line : List ℕ) (act : Act) → act_in scene.names line ≡ Some act → is_call act ≡ false →
@@ -146,26 +149,41 @@ same-few a b c d p q few = omega (arith, p, q, few)
 abbrev PlayedAhead : Until → ℕ → List (List ℕ) → Scene → List ℕ → Type 0
 PlayedAhead until pool lines scene last = (played : Played lines scene last) × WasAhead until pool lines scene last played
 
+-- where some is wanted, none is found at first
+ahead-none : (until : Until) (pool : ℕ) → none_wanted until ≡ None → IsAhead until pool [] first_scene
+ahead-none Until.Last pool some = tt
+ahead-none (Until.Event zero) pool some = absurd (cc)
+ahead-none (Until.Event (suc number)) pool some = omega arith
+ahead-none (Until.Line zero) pool some = absurd (cc)
+ahead-none (Until.Line (suc number)) pool some = omega arith
+ahead-none (Until.Failure zero) pool some = absurd (cc)
+ahead-none (Until.Failure (suc number)) pool some = omega arith
+
 -- no line was played
-pub far-none : (setting : Setting) (until : Until) (scroll : Scroll) → scroll.event_writer.session.core.pool ≡ setting.pool →
-    scroll.event_writer.session.core.limits ≡ setting.limits → scroll.limits ≡ setting.limits → Knows scroll.event_writer first_scene →
-    scroll.line.items ≡ [] → scroll.event ≡ None → ((id : ℕ) → known_in scroll.picture_state id ≡ []) → Reached setting until scroll []
-far-none setting until scroll pool limits bound knows none quiet blank =
-    let so_far : PlayedAhead until setting.pool [] first_scene scroll.line.items =
-    subst (PlayedAhead until setting.pool [] first_scene) (sym none) (Begins, tt) in
-    record {
-      pool = pool;
-      limits = limits;
-      bound = bound;
-      scene = first_scene;
-      played = so_far.0;
-      knows = knows;
-      kept = knows-none scroll.event_writer.session.core scroll.picture_state knows.is_at.shows;
-      seen = NoneSeen (known_in scroll.picture_state) blank;
-      last = subst (IsLast setting.pool []) (sym quiet) refl;
-      within = within-none until setting.pool;
-      ahead = so_far.1;
-    }
+pub far-none : (scroll : Scroll) → scroll.limits ≡ scroll.event_writer.session.core.limits → Knows scroll.event_writer first_scene →
+    scroll.line.items ≡ [] → scroll.event ≡ None → ((id : ℕ) → known_in scroll.picture_state id ≡ []) →
+    none_wanted scroll.until ≡ None → PlayedFrom scroll scroll true [] []
+far-none scroll bound knows none quiet blank some =
+    let pool : ℕ = scroll.event_writer.session.core.pool in
+    let so_far : PlayedAhead scroll.until pool [] first_scene scroll.line.items =
+    subst (PlayedAhead scroll.until pool [] first_scene) (sym none) (Begins, tt) in (
+      refl,
+      refl,
+      record {
+        pool = refl;
+        limits = refl;
+        bound = bound;
+        scene = first_scene;
+        played = so_far.0;
+        knows = knows;
+        kept = knows-none scroll.event_writer.session.core scroll.picture_state knows.is_at.shows;
+        seen = NoneSeen (known_in scroll.picture_state) blank;
+        last = subst (IsLast pool []) (sym quiet) refl;
+        within = within-none scroll.until pool;
+        ahead = so_far.1;
+      },
+      ahead-none scroll.until pool some,
+    )
 
 module _ (setting : Setting) (until : Until) (scroll : Scroll) (lines : List (List ℕ)) (far : Reached setting until scroll lines) where
   -- the lines so far lead to the scene
@@ -267,45 +285,74 @@ bad-memory e = cc
 full-memory : LineStop.HistoryFull ≡ LineStop.NoMemory → ⊥
 full-memory e = cc
 
-module _ (setting : Setting) (until : Until) (old new : Scroll) (lines : List (List ℕ)) (far : Reached setting until old lines)
-    (before : IsAhead until setting.pool lines far.scene) (line : List ℕ) (stop : LineStop)
-    (same : stop ≢ LineStop.NoMemory → new ≡ old) (why : IsHeldUp setting far.scene line stop) (number : ℕ)
-    (numbered : number ≡ length lines + 1) where
-  -- the line was not played
-  pub far-stop : (fault : ReportFault) → IsFaultOf number stop fault →
-      (stop ≡ LineStop.BadLine → act_in far.scene.names line ≡ None → GivesReason far.scene.names line fault) →
-      PlayHalts setting until new (lines ++ line ∷ []) fault
-  far-stop ReportFault.ReadFault is told = absurd is
-  far-stop ReportFault.TooLong is told = absurd is
-  far-stop (ReportFault.WriteFault failed) is told = absurd is
-  far-stop (ReportFault.Missing sought n) is told = absurd is
-  far-stop (ReportFault.BadLine n reason) is told =
-      let held = subst (IsHeldUp setting far.scene line) is.0 why in
-      subst (λ (s : Scroll). PlayHalted setting until s (lines ++ line ∷ []) (ReportFault.BadLine n reason))
-      (sym (same (λ e. bad-memory (sym is.0 ∙ e)))) (record {
-        before = lines;
-        line = line;
-        after = [];
-        split = refl;
-        whole = held.0;
-        reached = far;
-        ahead = before;
-        why = (held.1, is.1 ∙ numbered, told is.0 held.1);
-      })
-  far-stop ReportFault.HistoryFull is told =
-      let held = subst (IsHeldUp setting far.scene line) is why in
-      subst (λ (s : Scroll). PlayHalted setting until s (lines ++ line ∷ []) ReportFault.HistoryFull)
-      (sym (same (λ e. full-memory (sym is ∙ e)))) (record {
-        before = lines;
-        line = line;
-        after = [];
-        split = refl;
-        whole = held.0;
-        reached = far;
-        ahead = before;
-        why = held.1;
-      })
-  far-stop ReportFault.NoMemory is told = tt
+-- why a line was not played, wherever the play is
+abbrev pub IsHeld : Scroll → List ℕ → LineStop → Type 0
+IsHeld scroll line stop = (setting : Setting) (until : Until) (lines : List (List ℕ)) (far : Reached setting until scroll lines) →
+    IsHeldUp setting far.scene line stop
+
+-- the line of this number was not played: memory was refused, or nothing changed
+pub play-stop : (old new : Scroll) (line : List ℕ) (stop : LineStop) → (stop ≢ LineStop.NoMemory → new ≡ old) → IsHeld old line stop →
+    (number : ℕ) (fault : ReportFault) → IsFaultOf number stop fault →
+    ((names : Names) → Keeps new.event_writer.session.tables names → act_in names line ≡ None → GivesReason names line fault) →
+    (fault ≡ ReportFault.NoMemory) ⊎ ((first : Scroll) (lines : List (List ℕ)) (text : List ℕ) → PlayedFrom first old true lines text →
+    number ≡ length lines + 1 → Unplayed first new lines text line fault)
+play-stop old new line stop same why number ReportFault.ReadFault is known = absurd is
+play-stop old new line stop same why number ReportFault.TooLong is known = absurd is
+play-stop old new line stop same why number (ReportFault.WriteFault failed) is known = absurd is
+play-stop old new line stop same why number (ReportFault.Missing sought n) is known = absurd is
+play-stop old new line stop same why number ReportFault.NoMemory is known = inl refl
+play-stop old new line stop same why number (ReportFault.BadLine n reason) is known = inr (λ first lines text played numbered.
+    let far = played.2 in
+    let kept = same (λ e. bad-memory (sym is.0 ∙ e)) in
+    let held = subst (IsHeldUp (setting_of first.event_writer.session) far.scene line) is.0 (why _ first.until lines far) in
+    subst (λ (s : Scroll). Unplayed first s lines text line (ReportFault.BadLine n reason)) (sym kept) (
+      played.0,
+      held.0,
+      far,
+      played.3,
+      (
+        held.1,
+        is.1 ∙ numbered,
+        known far.scene.names
+            (subst (λ (s : Scroll). Keeps s.event_writer.session.tables far.scene.names) (sym kept) far.knows.is_at.keeps) held.1,
+      ),
+    ))
+play-stop old new line stop same why number ReportFault.HistoryFull is known = inr (λ first lines text played numbered.
+    let far = played.2 in
+    let held = subst (IsHeldUp (setting_of first.event_writer.session) far.scene line) is (why _ first.until lines far) in
+    subst (λ (s : Scroll). Unplayed first s lines text line ReportFault.HistoryFull) (sym (same (λ e. full-memory (sym is ∙ e))))
+    (played.0, held.0, far, played.3, held.1))
+
+-- whether what is asked for was met, by the test for it
+met-by : (found_it : Bool) (until : Until) (pool : ℕ) (lines : List (List ℕ)) (scene : Scene) →
+    IsWithin (asked_number until) (found until pool lines scene) →
+    found_it ≡ is_reached (asked_number until) (found until pool lines scene) → IsMet (not found_it) until pool lines scene
+met-by true until pool lines scene within is = sym is
+met-by false until pool lines scene within is = ahead-of (asked_number until) (found until pool lines scene) within (sym is)
+
+-- one more line was played, of which nothing is told
+pub play-on : (first old new : Scroll) (lines : List (List ℕ)) (whole text line : List ℕ) → PlayedFrom first old true lines whole →
+    PlaysLine old new line → new.until ≡ old.until → (found_it : Bool) →
+    ((setting : Setting) (played : List (List ℕ)) (far : Reached setting new.until new played) → length lines + 1 ≡ length played →
+    found_it ≡ is_reached (asked_number new.until) (found new.until setting.pool played far.scene)) →
+    Gains (PlayedFrom first new (not found_it) (lines ++ line ∷ [])) whole text text
+play-on first old new lines whole text line played plays same found_it tests =
+    let setting : Setting = setting_of first.event_writer.session in
+    let all : List (List ℕ) = lines ++ line ∷ [] in
+    let until_is : new.until ≡ first.until = same ∙ played.1 in
+    let far : Reached setting first.until new all = plays setting first.until lines played.2 played.3 in
+    let test = subst (λ (u : Until). (far : Reached setting u new all) →
+    found_it ≡ is_reached (asked_number u) (found u setting.pool all far.scene)) until_is
+    (λ there. tests setting all there (sym (length-append lines (line ∷ [])))) far in (
+      [],
+      sym (append-nil text),
+      (
+        append-nil whole ∙ played.0,
+        until_is,
+        far,
+        met-by found_it first.until setting.pool all far.scene far.within test,
+      ),
+    )
 
 -- why a line that asks for the act was not played
 abbrev pub HeldUp : Scroll → List ℕ → Act → LineStop → Type 0

@@ -1,5 +1,5 @@
 -- What the lines of a script lead to, where its trees are drawn.
-use Rattle.std.specs.Prelude.{ℕ, ◌≡◌, ◌+◌, ◌<◌, ◌≤◌, ◌==◌, Bool, true, false, List, [], ◌∷◌, ◌++◌, length, Option, Some, None, option_map}
+use Rattle.std.specs.Prelude.{ℕ, zero, suc, ◌≡◌, ◌+◌, ◌<◌, ◌≤◌, ◌==◌, Bool, true, false, List, [], ◌∷◌, ◌++◌, length, Option, Some, None, option_map}
 use Rattle.sm_names.specs.declared.messages.Call.{Call}
 use Rattle.sm_names.specs.declared.messages.Reply.{Reply}
 use Rattle.sm_names.specs.Timelines.{timeline}
@@ -41,6 +41,16 @@ wanted Until.Last = None
 wanted (Until.Event number) = Some (Sought.Event, number)
 wanted (Until.Line number) = Some (Sought.Line, number)
 wanted (Until.Failure number) = Some (Sought.Failure, number)
+
+-- what is sought, if none of it is wanted: that of the number 0
+abbrev pub none_of : Option (Sought × ℕ) → Option Sought
+none_of None = None
+none_of (Some (sought, zero)) = Some sought
+none_of (Some (sought, suc number)) = None
+
+-- the same of what is asked for
+abbrev pub none_wanted : Until → Option Sought
+none_wanted until = none_of (wanted until)
 
 -- which of it
 abbrev pub asked_number : Until → Option ℕ

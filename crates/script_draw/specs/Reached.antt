@@ -1,18 +1,17 @@
 -- How far a script is played that is drawn. No public clause cites this module.
-use Rattle.std.specs.Prelude.{ℕ, ◌≡◌, ◌≢◌, ◌⊎◌, ◌+◌, ◌≤◌, Bool, true, false, List, [], ◌∷◌, ◌++◌, length, Some, None, Option}
+use Rattle.std.specs.Prelude.{ℕ, ◌≡◌, ◌+◌, ◌≤◌, Bool, true, false, List, [], ◌∷◌, ◌++◌, length, Some, None, Option}
 use Rattle.std.specs.Option.{IfSome}
-use Rattle.script_lines.specs.Pieces.{whole_lines, last_part}
 use Rattle.report_io.specs.declared.fault.ReportFault.{ReportFault}
 use Rattle.report_io.specs.IndentedLines.{is_indented}
-use Rattle.report_io.specs.Reasons.{unended_reason}
+use Rattle.report_io.specs.Takings.{HasText, ScriptStops, WhyNot}
 use Rattle.sm_names.specs.declared.messages.Call.{Call}
 use Rattle.script_labels.specs.declared.act.Act.{Act}
 use Rattle.script_labels.specs.declared.act.Binds.{Binds}
 use Rattle.script_labels.specs.declared.stop.LineStop.{LineStop}
 use Rattle.script_labels.specs.Names.{act_in}
-use Rattle.sm_script.specs.Runs.{IsUnkept}
+use Rattle.sm_script.specs.Runs.{IsUnkept, IsWhy}
 use Rattle.sm_script.specs.Scenes.{Scene, Setting, next_scene}
-use Rattle.sm_script.specs.Sessions.{IsAt, IsSameSetting}
+use Rattle.sm_script.specs.Sessions.{IsAt, IsSameSetting, setting_of}
 use Rattle.event_facts.specs.declared.event.Event.{Event}
 use Rattle.event_texts.specs.declared.event_writer.EventWriter.{EventWriter}
 use Rattle.event_texts.specs.Called.{Knows}
@@ -20,7 +19,7 @@ use Rattle.event_texts.specs.EventLines.{IsEventOf}
 use Rattle.picture_model.specs.PictureStates.{HasSeen, KnowsKept, known_after, known_in}
 use Rattle.picture_model.specs.Seen.{named_in}
 use Rattle.script_draw.specs.declared.draw.Scroll.{Scroll}
-use Rattle.script_draw.specs.Draws.{IsLast, PictureFault}
+use Rattle.script_draw.specs.Draws.{IsLast}
 use Rattle.report_io.specs.declared.view.Until.{Until}
 use Rattle.script_draw.specs.Played.{IsAhead, IsWithin, Played, WasAhead, asked_number, found, is_reached}
 
@@ -77,53 +76,27 @@ IsHeldUp setting scene line LineStop.BadLine = (is_indented line ≡ false) × (
 IsHeldUp setting scene line LineStop.HistoryFull = (is_indented line ≡ false) × IsUnkept setting scene line
 IsHeldUp setting scene line LineStop.NoMemory = Unit {0}
 
--- a line was not played, and all before it were
-pub record PlayHalted (setting : Setting) (until : Until) (scroll : Scroll) (lines : List (List ℕ)) (fault : ReportFault) : Type 0 where
-  pub before : List (List ℕ)
-  pub line : List ℕ
-  pub after : List (List ℕ)
-  pub split : lines ≡ before ++ line ∷ after
-  pub whole : is_indented line ≡ false
-  pub reached : Reached setting until scroll before
-  pub ahead : IsAhead until setting.pool before reached.scene
-  pub why : PictureFault setting reached.scene line (length before + 1) fault
+-- what is asked for is still ahead of these lines, or was reached by the last of them
+abbrev pub IsMet : Bool → Until → ℕ → List (List ℕ) → Scene → Type 0
+IsMet true until pool lines scene = IsAhead until pool lines scene
+IsMet false until pool lines scene = is_reached (asked_number until) (found until pool lines scene) ≡ true
 
--- why these lines were not all played
-abbrev pub PlayHalts : Setting → Until → Scroll → List (List ℕ) → ReportFault → Type 0
-PlayHalts setting until scroll lines (ReportFault.BadLine n reason) = PlayHalted setting until scroll lines (ReportFault.BadLine n reason)
-PlayHalts setting until scroll lines ReportFault.HistoryFull = PlayHalted setting until scroll lines ReportFault.HistoryFull
-PlayHalts setting until scroll lines ReportFault.NoMemory = Unit {0}
-PlayHalts setting until scroll lines _ = ⊥
+-- these lines were played, by a scroll that was this one at first; nothing is told of them
+abbrev pub PlayedFrom : Scroll → Scroll → Bool → List (List ℕ) → List ℕ → Type 0
+PlayedFrom first now more lines text = (text ≡ []) × (now.until ≡ first.until)
+    × (far : Reached (setting_of first.event_writer.session) first.until now lines) × IsMet more first.until first.event_writer.session.core.pool lines far.scene
 
--- the last line has no end, and all others were played
-pub record PlayUnended (setting : Setting) (until : Until) (scroll : Scroll) (script : List ℕ) (number : ℕ) (reason : List ℕ)
-    : Type 0 where
-  pub unended : last_part script ≢ []
-  pub numbered : number ≡ length (whole_lines script) + 1
-  pub reasoned : reason ≡ unended_reason
-  pub reached : Reached setting until scroll (whole_lines script)
-  pub ahead : IsAhead until setting.pool (whole_lines script) reached.scene
+-- the line behind these was not played for this reason, and changed nothing
+abbrev pub Unplayed : Scroll → Scroll → List (List ℕ) → List ℕ → List ℕ → ReportFault → Type 0
+Unplayed first now lines text line fault = (text ≡ []) × (is_indented line ≡ false)
+    × (far : Reached (setting_of first.event_writer.session) first.until now lines)
+    × IsAhead first.until first.event_writer.session.core.pool lines far.scene
+    × IsWhy (setting_of first.event_writer.session) far.scene line (length lines + 1) fault
 
--- why a script was not played to its end, or to what is asked for
-abbrev pub PlayLinesHalt : Setting → Until → Scroll → List ℕ → ReportFault → Type 0
-PlayLinesHalt setting until scroll script (ReportFault.BadLine n reason) =
-    PlayHalts setting until scroll (whole_lines script) (ReportFault.BadLine n reason) ⊎ PlayUnended setting until scroll script n
-    reason.items
-PlayLinesHalt setting until scroll script fault = PlayHalts setting until scroll (whole_lines script) fault
-
--- what is asked for was reached; or it was not, and these are all lines
-abbrev pub PlayEnds : Bool → Until → ℕ → List ℕ → List (List ℕ) → Scene → Type 0
-PlayEnds true until pool script lines scene = is_reached (asked_number until) (found until pool lines scene) ≡ true
-PlayEnds false until pool script lines scene =
-    (lines ≡ whole_lines script) × (last_part script ≡ []) × IsAhead until pool lines scene
-
--- a script was played to what is asked for, or to its end
-pub record IsPlayedOn (setting : Setting) (until : Until) (all_found : Bool) (scroll : Scroll) (script : List ℕ) : Type 0 where
-  pub lines : List (List ℕ)
-  pub after : List (List ℕ)
-  pub split : whole_lines script ≡ lines ++ after
-  pub reached : Reached setting until scroll lines
-  pub ends : PlayEnds all_found until setting.pool script lines reached.scene
+-- a script was not played to its end, nor to what is asked for
+abbrev pub PlayStops : Scroll → Scroll → Option (List ℕ) → Option (List ℕ) → List ℕ → ReportFault → Type 0
+PlayStops first now old new script fault =
+    ScriptStops (HasText (PlayedFrom first)) (WhyNot (PlayedFrom first) (Unplayed first) now) (PlayedFrom first now true) old new script fault
 
 -- the fault is one of a line, which changed nothing
 abbrev pub stops_at_line : ReportFault → Bool

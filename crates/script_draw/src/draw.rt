@@ -5,18 +5,21 @@ ghost use Rattle.sm_names.specs.declared.messages.Call.{Call as CallMade};
 ghost use Rattle.sm_names.specs.Marks.{Entry};
 ghost use Rattle.core_state.specs.Shown.{Shows};
 ghost use Rattle.core_state.specs.State.{State};
+ghost use Rattle.report_io.specs.Streams.{Reads};
+ghost use Rattle.report_io.specs.Takings.{IsTaken};
+ghost use Rattle.script_draw.specs.declared.draw.Scroll.{Scroll as Start};
 ghost use Rattle.report_io.specs.declared.view.Until.{Until as Asked};
 ghost use Rattle.script_labels.specs.Names.{Names};
 ghost use Rattle.sm_script.specs.Scenes.{Scene, Setting};
-ghost use Rattle.sm_script.specs.Sessions.{IsAt, IsSameSetting};
+ghost use Rattle.sm_script.specs.Sessions.{IsAt, IsSameSetting, setting_of};
 ghost use Rattle.script_labels.specs.Tables.{Keeps};
 ghost use Rattle.event_texts.specs.Called.{Calls, Knows};
 ghost use Rattle.event_texts.specs.EventLines.{IsEventOf};
 ghost use Rattle.picture_model.specs.PictureStates.{HasSeen, KnowsKept, known_after, known_in};
-ghost use Rattle.script_draw.specs.Draws.{Draws, IsPicture, IsPictured, IsUnwritten, LinesDrawn, picture_in};
-ghost use Rattle.script_draw.specs.Played.{IsAhead, asked_number, found, is_reached, wanted};
-ghost use Rattle.script_draw.specs.Reached.{AsksFor, PlaysLine, PlayHalts, IsHeldUp, IsPlayedOn};
-ghost use Rattle.script_draw.specs.Reached.{PlayLinesHalt, LineMakesCall, MakesEvent, Reached, TakesIn, stops_at_line};
+ghost use Rattle.script_draw.specs.Draws.{Draws, IsPicture, LinesDrawn, PictureTold, picture_in};
+ghost use Rattle.script_draw.specs.Played.{asked_number, found, is_reached, none_wanted, wanted};
+ghost use Rattle.script_draw.specs.Reached.{AsksFor, IsHeldUp, LineMakesCall, MakesEvent, PlayedFrom, PlaysLine, PlayStops, Reached, TakesIn, stops_at_line};
+ghost use Rattle.script_draw.specs.Played.{IsAhead};
 
 use event_facts::Event;
 use event_texts::EventWriter;
@@ -25,11 +28,11 @@ use picture_model::{Picture, PictureState, named_collection, picture_of};
 use picture_svg::push_svg;
 use picture_text::push_text;
 use report_io::{
-    Format, ReportFault, Sought, Until, View, behind, fault_of, is_indented, put_out, read_script,
-    unended,
+    Format, ReportFault, Sought, TakesLines, Until, View, fault_of, is_indented, put_out,
+    read_script, take_script,
 };
 use script_labels::{Act, Binds, LineStop};
-use script_lines::{MOST_BYTES, Pages, line_end};
+use script_lines::{MOST_BYTES, Pages};
 use sm_names::{Call, ClientId, CollectionId, Limits, MAX_PAGES, NoMemory};
 use std::alloc::Global;
 use std::io::{Read, Write};
@@ -49,6 +52,7 @@ struct Scroll {
     event_writer: EventWriter,
     picture_state: PictureState,
     limits: Limits,
+    until: Until,
     // The last event, its line and its reply.
     event: Option<Event>,
     line: Vec<u8>,
@@ -83,13 +87,16 @@ pub fn draw_script<R: Read, W: Write>(
         Ok(script) => script,
         Err(fault) => return Err(fault),
     };
-    match Scroll::new(alloc, seed, job.pages.count, limits) {
+    if let Some(sought) = none_wanted(job.view.until) {
+        return Err(ReportFault::Missing { sought, number: 0 });
+    }
+    match Scroll::new(alloc, seed, job.pages.count, limits, job.view.until) {
         Ok(mut scroll) => draw_all(alloc, &mut scroll, writer, &script, job.view),
         Err(_) => Err(ReportFault::NoMemory),
     }
 }
 
-// Plays the lines, and writes the picture.
+// Plays the lines up to what is asked for, or to the last, and writes the picture.
 fn draw_all<W: Write>(
     alloc: Global,
     scroll: &mut Scroll,
@@ -97,13 +104,26 @@ fn draw_all<W: Write>(
     script: &[u8],
     view: View,
 ) -> Result<(), ReportFault>
-    requires { length script.now ≤ MOST_BYTES }
-    ensures { (setting : Setting) → Reached setting view.until scroll.old [] →
-        LinesDrawn setting view (W.contents writer.old) (W.contents writer.new) script.now result }
+    requires small { length script.now ≤ MOST_BYTES }
+    requires same { scroll.old.until ≡ view.until }
+    requires some { none_wanted view.until ≡ None }
+    requires start { PlayedFrom scroll.old scroll.old true [] [] }
+    ensures { LinesDrawn (setting_of scroll.old.event_writer.session) (record { format = view.format; until = scroll.old.until })
+        (W.contents writer.old) (W.contents writer.new) script.now result }
 {
-    match play(alloc, scroll, script, view.until) {
-        Ok(is_reached) => draw_asked(alloc, scroll, writer, view, is_reached),
+    match take_script(alloc, scroll, writer, script) {
+        Ok(more) => draw_asked(alloc, scroll, writer, view, more),
         Err(fault) => draw_so_far(alloc, scroll, writer, view, fault),
+    }
+}
+
+// What is sought, if none of it is wanted: that of the number 0.
+fn none_wanted(until: Until) -> Option<Sought>
+    ensures { result ≡ none_wanted until }
+{
+    match wanted(until) {
+        Some((sought, 0)) => Some(sought),
+        _ => None,
     }
 }
 
@@ -119,27 +139,26 @@ fn wanted(until: Until) -> Option<(Sought, u64)>
     }
 }
 
-// Writes the picture, if what is asked for was reached.
+// Writes the picture, unless what is asked for was not reached: then more lines would be played.
 fn draw_asked<W: Write>(
     alloc: Global,
     scroll: &Scroll,
     writer: &mut W,
     view: View,
-    is_reached: bool,
+    more: bool,
 ) -> Result<(), ReportFault>
-    ensures { (setting : Setting) (script : List ℕ) →
-        IsPlayedOn setting view.until is_reached scroll.now script →
-        LinesDrawn setting view (W.contents writer.old) (W.contents writer.new) script result }
+    ensures { (first : Start) (old : Option (List ℕ)) (script : List ℕ) → first.until ≡ view.until →
+        none_wanted view.until ≡ None →
+        IsTaken (PlayedFrom first) scroll.now old (W.contents writer.old) script more →
+        LinesDrawn (setting_of first.event_writer.session) (record { format = view.format; until = first.until })
+        old (W.contents writer.new) script result }
 {
     match wanted(view.until) {
         Some((sought, number)) => {
-            if number == 0 {
-                return Err(ReportFault::Missing { sought, number });
-            }
-            if is_reached {
-                write_picture(alloc, writer, scroll, view.format)
-            } else {
+            if more {
                 Err(ReportFault::Missing { sought, number })
+            } else {
+                write_picture(alloc, writer, scroll, view.format)
             }
         }
         None => write_picture(alloc, writer, scroll, view.format),
@@ -168,28 +187,10 @@ fn draw_so_far<W: Write>(
     view: View,
     fault: ReportFault,
 ) -> Result<(), ReportFault>
-    ensures { (setting : Setting) (script : List ℕ) →
-        PlayLinesHalt setting view.until scroll.now script fault →
-        LinesDrawn setting view (W.contents writer.old) (W.contents writer.new) script result }
-{
-    if is_line_fault(&fault) {
-        draw_before(alloc, scroll, writer, view, fault)
-    } else {
-        Err(fault)
-    }
-}
-
-// Writes the picture of what was there before the fault of a line, if the last line is asked for.
-fn draw_before<W: Write>(
-    alloc: Global,
-    scroll: &Scroll,
-    writer: &mut W,
-    view: View,
-    fault: ReportFault,
-) -> Result<(), ReportFault>
-    ensures { (setting : Setting) (script : List ℕ) → stops_at_line fault ≡ true →
-        PlayLinesHalt setting view.until scroll.now script fault →
-        LinesDrawn setting view (W.contents writer.old) (W.contents writer.new) script result }
+    ensures { (first : Start) (old : Option (List ℕ)) (script : List ℕ) → first.until ≡ view.until →
+        PlayStops first scroll.now old (W.contents writer.old) script fault →
+        LinesDrawn (setting_of first.event_writer.session) (record { format = view.format; until = first.until })
+        old (W.contents writer.new) script result }
 {
     match wanted(view.until) {
         Some(_) => Err(fault),
@@ -205,11 +206,14 @@ fn draw_last<W: Write>(
     view: View,
     fault: ReportFault,
 ) -> Result<(), ReportFault>
-    ensures { (setting : Setting) (script : List ℕ) → wanted view.until ≡ None →
-        stops_at_line fault ≡ true →
-        PlayLinesHalt setting view.until scroll.now script fault →
-        LinesDrawn setting view (W.contents writer.old) (W.contents writer.new) script result }
+    ensures { (first : Start) (old : Option (List ℕ)) (script : List ℕ) → wanted first.until ≡ None →
+        PlayStops first scroll.now old (W.contents writer.old) script fault →
+        LinesDrawn (setting_of first.event_writer.session) (record { format = view.format; until = first.until })
+        old (W.contents writer.new) script result }
 {
+    if !is_line_fault(&fault) {
+        return Err(fault);
+    }
     match write_picture(alloc, writer, scroll, view.format) {
         Ok(()) => Err(fault),
         Err(other) => Err(other),
@@ -223,14 +227,10 @@ fn write_picture<W: Write>(
     scroll: &Scroll,
     format: Format,
 ) -> Result<(), ReportFault>
-    ensures ok { OnOk result ((setting : Setting) (until : Asked) (lines : List (List ℕ))
+    ensures { (setting : Setting) (until : Asked) (lines : List (List ℕ))
         (far : Reached setting until scroll.now lines) →
-        IsPictured format setting far.scene scroll.now.line.items
-        (W.contents writer.old) (W.contents writer.new)) }
-    ensures err { IfErr result (λ fault. (setting : Setting) (until : Asked)
-        (lines : List (List ℕ)) (far : Reached setting until scroll.now lines) →
-        IsUnwritten format setting far.scene scroll.now.line.items
-        (W.contents writer.old) (W.contents writer.new) fault) }
+        PictureTold format setting far.scene scroll.now.line.items
+        (W.contents writer.old) (W.contents writer.new) result }
 {
     let mut text = Vec::new(alloc);
     match push_picture(alloc, &mut text, scroll, format) {
@@ -278,48 +278,20 @@ fn push_format(
     }
 }
 
-// Plays the lines up to what is asked for, or to the last. Whether what is asked for was reached.
-fn play(
-    alloc: Global,
-    scroll: &mut Scroll,
-    script: &[u8],
-    until: Until,
-) -> Result<bool, ReportFault>
-    requires { length script.now ≤ MOST_BYTES }
-    ensures ok { IfOk result (λ is_reached. (setting : Setting) →
-        Reached setting until scroll.old [] →
-        IsPlayedOn setting until is_reached scroll.new script.now) }
-    ensures err { IfErr result (λ fault. (setting : Setting) → Reached setting until scroll.old [] →
-        PlayLinesHalt setting until scroll.new script.now fault) }
-{
-    let mut number: u64 = 0;
-    let mut rest = script;
-    'lines: while let Some(at) = line_end(rest) {
-        if scroll.is_at(until, number) {
-            return Ok(true);
-        }
-        number = number.saturating_add(1);
-        match scroll.play_line(alloc, number, &rest[..at]) {
-            Ok(()) => rest = behind(rest, at),
-            Err(fault) => return Err(fault),
-        }
-    }
-    if scroll.is_at(until, number) {
-        return Ok(true);
-    }
-    if rest.is_empty() {
-        Ok(false)
-    } else {
-        Err(unended(alloc, number.saturating_add(1)))
-    }
-}
-
 impl Scroll {
     // No line was played.
-    fn new(alloc: Global, seed: [u8; 16], pages: u32, limits: Limits) -> Result<Scroll, NoMemory>
+    fn new(
+        alloc: Global,
+        seed: [u8; 16],
+        pages: u32,
+        limits: Limits,
+        until: Until,
+    ) -> Result<Scroll, NoMemory>
         requires { (1 ≤ pages) × (pages ≤ MAX_PAGES) }
-        ensures { IfOk result (λ scroll. (until : Asked) →
-            Reached (record { pool = pages; limits = limits }) until scroll []) }
+        ensures pool { IfOk result (λ scroll. scroll.event_writer.session.core.pool ≡ pages) }
+        ensures limits { IfOk result (λ scroll. scroll.event_writer.session.core.limits ≡ limits) }
+        ensures until { IfOk result (λ scroll. scroll.until ≡ until) }
+        ensures start { IfOk result (λ scroll. none_wanted until ≡ None → PlayedFrom scroll scroll true [] []) }
     {
         let event_writer = EventWriter::new(alloc, seed, pages, limits)?;
         let picture_state = PictureState::new(alloc);
@@ -328,6 +300,7 @@ impl Scroll {
             event_writer,
             picture_state,
             limits,
+            until,
             event: None,
             line,
             reply: Vec::new(alloc),
@@ -335,13 +308,13 @@ impl Scroll {
     }
 
     // Whether what is asked for was reached, where so many lines were played.
-    fn is_at(&self, until: Until, lines: u64) -> bool
+    fn is_at(&self, lines: u64) -> bool
         ensures { (setting : Setting) (played : List (List ℕ))
-            (far : Reached setting until self.now played) →
+            (far : Reached setting self.now.until self.now played) →
             lines ≡ length played →
-            result ≡ is_reached (asked_number until) (found until setting.pool played far.scene) }
+            result ≡ is_reached (asked_number self.now.until) (found self.now.until setting.pool played far.scene) }
     {
-        match until {
+        match self.until {
             Until::Last => false,
             Until::Event(number) => number == self.event_writer.session.core.events(),
             Until::Line(number) => number == lines,
@@ -349,29 +322,10 @@ impl Scroll {
         }
     }
 
-    // Plays one more line, the one of this number.
-    fn play_line(&mut self, alloc: Global, number: u64, line: &[u8]) -> Result<(), ReportFault>
-        ensures ok { OnOk result (PlaysLine self.old self.new line.now) }
-        ensures err { IfErr result (λ fault. (setting : Setting) (until : Asked)
-            (lines : List (List ℕ)) (far : Reached setting until self.old lines) →
-            IsAhead until setting.pool lines far.scene → number ≡ length lines + 1 →
-            PlayHalts setting until self.new (lines ++ line.now ∷ []) fault) }
-    {
-        match self.take_line(alloc, line) {
-            Ok(()) => Ok(()),
-            Err(stop) => Err(fault_of(
-                alloc,
-                stop,
-                &self.event_writer.session.tables,
-                number,
-                line,
-            )),
-        }
-    }
-
     // Plays one more line. Where it can't, but for want of memory, nothing changes.
-    fn take_line(&mut self, alloc: Global, line: &[u8]) -> Result<(), LineStop>
+    fn play_line(&mut self, alloc: Global, line: &[u8]) -> Result<(), LineStop>
         ensures ok { OnOk result (PlaysLine self.old self.new line.now) }
+        ensures until { self.new.until ≡ self.old.until }
         ensures same { IfErr result (λ stop. stop ≢ LineStop.NoMemory → self.new ≡ self.old) }
         ensures err { IfErr result (λ stop. (setting : Setting) (until : Asked)
             (lines : List (List ℕ)) (far : Reached setting until self.old lines) →
@@ -393,6 +347,7 @@ impl Scroll {
             (far : Reached setting until self.old lines) → AsksFor far.scene line.now act →
             IsAhead until setting.pool lines far.scene →
             Reached setting until self.new (lines ++ line.now ∷ [])) }
+        ensures until { self.new.until ≡ self.old.until }
         ensures same { IfErr result (λ stop. stop ≢ LineStop.NoMemory → self.new ≡ self.old) }
         ensures err { IfErr result (λ stop. (setting : Setting) (until : Asked)
             (lines : List (List ℕ)) (far : Reached setting until self.old lines) →
@@ -432,6 +387,7 @@ impl Scroll {
         line: &[u8],
     ) -> Result<(), LineStop>
         ensures ok { OnOk result (LineMakesCall self.old self.new client call binds line.now) }
+        ensures until { self.new.until ≡ self.old.until }
         ensures err { IfErr result (λ stop. stop ≡ LineStop.NoMemory) }
     {
         match self.take_call(alloc, client, call, binds) {
@@ -456,6 +412,7 @@ impl Scroll {
         ensures setting { OnOk result ((scene : Scene) → IsAt self.old.event_writer.session scene →
             IsSameSetting self.old.event_writer.session self.new.event_writer.session) }
         ensures limits { OnOk result (self.new.limits ≡ self.old.limits) }
+        ensures until { self.new.until ≡ self.old.until }
         ensures made { OnOk result
             (MakesEvent self.old.event_writer self.new.event_writer self.new.event client call binds) }
         ensures seen { OnOk result (IfSome self.new.event (TakesIn self.old self.new call)) }
@@ -478,6 +435,30 @@ impl Scroll {
             event,
         )?;
         Ok(())
+    }
+}
+
+impl TakesLines for Scroll {
+    ghost use Rattle.script_draw.specs.Reached.{PlayedFrom, Unplayed};
+
+    ghost took = { PlayedFrom };
+
+    ghost refuses = { Unplayed };
+
+    fn take_line(
+        &mut self,
+        alloc: Global,
+        number: u64,
+        line: &[u8],
+        _text: &mut Vec<u8>,
+    ) -> Result<bool, ReportFault> {
+        match self.play_line(alloc, line) {
+            Ok(()) => Ok(!self.is_at(number)),
+            Err(stop) => {
+                let tables = &self.event_writer.session.tables;
+                Err(fault_of(alloc, stop, tables, number, line))
+            }
+        }
     }
 }
 

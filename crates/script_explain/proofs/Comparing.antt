@@ -1,36 +1,34 @@
 -- A comparison that is extended by one line, or stops at it.
-use Rattle.std.proofs.Common.{◌≡◌, ◌≢◌, ℕ, ◌+◌, ◌-◌, ◌^◌, ◌<◌, ◌≤◌, min, Bool, true, false, if◌then◌else◌, List, [], ◌∷◌, ◌++◌, drop}
-use Rattle.std.proofs.Common.{length, length-append, append_assoc, refl, sym, ap, ◌∙◌, subst, Option, Some, None, inl, inr, arith}
-use Rattle.std.proofs.KnownBytes.{Keeps-refl}
+use Rattle.std.proofs.Common.{◌≡◌, ◌≢◌, ◌⊎◌, ℕ, ◌+◌, ◌-◌, ◌^◌, ◌<◌, ◌≤◌, min, Bool, true, false, if◌then◌else◌, List, [], ◌∷◌, ◌++◌, drop}
+use Rattle.std.proofs.Common.{length, length-append, append_assoc, append-nil, refl, sym, ap, ◌∙◌, subst, Option, Some, None, inl, inr, arith}
+use Rattle.std.proofs.KnownBytes.{Appends-kept, Appends-trans}
 use Rattle.std.specs.Prelude.{Ok, Err, Result, IfOk, IfErr}
-use Rattle.std.specs.Io.KnownBytes.{Consumes, IsAtEnd}
-use Rattle.script_lines.specs.declared.TheConstants.{MOST_BYTES}
-use Rattle.script_lines.specs.Pieces.{whole_lines, last_part}
+use Rattle.std.specs.Io.KnownBytes.{Appends, Keeps}
+use Rattle.script_lines.specs.Pieces.{whole_lines}
+use Rattle.script_lines.specs.Written.{WritesPart}
 use Rattle.report_io.specs.declared.fault.ReportFault.{ReportFault}
-use Rattle.report_io.specs.Faults.{GivesReason, HasReason, IsBadLine, IsFaultOf, IsReported}
+use Rattle.report_io.specs.Faults.{GivesReason, HasReason, IsBadLine, IsFaultOf, IsReported, IsWriteFault}
 use Rattle.report_io.specs.IndentedLines.{behind_indent, indented, is_indented, unindented}
-use Rattle.report_io.specs.Streams.{IsUnread}
-use Rattle.sm_script.proofs.Settings.{legal-in, over-in}
+use Rattle.report_io.specs.Takings.{HasText, IsTaken, ScriptStops, WhyNot}
+use Rattle.report_io.proofs.Takings.{part-behind, stops-weaker, taken-whole}
 use Rattle.report_io.proofs.Unindented.{unindented-more, unindented-skip}
 use Rattle.script_labels.specs.declared.stop.LineStop.{LineStop}
+use Rattle.script_labels.specs.Names.{act_in}
 use Rattle.sm_script.specs.Scenes.{Plays as PlaysLines, Rests, Scene, Setting, as_line, first_scene}
-use Rattle.sm_script.specs.Sessions.{IsAt, IsStopped}
+use Rattle.sm_script.specs.Sessions.{IsAt, IsStopped, setting_of}
+use Rattle.sm_script.proofs.Playing.{plays-more}
+use Rattle.sm_script.proofs.Settings.{legal-in, why-in}
 use Rattle.event_texts.specs.declared.event_writer.EventWriter.{EventWriter}
 use Rattle.event_texts.specs.Called.{Knows}
 use Rattle.event_texts.specs.Deeds.{KeptLines, Recalls, no_lines}
 use Rattle.event_texts.specs.EventLines.{TellsLine}
-use Rattle.script_explain.proofs.LineTold.{answers-in, tells-in}
-use Rattle.sm_script.proofs.Playing.{plays-more}
 use Rattle.script_explain.specs.declared.check.Comparison.{Comparison}
-use Rattle.script_explain.specs.declared.check.LineResult.{LineResult}
 use Rattle.script_explain.specs.declared.check.CheckResult.{CheckResult}
-use Rattle.script_explain.specs.Comparisons.{Agreement, Agrees, Begins, Checks, Difference}
-use Rattle.script_explain.specs.Comparisons.{EndsChecked, Plays, Remarks, Replies, early_reason}
-use Rattle.script_explain.specs.Comparisons.{FullAgreement, IsJudged, IsRemark, IsSaid, IsUnchecked, IsVerdict, ComparisonLinesStop}
-use Rattle.script_explain.specs.Comparisons.{TranscriptPlace, Records, ComparisonStopped, checking_status, lines_with, told_difference}
-use Rattle.script_explain.specs.Progress.{CheckHalted, Compared, Ended, comparison_place, lines_counted}
-use Rattle.report_io.specs.Reasons.{unended_reason}
-use Rattle.script_labels.specs.Names.{act_in}
+use Rattle.script_explain.specs.Comparisons.{Agreement, Agrees, AgreesSoFar, Begins, CheckStops, CheckTold, Checks, Difference, EndsChecked, Plays}
+use Rattle.script_explain.specs.Comparisons.{IsRemark, IsSaid, IsUnchecked, IsVerdict, Records, Remarks, Replies, TranscriptPlace}
+use Rattle.script_explain.specs.Comparisons.{checking_status, early_reason, lines_with, told_difference}
+use Rattle.script_explain.specs.Progress.{Compared, ComparedFrom, Unchecked, VerdictTold, comparison_place, lines_counted}
+use Rattle.script_explain.proofs.LineTold.{answers-in, tells-in}
 
 -- the lines that are not indented are played, one after another
 pub agrees-plays : (pool : ℕ) (lines : List (List ℕ)) (at : TranscriptPlace) → Agrees pool lines at →
@@ -83,15 +81,16 @@ agrees-few pool lines at (Plays before line reply facts there next later so_far 
     let one = one-line there.lines reply in
     record { lines_few = omega (arith, few.lines_few, count, one); replies_few = omega (arith, few.replies_few, count) }
 
--- a small number is counted up
-count-up : (count most : ℕ) → count ≤ most → most + 1 ≤ MOST_BYTES → (next : ℕ) → next ≡ min (count + 1) (2 ^ 64 - 1) → next ≡ count + 1
-count-up count most small few next is = omega (arith, is, small, few)
+-- a number that is small is counted up: lines are numbered by such numbers
+count-up : (count most number : ℕ) → count ≤ most → number ≡ most + 1 → number < 2 ^ 64 → (next : ℕ) →
+    next ≡ min (count + 1) (2 ^ 64 - 1) → next ≡ count + 1
+count-up count most number few is small next saturates = omega (arith, saturates, is, small, few)
 
 -- a small number of lines is counted up where the line has a reply
-count-line : (lines most : ℕ) (reply : List ℕ) → lines ≤ most → most + 1 ≤ MOST_BYTES → (next : ℕ) → next ≡ lines_counted lines reply →
-    next ≡ lines_with lines reply
-count-line lines most [] small few next is = is
-count-line lines most (byte ∷ more) small few next is = count-up lines most small few next is
+count-line : (lines most number : ℕ) (reply : List ℕ) → lines ≤ most → number ≡ most + 1 → number < 2 ^ 64 → (next : ℕ) →
+    next ≡ lines_counted lines reply → next ≡ lines_with lines reply
+count-line lines most number [] few is small next counted = counted
+count-line lines most number (byte ∷ more) few is small next counted = count-up lines most number few is small next counted
 
 -- the place of these parts
 abbrev place : Scene → KeptLines → ℕ → List ℕ → List ℕ → List ℕ → ℕ → ℕ → TranscriptPlace
@@ -150,7 +149,7 @@ module _ (setting : Setting) (c : Comparison) (lines : List (List ℕ)) (far : C
 
   -- one more line was played
   pub far-play : (next : Comparison) (line : List ℕ) (number : ℕ) → is_indented line ≡ false → number ≡ length lines + 1 →
-      number ≤ MOST_BYTES → ((scene : Scene) (kept : KeptLines) → Knows c.event_writer scene → Recalls c.event_writer kept →
+      number < 2 ^ 64 → ((scene : Scene) (kept : KeptLines) → Knows c.event_writer scene → Recalls c.event_writer kept →
       TellsLine c.event_writer next.event_writer number line next.reply.items next.facts.items scene kept) → next.number ≡ number →
       next.line.items ≡ line → next.lines ≡ lines_counted c.lines next.reply.items → next.replies ≡ c.replies →
       Compared setting next (lines ++ line ∷ [])
@@ -160,7 +159,7 @@ module _ (setting : Setting) (c : Comparison) (lines : List (List ℕ)) (far : C
       let reply = next.reply.items in
       let facts = next.facts.items in
       let count : next.lines ≡ lines_with c.lines reply =
-      count-line c.lines (length lines) reply few.lines_few (omega (arith, numbered, small)) next.lines its_lines in
+      count-line c.lines (length lines) number reply few.lines_few numbered small next.lines its_lines in
       record {
         pool = step.setting.pool ∙ far.pool;
         limits = step.setting.limits ∙ far.limits;
@@ -179,13 +178,13 @@ module _ (setting : Setting) (c : Comparison) (lines : List (List ℕ)) (far : C
 
   -- one more reply was compared, and is the machine's
   pub far-reply : (next : Comparison) (line reply : List ℕ) (number : ℕ) → Records line reply → number ≡ length lines + 1 →
-      number ≤ MOST_BYTES → c.reply.items ≡ as_line reply → next.event_writer ≡ c.event_writer → next.number ≡ c.number →
+      number < 2 ^ 64 → c.reply.items ≡ as_line reply → next.event_writer ≡ c.event_writer → next.number ≡ c.number →
       next.line.items ≡ c.line.items → next.reply.items ≡ c.reply.items → next.facts.items ≡ c.facts.items →
       next.lines ≡ c.lines → next.replies ≡ min (c.replies + 1) (2 ^ 64 - 1) → Compared setting next (lines ++ line ∷ [])
   far-reply next line reply number records numbered small same its_event_writer its_number its_line its_reply its_facts its_lines
       its_replies =
       let count : next.replies ≡ c.replies + 1 =
-      count-up c.replies (length lines) few.replies_few (omega (arith, numbered, small)) next.replies its_replies in
+      count-up c.replies (length lines) number few.replies_few numbered small next.replies its_replies in
       record {
         pool = ap (λ (t : EventWriter). t.session.core.pool) its_event_writer ∙ far.pool;
         limits = ap (λ (t : EventWriter). t.session.core.limits) its_event_writer ∙ far.limits;
@@ -219,181 +218,154 @@ module _ (setting : Setting) (c : Comparison) (lines : List (List ℕ)) (far : C
   }
 
   -- a line was not played
-  pub far-unplayed : (line : List ℕ) (stop : LineStop) (number : ℕ) (fault : ReportFault) → is_indented line ≡ false →
+  pub far-unplayed : (text line : List ℕ) (stop : LineStop) (number : ℕ) (fault : ReportFault) → text ≡ [] → is_indented line ≡ false →
       ((scene : Scene) → IsAt c.event_writer.session scene → IsStopped c.event_writer.session line scene stop) →
       IsFaultOf number stop fault →
       (stop ≡ LineStop.BadLine → act_in far.scene.names line ≡ None → GivesReason far.scene.names line fault) →
-      number ≡ length lines + 1 → CheckHalted setting (lines ++ line ∷ []) fault
-  far-unplayed line stop number ReportFault.ReadFault whole why is told numbered = absurd is
-  far-unplayed line stop number ReportFault.TooLong whole why is told numbered = absurd is
-  far-unplayed line stop number (ReportFault.WriteFault failed) whole why is told numbered = absurd is
-  far-unplayed line stop number (ReportFault.Missing sought n) whole why is told numbered = absurd is
-  far-unplayed line stop number (ReportFault.BadLine n reason) whole why is told numbered = record {
-    before = lines;
-    line = line;
-    after = [];
-    split = refl;
-    at = comparison_place c far.scene far.kept;
-    agreed = far-agreed;
-    why = (
-      is.1 ∙ numbered,
+      number ≡ length lines + 1 → IsUnchecked setting lines text line fault
+  far-unplayed text line stop number fault empty whole why is told numbered = (
+    empty,
+    inr (
+      comparison_place c far.scene far.kept,
+      far-agreed,
       inl (
         whole,
-        subst (IsStopped c.event_writer.session line far.scene) is.0 (why far.scene far.knows.is_at),
-        told is.0 (subst (IsStopped c.event_writer.session line far.scene) is.0 (why far.scene far.knows.is_at)),
+        rw (sym numbered) (why-in setting c.event_writer.session far.scene line far.pool far.limits number stop fault
+            (why far.scene far.knows.is_at) is told),
       ),
-    );
-  }
-  far-unplayed line stop number ReportFault.HistoryFull whole why is told numbered = record {
-    before = lines;
-    line = line;
-    after = [];
-    split = refl;
-    at = comparison_place c far.scene far.kept;
-    agreed = far-agreed;
-    why = (
-      whole,
-      over-in setting c.event_writer.session far.scene line far.pool far.limits
-          (subst (IsStopped c.event_writer.session line far.scene) is (why far.scene far.knows.is_at)),
-    );
-  }
-  far-unplayed line stop number ReportFault.NoMemory whole why is told numbered = tt
+    ),
+  )
 
   -- a reply stands before the first line that is played
-  pub far-unasked : (line reply : List ℕ) (number : ℕ) (fault : ReportFault) → Records line reply → c.lines ≡ 0 →
-      IsBadLine number fault → HasReason early_reason fault → number ≡ length lines + 1 → CheckHalted setting (lines ++ line ∷ []) fault
-  far-unasked line reply number ReportFault.ReadFault records none is told numbered = absurd is
-  far-unasked line reply number ReportFault.TooLong records none is told numbered = absurd is
-  far-unasked line reply number (ReportFault.WriteFault failed) records none is told numbered = absurd is
-  far-unasked line reply number ReportFault.HistoryFull records none is told numbered = absurd is
-  far-unasked line reply number (ReportFault.Missing sought n) records none is told numbered = absurd is
-  far-unasked line reply number (ReportFault.BadLine n reason) records none is told numbered = record {
-    before = lines;
-    line = line;
-    after = [];
-    split = refl;
-    at = comparison_place c far.scene far.kept;
-    agreed = far-agreed;
-    why = (is ∙ numbered, inr (reply, records, none, told));
-  }
-  far-unasked line reply number ReportFault.NoMemory records none is told numbered = tt
+  pub far-unasked : (text line reply : List ℕ) (number : ℕ) (fault : ReportFault) → text ≡ [] → Records line reply → c.lines ≡ 0 →
+      IsBadLine number fault → HasReason early_reason fault → number ≡ length lines + 1 → IsUnchecked setting lines text line fault
+  far-unasked text line reply number fault empty records none is told numbered =
+      (empty, inr (comparison_place c far.scene far.kept, far-agreed, inr (reply, records, none, rw (sym numbered) is, told)))
 
-module _ (setting : Setting) (lines all more : List (List ℕ)) (is : all ≡ lines ++ more) where
-  -- a line of the first lines that stops the check also stops the check of all lines
-  unchecked-on : (fault : ReportFault) → IsUnchecked setting lines fault → IsUnchecked setting all fault
-  unchecked-on fault stop = record {
-    before = stop.before;
-    line = stop.line;
-    after = stop.after ++ more;
-    split = is ∙ ap (λ front. front ++ more) stop.split ∙ append_assoc stop.before (stop.line ∷ stop.after) more;
-    at = stop.at;
-    agreed = stop.agreed;
-    why = stop.why;
-  }
+-- a difference among the first lines is one among all
+difference-more : (setting : Setting) (lines all more : List (List ℕ)) → all ≡ lines ++ more → (text : List ℕ) →
+    Difference setting lines text → Difference setting all text
+difference-more setting lines all more is text other = record {
+  before = other.before;
+  line = other.line;
+  after = other.after ++ more;
+  split = is ∙ ap (λ front. front ++ more) other.split ∙ append_assoc other.before (other.line ∷ other.after) more;
+  at = other.at;
+  agreed = other.agreed;
+  some_played = other.some_played;
+  reply = other.reply;
+  records = other.records;
+  differs = other.differs;
+  said = other.said;
+}
 
-  -- a stop among the first lines is one among all
-  pub unchecked-more : (fault : ReportFault) → CheckHalted setting lines fault → CheckHalted setting all fault
-  unchecked-more ReportFault.ReadFault stop = stop
-  unchecked-more ReportFault.TooLong stop = stop
-  unchecked-more (ReportFault.WriteFault failed) stop = stop
-  unchecked-more (ReportFault.Missing sought n) stop = stop
-  unchecked-more (ReportFault.BadLine n reason) stop = unchecked-on (ReportFault.BadLine n reason) stop
-  unchecked-more ReportFault.HistoryFull stop = unchecked-on ReportFault.HistoryFull stop
-  unchecked-more ReportFault.NoMemory stop = stop
+module _ (first now : Comparison) (old : Option (List ℕ)) (script : List ℕ) where
+  -- the setting of the core
+  abbrev setting : Setting
+  setting = setting_of first.event_writer.session
 
-  -- a difference among the first lines is one among all
-  pub difference-more : (text : List ℕ) → Difference setting lines text → Difference setting all text
-  difference-more text other = record {
-    before = other.before;
-    line = other.line;
-    after = other.after ++ more;
-    split = is ∙ ap (λ front. front ++ more) other.split ∙ append_assoc other.before (other.line ∷ other.after) more;
-    at = other.at;
-    agreed = other.agreed;
-    some_played = other.some_played;
-    reply = other.reply;
-    records = other.records;
-    differs = other.differs;
-    said = other.said;
-  }
+  -- a transcript that was not taken to its end was not compared to its end
+  pub took-stops : (new : Option (List ℕ)) (fault : ReportFault) →
+      ScriptStops (HasText (ComparedFrom first)) (WhyNot (ComparedFrom first) (Unchecked first) now) (ComparedFrom first now true) old new
+      script fault → CheckStops setting old new script fault
+  took-stops new fault stops = inl (stops-weaker (HasText (ComparedFrom first)) (Difference setting)
+      (WhyNot (ComparedFrom first) (Unchecked first) now) (IsUnchecked setting) (ComparedFrom first now true) (AgreesSoFar setting)
+      begins refuses
+      (λ lines text compared. (compared.0, comparison_place now compared.1.scene compared.1.kept, far-agreed setting now lines compared.1))
+      old new script fault stops)
+    where
+      -- there is text of a difference alone
+      begins : (lines : List (List ℕ)) (text : List ℕ) → HasText (ComparedFrom first) lines text → Difference setting lines text
+      begins lines text (some, at, true, compared) = absurd (some compared.0)
+      begins lines text (some, at, false, compared) = compared
 
--- a stop at one of the lines
-pub unchecked-lines : (setting : Setting) (script : List ℕ) (fault : ReportFault) →
-    CheckHalted setting (whole_lines script) fault → ComparisonLinesStop setting script fault
-unchecked-lines setting script ReportFault.ReadFault stop = stop
-unchecked-lines setting script ReportFault.TooLong stop = stop
-unchecked-lines setting script (ReportFault.WriteFault failed) stop = stop
-unchecked-lines setting script (ReportFault.Missing sought n) stop = stop
-unchecked-lines setting script (ReportFault.BadLine n reason) stop = inl stop
-unchecked-lines setting script ReportFault.HistoryFull stop = stop
-unchecked-lines setting script ReportFault.NoMemory stop = stop
+      -- memory was refused, or the comparison says why
+      refuses : (lines : List (List ℕ)) (text line : List ℕ) (f : ReportFault) →
+          WhyNot (ComparedFrom first) (Unchecked first) now lines text line f → IsUnchecked setting lines text line f
+      refuses lines text line f (inl (none, at, compared)) = (compared.0, inl none)
+      refuses lines text line f (inr unchecked) = unchecked
 
--- the last line has no end
-pub unchecked-at-end : (setting : Setting) (c : Comparison) (script : List ℕ) (number : ℕ) (fault : ReportFault) →
-    Compared setting c (whole_lines script) → last_part script ≢ [] → number ≡ length (whole_lines script) + 1 →
-    IsBadLine number fault → HasReason unended_reason fault → ComparisonLinesStop setting script fault
-unchecked-at-end setting c script number ReportFault.ReadFault far some numbered is told = absurd is
-unchecked-at-end setting c script number ReportFault.TooLong far some numbered is told = absurd is
-unchecked-at-end setting c script number (ReportFault.WriteFault failed) far some numbered is told = absurd is
-unchecked-at-end setting c script number ReportFault.HistoryFull far some numbered is told = absurd is
-unchecked-at-end setting c script number (ReportFault.Missing sought n) far some numbered is told = absurd is
-unchecked-at-end setting c script number (ReportFault.BadLine n reason) far some numbered is told = inr (record {
-  unended = some;
-  numbered = is ∙ numbered;
-  reasoned = told;
-  at = comparison_place c far.scene far.kept;
-  agreed = far-agreed setting c (whole_lines script) far;
-})
-unchecked-at-end setting c script number ReportFault.NoMemory far some numbered is told = tt
+  -- a reply that differs was told, and the writer was flushed, or could not be
+  pub differs-told : (mid new : Option (List ℕ)) (result : Result CheckResult ReportFault) →
+      IsTaken (ComparedFrom first) now old mid script false → Keeps mid new → IfOk result (λ verdict. verdict ≡ CheckResult.Differs) →
+      IfErr result IsWriteFault → CheckTold setting old new script result
+  differs-told mid new result taken kept ok err = by result ok err
+    where
+      -- the text of the difference is out
+      out : Appends old new taken.out.text
+      out = Appends-kept old mid new taken.out.text taken.out.written kept
 
--- nothing was written where no verdict was found
-pub stopped-same : (setting : Setting) (old : Option (List ℕ)) (script : List ℕ) (fault : ReportFault) →
-    ComparisonLinesStop setting script fault → ComparisonStopped setting old old script fault
-stopped-same setting old script ReportFault.ReadFault stop = absurd stop
-stopped-same setting old script ReportFault.TooLong stop = absurd stop
-stopped-same setting old script (ReportFault.WriteFault failed) stop = absurd stop
-stopped-same setting old script (ReportFault.Missing sought n) stop = absurd stop
-stopped-same setting old script (ReportFault.BadLine n reason) stop = (stop, Keeps-refl old)
-stopped-same setting old script ReportFault.HistoryFull stop = (stop, Keeps-refl old)
-stopped-same setting old script ReportFault.NoMemory stop = (stop, Keeps-refl old)
+      -- it is one among all lines
+      differs : Difference setting (whole_lines script) taken.out.text
+      differs = difference-more setting taken.lines (whole_lines script) taken.after taken.split taken.out.text taken.out.is
 
-module _ (setting : Setting) (left_before left old : Option (List ℕ)) where
-  -- memory was refused before any line was played
-  pub checks-refused : (script : List ℕ) (fault : ReportFault) → fault ≡ ReportFault.NoMemory → Consumes left_before left script →
-      Checks setting left_before left old old (Err fault)
-  checks-refused script fault is taken = rw is (record { script = script; taken = taken; outcome = Keeps-refl old })
+      -- by cases on the outcome
+      by : (r : Result CheckResult ReportFault) → IfOk r (λ verdict. verdict ≡ CheckResult.Differs) → IfErr r IsWriteFault →
+          CheckTold setting old new script r
+      by (Ok verdict) is fails = rw is (record { text = taken.out.text; is = differs; written = out })
+      by (Err fault) is fails = inr (inl (
+        fails,
+        CheckResult.Differs,
+        record {
+          text = taken.out.text;
+          is = differs;
+          written = record { done = taken.out.text; rest = []; split = sym (append-nil taken.out.text); written = out };
+        },
+      ))
 
-  -- the transcript did not come in
-  pub checks-unread : (fault : ReportFault) → IsUnread left_before left fault → Checks setting left_before left old old (Err fault)
-  checks-unread ReportFault.ReadFault came =
-      record { script = came.bytes; taken = came.taken; outcome = (came.within, Keeps-refl old) }
-  checks-unread ReportFault.TooLong came =
-      record { script = came.bytes; taken = came.taken; outcome = (came.beyond, Keeps-refl old) }
-  checks-unread ReportFault.NoMemory came =
-      record { script = came.bytes; taken = came.taken; outcome = Keeps-refl old }
-  checks-unread (ReportFault.WriteFault failed) came = absurd came
-  checks-unread (ReportFault.BadLine n reason) came = absurd came
-  checks-unread ReportFault.HistoryFull came = absurd came
-  checks-unread (ReportFault.Missing sought n) came = absurd came
+  -- all agrees, and that was told, or could not be
+  pub agrees-told : (mid new : Option (List ℕ)) (result : Result CheckResult ReportFault) →
+      IsTaken (ComparedFrom first) now old mid script true →
+      ((scene : Scene) (kept : KeptLines) → VerdictTold (comparison_place now scene kept) mid new result) →
+      CheckTold setting old new script result
+  agrees-told mid new result taken tells = by result (tells far.scene far.kept)
+    where
+      -- all lines were compared
+      far : Compared setting now (whole_lines script)
+      far = subst (λ (ls : List (List ℕ)). Compared setting now ls)
+          (sym (taken-whole (ComparedFrom first) now old mid script true taken refl)) taken.out.is.1
 
-  module _ (new : Option (List ℕ)) (script : List ℕ) (taken : Consumes left_before left script) (end : IsAtEnd left)
-      (within : length script ≤ MOST_BYTES) where
-    -- a fault in comparing a transcript that came in whole is an outcome of the check
-    checks-stopped : (fault : ReportFault) → ComparisonStopped setting old new script fault →
-        Checks setting left_before left old new (Err fault)
-    checks-stopped ReportFault.ReadFault stop = absurd stop.0
-    checks-stopped ReportFault.TooLong stop = absurd stop.0
-    checks-stopped (ReportFault.Missing sought n) stop = absurd stop.0
-    checks-stopped (ReportFault.WriteFault failed) stop = record { script = script; taken = taken; outcome = (end, stop) }
-    checks-stopped (ReportFault.BadLine n reason) stop = record { script = script; taken = taken; outcome = (end, stop) }
-    checks-stopped ReportFault.HistoryFull stop = record { script = script; taken = taken; outcome = (end, stop) }
-    checks-stopped ReportFault.NoMemory stop = record { script = script; taken = taken; outcome = stop.1 }
+      -- nothing was written before
+      behind : (text : List ℕ) → taken.out.text ++ text ≡ text
+      behind text = ap (λ front. front ++ text) taken.out.is.0
 
-    -- the transcript came in, and its lines were compared
-    pub checks-told : (result : Result CheckResult ReportFault) → IfOk result (IsJudged setting old new script) →
-        IfErr result (ComparisonStopped setting old new script) → Checks setting left_before left old new result
-    checks-told (Ok verdict) judged stop = record { script = script; taken = taken; outcome = (end, within, judged) }
-    checks-told (Err fault) judged stop = checks-stopped fault stop
+      -- what is said of the place is a verdict
+      verdict-of : (verdict : CheckResult) (text : List ℕ) → IsSaid verdict (comparison_place now far.scene far.kept) [] text →
+          IsVerdict setting script text verdict
+      verdict-of CheckResult.Agrees text said = record {
+        ended = (taken.all refl).1;
+        at = comparison_place now far.scene far.kept;
+        agreed = far-agreed setting now (whole_lines script) far;
+        said = said;
+      }
+      verdict-of CheckResult.Empty text said = record {
+        ended = (taken.all refl).1;
+        at = comparison_place now far.scene far.kept;
+        agreed = far-agreed setting now (whole_lines script) far;
+        said = said;
+      }
+      verdict-of CheckResult.Differs text said = absurd said
+
+      -- by cases on the outcome
+      by : (r : Result CheckResult ReportFault) → VerdictTold (comparison_place now far.scene far.kept) mid new r →
+          CheckTold setting old new script r
+      by (Ok verdict) out = record {
+        text = out.text;
+        is = verdict-of verdict out.text out.is;
+        written = subst (Appends old new) (behind out.text) (Appends-trans old mid new taken.out.text out.text taken.out.written out.written);
+      }
+      by (Err fault) (inl (is, verdict, part)) = inr (inl (
+        is,
+        verdict,
+        record {
+          text = part.text;
+          is = verdict-of verdict part.text part.is;
+          written = subst (WritesPart old new) (behind part.text)
+              (part-behind old mid new taken.out.text part.text taken.out.written part.written);
+        },
+      ))
+      by (Err fault) (inr (none, same)) =
+          inr (inr (none, subst (Appends old new) (behind []) (Appends-trans old mid new taken.out.text [] taken.out.written same)))
 
 -- a status that tells the outcome, and a line that tells its fault
 pub ends_checked : (setting : Setting) (left_before left old new told_before told : Option (List ℕ))
@@ -404,47 +376,20 @@ ends_checked setting left_before left old new told_before told outcome status ch
     record { outcome = outcome; checks = checks; status_is = is; reported = reported }
 
 -- no line was compared
-pub compared-none : (setting : Setting) (c : Comparison) → c.event_writer.session.core.pool ≡ setting.pool →
-    c.event_writer.session.core.limits ≡ setting.limits → Knows c.event_writer first_scene →
-    Recalls c.event_writer no_lines → c.number ≡ 0 →
-    c.line.items ≡ [] → c.reply.items ≡ [] → c.facts.items ≡ [] → c.lines ≡ 0 → c.replies ≡ 0 → Compared setting c []
-compared-none setting c pool limits knows recalls its_number its_line its_reply its_facts its_lines its_replies = record {
-  pool = pool;
-  limits = limits;
+pub compared-none : (c : Comparison) → Knows c.event_writer first_scene → Recalls c.event_writer no_lines → c.number ≡ 0 →
+    c.line.items ≡ [] → c.reply.items ≡ [] → c.facts.items ≡ [] → c.lines ≡ 0 → c.replies ≡ 0 →
+    Compared (setting_of c.event_writer.session) c []
+compared-none c knows recalls its_number its_line its_reply its_facts its_lines its_replies = record {
+  pool = refl;
+  limits = refl;
   scene = first_scene;
   kept = no_lines;
-  agrees = subst (Agrees setting.pool [])
+  agrees = subst (Agrees c.event_writer.session.core.pool [])
       (sym (same-place first_scene no_lines c.number 0 c.line.items [] c.reply.items [] c.facts.items [] c.lines 0 c.replies 0 its_number
       its_line its_reply its_facts its_lines its_replies)) Begins;
   knows = knows;
   recalls = recalls;
 }
-
--- all agrees, and the text of that was put
-pub agreed-fully : (setting : Setting) (c : Comparison) (script text : List ℕ) (verdict : CheckResult) →
-    Ended setting c script LineResult.Agrees →
-    ((scene : Scene) (kept : KeptLines) → IsSaid verdict (comparison_place c scene kept) c.text.items text) →
-    IsVerdict setting script text verdict
-agreed-fully setting c script text verdict ended said = by verdict (said ended.0.scene ended.0.kept)
-  where
-    -- where the comparison ended
-    at : TranscriptPlace
-    at = comparison_place c ended.0.scene ended.0.kept
-
-    -- each part, from where the comparison ended
-    fully : (v : CheckResult) → IsSaid v at c.text.items text → FullAgreement setting script text v
-    fully v so = record {
-      ended = ended.1;
-      at = at;
-      agreed = far-agreed setting c (whole_lines script) ended.0;
-      said = subst (λ (t : List ℕ). IsSaid v at t text) ended.2 so;
-    }
-
-    -- by cases on the verdict: one that differs is no full agreement
-    by : (v : CheckResult) → IsSaid v at c.text.items text → IsVerdict setting script text v
-    by CheckResult.Agrees so = fully CheckResult.Agrees so
-    by CheckResult.Empty so = fully CheckResult.Empty so
-    by CheckResult.Differs so = absurd so
 
 -- a line that nothing is behind two spaces of
 pub behind-none : (line : List ℕ) → None ≡ behind_indent line → is_indented line ≡ false

@@ -2,10 +2,8 @@ pub mod Answering
 pub mod CleanLabels
 pub mod CleanScenes
 pub mod Comparing
-pub mod Continuing
 pub mod LineTold
 pub mod Outcomes
 pub mod Seeing
-pub mod Summing
 pub mod Telling
 pub mod ToldLines

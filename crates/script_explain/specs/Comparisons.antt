@@ -1,17 +1,15 @@
 -- What comes of comparing a transcript.
-use Rattle.std.specs.Prelude.{◌≡◌, ◌≢◌, ◌⊎◌, ℕ, ◌+◌, ◌<◌, ◌≤◌, ◌==◌, if◌then◌else◌, true, false, List}
-use Rattle.std.specs.Prelude.{[], ◌∷◌, ◌++◌, codes, decimal, drop, length, None, Ok, Err, Option, Result, MatchResult}
-use Rattle.std.specs.Io.KnownBytes.{Appends, Consumes, IsAtEnd, Keeps}
-use Rattle.script_lines.specs.declared.TheConstants.{MOST_BYTES}
+use Rattle.std.specs.Prelude.{◌≡◌, ◌≢◌, ◌⊎◌, ℕ, ◌+◌, ◌<◌, ◌==◌, if◌then◌else◌, true, false, List}
+use Rattle.std.specs.Prelude.{[], ◌∷◌, ◌++◌, codes, decimal, drop, length, Ok, Err, Option, Result, MatchResult}
+use Rattle.std.specs.Io.KnownBytes.{Appends}
 use Rattle.script_lines.specs.Pieces.{whole_lines, last_part}
-use Rattle.script_lines.specs.Written.{WritesPart}
 use Rattle.report_io.specs.declared.fault.ReportFault.{ReportFault}
-use Rattle.report_io.specs.Faults.{IsReported, fault_status}
+use Rattle.report_io.specs.Faults.{HasReason, IsBadLine, IsReported, IsWriteFault, fault_status}
 use Rattle.report_io.specs.IndentedLines.{indented, is_indented, unindented}
-use Rattle.report_io.specs.Reasons.{IsReason, unended_reason}
+use Rattle.report_io.specs.Streams.{Reads}
+use Rattle.report_io.specs.Takings.{ScriptStops, Writes, WritesFirst}
 use Rattle.script_lines.specs.Parts.{plural_end}
-use Rattle.script_labels.specs.Names.{act_in}
-use Rattle.sm_script.specs.Runs.{IsUnkept}
+use Rattle.sm_script.specs.Runs.{IsWhy}
 use Rattle.sm_script.specs.Scenes.{Answers, LeadsTo, Scene, Setting, as_line, first_scene}
 use Rattle.event_texts.specs.Deeds.{KeptLines, no_lines}
 use Rattle.event_texts.specs.EventLines.{Tells}
@@ -145,77 +143,41 @@ IsVerdict setting script text CheckResult.Agrees = FullAgreement setting script 
 IsVerdict setting script text CheckResult.Empty = FullAgreement setting script text CheckResult.Empty
 IsVerdict setting script text CheckResult.Differs = Difference setting (whole_lines script) text
 
--- the verdict was written
-pub record IsJudged (setting : Setting) (old new : Option (List ℕ)) (script : List ℕ) (verdict : CheckResult) : Type 0 where
-  pub text : List ℕ
-  pub judged : IsVerdict setting script text verdict
-  pub written : Appends old new text
-
--- a first part of a verdict was written
-pub record ComparisonCutOff (setting : Setting) (old new : Option (List ℕ)) (script : List ℕ) : Type 0 where
-  pub verdict : CheckResult
-  pub text : List ℕ
-  pub judged : IsVerdict setting script text verdict
-  pub written : WritesPart old new text
-
 -- what is told of a reply that is recorded before any line was played that has one
 abbrev pub early_reason : List ℕ
 early_reason = codes "a reply stands before the first line that has one"
 
--- why the line of this number could be neither played nor compared: it is bad, or its reply comes too early, which is told with its
--- number and its reason, or the history is full
-abbrev pub ComparisonFault : Setting → TranscriptPlace → List ℕ → ℕ → ReportFault → Type 0
-ComparisonFault setting at line number (ReportFault.BadLine n reason) = (n ≡ number)
-    × ((is_indented line ≡ false) × (act_in at.scene.names line ≡ None) × IsReason at.scene.names line reason.items
-    ⊎ (reply : List ℕ) × Records line reply × (at.lines ≡ 0) × (reason.items ≡ early_reason))
-ComparisonFault setting at line number ReportFault.HistoryFull = (is_indented line ≡ false) × IsUnkept setting at.scene line
-ComparisonFault setting at line number _ = ⊥
+-- the line of this number records a reply before any line was played that has one
+abbrev pub IsEarly : TranscriptPlace → List ℕ → ℕ → ReportFault → Type 0
+IsEarly at line number fault = (reply : List ℕ) × Records line reply × (at.lines ≡ 0) × IsBadLine number fault × HasReason early_reason fault
 
--- a line could be neither played nor compared, and all before it agrees
-pub record IsUnchecked (setting : Setting) (lines : List (List ℕ)) (fault : ReportFault) : Type 0 where
-  pub before : List (List ℕ)
-  pub line : List ℕ
-  pub after : List (List ℕ)
-  pub split : lines ≡ before ++ line ∷ after
-  pub at : TranscriptPlace
-  pub agreed : Agreement setting before at
-  pub why : ComparisonFault setting at line (length before + 1) fault
+-- why the line behind these, of which nothing is told, could be neither played nor compared: memory was refused; or it is bad, or
+-- the history is full; or its reply comes too early
+abbrev pub IsUnchecked : Setting → List (List ℕ) → List ℕ → List ℕ → ReportFault → Type 0
+IsUnchecked setting lines text line fault = (text ≡ []) × ((fault ≡ ReportFault.NoMemory)
+    ⊎ ((at : TranscriptPlace) × Agreement setting lines at
+    × (((is_indented line ≡ false) × IsWhy setting at.scene line (length lines + 1) fault) ⊎ IsEarly at line (length lines + 1) fault)))
 
--- the last line has no end, and all others agree
-pub record ComparisonUnended (setting : Setting) (script : List ℕ) (number : ℕ) (reason : List ℕ) : Type 0 where
-  pub unended : last_part script ≢ []
-  pub numbered : number ≡ length (whole_lines script) + 1
-  pub reasoned : reason ≡ unended_reason
-  pub at : TranscriptPlace
-  pub agreed : Agreement setting (whole_lines script) at
+-- the lines agree so far, and nothing is told of them
+abbrev pub AgreesSoFar : Setting → List (List ℕ) → List ℕ → Type 0
+AgreesSoFar setting lines text = (text ≡ []) × (at : TranscriptPlace) × Agreement setting lines at
 
--- why no verdict was found on a script that was read
-abbrev pub ComparisonLinesStop : Setting → List ℕ → ReportFault → Type 0
-ComparisonLinesStop setting script (ReportFault.BadLine n reason) =
-    IsUnchecked setting (whole_lines script) (ReportFault.BadLine n reason) ⊎ ComparisonUnended setting script n reason.items
-ComparisonLinesStop setting script ReportFault.HistoryFull = IsUnchecked setting (whole_lines script) ReportFault.HistoryFull
-ComparisonLinesStop setting script ReportFault.NoMemory = Unit {0}
-ComparisonLinesStop setting script _ = ⊥
+-- why there is no verdict: the transcript was not compared to its end; or it was, and the verdict could not be told
+abbrev pub CheckStops : Setting → Option (List ℕ) → Option (List ℕ) → List ℕ → ReportFault → Type 0
+CheckStops setting old new script fault =
+    ScriptStops (Difference setting) (IsUnchecked setting) (AgreesSoFar setting) old new script fault
+    ⊎ ((IsWriteFault fault × (verdict : CheckResult) × WritesFirst (λ text. IsVerdict setting script text verdict) old new)
+    ⊎ ((fault ≡ ReportFault.NoMemory) × Appends old new []))
 
--- what came of a script that was read: a verdict was written, or a part of it, or nothing where none was found
-abbrev pub ComparisonStopped : Setting → Option (List ℕ) → Option (List ℕ) → List ℕ → ReportFault → Type 0
-ComparisonStopped setting old new script (ReportFault.WriteFault failed) = ComparisonCutOff setting old new script
-ComparisonStopped setting old new script fault = ComparisonLinesStop setting script fault × Keeps old new
+-- what came of a transcript that was read
+abbrev pub CheckTold : Setting → Option (List ℕ) → Option (List ℕ) → List ℕ → Result CheckResult ReportFault → Type 0
+CheckTold setting old new script result = MatchResult result
+    (λ verdict. Writes (λ text. IsVerdict setting script text verdict) old new) (CheckStops setting old new script)
 
--- why a check stopped, where these bytes were read: no line is played before all are read
-abbrev pub CheckStops : Setting → Option (List ℕ) → Option (List ℕ) → Option (List ℕ) → List ℕ → ReportFault → Type 0
-CheckStops setting left old new script ReportFault.ReadFault = (length script ≤ MOST_BYTES) × Keeps old new
-CheckStops setting left old new script ReportFault.TooLong = (MOST_BYTES < length script) × Keeps old new
-CheckStops setting left old new script ReportFault.NoMemory = Keeps old new
-CheckStops setting left old new script fault = IsAtEnd left × ComparisonStopped setting old new script fault
-
--- these bytes were read, and their lines were compared. Where there is a verdict they are all that there is
-pub record Checks (setting : Setting) (left_before left old new : Option (List ℕ)) (result : Result CheckResult ReportFault) : Type 0 where
-  pub script : List ℕ
-  pub taken : Consumes left_before left script
-  pub outcome : MatchResult result
-      (λ verdict. IsAtEnd left × (length script ≤ MOST_BYTES) × IsJudged setting old new script verdict)
-      (CheckStops setting left old new script)
+-- a transcript was read, and its lines were compared
+abbrev pub Checks : Setting → Option (List ℕ) → Option (List ℕ) → Option (List ℕ) → Option (List ℕ) →
+    Result CheckResult ReportFault → Type 0
+Checks setting left_before left old new result = Reads (CheckTold setting old new) left_before left old new result
 
 -- the status that the program ends with: 0 where all agrees, 6 where a reply differs, 7 where no reply was compared
 abbrev pub checking_status : Result CheckResult ReportFault → ℕ

@@ -1,20 +1,20 @@
 //! The replies that a transcript has, compared with those of a machine.
-ghost use Rattle.std.specs.Prelude.{◌≡◌, ◌≢◌, ◌↔◌, ◌^◌, ◌<◌, ◌≤◌, ◌+◌, [], ◌∷◌, ◌++◌, List, ℕ, IfErr, IfOk, IsTrue, OnOk, false, length};
+ghost use Rattle.std.specs.Prelude.{◌≡◌, ◌↔◌, ◌^◌, ◌<◌, ◌≤◌, ◌+◌, [], ◌∷◌, ◌++◌, List, ℕ, false, true, length};
+ghost use Rattle.std.specs.Prelude.{IfErr, IfOk, IsTrue, OnErr, OnOk};
 ghost use Rattle.report_io.specs.IndentedLines.{indented, is_indented as is_indented_line};
-ghost use Rattle.script_lines.specs.Pieces.{last_part, whole_lines};
+ghost use Rattle.report_io.specs.Takings.{Gains};
 ghost use Rattle.sm_script.specs.Scenes.{Scene, Setting, as_line};
-ghost use Rattle.sm_script.specs.Sessions.{Advances, IsAt, IsStopped};
+ghost use Rattle.sm_script.specs.Sessions.{setting_of};
 ghost use Rattle.event_texts.specs.Deeds.{KeptLines};
-ghost use Rattle.report_io.specs.declared.fault.ReportFault.{ReportFault as Fault};
-ghost use Rattle.script_explain.specs.Comparisons.{Checks, IsJudged, IsSaid, IsVerdict, ComparisonLinesStop, Records, ComparisonStopped, agreement_text, empty_words, legal_text, replies_word, told_difference};
-ghost use Rattle.script_explain.specs.Progress.{CheckHalted, Compared, Ended, Judges, comparison_place, lines_counted};
+ghost use Rattle.script_explain.specs.Comparisons.{Checks, IsSaid, IsUnchecked, Records, agreement_text, empty_words, legal_text, replies_word, told_difference};
+ghost use Rattle.script_explain.specs.Progress.{Compared, ComparedFrom, IsCompared, VerdictTold, comparison_place, lines_counted};
 
 use event_texts::EventWriter;
 use report_io::{
-    ReportFault, bad_line, behind, behind_indent, fault_of, is_indented, push_indented, put_out,
-    read_script, unended,
+    ReportFault, TakesLines, bad_line, behind_indent, fault_of, flush, is_indented, push_indented,
+    put_out, take_lines,
 };
-use script_lines::{MOST_BYTES, Part, line_end, push, push_parts};
+use script_lines::{Part, push, push_parts};
 use sm_names::{Limits, MAX_PAGES, NoMemory};
 use std::alloc::{AllocError, Global};
 use std::io::{Read, Write};
@@ -30,13 +30,6 @@ pub enum CheckResult {
     Empty,
 }
 
-// The result of comparing some lines: whether all replies that are there are the machine's.
-#[derive(Clone, Copy)]
-enum LineResult {
-    Agrees,
-    Differs,
-}
-
 // A transcript that is compared, up to some line.
 #[derive(Drop)]
 struct Comparison {
@@ -49,8 +42,6 @@ struct Comparison {
     // How many lines were played that have a reply, and how many replies compared.
     lines: u64,
     replies: u64,
-    // What is to be written.
-    text: Vec<u8>,
 }
 
 /// Plays the lines of the transcript that the reader holds against a new core with a pool of `pages`
@@ -75,37 +66,29 @@ pub fn check_script<R: Read, W: Write>(
         (R.remaining reader.old) (R.remaining reader.new)
         (W.contents writer.old) (W.contents writer.new) result }
 {
-    let script = match read_script(alloc, reader) {
-        Ok(script) => script,
-        Err(fault) => return Err(fault),
-    };
     match Comparison::new(alloc, seed, pages, limits) {
-        Ok(mut comparison) => check_all(alloc, &mut comparison, writer, &script),
+        Ok(mut comparison) => check_all(alloc, &mut comparison, reader, writer),
         Err(_) => Err(ReportFault::NoMemory),
     }
 }
 
-// Compares the lines, and writes the verdict.
-fn check_all<W: Write>(
+// Compares the lines, up to the first that differs, and writes the verdict.
+fn check_all<R: Read, W: Write>(
     alloc: Global,
     comparison: &mut Comparison,
+    reader: &mut R,
     writer: &mut W,
-    script: &[u8],
 ) -> Result<CheckResult, ReportFault>
-    requires few { length script.now ≤ MOST_BYTES }
-    requires no_text { comparison.old.text.items ≡ [] }
-    ensures ok { IfOk result (λ verdict. (setting : Setting) → Compared setting comparison.old [] →
-        IsJudged setting (W.contents writer.old) (W.contents writer.new) script.now verdict) }
-    ensures err { IfErr result (λ fault. (setting : Setting) → Compared setting comparison.old [] →
-        ComparisonStopped setting (W.contents writer.old) (W.contents writer.new)
-        script.now fault) }
+    requires { ComparedFrom comparison.old comparison.old true [] [] }
+    ensures { Checks (setting_of comparison.old.event_writer.session) (R.remaining reader.old) (R.remaining reader.new)
+        (W.contents writer.old) (W.contents writer.new) result }
 {
-    let verdict = match comparison.judge(alloc, script) {
-        Ok(verdict) => verdict,
-        Err(fault) => return Err(fault),
-    };
-    match put_out(writer, &comparison.text) {
-        Ok(()) => Ok(verdict),
+    match take_lines(alloc, comparison, reader, writer) {
+        Ok(true) => comparison.agree(alloc, writer),
+        Ok(false) => match flush(writer) {
+            Ok(()) => Ok(CheckResult::Differs),
+            Err(fault) => Err(fault),
+        },
         Err(fault) => Err(fault),
     }
 }
@@ -119,9 +102,9 @@ impl Comparison {
         limits: Limits,
     ) -> Result<Comparison, NoMemory>
         requires { (1 ≤ pages) × (pages ≤ MAX_PAGES) }
-        ensures start { IfOk result (λ c.
-            Compared (record { pool = pages; limits = limits }) c []) }
-        ensures no_text { IfOk result (λ c. c.text.items ≡ []) }
+        ensures pool { IfOk result (λ c. c.event_writer.session.core.pool ≡ pages) }
+        ensures limits { IfOk result (λ c. c.event_writer.session.core.limits ≡ limits) }
+        ensures start { IfOk result (λ c. ComparedFrom c c true [] []) }
     {
         let event_writer = EventWriter::new(alloc, seed, pages, limits)?;
         let line = Vec::new(alloc);
@@ -135,109 +118,46 @@ impl Comparison {
             facts,
             lines: 0,
             replies: 0,
-            text: Vec::new(alloc),
         })
     }
 
-    // Finds the verdict, and its text.
-    fn judge(&mut self, alloc: Global, script: &[u8]) -> Result<CheckResult, ReportFault>
-        requires few { length script.now ≤ MOST_BYTES }
-        requires no_text { self.old.text.items ≡ [] }
-        ensures ok { IfOk result (λ verdict. (setting : Setting) → Compared setting self.old [] →
-            IsVerdict setting script.now self.new.text.items verdict) }
-        ensures err { IfErr result (λ fault. (setting : Setting) → Compared setting self.old [] →
-            ComparisonLinesStop setting script.now fault) }
+    // Writes the verdict where all replies agree.
+    fn agree<W: Write>(&self, alloc: Global, writer: &mut W) -> Result<CheckResult, ReportFault>
+        ensures { (scene : Scene) (kept : KeptLines) → VerdictTold (comparison_place self.now scene kept)
+            (W.contents writer.old) (W.contents writer.new) result }
     {
-        match self.take_lines(alloc, script) {
-            Ok(LineResult::Agrees) => self.agree(),
-            Ok(LineResult::Differs) => Ok(CheckResult::Differs),
-            Err(fault) => Err(fault),
-        }
-    }
-
-    // The verdict where all replies agree: appends it.
-    fn agree(&mut self) -> Result<CheckResult, ReportFault>
-        ensures ok { IfOk result (λ verdict. (scene : Scene) (kept : KeptLines) →
-            IsSaid verdict (comparison_place self.old scene kept) self.old.text.items self.new.text.items) }
-        ensures err { IfErr result (λ fault. fault ≡ Fault.NoMemory) }
-    {
-        if self.replies == 0 {
-            return match push(&mut self.text, words_of_none(self.lines)) {
-                Ok(()) => Ok(CheckResult::Empty),
-                Err(_) => Err(ReportFault::NoMemory),
-            };
-        }
-        match self.push_agreement() {
-            Ok(()) => Ok(CheckResult::Agrees),
+        let mut text = Vec::new(alloc);
+        match self.push_verdict(&mut text) {
+            Ok(verdict) => match put_out(writer, &text) {
+                Ok(()) => Ok(verdict),
+                Err(fault) => Err(fault),
+            },
             Err(_) => Err(ReportFault::NoMemory),
         }
     }
 
-    // Plays and compares the lines, one after another, up to the first that differs.
-    fn take_lines(&mut self, alloc: Global, script: &[u8]) -> Result<LineResult, ReportFault>
-        requires few { length script.now ≤ MOST_BYTES }
-        requires no_text { self.old.text.items ≡ [] }
-        ensures ok { IfOk result (λ outcome. (setting : Setting) → Compared setting self.old [] →
-            Ended setting self.new script.now outcome) }
-        ensures err { IfErr result (λ fault. (setting : Setting) → Compared setting self.old [] →
-            ComparisonLinesStop setting script.now fault) }
+    // Appends the verdict where all replies agree.
+    fn push_verdict(&self, text: &mut Vec<u8>) -> Result<CheckResult, AllocError>
+        ensures { IfOk result (λ verdict. (scene : Scene) (kept : KeptLines) →
+            IsSaid verdict (comparison_place self.now scene kept) text.old.items text.new.items) }
     {
-        let mut number: u64 = 0;
-        let mut rest = script;
-        'lines: while let Some(at) = line_end(rest) {
-            number = number.saturating_add(1);
-            match self.take_line(alloc, number, &rest[..at]) {
-                Ok(LineResult::Agrees) => rest = behind(rest, at),
-                Ok(LineResult::Differs) => return Ok(LineResult::Differs),
-                Err(fault) => return Err(fault),
-            }
+        if self.replies == 0 {
+            push(text, words_of_none(self.lines))?;
+            return Ok(CheckResult::Empty);
         }
-        if rest.is_empty() {
-            Ok(LineResult::Agrees)
-        } else {
-            Err(unended(alloc, number.saturating_add(1)))
-        }
-    }
-
-    // Plays or compares the line of this number.
-    fn take_line(
-        &mut self,
-        alloc: Global,
-        number: u64,
-        line: &[u8],
-    ) -> Result<LineResult, ReportFault>
-        requires { number ≤ MOST_BYTES }
-        ensures ok { IfOk result (λ outcome. (setting : Setting) (lines : List (List ℕ)) →
-            Compared setting self.old lines → number ≡ length lines + 1 →
-            Judges setting self.old self.new lines line.now outcome) }
-        ensures err { IfErr result (λ fault. (setting : Setting) (lines : List (List ℕ)) →
-            Compared setting self.old lines → number ≡ length lines + 1 →
-            CheckHalted setting (lines ++ line.now ∷ []) fault) }
-    {
-        match behind_indent(line) {
-            None => match self.play(alloc, number, line) {
-                Ok(()) => Ok(LineResult::Agrees),
-                Err(fault) => Err(fault),
-            },
-            Some(recorded) => {
-                if is_indented(recorded) {
-                    return Ok(LineResult::Agrees);
-                }
-                self.compare(alloc, number, recorded)
-            }
-        }
+        self.push_agreement(text)?;
+        Ok(CheckResult::Agrees)
     }
 
     // Plays the line of this number.
     fn play(&mut self, alloc: Global, number: u64, line: &[u8]) -> Result<(), ReportFault>
-        requires { number ≤ MOST_BYTES }
+        requires { number < 2 ^ 64 }
         ensures ok { OnOk result ((setting : Setting) (lines : List (List ℕ)) →
             is_indented_line line.now ≡ false → Compared setting self.old lines →
             number ≡ length lines + 1 → Compared setting self.new (lines ++ line.now ∷ [])) }
-        ensures same { self.new.text ≡ self.old.text }
-        ensures err { IfErr result (λ fault. (setting : Setting) (lines : List (List ℕ)) →
-            is_indented_line line.now ≡ false → Compared setting self.old lines →
-            number ≡ length lines + 1 → CheckHalted setting (lines ++ line.now ∷ []) fault) }
+        ensures err { IfErr result (λ fault. (setting : Setting) (lines : List (List ℕ)) (text : List ℕ) →
+            is_indented_line line.now ≡ false → IsCompared setting self.old true lines text →
+            number ≡ length lines + 1 → IsUnchecked setting lines text line.now fault) }
     {
         self.number = number;
         self.line.clear();
@@ -259,47 +179,45 @@ impl Comparison {
         }
     }
 
-    // Compares the reply that the line of this number records with the machine's.
+    // Compares the reply that the line of this number records with the machine's. Whether they are the same: if not, appends what
+    // is told of it.
     fn compare(
         &mut self,
         alloc: Global,
         number: u64,
         recorded: &[u8],
-    ) -> Result<LineResult, ReportFault>
-        requires { number ≤ MOST_BYTES }
-        ensures ok { IfOk result (λ outcome. (setting : Setting) (lines : List (List ℕ))
-            (line : List ℕ) → Records line recorded.now →
-            Compared setting self.old lines → number ≡ length lines + 1 →
-            Judges setting self.old self.new lines line outcome) }
-        ensures err { IfErr result (λ fault. (setting : Setting) (lines : List (List ℕ))
-            (line : List ℕ) → Records line recorded.now →
-            Compared setting self.old lines → number ≡ length lines + 1 →
-            CheckHalted setting (lines ++ line ∷ []) fault) }
+        text: &mut Vec<u8>,
+    ) -> Result<bool, ReportFault>
+        requires { number < 2 ^ 64 }
+        ensures ok { IfOk result (λ same. (setting : Setting) (lines : List (List ℕ)) (line whole : List ℕ) →
+            Records line recorded.now → IsCompared setting self.old true lines whole → number ≡ length lines + 1 →
+            Gains (IsCompared setting self.new same (lines ++ line ∷ [])) whole text.old.items text.new.items) }
+        ensures kept { OnErr result (text.new.items ≡ text.old.items) }
+        ensures err { IfErr result (λ fault. (setting : Setting) (lines : List (List ℕ)) (line whole : List ℕ) →
+            Records line recorded.now → IsCompared setting self.old true lines whole → number ≡ length lines + 1 →
+            IsUnchecked setting lines whole line fault) }
     {
         if is_line_of(&self.reply, recorded) {
             self.replies = self.replies.saturating_add(1);
-            return Ok(LineResult::Agrees);
+            return Ok(true);
         }
         if self.lines == 0 {
-            return Err(bad_line(
-                alloc,
-                number,
-                "a reply stands before the first line that has one",
-            ));
+            let words = "a reply stands before the first line that has one";
+            return Err(bad_line(alloc, number, words));
         }
-        match self.tell_difference(recorded) {
-            Ok(()) => Ok(LineResult::Differs),
+        match self.tell_difference(alloc, recorded, text) {
+            Ok(()) => Ok(false),
             Err(_) => Err(ReportFault::NoMemory),
         }
     }
 
     // Appends that all replies agree.
-    fn push_agreement(&mut self) -> Result<(), AllocError>
-        ensures { OnOk result ((scene : Scene) (kept : KeptLines) → self.new.text.items
-            ≡ self.old.text.items ++ agreement_text (comparison_place self.old scene kept)) }
+    fn push_agreement(&self, text: &mut Vec<u8>) -> Result<(), AllocError>
+        ensures { OnOk result ((scene : Scene) (kept : KeptLines) → text.new.items
+            ≡ text.old.items ++ agreement_text (comparison_place self.now scene kept)) }
     {
         push_parts(
-            &mut self.text,
+            text,
             &[
                 Part::Word("agrees: "),
                 Part::Counted(self.lines, "line"),
@@ -311,20 +229,51 @@ impl Comparison {
     }
 
     // Appends the last line, with the reply that is recorded, and that of the machine, and the
-    // facts of its event.
-    fn tell_difference(&mut self, recorded: &[u8]) -> Result<(), AllocError>
-        ensures { OnOk result (self.new.text.items ≡ self.old.text.items
-            ++ told_difference self.old.number self.old.line.items self.old.reply.items recorded.now
-            ++ indented self.old.facts.items) }
+    // facts of its event; nothing where memory is refused.
+    fn tell_difference(
+        &self,
+        alloc: Global,
+        recorded: &[u8],
+        text: &mut Vec<u8>,
+    ) -> Result<(), AllocError>
+        ensures ok { OnOk result (text.new.items ≡ text.old.items
+            ++ (told_difference self.now.number self.now.line.items self.now.reply.items recorded.now
+            ++ indented self.now.facts.items)) }
+        ensures kept { OnErr result (text.new.items ≡ text.old.items) }
     {
-        push_difference(
-            &mut self.text,
-            self.number,
-            &self.line,
-            &self.reply,
-            recorded,
-        )?;
-        push_indented(&mut self.text, &self.facts)
+        let mut told = Vec::new(alloc);
+        push_difference(&mut told, self.number, &self.line, &self.reply, recorded)?;
+        push_indented(&mut told, &self.facts)?;
+        text.extend_from_slice(&told)
+    }
+}
+
+impl TakesLines for Comparison {
+    ghost use Rattle.script_explain.specs.Progress.{ComparedFrom, Unchecked};
+
+    ghost took = { ComparedFrom };
+
+    ghost refuses = { Unchecked };
+
+    fn take_line(
+        &mut self,
+        alloc: Global,
+        number: u64,
+        line: &[u8],
+        text: &mut Vec<u8>,
+    ) -> Result<bool, ReportFault> {
+        match behind_indent(line) {
+            None => match self.play(alloc, number, line) {
+                Ok(()) => Ok(true),
+                Err(fault) => Err(fault),
+            },
+            Some(recorded) => {
+                if is_indented(recorded) {
+                    return Ok(true);
+                }
+                self.compare(alloc, number, recorded, text)
+            }
+        }
     }
 }
 

@@ -1,40 +1,30 @@
 //! Each line of a script with its reply, and indented the facts of its event. A line is explained
 //! in a buffer of its own, which is then appended to the text: if memory is refused, the text still
 //! ends with a whole line.
-ghost use Rattle.std.specs.Prelude.{◌≡◌, ◌==◌, ◌||◌, not, ◌^◌, ◌<◌, ◌≤◌, ◌+◌, [], ◌∷◌};
-ghost use Rattle.std.specs.Prelude.{◌++◌, Bool, List, ℕ, Option, IfErr, IfOk, OnErr, OnOk, length};
-ghost use Rattle.std.specs.Io.KnownBytes.{Appends};
-ghost use Rattle.script_lines.specs.Pieces.{last_part, whole_lines};
-ghost use Rattle.script_lines.specs.Written.{WritesPart};
-ghost use Rattle.report_io.specs.Faults.{IsWriteFault};
-ghost use Rattle.sm_script.specs.Scenes.{Scene, Setting, first_scene};
-ghost use Rattle.sm_script.specs.Sessions.{IsAt, IsStopped};
+ghost use Rattle.std.specs.Prelude.{◌≡◌, ◌==◌, ◌||◌, not, ◌≤◌, [], ◌++◌, true, IfErr, IfOk, OnErr, OnOk};
+ghost use Rattle.sm_script.specs.Scenes.{Scene};
+ghost use Rattle.sm_script.specs.Sessions.{IsAt, IsStopped, setting_of};
 ghost use Rattle.event_texts.specs.Called.{Knows};
 ghost use Rattle.event_texts.specs.Deeds.{KeptLines, Recalls};
 ghost use Rattle.event_texts.specs.EventLines.{TellsLine};
-ghost use Rattle.script_explain.specs.Explanations.{Explains, LinesTold, WholeTold};
-ghost use Rattle.script_explain.specs.Progress.{Explained, Halted, LinesHalted, ExplainedSoFar, failing_since, told_between};
-ghost use Rattle.script_explain.specs.ExplainedLines.{indent, line_with_reply, numbered_facts, told_line};
+ghost use Rattle.script_explain.specs.Explanations.{Explains};
+ghost use Rattle.script_explain.specs.Progress.{SummaryTold, Explained, failing_since, seen_summary, told_between};
+ghost use Rattle.script_explain.specs.ExplainedLines.{if_told, indent, line_with_reply, numbered_facts, told_line};
 
 use crate::seen::Seen;
 use crate::summary::put_summary;
-use report_io::{
-    ReportFault, behind, fault_of, is_indented, push_indented, put_out, read_script, unended,
-};
+use report_io::{ReportFault, TakesLines, fault_of, flush, is_indented, push_indented, take_lines};
 use script_labels::LineStop;
-use script_lines::{MOST_BYTES, Pages, Part, line_end, push_parts, write_out};
+use script_lines::{Pages, Part, push_parts};
 use sm_names::{Limits, MAX_PAGES, NoMemory};
 use std::alloc::{AllocError, Global};
 use std::io::{Read, Write};
 
-// How many bytes of text are collected before they are written.
-const ENOUGH: usize = 65_536;
-
-// What is known of the lines so far, and that of their text that is still to go out.
+// What is known of the lines so far, and how much is told of a line.
 #[derive(Drop)]
 struct Explainer {
     seen: Seen,
-    text: Vec<u8>,
+    only_failures: bool,
     // Those of the line at hand: its reply, its facts, these behind the numbers of event and line, and its
     // text.
     reply: Vec<u8>,
@@ -94,155 +84,77 @@ pub fn explain_script<R: Read, W: Write>(
         (R.remaining reader.old) (R.remaining reader.new)
         (W.contents writer.old) (W.contents writer.new) result }
 {
-    let script = match read_script(alloc, reader) {
-        Ok(script) => script,
-        Err(fault) => return Err(fault),
-    };
-    match Explainer::new(alloc, seed, job.pages.count, limits) {
-        Ok(mut explainer) => explain_whole(alloc, &mut explainer, writer, &script, job.scope),
+    let Scope {
+        only_failures,
+        has_summary,
+    } = job.scope;
+    match Explainer::new(alloc, seed, job.pages.count, limits, only_failures) {
+        Ok(mut explainer) => explain_all(alloc, &mut explainer, reader, writer, has_summary),
         Err(_) => Err(ReportFault::NoMemory),
     }
 }
 
 // Explains the lines, and writes all of their text, and the summary behind it, if one is asked for.
-fn explain_whole<W: Write>(
+fn explain_all<R: Read, W: Write>(
     alloc: Global,
     explainer: &mut Explainer,
+    reader: &mut R,
     writer: &mut W,
-    script: &[u8],
-    scope: Scope,
+    has_summary: bool,
 ) -> Result<(), ReportFault>
-    requires { length script.now ≤ MOST_BYTES }
-    ensures { (setting : Setting) → ExplainedSoFar setting scope.only_failures explainer.old.seen
-        (W.contents writer.old) (W.contents writer.old) explainer.old.text.items [] →
-        WholeTold setting scope (W.contents writer.old) (W.contents writer.new) script.now result }
+    requires { Explained explainer.old explainer.old true [] [] }
+    ensures { Explains (setting_of explainer.old.seen.event_writer.session)
+        (record { only_failures = explainer.old.only_failures; has_summary = has_summary })
+        (R.remaining reader.old) (R.remaining reader.new)
+        (W.contents writer.old) (W.contents writer.new) result }
 {
-    match explain_all(alloc, explainer, writer, script, scope.only_failures) {
-        Ok(()) => {}
-        Err(fault) => return Err(fault),
-    }
-    if scope.has_summary {
-        put_summary(alloc, &explainer.seen, writer)
-    } else {
-        Ok(())
-    }
-}
-
-// Explains the lines, and writes all of their text.
-fn explain_all<W: Write>(
-    alloc: Global,
-    explainer: &mut Explainer,
-    writer: &mut W,
-    script: &[u8],
-    only_failures: bool,
-) -> Result<(), ReportFault>
-    requires { length script.now ≤ MOST_BYTES }
-    ensures told { (setting : Setting) → ExplainedSoFar setting only_failures explainer.old.seen
-        (W.contents writer.old) (W.contents writer.old) explainer.old.text.items [] →
-        LinesTold setting only_failures (W.contents writer.old) (W.contents writer.new) script.now result }
-    ensures far { OnOk result ((setting : Setting) → ExplainedSoFar setting only_failures
-        explainer.old.seen (W.contents writer.old) (W.contents writer.old) explainer.old.text.items [] →
-        ExplainedSoFar setting only_failures explainer.new.seen (W.contents writer.old)
-        (W.contents writer.new) [] (whole_lines script.now)) }
-    ensures whole { OnOk result (last_part script.now ≡ []) }
-{
-    let told = explain_lines(alloc, explainer, writer, script, only_failures);
-    match put_out(writer, &explainer.text) {
-        Ok(()) => told,
+    match take_lines(alloc, explainer, reader, writer) {
+        Ok(_) => end(alloc, &explainer.seen, writer, has_summary),
         Err(fault) => Err(fault),
     }
 }
 
-// Explains the lines, one after another. What is not written yet is left in the text.
-fn explain_lines<W: Write>(
+// Writes the summary, if one is asked for.
+fn end<W: Write>(
     alloc: Global,
-    explainer: &mut Explainer,
+    seen: &Seen,
     writer: &mut W,
-    script: &[u8],
-    only_failures: bool,
+    has_summary: bool,
 ) -> Result<(), ReportFault>
-    requires { length script.now ≤ MOST_BYTES }
-    ensures ok { OnOk result (Explained only_failures
-        explainer.old.seen (W.contents writer.old) explainer.old.text.items
-        explainer.new.seen (W.contents writer.new) explainer.new.text.items
-        [] (whole_lines script.now)) }
-    ensures whole { OnOk result (last_part script.now ≡ []) }
-    ensures err { IfErr result (λ fault. (setting : Setting) (old : Option (List ℕ)) →
-        ExplainedSoFar setting only_failures explainer.old.seen
-        old (W.contents writer.old) explainer.old.text.items [] →
-        LinesHalted setting only_failures old (W.contents writer.new) explainer.new.text.items script.now fault) }
+    ensures { (scene : Scene) → Knows seen.now.event_writer scene →
+        SummaryTold (W.contents writer.old) (W.contents writer.new) (if_told has_summary (seen_summary seen.now scene)) result }
 {
-    let mut number: u64 = 0;
-    let mut rest = script;
-    'lines: while let Some(at) = line_end(rest) {
-        number = number.saturating_add(1);
-        match explainer.take_line(alloc, writer, number, &rest[..at], only_failures) {
-            Ok(()) => rest = behind(rest, at),
-            Err(fault) => return Err(fault),
-        }
-    }
-    if rest.is_empty() {
-        Ok(())
+    if has_summary {
+        put_summary(alloc, seen, writer)
     } else {
-        Err(unended(alloc, number.saturating_add(1)))
+        flush(writer)
     }
 }
 
 impl Explainer {
     // No line was explained.
-    fn new(alloc: Global, seed: [u8; 16], pages: u32, limits: Limits) -> Result<Explainer, NoMemory>
+    fn new(
+        alloc: Global,
+        seed: [u8; 16],
+        pages: u32,
+        limits: Limits,
+        only_failures: bool,
+    ) -> Result<Explainer, NoMemory>
         requires { (1 ≤ pages) × (pages ≤ MAX_PAGES) }
-        ensures { IfOk result (λ explainer. (old : Option (List ℕ)) (only : Bool) →
-            ExplainedSoFar (record { pool = pages; limits = limits }) only explainer.seen
-            old old explainer.text.items []) }
+        ensures pool { IfOk result (λ explainer. explainer.seen.event_writer.session.core.pool ≡ pages) }
+        ensures limits { IfOk result (λ explainer. explainer.seen.event_writer.session.core.limits ≡ limits) }
+        ensures scope { IfOk result (λ explainer. explainer.only_failures ≡ only_failures) }
+        ensures start { IfOk result (λ explainer. Explained explainer explainer true [] []) }
     {
         let seen = Seen::new(alloc, seed, pages, limits)?;
-        let text = Vec::new(alloc);
         Ok(Explainer {
             seen,
-            text,
+            only_failures,
             reply: Vec::new(alloc),
             facts: Vec::new(alloc),
             numbered: Vec::new(alloc),
             piece: Vec::new(alloc),
         })
-    }
-
-    // Explains one more line, the one of this number.
-    fn take_line<W: Write>(
-        &mut self,
-        alloc: Global,
-        writer: &mut W,
-        number: u64,
-        line: &[u8],
-        only_failures: bool,
-    ) -> Result<(), ReportFault>
-        ensures ok { OnOk result ((lines : List (List ℕ)) → number ≡ length lines + 1 →
-            Explained only_failures
-            self.old.seen (W.contents writer.old) self.old.text.items
-            self.new.seen (W.contents writer.new) self.new.text.items
-            lines (line.now ∷ [])) }
-        ensures err { IfErr result (λ fault. (setting : Setting) (old : Option (List ℕ))
-            (lines : List (List ℕ)) →
-            ExplainedSoFar setting only_failures self.old.seen
-            old (W.contents writer.old) self.old.text.items lines → number ≡ length lines + 1 →
-            Halted setting only_failures old (W.contents writer.new) self.new.text.items
-            (lines ++ line.now ∷ []) fault) }
-    {
-        if is_indented(line) {
-            return Ok(());
-        }
-        match self.explain(alloc, number, line, only_failures) {
-            Ok(()) => {}
-            Err(stop) => {
-                let tables = &self.seen.event_writer.session.tables;
-                return Err(fault_of(alloc, stop, tables, number, line));
-            }
-        }
-        if self.text.len() <= ENOUGH {
-            return Ok(());
-        }
-        self.write_so_far(writer)
     }
 
     // Appends the explanation of the line of this number, or if only failures are told, only if a node
@@ -252,10 +164,10 @@ impl Explainer {
         alloc: Global,
         number: u64,
         line: &[u8],
-        only_failures: bool,
+        text: &mut Vec<u8>,
     ) -> Result<(), LineStop>
-        ensures text { OnOk result (self.new.text.items ≡ self.old.text.items
-            ++ told_between only_failures self.old.seen.event_writer self.new.seen.event_writer number
+        ensures text { OnOk result (text.new.items ≡ text.old.items
+            ++ told_between self.old.only_failures self.old.seen.event_writer self.new.seen.event_writer number
             line.now self.new.reply.items self.new.facts.items) }
         ensures tells { OnOk result ((scene : Scene) (kept : KeptLines) →
             Knows self.old.seen.event_writer scene → Recalls self.old.seen.event_writer kept →
@@ -263,7 +175,8 @@ impl Explainer {
             self.new.reply.items self.new.facts.items scene kept) }
         ensures failing { OnOk result (self.new.seen.failing.items ≡ self.old.seen.failing.items
             ++ failing_since self.old.seen.event_writer.failures self.new.seen.event_writer) }
-        ensures kept { OnErr result (self.new.text.items ≡ self.old.text.items) }
+        ensures scope { self.new.only_failures ≡ self.old.only_failures }
+        ensures kept { OnErr result (text.new.items ≡ text.old.items) }
         ensures err { IfErr result (λ stop. (scene : Scene) →
             IsAt self.old.seen.event_writer.session scene →
             IsStopped self.old.seen.event_writer.session line.now scene stop) }
@@ -279,8 +192,12 @@ impl Explainer {
             Ok(()) => {}
             Err(stop) => return Err(stop),
         }
-        if is_told(only_failures, failures, self.seen.event_writer.failures) {
-            match self.tell(number, line) {
+        if is_told(
+            self.only_failures,
+            failures,
+            self.seen.event_writer.failures,
+        ) {
+            match self.tell(number, line, text) {
                 Ok(()) => Ok(()),
                 Err(_) => Err(LineStop::NoMemory),
             }
@@ -291,12 +208,13 @@ impl Explainer {
 
     // Appends the line of this number, with its reply and the facts of its event; nothing where memory is
     // refused.
-    fn tell(&mut self, number: u64, line: &[u8]) -> Result<(), AllocError>
-        ensures text { OnOk result (self.new.text.items ≡ self.old.text.items
+    fn tell(&mut self, number: u64, line: &[u8], text: &mut Vec<u8>) -> Result<(), AllocError>
+        ensures text { OnOk result (text.new.items ≡ text.old.items
             ++ told_line line.now self.old.reply.items (numbered_facts
             self.old.seen.event_writer.session.core.events number self.old.facts.items)) }
-        ensures kept { OnErr result (self.new.text.items ≡ self.old.text.items) }
+        ensures kept { OnErr result (text.new.items ≡ text.old.items) }
         ensures seen { self.new.seen ≡ self.old.seen }
+        ensures scope { self.new.only_failures ≡ self.old.only_failures }
         ensures reply { self.new.reply ≡ self.old.reply }
         ensures facts { self.new.facts ≡ self.old.facts }
     {
@@ -305,23 +223,33 @@ impl Explainer {
         self.piece.clear();
         push_numbered(&mut self.numbered, event, number, &self.facts)?;
         push_told(&mut self.piece, line, &self.reply, &self.numbered)?;
-        self.text.extend_from_slice(&self.piece)
+        text.extend_from_slice(&self.piece)
     }
+}
 
-    // Writes the text, and leaves none.
-    fn write_so_far<W: Write>(&mut self, writer: &mut W) -> Result<(), ReportFault>
-        ensures same { self.new.seen ≡ self.old.seen }
-        ensures empty { self.new.text.items ≡ [] }
-        ensures ok { OnOk result
-            (Appends (W.contents writer.old) (W.contents writer.new) self.old.text.items) }
-        ensures err { IfErr result (λ fault. IsWriteFault fault
-            × WritesPart (W.contents writer.old) (W.contents writer.new) self.old.text.items) }
-    {
-        let written = write_out(writer, &self.text);
-        self.text.clear();
-        match written {
-            Ok(()) => Ok(()),
-            Err(fault) => Err(ReportFault::WriteFault(fault)),
+impl TakesLines for Explainer {
+    ghost use Rattle.script_explain.specs.Progress.{Unexplained, Explained};
+
+    ghost took = { Explained };
+
+    ghost refuses = { Unexplained };
+
+    fn take_line(
+        &mut self,
+        alloc: Global,
+        number: u64,
+        line: &[u8],
+        text: &mut Vec<u8>,
+    ) -> Result<bool, ReportFault> {
+        if is_indented(line) {
+            return Ok(true);
+        }
+        match self.explain(alloc, number, line, text) {
+            Ok(()) => Ok(true),
+            Err(stop) => {
+                let tables = &self.seen.event_writer.session.tables;
+                Err(fault_of(alloc, stop, tables, number, line))
+            }
         }
     }
 }

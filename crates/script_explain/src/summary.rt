@@ -1,13 +1,12 @@
 //! The summary behind an explanation.
-ghost use Rattle.std.specs.Prelude.{◌≡◌, ◌++◌, [], IfErr, IfOk, OnOk};
-ghost use Rattle.std.specs.Io.KnownBytes.{Appends};
+ghost use Rattle.std.specs.Prelude.{◌≡◌, IfOk};
 ghost use Rattle.event_texts.specs.Called.{Knows};
 ghost use Rattle.event_texts.specs.SummaryTexts.{summary_text};
 ghost use Rattle.script_labels.specs.Names.{Names};
 ghost use Rattle.script_labels.specs.Tables.{Keeps};
 ghost use Rattle.report_io.specs.IndentedLines.{indented};
 ghost use Rattle.sm_script.specs.Scenes.{Scene};
-ghost use Rattle.script_explain.specs.Progress.{SummaryHalted, seen_summary};
+ghost use Rattle.script_explain.specs.Progress.{SummaryTold, seen_summary};
 
 use crate::seen::Seen;
 use report_io::{ReportFault, push_indented, put_out};
@@ -21,10 +20,8 @@ pub(crate) fn put_summary<W: Write>(
     seen: &Seen,
     writer: &mut W,
 ) -> Result<(), ReportFault>
-    ensures ok { OnOk result ((scene : Scene) → Knows seen.now.event_writer scene →
-        Appends (W.contents writer.old) (W.contents writer.new) (seen_summary seen.now scene)) }
-    ensures err { IfErr result (λ fault. (scene : Scene) → Knows seen.now.event_writer scene →
-        SummaryHalted (W.contents writer.old) (W.contents writer.new) (seen_summary seen.now scene) fault) }
+    ensures { (scene : Scene) → Knows seen.now.event_writer scene →
+        SummaryTold (W.contents writer.old) (W.contents writer.new) (seen_summary seen.now scene) result }
 {
     match summary_of(alloc, seen) {
         Ok(text) => put_out(writer, &text),

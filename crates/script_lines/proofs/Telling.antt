@@ -1,6 +1,5 @@
 -- What is said of a line that was written.
 use Rattle.std.proofs.Common.{◌≡◌, ℕ, List, [], ◌∷◌, ◌++◌, Option, Some, None, append-nil, refl, sym, subst}
-use Rattle.std.proofs.KnownBytes.{Appends-nil}
 use Rattle.std.specs.Prelude.{Ok, Err, Result, IfSome, OnErr, OnOk}
 use Rattle.std.specs.Io.KnownBytes.{Appends}
 use Rattle.script_lines.specs.declared.writing.WriteFault.{WriteFault}
@@ -17,7 +16,3 @@ pub tells : (old new : Option (List ℕ)) (line : List ℕ) (result : Result (Un
     OnOk result (Appends old new line) → OnErr result (WritesPart old new line) → WritesPart old new line
 tells old new line (Ok done) ok err = record { done = line; rest = []; split = sym (append-nil line); written = ok }
 tells old new line (Err fault) ok err = err
-
--- nothing was written
-pub tells_nothing : (old : Option (List ℕ)) → WritesPart old old []
-tells_nothing old = record { done = []; rest = []; split = refl; written = Appends-nil old }

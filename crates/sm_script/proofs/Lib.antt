@@ -2,5 +2,4 @@ pub mod Advancing
 pub mod Playing
 pub mod Running
 pub mod Settings
-pub mod Taking
 pub mod Viewing

@@ -1,21 +1,22 @@
 -- A run that is extended by one line, or stops at it.
-use Rattle.std.proofs.Common.{◌≡◌, ◌≢◌, ℕ, ◌+◌, ◌≤◌, List, [], ◌∷◌, ◌++◌, length, length-append, append_assoc}
-use Rattle.std.proofs.Common.{append-nil, refl, sym, ap, ◌∙◌, subst, Option, inl, inr, arith}
-use Rattle.std.proofs.KnownBytes.{Appends-trans}
+use Rattle.std.proofs.Common.{◌≡◌, ◌⊎◌, ℕ, ◌+◌, List, [], ◌∷◌, ◌++◌, length, append_assoc, append-nil, refl, sym, ap, ◌∙◌, subst}
+use Rattle.std.proofs.Common.{Bool, true, Option, None, inl, inr}
 use Rattle.std.specs.Io.KnownBytes.{Appends}
-use Rattle.sm_names.specs.Bounds.{Bound}
-use Rattle.sm_names.specs.Legality.{IsLegal}
-use Rattle.sm_names.specs.Marks.{events}
-use Rattle.sm_names.specs.Timelines.{timeline}
 use Rattle.report_io.specs.declared.fault.ReportFault.{ReportFault}
-use Rattle.report_io.specs.Faults.{IsWriteFault}
+use Rattle.report_io.specs.Faults.{GivesReason, IsFaultOf}
+use Rattle.report_io.specs.Takings.{AtLine, Stops, WhyNot, Writes}
 use Rattle.report_io.proofs.Reporting.{write_fault_is}
+use Rattle.script_labels.specs.declared.stop.LineStop.{LineStop}
+use Rattle.script_labels.specs.Names.{Names, act_in}
+use Rattle.script_labels.specs.Tables.{Keeps}
+use Rattle.script_lines.specs.Pieces.{whole_lines}
+use Rattle.sm_script.specs.declared.session.Session.{Session}
 use Rattle.sm_script.specs.declared.player.Player.{Player}
-use Rattle.sm_script.specs.Players.{SoFar, Breaks, GivesUp}
-use Rattle.sm_script.specs.Runs.{IsTold, IsCutOff, IsUnanswered, IsWhy, Stopped}
-use Rattle.script_lines.specs.Written.{WritesPart}
+use Rattle.sm_script.specs.Players.{IsAnswered, Refuses, Took}
+use Rattle.sm_script.specs.Runs.{IsBeyond, IsTold, IsUnanswered, IsWhy, RunStops, Stopped}
 use Rattle.sm_script.specs.Scenes.{Scene, Setting, Plays, Rests, Goes, Answers, LeadsTo, first_scene}
-use Rattle.sm_script.specs.Sessions.{IsAt, Advances}
+use Rattle.sm_script.specs.Sessions.{Advances, IsAt, IsStopped, setting_of}
+use Rattle.sm_script.proofs.Settings.{legal-in, why-in}
 
 -- one more line
 pub plays-more : (pool : ℕ) (from to next : Scene) (lines : List (List ℕ)) (texts line text : List ℕ) →
@@ -27,162 +28,114 @@ plays-more pool from to next lines texts line text (Goes scene mid last one its 
     (Goes scene mid next one its (others ++ line ∷ []) (their ++ text) first (plays-more pool mid last next others their line text rest
     more))
 
-module _ (setting : Setting) (old new : Option (List ℕ)) (lines more : List (List ℕ)) where
-  -- output that is cut off among the first lines is cut off among all lines
-  cut-more : IsCutOff setting old new lines → IsCutOff setting old new (lines ++ more)
-  cut-more cut = record {
-    before = cut.before;
-    after = cut.after ++ more;
-    split = ap (λ front. front ++ more) cut.split ∙ append_assoc cut.before cut.after more;
-    texts = cut.texts;
-    scene = cut.scene;
-    leads = cut.leads;
-    written = cut.written;
-  }
+-- lines that were answered lead to a scene
+pub answered-leads : (setting : Setting) (player : Player) (lines : List (List ℕ)) (text : List ℕ)
+    (far : IsAnswered setting player lines text) → LeadsTo setting lines text far.scene
+answered-leads setting player lines text far =
+    record { plays = far.plays; legal = legal-in setting player.session far.scene far.pool far.limits far.is_at }
 
-  -- a line that stays unanswered among the first lines stays so among all lines
-  unanswered-more : (fault : ReportFault) → IsUnanswered setting old new lines fault → IsUnanswered setting old new (lines ++ more) fault
-  unanswered-more fault stop = record {
-    before = stop.before;
-    line = stop.line;
-    after = stop.after ++ more;
-    split = ap (λ front. front ++ more) stop.split ∙ append_assoc stop.before (stop.line ∷ stop.after) more;
-    texts = stop.texts;
-    scene = stop.scene;
-    leads = stop.leads;
-    why = stop.why;
-    written = stop.written;
-  }
-
-  -- a stop among the first of the lines is one among all
-  pub stopped-more : (fault : ReportFault) → Stopped setting old new lines fault → Stopped setting old new (lines ++ more) fault
-  stopped-more (ReportFault.WriteFault fault) stop = cut-more stop
-  stopped-more (ReportFault.BadLine n reason) stop = unanswered-more (ReportFault.BadLine n reason) stop
-  stopped-more ReportFault.HistoryFull stop = unanswered-more ReportFault.HistoryFull stop
-  stopped-more ReportFault.NoMemory stop = unanswered-more ReportFault.NoMemory stop
-  stopped-more ReportFault.ReadFault stop = absurd stop
-  stopped-more ReportFault.TooLong stop = absurd stop
-  stopped-more (ReportFault.Missing sought n) stop = absurd stop
-
--- a stop is a break
-pub stopped-breaks : (setting : Setting) (old new : Option (List ℕ)) (lines : List (List ℕ)) (rest : List ℕ) (fault : ReportFault) →
-    Stopped setting old new lines fault → Breaks setting old new lines rest fault
-stopped-breaks setting old new lines rest (ReportFault.WriteFault fault) stop = stop
-stopped-breaks setting old new lines rest (ReportFault.BadLine n reason) stop = stop
-stopped-breaks setting old new lines rest ReportFault.HistoryFull stop = stop
-stopped-breaks setting old new lines rest ReportFault.NoMemory stop = inl stop
-stopped-breaks setting old new lines rest ReportFault.ReadFault stop = absurd stop
-stopped-breaks setting old new lines rest ReportFault.TooLong stop = absurd stop
-stopped-breaks setting old new lines rest (ReportFault.Missing sought n) stop = absurd stop
-
-module _ (setting : Setting) (player : Player) (old mid : Option (List ℕ)) (lines : List (List ℕ)) (far : SoFar setting player old mid
-    lines) where
-  -- the lines so far lead to a scene
-  pub so_far-leads : LeadsTo setting lines far.texts far.scene
-  so_far-leads = record {
-    plays = far.plays;
-    legal =
-        subst (λ (limits : Bound). IsLegal setting.pool limits far.scene.history) far.limits
-        (subst (λ (pool : ℕ). IsLegal pool player.session.core.limits far.scene.history) far.pool far.is_at.shows.legal);
-  }
-
-  -- one more line was answered
-  pub so_far-more : (next : Player) (line text : List ℕ) → ((scene : Scene) → IsAt player.session scene →
-      Advances player.session next.session line text scene) → next.out.items ≡ player.out.items ++ text →
-      next.lines ≡ player.lines + 1 → SoFar setting next old mid (lines ++ line ∷ [])
-  so_far-more next line text advances out counted =
-      let step = advances far.scene far.is_at in
+-- one more line was answered
+pub answered-more : (first now next : Player) (lines : List (List ℕ)) (text line reply : List ℕ) → Took first now true lines text →
+    ((scene : Scene) → IsAt now.session scene → Advances now.session next.session line reply scene) →
+    Took first next true (lines ++ line ∷ []) (text ++ reply)
+answered-more first now next lines text line reply (goes, far) advances =
+    let step = advances far.scene far.is_at in (
+      refl,
       record {
         pool = step.setting.pool ∙ far.pool;
         limits = step.setting.limits ∙ far.limits;
         scene = step.next;
-        texts = far.texts ++ text;
-        plays = plays-more setting.pool first_scene far.scene step.next lines far.texts line text far.plays
-            (subst (λ (pool : ℕ). Answers pool far.scene line text step.next) far.pool step.answers);
+        plays = plays-more first.session.core.pool first_scene far.scene step.next lines text line reply far.plays
+            (subst (λ (pool : ℕ). Answers pool far.scene line reply step.next) far.pool step.answers);
         is_at = step.is_at;
-        done = far.done;
-        split = ap (λ front. front ++ text) far.split ∙ append_assoc far.done player.out.items text
-            ∙ ap (λ back. far.done ++ back) (sym out);
-        written = far.written;
-        counted = rw length-append (omega (arith, counted, far.counted));
-      }
+      },
+    )
 
-  -- the output so far and the pending text behind it are all the text of the lines
-  pub all-written : (new : Option (List ℕ)) → Appends mid new player.out.items → Appends old new far.texts
-  all-written new out =
-      subst (Appends old new) (sym far.split) (Appends-trans old mid new far.done player.out.items far.written out)
-
-  -- all of the text went out
-  pub so_far-told : (new : Option (List ℕ)) → Appends mid new player.out.items → IsTold setting old new lines
-  so_far-told new out = record {
-    texts = far.texts;
-    scene = far.scene;
-    leads = so_far-leads;
-    written = all-written new out;
+module _ (first now : Player) (old new : Option (List ℕ)) where
+  -- the text of exactly these lines was written
+  pub told-by : (more : Bool) (lines : List (List ℕ)) → Writes (Took first now more lines) old new → IsTold (setting_of first.session) old new lines
+  told-by more lines out = record {
+    texts = out.text;
+    scene = out.is.1.scene;
+    leads = answered-leads (setting_of first.session) now lines out.text out.is.1;
+    written = out.written;
   }
 
-  -- a part of the text went out
-  pub so_far-cut : (new : Option (List ℕ)) → WritesPart mid new player.out.items → IsCutOff setting old new lines
-  so_far-cut new part = record {
-    before = lines;
-    after = [];
-    split = sym (append-nil lines);
-    texts = far.texts;
-    scene = far.scene;
-    leads = so_far-leads;
-    written = record {
-      done = far.done ++ part.done;
-      rest = part.rest;
-      split = far.split ∙ ap (λ back. far.done ++ back) part.split ∙ sym (append_assoc far.done part.done part.rest);
-      written = Appends-trans old mid new far.done part.done far.written part.written;
-    };
-  }
+  module _ (left : Option (List ℕ)) (script beyond : List ℕ) where
+    -- a line was not answered
+    line-stops : (fault : ReportFault) →
+        AtLine (λ before line. Writes (λ text. WhyNot (Took first) (Refuses first) now before text line fault) old new)
+        (whole_lines script) →
+        IsBeyond beyond fault × RunStops (setting_of first.session) left old new script fault
+    line-stops fault stop = by stop.at.is
+      where
+        -- for this reason
+        unanswered : (f : ReportFault) (scene : Scene) → LeadsTo (setting_of first.session) stop.before stop.at.text scene →
+            IsWhy (setting_of first.session) scene stop.line (length stop.before + 1) f →
+            IsUnanswered (setting_of first.session) old new (whole_lines script) f
+        unanswered f scene leads why = record {
+          before = stop.before;
+          line = stop.line;
+          after = stop.after;
+          split = stop.split;
+          texts = stop.at.text;
+          scene = scene;
+          leads = leads;
+          why = why;
+          written = stop.at.written;
+        }
 
-  -- a part of the text went out, which is told
-  cut-stop : (new : Option (List ℕ)) (told : ReportFault) → IsWriteFault told → WritesPart mid new player.out.items →
-      Stopped setting old new lines told
-  cut-stop new told is part =
-      let failed = write_fault_is told is in subst (Stopped setting old new lines) (sym failed.1) (so_far-cut new part)
+        -- by cases on the fault
+        told : (f : ReportFault) (scene : Scene) → LeadsTo (setting_of first.session) stop.before stop.at.text scene →
+            IsWhy (setting_of first.session) scene stop.line (length stop.before + 1) f →
+            IsBeyond beyond f × RunStops (setting_of first.session) left old new script f
+        told (ReportFault.BadLine n reason) scene leads why = (tt, inl (unanswered (ReportFault.BadLine n reason) scene leads why))
+        told ReportFault.HistoryFull scene leads why = (tt, unanswered ReportFault.HistoryFull scene leads why)
+        told ReportFault.NoMemory scene leads why = (tt, inl (unanswered ReportFault.NoMemory scene leads why))
+        told (ReportFault.WriteFault failed) scene leads why = absurd why
+        told ReportFault.ReadFault scene leads why = absurd why
+        told ReportFault.TooLong scene leads why = absurd why
+        told (ReportFault.Missing sought n) scene leads why = absurd why
 
-  -- the line behind these was not answered for this reason, and all of the text went out
-  unanswered : (new : Option (List ℕ)) (line : List ℕ) (fault : ReportFault) → IsWhy setting far.scene line (length lines + 1) fault →
-      Appends mid new player.out.items → IsUnanswered setting old new (lines ++ line ∷ []) fault
-  unanswered new line fault why out = record {
-    before = lines;
-    line = line;
-    after = [];
-    split = refl;
-    texts = far.texts;
-    scene = far.scene;
-    leads = so_far-leads;
-    why = why;
-    written = all-written new out;
-  }
+        -- by cases: memory was refused, or the session says why
+        by : WhyNot (Took first) (Refuses first) now stop.before stop.at.text stop.line fault →
+            IsBeyond beyond fault × RunStops (setting_of first.session) left old new script fault
+        by (inl (is, at, took)) = rw is (told ReportFault.NoMemory took.1.scene
+            (answered-leads (setting_of first.session) at stop.before stop.at.text took.1) tt)
+        by (inr (scene, leads, why)) = told fault scene leads why
 
-  -- the same as a stop
-  told-stop : (new : Option (List ℕ)) (line : List ℕ) (fault : ReportFault) → IsWhy setting far.scene line (length lines + 1) fault →
-      Appends mid new player.out.items → Stopped setting old new (lines ++ line ∷ []) fault
-  told-stop new line (ReportFault.WriteFault fault) why out = absurd why
-  told-stop new line (ReportFault.BadLine n reason) why out = unanswered new line (ReportFault.BadLine n reason) why out
-  told-stop new line ReportFault.HistoryFull why out = unanswered new line ReportFault.HistoryFull why out
-  told-stop new line ReportFault.NoMemory why out = unanswered new line ReportFault.NoMemory why out
-  told-stop new line ReportFault.ReadFault why out = absurd why
-  told-stop new line ReportFault.TooLong why out = absurd why
-  told-stop new line (ReportFault.Missing sought n) why out = absurd why
+    -- lines that were not all answered stop the run
+    pub stops-run : (fault : ReportFault) → Stops (Took first) (Refuses first) now old new (whole_lines script) fault →
+        IsBeyond beyond fault × RunStops (setting_of first.session) left old new script fault
+    stops-run fault (inl (is, cut)) = rw (write_fault_is fault is).1 (
+      tt,
+      record {
+        before = cut.before;
+        after = cut.after;
+        split = cut.split;
+        texts = cut.at.text;
+        scene = cut.at.is.3.1.scene;
+        leads = answered-leads (setting_of first.session) cut.at.is.1 cut.before cut.at.text cut.at.is.3.1;
+        written = cut.at.written;
+      },
+    )
+    stops-run fault (inr stop) = line-stops fault stop
 
-  -- a line was not answered
-  pub so_far-stop : (new : Option (List ℕ)) (line : List ℕ) (fault told : ReportFault) →
-      IsWhy setting far.scene line (length lines + 1) fault → GivesUp mid new player.out.items fault told →
-      Stopped setting old new (lines ++ line ∷ []) told
-  so_far-stop new line fault told why (inl (is, out)) =
-      subst (Stopped setting old new (lines ++ line ∷ [])) (sym is) (told-stop new line fault why out)
-  so_far-stop new line fault told why (inr (is, part)) =
-      stopped-more setting old new lines (line ∷ []) told (cut-stop new told is part)
+-- no line was answered
+pub answered-none : (player : Player) → IsAt player.session first_scene → Took player player true [] []
+answered-none player at = (refl, record { pool = refl; limits = refl; scene = first_scene; plays = Rests first_scene; is_at = at })
 
-  -- memory was refused behind the lines
-  pub so_far-behind : (new : Option (List ℕ)) (rest : List ℕ) (told : ReportFault) → rest ≢ [] →
-      GivesUp mid new player.out.items ReportFault.NoMemory told → Breaks setting old new lines rest told
-  so_far-behind new rest told some (inl (is, out)) =
-      subst (Breaks setting old new lines rest) (sym is) (inr (some, so_far-told new out))
-  so_far-behind new rest told some (inr (is, part)) =
-      stopped-breaks setting old new lines rest told (cut-stop new told is part)
+-- the line of this number was not answered, which is told with its reason
+pub answer-stop : (now next : Player) (line : List ℕ) (stop : LineStop) (number : ℕ) (fault : ReportFault) →
+    ((scene : Scene) → IsAt now.session scene → IsStopped now.session line scene stop) →
+    (stop ≡ LineStop.BadLine → next.session ≡ now.session) → IsFaultOf number stop fault →
+    ((names : Names) → Keeps next.session.tables names → act_in names line ≡ None → GivesReason names line fault) →
+    (first : Player) (lines : List (List ℕ)) (text : List ℕ) → Took first now true lines text → number ≡ length lines + 1 →
+    Refuses first next lines text line fault
+answer-stop now next line stop number fault stopped same is known first lines text (goes, far) numbered = (
+  far.scene,
+  answered-leads (setting_of first.session) now lines text far,
+  rw (sym numbered) (why-in (setting_of first.session) now.session far.scene line far.pool far.limits number stop fault
+      (stopped far.scene far.is_at) is (λ bad. known far.scene.names
+      (subst (λ (session : Session). Keeps session.tables far.scene.names) (sym (same bad)) far.is_at.keeps))),
+)

@@ -9,13 +9,17 @@ use Rattle.script_labels.specs.declared.act.Binds.{Binds}
 use Rattle.sm_script.specs.declared.session.Session.{Session}
 use Rattle.script_labels.specs.declared.stop.LineStop.{LineStop}
 use Rattle.script_labels.specs.Names.{act_in}
-use Rattle.sm_script.specs.Scenes.{Scene, Answers, ActGives}
+use Rattle.sm_script.specs.Scenes.{Scene, Setting, Answers, ActGives}
 use Rattle.script_labels.specs.Tables.{Keeps}
 
 -- the core shows the scene's history, and the tables keep its names
 pub record IsAt (session : Session) (scene : Scene) : Type 0 where
   pub shows : Shows session.core scene.history
   pub keeps : Keeps session.tables scene.names
+
+-- the pool and the limits of the session's core
+abbrev pub setting_of : Session → Setting
+setting_of session = record { pool = session.core.pool; limits = session.core.limits }
 
 -- the session has the same setting
 pub record IsSameSetting (old new : Session) : Type 0 where

@@ -4,11 +4,9 @@
 mod fault;
 mod player;
 mod program;
-mod reading;
 mod run;
 mod session;
 mod views;
-mod writing;
 
 pub use fault::ScriptFault;
 pub use program::run_to_exit;

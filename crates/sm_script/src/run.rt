@@ -1,15 +1,13 @@
 //! A script from its first byte to its last.
-ghost use Rattle.std.specs.Prelude.{◌≡◌, ◌+◌, ◌^◌, ◌<◌, ◌≤◌, [], ◌++◌, List, ℕ, Option, length, IfErr, OnOk};
-ghost use Rattle.std.specs.Io.KnownBytes.{Keeps};
-ghost use Rattle.script_lines.specs.Pieces.{lines_from, rest_from};
-ghost use Rattle.sm_script.specs.Players.{Answered, Broken, EndsBy, SoFar};
+ghost use Rattle.std.specs.Prelude.{◌≡◌, ◌^◌, ◌<◌, ◌≤◌, [], length, true};
+ghost use Rattle.report_io.specs.Takings.{Stands};
+ghost use Rattle.sm_script.specs.Players.{Took};
 ghost use Rattle.sm_script.specs.Runs.{Runs, RunsScript};
-ghost use Rattle.sm_script.specs.Scenes.{Setting};
+ghost use Rattle.sm_script.specs.Sessions.{setting_of};
 
 use crate::fault::ScriptFault;
 use crate::player::Player;
-use crate::reading::take_piece;
-use report_io::{ReportFault, flush, unended};
+use report_io::{Intake, ReportFault, flush};
 use script_lines::MOST_BYTES;
 use sm_names::{Limits, MAX_PAGES};
 use std::alloc::Global;
@@ -76,23 +74,20 @@ pub fn run_script<R: Read, W: Write>(
     }
 }
 
-// Makes room for a block and the front of a line, then reads and answers from the first byte on.
+// Makes room for a block, then reads and answers from the first byte on.
 fn start<R: Read, W: Write>(
     alloc: Global,
     reader: &mut R,
     writer: &mut W,
     player: &mut Player,
 ) -> Result<(), ReportFault>
-    requires no_lines { player.old.lines ≡ 0 }
-    requires no_text { player.old.out.items ≡ [] }
-    ensures { (setting : Setting) →
-        SoFar setting player.old (W.contents writer.old) (W.contents writer.old) [] →
-        Runs setting (R.remaining reader.old) (R.remaining reader.new)
+    requires { Took player.old player.old true [] [] }
+    ensures { Runs (setting_of player.old.session) (R.remaining reader.old) (R.remaining reader.new)
         (W.contents writer.old) (W.contents writer.new) result }
 {
-    let mut front = Vec::new(alloc);
+    let mut intake = Intake::new(alloc);
     match vec![in alloc; 0; BLOCK] {
-        Ok(mut block) => read_on(alloc, reader, writer, player, &mut front, &mut block),
+        Ok(mut block) => read_on(alloc, reader, writer, player, &mut intake, &mut block),
         Err(_) => Err(ReportFault::NoMemory),
     }
 }
@@ -103,78 +98,40 @@ fn read_on<R: Read, W: Write>(
     reader: &mut R,
     writer: &mut W,
     player: &mut Player,
-    front: &mut Vec<u8>,
+    intake: &mut Intake,
     block: &mut [u8],
 ) -> Result<(), ReportFault>
     requires room { (0 < length block.old) × (length block.old < 2 ^ 32) }
-    requires no_lines { player.old.lines ≡ 0 }
-    requires no_text { player.old.out.items ≡ [] }
-    requires no_front { front.old.items ≡ [] }
-    ensures { (setting : Setting) →
-        SoFar setting player.old (W.contents writer.old) (W.contents writer.old) [] →
-        Runs setting (R.remaining reader.old) (R.remaining reader.new)
+    requires start { Stands (Took player.old) player.old true intake.old.told
+        (W.contents writer.old) (W.contents writer.old) [] }
+    requires no_text { intake.old.told.text.items ≡ [] }
+    requires no_front { intake.old.front.items ≡ [] }
+    ensures { Runs (setting_of player.old.session) (R.remaining reader.old) (R.remaining reader.new)
         (W.contents writer.old) (W.contents writer.new) result }
 {
     let mut left = MOST_BYTES;
     'turns: loop {
         match reader.read(block) {
             Err(_) => return Err(ReportFault::ReadFault),
-            Ok(0) => return end_run(alloc, writer, front.as_slice(), player.lines),
+            Ok(0) => {
+                return match intake.end(alloc) {
+                    Ok(()) => flush(writer),
+                    Err(fault) => Err(fault),
+                };
+            }
             Ok(n) if left < n => {
-                return match answer_all(alloc, writer, player, front, &block[..left]) {
-                    Ok(()) => Err(ReportFault::TooLong),
+                return match intake.take(alloc, player, writer, &block[..left]) {
+                    Ok(_) => Err(ReportFault::TooLong),
                     Err(fault) => Err(fault),
                 };
             }
             Ok(n) => {
-                match answer_all(alloc, writer, player, front, &block[..n]) {
-                    Ok(()) => {}
+                match intake.take(alloc, player, writer, &block[..n]) {
+                    Ok(_) => {}
                     Err(fault) => return Err(fault),
                 }
                 left -= n;
             }
         }
     }
-}
-
-// Answers all lines that end in the piece, and writes their text.
-fn answer_all<W: Write>(
-    alloc: Global,
-    writer: &mut W,
-    player: &mut Player,
-    front: &mut Vec<u8>,
-    piece: &[u8],
-) -> Result<(), ReportFault>
-    requires { player.old.lines + length piece.now + 1 < 2 ^ 64 }
-    ensures ok { OnOk result (Answered player.old (W.contents writer.old)
-        player.new (W.contents writer.new) (lines_from front.old.items piece.now)) }
-    ensures few { OnOk result (player.new.lines ≤ player.old.lines + length piece.now) }
-    ensures rest { OnOk result (front.new.items ≡ rest_from front.old.items piece.now) }
-    ensures empty { OnOk result (player.new.out.items ≡ []) }
-    ensures err { IfErr result (Broken player.old (W.contents writer.old)
-        (W.contents writer.new) (lines_from front.old.items piece.now)
-        (rest_from front.old.items piece.now)) }
-{
-    match take_piece(alloc, player, writer, front, piece) {
-        Ok(()) => player.put_out(writer),
-        Err(fault) => Err(fault),
-    }
-}
-
-// Ends a run after this many lines, with this front of a further line, if it is not empty.
-fn end_run<W: Write>(
-    alloc: Global,
-    writer: &mut W,
-    front: &[u8],
-    lines: u64,
-) -> Result<(), ReportFault>
-    requires { lines + 1 < 2 ^ 64 }
-    ensures kept { Keeps (W.contents writer.old) (W.contents writer.new) }
-    ensures ok { OnOk result (front.now ≡ []) }
-    ensures err { IfErr result (EndsBy front.now lines) }
-{
-    if !front.is_empty() {
-        return Err(unended(alloc, lines + 1));
-    }
-    flush(writer)
 }

@@ -1,11 +1,13 @@
-use Rattle.std.proofs.Common.{◌∙◌, sym}
-use Rattle.script_draw.proofs.Outcomes.{no-line}
+use Rattle.std.proofs.Common.{ap, sym, ◌∙◌}
+use Rattle.script_draw.specs.Played.{wanted}
+use Rattle.script_draw.proofs.Outcomes.{stops-asked}
 use Rattle.script_draw.proofs.draw.draw_so_far.Goals as goal
 
-pub returns-then-is_line_fault : goal.returns-then-is_line_fault
-returns-then-is_line_fault g c = λ setting script stop.
-    c.draw_before.ensures setting script (sym c.is_line_fault.ensures ∙ c.if-is_line_fault.true) stop
+pub returns-in-Some : goal.returns-in-Some
+returns-in-Some g c = λ first old script same stops.
+    stops-asked c.args.view.format first c.args.scroll.now old _ script c.args.fault stops _
+    (ap wanted same ∙ sym c.wanted.ensures ∙ c.in-Some.is)
 
-pub returns-else-is_line_fault : goal.returns-else-is_line_fault
-returns-else-is_line_fault g c = λ setting script stop.
-    no-line setting c.args.view c.args.scroll.now _ script c.args.fault (sym c.is_line_fault.ensures ∙ c.if-is_line_fault.false) stop
+pub returns-in-None : goal.returns-in-None
+returns-in-None g c = λ first old script same.
+    c.draw_last.ensures first old script (ap wanted same ∙ sym c.wanted.ensures ∙ c.in-None.is)

@@ -1,45 +1,36 @@
-use Rattle.std.proofs.Common.{[], refl}
-use Rattle.std.proofs.lemmas.Result.{on_ok_weaker, IfErr-weaker}
-use Rattle.script_lines.specs.Pieces.{whole_lines}
-use Rattle.script_explain.specs.Progress.{LinesHalted}
-use Rattle.script_explain.proofs.Outcomes.{told-cut, told-out}
-use Rattle.script_explain.proofs.Telling.{far-written}
-use Rattle.report_io.proofs.Reporting.{write_fault_is}
+use Rattle.std.proofs.Common.{inl}
+use Rattle.report_io.specs.Takings.{ScriptComes}
+use Rattle.report_io.proofs.ScriptsRead.{reads-fault, reads-then}
+use Rattle.sm_script.specs.Sessions.{setting_of}
+use Rattle.script_explain.specs.declared.explain.Scope.{Scope}
+use Rattle.script_explain.specs.Explanations.{WholeTold}
+use Rattle.script_explain.specs.Progress.{Explained, Unexplained}
+use Rattle.script_explain.proofs.Outcomes.{whole-told}
+use Rattle.script_explain.proofs.Telling.{took-stops}
 use Rattle.script_explain.proofs.explain.explain_all.Goals as goal
 
-pub returns-in-Ok-clause-told : goal.returns-in-Ok-clause-told
-returns-in-Ok-clause-told g c = λ setting start.
-    let before = g.W.Write.contents c.args.writer.now in
-    let mid = g.W.Write.contents c.explain_lines-told.new.writer in
-    let pending = c.explain_lines-told.new.explainer.text.items in
-    told-out setting c.args.only_failures before mid (g.W.Write.contents c.put_out.new.writer) pending c.args.script.now
-    c.explain_lines-told.new.explainer.seen c.explain_lines-told.result
-    (on_ok_weaker c.explain_lines-told.result (λ explained. explained setting before start) c.explain_lines-told.ensures.ok)
-    c.explain_lines-told.ensures.whole
-    (IfErr-weaker c.explain_lines-told.result _ (LinesHalted setting c.args.only_failures before mid pending c.args.script.now)
-    (λ fault halted. halted setting before start) c.explain_lines-told.ensures.err)
-    (rw c.deref.ensures.value at c.in-Ok.ensures.ok)
+pub returns-in-Ok : goal.returns-in-Ok
+returns-in-Ok g c =
+    let first = c.args.explainer.now in
+    let now = c.take_lines.new.taker in
+    let scope : Scope = record { only_failures = first.only_failures; has_summary = c.args.has_summary } in
+    let old = g.W.Write.contents c.args.writer.now in
+    let mid = g.W.Write.contents c.take_lines.new.writer in
+    let new = g.W.Write.contents c.end.new.writer in
+    reads-then (ScriptComes (Explained first) (Unexplained first) now old mid)
+    (WholeTold (setting_of first.seen.event_writer.session) scope old new)
+    (g.R.Read.remaining c.args.reader.now) (g.R.Read.remaining c.take_lines.new.reader) old mid c.in-Ok.field-0 new c.end.result
+    (λ script taken. whole-told first now c.args.has_summary old mid script c.in-Ok.field-0 taken new c.end.result c.end.ensures)
+    c.in-Ok.ensures
 
-pub returns-in-Err-clause-told : goal.returns-in-Err-clause-told
-returns-in-Err-clause-told g c = λ setting start.
-    let before = g.W.Write.contents c.args.writer.now in
-    let mid = g.W.Write.contents c.explain_lines-told.new.writer in
-    let pending = c.explain_lines-told.new.explainer.text.items in
-    rw (write_fault_is c.in-Err.fault c.in-Err.ensures.err.0).1
-    (told-cut setting c.args.only_failures before mid (g.W.Write.contents c.put_out.new.writer) pending c.args.script.now
-    c.explain_lines-told.new.explainer.seen c.explain_lines-told.result
-    (on_ok_weaker c.explain_lines-told.result (λ explained. explained setting before start) c.explain_lines-told.ensures.ok)
-    c.explain_lines-told.ensures.whole
-    (IfErr-weaker c.explain_lines-told.result _ (LinesHalted setting c.args.only_failures before mid pending c.args.script.now)
-    (λ fault halted. halted setting before start) c.explain_lines-told.ensures.err)
-    (rw c.deref.ensures.value at c.in-Err.ensures.err.1))
-
--- no text is left
-pub returns-in-Ok-clause-far : goal.returns-in-Ok-clause-far
-returns-in-Ok-clause-far g c = on_ok_weaker c.explain_lines-told.result
-    (λ explained setting start.
-    let before = g.W.Write.contents c.args.writer.now in
-    far-written setting c.args.only_failures c.explain_lines-told.new.explainer.seen before
-    (g.W.Write.contents c.explain_lines-told.new.writer) c.explain_lines-told.new.explainer.text.items (whole_lines c.args.script.now)
-    (explained setting before start) (g.W.Write.contents c.put_out.new.writer) [] (rw c.deref.ensures.value at c.in-Ok.ensures.ok) refl)
-    c.explain_lines-told.ensures.ok
+pub returns-in-Err : goal.returns-in-Err
+returns-in-Err g c =
+    let first = c.args.explainer.now in
+    let now = c.take_lines.new.taker in
+    let scope : Scope = record { only_failures = first.only_failures; has_summary = c.args.has_summary } in
+    let old = g.W.Write.contents c.args.writer.now in
+    let mid = g.W.Write.contents c.take_lines.new.writer in
+    reads-fault (ScriptComes (Explained first) (Unexplained first) now old mid)
+    (WholeTold (setting_of first.seen.event_writer.session) scope old mid)
+    (g.R.Read.remaining c.args.reader.now) (g.R.Read.remaining c.take_lines.new.reader) old mid c.in-Err.fault
+    (λ script stops. inl (took-stops first now old mid script c.in-Err.fault stops)) c.in-Err.ensures

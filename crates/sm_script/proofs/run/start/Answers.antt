@@ -1,8 +1,10 @@
+use Rattle.report_io.proofs.Takings.{stands-none}
 use Rattle.sm_script.proofs.Running.{runs-nothing}
 use Rattle.sm_script.proofs.run.start.Goals as goal
 
-pub returns-in-Ok : goal.returns-in-Ok
-returns-in-Ok g c = c.read_on.ensures
-
 pub returns : goal.returns
-returns g c = λ setting start. runs-nothing _ _ _
+returns g c = runs-nothing _ _ _
+
+pub read_on-requires-clause-start : goal.read_on-requires-clause-start
+read_on-requires-clause-start g c =
+    stands-none _ _ _ _ c.requires c.new-intake.ensures.text c.new-intake.ensures.lines

@@ -3,6 +3,8 @@ use Rattle.script_explain.proofs.Comparing.{compared-none}
 use Rattle.script_explain.proofs.check.Comparison.new.Goals as goal
 
 pub returns-clause-start : goal.returns-clause-start
-returns-clause-start c =
-    compared-none _ _ c.in_ok-event_writer.ensures.pool c.in_ok-event_writer.ensures.limits c.in_ok-event_writer.ensures.knows
-    c.in_ok-event_writer.ensures.recalls refl c.new-line.ensures.items c.new-reply.ensures.items c.new-facts.ensures.items refl refl
+returns-clause-start c = (
+  refl,
+  compared-none _ c.in_ok-event_writer.ensures.knows c.in_ok-event_writer.ensures.recalls refl c.new-line.ensures.items
+      c.new-reply.ensures.items c.new-facts.ensures.items refl refl,
+)
