@@ -1,27 +1,15 @@
 -- The nodes that fall by a call, whether they are told or not.
-use Rattle.std.proofs.Common.{ℕ, refl, List, [], ◌∷◌, ◌++◌, map, Option, Some, None}
-use Rattle.std.specs.Prelude.{IfSome, Vec}
-use Rattle.std.specs.declared.alloc.Global.{Global}
-use Rattle.std.specs.List.{flat_map}
+use Rattle.actor_plays.proofs.Common.{AreStages, AreTold, Call, Fell, Global, GoneNode, IfSome, List, Makes, Moment, None, Option, Play}
+use Rattle.actor_plays.proofs.Common.{Position, Reply, Some, State, Vec, [], falls_at, flat_map, map, position_at, refl, ℕ, ◌++◌, ◌∷◌}
 use Rattle.sm_names.specs.declared.keys.Interval.{Interval}
-use Rattle.sm_names.specs.declared.messages.Call.{Call}
-use Rattle.sm_names.specs.declared.messages.Reply.{Reply}
 use Rattle.sm_names.specs.Answers.{new_key}
 use Rattle.sm_names.specs.Marks.{Mark}
 use Rattle.buffer_holds.specs.Counts.{total}
 use Rattle.forest_store.specs.Forest.{Collection, beside}
 use Rattle.forest_store.specs.Settling.{Handles, Settles, collection_or_new, made}
-use Rattle.core_state.specs.State.{State}
 use Rattle.core_state.specs.Steps.{Work, Worked, work_of}
-use Rattle.core_state.specs.Theorem.{Makes}
-use Rattle.forced_marks.specs.declared.moment.Moment.{Moment}
-use Rattle.forced_marks.specs.Marks.{AreStages, SettlesBy, Stage, StagesIn, changed_by, own_stage, stages}
+use Rattle.forced_marks.specs.Marks.{SettlesBy, Stage, StagesIn, changed_by, own_stage, stages}
 use Rattle.forced_marks.specs.Moments.{stage_of as stage_told}
-use Rattle.actor_plays.specs.declared.falls.GoneNode.{GoneNode}
-use Rattle.actor_plays.specs.declared.play.Play.{Play}
-use Rattle.actor_plays.specs.Fates.{AreTold, falls_at}
-use Rattle.actor_plays.specs.Moves.{position_at}
-use Rattle.actor_plays.specs.Positions.{Fell, Position}
 
 -- Each forced step makes its mark.
 pub marks_there : (pool : ℕ) (handles : Handles) (others : List Interval) (c after : Collection) → Settles pool handles others c after →

@@ -1,3 +1,4 @@
+mod Common
 pub mod PlayLaws
 pub mod PositionLaws
 pub mod FallLaws

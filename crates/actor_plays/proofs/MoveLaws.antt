@@ -1,33 +1,22 @@
 -- How a play's position goes on.
-use Rattle.std.proofs.Common.{ℕ, zero, suc, ◌≡◌, ◌↔◌, ◌+◌, ◌≤◌, refl, ap, sym, subst, ◌∙◌, true, false, ◌&&◌, List, [], ◌∷◌, ◌++◌}
-use Rattle.std.proofs.Common.{add-one, length, length-append, map, Option, Some, slice_get, slice_set}
+use Rattle.actor_plays.proofs.Common.{AreJoining, AreStages, Call, Err, Fell, GoneNode, HasRest, HavePassed, IfOk, IfSome, IsLeave}
+use Rattle.actor_plays.proofs.Common.{IsOfSetup, IsPlay, IsTurn, List, Makes, Ok, Option, PassOn, Plan, Play, ReachedBy, Reply, Result}
+use Rattle.actor_plays.proofs.Common.{Setup, Shows, Some, Stage, State, StepFault, Turn, Turned, [], add-one, ap, false, first_stage}
+use Rattle.actor_plays.proofs.Common.{is_wait, joins, leaves_by, left, length, map, next_step, option_and_then, option_map_or}
+use Rattle.actor_plays.proofs.Common.{position_at, position_of, refl, slice_get, slice_set, stage_after, stages_of, step_call, subst, suc}
+use Rattle.actor_plays.proofs.Common.{sym, true, zero, ℕ, ◌++◌, ◌+◌, ◌∙◌, ◌∷◌, ◌≡◌, ◌≤◌}
+use Rattle.std.proofs.Common.{◌↔◌, ◌&&◌, length-append}
 use Rattle.std.proofs.Math.Nat.{lt_of_not-le}
-use Rattle.std.specs.Prelude.{IfOk, IfSome, Result, Ok, Err}
-use Rattle.std.specs.Option.{option_and_then, option_map_or}
-use Rattle.sm_names.specs.declared.messages.Call.{Call}
-use Rattle.sm_names.specs.declared.messages.Reply.{Reply}
-use Rattle.sm_names.specs.declared.outcomes.StepFault.{StepFault}
 use Rattle.sm_names.specs.Answers.{IsAnswer, answer, key_told}
 use Rattle.sm_names.proofs.SamenessLaws.{and_right, and_then-Some}
 use Rattle.core_state.specs.Reads.{readings_of}
-use Rattle.core_state.specs.Shown.{Shows}
-use Rattle.core_state.specs.State.{State}
 use Rattle.core_state.specs.Steps.{Follows}
-use Rattle.core_state.specs.Theorem.{Makes}
-use Rattle.forced_marks.specs.Marks.{AreStages}
 use Rattle.forest_store.specs.Settling.{no_key}
-use Rattle.actor_scripts.specs.ActorStates.{step_call}
-use Rattle.actor_plays.specs.declared.falls.GoneNode.{GoneNode}
-use Rattle.explore_model.specs.declared.plan.Plan.{Plan}
 use Rattle.actor_plays.specs.declared.play.Asked.{Asked}
-use Rattle.actor_plays.specs.declared.play.Play.{Play}
-use Rattle.explore_model.specs.declared.found.Turn.{Turn}
-use Rattle.actor_plays.specs.declared.play.Turned.{Turned}
-use Rattle.actor_plays.specs.Moves.{HasCome, HasComeTo, HasRest, HavePassed, IsOfSetup, LeavesBetween, TakesLeave, TakesLeaveUntold}
-use Rattle.actor_plays.specs.Moves.{TakesTurn, TakesTurnUntold, TurnsBetween, may_go_at, position_at, position_of}
-use Rattle.actor_plays.specs.Plays.{AreJoining, Asks as AsksFor, AsksNothing, IsLeave, IsPlay, IsTurn, Stage, first_clients, first_stage}
-use Rattle.actor_plays.specs.Plays.{is_wait, joins, leaves_by, left, next_step, stage_after, stages_of}
-use Rattle.actor_plays.specs.Positions.{Asks, Begins, Fell, PassOn, ReachedBy, Setup, may_go}
+use Rattle.actor_plays.specs.Moves.{HasCome, HasComeTo, LeavesBetween, TakesLeave, TakesLeaveUntold, TakesTurn, TakesTurnUntold}
+use Rattle.actor_plays.specs.Moves.{TurnsBetween, may_go_at}
+use Rattle.actor_plays.specs.Plays.{Asks as AsksFor, AsksNothing, first_clients}
+use Rattle.actor_plays.specs.Positions.{Asks, Begins, may_go}
 use Rattle.actor_plays.proofs.FallLaws.{fell_untold}
 use Rattle.actor_plays.proofs.PassLaws.{same_falls, setup_on, setup_stays}
 use Rattle.actor_plays.proofs.PositionLaws.{by_turns_on, further, pass_on_at, rests_at}

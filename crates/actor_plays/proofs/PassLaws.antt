@@ -1,18 +1,12 @@
 -- How actors of a play pass steps.
-use Rattle.std.proofs.Common.{ℕ, ◌≡◌, ◌+◌, ◌≤◌, ◌<◌, refl, ap, sym, subst, ◌∙◌, true, false, List}
-use Rattle.std.proofs.Common.{◌⊎◌, inl, inr, add-one, arith, le_of_suc-le-suc, length, Option, Some, None, slice_get, slice_set}
+use Rattle.actor_plays.proofs.Common.{HasRest, HavePassed, IfSome, IsOfSetup, List, None, Option, PassOn, Passes, Plan, Planned, Play}
+use Rattle.actor_plays.proofs.Common.{Position, Setup, Some, Stage, add-one, ap, arith, false, length, next_step, option_and_then}
+use Rattle.actor_plays.proofs.Common.{option_map_or, passed, polls, position_of, refl, slice_get, slice_set, stages_of, step_call}
+use Rattle.actor_plays.proofs.Common.{steps_of, subst, sym, true, ℕ, ◌+◌, ◌<◌, ◌∙◌, ◌≡◌, ◌≤◌}
+use Rattle.std.proofs.Common.{◌⊎◌, inl, inr, le_of_suc-le-suc}
 use Rattle.std.proofs.lemmas.Option.{slice_get_within}
 use Rattle.std.proofs.Math.Nat.{eq-or-lt_of_le}
-use Rattle.std.specs.Prelude.{IfSome}
-use Rattle.std.specs.Option.{option_and_then, option_map_or}
-use Rattle.actor_scripts.specs.ActorStates.{step_call}
-use Rattle.explore_model.specs.declared.plan.Plan.{Plan}
-use Rattle.explore_model.specs.declared.plan.Planned.{Planned}
-use Rattle.actor_plays.specs.declared.play.Play.{Play}
-use Rattle.actor_plays.specs.Moves.{HasPassed, HasRest, HavePassed, IsOfSetup, position_of}
-use Rattle.explore_model.specs.Plans.{steps_of}
-use Rattle.actor_plays.specs.Plays.{Stage, next_step, passed, polls, stages_of}
-use Rattle.actor_plays.specs.Positions.{PassOn, Passes, Position, Setup}
+use Rattle.actor_plays.specs.Moves.{HasPassed}
 use Rattle.actor_plays.proofs.PositionLaws.{done_rests, further, get-set, no_next, rests_on}
 
 -- ---- setups

@@ -1,33 +1,17 @@
 -- How a play goes on.
-use Rattle.std.proofs.Common.{ℕ, zero, suc, ◌≡◌, ◌∙◌, refl, sym, ap, subst, Bool, true, false, List, [], ◌∷◌}
-use Rattle.std.proofs.Common.{◌++◌, length, map, slice_get, slice_index_or, slice_set, Option, Some, None}
-use Rattle.std.proofs.lemmas.List.{map-append}
-use Rattle.std.specs.Prelude.{◌&&◌, IfOk, IfSome, Result, Ok, Err, Vec}
-use Rattle.std.specs.declared.alloc.Global.{Global}
-use Rattle.std.specs.List.{flat_map}
-use Rattle.std.specs.Option.{option_and_then, option_map_or}
-use Rattle.sm_names.specs.declared.messages.Call.{Call}
-use Rattle.sm_names.specs.declared.messages.Reply.{Reply}
-use Rattle.sm_names.specs.declared.outcomes.StepFault.{StepFault}
+use Rattle.actor_plays.proofs.Common.{Actor, AreFalls, AreJoining, AreStages, AreTold, Bool, Call, Err, Global, GoneNode, IfOk, IfSome}
+use Rattle.actor_plays.proofs.Common.{IsLeave, IsPlay, IsTurn, List, Makes, Moment, None, Ok, Option, Plan, Planned, Play, Reply, Result}
+use Rattle.actor_plays.proofs.Common.{Shows, Some, Stage, State, StepFault, Turn, Turned, Vec, [], ap, falls_at, false, first_stage}
+use Rattle.actor_plays.proofs.Common.{flat_map, is_wait, joins, leaves_by, left, length, map, map-append, next_step, option_and_then}
+use Rattle.actor_plays.proofs.Common.{option_map_or, passed, polls, refl, slice_get, slice_set, stage_after, stage_of, stages_of}
+use Rattle.actor_plays.proofs.Common.{step_call, subst, suc, sym, true, zero, ℕ, ◌++◌, ◌∙◌, ◌∷◌, ◌≡◌}
+use Rattle.std.proofs.Common.{slice_index_or}
+use Rattle.std.specs.Prelude.{◌&&◌}
 use Rattle.sm_names.specs.Marks.{Entry}
 use Rattle.actor_scripts.specs.declared.object.StepCall.{StepCall}
-use Rattle.actor_scripts.specs.ActorStates.{step_call}
-use Rattle.core_state.specs.Shown.{Shows}
-use Rattle.core_state.specs.State.{State}
-use Rattle.core_state.specs.Theorem.{Makes}
-use Rattle.forced_marks.specs.declared.moment.Moment.{Moment}
-use Rattle.forced_marks.specs.Marks.{AreStages, Stage as MarkStage}
+use Rattle.forced_marks.specs.Marks.{Stage as MarkStage}
 use Rattle.forced_marks.specs.Moments.{stage_of as stage_told}
-use Rattle.actor_plays.specs.declared.actor.Actor.{Actor}
-use Rattle.explore_model.specs.declared.plan.Plan.{Plan}
-use Rattle.explore_model.specs.declared.plan.Planned.{Planned}
-use Rattle.actor_plays.specs.declared.play.Play.{Play}
-use Rattle.explore_model.specs.declared.found.Turn.{Turn}
-use Rattle.actor_plays.specs.declared.play.Turned.{Turned}
-use Rattle.actor_plays.specs.declared.falls.GoneNode.{GoneNode}
-use Rattle.actor_plays.specs.Fates.{AreFalls, AreTold, falls_at}
-use Rattle.actor_plays.specs.Plays.{AreJoining, IsLeave, IsLeftWaiting, IsPlay, IsTurn, Plays, Stage, first_stage}
-use Rattle.actor_plays.specs.Plays.{is_wait, leaves_by, left, joins, next_step, passed, polls, stage_after, stage_of, stages_of}
+use Rattle.actor_plays.specs.Plays.{IsLeftWaiting, Plays}
 use Rattle.actor_plays.proofs.MoveLaws.{one_joined}
 
 -- two changes of the actors are one

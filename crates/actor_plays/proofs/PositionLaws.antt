@@ -1,15 +1,10 @@
 -- How positions of plays go on.
-use Rattle.std.proofs.Common.{ℕ, zero, suc, ◌≡◌, ◌≤◌, refl, ap, sym, subst, ◌∙◌, Bool, true, false, cond, List, [], ◌∷◌}
-use Rattle.std.proofs.Common.{length, Option, Some, None, is_some, slice_get, slice_set}
+use Rattle.actor_plays.proofs.Common.{Bool, GoneNode, List, None, Option, PassOn, Passes, Plan, Position, ReachedBy, Setup, Some, Stage}
+use Rattle.actor_plays.proofs.Common.{State, Turn, [], ap, false, length, next_step, option_and_then, option_map_or, passed, polls, refl}
+use Rattle.actor_plays.proofs.Common.{slice_get, slice_set, steps_of, subst, suc, sym, true, zero, ℕ, ◌∙◌, ◌∷◌, ◌≡◌, ◌≤◌}
+use Rattle.std.proofs.Common.{cond, is_some}
 use Rattle.std.proofs.lemmas.Option.{slice_get_past}
-use Rattle.std.specs.Option.{option_and_then, option_map_or}
-use Rattle.core_state.specs.State.{State}
-use Rattle.actor_plays.specs.declared.falls.GoneNode.{GoneNode}
-use Rattle.explore_model.specs.declared.plan.Plan.{Plan}
-use Rattle.explore_model.specs.declared.found.Turn.{Turn}
-use Rattle.explore_model.specs.Plans.{steps_of}
-use Rattle.actor_plays.specs.Plays.{Stage, next_step, passed, polls}
-use Rattle.actor_plays.specs.Positions.{PassOn, Passes, Position, Reached, ReachedBy, Rests, Setup}
+use Rattle.actor_plays.specs.Positions.{Reached, Rests}
 
 -- At another place it stays.
 pub get-other : {A : Type 0} (xs : List A) (i j : ℕ) (y : A) → (i ≡ j → ⊥) → slice_get (slice_set xs i y) j ≡ slice_get xs j

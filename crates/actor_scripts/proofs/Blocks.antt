@@ -1,5 +1,5 @@
 -- Bytes that come block by block.
-use Rattle.std.proofs.Common.{◌≡◌, ℕ, ◌+◌, List, length}
+use Rattle.actor_scripts.proofs.Common.{List, length, ℕ, ◌+◌, ◌≡◌}
 use Rattle.std.specs.Prelude.{Option}
 use Rattle.std.specs.Io.KnownBytes.{Consumes}
 use Rattle.script_lines.specs.declared.TheConstants.{MOST_BYTES}

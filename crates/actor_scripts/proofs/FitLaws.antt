@@ -1,29 +1,24 @@
 -- What a step's call is made on takes it.
+use Rattle.actor_scripts.proofs.Common.{ActorObject, Bool, BufferName, Known, List, None, Option, Some, Step, StepCall, Strength, ap}
+use Rattle.actor_scripts.proofs.Common.{false, if◌then◌else◌, option_and_then, option_map, refl, subst, sym, true, ℕ, ◌≡◌}
 use Rattle.std.proofs.lemmas.Bool.{false≢true}
-use Rattle.std.proofs.Common.{ℕ, ◌≡◌, refl, sym, subst, Bool, true, false, if◌then◌else◌, List, Option, Some, None, ap, is_some}
+use Rattle.std.proofs.Common.{is_some}
 use Rattle.std.specs.Prelude.{IfSome}
-use Rattle.std.specs.Option.{option_and_then, option_map}
 use Rattle.sm_names.specs.declared.call_parts.Argument.{Argument}
 use Rattle.sm_names.specs.declared.call_parts.CallParts.{CallParts}
 use Rattle.sm_names.specs.declared.call_parts.Object.{Object as Named}
 use Rattle.sm_names.specs.declared.call_parts.Product.{Product}
 use Rattle.sm_names.specs.declared.call_parts.Target.{Target}
 use Rattle.sm_names.specs.declared.call_rows.CallKind.{CallKind}
-use Rattle.sm_names.specs.declared.keys.BufferName.{BufferName}
 use Rattle.sm_names.specs.declared.keys.NodeKey.{NodeKey}
-use Rattle.sm_names.specs.declared.keys.Strength.{Strength}
 use Rattle.sm_names.specs.declared.messages.Call.{Call}
 use Rattle.sm_names.specs.CallRows.{call_of, parts, row_of}
 use Rattle.sm_names.proofs.CallLaws.{made}
 use Rattle.script_lines.specs.declared.line.Request.{Request}
-use Rattle.actor_scripts.specs.declared.step.Step.{Step}
 use Rattle.actor_scripts.specs.declared.step.StepBuffer.{StepBuffer}
-use Rattle.actor_scripts.specs.declared.object.StepCall.{StepCall}
-use Rattle.actor_scripts.specs.declared.object.ActorObject.{ActorObject}
-use Rattle.actor_scripts.specs.ActorStates.{Fits, FitsACollection, FitsAToken, FitsNone, FitsObject, FitsThere}
-use Rattle.actor_scripts.specs.ActorStates.{Known, NamesHandle, NamesNode, NamesNothing, argument_at, argument_held}
-use Rattle.actor_scripts.specs.ActorStates.{asked_strength, bare_call, call_at, call_for, call_on, end_slot}
-use Rattle.actor_scripts.specs.ActorStates.{handle_slot, is_join, object_at, slot_call, target_of, with_strength}
+use Rattle.actor_scripts.specs.ActorStates.{Fits, FitsACollection, FitsAToken, FitsNone, FitsObject, FitsThere, NamesHandle, NamesNode}
+use Rattle.actor_scripts.specs.ActorStates.{NamesNothing, argument_at, argument_held, asked_strength, bare_call, call_at, call_for}
+use Rattle.actor_scripts.specs.ActorStates.{call_on, end_slot, handle_slot, is_join, object_at, slot_call, target_of, with_strength}
 
 -- what holds of the one holds of the other
 pub takes : {A : Type 0} (P : A → Type 0) (made call : A) → Some made ≡ Some call → P made → P call

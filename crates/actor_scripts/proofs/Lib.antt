@@ -1,3 +1,4 @@
+mod Common
 pub mod Blocks
 pub mod FitLaws
 pub mod Lines

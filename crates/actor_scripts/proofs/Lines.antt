@@ -1,13 +1,15 @@
 -- What the next line of a script leads to.
-use Rattle.std.proofs.Common.{◌≡◌, ℕ, ◌+◌, List, [], ◌∷◌, take, drop, ap, ◌∙◌, Option, Some, None}
+use Rattle.actor_scripts.proofs.Common.{IsScriptFault, List, None, Option, Reading, Some, [], ap, script_actors_from, take, ℕ, ◌+◌, ◌∙◌}
+use Rattle.actor_scripts.proofs.Common.{◌∷◌, ◌≡◌}
+use Rattle.std.proofs.Common.{drop}
 use Rattle.std.specs.Prelude.{Err}
 use Rattle.std.specs.List.{position}
 use Rattle.std.specs.Option.{option_map_or}
 use Rattle.script_lines.proofs.Piecing.{is_end, ends_found, unended_none}
 use Rattle.script_lines.specs.Pieces.{lines_from, rest_from}
 use Rattle.actor_scripts.specs.declared.halt.Halt.{Halt}
-use Rattle.actor_scripts.specs.ActorLists.{Reading, Halts, after_line, after_lines, script_actors_from, actors_at_end, actors_after}
-use Rattle.actor_scripts.specs.Reads.{IsScriptFault, line_fault}
+use Rattle.actor_scripts.specs.ActorLists.{Halts, after_line, after_lines, actors_at_end, actors_after}
+use Rattle.actor_scripts.specs.Reads.{line_fault}
 
 module _ (so_far : Reading) (rest : List ℕ) where
   -- where a line is ended

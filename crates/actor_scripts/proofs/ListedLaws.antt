@@ -1,7 +1,5 @@
 -- What is not among the keys of a table is not in it.
-use Rattle.std.proofs.Common.{◌≡◌, refl, Bool, false, List, [], ◌∷◌, None}
-use Rattle.std.specs.List.{list_any}
-use Rattle.std.specs.Map.{keys_of, lookup}
+use Rattle.actor_scripts.proofs.Common.{Bool, List, None, [], false, keys_of, list_any, lookup, refl, ◌∷◌, ◌≡◌}
 use Rattle.sm_names.proofs.SamenessLaws.{or_none_left, or_none_right}
 
 -- Key by key.

@@ -1,12 +1,12 @@
 -- A line that is a step.
-use Rattle.std.proofs.Common.{◌≡◌, ℕ, ◌<◌, true, List, [], ◌∷◌, ◌++◌, length, map, slice_index_or, slice_set, sym, ap, ◌∙◌, Some}
+use Rattle.actor_scripts.proofs.Common.{List, Reading, Some, Step, [], ap, length, map, option_and_then, option_map, sym, true, ℕ, ◌++◌}
+use Rattle.actor_scripts.proofs.Common.{◌<◌, ◌∙◌, ◌∷◌, ◌≡◌}
+use Rattle.std.proofs.Common.{slice_index_or, slice_set}
 use Rattle.std.proofs.lemmas.List.{map-set, get_or-map}
-use Rattle.std.specs.Option.{option_map, option_and_then}
 use Rattle.actor_scripts.specs.declared.step.ActorScript.{ActorScript}
-use Rattle.actor_scripts.specs.declared.step.Step.{Step}
 use Rattle.script_lines.specs.declared.label.Label.{Label}
 use Rattle.script_lines.specs.declared.line.Line.{Line}
-use Rattle.actor_scripts.specs.ActorLists.{Reading, steps_of, step_effect, with_step}
+use Rattle.actor_scripts.specs.ActorLists.{steps_of, step_effect, with_step}
 use Rattle.actor_scripts.specs.Steps.{Name, client_place, step_of}
 
 -- one script of them gets one more step

@@ -1,18 +1,13 @@
 -- Tables, and what is known by them.
-use Rattle.std.proofs.Common.{ℕ, suc, ◌≡◌, ◌<◌, ◌+◌, ◌-◌, ◌∙◌, refl, ap, sym, Bool, true, false, if◌then◌else◌}
-use Rattle.std.proofs.Common.{◌==◌, List, [], ◌∷◌, ◌++◌, append_assoc, append-nil, map, Option, Some, None, arith}
-use Rattle.std.specs.Int.{bit_at}
-use Rattle.sm_names.specs.declared.rules.TheConstants.{MAX_BUFFERS}
-use Rattle.sm_names.specs.declared.keys.BufferName.{BufferName}
-use Rattle.sm_names.specs.declared.keys.Strength.{Strength}
+use Rattle.actor_scripts.proofs.Common.{ActorObject, Bool, BufferName, Known, List, MAX_BUFFERS, None, Option, Some, Step, StepCall}
+use Rattle.actor_scripts.proofs.Common.{Strength, [], ap, arith, bit_at, false, handles_from, if◌then◌else◌, map, refl, sym, true}
+use Rattle.actor_scripts.proofs.Common.{with_objects, ℕ, ◌++◌, ◌+◌, ◌-◌, ◌<◌, ◌==◌, ◌∙◌, ◌∷◌, ◌≡◌}
+use Rattle.std.proofs.Common.{suc, append_assoc, append-nil}
 use Rattle.actor_scripts.specs.declared.queues.Queues.{Queues}
-use Rattle.actor_scripts.specs.declared.object.ActorObject.{ActorObject}
 use Rattle.sm_names.specs.declared.messages.Reply.{Reply}
-use Rattle.actor_scripts.specs.declared.step.Step.{Step}
-use Rattle.actor_scripts.specs.declared.object.StepCall.{StepCall}
-use Rattle.actor_scripts.specs.ActorStates.{Known, state_after, emptied, new_objects, handle_of, handles_from, on_of}
-use Rattle.actor_scripts.specs.ActorStates.{spends_object, without_spent, objects_after, with_node_label, with_object}
-use Rattle.actor_scripts.specs.ActorStates.{with_objects, with_tracker_label, without_handle, without_object}
+use Rattle.actor_scripts.specs.ActorStates.{state_after, emptied, new_objects, handle_of, on_of, spends_object, without_spent}
+use Rattle.actor_scripts.specs.ActorStates.{objects_after, with_node_label, with_object, with_tracker_label, without_handle}
+use Rattle.actor_scripts.specs.ActorStates.{without_object}
 use Rattle.actor_scripts.specs.Tables.{both_of, queues_of}
 
 -- with no handle of either strength there is none

@@ -1,23 +1,12 @@
 -- Where actors are, without what lies behind those that leave.
-use Rattle.std.proofs.Common.{ℕ, zero, suc, ◌≡◌, ◌==◌, ◌+◌, ◌-◌, refl, ap, sym, subst, ◌∙◌, Bool, true, false, cond}
-use Rattle.std.proofs.Common.{List, [], ◌∷◌, ◌++◌, map, drop, inr, Option, Some, None, is_some, slice_get}
-use Rattle.std.proofs.lemmas.List.{append-nil, drop-drop, drop-map}
-use Rattle.std.specs.Option.{option_and_then, option_map}
-use Rattle.sm_names.specs.declared.keys.NodeKey.{NodeKey}
-use Rattle.sm_names.specs.declared.messages.Call.{Call}
-use Rattle.sm_names.specs.declared.messages.Reply.{Reply}
-use Rattle.sm_names.proofs.ListLaws.{In, In-map}
-use Rattle.sm_names.proofs.SamenessLaws.{none_is, some-injective}
-use Rattle.actor_scripts.specs.declared.object.ActorObject.{ActorObject}
-use Rattle.actor_scripts.specs.ActorStates.{new_objects, nothing_known}
-use Rattle.explore_model.specs.declared.plan.Plan.{Plan}
-use Rattle.explore_model.specs.declared.plan.Planned.{Planned}
-use Rattle.actor_plays.specs.Leaves.{Leave, all_objects, leave_after, leave_call, vanishing_call}
-use Rattle.explore_model.specs.Plans.{steps_of}
-use Rattle.actor_plays.specs.Plays.{Stage, leaves_by, left, next_step}
-use Rattle.alike_plays.specs.Actors.{AreAlikeStages, leave_renamed, made_of, made_renamed, object_renamed}
-use Rattle.alike_plays.specs.Ahead.{ahead_by, ahead_of, going_on}
-use Rattle.alike_plays.specs.Names.{KnownActor, KnownObject, KnownStage}
+use Rattle.alike_plays.proofs.Common.{ActorObject, AreAlikeStages, Bool, Call, In, In-map, KnownActor, KnownObject, KnownStage, Leave}
+use Rattle.alike_plays.proofs.Common.{List, NodeKey, None, Option, Plan, Planned, Reply, Some, Stage, [], ahead_by, ahead_of, all_objects}
+use Rattle.alike_plays.proofs.Common.{ap, append-nil, cond, drop, false, going_on, inr, is_some, leave_after, leave_call, leave_renamed}
+use Rattle.alike_plays.proofs.Common.{leaves_by, left, made_of, made_renamed, map, new_objects, next_step, none_is, object_renamed}
+use Rattle.alike_plays.proofs.Common.{option_and_then, option_map, refl, slice_get, some-injective, steps_of, subst, suc, sym, true}
+use Rattle.alike_plays.proofs.Common.{vanishing_call, zero, ℕ, ◌++◌, ◌+◌, ◌-◌, ◌==◌, ◌∙◌, ◌∷◌, ◌≡◌}
+use Rattle.std.proofs.lemmas.List.{drop-drop, drop-map}
+use Rattle.actor_scripts.specs.ActorStates.{nothing_known}
 use Rattle.alike_plays.proofs.VanishLaws.{all-renamed}
 use Rattle.alike_plays.proofs.Ordered.{all-sorted, first-left, left-in_order}
 use Rattle.alike_plays.proofs.Stages.{first_known, parts_known}

@@ -1,21 +1,12 @@
 -- Actors of plays that are alike but for what lies behind those that leave.
-use Rattle.std.proofs.Common.{ℕ, zero, suc, ◌≡◌, ◌≤◌, ◌⊎◌, inl, inr, refl, ap, sym, subst, ◌∙◌, Bool, true, false, cond, ◌==◌, ◌+◌, List}
-use Rattle.std.proofs.Common.{[], ◌∷◌, length, map, Option, Some, None, is_some, slice_get, slice_set}
-use Rattle.std.proofs.lemmas.Bool.{eq-eqb, eqb-true}
-use Rattle.std.proofs.lemmas.Option.{slice_get-map}
-use Rattle.std.specs.Option.{option_map, option_map_or}
-use Rattle.sm_names.specs.declared.keys.NodeKey.{NodeKey}
-use Rattle.sm_names.specs.declared.messages.Reply.{Reply}
-use Rattle.sm_names.proofs.ListLaws.{In-map}
-use Rattle.sm_names.proofs.SamenessLaws.{both_ways, either_way, map-Some, none_is, some-injective}
-use Rattle.forest_store.specs.Forest.{given}
-use Rattle.actor_plays.specs.Leaves.{Leave}
-use Rattle.actor_plays.specs.Plays.{Stage}
-use Rattle.actor_plays.specs.Positions.{Position, Setup, left_at}
-use Rattle.actor_plays.proofs.PositionLaws.{get-other, get-set}
-use Rattle.alike_plays.specs.Actors.{AreAlikeStages, leave_renamed, made_of, made_renamed}
-use Rattle.alike_plays.specs.Ahead.{AreAlikeAhead, GoesByEarly, ahead, ahead_by, ahead_of, count_early, early_first, early_in, going_on}
-use Rattle.alike_plays.specs.AlikePlays.{AreAlikeAll, AreAlikePlays}
+use Rattle.alike_plays.proofs.Common.{AreAlikeAhead, AreAlikeAll, AreAlikePlays, AreAlikeStages, Bool, GoesByEarly, In-map, Leave, List}
+use Rattle.alike_plays.proofs.Common.{NodeKey, None, Option, Position, Reply, Setup, Some, Stage, [], ahead, ahead_by, ahead_of, ap}
+use Rattle.alike_plays.proofs.Common.{both_ways, cond, early_in, either_way, eq-eqb, eqb-true, false, get-other, given, going_on, inl}
+use Rattle.alike_plays.proofs.Common.{inr, is_some, leave_renamed, left_at, length, made_of, made_renamed, map, map-Some, none_is}
+use Rattle.alike_plays.proofs.Common.{option_map, option_map_or, refl, slice_get, slice_get-map, slice_set, some-injective, subst, suc}
+use Rattle.alike_plays.proofs.Common.{sym, true, zero, ℕ, ◌+◌, ◌==◌, ◌∙◌, ◌∷◌, ◌≡◌, ◌≤◌, ◌⊎◌}
+use Rattle.actor_plays.proofs.PositionLaws.{get-set}
+use Rattle.alike_plays.specs.Ahead.{count_early, early_first}
 use Rattle.alike_plays.proofs.Ahead.{ahead-alike, ahead_known, plain, plain_back, same_vanish}
 use Rattle.alike_plays.proofs.Places.{all_at, all_left}
 use Rattle.alike_plays.proofs.Reaching.{IsKnown, IsSeen}

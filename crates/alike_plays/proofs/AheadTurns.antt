@@ -1,14 +1,9 @@
 -- Turns of plays that are alike but for what lies behind actors that leave.
-use Rattle.std.proofs.Common.{ℕ, ◌≡◌, refl, ap, sym, subst, ◌∙◌, Bool, true, false, ◌||◌, ◌+◌}
-use Rattle.std.proofs.Common.{List, map, Option, Some, None, is_some, slice_get, slice_set}
-use Rattle.std.specs.Option.{option_map}
-use Rattle.actor_plays.specs.Leaves.{Leave}
-use Rattle.actor_plays.specs.Plays.{Stage, left, passed, stage_after}
-use Rattle.actor_plays.specs.Positions.{Asks, Calls, Goes, Leaves, PassOn, Passes, Position, Rests, Setup, left_at, may_go}
-use Rattle.alike_cores.specs.Alike.{call_renamed}
-use Rattle.alike_plays.specs.Ahead.{AreAlikeAhead, GoesByEarly, ahead, ahead_of, early_in}
-use Rattle.alike_plays.specs.AlikePlays.{AreAlikePlays}
-use Rattle.alike_plays.specs.Closed.{IsSimulation}
+use Rattle.alike_plays.proofs.Common.{AreAlikeAhead, AreAlikePlays, Asks, Bool, Calls, Goes, GoesByEarly, IsSimulation, Leave, Leaves}
+use Rattle.alike_plays.proofs.Common.{List, None, Option, PassOn, Passes, Position, Rests, Setup, Some, Stage, ahead, ahead_of, ap}
+use Rattle.alike_plays.proofs.Common.{call_renamed, early_in, false, is_some, left, left_at, map, option_map, passed, refl, slice_get}
+use Rattle.alike_plays.proofs.Common.{slice_set, stage_after, subst, sym, true, ℕ, ◌+◌, ◌||◌, ◌∙◌, ◌≡◌}
+use Rattle.actor_plays.specs.Positions.{may_go}
 use Rattle.alike_plays.proofs.Ahead.{ahead-twice, leaves-same, left-same, plain, steps_plain}
 use Rattle.alike_plays.proofs.AheadActors.{Same, at_ahead, at_left, at_plain, both_ahead, both_at, both_leave, early_put, exactly_ahead}
 use Rattle.alike_plays.proofs.AheadActors.{map-put, map-twice, put_plain, same_at, same_step, seen_ahead, steps_there}

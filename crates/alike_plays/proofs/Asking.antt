@@ -1,28 +1,15 @@
 -- What actors that are alike ask for.
-use Rattle.std.proofs.Common.{ℕ, ◌≡◌, refl, ap, ◌∙◌, Bool, true, false, cond, List, Option, Some, None, is_some, slice_get}
-use Rattle.std.proofs.lemmas.Option.{slice_get-map}
-use Rattle.std.specs.Option.{option_and_then, option_map}
-use Rattle.sm_names.specs.declared.call_parts.Argument.{Argument}
+use Rattle.alike_plays.proofs.Common.{ActorObject, AreAlikeKnown, Argument, Bool, BufferName, Call, Known, List, NodeKey, NodePlace, None}
+use Rattle.alike_plays.proofs.Common.{Option, Some, Step, Strength, Target, ap, asked_renamed, buffer_renamed, call_at, call_renamed}
+use Rattle.alike_plays.proofs.Common.{cond, false, is_bound, is_some, node_label, object_at, object_renamed, option_and_then, option_map}
+use Rattle.alike_plays.proofs.Common.{place_renamed, refl, slice_get, slice_get-map, step_call, tracker_label, true, ℕ, ◌∙◌, ◌≡◌}
 use Rattle.sm_names.specs.declared.call_parts.Object.{Object as Named}
-use Rattle.sm_names.specs.declared.call_parts.Target.{Target}
 use Rattle.sm_names.specs.declared.call_rows.CallKind.{CallKind}
-use Rattle.sm_names.specs.declared.keys.BufferName.{BufferName}
-use Rattle.sm_names.specs.declared.keys.NodeKey.{NodeKey}
-use Rattle.sm_names.specs.declared.keys.Strength.{Strength}
-use Rattle.sm_names.specs.declared.messages.Call.{Call}
 use Rattle.sm_names.specs.CallRows.{call_made, call_of, parts, row_of}
 use Rattle.script_lines.specs.declared.line.Request.{Request}
-use Rattle.actor_scripts.specs.declared.object.ActorObject.{ActorObject}
-use Rattle.actor_scripts.specs.declared.step.Step.{Step}
 use Rattle.actor_scripts.specs.declared.step.StepBuffer.{StepBuffer}
-use Rattle.actor_scripts.specs.ActorStates.{Known, NodePlace, argument_at, argument_held, asked_strength}
-use Rattle.actor_scripts.specs.ActorStates.{bare_call, call_at, call_for, call_on}
-use Rattle.actor_scripts.specs.ActorStates.{end_slot, handle_slot, is_bound, is_join, node_label}
-use Rattle.actor_scripts.specs.ActorStates.{object_at, slot_call, step_call, target_of}
-use Rattle.actor_scripts.specs.ActorStates.{tracker_label}
-use Rattle.alike_cores.specs.Alike.{call_renamed}
-use Rattle.alike_cores.specs.Renamed.{buffer_renamed}
-use Rattle.alike_plays.specs.Actors.{AreAlikeKnown, asked_renamed, object_renamed, place_renamed}
+use Rattle.actor_scripts.specs.ActorStates.{argument_at, argument_held, asked_strength, bare_call, call_for, call_on, end_slot}
+use Rattle.actor_scripts.specs.ActorStates.{handle_slot, is_join, slot_call, target_of}
 
 -- what a call is made on, under its new name
 abbrev named_renamed : (NodeKey → NodeKey) → (ℕ → ℕ) → Named NodeKey BufferName → Named NodeKey BufferName

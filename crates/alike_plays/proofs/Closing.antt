@@ -1,39 +1,23 @@
 -- Where no turn leads out of what was met, each play comes to what was met, but for names.
-use Rattle.std.proofs.Common.{ℕ, ◌≡◌, ◌≤◌, inl, inr, refl, ap, sym, subst, ◌∙◌, Bool, true, ◌&&◌}
-use Rattle.std.proofs.Common.{List, [], ◌∷◌, map}
-use Rattle.std.specs.Option.{option_map}
-use Rattle.sm_names.specs.declared.keys.NodeKey.{NodeKey}
-use Rattle.sm_names.specs.declared.tracking.Fired.{Fired}
-use Rattle.sm_names.specs.Answers.{answer, key_told}
-use Rattle.sm_names.specs.Marks.{Entry}
+use Rattle.alike_plays.proofs.Common.{AreAlikeAll, AreAlikeCores, AreAlikePlays, Asks, Begins, Bool, Calls, Collection, Entry, Fired}
+use Rattle.alike_plays.proofs.Common.{GoneNode, HasToWait, In, IsClosed, IsMet, IsSimulation, KnownCall, List, NodeKey, PassOn, Position}
+use Rattle.alike_plays.proofs.Common.{Reached, Rests, Setup, Shows, Stage, State, StepCall, [], all_rest, answer, ap, both_ways}
+use Rattle.alike_plays.proofs.Common.{collection_renamed, fall_renamed, fault_fallen, first_stage, further, given, inl, inr, is_wait}
+use Rattle.alike_plays.proofs.Common.{joins, map, no_key, option_map, reached_on, readings_of, refl, subst, sym, true, undated, ℕ, ◌&&◌}
+use Rattle.alike_plays.proofs.Common.{◌∙◌, ◌∷◌, ◌≡◌, ◌≤◌}
+use Rattle.sm_names.specs.Answers.{key_told}
 use Rattle.sm_names.specs.Timelines.{timeline}
 use Rattle.sm_names.specs.Trackers.{Tracked}
-use Rattle.sm_names.proofs.ListLaws.{In}
-use Rattle.sm_names.proofs.SamenessLaws.{both_ways}
-use Rattle.forest_store.specs.Forest.{Collection, given}
-use Rattle.forest_store.specs.Settling.{no_key}
-use Rattle.core_state.specs.Reads.{readings_of}
-use Rattle.core_state.specs.Shown.{IsAfter, Shows, collection_after, kept_ids, tracked_as}
-use Rattle.core_state.specs.State.{HandleCounts, State}
-use Rattle.actor_scripts.specs.declared.object.StepCall.{StepCall}
-use Rattle.actor_plays.specs.declared.falls.GoneNode.{GoneNode}
-use Rattle.actor_plays.specs.Fates.{fault_fallen}
-use Rattle.actor_plays.specs.Plays.{Stage, first_stage, is_wait, joins}
-use Rattle.actor_plays.specs.Positions.{Asks, Begins, Calls, HasToWait, PassOn, Position, Reached, Rests, Setup}
-use Rattle.actor_plays.proofs.PositionLaws.{all_rest, further, reached_on}
-use Rattle.alike_cores.specs.Cores.{AreAlikeCores, tracker_renamed, undated}
+use Rattle.core_state.specs.Shown.{IsAfter, collection_after, kept_ids, tracked_as}
+use Rattle.core_state.specs.State.{HandleCounts}
+use Rattle.alike_cores.specs.Cores.{tracker_renamed}
 use Rattle.alike_cores.specs.Mixed.{Mixed}
-use Rattle.alike_cores.specs.Renamed.{collection_renamed}
 use Rattle.alike_cores.proofs.Composing.{alike-same}
-use Rattle.alike_plays.specs.AlikePlays.{AreAlikeAll, AreAlikePlays}
-use Rattle.alike_plays.specs.Closed.{IsClosed, IsMet, IsSimulation}
-use Rattle.alike_plays.specs.Names.{KnownCall}
-use Rattle.alike_plays.specs.Falls.{fall_renamed}
 use Rattle.alike_plays.proofs.Composing.{plays-composed}
 use Rattle.alike_plays.proofs.Passing.{call_on, leave_on, past}
 use Rattle.alike_plays.proofs.Reaching.{IsSeen, asks_known, reached_seen}
-use Rattle.alike_plays.proofs.Turning.{AskAlike, asks_both, calls_alike, leaves_alike, names_old, other_asks, other_goes}
-use Rattle.alike_plays.proofs.Turning.{pass_alike, pass_back}
+use Rattle.alike_plays.proofs.Turning.{AskAlike, asks_both, calls_alike, leaves_alike, names_old, other_asks, other_goes, pass_alike}
+use Rattle.alike_plays.proofs.Turning.{pass_back}
 use Rattle.alike_plays.proofs.Waiting.{waits_alike}
 
 -- ---- the start

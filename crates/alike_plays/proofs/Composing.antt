@@ -1,20 +1,9 @@
 -- Plays that are alike to alike plays are alike, and so are two starts.
-use Rattle.std.proofs.Common.{ℕ, ◌≡◌, refl, ap, ◌∙◌, List, [], ◌∷◌, map, Option}
-use Rattle.std.specs.Option.{option_map}
-use Rattle.sm_names.specs.declared.keys.NodeKey.{NodeKey}
-use Rattle.sm_names.specs.declared.messages.Reply.{Reply}
-use Rattle.actor_scripts.specs.declared.object.ActorObject.{ActorObject}
-use Rattle.actor_scripts.specs.ActorStates.{Known}
-use Rattle.actor_plays.specs.Fates.{fault_fallen}
-use Rattle.actor_plays.specs.Leaves.{Leave}
-use Rattle.actor_plays.specs.Plays.{Stage}
-use Rattle.actor_plays.specs.Positions.{Position}
-use Rattle.alike_cores.specs.Alike.{reply_renamed}
-use Rattle.alike_cores.specs.Renamed.{fault_renamed}
+use Rattle.alike_plays.proofs.Common.{ActorObject, AreAlikeAll, AreAlikeKnown, AreAlikePlays, AreAlikeStages, Known, Leave, List, NodeKey}
+use Rattle.alike_plays.proofs.Common.{Option, Position, Reply, Stage, [], ap, fall_renamed, fault_fallen, fault_renamed, leave_renamed}
+use Rattle.alike_plays.proofs.Common.{made_of, made_renamed, map, object_renamed, option_map, place_renamed, refl, reply_renamed, ℕ, ◌∙◌}
+use Rattle.alike_plays.proofs.Common.{◌∷◌, ◌≡◌}
 use Rattle.alike_cores.proofs.Composing.{alike-alike, twice-option, twice-map}
-use Rattle.alike_plays.specs.Actors.{AreAlikeKnown, AreAlikeStages, leave_renamed, made_of, made_renamed, object_renamed, place_renamed}
-use Rattle.alike_plays.specs.AlikePlays.{AreAlikeAll, AreAlikePlays}
-use Rattle.alike_plays.specs.Falls.{fall_renamed}
 
 module _ (to more : NodeKey → NodeKey) (id on number next : ℕ → ℕ) where
   -- one after the other

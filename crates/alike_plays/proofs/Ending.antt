@@ -1,34 +1,20 @@
 -- How plays end that are alike but for what lies behind actors that leave.
-use Rattle.std.proofs.Common.{ℕ, zero, suc, ◌≡◌, refl, ap, sym, ◌∙◌, Bool, true, false, cond, List, [], ◌∷◌, ◌++◌, length, map}
-use Rattle.std.proofs.Common.{Option, Some, None, is_some, slice_get}
+use Rattle.alike_plays.proofs.Common.{AreAlikeAhead, Bool, Fault, List, Node, NodeKey, None, Option, Position, Reply, Some, Stage, []}
+use Rattle.alike_plays.proofs.Common.{ahead, ahead_of, ap, cond, fall_renamed, false, fault_fallen, filter, find, find_alike, fired-alike}
+use Rattle.alike_plays.proofs.Common.{flat_map, is_some, length, made_of, made_renamed, map, node_renamed, node_undated, none_is}
+use Rattle.alike_plays.proofs.Common.{option_and_then, option_map, option_map_or, refl, reply_renamed, shown_sound, slice_get}
+use Rattle.alike_plays.proofs.Common.{slice_get-map, some-injective, sound_apart, suc, sym, tells_made, true, zero, ℕ, ◌++◌, ◌∙◌, ◌∷◌}
+use Rattle.alike_plays.proofs.Common.{◌≡◌}
 use Rattle.std.proofs.lemmas.List.{length-map}
-use Rattle.std.proofs.lemmas.Option.{slice_get-map}
-use Rattle.std.specs.List.{filter, find, flat_map}
-use Rattle.std.specs.Option.{option_and_then, option_map, option_map_or, option_or}
-use Rattle.sm_names.specs.declared.keys.NodeKey.{NodeKey}
-use Rattle.sm_names.specs.declared.messages.Reply.{Reply}
-use Rattle.sm_names.specs.declared.outcomes.Fault.{Fault}
-use Rattle.sm_names.proofs.SamenessLaws.{none_is, some-injective}
-use Rattle.forest_store.specs.declared.node.Node.{Node}
+use Rattle.std.specs.Option.{option_or}
 use Rattle.forest_store.specs.Forest.{node_at}
 use Rattle.explore_model.specs.declared.outcome.Became.{Became}
 use Rattle.explore_model.specs.declared.outcome.Fate.{Fate}
 use Rattle.explore_model.specs.declared.outcome.StepPlace.{StepPlace}
-use Rattle.actor_plays.specs.Endings.{Made, became_of, birth_at, birth_in, end_in, ends_in, fate_gone, fate_in, fate_of}
-use Rattle.actor_plays.specs.Endings.{is_birth, is_node, made_by, maker_first, maker_in, step_of, told_of, unless_left}
-use Rattle.actor_plays.specs.Fates.{fault_fallen}
-use Rattle.actor_plays.specs.Plays.{Stage}
-use Rattle.actor_plays.specs.Positions.{Position}
-use Rattle.alike_cores.specs.Alike.{reply_renamed}
-use Rattle.alike_cores.specs.Cores.{node_undated}
-use Rattle.alike_cores.specs.Renamed.{node_renamed}
-use Rattle.alike_cores.proofs.Finding.{found_node, sound_apart}
-use Rattle.alike_cores.proofs.Forcings.{find_alike}
-use Rattle.alike_cores.proofs.Shown.{shown_sound}
-use Rattle.alike_cores.proofs.Views.{fired-alike, free-alike}
-use Rattle.alike_plays.specs.Actors.{made_of, made_renamed, tells_made}
-use Rattle.alike_plays.specs.Ahead.{AreAlikeAhead, ahead, ahead_of}
-use Rattle.alike_plays.specs.Falls.{fall_renamed}
+use Rattle.actor_plays.specs.Endings.{Made, became_of, birth_at, birth_in, end_in, ends_in, fate_gone, fate_in, fate_of, is_birth}
+use Rattle.actor_plays.specs.Endings.{is_node, made_by, maker_first, maker_in, step_of, told_of, unless_left}
+use Rattle.alike_cores.proofs.Finding.{found_node}
+use Rattle.alike_cores.proofs.Views.{free-alike}
 use Rattle.alike_plays.proofs.AheadActors.{at_ahead, both_at, both_leave, made_there, same_at, same_step}
 use Rattle.alike_plays.proofs.Places.{all_back}
 use Rattle.alike_plays.proofs.Reaching.{IsSeen}

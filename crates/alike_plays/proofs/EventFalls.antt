@@ -1,41 +1,23 @@
 -- The nodes that an event takes, in cores that are alike.
-use Rattle.std.proofs.Common.{ℕ, ◌≡◌, ◌⊎◌, ◌||◌, ◌==◌, inl, inr, ap, sym, subst, ◌∙◌, true, false}
-use Rattle.std.proofs.Common.{List, [], ◌++◌, map, Option, Some, None}
-use Rattle.std.proofs.lemmas.Grind.{flat_map-append}
-use Rattle.std.proofs.lemmas.List.{map-append}
-use Rattle.std.specs.List.{flat_map}
-use Rattle.std.specs.Option.{option_map, option_map_or, unwrap_or}
-use Rattle.sm_names.specs.declared.keys.NodeKey.{NodeKey}
-use Rattle.sm_names.specs.declared.messages.Call.{Call}
-use Rattle.sm_names.specs.declared.messages.Reply.{Reply}
-use Rattle.sm_names.specs.Answers.{new_key}
-use Rattle.sm_names.specs.Marks.{Entry}
-use Rattle.sm_names.specs.Sameness.{same_key}
-use Rattle.sm_names.proofs.ListLaws.{In, In-append, In-find}
-use Rattle.sm_names.proofs.SamenessLaws.{none_or_some, or_left, same_key-refl, some-injective, some_is}
-use Rattle.buffer_holds.specs.Counts.{total}
-use Rattle.forest_store.specs.Forest.{Collection, beside, collection_at, given}
-use Rattle.forest_store.specs.Settling.{changed, collection_or_new, is_birth, no_key}
-use Rattle.core_state.specs.Shown.{Shows}
-use Rattle.core_state.specs.State.{State}
-use Rattle.core_state.specs.Steps.{Follows, Work, Worked, work_of}
-use Rattle.core_state.specs.Theorem.{Makes}
+use Rattle.alike_plays.proofs.Common.{AreAlikeCores, AreStages, Call, Collection, CountsAlike, Entry, Follows, GoneNode, In, In-append}
+use Rattle.alike_plays.proofs.Common.{In-find, KeepsIds, KeepsKeys, KnownGone, List, Makes, NodeKey, None, Option, Reply, SamePages}
+use Rattle.alike_plays.proofs.Common.{Shows, Some, State, [], ap, call_renamed, change_renamed, changed, collection_renamed, falls_at}
+use Rattle.alike_plays.proofs.Common.{false, flat_map, flat_map-append, given, gone_renamed, inl, inr, is_birth, keys_stay, map}
+use Rattle.alike_plays.proofs.Common.{map-append, new_key, no_key, none_or_some, option_map, option_map_or, or_left, own_stage}
+use Rattle.alike_plays.proofs.Common.{reply_renamed, same_key, same_key-refl, some-injective, sound_apart, stages, subst, sym, total}
+use Rattle.alike_plays.proofs.Common.{true, undated, ℕ, ◌++◌, ◌==◌, ◌||◌, ◌∙◌, ◌≡◌, ◌⊎◌}
+use Rattle.std.specs.Option.{unwrap_or}
+use Rattle.sm_names.proofs.SamenessLaws.{some_is}
+use Rattle.forest_store.specs.Forest.{beside, collection_at}
+use Rattle.forest_store.specs.Settling.{collection_or_new}
+use Rattle.core_state.specs.Steps.{Work, Worked, work_of}
 use Rattle.core_state.specs.Whole.{IsSound}
-use Rattle.forced_marks.specs.Marks.{AreStages, SettlesInStages, Stage, StagesIn, changed_by, own_stage, stages}
-use Rattle.actor_plays.specs.declared.falls.GoneNode.{GoneNode}
-use Rattle.actor_plays.specs.Fates.{falls_at}
-use Rattle.alike_cores.specs.Alike.{KeepsIds, call_renamed, reply_renamed}
-use Rattle.alike_cores.specs.Renamed.{CountsAlike, KeepsKeys, change_renamed, collection_renamed}
-use Rattle.alike_cores.specs.Cores.{AreAlikeCores, undated}
+use Rattle.forced_marks.specs.Marks.{SettlesInStages, Stage, StagesIn, changed_by}
 use Rattle.alike_cores.proofs.Events.{new_key-renamed}
-use Rattle.alike_cores.proofs.Finding.{sound_apart}
 use Rattle.alike_cores.proofs.Known.{collection_known}
-use Rattle.alike_cores.proofs.Learning.{keys_stay}
-use Rattle.alike_cores.proofs.Settling.{SamePages, beside-alike}
+use Rattle.alike_cores.proofs.Settling.{beside-alike}
 use Rattle.alike_cores.proofs.Worked.{start}
 use Rattle.alike_cores.proofs.Working.{start-alike, work-alike, work_renamed, work_undated}
-use Rattle.alike_plays.specs.Names.{KnownGone}
-use Rattle.alike_plays.specs.Falls.{gone_renamed}
 use Rattle.alike_plays.proofs.Falling.{own-alike, settles-alike}
 use Rattle.alike_plays.proofs.FallsKnown.{AllKnown, changed_known, own_known, settles_known}
 

@@ -1,33 +1,19 @@
 -- Which nodes fall by an event of cores that are alike.
-use Rattle.std.proofs.Common.{ℕ, ◌≡◌, refl, ap, sym, ◌∙◌, Bool, true, false, cond, ◌&&◌, not}
-use Rattle.std.proofs.Common.{List, [], ◌∷◌, ◌++◌, map, Option, Some, None}
-use Rattle.std.proofs.lemmas.List.{map-append}
-use Rattle.std.specs.List.{filter, find, flat_map}
-use Rattle.std.specs.Option.{option_map}
-use Rattle.sm_names.specs.declared.keys.Interval.{Interval}
-use Rattle.sm_names.specs.declared.keys.NodeKey.{NodeKey}
-use Rattle.sm_names.specs.declared.outcomes.Fault.{Fault}
+use Rattle.alike_plays.proofs.Common.{Allocated, Bool, Called, Change, Collection, CountsAlike, Ended, Fault, FellAlike, GoneNode}
+use Rattle.alike_plays.proofs.Common.{Handles, Interval, KeepsKeys, List, Loss, Mark, Node, NodeKey, None, Option, SamePages, SettlesBy}
+use Rattle.alike_plays.proofs.Common.{Some, [], after_loss, ap, change_renamed, collection_renamed, cond, end_told, fall_renamed}
+use Rattle.alike_plays.proofs.Common.{fall_told, falls_at, falls_by, false, fault_fallen, fault_renamed, filter, find, find_alike}
+use Rattle.alike_plays.proofs.Common.{flat_map, gone_renamed, is_under, made, map, map-append, member_of, node_renamed, node_undated, not}
+use Rattle.alike_plays.proofs.Common.{option_map, own_stage, refl, same_key, some-injective, stages, sym, true, undated, ℕ, ◌&&◌, ◌++◌}
+use Rattle.alike_plays.proofs.Common.{◌∙◌, ◌∷◌, ◌≡◌}
 use Rattle.sm_names.specs.Forced.{forced}
-use Rattle.sm_names.specs.Marks.{Mark, Called, Loss, Allocated, Ended}
-use Rattle.sm_names.specs.Members.{is_under}
-use Rattle.sm_names.specs.Sameness.{same_key}
-use Rattle.sm_names.proofs.SamenessLaws.{some-injective}
-use Rattle.forest_store.specs.declared.change.Change.{Change}
-use Rattle.forest_store.specs.declared.node.Node.{Node}
-use Rattle.forest_store.specs.Forest.{Collection}
-use Rattle.forest_store.specs.Nodes.{after_loss, member_of}
 use Rattle.forest_store.specs.Questions.{is_below}
-use Rattle.forest_store.specs.Settling.{Handles, made, standing}
-use Rattle.forced_marks.specs.Marks.{SettlesBy, own_stage, stages}
-use Rattle.actor_plays.specs.declared.falls.GoneNode.{GoneNode}
-use Rattle.actor_plays.specs.Fates.{end_told, fall_told, falls_at, falls_by, fault_fallen}
-use Rattle.alike_cores.specs.Renamed.{CountsAlike, KeepsKeys, change_renamed, collection_renamed, fault_renamed, mark_renamed, node_renamed}
-use Rattle.alike_cores.proofs.Forcings.{filter_alike, find_alike, forced-renamed}
+use Rattle.forest_store.specs.Settling.{standing}
+use Rattle.alike_cores.specs.Renamed.{mark_renamed}
+use Rattle.alike_cores.proofs.Forcings.{filter_alike, forced-renamed}
 use Rattle.alike_cores.proofs.Renamings.{any-renamed, loss-renamed, member-renamed}
 use Rattle.alike_cores.proofs.Settlings.{made-renamed, standing-renamed}
-use Rattle.alike_cores.specs.Cores.{node_undated, undated}
-use Rattle.alike_cores.proofs.Settling.{SamePages, forced-others, made-others}
-use Rattle.alike_plays.specs.Falls.{FellAlike, fall_renamed, gone_renamed}
+use Rattle.alike_cores.proofs.Settling.{forced-others, made-others}
 
 -- ---- by a mark
 

@@ -1,27 +1,15 @@
 -- The nodes that fall by an event, and those at which failures began, are nodes that the core gave keys.
-use Rattle.std.proofs.Common.{ℕ, ◌≡◌, ◌⊎◌, inl, inr, refl, ap, sym, subst, ◌∙◌, Bool, true, false, cond, ◌&&◌, not}
-use Rattle.std.proofs.Common.{List, [], ◌∷◌, ◌++◌, map, Option, Some, None}
-use Rattle.std.specs.List.{filter, flat_map}
-use Rattle.std.specs.Option.{option_map_or}
-use Rattle.sm_names.specs.declared.keys.Interval.{Interval}
-use Rattle.sm_names.specs.declared.keys.NodeKey.{NodeKey}
-use Rattle.sm_names.specs.declared.outcomes.Fault.{Fault}
-use Rattle.sm_names.specs.Marks.{Mark, Called, Loss, Allocated, Ended}
+use Rattle.alike_plays.proofs.Common.{Allocated, Bool, Called, Change, Collection, Ended, Fault, GoneNode, Handles, In, In-append}
+use Rattle.alike_plays.proofs.Common.{In-filter, In-find, In-map, Interval, KnownGone, List, Loss, Mark, Node, NodeKey, None, Option}
+use Rattle.alike_plays.proofs.Common.{SettlesBy, Some, [], after_loss, ap, both_ways, changed, cond, end_told, fall_told, falls_at}
+use Rattle.alike_plays.proofs.Common.{falls_by, false, filter, flat_map, inl, inr, is_birth, is_under, made, map, member_of, none_or_some}
+use Rattle.alike_plays.proofs.Common.{not, option_map_or, own_stage, refl, same_key-true, some-injective, stages, subst, sym, true, ℕ}
+use Rattle.alike_plays.proofs.Common.{◌&&◌, ◌++◌, ◌∙◌, ◌∷◌, ◌≡◌, ◌⊎◌}
 use Rattle.sm_names.specs.Changes.{highest}
-use Rattle.sm_names.specs.Members.{is_under}
-use Rattle.sm_names.proofs.ListLaws.{In, In-append, In-filter, In-find, In-map}
-use Rattle.sm_names.proofs.SamenessLaws.{and_left, both_ways, none_or_some, same_key-true, some-injective}
-use Rattle.forest_store.specs.declared.change.Change.{Change}
+use Rattle.sm_names.proofs.SamenessLaws.{and_left}
 use Rattle.forest_store.specs.declared.change.Effect.{Effect}
-use Rattle.forest_store.specs.declared.node.Node.{Node}
-use Rattle.forest_store.specs.Forest.{Collection}
-use Rattle.forest_store.specs.Nodes.{affected, after_loss, ended, given_buffers, is_of, is_taken, lost, member_of, members_of}
-use Rattle.forest_store.specs.Nodes.{new_child, node_of}
-use Rattle.forest_store.specs.Settling.{Handles, changed, is_birth, is_root_of, made}
-use Rattle.forced_marks.specs.Marks.{SettlesBy, own_stage, stages}
-use Rattle.actor_plays.specs.declared.falls.GoneNode.{GoneNode}
-use Rattle.actor_plays.specs.Fates.{fall_told, end_told, falls_at, falls_by}
-use Rattle.alike_plays.specs.Names.{KnownGone}
+use Rattle.forest_store.specs.Nodes.{affected, ended, given_buffers, is_of, is_taken, lost, members_of, new_child, node_of}
+use Rattle.forest_store.specs.Settling.{is_root_of}
 
 module _ (Key : NodeKey → Type 0) where
   -- the key of the node, and that of the node at which its failure began

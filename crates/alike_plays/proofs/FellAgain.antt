@@ -1,18 +1,7 @@
 -- Nodes that fell alike did so under names that know what is new.
-use Rattle.std.proofs.Common.{◌≡◌, ◌⊎◌, inl, inr, refl, ap, sym, subst, ◌∙◌, List, Option, Some, None}
-use Rattle.std.specs.List.{find}
-use Rattle.std.specs.Option.{option_map}
-use Rattle.sm_names.specs.declared.keys.NodeKey.{NodeKey}
-use Rattle.sm_names.specs.declared.outcomes.Fault.{Fault}
-use Rattle.sm_names.specs.Sameness.{same_key}
-use Rattle.sm_names.proofs.ListLaws.{In, In-find}
-use Rattle.sm_names.proofs.SamenessLaws.{none_or_some, same_key-true, some-injective}
-use Rattle.actor_plays.specs.declared.falls.GoneNode.{GoneNode}
-use Rattle.actor_plays.specs.Fates.{fault_fallen}
-use Rattle.alike_cores.specs.Renamed.{KeepsKeys, fault_renamed}
-use Rattle.alike_cores.proofs.Moving.{keys_moved, keys_same}
-use Rattle.alike_plays.specs.Names.{KnownGone}
-use Rattle.alike_plays.specs.Falls.{FellAlike, fall_renamed}
+use Rattle.alike_plays.proofs.Common.{Fault, FellAlike, GoneNode, In, In-find, KeepsKeys, KnownGone, List, NodeKey, None, Option, Some}
+use Rattle.alike_plays.proofs.Common.{ap, fall_renamed, fault_fallen, fault_renamed, find, inl, inr, keys_moved, keys_same, none_or_some}
+use Rattle.alike_plays.proofs.Common.{option_map, refl, same_key, same_key-true, some-injective, subst, sym, ◌∙◌, ◌≡◌, ◌⊎◌}
 use Rattle.alike_plays.proofs.Renaming.{far_keys}
 
 module _ (Key : NodeKey → Type 0) (falls : List GoneNode) (known : (g : GoneNode) → In g falls → KnownGone Key g) (key : NodeKey) where

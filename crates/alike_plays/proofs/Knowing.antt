@@ -1,30 +1,16 @@
 -- What actors that are alike know after a reply.
-use Rattle.std.proofs.Common.{ℕ, zero, suc, ◌≡◌, ◌+◌, ◌==◌, refl, ap, sym, subst, ◌∙◌, ◌&&◌, Bool, true, false, cond}
-use Rattle.std.proofs.Common.{List, [], ◌∷◌, ◌++◌, drop, length, map, set, Option, Some, None}
-use Rattle.std.proofs.lemmas.List.{map-append, map-set}
-use Rattle.std.specs.Int.{bit_at}
-use Rattle.std.specs.Option.{option_map}
+use Rattle.alike_plays.proofs.Common.{ActorObject, AreAlikeKnown, Bool, BufferName, Call, KeepsIds, KeepsKeys, Kind, Known, List}
+use Rattle.alike_plays.proofs.Common.{MAX_BUFFERS, NodeKey, None, Option, Reply, Some, Step, StepCall, Strength, [], ap, asked_renamed}
+use Rattle.alike_plays.proofs.Common.{bit_at, bound, buffer_renamed, call_renamed, cond, drop, false, handle_of, handles_from, length}
+use Rattle.alike_plays.proofs.Common.{map, map-append, new_objects, new_place, new_tracker, node_label, object_renamed, on_of, option_map}
+use Rattle.alike_plays.proofs.Common.{place_renamed, refl, reply_renamed, row_for, same_buffer, set, spends_object, state_after, subst}
+use Rattle.alike_plays.proofs.Common.{suc, sym, tracker_label, true, with_first_gone, with_new, with_node_label, with_object}
+use Rattle.alike_plays.proofs.Common.{with_objects, with_queues, with_slot_last, with_spot, with_tracker_label, without_handle}
+use Rattle.alike_plays.proofs.Common.{without_object, without_spent, zero, ℕ, ◌&&◌, ◌++◌, ◌+◌, ◌==◌, ◌∙◌, ◌∷◌, ◌≡◌}
+use Rattle.std.proofs.lemmas.List.{map-set}
 use Rattle.sm_names.specs.declared.call_parts.Spends.{Spends}
-use Rattle.sm_names.specs.declared.keys.BufferName.{BufferName}
-use Rattle.sm_names.specs.declared.keys.Kind.{Kind}
-use Rattle.sm_names.specs.declared.keys.NodeKey.{NodeKey}
-use Rattle.sm_names.specs.declared.keys.Strength.{Strength}
-use Rattle.sm_names.specs.declared.messages.Call.{Call}
-use Rattle.sm_names.specs.declared.messages.Reply.{Reply}
-use Rattle.sm_names.specs.declared.rules.TheConstants.{MAX_BUFFERS}
-use Rattle.sm_names.specs.CallRows.{row_for}
-use Rattle.sm_names.specs.Sameness.{same_buffer}
-use Rattle.actor_scripts.specs.declared.object.ActorObject.{ActorObject}
-use Rattle.actor_scripts.specs.declared.object.StepCall.{StepCall}
-use Rattle.actor_scripts.specs.declared.step.Step.{Step}
-use Rattle.actor_scripts.specs.ActorStates.{Known, bound, handle_of, handles_from, new_objects}
-use Rattle.actor_scripts.specs.ActorStates.{new_place, new_tracker, node_label, on_of, spends_by, spends_object, state_after, tracker_label}
-use Rattle.actor_scripts.specs.ActorStates.{with_first_gone, with_new, with_node_label, with_object, with_objects, with_queues}
-use Rattle.actor_scripts.specs.ActorStates.{with_slot_last, with_spot, with_tracker_label, without_handle, without_object, without_spent}
-use Rattle.alike_cores.specs.Alike.{KeepsIds, call_renamed, reply_renamed}
-use Rattle.alike_cores.specs.Renamed.{KeepsKeys, buffer_renamed}
+use Rattle.actor_scripts.specs.ActorStates.{spends_by}
 use Rattle.alike_cores.proofs.Answering.{length-renamed}
-use Rattle.alike_plays.specs.Actors.{AreAlikeKnown, asked_renamed, object_renamed, place_renamed}
 use Rattle.alike_plays.proofs.Asking.{object-alike}
 
 -- ---- what a reply tells

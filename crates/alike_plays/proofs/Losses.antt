@@ -1,15 +1,8 @@
 -- Whether the same became of the nodes that fell, found by what both lists have.
-use Rattle.std.proofs.Common.{◌≡◌, ◌⊎◌, inl, inr, ap, sym, subst, ◌∙◌, true, false, List, Some, None}
-use Rattle.std.specs.List.{find}
-use Rattle.std.specs.Option.{option_map}
-use Rattle.sm_names.specs.declared.keys.NodeKey.{NodeKey}
-use Rattle.sm_names.specs.Sameness.{same_key}
-use Rattle.sm_names.proofs.ListLaws.{In, In-any, In-find, none-find}
-use Rattle.sm_names.proofs.SamenessLaws.{none_or_some, same_key-refl, same_key-true}
-use Rattle.actor_plays.specs.declared.falls.GoneNode.{GoneNode}
-use Rattle.actor_plays.specs.Fates.{fault_fallen}
-use Rattle.alike_cores.specs.Renamed.{KeepsKeys}
-use Rattle.alike_plays.specs.Falls.{FellAlike, fall_renamed}
+use Rattle.alike_plays.proofs.Common.{FellAlike, GoneNode, In, In-find, KeepsKeys, List, NodeKey, None, Some, ap, fall_renamed, false}
+use Rattle.alike_plays.proofs.Common.{fault_fallen, find, inl, inr, none_or_some, option_map, same_key, same_key-refl, same_key-true}
+use Rattle.alike_plays.proofs.Common.{subst, sym, true, ◌∙◌, ◌≡◌, ◌⊎◌}
+use Rattle.sm_names.proofs.ListLaws.{In-any, none-find}
 
 -- A node fell nowhere, where none with its key did.
 fell_nowhere : (falls : List GoneNode) (key : NodeKey) → ((g : GoneNode) → In g falls → g.key ≡ key → ⊥) →

@@ -1,26 +1,17 @@
 -- Which names an actor knows: those that replies told it.
-use Rattle.std.proofs.Common.{ℕ, ◌≡◌, refl, ap, sym, subst, ◌∙◌, Bool, true, false, cond}
-use Rattle.std.proofs.Common.{List, get_or, slice_get, Option, Some, None}
-use Rattle.sm_names.specs.declared.call_parts.Argument.{Argument}
+use Rattle.alike_plays.proofs.Common.{ActorObject, Argument, Bool, BufferName, Call, Fits, FitsThere, In, Known, KnownActor, KnownCall}
+use Rattle.alike_plays.proofs.Common.{KnownObject, List, NodeKey, None, Option, Some, Step, StepCall, Strength, Target, ap, buffer_of}
+use Rattle.alike_plays.proofs.Common.{call_at, cond, false, fits_step, is_bound, node_label, object_at, refl, row_for, slice_get}
+use Rattle.alike_plays.proofs.Common.{slice_get_within, some-injective, step_call, subst, sym, tracker_label, true, ℕ, ◌∙◌, ◌≡◌}
+use Rattle.std.proofs.Common.{get_or}
 use Rattle.sm_names.specs.declared.call_parts.Object.{Object as Named}
 use Rattle.sm_names.specs.declared.call_parts.Product.{Product}
-use Rattle.sm_names.specs.declared.call_parts.Target.{Target}
-use Rattle.sm_names.specs.declared.keys.BufferName.{BufferName}
-use Rattle.sm_names.specs.declared.keys.NodeKey.{NodeKey}
-use Rattle.sm_names.specs.declared.keys.Strength.{Strength}
-use Rattle.sm_names.specs.declared.messages.Call.{Call}
-use Rattle.sm_names.specs.CallRows.{object_buffer, object_key, parts_of, row_for}
-use Rattle.sm_names.proofs.ListLaws.{In, In-get_or}
-use Rattle.sm_names.proofs.SamenessLaws.{and_then-Some, some-injective}
-use Rattle.std.proofs.lemmas.Option.{slice_get-get_or, slice_get_within}
-use Rattle.sm_names.specs.Timelines.{buffer_of, key_of}
-use Rattle.actor_scripts.specs.declared.object.ActorObject.{ActorObject}
-use Rattle.actor_scripts.specs.declared.object.StepCall.{StepCall}
-use Rattle.actor_scripts.specs.declared.step.Step.{Step}
-use Rattle.actor_scripts.specs.ActorStates.{Fits, FitsAToken, FitsACollection, FitsAnyEnd, FitsObject, FitsThere, NamesHandle}
-use Rattle.actor_scripts.specs.ActorStates.{NamesNothing, Known, call_at, is_bound, node_label, step_call, tracker_label, object_at}
-use Rattle.actor_scripts.proofs.FitLaws.{fits_step}
-use Rattle.alike_plays.specs.Names.{KnownActor, KnownCall, KnownObject}
+use Rattle.sm_names.specs.CallRows.{object_buffer, object_key, parts_of}
+use Rattle.sm_names.proofs.ListLaws.{In-get_or}
+use Rattle.sm_names.proofs.SamenessLaws.{and_then-Some}
+use Rattle.std.proofs.lemmas.Option.{slice_get-get_or}
+use Rattle.sm_names.specs.Timelines.{key_of}
+use Rattle.actor_scripts.specs.ActorStates.{FitsAToken, FitsACollection, FitsAnyEnd, FitsObject, NamesHandle, NamesNothing}
 
 -- ---- calls
 

@@ -1,25 +1,13 @@
 -- Which names an actor knows after a reply.
-use Rattle.std.proofs.Common.{ℕ, zero, suc, ◌≡◌, ◌+◌, ◌==◌, ◌⊎◌, inl, inr, refl, ap, sym, subst, ◌∙◌, Bool, true, false, cond}
-use Rattle.std.proofs.Common.{List, [], ◌∷◌, ◌++◌, drop, length, set, Option, Some, None}
-use Rattle.std.specs.Int.{bit_at}
-use Rattle.sm_names.specs.declared.keys.BufferName.{BufferName}
-use Rattle.sm_names.specs.declared.keys.Kind.{Kind}
-use Rattle.sm_names.specs.declared.keys.NodeKey.{NodeKey}
-use Rattle.sm_names.specs.declared.keys.Strength.{Strength}
-use Rattle.sm_names.specs.declared.messages.Call.{Call}
-use Rattle.sm_names.specs.declared.messages.Reply.{Reply}
-use Rattle.sm_names.specs.declared.rules.TheConstants.{MAX_BUFFERS}
-use Rattle.sm_names.specs.Sameness.{same_buffer, same_key}
-use Rattle.sm_names.proofs.ListLaws.{In, In-append}
-use Rattle.sm_names.proofs.SamenessLaws.{either_way, same_buffer-true, same_key-true, some-injective}
-use Rattle.actor_scripts.specs.declared.object.ActorObject.{ActorObject}
-use Rattle.actor_scripts.specs.declared.object.StepCall.{StepCall}
-use Rattle.actor_scripts.specs.declared.step.Step.{Step}
-use Rattle.actor_scripts.specs.ActorStates.{Known, bound, handle_of, handles_from, new_objects, new_place, new_tracker, node_label}
-use Rattle.actor_scripts.specs.ActorStates.{on_of, spends_object, state_after, tracker_label, with_first_gone, with_new, with_node_label}
-use Rattle.actor_scripts.specs.ActorStates.{with_object, with_objects, with_queues, with_slot_last, with_spot, with_tracker_label}
-use Rattle.actor_scripts.specs.ActorStates.{without_handle, without_object, without_spent}
-use Rattle.alike_plays.specs.Names.{KnownActor, KnownCall, KnownObject, KnownReply}
+use Rattle.alike_plays.proofs.Common.{ActorObject, Bool, BufferName, Call, In, In-append, Kind, Known, KnownActor, KnownCall, KnownObject}
+use Rattle.alike_plays.proofs.Common.{KnownReply, List, MAX_BUFFERS, NodeKey, None, Option, Reply, Some, Step, StepCall, Strength, [], ap}
+use Rattle.alike_plays.proofs.Common.{bit_at, bound, cond, drop, either_way, false, handle_of, handles_from, inl, inr, length}
+use Rattle.alike_plays.proofs.Common.{new_objects, new_place, new_tracker, node_label, on_of, refl, same_buffer, same_key, same_key-true}
+use Rattle.alike_plays.proofs.Common.{set, some-injective, spends_object, state_after, subst, suc, sym, tracker_label, true}
+use Rattle.alike_plays.proofs.Common.{with_first_gone, with_new, with_node_label, with_object, with_objects, with_queues, with_slot_last}
+use Rattle.alike_plays.proofs.Common.{with_spot, with_tracker_label, without_handle, without_object, without_spent, zero, ℕ, ◌++◌, ◌+◌}
+use Rattle.alike_plays.proofs.Common.{◌==◌, ◌∙◌, ◌∷◌, ◌≡◌, ◌⊎◌}
+use Rattle.sm_names.proofs.SamenessLaws.{same_buffer-true}
 use Rattle.alike_plays.proofs.Names.{lying_in}
 
 -- What is put at a place is the only new element.

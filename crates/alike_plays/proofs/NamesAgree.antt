@@ -1,17 +1,9 @@
 -- Only the names that actors know make a difference.
-use Rattle.std.proofs.Common.{ℕ, ◌≡◌, refl, ap, sym, subst, ◌∙◌, Option, Some, None}
-use Rattle.std.specs.Option.{option_map}
-use Rattle.sm_names.specs.declared.keys.NodeKey.{NodeKey}
-use Rattle.sm_names.specs.declared.messages.Reply.{Reply}
-use Rattle.sm_names.proofs.ListLaws.{In, In-filter, In-map-back, map-In}
-use Rattle.actor_scripts.specs.declared.object.ActorObject.{ActorObject}
-use Rattle.actor_scripts.specs.ActorStates.{Known, NodePlace}
-use Rattle.actor_plays.specs.Leaves.{Leave}
-use Rattle.actor_plays.specs.Plays.{Stage}
-use Rattle.alike_cores.specs.Alike.{reply_renamed}
-use Rattle.alike_plays.specs.Actors.{AreAlikeKnown, AreAlikeStages, leave_renamed, made_of, made_renamed}
-use Rattle.alike_plays.specs.Actors.{object_renamed, place_renamed, tells_made}
-use Rattle.alike_plays.specs.Names.{KnownActor, KnownObject, KnownReply, KnownStage, NamesAgree}
+use Rattle.alike_plays.proofs.Common.{ActorObject, AreAlikeKnown, AreAlikeStages, In, In-filter, Known, KnownActor, KnownObject}
+use Rattle.alike_plays.proofs.Common.{KnownReply, KnownStage, Leave, NamesAgree, NodeKey, NodePlace, None, Option, Reply, Some, Stage, ap}
+use Rattle.alike_plays.proofs.Common.{leave_renamed, made_of, made_renamed, object_renamed, option_map, place_renamed, refl}
+use Rattle.alike_plays.proofs.Common.{reply_renamed, subst, sym, tells_made, ℕ, ◌∙◌, ◌≡◌}
+use Rattle.sm_names.proofs.ListLaws.{In-map-back, map-In}
 
 module _ (to again : NodeKey → NodeKey) (id later number next : ℕ → ℕ) (Key Other : NodeKey → Type 0)
     (Id Next Num Count : ℕ → Type 0) (agree : NamesAgree to again id later number next Key Other Id Next Num Count) where

@@ -1,12 +1,8 @@
 -- With what is left of its objects an actor parts in their order.
-use Rattle.std.proofs.Common.{ℕ, zero, suc, ◌≡◌, inl, inr, refl, ap, sym, ◌∙◌, Bool, true, false, cond}
-use Rattle.std.proofs.Common.{List, [], ◌∷◌, ◌++◌, map, drop, Option, Some, None, slice_get}
-use Rattle.std.proofs.lemmas.List.{append-nil, append_assoc}
-use Rattle.std.proofs.lemmas.Grind.{flat_map-append}
-use Rattle.std.specs.List.{flat_map}
-use Rattle.sm_names.proofs.ListLaws.{In, In-append}
-use Rattle.actor_scripts.specs.declared.object.ActorObject.{ActorObject}
-use Rattle.actor_plays.specs.Leaves.{all_objects}
+use Rattle.alike_plays.proofs.Common.{ActorObject, Bool, In, In-append, List, None, Option, Some, [], all_objects, ap, append-nil, cond}
+use Rattle.alike_plays.proofs.Common.{drop, false, flat_map, flat_map-append, inl, inr, map, refl, slice_get, suc, sym, true, zero, ℕ}
+use Rattle.alike_plays.proofs.Common.{◌++◌, ◌∙◌, ◌∷◌, ◌≡◌}
+use Rattle.std.proofs.lemmas.List.{append_assoc}
 use Rattle.alike_plays.proofs.VanishLaws.{is_collection, is_end, is_handle, is_token, picked, picked_there}
 
 -- ---- which objects pass a test

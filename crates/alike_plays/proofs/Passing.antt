@@ -1,34 +1,18 @@
 -- Passes of several actors, one after another, and turns between them.
-use Rattle.std.proofs.Common.{ℕ, zero, suc, ◌≡◌, ◌+◌, ◌⊎◌, inl, inr, refl, ap, sym, subst, ◌∙◌, Bool, true, false, cond}
-use Rattle.std.proofs.Common.{◌==◌, ◌&&◌, ◌||◌, not, List, [], ◌∷◌, ◌++◌, map, Option, Some, None, is_some, slice_get, slice_set}
-use Rattle.std.proofs.lemmas.Bool.{eq-eqb, eqb-true}
+use Rattle.alike_plays.proofs.Common.{AreStages, Asks, Bool, Call, Calls, Fell, Fired, GoneNode, Known, Leave, Leaves, List, Makes, None}
+use Rattle.alike_plays.proofs.Common.{Option, PassOn, Passes, Plan, Planned, Position, Reply, Rests, Setup, Some, Stage, State, Step, []}
+use Rattle.alike_plays.proofs.Common.{ap, both_ways, cond, either_way, eq-eqb, eqb-true, falls_at, false, flat_map, get-other, has_fired}
+use Rattle.alike_plays.proofs.Common.{inl, inr, is_silent, is_some, left, left_at, map, next_step, not, option_and_then, option_map}
+use Rattle.alike_plays.proofs.Common.{option_map_or, or_left, passed, polls, refl, slice_get, slice_set, some-injective, stage_after}
+use Rattle.alike_plays.proofs.Common.{step_call, steps_of, subst, suc, sym, total, true, zero, ℕ, ◌&&◌, ◌++◌, ◌+◌, ◌==◌, ◌||◌, ◌∙◌, ◌∷◌}
+use Rattle.alike_plays.proofs.Common.{◌≡◌, ◌⊎◌}
 use Rattle.std.proofs.lemmas.List.{set_comm}
 use Rattle.std.proofs.lemmas.List.Folds.{list_any-append}
-use Rattle.std.specs.List.{flat_map}
-use Rattle.std.specs.Option.{option_and_then, option_map, option_map_or}
-use Rattle.sm_names.specs.declared.messages.Call.{Call}
-use Rattle.sm_names.specs.declared.messages.Reply.{Reply}
-use Rattle.sm_names.specs.declared.tracking.Fired.{Fired}
-use Rattle.sm_names.proofs.SamenessLaws.{both_ways, either_way, or_left, some-injective}
-use Rattle.buffer_holds.specs.Counts.{total}
 use Rattle.trackers.specs.declared.waiting.Waiting.{Waiting}
 use Rattle.trackers.specs.Table.{TrackerTable, firings}
 use Rattle.core_state.specs.Reads.{world_in}
-use Rattle.core_state.specs.State.{State}
 use Rattle.core_state.specs.Steps.{GainsTracker, tracker_by}
-use Rattle.core_state.specs.Theorem.{Makes}
-use Rattle.forced_marks.specs.Marks.{AreStages}
-use Rattle.actor_scripts.specs.declared.step.Step.{Step}
-use Rattle.actor_scripts.specs.ActorStates.{Known, step_call}
-use Rattle.explore_model.specs.declared.plan.Plan.{Plan}
-use Rattle.explore_model.specs.declared.plan.Planned.{Planned}
-use Rattle.actor_plays.specs.declared.falls.GoneNode.{GoneNode}
-use Rattle.actor_plays.specs.Fates.{falls_at}
-use Rattle.actor_plays.specs.Leaves.{Leave}
-use Rattle.explore_model.specs.Plans.{steps_of}
-use Rattle.actor_plays.specs.Plays.{Stage, has_fired, is_silent, left, next_step, passed, polls, stage_after}
-use Rattle.actor_plays.specs.Positions.{Asks, Calls, Fell, Leaves, PassOn, Passes, Position, Rests, Setup, left_at}
-use Rattle.actor_plays.proofs.PositionLaws.{get-other, rests_on, rests_stay}
+use Rattle.actor_plays.proofs.PositionLaws.{rests_on, rests_stay}
 
 -- ---- lists
 

@@ -1,15 +1,7 @@
 -- The actors of alike plays, place by place.
-use Rattle.std.proofs.Common.{ℕ, zero, suc, ◌≡◌, inl, inr, refl, subst, ◌∙◌, List, [], ◌∷◌, map}
-use Rattle.std.proofs.Common.{Option, Some, None, slice_get, slice_set}
-use Rattle.std.specs.Option.{option_map}
-use Rattle.sm_names.specs.declared.keys.NodeKey.{NodeKey}
-use Rattle.sm_names.proofs.ListLaws.{In}
-use Rattle.sm_names.proofs.SamenessLaws.{some-injective}
-use Rattle.actor_plays.specs.Leaves.{Leave}
-use Rattle.actor_plays.specs.Plays.{Stage}
-use Rattle.actor_plays.specs.Positions.{left_at}
-use Rattle.alike_plays.specs.Actors.{AreAlikeStages, leave_renamed}
-use Rattle.alike_plays.specs.AlikePlays.{AreAlikeAll}
+use Rattle.alike_plays.proofs.Common.{AreAlikeAll, AreAlikeStages, In, Leave, List, NodeKey, None, Option, Some, Stage, [], inl, inr}
+use Rattle.alike_plays.proofs.Common.{leave_renamed, left_at, map, option_map, refl, slice_get, slice_set, some-injective, subst, suc}
+use Rattle.alike_plays.proofs.Common.{zero, ℕ, ◌∙◌, ◌∷◌, ◌≡◌}
 
 module _ (to : NodeKey → NodeKey) (id number : ℕ → ℕ) where
   -- By the place.

@@ -1,24 +1,13 @@
 -- What holds wherever a play comes.
-use Rattle.std.proofs.Common.{ℕ, ◌≡◌, ◌≤◌, inl, inr, sym, subst, true, List, [], ◌∷◌, ◌++◌, slice_set}
-use Rattle.std.specs.List.{flat_map}
-use Rattle.sm_names.specs.declared.keys.NodeKey.{NodeKey}
-use Rattle.sm_names.specs.declared.messages.Call.{Call}
-use Rattle.sm_names.specs.declared.messages.Reply.{Reply}
-use Rattle.sm_names.specs.Marks.{Entry}
-use Rattle.sm_names.proofs.ListLaws.{In, In-append, In-map}
-use Rattle.forest_store.specs.Forest.{given}
-use Rattle.core_state.specs.Shown.{Shows}
-use Rattle.core_state.specs.State.{State}
-use Rattle.core_state.specs.Theorem.{Makes}
+use Rattle.alike_plays.proofs.Common.{Asks, Begins, Call, Calls, Entry, Fell, Goes, GoneNode, In, In-append, In-map, KnownCall, KnownGone}
+use Rattle.alike_plays.proofs.Common.{KnownReply, KnownStage, Leaves, List, Makes, NodeKey, Passes, Position, Reached, Reply, Setup}
+use Rattle.alike_plays.proofs.Common.{Shows, Stage, State, Turn, [], falls_at, first_stage, flat_map, given, inl, inr, joins, keys_stay}
+use Rattle.alike_plays.proofs.Common.{left, passed, slice_set, stage_after, subst, sym, true, ℕ, ◌++◌, ◌∷◌, ◌≡◌, ◌≤◌}
 use Rattle.core_state.proofs.theorem.GoesOn.{goes_on}
-use Rattle.actor_plays.specs.declared.falls.GoneNode.{GoneNode}
-use Rattle.explore_model.specs.declared.found.Turn.{Turn}
-use Rattle.actor_plays.specs.Fates.{AreFalls, falls_at}
-use Rattle.actor_plays.specs.Plays.{Plays, Stage, first_stage, joins, left, passed, stage_after}
-use Rattle.actor_plays.specs.Positions.{Asks, Begins, Calls, Fell, Goes, Leaves, Passes, Position, Reached, Setup}
-use Rattle.alike_cores.proofs.Learning.{events_stay, keys_stay, reply_known}
+use Rattle.actor_plays.specs.Fates.{AreFalls}
+use Rattle.actor_plays.specs.Plays.{Plays}
+use Rattle.alike_cores.proofs.Learning.{events_stay, reply_known}
 use Rattle.alike_cores.proofs.Told.{Tells}
-use Rattle.alike_plays.specs.Names.{KnownCall, KnownGone, KnownReply, KnownStage}
 use Rattle.alike_plays.proofs.EventFalls.{event_known}
 use Rattle.alike_plays.proofs.Names.{at_in, step_known}
 use Rattle.alike_plays.proofs.NamesAfter.{In-set}

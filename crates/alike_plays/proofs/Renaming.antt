@@ -1,15 +1,11 @@
 -- Names that are moved for what is new agree with those from before on all that was known.
-use Rattle.std.proofs.Common.{ℕ, ◌≡◌, ◌≤◌, ◌+◌, ◌⊎◌, inl, inr, refl, ap, sym, subst, ◌∙◌, true, false, ◌==◌}
-use Rattle.std.proofs.Common.{List, [], Option, Some, None, arith}
-use Rattle.std.proofs.lemmas.Bool.{eqb-true}
-use Rattle.sm_names.specs.declared.keys.BufferName.{BufferName}
-use Rattle.sm_names.specs.declared.keys.NodeKey.{NodeKey}
-use Rattle.sm_names.specs.Sameness.{same_key}
-use Rattle.sm_names.proofs.SamenessLaws.{both_ways, either_way, false_if, same_key-refl, same_key-true, some-injective}
-use Rattle.alike_cores.specs.Alike.{KeepsIds}
-use Rattle.alike_cores.specs.Renamed.{KeepsKeys, buffer_renamed}
-use Rattle.alike_cores.proofs.Moving.{keys_back, keys_moved, keys_same, keys_there, number_back, number_moved, number_same, number_there}
-use Rattle.alike_plays.specs.Names.{NamesAgree}
+use Rattle.alike_plays.proofs.Common.{BufferName, KeepsIds, KeepsKeys, List, NamesAgree, NodeKey, None, Option, Some, [], ap, both_ways}
+use Rattle.alike_plays.proofs.Common.{buffer_renamed, either_way, eqb-true, false, inl, inr, keys_moved, keys_same, number_moved}
+use Rattle.alike_plays.proofs.Common.{number_there, refl, same_key, same_key-refl, same_key-true, some-injective, subst, sym, true, ℕ}
+use Rattle.alike_plays.proofs.Common.{◌+◌, ◌==◌, ◌∙◌, ◌≡◌, ◌≤◌, ◌⊎◌}
+use Rattle.std.proofs.Common.{arith}
+use Rattle.sm_names.proofs.SamenessLaws.{false_if}
+use Rattle.alike_cores.proofs.Moving.{keys_back, keys_there, number_back, number_same}
 
 -- ---- keys
 

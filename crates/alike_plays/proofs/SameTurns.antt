@@ -1,12 +1,9 @@
 -- Plays by the same turns are alike, and closed ways are closed positions.
-use Rattle.std.proofs.Common.{ℕ, ◌≡◌, ◌⊎◌, inl, inr, refl, ap, sym, subst, List, [], ◌∷◌, ◌++◌}
-use Rattle.std.proofs.lemmas.Option.{slice_get_within}
-use Rattle.sm_names.proofs.ListLaws.{In}
-use Rattle.explore_model.specs.declared.found.Turn.{Turn}
-use Rattle.actor_plays.specs.Positions.{Asks, Begins, Calls, HasToWait, Leaves, PassOn, Passes, Position, Reached, ReachedBy}
-use Rattle.actor_plays.specs.Positions.{Rests, Setup}
-use Rattle.actor_plays.proofs.PositionLaws.{all_rest, by_turns, further, reached_on}
-use Rattle.alike_plays.specs.Closed.{IsClosed, IsMet, IsSimulation}
+use Rattle.alike_plays.proofs.Common.{Asks, Begins, Calls, HasToWait, In, IsClosed, IsMet, IsSimulation, Leaves, List, PassOn, Passes}
+use Rattle.alike_plays.proofs.Common.{Position, Reached, Rests, Setup, Turn, [], all_rest, ap, further, inl, inr, reached_on, refl}
+use Rattle.alike_plays.proofs.Common.{slice_get_within, subst, sym, ℕ, ◌++◌, ◌∷◌, ◌≡◌, ◌⊎◌}
+use Rattle.actor_plays.specs.Positions.{ReachedBy}
+use Rattle.actor_plays.proofs.PositionLaws.{by_turns}
 use Rattle.alike_plays.specs.Ways.{AreClosedWays, IsAt, IsCallTried, LeadsBack}
 use Rattle.alike_plays.proofs.Closing.{rested_met}
 use Rattle.alike_plays.proofs.Passing.{call_on, leave_on, meets}

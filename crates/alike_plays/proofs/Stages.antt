@@ -1,27 +1,12 @@
 -- Which names an actor knows where it is, and that it never asks to join.
-use Rattle.std.proofs.Common.{ℕ, ◌≡◌, ◌==◌, ◌+◌, ◌-◌, inl, inr, refl, ap, sym, subst, ◌∙◌, Bool, true, false, cond}
-use Rattle.std.proofs.Common.{List, [], ◌∷◌, ◌++◌, Option, Some, None, slice_get}
-use Rattle.std.specs.List.{flat_map}
-use Rattle.std.specs.Option.{option_map, option_map_or}
-use Rattle.sm_names.specs.declared.keys.BufferName.{BufferName}
-use Rattle.sm_names.specs.declared.keys.NodeKey.{NodeKey}
-use Rattle.sm_names.specs.declared.messages.Call.{Call}
-use Rattle.sm_names.specs.declared.messages.Reply.{Reply}
-use Rattle.sm_names.specs.Ends.{joined_at}
-use Rattle.sm_names.specs.Marks.{Called}
-use Rattle.sm_names.proofs.ListLaws.{In, In-append}
-use Rattle.sm_names.proofs.SamenessLaws.{some-injective}
-use Rattle.actor_scripts.specs.declared.object.ActorObject.{ActorObject}
-use Rattle.actor_scripts.specs.declared.object.StepCall.{StepCall}
-use Rattle.actor_scripts.specs.declared.step.Step.{Step}
-use Rattle.actor_scripts.specs.ActorStates.{Fits, FitsThere, Known, call_at, is_bound, new_objects, node_label}
-use Rattle.actor_scripts.specs.ActorStates.{object_at, step_call, tracker_label}
-use Rattle.actor_scripts.proofs.FitLaws.{fits_step}
-use Rattle.explore_model.specs.declared.plan.Planned.{Planned}
-use Rattle.actor_plays.specs.Leaves.{Leave, all_objects, leave_after, leave_call, vanishing_call}
-use Rattle.actor_plays.specs.Plays.{Stage, first_stage, leaves_by, left, passed, stage_after}
+use Rattle.alike_plays.proofs.Common.{ActorObject, Bool, BufferName, Call, Called, Fits, FitsThere, In, In-append, Known, KnownActor}
+use Rattle.alike_plays.proofs.Common.{KnownCall, KnownObject, KnownReply, KnownStage, Leave, List, NodeKey, None, Option, Planned, Reply}
+use Rattle.alike_plays.proofs.Common.{Some, Stage, Step, StepCall, [], all_objects, ap, call_at, cond, false, first_stage, fits_step}
+use Rattle.alike_plays.proofs.Common.{flat_map, inl, inr, is_bound, joined_at, leave_after, leave_call, leaves_by, left, new_objects}
+use Rattle.alike_plays.proofs.Common.{node_label, object_at, option_map, option_map_or, passed, refl, slice_get, some-injective}
+use Rattle.alike_plays.proofs.Common.{stage_after, step_call, subst, sym, tracker_label, true, vanishing_call, ℕ, ◌++◌, ◌+◌, ◌-◌, ◌==◌}
+use Rattle.alike_plays.proofs.Common.{◌∙◌, ◌∷◌, ◌≡◌}
 use Rattle.alike_cores.proofs.Known.{In-flat}
-use Rattle.alike_plays.specs.Names.{KnownActor, KnownCall, KnownObject, KnownReply, KnownStage}
 use Rattle.alike_plays.proofs.VanishLaws.{is_collection, is_end, is_handle, is_token, parts_with, picked, picked_there}
 use Rattle.alike_plays.proofs.Names.{at_in}
 use Rattle.alike_plays.proofs.NamesAfter.{after_known, gives_known}

@@ -1,43 +1,16 @@
 -- Turns of plays that are alike.
-use Rattle.std.proofs.Common.{ℕ, ◌≡◌, ◌≤◌, ◌+◌, refl, ap, sym, subst, ◌∙◌, true, ◌||◌}
-use Rattle.std.proofs.Common.{List, ◌++◌, map, Option, Some, None, is_some, slice_set}
-use Rattle.std.specs.List.{flat_map}
-use Rattle.std.specs.Option.{option_map}
-use Rattle.sm_names.specs.declared.keys.NodeKey.{NodeKey}
-use Rattle.sm_names.specs.declared.messages.Call.{Call}
-use Rattle.sm_names.specs.declared.messages.Reply.{Reply}
-use Rattle.sm_names.specs.Answers.{new_key}
-use Rattle.sm_names.specs.Ends.{joined_at}
-use Rattle.sm_names.specs.Marks.{Called, Entry}
-use Rattle.sm_names.specs.Timelines.{buffer_of}
-use Rattle.sm_names.proofs.ListLaws.{In}
-use Rattle.sm_names.proofs.SamenessLaws.{map-None, some-injective}
-use Rattle.forest_store.specs.Forest.{given}
-use Rattle.core_state.specs.Shown.{Shows}
-use Rattle.core_state.specs.State.{State}
-use Rattle.core_state.specs.Steps.{Follows}
-use Rattle.core_state.specs.Theorem.{Makes}
-use Rattle.forced_marks.specs.Marks.{AreStages, Stage as Marked}
-use Rattle.actor_scripts.specs.declared.object.StepCall.{StepCall}
-use Rattle.actor_scripts.specs.ActorStates.{step_call}
-use Rattle.explore_model.specs.declared.plan.Planned.{Planned}
-use Rattle.actor_plays.specs.declared.falls.GoneNode.{GoneNode}
-use Rattle.actor_plays.specs.Fates.{falls_at}
-use Rattle.actor_plays.specs.Leaves.{Leave}
-use Rattle.actor_plays.specs.Plays.{Stage, left, passed, polls, stage_after}
-use Rattle.actor_plays.specs.Positions.{Asks, Calls, Goes, Leaves, Passes, Position, Rests, Setup}
-use Rattle.alike_cores.specs.Alike.{call_renamed, reply_renamed}
-use Rattle.alike_cores.specs.Renamed.{buffer_renamed}
+use Rattle.alike_plays.proofs.Common.{AreAlikeAll, AreAlikeCores, AreAlikePlays, AreAlikeStages, AreStages, Asks, Call, Called, Calls}
+use Rattle.alike_plays.proofs.Common.{Entry, FellAlike, Follows, Goes, GoneNode, In, KnownCall, KnownGone, Leave, Leaves, List, Makes}
+use Rattle.alike_plays.proofs.Common.{NamesOld, NodeKey, None, Option, Passes, Planned, Position, Reply, Rests, Setup, Shows, Some, Stage}
+use Rattle.alike_plays.proofs.Common.{State, StepCall, ap, asked_renamed, buffer_of, buffer_renamed, call_renamed, falls_at, fired-alike}
+use Rattle.alike_plays.proofs.Common.{flat_map, given, gone_renamed, is_some, joined_at, keys_moved, leave_renamed, left, map, new_key}
+use Rattle.alike_plays.proofs.Common.{number_kept, number_moved, option_map, passed, polls, refl, reply_renamed, shown_sound, slice_set}
+use Rattle.alike_plays.proofs.Common.{some-injective, stage_after, step_call, subst, sym, true, ℕ, ◌++◌, ◌+◌, ◌||◌, ◌∙◌, ◌≡◌, ◌≤◌}
+use Rattle.sm_names.proofs.SamenessLaws.{map-None}
+use Rattle.forced_marks.specs.Marks.{Stage as Marked}
 use Rattle.alike_cores.proofs.Answering.{key-renamed}
-use Rattle.alike_cores.specs.Cores.{AreAlikeCores, NamesOld}
 use Rattle.alike_cores.proofs.Progress.{alike_again, fresh, goes_on_named, same_call}
-use Rattle.alike_cores.proofs.Moving.{keys_kept, keys_moved, number_kept, number_moved}
-use Rattle.alike_cores.proofs.Shown.{shown_sound}
-use Rattle.alike_cores.proofs.Views.{fired-alike}
-use Rattle.alike_plays.specs.Actors.{AreAlikeStages, asked_renamed, leave_renamed}
-use Rattle.alike_plays.specs.AlikePlays.{AreAlikeAll, AreAlikePlays}
-use Rattle.alike_plays.specs.Names.{KnownCall, KnownGone}
-use Rattle.alike_plays.specs.Falls.{FellAlike, gone_renamed}
+use Rattle.alike_cores.proofs.Moving.{keys_kept}
 use Rattle.alike_plays.proofs.Asking.{asks-alike}
 use Rattle.alike_plays.proofs.EventFalls.{event_falls}
 use Rattle.alike_plays.proofs.Falling.{both-fell, fallen-renamed}

@@ -1,21 +1,8 @@
 -- Which turns are left in plays that are alike.
-use Rattle.std.proofs.Common.{ℕ, ◌≡◌, ◌≤◌, refl, ap, sym, subst, ◌∙◌, Bool, true, ◌&&◌, Option, Some, None, is_some, slice_get}
-use Rattle.std.specs.Option.{option_map}
-use Rattle.sm_names.specs.declared.messages.Call.{Call}
-use Rattle.sm_names.specs.Answers.{answer}
-use Rattle.sm_names.proofs.SamenessLaws.{map-Some}
-use Rattle.forest_store.specs.Forest.{given}
-use Rattle.forest_store.specs.Settling.{no_key}
-use Rattle.core_state.specs.Reads.{readings_of}
-use Rattle.actor_scripts.specs.declared.object.StepCall.{StepCall}
-use Rattle.actor_scripts.specs.ActorStates.{step_call}
-use Rattle.actor_plays.specs.Plays.{Stage, is_wait, leaves_by}
-use Rattle.actor_plays.specs.Positions.{Asks, Position, Setup}
-use Rattle.alike_cores.specs.Alike.{call_renamed}
-use Rattle.alike_plays.specs.Actors.{asked_renamed}
-use Rattle.alike_plays.specs.Ahead.{AreAlikeAhead, ahead, ahead_of}
-use Rattle.alike_plays.specs.Names.{KnownCall}
-use Rattle.alike_plays.specs.AlikePlays.{AreAlikePlays}
+use Rattle.alike_plays.proofs.Common.{AreAlikeAhead, AreAlikePlays, Asks, Bool, Call, KnownCall, None, Option, Position, Setup, Some}
+use Rattle.alike_plays.proofs.Common.{Stage, StepCall, ahead, ahead_of, answer, ap, asked_renamed, call_renamed, given, is_some, is_wait}
+use Rattle.alike_plays.proofs.Common.{leaves_by, map-Some, no_key, option_map, readings_of, refl, slice_get, step_call, subst, sym, true}
+use Rattle.alike_plays.proofs.Common.{ℕ, ◌&&◌, ◌∙◌, ◌≡◌, ◌≤◌}
 use Rattle.alike_plays.proofs.Ahead.{leaves-same}
 use Rattle.alike_plays.proofs.AheadActors.{both_at, seen_ahead}
 use Rattle.alike_plays.proofs.AheadTurns.{asks_from, asks_to}

@@ -1,28 +1,13 @@
 -- How actors that are alike leave, and go on.
-use Rattle.std.proofs.Common.{ℕ, ◌≡◌, ◌+◌, ◌-◌, ◌==◌, ◌&&◌, refl, ap, sym, ◌∙◌, Bool, true, false, cond, not}
-use Rattle.std.proofs.Common.{List, [], ◌∷◌, ◌++◌, map, Option, Some, None, is_some, slice_get}
-use Rattle.std.proofs.lemmas.List.{map-append}
-use Rattle.std.proofs.lemmas.Option.{slice_get-map}
-use Rattle.std.specs.List.{flat_map}
+use Rattle.alike_plays.proofs.Common.{ActorObject, AreAlikeKnown, AreAlikeStages, Bool, Call, Fired, KeepsIds, KeepsKeys, Known, Leave}
+use Rattle.alike_plays.proofs.Common.{List, NodeKey, None, Option, Plan, Planned, Reply, Some, Stage, Step, StepCall, [], all_objects, ap}
+use Rattle.alike_plays.proofs.Common.{asked_renamed, call_renamed, cond, false, flat_map, has_fired, is_silent, is_some, leave_after}
+use Rattle.alike_plays.proofs.Common.{leave_call, leave_renamed, leaves_by, left, made_of, made_renamed, map, map-append, new_objects}
+use Rattle.alike_plays.proofs.Common.{next_step, not, object_renamed, option_and_then, option_map, option_map_or, passed, polls, refl}
+use Rattle.alike_plays.proofs.Common.{reply_renamed, slice_get, slice_get-map, stage_after, steps_of, sym, tells_made, true}
+use Rattle.alike_plays.proofs.Common.{vanishing_call, ℕ, ◌&&◌, ◌++◌, ◌+◌, ◌-◌, ◌==◌, ◌∙◌, ◌∷◌, ◌≡◌}
 use Rattle.std.proofs.lemmas.List.Elements.{filter-append}
-use Rattle.std.specs.Option.{option_and_then, option_map, option_map_or}
-use Rattle.sm_names.specs.declared.keys.NodeKey.{NodeKey}
-use Rattle.sm_names.specs.declared.messages.Call.{Call}
-use Rattle.sm_names.specs.declared.messages.Reply.{Reply}
-use Rattle.sm_names.specs.declared.tracking.Fired.{Fired}
-use Rattle.actor_scripts.specs.declared.object.ActorObject.{ActorObject}
-use Rattle.actor_scripts.specs.declared.object.StepCall.{StepCall}
-use Rattle.actor_scripts.specs.declared.step.Step.{Step}
-use Rattle.actor_scripts.specs.ActorStates.{Known, new_objects}
-use Rattle.explore_model.specs.declared.plan.Plan.{Plan}
-use Rattle.explore_model.specs.declared.plan.Planned.{Planned}
-use Rattle.actor_plays.specs.Leaves.{Leave, all_objects, leave_after, leave_call, vanishing_call, waiting_told}
-use Rattle.explore_model.specs.Plans.{steps_of}
-use Rattle.actor_plays.specs.Plays.{Stage, has_fired, is_silent, leaves_by, left, next_step, passed, polls, stage_after}
-use Rattle.alike_cores.specs.Alike.{KeepsIds, call_renamed, reply_renamed}
-use Rattle.alike_cores.specs.Renamed.{KeepsKeys}
-use Rattle.alike_plays.specs.Actors.{AreAlikeKnown, AreAlikeStages, asked_renamed, leave_renamed, made_of, made_renamed}
-use Rattle.alike_plays.specs.Actors.{object_renamed, tells_made}
+use Rattle.actor_plays.specs.Leaves.{waiting_told}
 use Rattle.alike_plays.proofs.Knowing.{gives-renamed, knows-alike}
 
 -- ---- with what an actor parts

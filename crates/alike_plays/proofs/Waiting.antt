@@ -1,24 +1,12 @@
 -- Cores that are alike have something there for a call, or both have nothing.
-use Rattle.std.proofs.Common.{ℕ, ◌≡◌, ◌+◌, refl, ap, sym, ◌∙◌, List, Some}
-use Rattle.sm_names.specs.declared.keys.NodeKey.{NodeKey}
-use Rattle.sm_names.specs.declared.messages.Call.{Call}
-use Rattle.sm_names.specs.declared.messages.Reply.{Reply}
-use Rattle.sm_names.specs.Answers.{answer}
+use Rattle.alike_plays.proofs.Common.{AreAlikeCores, Call, Entry, KeepsIds, KeepsKeys, List, NamesOld, NodeKey, Reply, Shows, Some, State}
+use Rattle.alike_plays.proofs.Common.{answer, ap, call_renamed, is_wait, no_key, number_kept, number_moved, number_there, readings_of}
+use Rattle.alike_plays.proofs.Common.{refl, reply_renamed, sym, ℕ, ◌+◌, ◌∙◌, ◌≡◌}
 use Rattle.sm_names.specs.Bounds.{Bound}
-use Rattle.sm_names.specs.Marks.{Entry}
-use Rattle.forest_store.specs.Settling.{no_key}
-use Rattle.core_state.specs.Reads.{readings_of}
-use Rattle.core_state.specs.Shown.{Shows}
-use Rattle.core_state.specs.State.{State}
 use Rattle.core_state.specs.Tasks.{with_key}
-use Rattle.actor_plays.specs.Plays.{is_wait}
-use Rattle.alike_cores.specs.Alike.{KeepsIds, call_renamed, reply_renamed}
-use Rattle.alike_cores.specs.Renamed.{KeepsKeys}
-use Rattle.alike_cores.specs.Cores.{AreAlikeCores, NamesOld}
 use Rattle.alike_cores.proofs.Agreeing.{agree, ids_agree}
 use Rattle.alike_cores.proofs.Progress.{call-agrees}
 use Rattle.alike_cores.proofs.Keys.{answer-keyed}
-use Rattle.alike_cores.proofs.Moving.{number_kept, number_moved, number_there}
 use Rattle.alike_cores.proofs.Shown.{answers_alike}
 
 -- By the reply.

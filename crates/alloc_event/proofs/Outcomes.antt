@@ -1,5 +1,5 @@
 -- What an answer tells where a change was made.
-use Rattle.alloc_event.proofs.Common.{◌≡◌, true, refl, Result, Ok, Err}
+use Rattle.alloc_event.proofs.Common.{Err, Ok, Result, refl, true, ◌≡◌}
 use Rattle.std.proofs.Common.{OnOk, is_ok}
 
 -- what an answer tells where it was made

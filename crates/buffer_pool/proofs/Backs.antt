@@ -1,11 +1,11 @@
 -- How the holes change as an interval is given back.
-use Rattle.buffer_pool.proofs.Common.{Bool, Contains, HasRun, Interval, IsPoolSound, MAX_PAGES, [], add-one, and_parts, ap, append-nil}
-use Rattle.buffer_pool.proofs.Common.{arith, cases_Bool, cases_lt, end_of, eq-eqb, eqb-true, false, first_begins, gap, get_or, holes_from}
-use Rattle.buffer_pool.proofs.Common.{holes_of, in_order, in_run, inl, inr, le-ltb, leb-true, length, lt-ltb, ltb-true, nat_lt, ne_eqb}
-use Rattle.buffer_pool.proofs.Common.{not, refl, spaced, subst, suc, suc-mul, sum_by-cons, sym, total_pages, true, with_merged}
-use Rattle.buffer_pool.proofs.Common.{with_released, without, without_run, zero, ℕ, ◌*◌, ◌++◌, ◌+◌, ◌-◌, ◌<◌, ◌==◌, ◌∙◌, ◌∷◌, ◌≡◌, ◌≤◌}
-use Rattle.std.proofs.Common.{◌&&◌, List}
-use Rattle.std.specs.Prelude.{All}
+use Rattle.buffer_pool.proofs.Common.{All, Bool, Contains, HasRun, Interval, IsPoolSound, List, MAX_PAGES, [], add-one, and_parts, ap}
+use Rattle.buffer_pool.proofs.Common.{append-nil, arith, cases_Bool, cases_lt, end_of, eq-eqb, eqb-true, false, first_begins, gap, get_or}
+use Rattle.buffer_pool.proofs.Common.{holes_from, holes_of, in_order, in_run, inl, inr, le-ltb, leb-true, length, lt-ltb, ltb-true}
+use Rattle.buffer_pool.proofs.Common.{nat_lt, ne_eqb, not, refl, spaced, subst, suc, suc-mul, sum_by-cons, sym, total_pages, true}
+use Rattle.buffer_pool.proofs.Common.{with_merged, with_released, without, without_run, zero, ℕ, ◌*◌, ◌++◌, ◌+◌, ◌-◌, ◌<◌, ◌==◌, ◌∙◌, ◌∷◌}
+use Rattle.buffer_pool.proofs.Common.{◌≡◌, ◌≤◌}
+use Rattle.std.proofs.Common.{◌&&◌}
 use Rattle.std.proofs.lemmas.Bool.{not-true}
 use Rattle.buffer_pool.proofs.Orders.{first_in_order, in_order-cons, in_order-wider, in_order-at, without-later}
 use Rattle.buffer_pool.proofs.Keeping.{gaps_of, lists_of}

@@ -1,10 +1,9 @@
 -- What stays true of blocks that change.
-use Rattle.buffer_pool.proofs.Common.{All-drop, All-set, All-take, AreBlocks, Interval, [], all_in, ap, arith, cases_lt, drop}
+use Rattle.buffer_pool.proofs.Common.{All-drop, All-set, All-take, AreBlocks, Interval, List, [], all_in, ap, arith, cases_lt, drop}
 use Rattle.buffer_pool.proofs.Common.{drop-set-lt, get_or, get_or-set_same, inl, inr, insert, length, length-insert, length-remove}
-use Rattle.buffer_pool.proofs.Common.{length-take-le, nil_from_length, refl, remove, set, subst, suc, sym, take, take-set, ℕ, ◌++◌, ◌+◌}
-use Rattle.buffer_pool.proofs.Common.{◌<◌, ◌∙◌, ◌∷◌, ◌≡◌, ◌≤◌}
-use Rattle.std.proofs.Common.{List}
-use Rattle.std.proofs.lemmas.List.{length-set, length_push}
+use Rattle.buffer_pool.proofs.Common.{length-set, length-take-le, nil_from_length, refl, remove, set, subst, suc, sym, take, take-set, ℕ}
+use Rattle.buffer_pool.proofs.Common.{◌++◌, ◌+◌, ◌<◌, ◌∙◌, ◌∷◌, ◌≡◌, ◌≤◌}
+use Rattle.std.proofs.lemmas.List.{length_push}
 use Rattle.std.proofs.lemmas.List.Elements.{All-append, All-cons, All-push}
 use Rattle.buffer_pool.proofs.Joins.{without_none, take-remove}
 

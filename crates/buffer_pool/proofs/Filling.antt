@@ -1,12 +1,10 @@
 -- What stays true while buffers are placed block after block.
-use Rattle.buffer_pool.proofs.Common.{All-drop, All-take, Interval, IsPassed, IsSane, MAX_PAGES, Reach, [], all_in, ap, arith, cases_lt}
-use Rattle.buffer_pool.proofs.Common.{drop, drop-set-lt, drop_at, drop_more, get_or, get_or-set_same, holes_after, inl, inr, length}
-use Rattle.buffer_pool.proofs.Common.{length-remove, length-take-le, looks_in, min, mul-add, mul-le-mul_left, refl, remove, rooms, set}
-use Rattle.buffer_pool.proofs.Common.{starts_in, subst, suc, sym, take, take-set, take-set-le, zero, ℕ, ◌*◌, ◌++◌, ◌+◌, ◌-◌, ◌<◌, ◌∙◌}
-use Rattle.buffer_pool.proofs.Common.{◌∷◌, ◌≡◌, ◌≤◌}
-use Rattle.std.proofs.Common.{List}
-use Rattle.std.specs.Prelude.{All}
-use Rattle.std.proofs.lemmas.List.{take_at, take_all, length-set}
+use Rattle.buffer_pool.proofs.Common.{All, All-drop, All-take, Interval, IsPassed, IsSane, List, MAX_PAGES, Reach, [], all_in, ap, arith}
+use Rattle.buffer_pool.proofs.Common.{cases_lt, drop, drop-set-lt, drop_at, drop_more, get_or, get_or-set_same, holes_after, inl, inr}
+use Rattle.buffer_pool.proofs.Common.{length, length-remove, length-set, length-take-le, looks_in, min, mul-add, mul-le-mul_left, refl}
+use Rattle.buffer_pool.proofs.Common.{remove, rooms, set, starts_in, subst, suc, sym, take, take-set, take-set-le, zero, ℕ, ◌*◌, ◌++◌}
+use Rattle.buffer_pool.proofs.Common.{◌+◌, ◌-◌, ◌<◌, ◌∙◌, ◌∷◌, ◌≡◌, ◌≤◌}
+use Rattle.std.proofs.lemmas.List.{take_at, take_all}
 use Rattle.buffer_pool.proofs.Blocking.{remove-set}
 use Rattle.buffer_pool.proofs.Joins.{parts, parts-set, before-next, within-all, without_none, take-remove}
 use Rattle.buffer_pool.proofs.Passing.{rooms-next}

@@ -1,9 +1,7 @@
 -- Searches among blocks.
-use Rattle.buffer_pool.proofs.Common.{Interval, IsNonDecreasingBy, [], all_in, ap, arith, cases_lt, drop, drop_all, false, get_or, inl}
-use Rattle.buffer_pool.proofs.Common.{inr, le-ltb, length, lt-ltb, nat_lt, prefix_len, prefix_len-le-length, prefix_len_is, sym, take}
-use Rattle.buffer_pool.proofs.Common.{true, ℕ, ◌+◌, ◌-◌, ◌<◌, ◌∙◌, ◌≡◌, ◌≤◌}
-use Rattle.std.proofs.Common.{List}
-use Rattle.std.specs.Prelude.{All}
+use Rattle.buffer_pool.proofs.Common.{All, Interval, IsNonDecreasingBy, List, [], all_in, ap, arith, cases_lt, drop, drop_all, false}
+use Rattle.buffer_pool.proofs.Common.{get_or, inl, inr, le-ltb, length, lt-ltb, nat_lt, prefix_len, prefix_len-le-length, prefix_len_is}
+use Rattle.buffer_pool.proofs.Common.{sym, take, true, ℕ, ◌+◌, ◌-◌, ◌<◌, ◌∙◌, ◌≡◌, ◌≤◌}
 use Rattle.std.proofs.lemmas.List.Sums.{prefix_len_passes, prefix_len_stops}
 use Rattle.buffer_pool.proofs.Joins.{get_in, before-next, within-all}
 

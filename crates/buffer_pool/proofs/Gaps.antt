@@ -1,9 +1,8 @@
 -- The holes between intervals in order of page.
-use Rattle.buffer_pool.proofs.Common.{Interval, [], arith, cases_lt, div-eq_of_lt, end_of, eq-eqb, false, first_fit, gap, get_or}
+use Rattle.buffer_pool.proofs.Common.{Interval, List, [], arith, cases_lt, div-eq_of_lt, end_of, eq-eqb, false, first_fit, gap, get_or}
 use Rattle.buffer_pool.proofs.Common.{holes_from, in_order, inl, inr, le-ltb, length, lt-ltb, nat_lt, ne_eqb, prefix_len, refl, rooms}
 use Rattle.buffer_pool.proofs.Common.{shortened, spaced, suc, sum_by-cons, taken, too_small, true, zero, ℕ, ◌++◌, ◌+◌, ◌-◌, ◌/◌, ◌<◌}
 use Rattle.buffer_pool.proofs.Common.{◌==◌, ◌∙◌, ◌∷◌, ◌≡◌, ◌≤◌}
-use Rattle.std.proofs.Common.{List}
 use Rattle.buffer_pool.proofs.Orders.{first_in_order, in_order-low-le}
 use Rattle.buffer_pool.proofs.Spaces.{spaced-cons, spaced-earlier}
 

@@ -1,9 +1,8 @@
 -- The holes are the greatest free intervals.
-use Rattle.buffer_pool.proofs.Common.{Contains, Interval, [], and_from, and_parts, ap, append-nil, arith, both_ways, cases_Bool, cases_lt}
-use Rattle.buffer_pool.proofs.Common.{end_of, false, gap, get_or, get_or_default, has_room, holes_from, holes_of, in_order, inl, inr}
-use Rattle.buffer_pool.proofs.Common.{le-leb, leb-true, length, meets, nat_le, refl, spaced, subst, suc, sym, true, zero, ℕ, ◌++◌, ◌+◌}
-use Rattle.buffer_pool.proofs.Common.{◌-◌, ◌<◌, ◌∙◌, ◌∷◌, ◌≡◌, ◌≤◌}
-use Rattle.std.proofs.Common.{List}
+use Rattle.buffer_pool.proofs.Common.{Contains, Interval, List, [], and_from, and_parts, ap, append-nil, arith, both_ways, cases_Bool}
+use Rattle.buffer_pool.proofs.Common.{cases_lt, end_of, false, gap, get_or, get_or_default, has_room, holes_from, holes_of, in_order, inl}
+use Rattle.buffer_pool.proofs.Common.{inr, le-leb, leb-true, length, meets, nat_le, refl, spaced, subst, suc, sym, true, zero, ℕ, ◌++◌}
+use Rattle.buffer_pool.proofs.Common.{◌+◌, ◌-◌, ◌<◌, ◌∙◌, ◌∷◌, ◌≡◌, ◌≤◌}
 use Rattle.std.proofs.lemmas.Bool.{cases_order}
 use Rattle.buffer_pool.specs.Holes.{IsHole}
 use Rattle.buffer_pool.proofs.Gaps.{gap_some, gap_none, spaced-holes}

@@ -1,7 +1,6 @@
 -- Buffers side by side, one more and the others.
-use Rattle.std.proofs.Common.{ℕ, zero, suc, ◌≡◌, ◌+◌, ◌-◌, ◌*◌, ◌<◌, ap, sym, ◌∙◌, List, [], ◌∷◌, ◌++◌, refl, length, arith, append_assoc}
-use Rattle.std.proofs.Math.Nat.{suc-mul}
-use Rattle.buffer_pool.specs.Fitting.{run_starts}
+use Rattle.buffer_pool.proofs.Common.{List, [], ap, append_assoc, arith, length, refl, run_starts, suc, suc-mul, sym, zero, ℕ, ◌*◌, ◌++◌}
+use Rattle.buffer_pool.proofs.Common.{◌+◌, ◌-◌, ◌<◌, ◌∙◌, ◌∷◌, ◌≡◌}
 
 -- a start that is pushed is the first of a run, and the starts of the others follow it
 pub starts_pushed : (xs : List ℕ) (next pages left rest : ℕ) → left ≡ suc rest →

@@ -1,12 +1,11 @@
 -- Intervals in blocks, joined to one list.
-use Rattle.buffer_pool.proofs.Common.{HALF, Interval, [], add-one, all_in, ap, append-nil, append_assoc, arith, drop, drop-set-lt}
-use Rattle.buffer_pool.proofs.Common.{drop_at, drop_more, get_or, get_or-set_same, insert, length, length-insert, length-remove}
-use Rattle.buffer_pool.proofs.Common.{length-take-le, refl, remove, set, set_split, subst, suc, sym, take, take-append-drop}
-use Rattle.buffer_pool.proofs.Common.{take-append-le, take-set, take-take, take_more, take_more_set, zero, ℕ, ◌++◌, ◌+◌, ◌-◌, ◌<◌, ◌∙◌}
-use Rattle.buffer_pool.proofs.Common.{◌∷◌, ◌≡◌, ◌≤◌}
-use Rattle.std.proofs.Common.{List}
+use Rattle.buffer_pool.proofs.Common.{HALF, Interval, List, [], add-one, all_in, ap, append-nil, append_assoc, arith, drop, drop-set-lt}
+use Rattle.buffer_pool.proofs.Common.{drop_at, drop_more, get_or, get_or-set_same, insert, length, length-append, length-insert}
+use Rattle.buffer_pool.proofs.Common.{length-remove, length-set, length-take-le, refl, remove, set, set_split, subst, suc, sym, take}
+use Rattle.buffer_pool.proofs.Common.{take-append-drop, take-append-le, take-set, take-take, take_more, take_more_set, zero, ℕ, ◌++◌, ◌+◌}
+use Rattle.buffer_pool.proofs.Common.{◌-◌, ◌<◌, ◌∙◌, ◌∷◌, ◌≡◌, ◌≤◌}
 use Rattle.std.proofs.Math.Seq.{take-append-add, drop-append-add}
-use Rattle.std.proofs.lemmas.List.{drop-append-le, length-append, length-set, set-append_left, set-append_right}
+use Rattle.std.proofs.lemmas.List.{drop-append-le, set-append_left, set-append_right}
 use Rattle.std.proofs.lemmas.List.Edits.{insert-append_left, insert-append_right, get_or-insert_below, get_or-insert_at}
 use Rattle.std.proofs.lemmas.List.Concat.{flat_map-append, get_or-flat_map}
 

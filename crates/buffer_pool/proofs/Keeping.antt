@@ -1,10 +1,8 @@
 -- What the fields of a pool give for buffers that are placed, and keep.
-use Rattle.buffer_pool.proofs.Common.{AreFirstFits, AreGaps, Interval, IsPoolSound, IsSane, MAX_PAGES, None, Some, [], and_parts, ap}
-use Rattle.buffer_pool.proofs.Common.{arith, at_pages, drop, first_fit, get_or, has_room, holes_after, holes_of, inl, inr, leb-true}
-use Rattle.buffer_pool.proofs.Common.{length, looks_for, looks_in, nat_le, places, refl, rooms, starts_in, subst, sym, taken, true}
-use Rattle.buffer_pool.proofs.Common.{with_buffers, with_interval, ℕ, ◌*◌, ◌+◌, ◌-◌, ◌<◌, ◌∙◌, ◌∷◌, ◌≡◌, ◌≤◌}
-use Rattle.std.proofs.Common.{List}
-use Rattle.std.specs.Prelude.{All}
+use Rattle.buffer_pool.proofs.Common.{All, AreFirstFits, AreGaps, Interval, IsPoolSound, IsSane, List, MAX_PAGES, None, Some, []}
+use Rattle.buffer_pool.proofs.Common.{and_parts, ap, arith, at_pages, drop, first_fit, get_or, has_room, holes_after, holes_of, inl, inr}
+use Rattle.buffer_pool.proofs.Common.{leb-true, length, looks_for, looks_in, nat_le, places, refl, rooms, starts_in, subst, sym, taken}
+use Rattle.buffer_pool.proofs.Common.{true, with_buffers, with_interval, ℕ, ◌*◌, ◌+◌, ◌-◌, ◌<◌, ◌∙◌, ◌∷◌, ◌≡◌, ◌≤◌}
 use Rattle.buffer_pool.specs.Placing.{PlacesBuffers}
 use Rattle.buffer_pool.proofs.Orders.{pages_in-le}
 use Rattle.buffer_pool.proofs.Gaps.{holes-end, length-holes, spaced-holes}

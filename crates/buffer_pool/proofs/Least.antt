@@ -1,9 +1,9 @@
 -- The least start with room is that of the first hole that is long enough.
-use Rattle.buffer_pool.proofs.Common.{Bool, Interval, None, Some, [], and_from, and_parts, ap, append-nil, arith, at_pages, cases_lt}
-use Rattle.buffer_pool.proofs.Common.{end_of, false, first_fit, gap, has_room, holes_from, in_order, inl, inr, le-leb, le-ltb, leb-true}
-use Rattle.buffer_pool.proofs.Common.{length, list_any, lt-leb, lt-ltb, meets, nat_le, nat_lt, not, prefix_len, refl, rooms, subst, suc}
-use Rattle.buffer_pool.proofs.Common.{sym, taken, too_small, true, with_interval, zero, ℕ, ◌++◌, ◌+◌, ◌<◌, ◌∙◌, ◌∷◌, ◌≡◌, ◌≤◌}
-use Rattle.std.proofs.Common.{◌⊎◌, List}
+use Rattle.buffer_pool.proofs.Common.{Bool, Interval, List, None, Some, [], and_from, and_parts, ap, append-nil, arith, at_pages}
+use Rattle.buffer_pool.proofs.Common.{cases_lt, end_of, false, first_fit, gap, has_room, holes_from, in_order, inl, inr, le-leb, le-ltb}
+use Rattle.buffer_pool.proofs.Common.{leb-true, length, list_any, lt-leb, lt-ltb, meets, nat_le, nat_lt, not, prefix_len, refl, rooms}
+use Rattle.buffer_pool.proofs.Common.{subst, suc, sym, taken, too_small, true, with_interval, zero, ℕ, ◌++◌, ◌+◌, ◌<◌, ◌∙◌, ◌∷◌, ◌≡◌, ◌≤◌}
+use Rattle.std.proofs.Common.{◌⊎◌}
 use Rattle.std.specs.List.{find, range_with_len}
 use Rattle.std.proofs.lemmas.Bool.{and_left, and_right, cases_eq}
 use Rattle.sm_names.specs.Pages.{least_start}

@@ -1,8 +1,8 @@
 -- What a length that is written makes of the intervals that are held.
-use Rattle.buffer_pool.proofs.Common.{Interval, [], ap, arith, both_ways, cases_lt, eq-eqb, false, get_or, has_room, held_from, inl, inr}
-use Rattle.buffer_pool.proofs.Common.{le-ltb, length, lt-ltb, nat_lt, ne_eqb, refl, set, subst, suc, sym, true, with_interval, without}
-use Rattle.buffer_pool.proofs.Common.{without_run, zero, ℕ, ◌*◌, ◌+◌, ◌-◌, ◌<◌, ◌==◌, ◌∙◌, ◌∷◌, ◌≡◌, ◌≤◌}
-use Rattle.std.proofs.Common.{List, replicate}
+use Rattle.buffer_pool.proofs.Common.{Interval, List, [], ap, arith, both_ways, cases_lt, eq-eqb, false, get_or, has_room, held_from, inl}
+use Rattle.buffer_pool.proofs.Common.{inr, le-ltb, length, lt-ltb, nat_lt, ne_eqb, refl, set, subst, suc, sym, true, with_interval}
+use Rattle.buffer_pool.proofs.Common.{without, without_run, zero, ℕ, ◌*◌, ◌+◌, ◌-◌, ◌<◌, ◌==◌, ◌∙◌, ◌∷◌, ◌≡◌, ◌≤◌}
+use Rattle.std.proofs.Common.{replicate}
 use Rattle.buffer_pool.proofs.Greatest.{room_parts}
 use Rattle.buffer_pool.proofs.Least.{has_room-over, meets-over}
 

@@ -1,8 +1,7 @@
 -- Intervals in order of page.
-use Rattle.buffer_pool.proofs.Common.{Interval, [], and_from, and_parts, ap, arith, cases_Bool, end_of, false, get_or, in_order, inl, inr}
-use Rattle.buffer_pool.proofs.Common.{le-leb, leb-true, length, lt-ltb, ltb-true, nat_le, nat_lt, ne_eqb, refl, suc, sum_by-cons}
-use Rattle.buffer_pool.proofs.Common.{total_pages, true, with_interval, without, zero, ℕ, ◌+◌, ◌<◌, ◌==◌, ◌∷◌, ◌≡◌, ◌≤◌}
-use Rattle.std.proofs.Common.{List}
+use Rattle.buffer_pool.proofs.Common.{Interval, List, [], and_from, and_parts, ap, arith, cases_Bool, end_of, false, get_or, in_order}
+use Rattle.buffer_pool.proofs.Common.{inl, inr, le-leb, leb-true, length, lt-ltb, ltb-true, nat_le, nat_lt, ne_eqb, refl, suc}
+use Rattle.buffer_pool.proofs.Common.{sum_by-cons, total_pages, true, with_interval, without, zero, ℕ, ◌+◌, ◌<◌, ◌==◌, ◌∷◌, ◌≡◌, ◌≤◌}
 
 -- the parts of an order with a first interval
 pub record IsFirst (low high : ℕ) (i : Interval) (is : List Interval) : Type 0 where

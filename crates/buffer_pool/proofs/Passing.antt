@@ -1,8 +1,7 @@
 -- Where a search among blocks can start.
-use Rattle.buffer_pool.proofs.Common.{Interval, IsPassed, Reach, [], all_in, ap, append-nil, arith, drop, drop_more, get_or, length}
+use Rattle.buffer_pool.proofs.Common.{Interval, IsPassed, List, Reach, [], all_in, ap, append-nil, arith, drop, drop_more, get_or, length}
 use Rattle.buffer_pool.proofs.Common.{length-take-le, refl, rooms, sym, take, take-append-drop, take-take, take_more, ℕ, ◌++◌, ◌+◌, ◌<◌}
 use Rattle.buffer_pool.proofs.Common.{◌∙◌, ◌∷◌, ◌≡◌, ◌≤◌}
-use Rattle.std.proofs.Common.{List}
 use Rattle.std.proofs.lemmas.List.{length-take}
 use Rattle.buffer_pool.proofs.Joins.{all-append, before-next}
 use Rattle.buffer_pool.proofs.Taking.{rooms-append, rooms-more}

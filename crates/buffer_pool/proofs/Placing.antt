@@ -1,11 +1,11 @@
 -- Buffers placed one after another by first fit are placed as the definition says.
-use Rattle.buffer_pool.proofs.Common.{Bool, Interval, None, Some, [], ap, arith, at_pages, cases_Bool, div-eq-sub-div, div-eq_of_lt}
+use Rattle.buffer_pool.proofs.Common.{Bool, Interval, List, None, Some, [], ap, arith, at_pages, cases_Bool, div-eq-sub-div, div-eq_of_lt}
 use Rattle.buffer_pool.proofs.Common.{end_of, eqb-true, false, first_fit, holes_after, holes_of, in_order, inl, inr, le-leb, length}
 use Rattle.buffer_pool.proofs.Common.{list_any, looks_for, looks_in, lt-leb, ltb-false, ltb-true, mul-le-mul_right, mul_comm, nat_le}
 use Rattle.buffer_pool.proofs.Common.{nat_lt, places, prefix_len, refl, rooms, spaced, starts_in, subst, suc, suc-mul, sum_by-cons, sym}
 use Rattle.buffer_pool.proofs.Common.{taken, too_small, total_pages, true, with_buffers, with_interval, zero, ℕ, ◌*◌, ◌+◌, ◌-◌, ◌/◌, ◌<◌}
 use Rattle.buffer_pool.proofs.Common.{◌==◌, ◌∙◌, ◌∷◌, ◌≡◌, ◌≤◌}
-use Rattle.std.proofs.Common.{cond, ◌||◌, List}
+use Rattle.std.proofs.Common.{cond, ◌||◌}
 use Rattle.std.specs.Option.{option_map}
 use Rattle.sm_names.proofs.PlaceLaws.{places_same}
 use Rattle.buffer_pool.specs.Looks.{looks_at}

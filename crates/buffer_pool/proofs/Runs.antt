@@ -1,8 +1,7 @@
 -- Intervals of as many pages that lie side by side among those in order of page.
-use Rattle.buffer_pool.proofs.Common.{Contains, HasRun, Interval, [], arith, cases_Bool, cases_lt, end_of, false, get_or, in_order}
+use Rattle.buffer_pool.proofs.Common.{Contains, HasRun, Interval, List, [], arith, cases_Bool, cases_lt, end_of, false, get_or, in_order}
 use Rattle.buffer_pool.proofs.Common.{in_run, inl, inr, length, mul-le-mul_left, ne_eqb, refl, subst, suc, suc-mul, sym, true, without}
 use Rattle.buffer_pool.proofs.Common.{without_run, zero, ℕ, ◌*◌, ◌+◌, ◌<◌, ◌==◌, ◌∷◌, ◌≡◌, ◌≤◌}
-use Rattle.std.proofs.Common.{List}
 use Rattle.buffer_pool.proofs.Orders.{first_in_order, in_order-at, in_order-cons, in_order-wider}
 
 -- ---- what stays

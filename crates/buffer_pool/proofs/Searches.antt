@@ -1,7 +1,6 @@
 -- A search by halves among intervals in order of some number.
-use Rattle.buffer_pool.proofs.Common.{Interval, IsNonDecreasingBy, ap, arith, get_or, get_or_default, le-ltb, length, lt-ltb, nat_lt}
-use Rattle.buffer_pool.proofs.Common.{prefix_len, prefix_len_is, sym, ℕ, ◌+◌, ◌<◌, ◌∙◌, ◌≡◌, ◌≤◌}
-use Rattle.std.proofs.Common.{List}
+use Rattle.buffer_pool.proofs.Common.{Interval, IsNonDecreasingBy, List, ap, arith, get_or, get_or_default, le-ltb, length, lt-ltb}
+use Rattle.buffer_pool.proofs.Common.{nat_lt, prefix_len, prefix_len_is, sym, ℕ, ◌+◌, ◌<◌, ◌∙◌, ◌≡◌, ◌≤◌}
 
 -- those before `low` are below the page, and the one at `high` is not
 pub record IsSearch (f : Interval → ℕ) (page low high : ℕ) (xs : List Interval) : Type 0 where

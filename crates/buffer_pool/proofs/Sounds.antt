@@ -1,6 +1,5 @@
 -- What every pool keeps, as callers see it.
-use Rattle.buffer_pool.proofs.Common.{Interval, MAX_PAGES, in_order, true, ℕ, ◌≡◌, ◌≤◌}
-use Rattle.std.proofs.Common.{List}
+use Rattle.buffer_pool.proofs.Common.{Interval, List, MAX_PAGES, in_order, true, ℕ, ◌≡◌, ◌≤◌}
 use Rattle.buffer_pool.specs.Holdings.{IsSound}
 use Rattle.buffer_pool.proofs.Orders.{in_order-at, in_order-apart}
 use Rattle.buffer_pool.proofs.Least.{meets-before}

@@ -1,11 +1,11 @@
 -- Holes that are spaced, and pages that come back to them.
-use Rattle.buffer_pool.proofs.Common.{Bool, Interval, IsNonDecreasingBy, [], add-one, and_from, and_parts, ap, arith, cases_Bool}
+use Rattle.buffer_pool.proofs.Common.{Bool, Interval, IsNonDecreasingBy, List, [], add-one, and_from, and_parts, ap, arith, cases_Bool}
 use Rattle.buffer_pool.proofs.Common.{cases_lt, drop, drop_all, drop_at, drop_more, end_of, eqb-true, false, first_begins, first_ends}
 use Rattle.buffer_pool.proofs.Common.{get_or, inl, inr, insert, le-leb, leb-true, length, length-insert, length-remove, length-take-le}
 use Rattle.buffer_pool.proofs.Common.{lt-ltb, ltb-true, nat_le, nat_lt, prefix_len, prefix_len-le-length, refl, remove, set, set_split}
 use Rattle.buffer_pool.proofs.Common.{spaced, subst, suc, sym, take, take-append-le, take-take, true, with_merged, with_released, zero, ℕ}
 use Rattle.buffer_pool.proofs.Common.{◌++◌, ◌+◌, ◌<◌, ◌==◌, ◌∙◌, ◌∷◌, ◌≡◌, ◌≤◌}
-use Rattle.std.proofs.Common.{List, one-add}
+use Rattle.std.proofs.Common.{one-add}
 use Rattle.buffer_pool.specs.Merging.{merged}
 
 -- the parts of spaced holes with a first

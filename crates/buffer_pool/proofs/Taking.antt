@@ -1,16 +1,17 @@
 -- Buffers that are taken from holes one after another.
-use Rattle.std.proofs.Common.{ℕ, zero, suc, ◌≡◌, ◌+◌, ◌-◌, ◌*◌, ◌/◌, ◌<◌, ◌≤◌, refl, ap, sym, ◌∙◌, true, false, min}
-use Rattle.std.proofs.Common.{List, [], ◌∷◌, ◌++◌, length, get_or, set, take, drop, subst, inl, inr, arith, ◌==◌, nat_lt, if◌then◌else◌, append_assoc, add-one}
-use Rattle.std.specs.Prelude.{All}
-use Rattle.std.specs.List.{prefix_len}
-use Rattle.std.proofs.Math.Nat.{suc-mul, mul_comm, add-mul, mul-add, mul-le-mul_right, div-eq_of_lt, div-eq-sub-div, div-mul-le_self}
-use Rattle.std.proofs.lemmas.Bool.{cases_Bool, lt-ltb, le-ltb, ltb-false, eq-eqb, eqb-true, eqb-false, ne_eqb, cases_lt}
-use Rattle.std.proofs.lemmas.List.{append-nil, take-append-drop, drop_more, drop-drop, drop-set-lt, take_more_set, length-set}
-use Rattle.std.proofs.lemmas.List.Elements.{All-drop, All-head, All-set}
-use Rattle.std.proofs.lemmas.List.Sums.{sum_by-cons, sum_by-append}
-use Rattle.sm_names.specs.declared.keys.Interval.{Interval}
-use Rattle.buffer_pool.specs.Fitting.{too_small, rooms, first_fit, shortened, taken, starts_in, holes_after, looks_in, run_starts}
-use Rattle.buffer_pool.specs.Rows.{IsSane}
+use Rattle.buffer_pool.proofs.Common.{All, All-drop, All-set, Interval, IsSane, List, [], add-mul, add-one, ap, append-nil, append_assoc}
+use Rattle.buffer_pool.proofs.Common.{arith, cases_Bool, cases_lt, div-eq-sub-div, div-eq_of_lt, drop, drop-set-lt, drop_more, eq-eqb}
+use Rattle.buffer_pool.proofs.Common.{eqb-true, false, first_fit, get_or, holes_after, inl, inr, le-ltb, length, length-set, looks_in}
+use Rattle.buffer_pool.proofs.Common.{lt-ltb, ltb-false, min, mul-add, mul-le-mul_right, mul_comm, nat_lt, ne_eqb, prefix_len, refl}
+use Rattle.buffer_pool.proofs.Common.{rooms, run_starts, set, shortened, starts_in, subst, suc, suc-mul, sum_by-cons, sym, take}
+use Rattle.buffer_pool.proofs.Common.{take-append-drop, take_more_set, taken, too_small, true, zero, ℕ, ◌*◌, ◌++◌, ◌+◌, ◌-◌, ◌/◌, ◌<◌}
+use Rattle.buffer_pool.proofs.Common.{◌==◌, ◌∙◌, ◌∷◌, ◌≡◌, ◌≤◌}
+use Rattle.std.proofs.Common.{if◌then◌else◌}
+use Rattle.std.proofs.Math.Nat.{div-mul-le_self}
+use Rattle.std.proofs.lemmas.Bool.{eqb-false}
+use Rattle.std.proofs.lemmas.List.{drop-drop}
+use Rattle.std.proofs.lemmas.List.Elements.{All-head}
+use Rattle.std.proofs.lemmas.List.Sums.{sum_by-append}
 use Rattle.buffer_pool.proofs.Placing.{rooms-taken, rooms-some, length-taken}
 
 -- a hole that is not too small has room for one, since the quotient is not 0

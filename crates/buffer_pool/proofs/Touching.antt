@@ -1,7 +1,7 @@
 -- The hole at a spot that touches pages.
-use Rattle.buffer_pool.proofs.Common.{Bool, HasIntervalAt, Interval, [], all_in, drop, drop_more, end_of, eqb-true, false, first_begins}
-use Rattle.buffer_pool.proofs.Common.{first_ends, get_or, length, refl, set, spot_index, subst, sym, true, ℕ, ◌<◌, ◌≡◌}
-use Rattle.std.proofs.Common.{List, All, length-set}
+use Rattle.buffer_pool.proofs.Common.{Bool, HasIntervalAt, Interval, List, [], all_in, drop, drop_more, end_of, eqb-true, false}
+use Rattle.buffer_pool.proofs.Common.{first_begins, first_ends, get_or, length, refl, set, spot_index, subst, sym, true, ℕ, ◌<◌, ◌≡◌}
+use Rattle.std.proofs.Common.{All, length-set}
 use Rattle.std.proofs.lemmas.List.Elements.{All-get_or}
 use Rattle.buffer_pool.specs.declared.blocks.Spot.{Spot}
 use Rattle.buffer_pool.specs.Rows.{IsNextOrEnd}

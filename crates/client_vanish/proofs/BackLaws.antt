@@ -1,12 +1,9 @@
 -- What comes back of a client that was stopped is the client's own.
-use Rattle.std.proofs.Common.{ℕ, ◌≡◌, refl, ap, sym, subst, inl, inr, Bool, true, false, List, [], ◌∷◌, ◌++◌}
-use Rattle.std.specs.Prelude.{flat_map}
-use Rattle.std.specs.List.{All}
-use Rattle.std.proofs.lemmas.List.Elements.{All-append, All-cons, All-head, All-nil, All-tail}
-use Rattle.sm_names.specs.declared.messages.Reply.{Reply}
-use Rattle.client_ends.specs.Clients.{Grip, Seen, Tag, is_done}
-use Rattle.client_vanish.specs.Vanishings.{AllHeldBy, Collection, Goes, Handle, Holds, IsBroken, HeldObject, Token, collections_among}
-use Rattle.client_vanish.specs.Vanishings.{end_told, handles_among, handle_told, kept_of, owner_of, sorted, tokens_among}
+use Rattle.client_vanish.proofs.Common.{All, All-append, All-cons, All-head, All-nil, All-tail, AllHeldBy, Bool, Collection, Goes, Grip}
+use Rattle.client_vanish.proofs.Common.{Handle, HeldObject, Holds, List, Reply, Seen, Tag, Token, [], ap, collections_among, end_told}
+use Rattle.client_vanish.proofs.Common.{false, flat_map, handle_told, handles_among, inl, inr, is_done, kept_of, owner_of, refl, sorted}
+use Rattle.client_vanish.proofs.Common.{subst, sym, tokens_among, true, ℕ, ◌++◌, ◌∷◌, ◌≡◌}
+use Rattle.client_vanish.specs.Vanishings.{IsBroken}
 use Rattle.client_vanish.proofs.VanishingLaws.{owners}
 
 -- where all of both lists pass, all of the first do

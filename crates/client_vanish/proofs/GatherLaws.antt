@@ -1,12 +1,12 @@
 -- Parts, one after another.
-use Rattle.std.proofs.Common.{refl, ℕ, ◌≡◌, ◌<◌, ◌∙◌, sym, ap, subst, inl, inr, List}
-use Rattle.std.proofs.Common.{[], ◌∷◌, ◌++◌, append_assoc, append-nil, length, arith}
+use Rattle.client_vanish.proofs.Common.{All, DifferAt, IsFound, List, [], ap, append-nil, append_assoc, arith, inl, inr, length, own_of}
+use Rattle.client_vanish.proofs.Common.{part, refl, subst, sym, ℕ, ◌++◌, ◌∙◌, ◌∷◌, ◌≡◌}
+use Rattle.std.proofs.Common.{◌<◌}
 use Rattle.std.proofs.lemmas.List.Elements.{All-push, All-weaker, Contains-append_left, Contains-append_right}
 use Rattle.client_vanish.specs.declared.gathering.Holding.{Holding}
-use Rattle.client_vanish.specs.Gatherings.{IsFirstMismatch, IsFound, Matches, id_of, own_of}
-use Rattle.event_laws.specs.Parts.{DifferAt, part}
+use Rattle.client_vanish.specs.Gatherings.{IsFirstMismatch, Matches, id_of}
 use Rattle.sm_names.specs.Marks.{Entry}
-use Rattle.std.specs.List.{All, Contains}
+use Rattle.std.specs.List.{Contains}
 use Rattle.std.specs.Prelude.{Option, Some, None}
 
 -- the own list of this client is not its part, and those of lesser clients are

@@ -1,3 +1,4 @@
+mod Common
 pub mod BackLaws
 pub mod GatherLaws
 pub mod VanishingLaws

@@ -1,14 +1,11 @@
 -- Stacks of objects, and objects by kind.
-use Rattle.std.proofs.Common.{◌≡◌, ◌+◌, ◌∙◌, refl, sym, ap, List, [], ◌∷◌, ◌++◌}
-use Rattle.std.proofs.Common.{append_assoc, append-nil, length, length-append, map, arith}
-use Rattle.std.specs.Prelude.{flat_map, vec_capacity}
-use Rattle.client_ends.specs.declared.held.Held.{Held}
+use Rattle.client_vanish.proofs.Common.{Collection, Grip, Handle, HasRoomFor, Held, HeldObject, Holds, List, ParcelContent, Tag, Token}
+use Rattle.client_vanish.proofs.Common.{[], ap, append-nil, append_assoc, arith, both, collections_among, flat_map, handles_among}
+use Rattle.client_vanish.proofs.Common.{held_in, length, length-append, map, object_of, refl, sorted, sym, tokens_among, top_first, ◌++◌}
+use Rattle.client_vanish.proofs.Common.{◌+◌, ◌∙◌, ◌∷◌, ◌≡◌}
+use Rattle.std.specs.Prelude.{vec_capacity}
 use Rattle.std.proofs.lemmas.List.{reverse-append}
-use Rattle.client_ends.specs.declared.held.ParcelContent.{ParcelContent}
-use Rattle.client_ends.specs.Clients.{Grip, Tag}
-use Rattle.client_vanish.specs.Vanishings.{Collection, Handle, Holds, HeldObject, Token, collections_among}
-use Rattle.client_vanish.specs.Vanishings.{handles_among, held_in, sorted, object_of, tokens_among}
-use Rattle.client_vanish.specs.Stacks.{HasRoomFor, both, sorted_one, top_first}
+use Rattle.client_vanish.specs.Stacks.{sorted_one}
 
 -- the last one that is put on a stack is its top
 pub top_push : {E S W : Type 0} (items : List (ParcelContent E S W)) (e : ParcelContent E S W) →

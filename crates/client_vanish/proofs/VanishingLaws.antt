@@ -1,23 +1,20 @@
 -- A client that vanishes gives up one object after another.
-use Rattle.std.proofs.Common.{ℕ, ◌≡◌, ◌≤◌, ◌+◌, ◌∙◌, refl, sym, ap, subst, inl, inr, ◌⊎◌, Bool, true, false, List}
-use Rattle.std.proofs.Common.{[], ◌∷◌, ◌++◌, append_assoc, append-nil, length, length-append, map, replicate, arith}
-use Rattle.std.specs.Prelude.{flat_map, vec_capacity, vec_len}
-use Rattle.std.specs.List.{All}
-use Rattle.std.proofs.lemmas.List.Elements.{All-append, All-cons, All-map, All-nil}
+use Rattle.client_vanish.proofs.Common.{All, All-append, All-cons, All-nil, AllHeldBy, Bool, Call, Collection, CollectsFor, CollectsMany}
+use Rattle.client_vanish.proofs.Common.{GivesUp, GivesUpSome, Goes, Handle, HasRoomFor, Held, HeldObject, Holds, IsGone, List}
+use Rattle.client_vanish.proofs.Common.{ParcelContent, Reply, Seen, Token, [], ap, append-nil, append_assoc, arith, both}
+use Rattle.client_vanish.proofs.Common.{collections_among, end_told, false, flat_map, handle_told, handles_among, held_in, inl, inr}
+use Rattle.client_vanish.proofs.Common.{is_done, kept_of, length, length-append, map, owner_of, refl, sorted, subst, sym, tokens_among}
+use Rattle.client_vanish.proofs.Common.{top_first, true, vanishing_call, ℕ, ◌++◌, ◌+◌, ◌∙◌, ◌∷◌, ◌≡◌, ◌≤◌}
+use Rattle.std.proofs.Common.{◌⊎◌, replicate}
+use Rattle.std.specs.Prelude.{vec_capacity, vec_len}
+use Rattle.std.proofs.lemmas.List.Elements.{All-map}
 use Rattle.sm_names.specs.declared.keys.Kind.{Kind}
-use Rattle.client_ends.specs.declared.held.ParcelContent.{ParcelContent}
-use Rattle.client_ends.specs.declared.held.Held.{Held}
 use Rattle.std.proofs.lemmas.List.{map-append, length-map, replicate-append-replicate}
-use Rattle.sm_names.specs.declared.messages.Call.{Call}
-use Rattle.sm_names.specs.declared.messages.Reply.{Reply}
 use Rattle.event_laws.specs.declared.own.Own.{Own}
-use Rattle.client_ends.specs.Clients.{Made, MadeAll, Seen, calls_of, is_done, replies_of}
+use Rattle.client_ends.specs.Clients.{Made, MadeAll, calls_of, replies_of}
 use Rattle.client_ends.proofs.MadeLaws.{made_more, made_none, made_one, made_then}
-use Rattle.client_vanish.specs.Vanishings.{AllHeldBy, Collection, Goes, Handle, Holds, IsGone, HeldObject, Token}
-use Rattle.client_vanish.specs.Vanishings.{all_objects, collections_among, held_end, end_told, handles_among, handle_told}
-use Rattle.client_vanish.specs.Vanishings.{held_in, kept_of, owner_of, vanishing_call, sorted, tokens_among, parcels_told}
-use Rattle.client_vanish.specs.Stacks.{CollectsMany, CollectsFor, CollectsOne, HasRoomFor}
-use Rattle.client_vanish.specs.Stacks.{GivesUp, GivesUpIf, GivesUpSome, both, top_first}
+use Rattle.client_vanish.specs.Vanishings.{all_objects, held_end, parcels_told}
+use Rattle.client_vanish.specs.Stacks.{CollectsOne, GivesUpIf}
 use Rattle.client_vanish.proofs.ObjectLaws.{both_none, flat-append, flat_collections, flat_handles, flat_tokens, no_collection_h}
 use Rattle.client_vanish.proofs.ObjectLaws.{no_collection_t, no_handle_c, no_handle_t, no_token_c, no_token_h, sorted-append}
 

@@ -1,15 +1,13 @@
 -- A walk down within a bound: it visits children alone, and lists the nodes within the bound.
-use Rattle.std.proofs.Common.{◌≡◌, ◌≢◌, ◌↔◌, ℕ, zero, suc, ◌+◌, ◌<◌, Bool, true, false, ◌&&◌, not, if◌then◌else◌, inl, inr, List, []}
-use Rattle.std.proofs.Common.{◌∷◌, length, take, get_or, AllPairs, Contains, Option, Some, None, arith, refl, ap, sym, ◌∙◌, subst}
+use Rattle.failure_domains.proofs.Common.{AllPairs, Bool, Contains, IsForest, IsWalk, List, NodeKey, None, Option, Some, Table, [], ap}
+use Rattle.failure_domains.proofs.Common.{arith, children_at, children_within, depth_at, false, flat_map, get_or, inl, inr, length}
+use Rattle.failure_domains.proofs.Common.{parent_at, refl, subst, suc, sym, take, true, zero, ℕ, ◌+◌, ◌<◌, ◌↔◌, ◌∙◌, ◌∷◌, ◌≡◌, ◌≢◌}
+use Rattle.std.proofs.Common.{◌&&◌, not, if◌then◌else◌}
 use Rattle.std.specs.Option.{option_map_or}
-use Rattle.std.specs.List.{flat_map}
-use Rattle.sm_names.specs.declared.keys.NodeKey.{NodeKey}
 use Rattle.sm_names.specs.Sameness.{same_key}
 use Rattle.sm_names.proofs.SamenessLaws.{same_key-refl}
-use Rattle.node_table.specs.Table.{Table, node_at, parent_at, children_at}
-use Rattle.node_table.specs.Forest.{IsForest, depth_at}
-use Rattle.failure_domains.specs.Falls.{stopped_at, children_within, Within, Top, Below}
-use Rattle.failure_domains.specs.Walks.{IsWalk}
+use Rattle.node_table.specs.Table.{node_at}
+use Rattle.failure_domains.specs.Falls.{stopped_at, Within, Top, Below}
 use Rattle.failure_domains.proofs.Layers.{begins, brings, source}
 use Rattle.failure_domains.proofs.Descents.{walk_ends}
 

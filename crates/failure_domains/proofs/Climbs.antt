@@ -1,14 +1,9 @@
 -- A climb: the failure reaches each node on it, and it counts the links.
-use Rattle.std.proofs.Common.{◌≡◌, ℕ, zero, suc, ◌+◌, ◌<◌, ◌≤◌, ◌==◌, Bool, true, false, cond, List, [], ◌∷◌}
-use Rattle.std.proofs.Common.{slice_index_or, count_by, Option, Some, None, is_some, IsSome, arith, refl, ap, ◌∙◌}
-use Rattle.std.proofs.lemmas.List.Sums.{sum_by-cons}
-use Rattle.sm_names.specs.declared.keys.NodeKey.{NodeKey}
-use Rattle.sm_names.specs.Losses.{Reach, Origin, Up}
-use Rattle.node_table.specs.Table.{Table, row_at, parent_at, next_at, table_len}
-use Rattle.node_table.specs.Forest.{IsForest, depth_at}
-use Rattle.node_table.proofs.Depths.{row-then}
-use Rattle.failure_domains.specs.Falls.{blocked_at, way_up, links_within, links_climbed}
-use Rattle.failure_domains.specs.Walks.{Climb, Start, Step}
+use Rattle.failure_domains.proofs.Common.{Bool, Climb, IsForest, IsSome, List, NodeKey, None, Option, Origin, Reach, Some, Start, Step}
+use Rattle.failure_domains.proofs.Common.{Table, Up, [], ap, arith, blocked_at, cond, count_by, depth_at, false, is_some, links_climbed}
+use Rattle.failure_domains.proofs.Common.{next_at, parent_at, refl, row-then, row_at, slice_index_or, suc, sum_by-cons, table_len, true}
+use Rattle.failure_domains.proofs.Common.{way_up, zero, ℕ, ◌+◌, ◌<◌, ◌==◌, ◌∙◌, ◌∷◌, ◌≡◌, ◌≤◌}
+use Rattle.failure_domains.specs.Falls.{links_within}
 
 -- a slot that has something is counted
 count-there : {X : Type 0} (slots : List (Option X)) (slot : ℕ) → IsSome (slice_index_or slots slot None) →

@@ -1,16 +1,12 @@
 -- A walk down from a top: each step appends the children of one key, and no key comes twice.
-use Rattle.std.proofs.Common.{◌≡◌, ◌≢◌, ℕ, ◌+◌, ◌-◌, ◌<◌, ◌≤◌, inl, inr, List, [], ◌∷◌, ◌++◌, length}
-use Rattle.std.proofs.Common.{get_or, take, All, AllPairs, Contains, Some, arith, refl, sym, ap, ◌∙◌, subst}
-use Rattle.std.specs.List.{flat_map}
+use Rattle.failure_domains.proofs.Common.{All, All-append, AllPairs, Contains, Contains-get_or, IsForest, IsWalk, List, NodeKey, Some}
+use Rattle.failure_domains.proofs.Common.{Table, [], ap, arith, children_at, depth_at, flat_map, get_or, inl, inr, length, length-append}
+use Rattle.failure_domains.proofs.Common.{parent_at, refl, subst, sym, take, ℕ, ◌++◌, ◌+◌, ◌-◌, ◌<◌, ◌∙◌, ◌∷◌, ◌≡◌, ◌≢◌, ◌≤◌}
 use Rattle.std.proofs.lemmas.Bool.{cases_lt}
-use Rattle.std.proofs.lemmas.List.{flat_map_more, take_more, take-append-le, take_all, length-append}
-use Rattle.std.proofs.lemmas.List.{get_or_append_left, get_or-append_right, get_or-take, length-take-le, get_or_default}
-use Rattle.std.proofs.lemmas.List.Elements.{All-append, All-contains, Contains-get_or}
-use Rattle.sm_names.specs.declared.keys.NodeKey.{NodeKey}
-use Rattle.node_table.specs.Table.{Table, parent_at, children_at}
-use Rattle.node_table.specs.Forest.{IsForest, depth_at}
+use Rattle.std.proofs.lemmas.List.{flat_map_more, take_more, take-append-le, take_all, get_or_append_left, get_or-append_right}
+use Rattle.std.proofs.lemmas.List.{get_or-take, length-take-le, get_or_default}
+use Rattle.std.proofs.lemmas.List.Elements.{All-contains}
 use Rattle.failure_domains.specs.Falls.{IsByLayers}
-use Rattle.failure_domains.specs.Walks.{IsWalk}
 use Rattle.failure_domains.proofs.Lists.{AllPairs-append, Contains-cases, flat_map_source}
 
 -- A walk may leave out the children of some keys: each key that it visits is a child.

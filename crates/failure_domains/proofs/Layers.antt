@@ -1,7 +1,5 @@
 -- A list that is a top and what a function gives of each of its keys.
-use Rattle.std.proofs.Common.{◌≡◌, ◌⊎◌, inl, inr, List, ◌∷◌, Contains, sym, subst}
-use Rattle.std.specs.List.{flat_map}
-use Rattle.sm_names.specs.declared.keys.NodeKey.{NodeKey}
+use Rattle.failure_domains.proofs.Common.{Contains, List, NodeKey, flat_map, inl, inr, subst, sym, ◌∷◌, ◌≡◌, ◌⊎◌}
 use Rattle.failure_domains.proofs.Lists.{Contains-head, Contains-tail, Contains-cases, Contains-flat_map, flat_map_source}
 
 module _ (down : NodeKey → List NodeKey) (top : NodeKey) (keys : List NodeKey) (whole : keys ≡ top ∷ flat_map down keys) where

@@ -1,7 +1,7 @@
 -- Lists: what a flat_map has, and elements that stay apart in an append.
-use Rattle.std.proofs.Common.{◌≡◌, zero, suc, ◌⊎◌, inl, inr, List, [], ◌∷◌, ◌++◌, get_or, AllPairs, Contains, arith, refl}
-use Rattle.std.specs.List.{flat_map}
-use Rattle.std.proofs.lemmas.List.Elements.{All-append, Contains-get_or, Contains-append_left, Contains-append_right, Contains-append_cases}
+use Rattle.failure_domains.proofs.Common.{All-append, AllPairs, Contains, Contains-get_or, List, [], arith, flat_map, get_or, inl, inr}
+use Rattle.failure_domains.proofs.Common.{refl, suc, zero, ◌++◌, ◌∷◌, ◌≡◌, ◌⊎◌}
+use Rattle.std.proofs.lemmas.List.Elements.{Contains-append_left, Contains-append_right, Contains-append_cases}
 use Rattle.std.proofs.lemmas.List.Kept.{AllPairs-cons}
 
 module _ {X : Type 0} where

@@ -1,13 +1,8 @@
 -- A climb and then a walk down find what a failure takes, and nothing else.
-use Rattle.std.proofs.Common.{◌≡◌, ℕ, zero, suc, ◌+◌, ◌<◌, ◌≤◌, ◌⊎◌, inl, inr, ◌↔◌, Bool, List, ◌∷◌}
-use Rattle.std.proofs.Common.{length, get_or, Contains, Some, None, arith, sym, ap, ◌∙◌, subst}
-use Rattle.std.specs.List.{flat_map}
-use Rattle.sm_names.specs.declared.keys.NodeKey.{NodeKey}
-use Rattle.sm_names.specs.Losses.{Reach, Origin, Up, Down}
-use Rattle.node_table.specs.Table.{Table, parent_at, children_at}
-use Rattle.node_table.specs.Forest.{IsForest, depth_at}
-use Rattle.failure_domains.specs.Falls.{blocked_at, way_up}
-use Rattle.failure_domains.specs.Walks.{Climb, IsWalk}
+use Rattle.failure_domains.proofs.Common.{Bool, Climb, Contains, IsForest, IsWalk, List, NodeKey, None, Origin, Reach, Some, Table, Up}
+use Rattle.failure_domains.proofs.Common.{ap, arith, blocked_at, children_at, depth_at, flat_map, get_or, inl, inr, length, parent_at}
+use Rattle.failure_domains.proofs.Common.{subst, suc, sym, way_up, zero, ℕ, ◌+◌, ◌<◌, ◌↔◌, ◌∙◌, ◌∷◌, ◌≡◌, ◌≤◌, ◌⊎◌}
+use Rattle.sm_names.specs.Losses.{Down}
 use Rattle.failure_domains.proofs.Layers.{begins, brings, source}
 use Rattle.failure_domains.proofs.Climbs.{climb_depth, climb_reaches, climb_descends, way_up-open}
 use Rattle.failure_domains.proofs.Descents.{walk_ends}

@@ -1,14 +1,10 @@
 -- A list of nodes, none of which stands twice, is no longer than the table.
-use Rattle.std.proofs.Common.{◌≡◌, ◌≢◌, ℕ, zero, suc, ◌+◌, ◌≤◌, ◌==◌, Bool, true, false, cond, List}
-use Rattle.std.proofs.Common.{[], ◌∷◌, length, get_or, slice_index_or, count_by, All, AllPairs}
-use Rattle.std.proofs.Common.{Contains, Option, None, is_some, IsSome, arith, refl, sym, ap, subst}
-use Rattle.std.proofs.lemmas.List.Sums.{sum_by-cons}
+use Rattle.failure_domains.proofs.Common.{All, AllPairs, Bool, Contains, Contains-get_or, IsForest, IsSome, List, NodeKey, None, Option}
+use Rattle.failure_domains.proofs.Common.{Table, [], ap, arith, children_at, cond, count_by, false, get_or, is_some, length, next_at}
+use Rattle.failure_domains.proofs.Common.{refl, row-then, row_at, slice_index_or, subst, suc, sum_by-cons, sym, table_len, true, zero, ℕ}
+use Rattle.failure_domains.proofs.Common.{◌+◌, ◌==◌, ◌∷◌, ◌≡◌, ◌≢◌, ◌≤◌}
 use Rattle.std.proofs.lemmas.Bool.{eqb-true}
-use Rattle.std.proofs.lemmas.List.Elements.{Contains-get_or}
-use Rattle.sm_names.specs.declared.keys.NodeKey.{NodeKey}
-use Rattle.node_table.specs.Table.{Table, row_at, children_at, next_at, table_len}
-use Rattle.node_table.specs.Forest.{IsForest}
-use Rattle.node_table.proofs.Depths.{row-then, there-above}
+use Rattle.node_table.proofs.Depths.{there-above}
 
 -- this many slots from this one on have something
 abbrev full : {X : Type 0} → List (Option X) → ℕ

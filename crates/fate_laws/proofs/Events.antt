@@ -1,50 +1,32 @@
 -- What is told of the nodes that an event takes.
-use Rattle.std.proofs.Common.{ℕ, ◌≡◌, refl, ap, sym, ◌∙◌, subst, true, false}
-use Rattle.std.proofs.Common.{List, [], ◌∷◌, ◌++◌, Option, Some, None, append-nil, append_assoc}
+use Rattle.fate_laws.proofs.Common.{Birth, Bound, Call, Called, Cause, Collection, Counts, End, Entry, GoneNode, Grows, Interval}
+use Rattle.fate_laws.proofs.Common.{IsAnswer, List, Loss, Mark, Matches, NodeKey, None, Option, Reply, Shows, Some, State, Timeline, []}
+use Rattle.fate_laws.proofs.Common.{after, ap, append-nil, append_assoc, birth_of, births, collection_in, counts_on, falls_at, falls_by}
+use Rattle.fate_laws.proofs.Common.{false, flat_map, gone, is_kept, is_some-find, laid_on, legal_grows, option_map, placed_in, readings}
+use Rattle.fate_laws.proofs.Common.{refl, same_key, stages, subst, sym, timeline, true, was_born, whole, ℕ, ◌++◌, ◌∙◌, ◌∷◌, ◌≡◌}
 use Rattle.std.proofs.lemmas.Grind.{flat_map-append}
-use Rattle.std.specs.List.{cons_option, flat_map}
-use Rattle.std.specs.Option.{option_and_then, option_map, unwrap_or}
+use Rattle.std.specs.List.{cons_option}
+use Rattle.std.specs.Option.{option_and_then, unwrap_or}
 use Rattle.sm_names.specs.declared.keys.BufferName.{BufferName}
-use Rattle.sm_names.specs.declared.keys.Interval.{Interval}
-use Rattle.sm_names.specs.declared.keys.NodeKey.{NodeKey}
-use Rattle.sm_names.specs.declared.messages.Call.{Call}
-use Rattle.sm_names.specs.declared.messages.Reply.{Reply}
-use Rattle.sm_names.specs.declared.outcomes.Cause.{Cause}
-use Rattle.sm_names.specs.Answers.{IsAnswer, new_key}
-use Rattle.sm_names.specs.Births.{Birth, births, birth_of, collection_in, was_born}
-use Rattle.sm_names.specs.Bounds.{Bound}
-use Rattle.sm_names.specs.Kept.{is_kept}
-use Rattle.sm_names.specs.Losses.{gone}
-use Rattle.sm_names.specs.Marks.{Entry, Mark, Timeline, Called, Loss}
-use Rattle.sm_names.specs.Reading.{readings}
-use Rattle.sm_names.specs.Sameness.{same_key}
-use Rattle.sm_names.specs.Timelines.{after, buffer_of, collection_of, key_of, opened_by, own_loss, timeline}
+use Rattle.sm_names.specs.Answers.{new_key}
+use Rattle.sm_names.specs.Timelines.{buffer_of, collection_of, key_of, opened_by, own_loss}
 use Rattle.sm_names.specs.Words.{first_some}
-use Rattle.sm_names.proofs.ListLaws.{is_some-find}
 use Rattle.sm_names.proofs.SamenessLaws.{some_is}
-use Rattle.history_laws.proofs.GrowthLaws.{Grows, Stays, Answers, Loses, Allocates, Ends, grows_lost, legal_grows, own_loss_origin}
+use Rattle.history_laws.proofs.GrowthLaws.{Stays, Answers, Loses, Allocates, Ends, grows_lost, own_loss_origin}
 use Rattle.history_laws.proofs.LegalLaws.{own_loss_no_event}
-use Rattle.history_laws.proofs.LifeLaws.{whole}
 use Rattle.buffer_holds.specs.Counts.{total}
 use Rattle.forest_store.specs.declared.change.Change.{Change}
-use Rattle.forest_store.specs.declared.node.End.{End}
-use Rattle.forest_store.specs.Forest.{Collection, beside}
+use Rattle.forest_store.specs.Forest.{beside}
 use Rattle.forest_store.specs.Settling.{changed, collection_or_new, no_key}
 use Rattle.core_state.specs.Reads.{readings_of}
-use Rattle.core_state.specs.Shown.{Shows}
-use Rattle.core_state.specs.State.{HandleCounts, State}
+use Rattle.core_state.specs.State.{HandleCounts}
 use Rattle.core_state.specs.Steps.{Follows, Work, end_by, handles_by, place_of, work_of}
 use Rattle.core_state.proofs.answers.Changes.{starts}
-use Rattle.core_state.proofs.ends.NotRead.{placed_in}
-use Rattle.core_state.proofs.forced.Settled.{counts_on}
 use Rattle.core_state.proofs.handles.Counts.{handles_called}
-use Rattle.core_state.proofs.theorem.Follows.{Counts, Matches}
 use Rattle.core_state.proofs.views.SameAnswers.{answer_is}
-use Rattle.forced_marks.specs.Marks.{AreStages, Stage, StagesIn, changed_by, laid_on, own_mark, own_stage, stages}
+use Rattle.forced_marks.specs.Marks.{AreStages, Stage, StagesIn, changed_by, own_mark, own_stage}
 use Rattle.forced_marks.proofs.EventTold.{told_of_none, told_of_work}
 use Rattle.forced_marks.proofs.OwnMark.{own_is}
-use Rattle.actor_plays.specs.declared.falls.GoneNode.{GoneNode}
-use Rattle.actor_plays.specs.Fates.{falls_at, falls_by}
 use Rattle.fate_laws.proofs.Fell.{AreToldOf, told_on}
 use Rattle.fate_laws.proofs.Forced.{lost_told, settles_told}
 

@@ -1,20 +1,13 @@
 -- How nodes fell, by the marks and by what is told of them.
-use Rattle.std.proofs.Common.{◌≡◌, refl, ap, sym, ◌∙◌, Bool, true, false, cond, not, ◌&&◌, inl, inr}
-use Rattle.std.proofs.Common.{List, [], ◌∷◌, ◌++◌, map, Option, Some, None}
+use Rattle.fate_laws.proofs.Common.{Birth, Bool, Called, Ended, Fault, GoneNode, List, Loss, Mark, Node, NodeKey, None, Option, Some}
+use Rattle.fate_laws.proofs.Common.{Timeline, [], ap, cond, either_way, false, fault, fault_fallen, filter, gone, inl, inr, list_any, map}
+use Rattle.fate_laws.proofs.Common.{not, option_map, option_map_or, refl, same_key, sym, true, ◌&&◌, ◌++◌, ◌∙◌, ◌∷◌, ◌≡◌}
 use Rattle.std.proofs.lemmas.List.Folds.{find-append}
-use Rattle.std.specs.List.{filter, find, list_any}
-use Rattle.std.specs.Option.{option_map, option_map_or, option_or}
-use Rattle.sm_names.specs.declared.keys.NodeKey.{NodeKey}
-use Rattle.sm_names.specs.declared.outcomes.Fault.{Fault}
-use Rattle.sm_names.specs.Births.{Birth}
-use Rattle.sm_names.specs.Losses.{fault, gone}
-use Rattle.sm_names.specs.Marks.{Mark, Timeline, Called, Loss, Allocated, Ended}
-use Rattle.sm_names.specs.Sameness.{same_key}
-use Rattle.sm_names.proofs.SamenessLaws.{either_way, same_key-true}
+use Rattle.std.specs.List.{find}
+use Rattle.std.specs.Option.{option_or}
+use Rattle.sm_names.specs.Marks.{Allocated}
+use Rattle.sm_names.proofs.SamenessLaws.{same_key-true}
 use Rattle.history_laws.proofs.GoneLaws.{gone_stays}
-use Rattle.forest_store.specs.declared.node.Node.{Node}
-use Rattle.actor_plays.specs.declared.falls.GoneNode.{GoneNode}
-use Rattle.actor_plays.specs.Fates.{fault_fallen}
 
 -- how the node fell by the marks, if it did: by its fault, or without one
 abbrev pub fell : Timeline → NodeKey → Option (Option Fault)

@@ -1,48 +1,35 @@
 -- What is told of the nodes that the marks of a collection take.
-use Rattle.std.proofs.Common.{ℕ, ◌≡◌, refl, ap, sym, ◌∙◌, subst, Bool, true, false, cond, not, ◌&&◌, inl, inr}
-use Rattle.std.proofs.Common.{List, [], ◌∷◌, ◌++◌, map, reverse, Option, Some, None, append-nil, append_assoc}
-use Rattle.std.proofs.lemmas.Bool.{eqb-true}
-use Rattle.std.specs.List.{filter, flat_map, list_any}
-use Rattle.std.specs.Option.{option_map_or}
-use Rattle.sm_names.specs.declared.keys.Interval.{Interval}
-use Rattle.sm_names.specs.declared.keys.NodeKey.{NodeKey}
-use Rattle.sm_names.specs.declared.outcomes.Cause.{Cause}
-use Rattle.sm_names.specs.declared.outcomes.Fault.{Fault}
-use Rattle.sm_names.specs.Births.{Birth, births, birth_of, collection_in, is_at_or_below}
-use Rattle.sm_names.specs.Bounds.{Bound}
+use Rattle.fate_laws.proofs.Common.{Birth, Bool, Bound, Cause, Collection, Counts, End, Ended, Fault, GoneNode, Grows, Interval, List}
+use Rattle.fate_laws.proofs.Common.{Loss, Mark, Matches, Node, NodeKey, None, Option, Some, Timeline, [], ap, append-nil, append_assoc}
+use Rattle.fate_laws.proofs.Common.{birth_is, birth_of, births, both_ways, collection_in, cond, counts_on, either_way, eqb-true, falls_at}
+use Rattle.fate_laws.proofs.Common.{falls_by, false, fault, fault_fallen, filter, flat_map, gone, inl, inr, laid_on, list_any, map}
+use Rattle.fate_laws.proofs.Common.{map-Some, node_after, not, option_map_or, placed_in, refl, same_key, stages, subst, sym, true, whole}
+use Rattle.fate_laws.proofs.Common.{ℕ, ◌&&◌, ◌++◌, ◌∙◌, ◌∷◌, ◌≡◌}
+use Rattle.std.proofs.Common.{reverse}
+use Rattle.sm_names.specs.Births.{is_at_or_below}
 use Rattle.sm_names.specs.Forced.{forced}
-use Rattle.sm_names.specs.Losses.{fault, gone, reaches}
-use Rattle.sm_names.specs.Marks.{Mark, Timeline, Loss, Ended}
+use Rattle.sm_names.specs.Losses.{reaches}
 use Rattle.sm_names.specs.Members.{births_in, is_under}
-use Rattle.sm_names.specs.Sameness.{same_key}
 use Rattle.sm_names.specs.Timelines.{next_forced}
 use Rattle.sm_names.proofs.ListLaws.{In, In-any, In-filter, In-filter-back, In-map, filter-In, map-map}
-use Rattle.sm_names.proofs.SamenessLaws.{either_way, same_key-refl, both_ways, or_first, map-Some, none_or_some}
-use Rattle.history_laws.proofs.BirthLaws.{birth_is}
+use Rattle.sm_names.proofs.SamenessLaws.{same_key-refl, or_first, none_or_some}
 use Rattle.history_laws.proofs.GoneLaws.{fault_gone}
-use Rattle.history_laws.proofs.GrowthLaws.{Grows, grows_forced}
+use Rattle.history_laws.proofs.GrowthLaws.{grows_forced}
 use Rattle.history_laws.proofs.IsolationLaws.{of_ours, reaches_in}
-use Rattle.history_laws.proofs.LifeLaws.{whole}
 use Rattle.history_laws.proofs.SettledLaws.{Why, No_live, Fails, Initial, Logical, forced_no_event, forced_why}
 use Rattle.history_laws.proofs.WholeLaws.{IsWhole, line_collection}
-use Rattle.forest_store.specs.declared.node.End.{End}
-use Rattle.forest_store.specs.declared.node.Node.{Node}
-use Rattle.forest_store.specs.Forest.{Collection}
 use Rattle.forest_store.specs.Nodes.{above_among, after_loss}
 use Rattle.forest_store.specs.Settling.{Handles, made}
-use Rattle.core_state.specs.Shown.{node_after}
-use Rattle.core_state.proofs.ends.NotRead.{placed_in, placed_node, placed_nodes, lost_placed, made_placed, standing_placed}
+use Rattle.core_state.proofs.ends.NotRead.{placed_node, placed_nodes, lost_placed, made_placed, standing_placed}
 use Rattle.core_state.proofs.forced.ForcedStep.{step_matches}
-use Rattle.core_state.proofs.forced.Settled.{counts_on}
 use Rattle.core_state.proofs.lists.Maps.{filter-map, map-reverse}
 use Rattle.core_state.proofs.nodes.Ancestors.{Keeps, kept_in, nodes_kept, kept_births}
 use Rattle.core_state.proofs.nodes.Marks.{nodes_lost}
 use Rattle.core_state.proofs.nodes.Members.{in_order, member_kept, of_collection}
-use Rattle.core_state.proofs.theorem.Follows.{Counts, Matches, forced_matches}
+use Rattle.core_state.proofs.theorem.Follows.{forced_matches}
 use Rattle.event_facts.specs.Facts.{is_lost_with}
-use Rattle.forced_marks.specs.Marks.{SettlesBy, Rests, Forces, laid_on, stages}
-use Rattle.actor_plays.specs.declared.falls.GoneNode.{GoneNode}
-use Rattle.actor_plays.specs.Fates.{end_told, fall_told, falls_at, falls_by, fault_fallen}
+use Rattle.forced_marks.specs.Marks.{SettlesBy, Rests, Forces}
+use Rattle.actor_plays.specs.Fates.{end_told, fall_told}
 use Rattle.fate_laws.proofs.Fell.{AreToldOf, fell, told_of_births, told_on}
 
 -- wherever ends are, the line above a node is the same

@@ -1,32 +1,18 @@
 -- What is told of the fates of nodes where a play came.
-use Rattle.std.proofs.Common.{ℕ, ◌≡◌, refl, ap, sym, ◌∙◌, subst, Bool, true, false, cond, List, [], ◌∷◌, ◌++◌, Option, Some, None, is_some}
+use Rattle.fate_laws.proofs.Common.{Birth, Bool, Call, Entry, GoneNode, List, Node, NodeKey, None, Option, Plays, Reply, Shows, Some}
+use Rattle.fate_laws.proofs.Common.{State, Timeline, Turn, [], after, ap, birth_is, birth_of, births, cond, false, fault, gone, is_kept}
+use Rattle.fate_laws.proofs.Common.{is_some-find, joins, legal_grows, node_after, option_map, option_map_or, refl, same_key, subst, sym}
+use Rattle.fate_laws.proofs.Common.{timeline, true, was_born, ℕ, ◌++◌, ◌∙◌, ◌∷◌, ◌≡◌}
+use Rattle.std.proofs.Common.{is_some}
 use Rattle.std.specs.List.{fold}
-use Rattle.std.specs.Option.{option_map, option_map_or}
-use Rattle.sm_names.specs.declared.keys.NodeKey.{NodeKey}
-use Rattle.sm_names.specs.declared.messages.Call.{Call}
-use Rattle.sm_names.specs.declared.messages.Reply.{Reply}
-use Rattle.sm_names.specs.Births.{Birth, births, birth_of, was_born}
-use Rattle.sm_names.specs.Kept.{is_kept}
-use Rattle.sm_names.specs.Losses.{allocated, fault, gone, released}
-use Rattle.sm_names.specs.Marks.{Entry, Timeline}
-use Rattle.sm_names.specs.Sameness.{same_key}
-use Rattle.sm_names.specs.Timelines.{after, timeline}
-use Rattle.sm_names.proofs.ListLaws.{is_some-find}
-use Rattle.history_laws.proofs.BirthLaws.{birth_is}
-use Rattle.history_laws.proofs.GrowthLaws.{legal_grows}
+use Rattle.sm_names.specs.Losses.{allocated, released}
 use Rattle.history_laws.proofs.HistoryLaws.{timeline-push}
-use Rattle.forest_store.specs.declared.node.Node.{Node}
 use Rattle.forest_store.specs.Forest.{node_at}
-use Rattle.core_state.specs.Shown.{Shows, node_after}
-use Rattle.core_state.specs.State.{State}
 use Rattle.core_state.specs.Theorem.{Makes}
 use Rattle.core_state.proofs.theorem.GoesOn.{goes_on}
 use Rattle.core_state.proofs.views.Nodes.{node_is}
-use Rattle.explore_model.specs.declared.found.Turn.{Turn}
 use Rattle.explore_model.specs.declared.outcome.StepPlace.{StepPlace}
-use Rattle.actor_plays.specs.declared.falls.GoneNode.{GoneNode}
 use Rattle.actor_plays.specs.Endings.{fate_by, fate_gone, fate_of, fate_there}
-use Rattle.actor_plays.specs.Plays.{Plays, joins}
 use Rattle.actor_plays.specs.Positions.{Begins, Calls, Fell, Leaves, Passes, Position, ReachedBy, Setup}
 use Rattle.fate_laws.specs.Fates.{fate_after}
 use Rattle.fate_laws.proofs.Events.{event_told}

@@ -1,3 +1,4 @@
+mod Common
 pub mod Fell
 pub mod Forced
 pub mod Events

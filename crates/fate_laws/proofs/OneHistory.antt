@@ -1,27 +1,20 @@
 -- The turns of a play, and how far its actors are then, determine its history.
-use Rattle.std.proofs.Common.{ℕ, ◌≡◌, ◌==◌, refl, ap, sym, ◌∙◌, subst, inl, inr, List, [], ◌∷◌, ◌++◌, map, slice_get, slice_set}
-use Rattle.std.proofs.Common.{Option, Some, None}
-use Rattle.std.proofs.lemmas.Bool.{eqb-true, eq-eqb}
-use Rattle.std.specs.Option.{option_map}
-use Rattle.sm_names.specs.declared.keys.NodeKey.{NodeKey}
-use Rattle.sm_names.specs.declared.messages.Call.{Call}
-use Rattle.sm_names.specs.declared.messages.Reply.{Reply}
-use Rattle.sm_names.specs.Answers.{IsAnswer, Readings, answer, key_told}
-use Rattle.sm_names.specs.Bounds.{Bound}
+use Rattle.fate_laws.proofs.Common.{Bound, Call, Entry, IsAnswer, List, NodeKey, None, Option, Plays, Reply, Some, Turn, [], ap}
+use Rattle.fate_laws.proofs.Common.{both_ways, either_way, eqb-true, inl, inr, joins, map, map-Some, option_map, readings, refl, subst}
+use Rattle.fate_laws.proofs.Common.{sym, timeline, ℕ, ◌++◌, ◌∙◌, ◌∷◌, ◌≡◌}
+use Rattle.std.proofs.Common.{◌==◌, slice_get, slice_set}
+use Rattle.std.proofs.lemmas.Bool.{eq-eqb}
+use Rattle.sm_names.specs.Answers.{Readings, answer, key_told}
 use Rattle.sm_names.specs.Legality.{AreAnswers}
-use Rattle.sm_names.specs.Marks.{Entry}
-use Rattle.sm_names.specs.Reading.{readings}
-use Rattle.sm_names.specs.Timelines.{timeline}
-use Rattle.sm_names.proofs.SamenessLaws.{both_ways, either_way, map-Some, some-injective}
+use Rattle.sm_names.proofs.SamenessLaws.{some-injective}
 use Rattle.history_laws.proofs.GrowthLaws.{AreAnswers-append}
 use Rattle.actor_scripts.specs.declared.object.ActorObject.{ActorObject}
 use Rattle.actor_scripts.specs.declared.object.StepCall.{StepCall}
 use Rattle.actor_scripts.specs.ActorStates.{Known, step_call}
-use Rattle.explore_model.specs.declared.found.Turn.{Turn}
 use Rattle.explore_model.specs.declared.plan.Plan.{Plan}
 use Rattle.explore_model.specs.declared.plan.Planned.{Planned}
 use Rattle.actor_plays.specs.Leaves.{Leave, all_objects, leave_after, leave_call, vanishing_call}
-use Rattle.actor_plays.specs.Plays.{Plays, Stage, first_stage, joins, leaves_by, left, next_step, passed, stage_after}
+use Rattle.actor_plays.specs.Plays.{Stage, first_stage, leaves_by, left, next_step, passed, stage_after}
 use Rattle.actor_plays.proofs.PositionLaws.{get-other, get-set}
 
 -- ---- lists

@@ -1,14 +1,10 @@
 -- The node and the end that a call names.
-use Rattle.std.proofs.Common.{◌≡◌, ap, refl, ◌∙◌, Option, None, Some}
+use Rattle.lifetime_core.proofs.Common.{Call, NodeKey, None, Option, Some, State, ap, node_at, readings_of, refl, ◌∙◌, ◌≡◌}
 use Rattle.std.specs.Option.{option_and_then}
-use Rattle.sm_names.specs.declared.keys.NodeKey.{NodeKey}
-use Rattle.sm_names.specs.declared.messages.Call.{Call}
 use Rattle.sm_names.specs.Answers.{end_named}
 use Rattle.sm_names.specs.Timelines.{key_of}
 use Rattle.forest_store.specs.declared.node.Node.{Node}
-use Rattle.forest_store.specs.Forest.{node_at}
-use Rattle.core_state.specs.Reads.{end_in, node_named, open_end_in, readings_of}
-use Rattle.core_state.specs.State.{State}
+use Rattle.core_state.specs.Reads.{end_in, node_named, open_end_in}
 
 module _ (s : State) (call : Call) (named : Option NodeKey) (there : Option Node) (key : named ≡ key_of call)
     (is : there ≡ option_and_then (node_at s.forest) named) where

@@ -1,8 +1,9 @@
 -- The calls of the turns that are left.
-use Rattle.std.proofs.Common.{◌≡◌, ◌∙◌, ◌++◌, ◌<◌, ℕ, suc, List, take, drop, get_or, length, ap, sym, take-suc, drop-cons}
+use Rattle.outcome_texts.proofs.Common.{List, ap, calls_from, drop, get_or, length, suc, sym, take, take-suc, ℕ, ◌++◌, ◌<◌, ◌∙◌, ◌≡◌}
+use Rattle.std.proofs.Common.{drop-cons}
 use Rattle.explore_model.specs.declared.found.Turn.{Turn}
 use Rattle.explore_model.specs.declared.found.Found.{Found}
-use Rattle.outcome_texts.specs.Calls.{at_most_one, call_told, calls_from}
+use Rattle.outcome_texts.specs.Calls.{at_most_one, call_told}
 
 -- that of the next turn comes first
 pub calls_next : (found : Found) (turns : List Turn) (at : ℕ) (default : Turn) → at < length turns →

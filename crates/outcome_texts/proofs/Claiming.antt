@@ -1,9 +1,6 @@
 -- The claims of lines that are left.
-use Rattle.std.proofs.Common.{◌≡◌, ◌++◌, ◌+◌, ℕ, List, [], drop, take, ap, Some, None}
-use Rattle.std.specs.List.{position}
-use Rattle.script_lines.specs.Pieces.{whole_lines}
-use Rattle.script_lines.proofs.Piecing.{is_end, ends_found, unended_none}
-use Rattle.outcome_texts.specs.ClaimLines.{claim_text_of, claim_texts_from}
+use Rattle.outcome_texts.proofs.Common.{List, None, Some, [], ap, claim_text_of, claim_texts_from, drop, ends_found, is_end, position}
+use Rattle.outcome_texts.proofs.Common.{take, unended_none, whole_lines, ℕ, ◌++◌, ◌+◌, ◌≡◌}
 
 -- the first line that ends comes first
 pub texts_first : (number : ℕ) (bytes : List ℕ) (at : ℕ) → position is_end bytes ≡ Some at →

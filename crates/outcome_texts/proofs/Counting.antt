@@ -1,8 +1,6 @@
 -- Tests of the numbers below another.
-use Rattle.std.proofs.Common.{◌≡◌, ◌+◌, ℕ, Bool, arith, add-one}
+use Rattle.outcome_texts.proofs.Common.{Bool, add-one, any_below, arith, common_steps, ℕ, ◌+◌, ◌≡◌}
 use Rattle.std.specs.Prelude.{◌||◌}
-use Rattle.std.proofs.lemmas.Grind.{common_steps}
-use Rattle.outcome_texts.specs.Facts.{any_below}
 
 -- one more number is below
 pub any_more : (test : ℕ → Bool) (at : ℕ) (found more result : Bool) → result ≡ (found || more) → found ≡ any_below test at →

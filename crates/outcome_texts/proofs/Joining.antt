@@ -1,5 +1,5 @@
 -- Texts one behind another.
-use Rattle.std.proofs.Common.{◌≡◌, ◌∙◌, ◌++◌, ℕ, List, ap, append_assoc}
+use Rattle.outcome_texts.proofs.Common.{List, ap, append_assoc, ℕ, ◌++◌, ◌∙◌, ◌≡◌}
 
 -- three texts behind another
 pub three_behind : (old head joins calls : List ℕ) → old ++ head ++ joins ++ calls ≡ old ++ (head ++ joins ++ calls)

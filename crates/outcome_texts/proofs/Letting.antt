@@ -1,11 +1,11 @@
 -- Lines that let clients vanish.
-use Rattle.std.proofs.Common.{◌≡◌, ◌∙◌, ◌<◌, ◌++◌, ◌+◌, ◌||◌, ℕ, suc, Bool, false, List, [], ◌∷◌, take, get_or, length, map, ap, take-suc, add-one, arith}
+use Rattle.outcome_texts.proofs.Common.{Bool, Label, List, [], add-one, ap, arith, common_steps, get_or, length, map, may_vanish, suc}
+use Rattle.outcome_texts.proofs.Common.{take, take-suc, texts_in, ℕ, ◌++◌, ◌+◌, ◌<◌, ◌∙◌, ◌≡◌}
+use Rattle.std.proofs.Common.{◌||◌, false, ◌∷◌}
 use Rattle.std.specs.List.{list_any}
 use Rattle.std.proofs.lemmas.List.{map-append}
 use Rattle.std.proofs.lemmas.List.Folds.{list_any-append}
-use Rattle.std.proofs.lemmas.Grind.{common_steps}
-use Rattle.script_lines.specs.declared.label.Label.{Label}
-use Rattle.outcome_texts.specs.ClaimLines.{Text, lets_vanish, may_vanish, text_told, texts_in}
+use Rattle.outcome_texts.specs.ClaimLines.{Text, lets_vanish, text_told}
 use Rattle.outcome_texts.specs.declared.claims.ClaimText.{ClaimText}
 
 -- one more is looked at behind the others

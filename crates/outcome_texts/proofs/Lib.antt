@@ -1,3 +1,4 @@
+mod Common
 pub mod Calling
 pub mod Claiming
 pub mod Counting

@@ -1,10 +1,6 @@
 -- The steps of lines that are left.
-use Rattle.std.proofs.Common.{◌≡◌, ◌++◌, ◌+◌, ℕ, List, [], drop, take, ap, Some, None}
-use Rattle.std.specs.List.{position}
-use Rattle.script_lines.specs.declared.label.Label.{Label}
-use Rattle.script_lines.specs.Pieces.{whole_lines}
-use Rattle.script_lines.proofs.Piecing.{is_end, ends_found, unended_none}
-use Rattle.outcome_texts.specs.Lines.{number_and_line, steps_from}
+use Rattle.outcome_texts.proofs.Common.{Label, List, None, Some, [], ap, drop, ends_found, is_end, number_and_line, position, steps_from}
+use Rattle.outcome_texts.proofs.Common.{take, unended_none, whole_lines, ℕ, ◌++◌, ◌+◌, ◌≡◌}
 
 -- the first line that ends comes first
 pub steps_first : (labels : List Label) (number : ℕ) (bytes : List ℕ) (at : ℕ) → position is_end bytes ≡ Some at →

@@ -1,15 +1,14 @@
 -- Where the tables of two actors are alike at all that is listed, they are alike.
-use Rattle.std.proofs.Common.{ℕ, ◌≡◌, ◌==◌, ap, sym, ◌∙◌, subst, Bool, true, false, inl, inr, List, Option, None}
+use Rattle.play_likeness.proofs.Common.{Bool, BufferName, In-list_any, List, NodeKey, None, Option, ap, buffer_renamed, inl, inr}
+use Rattle.play_likeness.proofs.Common.{list_any, same_key, subst, sym, true, ℕ, ◌∙◌, ◌≡◌}
+use Rattle.std.proofs.Common.{◌==◌, false}
 use Rattle.std.proofs.lemmas.Bool.{eqb-true, eq-eqb}
-use Rattle.std.specs.List.{list_any}
 use Rattle.std.specs.Option.{option_map}
-use Rattle.sm_names.specs.declared.keys.BufferName.{BufferName}
-use Rattle.sm_names.specs.declared.keys.NodeKey.{NodeKey}
-use Rattle.sm_names.specs.Sameness.{same_buffer, same_key}
-use Rattle.sm_names.proofs.ListLaws.{In, In-list_any}
+use Rattle.sm_names.specs.Sameness.{same_buffer}
+use Rattle.sm_names.proofs.ListLaws.{In}
 use Rattle.sm_names.proofs.SamenessLaws.{either_way, same_buffer-true, same_key-true}
 use Rattle.alike_cores.specs.Alike.{KeepsIds}
-use Rattle.alike_cores.specs.Renamed.{KeepsKeys, buffer_renamed}
+use Rattle.alike_cores.specs.Renamed.{KeepsKeys}
 use Rattle.play_likeness.proofs.Listed.{each-listed}
 use Rattle.alike_cores.proofs.Finding.{one_key}
 

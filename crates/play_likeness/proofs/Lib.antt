@@ -1,3 +1,4 @@
+mod Common
 pub mod Listed
 pub mod KnownLaws
 pub mod StageLaws

@@ -1,8 +1,7 @@
 -- What holds of each element of a list.
-use Rattle.std.proofs.Common.{ℕ, ◌≡◌, ◌+◌, ◌<◌, ◌≤◌, sym, subst, Bool, true, inl, inr, List, [], ◌∷◌, get_or, length, take}
-use Rattle.std.proofs.lemmas.List.{take_all, take_more}
-use Rattle.std.specs.List.{list_any}
-use Rattle.sm_names.proofs.ListLaws.{In, In-append, In-list_any}
+use Rattle.play_likeness.proofs.Common.{Bool, In-list_any, List, [], get_or, inl, inr, length, list_any, subst, sym, take, take_all}
+use Rattle.play_likeness.proofs.Common.{take_more, true, ℕ, ◌+◌, ◌<◌, ◌∷◌, ◌≡◌, ◌≤◌}
+use Rattle.sm_names.proofs.ListLaws.{In, In-append}
 
 module _ {A : Type 0} (P : A → Type 0) where
   -- It holds of one more.

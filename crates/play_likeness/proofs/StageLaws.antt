@@ -1,11 +1,8 @@
 -- Actors that are alike, one after another.
-use Rattle.std.proofs.Common.{ℕ, ◌≡◌, ◌+◌, ◌<◌, ◌≤◌, ap, sym, ◌∙◌, subst, List, [], ◌∷◌, ◌++◌, get_or, length, map, take}
-use Rattle.std.proofs.lemmas.List.{map-append, take_all, take_more}
-use Rattle.sm_names.specs.declared.keys.NodeKey.{NodeKey}
-use Rattle.actor_plays.specs.declared.actor.Actor.{Actor}
-use Rattle.actor_plays.specs.Plays.{Stage}
-use Rattle.alike_plays.specs.Actors.{AreAlikeStages}
-use Rattle.alike_plays.specs.AlikePlays.{AreAlikeAll}
+use Rattle.play_likeness.proofs.Common.{Actor, AreAlikeAll, AreAlikeStages, List, NodeKey, Stage, [], ap, get_or, length, map, subst, sym}
+use Rattle.play_likeness.proofs.Common.{take, take_all, take_more, ℕ, ◌+◌, ◌<◌, ◌∙◌, ◌∷◌, ◌≡◌, ◌≤◌}
+use Rattle.std.proofs.Common.{◌++◌}
+use Rattle.std.proofs.lemmas.List.{map-append}
 
 module _ (to : NodeKey → NodeKey) (id number : ℕ → ℕ) where
   -- One more comes last.

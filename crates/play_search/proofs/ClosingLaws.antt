@@ -1,33 +1,26 @@
 -- When no turn leads out of the ways that a search met.
-use Rattle.std.proofs.Common.{ℕ, zero, suc, ◌≡◌, ◌<◌, ◌⊎◌, inl, inr, refl, ap, sym, subst, ◌∙◌, true, false, ◌&&◌, List, [], ◌∷◌, length}
-use Rattle.std.proofs.Common.{Option, slice_get, ◌+◌, add-one, arith, le_of_suc-le-suc}
-use Rattle.std.proofs.Math.Nat.{eq-or-lt_of_le}
-use Rattle.std.specs.Option.{option_and_then, option_map_or}
+use Rattle.play_search.proofs.Common.{AlikeIn, AreAllMet, AreClosedIn, Begins, HavePassed, In, IsAt, IsOfSetup, IsReplay, IsRowTriedIn}
+use Rattle.play_search.proofs.Common.{List, Option, Plan, Play, Position, ReachedBy, Rests, Row, Setting, Setup, Stage, TakesLeave}
+use Rattle.play_search.proofs.Common.{TakesTurn, Turn, Turned, Vanishing, [], add-one, all_rest, ap, arith, began_early, both_ways}
+use Rattle.play_search.proofs.Common.{eq-or-lt_of_le, false, inl, inr, is_made, le_of_suc-le-suc, length, may_begin, may_go_at}
+use Rattle.play_search.proofs.Common.{option_map_or, position_of, refl, same_turns, setup_of, slice_get, subst, suc, sym, true, way_met}
+use Rattle.play_search.proofs.Common.{way_to, ways_of, zero, ℕ, ◌&&◌, ◌+◌, ◌<◌, ◌∙◌, ◌∷◌, ◌≡◌}
+use Rattle.std.proofs.Common.{◌⊎◌}
+use Rattle.std.specs.Option.{option_and_then}
 use Rattle.sm_names.specs.Answers.{answer}
-use Rattle.sm_names.proofs.ListLaws.{In}
-use Rattle.sm_names.proofs.SamenessLaws.{both_ways, some-injective}
+use Rattle.sm_names.proofs.SamenessLaws.{some-injective}
 use Rattle.core_state.specs.Reads.{readings_of}
 use Rattle.forest_store.specs.Settling.{no_key}
 use Rattle.actor_scripts.specs.ActorStates.{step_call}
-use Rattle.explore_model.specs.declared.plan.Plan.{Plan}
-use Rattle.actor_plays.specs.declared.play.Play.{Play}
-use Rattle.explore_model.specs.declared.found.Turn.{Turn}
-use Rattle.actor_plays.specs.declared.play.Turned.{Turned}
-use Rattle.actor_plays.specs.Moves.{HavePassed, IsOfSetup, TakesLeave, TakesTurn, may_go_at, position_of}
-use Rattle.actor_plays.specs.Plays.{AsksNothing, Stage, is_wait, next_step}
-use Rattle.actor_plays.specs.Positions.{Asks, Begins, HasToWait, PassOn, Position, ReachedBy, Rests, Setup, may_go}
-use Rattle.actor_plays.proofs.PositionLaws.{all_rest, further}
+use Rattle.actor_plays.specs.Plays.{AsksNothing, is_wait, next_step}
+use Rattle.actor_plays.specs.Positions.{Asks, HasToWait, PassOn, may_go}
+use Rattle.actor_plays.proofs.PositionLaws.{further}
 use Rattle.alike_plays.specs.Closed.{IsSimulation}
-use Rattle.alike_plays.specs.Ways.{IsAt, IsCallTried, IsLeaveTried, LeadsBack}
+use Rattle.alike_plays.specs.Ways.{IsCallTried, IsLeaveTried, LeadsBack}
 use Rattle.alike_plays.proofs.AheadActors.{counts_early}
 use Rattle.alike_plays.proofs.AheadTurns.{ahead_simulates}
-use Rattle.alike_plays.proofs.SameTurns.{last_none, same_turns, way_met}
-use Rattle.play_search.specs.declared.graph.Row.{Row}
-use Rattle.play_search.specs.declared.replay.Setting.{Setting}
-use Rattle.explore_model.specs.declared.found.Vanishing.{Vanishing}
-use Rattle.play_search.specs.Closing.{AlikeIn, AreAllMet, AreClosedIn, IsBack, IsBackIn, IsRowTriedIn, way_to, ways_first, ways_of}
-use Rattle.play_search.specs.Searches.{IsReplay, is_made, setup_of}
-use Rattle.play_search.specs.Vanishings.{began_early, may_begin}
+use Rattle.alike_plays.proofs.SameTurns.{last_none}
+use Rattle.play_search.specs.Closing.{IsBack, IsBackIn, ways_first}
 use Rattle.actor_plays.proofs.MoveLaws.{count_first}
 
 -- One more has what all before it have: it is that one, or one before it.

@@ -1,19 +1,12 @@
 -- How plays end that are alike but for what lies behind actors that leave.
-use Rattle.std.proofs.Common.{ℕ, zero, suc, ◌≡◌, refl, ap, sym, ◌∙◌, Bool, true, false, ◌&&◌, not, List, [], ◌∷◌, ◌++◌, length, map}
-use Rattle.std.proofs.Common.{cond, Option, Some, None, is_some, slice_get}
-use Rattle.std.proofs.lemmas.Option.{slice_get-map}
-use Rattle.std.specs.Option.{option_map, option_map_or}
-use Rattle.explore_model.specs.declared.plan.Plan.{Plan}
-use Rattle.actor_plays.specs.Leaves.{Leave}
-use Rattle.actor_plays.specs.Plays.{Stage, leaves_by}
-use Rattle.actor_plays.specs.Positions.{Position, Reached, Setup, left_at}
-use Rattle.alike_plays.specs.Ahead.{AreAlikeAhead, early_in}
+use Rattle.play_search.proofs.Common.{AreAlikeAhead, Bool, IsOver, Leave, List, None, Option, Plan, Position, Reached, Setup, Some, Stage}
+use Rattle.play_search.proofs.Common.{[], ap, began_early, cond, early_at, early_in, false, is_done, is_early, is_some, left_at, length}
+use Rattle.play_search.proofs.Common.{map, must_leave, not, option_map, option_map_or, reached_seen, refl, slice_get, slice_get-map, suc}
+use Rattle.play_search.proofs.Common.{sym, true, vanished, vanished_first, zero, ℕ, ◌&&◌, ◌++◌, ◌∙◌, ◌∷◌, ◌≡◌}
+use Rattle.actor_plays.specs.Plays.{leaves_by}
 use Rattle.alike_plays.proofs.AheadActors.{both_at, both_leave, same_step}
 use Rattle.alike_plays.proofs.Ending.{as_many, stage_behind}
-use Rattle.alike_plays.proofs.Reaching.{reached_seen}
 use Rattle.alike_plays.proofs.TurnsLeft.{asks_behind, leaves_left, waits_ahead}
-use Rattle.play_search.specs.Ends.{IsOver}
-use Rattle.play_search.specs.Vanishings.{began_early, early_at, is_done, is_early, must_leave, vanished, vanished_first}
 
 module _ (early : ℕ → ℕ → Bool) (p r : Position) (like : AreAlikeAhead early p r) where
   -- An actor must leave in both, or in none.

@@ -1,27 +1,12 @@
 -- Where no turn leads out of what a search met, and each play of it that is over ends as one of these outcomes says, none is missing.
-use Rattle.std.proofs.Common.{ℕ, ◌≡◌, subst, ◌∙◌, Bool, true, List, length}
-use Rattle.sm_names.proofs.SamenessLaws.{both_ways}
-use Rattle.explore_model.specs.declared.plan.Plan.{Plan}
-use Rattle.actor_plays.specs.declared.play.Play.{Play}
-use Rattle.explore_model.specs.declared.found.Turn.{Turn}
-use Rattle.actor_plays.specs.declared.play.Turned.{Turned}
-use Rattle.actor_plays.specs.Moves.{TakesTurn, position_of}
-use Rattle.actor_plays.specs.Plays.{stages_of}
-use Rattle.actor_plays.specs.Positions.{Calls, Position, Reached, Rests, Setup}
-use Rattle.actor_plays.proofs.PositionLaws.{all_rest, by_turns}
-use Rattle.alike_plays.specs.Ahead.{AreAlikeAhead}
-use Rattle.alike_plays.specs.Ways.{IsAt}
+use Rattle.play_search.proofs.Common.{AlikeIn, AreAlikeAhead, AreClosedIn, AreRowsEnded, Bool, Found, IsAt, IsOnWay, IsOver, List}
+use Rattle.play_search.proofs.Common.{NoneIsMissing, Plan, Play, Position, Reached, Rests, Row, Setting, Setup, TakesTurn, Turn, Turned}
+use Rattle.play_search.proofs.Common.{Vanishing, all_rest, began_early, both_ways, is_made, length, must_leave, position_of, reached_seen}
+use Rattle.play_search.proofs.Common.{same_turns, setup_of, stages_of, subst, true, way_met, way_to, ways_of, ℕ, ◌∙◌, ◌≡◌}
+use Rattle.actor_plays.specs.Positions.{Calls}
+use Rattle.actor_plays.proofs.PositionLaws.{by_turns}
 use Rattle.alike_plays.proofs.Ending.{ends-same}
-use Rattle.alike_plays.proofs.Reaching.{reached_seen}
-use Rattle.alike_plays.proofs.SameTurns.{same_turns, way_met}
-use Rattle.explore_model.specs.declared.found.Found.{Found}
-use Rattle.play_search.specs.declared.graph.Row.{Row}
-use Rattle.play_search.specs.declared.replay.Setting.{Setting}
-use Rattle.explore_model.specs.declared.found.Vanishing.{Vanishing}
-use Rattle.play_search.specs.Closing.{AlikeIn, AreClosedIn, way_to, ways_of}
-use Rattle.play_search.specs.Ends.{AreRowsEnded, EndsAsOne, HasToLeave, IsOver, NoneIsMissing}
-use Rattle.play_search.specs.Searches.{IsOnWay, is_made, setup_of}
-use Rattle.play_search.specs.Vanishings.{began_early, must_leave}
+use Rattle.play_search.specs.Ends.{EndsAsOne, HasToLeave}
 use Rattle.play_search.proofs.ClosingLaws.{do_the_same, in_way}
 use Rattle.play_search.proofs.EndLaws.{all_vanished, over_alike}
 

@@ -1,3 +1,4 @@
+mod Common
 pub mod ClosingLaws
 pub mod EndLaws
 pub mod EndingLaws

@@ -1,23 +1,17 @@
 -- How plays of a search come to where they are.
-use Rattle.std.proofs.Common.{ℕ, zero, suc, ◌≡◌, ◌<◌, ◌+◌, refl, ap, sym, subst, ◌∙◌, Bool, true, false, ◌&&◌, ◌||◌, not, List, [], ◌∷◌}
-use Rattle.std.proofs.Common.{cond, length, length-append, map, Option, Some, None, is_some, slice_get}
-use Rattle.std.proofs.lemmas.List.{length-map}
-use Rattle.std.proofs.lemmas.Option.{slice_get-map, slice_get_within}
-use Rattle.std.specs.Option.{option_map, option_map_or}
-use Rattle.explore_model.specs.declared.plan.Plan.{Plan}
-use Rattle.actor_plays.specs.declared.play.Play.{Play}
-use Rattle.explore_model.specs.declared.found.Turn.{Turn}
-use Rattle.actor_plays.specs.Leaves.{Leave}
-use Rattle.actor_plays.specs.Moves.{HasRest, HavePassed, IsOfSetup, TakesLeave, may_go_at, position_of}
-use Rattle.actor_plays.specs.Plays.{IsLeave, IsPlay, Stage, first_clients, stages_of}
-use Rattle.actor_plays.specs.Positions.{Begins, ReachedBy, Setup, left_at, may_go as allowed}
+use Rattle.play_search.proofs.Common.{Begins, Bool, HavePassed, IsLeave, IsOfSetup, IsOnWay, IsPlay, IsReplay, Leave, List, None, Option}
+use Rattle.play_search.proofs.Common.{Plan, Play, ReachedBy, Setting, Setup, Some, Stage, TakesLeave, Turn, Vanishing, [], ap}
+use Rattle.play_search.proofs.Common.{began_early, began_in, cond, early_at, early_in, false, is_done, is_early, is_some, left_at, length}
+use Rattle.play_search.proofs.Common.{length-map, map, may_begin, may_go_at, not, option_map, option_map_or, position_of, refl, setup_of}
+use Rattle.play_search.proofs.Common.{slice_get, slice_get-map, slice_get_within, stages_of, subst, suc, sym, true, vanished}
+use Rattle.play_search.proofs.Common.{vanished_first, zero, ℕ, ◌&&◌, ◌+◌, ◌<◌, ◌∙◌, ◌∷◌, ◌≡◌}
+use Rattle.std.proofs.Common.{◌||◌, length-append}
+use Rattle.actor_plays.specs.Moves.{HasRest}
+use Rattle.actor_plays.specs.Plays.{first_clients}
+use Rattle.actor_plays.specs.Positions.{may_go as allowed}
 use Rattle.actor_plays.proofs.MoveLaws.{come_leave, come_on, come_start}
-use Rattle.alike_plays.specs.Ahead.{count_early, early_first, early_in, is_early_in}
-use Rattle.play_search.specs.declared.replay.Setting.{Setting}
-use Rattle.explore_model.specs.declared.found.Vanishing.{Vanishing}
-use Rattle.play_search.specs.Searches.{IsOnWay, IsReplay, setup_of}
-use Rattle.play_search.specs.Vanishings.{began_early, began_in, early_at, early_place, is_done, is_early, may_begin, may_go, vanished}
-use Rattle.play_search.specs.Vanishings.{vanished_first}
+use Rattle.alike_plays.specs.Ahead.{count_early, early_first, is_early_in}
+use Rattle.play_search.specs.Vanishings.{early_place, may_go}
 
 module _ (at_end : Bool) (plans : List Plan) (stages : List Stage) where
   -- Who left before its end is told by where it began to leave.

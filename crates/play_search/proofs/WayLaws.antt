@@ -1,12 +1,10 @@
 -- The turns of a way, gone back one after another.
-use Rattle.std.proofs.Common.{ℕ, zero, suc, ◌≡◌, ◌≤◌, ◌<◌, ◌+◌, ◌==◌, refl, ap, sym, subst, ◌∙◌, Bool, true, false, cond, List, [], ◌∷◌, ◌++◌, length, reverse}
-use Rattle.std.proofs.Common.{Option, Some, None, slice_get, arith, append_assoc}
+use Rattle.play_search.proofs.Common.{Bool, List, None, Option, Row, Some, Turn, [], ap, arith, cond, false, length, option_map_or, refl}
+use Rattle.play_search.proofs.Common.{slice_get, subst, suc, sym, true, way_to, zero, ℕ, ◌++◌, ◌+◌, ◌<◌, ◌∙◌, ◌∷◌, ◌≡◌, ◌≤◌}
+use Rattle.std.proofs.Common.{◌==◌, reverse, append_assoc}
 use Rattle.std.proofs.lemmas.Bool.{eqb-true}
 use Rattle.std.proofs.lemmas.List.{reverse-append}
-use Rattle.std.specs.Option.{option_map_or}
-use Rattle.explore_model.specs.declared.found.Turn.{Turn}
-use Rattle.play_search.specs.declared.graph.Row.{Row}
-use Rattle.play_search.specs.Closing.{turn_numbered, way_behind, way_to}
+use Rattle.play_search.specs.Closing.{turn_numbered, way_behind}
 
 -- behind so many rows, these are the last turns of the way, the last one first
 abbrev pub IsPart : List Row → ℕ → ℕ → List Turn → List Turn → Type 0

@@ -1,16 +1,11 @@
 -- Where the core under the lock made an event, so did the one that is it but for taken readers.
-use Rattle.std.proofs.Common.{ℕ, ◌≡◌, ◌∙◌, ap, refl, subst, sym, not, if◌then◌else◌, nat_le, List, [], ◌∷◌, ◌++◌}
-use Rattle.std.proofs.Common.{Option, Some, None, length}
+use Rattle.service_lock.proofs.Common.{Bound, Call, Called, Entry, List, NodeKey, None, Option, Reply, Shows, Some, SomeCoreCame, State}
+use Rattle.service_lock.proofs.Common.{Strength, [], ap, length, refl, subst, sym, ℕ, ◌++◌, ◌∙◌, ◌∷◌, ◌≡◌}
+use Rattle.std.proofs.Common.{not, if◌then◌else◌, nat_le}
 use Rattle.std.specs.List.{filter}
 use Rattle.std.specs.Option.{option_and_then, option_map_or}
-use Rattle.sm_names.specs.declared.keys.NodeKey.{NodeKey}
-use Rattle.sm_names.specs.declared.keys.Strength.{Strength}
-use Rattle.sm_names.specs.declared.messages.Call.{Call}
-use Rattle.sm_names.specs.declared.messages.Reply.{Reply}
 use Rattle.sm_names.specs.Answers.{IsAnswer, Readings, new_key}
-use Rattle.sm_names.specs.Bounds.{Bound}
 use Rattle.sm_names.specs.Handles.{is_doomed}
-use Rattle.sm_names.specs.Marks.{Called, Entry}
 use Rattle.sm_names.specs.Members.{some_strong_live}
 use Rattle.sm_names.specs.Trackers.{World}
 use Rattle.buffer_holds.specs.Counts.{Counts, total}
@@ -22,12 +17,12 @@ use Rattle.forest_store.specs.Forest.{Collection, Forest, collection_at, node_at
 use Rattle.forest_store.specs.Nodes.{is_spent, members_of}
 use Rattle.forest_store.specs.Settling.{Handles, buffer_names}
 use Rattle.core_state.specs.Reads.{open_end_of, readings_of, world_in}
-use Rattle.core_state.specs.Shown.{Shows}
-use Rattle.core_state.specs.State.{IsSame, State, counts_of}
-use Rattle.core_state.specs.Steps.{Follows, GainsTracker, Work, Worked, at_collection, birth_by, done_to, handles_by, swept, tracker_by, work_of}
+use Rattle.core_state.specs.State.{IsSame, counts_of}
+use Rattle.core_state.specs.Steps.{Follows, GainsTracker, Work, Worked, at_collection, birth_by, done_to, handles_by, swept, tracker_by}
+use Rattle.core_state.specs.Steps.{work_of}
 use Rattle.core_state.specs.Theorem.{Makes}
 use Rattle.core_state.proofs.theorem.Leads.{leads_limits, leads_on, leads_pool}
-use Rattle.service_lock.specs.Comings.{CameBy, SomeCoreCame, IsButTaken}
+use Rattle.service_lock.specs.Comings.{CameBy, IsButTaken}
 
 -- ---- one event
 

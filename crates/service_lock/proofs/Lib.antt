@@ -1,3 +1,4 @@
+mod Common
 pub mod ComingLaws
 pub mod MarkLaws
 pub mod MoveLaws

@@ -1,15 +1,9 @@
 -- What an event moves is what its mark opens, drops, gives and collects for anyone.
-use Rattle.std.proofs.Common.{ℕ, ◌≡◌, ◌+◌, refl, ap, List, [], ◌∷◌, ◌++◌, arith}
-use Rattle.std.proofs.lemmas.List.Sums.{sum_by-append, sum_by-cons}
+use Rattle.service_lock.proofs.Common.{Call, Called, Entry, HandleMoves, List, Reply, Strength, [], anyone, ap, arith, moves_by, opened}
+use Rattle.service_lock.proofs.Common.{opened_at, refl, sum_by-cons, ℕ, ◌++◌, ◌+◌, ◌∷◌, ◌≡◌}
+use Rattle.std.proofs.lemmas.List.Sums.{sum_by-append}
 use Rattle.std.specs.List.{sum_by}
-use Rattle.sm_names.specs.declared.keys.Strength.{Strength}
-use Rattle.sm_names.specs.declared.messages.Call.{Call}
-use Rattle.sm_names.specs.declared.messages.Reply.{Reply}
-use Rattle.sm_names.specs.Marks.{Entry, Called}
-use Rattle.event_laws.specs.ByEvent.{anyone}
-use Rattle.event_laws.specs.HandleSums.{opened_at, dropped_at, sent_at, got_at, opened, dropped, sent, got}
-use Rattle.service_lock.specs.declared.moves.HandleMoves.{HandleMoves}
-use Rattle.service_lock.specs.Counting.{moves_by}
+use Rattle.event_laws.specs.HandleSums.{dropped_at, sent_at, got_at, dropped, sent, got}
 
 -- what the mark of an event does
 abbrev at_mark : Strength → ℕ → Reply → Call → HandleMoves

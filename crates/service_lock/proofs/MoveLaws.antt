@@ -1,16 +1,13 @@
 -- How many handles an event can open or move.
-use Rattle.std.proofs.Common.{[], ◌∷◌, ◌≡◌, ◌≤◌, ◌+◌, ◌*◌, ◌⊎◌, refl, inl, inr, List, length, arith}
-use Rattle.std.proofs.lemmas.List.Sums.{sum_by-cons}
+use Rattle.service_lock.proofs.Common.{Call, Called, Entry, List, Reply, Strength, [], anyone, arith, inl, inr, length, moves_by, opened}
+use Rattle.service_lock.proofs.Common.{opened_at, refl, sum_by-cons, ◌+◌, ◌∷◌, ◌≡◌, ◌≤◌}
+use Rattle.std.proofs.Common.{◌*◌, ◌⊎◌}
 use Rattle.sm_names.specs.declared.rules.TheConstants.{MAX_BUFFERS}
-use Rattle.sm_names.specs.declared.keys.Strength.{Strength}
-use Rattle.sm_names.specs.declared.messages.Call.{Call}
-use Rattle.sm_names.specs.declared.messages.Reply.{Reply}
-use Rattle.sm_names.specs.Marks.{Entry, Mark, Called}
+use Rattle.sm_names.specs.Marks.{Mark}
 use Rattle.sm_names.specs.Sameness.{same_strength}
-use Rattle.event_laws.specs.ByEvent.{anyone, entry_mark}
-use Rattle.event_laws.specs.HandleSums.{indices_in, opened, opened_at}
+use Rattle.event_laws.specs.ByEvent.{entry_mark}
+use Rattle.event_laws.specs.HandleSums.{indices_in}
 use Rattle.event_laws.proofs.SetLaws.{indices_most, cond-le}
-use Rattle.service_lock.specs.Counting.{moves_by}
 use Rattle.service_lock.specs.Units.{needed}
 
 -- so a mark opens no more

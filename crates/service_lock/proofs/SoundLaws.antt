@@ -1,20 +1,12 @@
 -- The books go on with the record.
-use Rattle.std.proofs.Common.{ℕ, ◌≡◌, ◌≤◌, ◌<◌, ◌+◌, ◌^◌, ap, subst, sym, ◌∙◌, inl, inr, List, [], ◌∷◌, ◌++◌, length, length-append, arith}
-use Rattle.sm_names.specs.declared.keys.Strength.{Strength}
-use Rattle.sm_names.specs.declared.keys.Strength.TheVariants.{Strong, Weak}
-use Rattle.sm_names.specs.declared.messages.Call.{Call}
-use Rattle.sm_names.specs.declared.messages.Reply.{Reply}
-use Rattle.sm_names.specs.Bounds.{Bound}
-use Rattle.sm_names.specs.Legality.{IsLegal}
-use Rattle.sm_names.specs.Marks.{Entry}
+use Rattle.service_lock.proofs.Common.{Bound, Call, Entry, HandleMoves, IsLegal, List, Reply, Shows, State, StateInvariant, Strength}
+use Rattle.service_lock.proofs.Common.{Strong, Weak, [], ap, arith, inl, inr, length, length-append, moves_by, subst, sym, ℕ, ◌++◌, ◌+◌}
+use Rattle.service_lock.proofs.Common.{◌∙◌, ◌∷◌, ◌≡◌, ◌≤◌}
+use Rattle.std.proofs.Common.{◌<◌, ◌^◌}
 use Rattle.sm_names.specs.Timelines.{timeline}
 use Rattle.event_laws.specs.HandleSums.{all_moving, all_open}
 use Rattle.event_laws.proofs.HandleSumLaws.{all_moving_adds, all_open_adds}
-use Rattle.core_state.specs.Shown.{Shows}
-use Rattle.core_state.specs.State.{State}
-use Rattle.service_lock.specs.declared.moves.HandleMoves.{HandleMoves}
-use Rattle.service_lock.specs.Counting.{moves_by}
-use Rattle.service_lock.specs.States.{CountsHandles, StateInvariant}
+use Rattle.service_lock.specs.States.{CountsHandles}
 use Rattle.service_lock.specs.Units.{BookSums, Written}
 use Rattle.service_lock.proofs.ComingLaws.{came_first}
 use Rattle.service_lock.proofs.MarkLaws.{dropped_push, got_push, opened_push, sent_push}

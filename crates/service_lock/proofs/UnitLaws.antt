@@ -1,12 +1,9 @@
 -- Units of handles, and what events do to them.
-use Rattle.std.proofs.Common.{◌≡◌, ◌∙◌, ◌+◌, ap, Bool, true, cond, Option, None, Some, arith}
-use Rattle.sm_names.specs.declared.keys.NodeKey.{NodeKey}
-use Rattle.sm_names.specs.declared.keys.Strength.{Strength}
-use Rattle.sm_names.specs.declared.keys.Strength.TheVariants.{Strong, Weak}
-use Rattle.sm_names.specs.declared.messages.Call.{Call}
-use Rattle.sm_names.specs.declared.messages.Reply.{Reply}
+use Rattle.service_lock.proofs.Common.{Call, NodeKey, None, Option, Reply, SameHandles, Some, Strength, Strong, Weak, ap, arith}
+use Rattle.service_lock.proofs.Common.{no_amounts, with_gain, ◌+◌, ◌∙◌, ◌≡◌}
+use Rattle.std.proofs.Common.{Bool, true, cond}
 use Rattle.service_lock.specs.Units.{Amounts, CountsEvent, HasUnitFor, with_one}
-use Rattle.service_lock.specs.Accounts.{SameHandles, gained, is_done, lets_go, may_gain, no_amounts, handle_unit, with_gain}
+use Rattle.service_lock.specs.Accounts.{gained, is_done, lets_go, may_gain, handle_unit}
 use Rattle.service_lock.specs.Takes.{told_taken, units_by}
 
 -- a handle that moves between clients is no event for the giver

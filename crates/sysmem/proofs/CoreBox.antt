@@ -1,9 +1,7 @@
 -- A box with a core, and a place that keeps one: they own the same.
-use mathlib.Core.List.{[]}
-use mir.Syntax.{impl, tnil, dnil}
-use denote.RattleType.{RattleType}
-use denote.Signature.{Slot, plain}
-use Rattle.std_alloc.proofs.BoxSteps.Form.{Bx}
+use Rattle.sysmem.proofs.Common.{Bx, RattleType, [], dnil, plain, tnil}
+use mir.Syntax.{impl}
+use denote.Signature.{Slot}
 use Rattle.std_heap.specs.contracts.GlobalAllocator.TheImpl.{ghosts, dict}
 use Rattle.std_heap.specs.contracts.Global as heap
 use Rattle.std_heap.proofs.Global.TheLaws as heap_laws

@@ -1,5 +1,6 @@
 -- Writing words over places, one after the other.
-use Rattle.std.proofs.Common.{◌≡◌, ℕ, zero, suc, ◌+◌, ◌<◌, List, [], ◌∷◌, ◌++◌, drop, get_or, length, set, take, refl, ap, ◌∙◌, arith}
+use Rattle.sysmem.proofs.Common.{arith, get_or, length, take, ◌<◌, ◌∙◌}
+use Rattle.std.proofs.Common.{◌≡◌, ℕ, zero, suc, ◌+◌, List, [], ◌∷◌, ◌++◌, drop, set, refl, ap}
 
 -- the next word, written over its place, makes the part that is written one word longer
 step : {A : Type 0} (words places : List A) (i : ℕ) (z : A) → i < length words → i < length places

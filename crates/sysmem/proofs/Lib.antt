@@ -1,3 +1,4 @@
+mod Common
 mod CoreBox
 mod FirstPlaces
 mod Unboxing

@@ -1,28 +1,22 @@
 -- What the parts of a box own, and their machine values, at the box E. Assumes `Logic`.
 --     Parts, parts_out, parts_in     the pointer and the allocator as a pair. Its value is told by the pointer and by the allocator's bits
 --     Loose, loose_out, loose_in     the same with what the box owned
-use mathlib.Core.Path.{◌≡◌, ◌∙◌, refl, subst}
-use mathlib.Core.List.{List, [], ◌∷◌, ◌++◌}
+use Rattle.sysmem.proofs.Common.{Bx, List, P, Ptr, R, RattleType, RawPtr, Val, Valss, WT, [], and_tt, block_ptr, box_owns, box_typed}
+use Rattle.sysmem.proofs.Common.{drop, feq_i, fjoin, fpack, fsplit, fst∗, handle_tells, has_ty, in_a_block, move, never, nothing}
+use Rattle.sysmem.proofs.Common.{null_ptr, of_list, ptr_val, refl, sem, shape, subst, tnil, token, vcons, vnil, vptr, vstruct, within}
+use Rattle.sysmem.proofs.Common.{word, τ, ‵, ◌$◌, ◌++◌, ◌∷◌, ◌≡◌}
+use mathlib.Core.Path.{◌∙◌}
 use Prim.Native.Nat.{ℕ}
 use lib.Dec.{T}
 use seplogic.Ra.Ura.{Ura}
 use mir.Raw.{raw as bare}
-use mir.Syntax.{ty_struct, ty_ptr, tcons, tnil}
-use mir.Val.{Val, vptr, vstruct, vcons, vnil, of_list, has_ty, WT}
-use base.Logic.{never, fst∗}
-use types.Logic.{Logic, sem}
-use types.Kit.{Item, Goal, Seq, Step, step, ‵, ◌$◌, move, drop, fsplit, fjoin, fpick, fpack, feq_i, feq_l}
-use denote.RattleType.{RattleType, Valss}
-use denote.RawPtr.{Ptr, RawPtr, block_ptr, null_ptr, ptr_val, in_a_block}
-use denote.Steps.{nothing}
-use denote.Struct.Declared as declared
-use denote.Struct.Owning.{shape}
-use denote.Struct.Struct.{within}
+use mir.Syntax.{ty_struct, ty_ptr, tcons}
+use types.Logic.{Logic}
+use types.Kit.{Item, Goal, Seq, Step, step, fpick, feq_l}
 use denote.Struct.Tuple.{Tuple, tuple_type}
-use Rattle.std.proofs.alloc.Calls.{token, Fits, α, handle_tells}
-use Rattle.std_alloc.proofs.BoxSteps.Form.{Bx, τ, R, P, handle, word, box_typed}
-use Rattle.std_alloc.proofs.ResultValues.{and_tt}
-use Rattle.std_alloc.specs.Box.Ownership.{box_owns}
+use Rattle.std.proofs.alloc.Calls.{Fits, α}
+use Rattle.std_alloc.proofs.BoxSteps.Form.{handle}
+use denote.Struct.Declared as declared
 use Rattle.sysmem.specs.contracts.raw.Unboxed as unboxed
 
 module _ (E : Bx) where

@@ -1,19 +1,10 @@
 -- How an actor of a play comes through its steps and leaves.
-use Rattle.std.proofs.Common.{ℕ, ◌+◌, ◌≡◌, ◌∙◌, ◌||◌, refl, sym, ap, subst, true, false, List, [], ◌∷◌, ◌++◌, append_assoc}
-use Rattle.std.proofs.Common.{length, length-append, Option, Some, None, is_some, slice_get}
-use Rattle.std.specs.Option.{option_and_then}
-use Rattle.sm_names.specs.declared.messages.Call.{Call}
-use Rattle.sm_names.specs.declared.messages.Reply.{Reply}
-use Rattle.actor_scripts.specs.declared.object.StepCall.{StepCall}
-use Rattle.actor_scripts.specs.declared.step.Step.{Step}
-use Rattle.actor_scripts.specs.ActorStates.{Known, state_after, step_call}
+use Rattle.thread_runs.proofs.Common.{Call, Known, List, None, Option, Plan, Planned, Reply, Setup, Some, Stage, Step, StepCall, Waiting}
+use Rattle.thread_runs.proofs.Common.{[], ap, append_assoc, false, first_stage, is_some, leaves_by, left, length, length-append}
+use Rattle.thread_runs.proofs.Common.{next_step, option_and_then, passed, planned, refl, slice_get, stage_after, step_call, steps_of}
+use Rattle.thread_runs.proofs.Common.{subst, sym, true, ℕ, ◌++◌, ◌+◌, ◌||◌, ◌∙◌, ◌∷◌, ◌≡◌}
+use Rattle.actor_scripts.specs.ActorStates.{state_after}
 use Rattle.actor_scripts.specs.ScriptRuns.{RunsScript}
-use Rattle.explore_model.specs.declared.plan.Plan.{Plan}
-use Rattle.explore_model.specs.declared.plan.Planned.{Planned}
-use Rattle.explore_model.specs.declared.plan.Waiting.{Waiting}
-use Rattle.explore_model.specs.Plans.{planned, steps_of}
-use Rattle.actor_plays.specs.Plays.{Stage, first_stage, leaves_by, left, next_step, passed, stage_after}
-use Rattle.actor_plays.specs.Positions.{Setup}
 use Rattle.thread_runs.proofs.OncePlanLaws.{get-behind, get-end, once, planned-at-once, planned-length}
 
 -- from this stage the actor comes to its end by these calls on these replies: it passes steps that make no call and makes the calls of

@@ -1,15 +1,10 @@
 -- A record that is just that of its actors begins with their joins.
-use Rattle.std.proofs.Common.{ℕ, zero, suc, ◌+◌, ◌≡◌, ◌≤◌, ◌<◌, ◌==◌, ◌&&◌, ◌∙◌, refl, sym, ap, subst, Bool, true, false, nat_le, arith}
-use Rattle.std.proofs.Common.{if◌then◌else◌, List, [], ◌∷◌, ◌++◌, Some, None}
-use Rattle.std.proofs.lemmas.Bool.{and_parts, eqb-true, le-ltb, leb-true, lt-ltb}
+use Rattle.thread_runs.proofs.Common.{All, Bool, Call, Entry, JoinsFirst, List, None, Reply, Some, [], ap, arith, eqb-true, false}
+use Rattle.thread_runs.proofs.Common.{first_clients, first_unfit, if◌then◌else◌, joins, lt-ltb, nat_le, refl, subst, suc, sym, true, zero}
+use Rattle.thread_runs.proofs.Common.{ℕ, ◌&&◌, ◌++◌, ◌+◌, ◌<◌, ◌==◌, ◌∙◌, ◌∷◌, ◌≡◌, ◌≤◌}
+use Rattle.std.proofs.lemmas.Bool.{and_parts, le-ltb, leb-true}
 use Rattle.std.proofs.lemmas.List.Elements.{All-cons, All-nil}
-use Rattle.std.specs.List.{All}
-use Rattle.sm_names.specs.declared.messages.Call.{Call}
-use Rattle.sm_names.specs.declared.messages.Reply.{Reply}
-use Rattle.sm_names.specs.Marks.{Entry}
-use Rattle.actor_plays.specs.Plays.{first_clients, joins}
-use Rattle.thread_runs.specs.Company.{first_unfit, is_fit, joins_as}
-use Rattle.thread_runs.specs.RunPlays.{JoinsFirst}
+use Rattle.thread_runs.specs.Company.{is_fit, joins_as}
 use Rattle.thread_runs.proofs.JoinLaws.{one-join}
 
 -- such an event is a join of this client

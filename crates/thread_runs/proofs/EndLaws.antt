@@ -1,17 +1,12 @@
 -- Ends of actors, and the parts that they leave.
-use Rattle.std.proofs.Common.{◌≡◌, ℕ, List, [], ◌∷◌, ◌++◌, Option, Some, None, refl, sym, ap, ◌∙◌, subst, append_assoc, reverse, map}
+use Rattle.thread_runs.proofs.Common.{ActorEnd, AllZip, Holding, IsLate, IsLeft, List, None, Option, PartedTo, Remains, Seen, Some}
+use Rattle.thread_runs.proofs.Common.{ThreadsFault, [], ap, append_assoc, end_id, first_fault, ids_of, map, refl, subst, sym, ℕ, ◌++◌}
+use Rattle.thread_runs.proofs.Common.{◌∙◌, ◌∷◌, ◌≡◌}
+use Rattle.std.proofs.Common.{reverse}
 use Rattle.std.proofs.lemmas.List.{reverse-append, reverse-reverse}
-use Rattle.std.specs.List.{AllZip}
 use Rattle.std.specs.Option.{option_or}
-use Rattle.client_vanish.specs.declared.gathering.Holding.{Holding}
-use Rattle.client_vanish.specs.Gatherings.{ids_of}
-use Rattle.client_vanish.specs.Vanishings.{Remains}
-use Rattle.client_ends.specs.Clients.{Seen}
-use Rattle.client_actors.specs.declared.gate.ActorEnd.{ActorEnd}
-use Rattle.client_actors.specs.ActorEnds.{end_id}
 use Rattle.sm_names.specs.declared.outcomes.StepFault.{StepFault}
-use Rattle.thread_runs.specs.declared.fault.ThreadsFault.{ThreadsFault}
-use Rattle.thread_runs.specs.Gathered.{IsLate, IsLeft, PartedTo, end_fault, first_fault, step_fault}
+use Rattle.thread_runs.specs.Gathered.{end_fault, step_fault}
 
 -- one more on both sides
 AllZip-more : {A B : Type 0} (R : A → B → Type 0) (xs : List A) (ys : List B) (x : A) (y : B) → AllZip R xs ys → R x y →

@@ -1,8 +1,10 @@
 -- How a program that runs actors ends.
-use Rattle.std.proofs.Common.{◌≡◌, ◌≤◌, ◌⊎◌, ℕ, List, ◌++◌, length, append-nil, Option, Some, None, refl, sym, ap, ◌∙◌, subst, inl, inr}
+use Rattle.thread_runs.proofs.Common.{Actors, Appends, EndsUntold, GatherFault, HasNoReport, HasRunActors, IsNotTold, IsRead, List, None}
+use Rattle.thread_runs.proofs.Common.{Option, Output, Some, ThreadsFault, ap, append-nil, inl, inr, length, refl, subst, sym, ℕ, ◌++◌}
+use Rattle.thread_runs.proofs.Common.{◌∙◌, ◌≡◌, ◌≤◌}
+use Rattle.std.proofs.Common.{◌⊎◌}
 use Rattle.std.specs.Prelude.{Ok, Err, Result, OnOk, IfErr}
-use Rattle.std.specs.Io.KnownBytes.{Appends, Consumes, IsAtEnd}
-use Rattle.client_vanish.specs.declared.fault.GatherFault.{GatherFault}
+use Rattle.std.specs.Io.KnownBytes.{Consumes, IsAtEnd}
 use Rattle.script_lines.specs.declared.TheConstants.{MOST_BYTES}
 use Rattle.script_lines.specs.Written.{WritesPart}
 use Rattle.report_io.specs.declared.fault.ReportFault.{ReportFault}
@@ -10,12 +12,9 @@ use Rattle.report_io.specs.ActorReasons.{reason_at}
 use Rattle.report_io.specs.Faults.{HasReason, IsBadLine, IsReported, IsTold, IsWriteFault, fault_line, fault_status, report_status}
 use Rattle.report_io.specs.Streams.{Came, IsUnread}
 use Rattle.report_io.proofs.Reporting.{write_fault_is}
-use Rattle.actor_scripts.specs.ActorLists.{Actors, script_actors}
+use Rattle.actor_scripts.specs.ActorLists.{script_actors}
 use Rattle.actor_scripts.specs.Reads.{IsBad, ReadsPart, ReadsWhole}
-use Rattle.thread_runs.specs.declared.fault.ThreadsFault.{ThreadsFault}
-use Rattle.thread_runs.specs.declared.job.Output.{Output}
-use Rattle.thread_runs.specs.Endings.{EndsThreads, EndsUntold, IsBadTold, IsTextTold, program_limits}
-use Rattle.thread_runs.specs.Runs.{HasNoReport, HasRunActors, IsNotTold, IsRead}
+use Rattle.thread_runs.specs.Endings.{EndsThreads, IsBadTold, IsTextTold, program_limits}
 use Rattle.thread_runs.proofs.Failing.{written-told}
 
 -- refused memory is told by its text

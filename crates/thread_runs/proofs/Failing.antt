@@ -1,14 +1,8 @@
 -- Why nothing is told of a run of actors.
-use Rattle.std.proofs.Common.{◌≡◌, ℕ, List, Option, refl, sym, subst}
-use Rattle.sm_names.specs.Bounds.{Bound}
-use Rattle.client_vanish.specs.declared.fault.GatherFault.{GatherFault}
-use Rattle.actor_scripts.specs.declared.actor_list.ActorList.{ActorList}
-use Rattle.actor_scripts.specs.ActorLists.{Actors, actors_of}
+use Rattle.thread_runs.proofs.Common.{ActorList, Actors, Bound, GatherFault, HasNoReport, HasRunActors, IsLate, IsNotTold, IsRead, List}
+use Rattle.thread_runs.proofs.Common.{Option, Output, ThreadsFault, actors_of, refl, subst, sym, ℕ, ◌≡◌}
 use Rattle.actor_scripts.specs.Reads.{ReadsActors as IsReadAs}
-use Rattle.thread_runs.specs.declared.fault.ThreadsFault.{ThreadsFault}
-use Rattle.thread_runs.specs.declared.job.Output.{Output}
-use Rattle.thread_runs.specs.Gathered.{IsLate}
-use Rattle.thread_runs.specs.Runs.{HasNoReport, HasRunActors, IsNotTold, IsRead, RunFails}
+use Rattle.thread_runs.specs.Runs.{RunFails}
 
 module _ (before after : Option (List ℕ)) (list : ActorList) (so : IsReadAs before after list) where
   -- the actors that the reader returns are those of the script that it read

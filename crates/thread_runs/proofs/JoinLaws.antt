@@ -1,29 +1,14 @@
 -- Records in which all actors join before all other events.
-use Rattle.std.proofs.Common.{ℕ, zero, suc, ◌+◌, ◌-◌, ◌≡◌, ◌<◌, ◌≤◌, ◌==◌, ◌∙◌, ◌&&◌, refl, sym, ap, subst, inl, inr, arith, Bool, true}
-use Rattle.std.proofs.Common.{false, if◌then◌else◌, nat_lt, List, [], ◌∷◌, ◌++◌, append_assoc, append-nil, length, length-append, map}
-use Rattle.std.proofs.Common.{Some, None, slice_get}
-use Rattle.std.proofs.lemmas.Bool.{lt-ltb, ne_eqb}
-use Rattle.std.proofs.lemmas.List.{length-map, map-append}
+use Rattle.thread_runs.proofs.Common.{All, Bool, Call, Entry, Leads, List, None, Own, Reply, Shows, Some, State, [], ap, append-nil}
+use Rattle.thread_runs.proofs.Common.{append_assoc, arith, count_first, eq-or-lt_of_le, false, first_clients, first_stage, if◌then◌else◌}
+use Rattle.thread_runs.proofs.Common.{inl, inr, joined, joins, length, length-append, length-map, lt-ltb, map, map-append, nat_lt, ne_eqb}
+use Rattle.thread_runs.proofs.Common.{option_map, pairs_of, part, refl, shows_on, slice_get, slice_get-map, slice_get_past, subst, suc}
+use Rattle.thread_runs.proofs.Common.{sym, true, zero, ℕ, ◌&&◌, ◌++◌, ◌+◌, ◌-◌, ◌<◌, ◌==◌, ◌∙◌, ◌∷◌, ◌≡◌, ◌≤◌}
 use Rattle.std.proofs.lemmas.List.Elements.{All-head, All-tail}
-use Rattle.std.proofs.lemmas.Option.{slice_get-map, slice_get_past}
-use Rattle.std.proofs.Math.Nat.{eq-or-lt_of_le}
-use Rattle.std.specs.List.{All}
-use Rattle.std.specs.Option.{option_map}
-use Rattle.sm_names.specs.declared.messages.Call.{Call}
-use Rattle.sm_names.specs.declared.messages.Reply.{Reply}
-use Rattle.sm_names.specs.Marks.{Entry}
-use Rattle.event_laws.specs.declared.own.Own.{Own}
-use Rattle.event_laws.specs.Members.{joined, joined_from}
-use Rattle.event_laws.specs.Parts.{own_entry, part, part_from}
-use Rattle.core_state.specs.Shown.{Shows}
-use Rattle.core_state.specs.State.{State}
-use Rattle.core_state.specs.Theorem.{Leads}
-use Rattle.client_actors.specs.ActorSteps.{pairs_of}
-use Rattle.actor_plays.specs.Plays.{first_clients, first_stage, joins}
+use Rattle.event_laws.specs.Members.{joined_from}
+use Rattle.event_laws.specs.Parts.{own_entry, part_from}
 use Rattle.thread_runs.proofs.OncePlanLaws.{get-before, get-behind}
 use Rattle.thread_runs.proofs.RunPlays.{AreOf, calls_by}
-use Rattle.alike_plays.proofs.Reaching.{shows_on}
-use Rattle.actor_plays.proofs.MoveLaws.{count_first}
 
 -- ---- the clients that join first
 

@@ -1,27 +1,14 @@
 -- An actor that made all its steps leaves by the events of a vanishing client.
-use Rattle.std.proofs.Common.{ℕ, zero, suc, ◌-◌, ◌≡◌, ◌==◌, ◌∙◌, refl, sym, ap, subst, Bool, true, false, if◌then◌else◌}
-use Rattle.std.proofs.Common.{List, [], ◌∷◌, ◌++◌, append_assoc, append-nil, length, length-append, map}
-use Rattle.std.proofs.Common.{Option, Some, None, slice_get, arith}
-use Rattle.std.proofs.lemmas.Bool.{ne_eqb}
-use Rattle.std.proofs.lemmas.List.{length-map, map-append}
-use Rattle.std.specs.Prelude.{flat_map, replicate}
-use Rattle.std.specs.Option.{option_map}
-use Rattle.sm_names.specs.declared.messages.Call.{Call}
-use Rattle.sm_names.specs.declared.messages.Reply.{Reply}
-use Rattle.actor_scripts.specs.declared.object.ActorObject.{ActorObject}
-use Rattle.actor_scripts.specs.declared.step.Step.{Step}
-use Rattle.actor_scripts.specs.ActorStates.{Known, new_objects}
-use Rattle.event_laws.specs.declared.own.Own.{Own}
-use Rattle.client_ends.specs.Clients.{Seen, calls_of, replies_of}
-use Rattle.client_vanish.specs.Vanishings.{HeldObject, Holds, IsGone, Remains, all_objects as all_held, parcels_told, vanishing_call}
-use Rattle.client_actors.specs.ActorSteps.{HasFinished, holds_by_state, pairs_of}
+use Rattle.thread_runs.proofs.Common.{ActorObject, Bool, Call, HasFinished, HeldObject, Known, List, None, Option, Own, Plan, Remains}
+use Rattle.thread_runs.proofs.Common.{Reply, Seen, Setup, Some, Stage, Step, Waiting, [], all_objects, ap, append-nil, append_assoc}
+use Rattle.thread_runs.proofs.Common.{arith, calls_of, false, first_stage, flat_map, holds_by_state, if◌then◌else◌, length, length-append}
+use Rattle.thread_runs.proofs.Common.{length-map, map, map-append, ne_eqb, new_objects, next_step, option_map, pairs_of, planned, refl}
+use Rattle.thread_runs.proofs.Common.{replies_of, slice_get, steps_of, subst, suc, sym, true, vanishing_call, zero, ℕ, ◌++◌, ◌-◌, ◌==◌}
+use Rattle.thread_runs.proofs.Common.{◌∙◌, ◌∷◌, ◌≡◌}
+use Rattle.std.specs.Prelude.{replicate}
+use Rattle.client_vanish.specs.Vanishings.{Holds, IsGone, all_objects as all_held, parcels_told}
 use Rattle.client_actors.proofs.OnceLaws.{runs-once}
-use Rattle.explore_model.specs.declared.plan.Plan.{Plan}
-use Rattle.explore_model.specs.declared.plan.Waiting.{Waiting}
-use Rattle.actor_plays.specs.Leaves.{Leave, all_objects, going_after, vanishing_call as parting_call, waiting_told}
-use Rattle.explore_model.specs.Plans.{planned, steps_of}
-use Rattle.actor_plays.specs.Plays.{Stage, first_stage, next_step}
-use Rattle.actor_plays.specs.Positions.{Setup}
+use Rattle.actor_plays.specs.Leaves.{Leave, going_after, vanishing_call as parting_call, waiting_told}
 use Rattle.thread_runs.proofs.Comings.{ComesThrough, none-next, runs-through, staying}
 use Rattle.thread_runs.proofs.OncePlanLaws.{get-behind, get-end}
 use Rattle.thread_runs.proofs.VanishingTurns.{objects-alike, own-paired, paired}

@@ -1,3 +1,4 @@
+mod Common
 pub mod Comings
 pub mod CompanyLaws
 pub mod EndLaws

@@ -1,13 +1,9 @@
 -- Plans in which no step waits: they have the steps of the script, one for one.
-use Rattle.std.proofs.Common.{ℕ, zero, suc, ◌≤◌, ◌<◌, ◌≡◌, ◌∙◌, refl, sym, ap, inl, inr, arith, false, List, [], ◌∷◌, ◌++◌}
-use Rattle.std.proofs.Common.{length, length-append, Option, Some, None, slice_get}
-use Rattle.std.proofs.lemmas.Option.{slice_get_cases, slice_get_past, slice_get_within}
-use Rattle.std.proofs.Math.Nat.{eq-or-lt_of_le}
-use Rattle.std.specs.Option.{option_map_or}
-use Rattle.actor_scripts.specs.declared.step.Step.{Step}
-use Rattle.explore_model.specs.declared.plan.Planned.{Planned}
-use Rattle.explore_model.specs.declared.plan.Waiting.{Waiting}
-use Rattle.explore_model.specs.Plans.{planned, planned_at, planned_first, planned_step}
+use Rattle.thread_runs.proofs.Common.{List, None, Option, Planned, Some, Step, Waiting, [], ap, arith, eq-or-lt_of_le, false, inl, inr}
+use Rattle.thread_runs.proofs.Common.{length, length-append, option_map_or, planned, refl, slice_get, slice_get_past, suc, sym, zero, ℕ}
+use Rattle.thread_runs.proofs.Common.{◌++◌, ◌<◌, ◌∙◌, ◌∷◌, ◌≡◌, ◌≤◌}
+use Rattle.std.proofs.lemmas.Option.{slice_get_cases, slice_get_within}
+use Rattle.explore_model.specs.Plans.{planned_at, planned_first, planned_step}
 
 -- the step at this place, as it is planned where none waits
 abbrev pub once : ℕ → Step → Planned

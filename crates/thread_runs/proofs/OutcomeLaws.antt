@@ -1,29 +1,12 @@
 -- A run of actors in threads ends as one of the outcomes of their plays.
-use Rattle.std.proofs.Common.{ℕ, zero, suc, ◌+◌, ◌≡◌, ◌<◌, ◌≤◌, ◌&&◌, ◌||◌, ◌∙◌, refl, sym, ap, subst, arith, Bool, true, nat_le, nat_lt}
-use Rattle.std.proofs.Common.{if◌then◌else◌, List, [], ◌∷◌, length, map, Option, Some, is_some, slice_get}
+use Rattle.thread_runs.proofs.Common.{AllZip, AllZip-long, Begins, Bool, Bound, Entry, HasFinished, IsPlayOf, IsPlayed, JoinsFirst, Leads}
+use Rattle.thread_runs.proofs.Common.{List, Option, Plan, Position, Setup, Shows, Some, SomeCoreCame, State, Step, Waiting, [], ap, arith}
+use Rattle.thread_runs.proofs.Common.{count_first, first_clients, first_stage, if◌then◌else◌, is_some, joined, joins, leaves_by, length}
+use Rattle.thread_runs.proofs.Common.{length-map, map, nat_le, nat_lt, option_map, option_map_or, pairs_of, part, planned, refl}
+use Rattle.thread_runs.proofs.Common.{slice_get, slice_get-map, some-injective, steps_of, subst, suc, sym, true, zero, ℕ, ◌&&◌, ◌+◌, ◌<◌}
+use Rattle.thread_runs.proofs.Common.{◌||◌, ◌∙◌, ◌∷◌, ◌≡◌, ◌≤◌}
 use Rattle.std.proofs.lemmas.Bool.{le-leb}
-use Rattle.std.proofs.lemmas.List.{length-map}
-use Rattle.std.proofs.lemmas.Option.{slice_get-map}
-use Rattle.std.proofs.lemmas.Slice.Zip.{AllZip-long}
-use Rattle.std.specs.List.{AllZip}
-use Rattle.std.specs.Option.{option_map, option_map_or}
-use Rattle.sm_names.specs.Bounds.{Bound}
-use Rattle.sm_names.specs.Marks.{Entry}
-use Rattle.sm_names.proofs.SamenessLaws.{some-injective}
-use Rattle.event_laws.specs.Members.{joined}
-use Rattle.event_laws.specs.Parts.{part}
-use Rattle.core_state.specs.Shown.{Shows}
-use Rattle.core_state.specs.State.{State}
-use Rattle.core_state.specs.Theorem.{Leads}
 use Rattle.core_state.proofs.theorem.Leads.{leads_limits, leads_pool}
-use Rattle.service_lock.specs.Comings.{SomeCoreCame}
-use Rattle.actor_scripts.specs.declared.step.Step.{Step}
-use Rattle.client_actors.specs.ActorSteps.{HasFinished, pairs_of}
-use Rattle.explore_model.specs.declared.plan.Plan.{Plan}
-use Rattle.explore_model.specs.declared.plan.Waiting.{Waiting}
-use Rattle.explore_model.specs.Plans.{planned, steps_of}
-use Rattle.actor_plays.specs.Plays.{first_clients, first_stage, joins, leaves_by}
-use Rattle.actor_plays.specs.Positions.{Begins, Position, Setup}
 use Rattle.alike_plays.specs.Ahead.{count_early}
 use Rattle.explore_model.specs.declared.found.Found.{Found}
 use Rattle.play_search.specs.declared.replay.Setting.{Setting}
@@ -31,8 +14,6 @@ use Rattle.explore_model.specs.declared.found.Vanishing.{Vanishing}
 use Rattle.play_search.specs.Ends.{EndsAsOne, NoneIsMissing}
 use Rattle.play_search.specs.Searches.{setup_of}
 use Rattle.play_search.specs.Vanishings.{began_early, is_done, may_vanish}
-use Rattle.thread_runs.specs.RunPlays.{IsPlayOf, JoinsFirst}
-use Rattle.thread_runs.specs.Runs.{IsPlayed}
 use Rattle.thread_runs.proofs.Comings.{ComesThrough}
 use Rattle.thread_runs.proofs.JoinLaws.{calls-of-part, first-at, first-there, just-first, leads-shows, leads-split, none-beyond}
 use Rattle.thread_runs.proofs.JoinLaws.{theirs-are}
@@ -40,7 +21,6 @@ use Rattle.thread_runs.proofs.LeavingTurns.{comes-through}
 use Rattle.thread_runs.proofs.OncePlanLaws.{planned-length, there}
 use Rattle.thread_runs.proofs.RecordPlays.{AllComeThrough, HasPlayed, all-gone, all-rest, none-asks, plays-on}
 use Rattle.thread_runs.proofs.RunPlays.{starts-at}
-use Rattle.actor_plays.proofs.MoveLaws.{count_first}
 
 -- ---- the play of a record
 

@@ -1,21 +1,10 @@
 -- A record of actors that all vanished is a play in which no actor has another turn.
-use Rattle.std.proofs.Common.{ℕ, ◌+◌, ◌≡◌, ◌<◌, ◌≤◌, ◌==◌, ◌∙◌, refl, sym, ap, subst, inl, inr, Bool, true, false, if◌then◌else◌}
-use Rattle.std.proofs.Common.{List, [], ◌∷◌, ◌++◌, append_assoc, append-nil, Option, Some, None, is_some, slice_get, arith}
-use Rattle.std.proofs.lemmas.Bool.{cases_lt, eq-eqb, eqb-false, eqb-true, ne_eqb}
-use Rattle.std.specs.Option.{option_and_then}
-use Rattle.sm_names.specs.declared.messages.Call.{Call}
-use Rattle.sm_names.specs.declared.messages.Reply.{Reply}
-use Rattle.sm_names.specs.Marks.{Entry}
-use Rattle.sm_names.proofs.SamenessLaws.{some-injective}
-use Rattle.core_state.specs.State.{State}
-use Rattle.core_state.specs.Theorem.{Leads, Makes}
-use Rattle.explore_model.specs.declared.plan.Plan.{Plan}
-use Rattle.explore_model.specs.declared.plan.Planned.{Planned}
-use Rattle.explore_model.specs.Plans.{steps_of}
-use Rattle.actor_plays.specs.Plays.{Stage, leaves_by, next_step}
-use Rattle.actor_plays.specs.Positions.{Asks, Position, Rests, Setup}
-use Rattle.actor_plays.proofs.PositionLaws.{done_rests}
-use Rattle.thread_runs.specs.RunPlays.{IsPlayOf}
+use Rattle.thread_runs.proofs.Common.{Bool, Call, Entry, IsPlayOf, Leads, List, Makes, None, Option, Plan, Planned, Position, Reply}
+use Rattle.thread_runs.proofs.Common.{Setup, Some, Stage, State, [], ap, append-nil, append_assoc, arith, done_rests, eq-eqb, eqb-true}
+use Rattle.thread_runs.proofs.Common.{false, if◌then◌else◌, inl, inr, is_some, leaves_by, ne_eqb, next_step, option_and_then, refl}
+use Rattle.thread_runs.proofs.Common.{slice_get, some-injective, steps_of, subst, sym, true, ℕ, ◌++◌, ◌+◌, ◌<◌, ◌==◌, ◌∙◌, ◌∷◌, ◌≡◌, ◌≤◌}
+use Rattle.std.proofs.lemmas.Bool.{cases_lt, eqb-false}
+use Rattle.actor_plays.specs.Positions.{Asks, Rests}
 use Rattle.thread_runs.proofs.Comings.{ComesThrough}
 use Rattle.thread_runs.proofs.RunPlays.{AreOf, HasGoneOn, calls_by, goes-on-by}
 

@@ -1,35 +1,22 @@
 -- What was gathered of actors that all vanished is what is told of them.
-use Rattle.std.proofs.Common.{◌≡◌, ℕ, List, [], ◌∷◌, None, Some, inl, inr, refl, sym, ap, ◌∙◌, subst, map}
-use Rattle.std.proofs.lemmas.List.{length-map}
-use Rattle.std.proofs.lemmas.Slice.Zip.{AllZip-long}
-use Rattle.std.specs.List.{AllZip, AllByRecursion}
+use Rattle.thread_runs.proofs.Common.{ActorEnd, ActorList, AllZip, AllZip-long, Bound, Entry, GatherFault, HasFinished, Holding, IsLeft}
+use Rattle.thread_runs.proofs.Common.{IsPlayed, IsUntold, JoinsFirst, List, None, Output, Remains, Some, SomeCoreCame, ThreadsFault, []}
+use Rattle.thread_runs.proofs.Common.{actors_of, ap, end_id, first_fault, first_stray, ids_of, inl, inr, joined, length-map, line_client}
+use Rattle.thread_runs.proofs.Common.{map, part, refl, subst, sym, told_text, ℕ, ◌∙◌, ◌∷◌, ◌≡◌}
+use Rattle.std.specs.List.{AllByRecursion}
 use Rattle.std.proofs.lemmas.List.Elements.{recursion_from_All}
-use Rattle.sm_names.specs.Bounds.{Bound}
 use Rattle.sm_names.specs.Legality.{IsLegal}
-use Rattle.sm_names.specs.Marks.{Entry}
 use Rattle.event_laws.specs.Lines.{client_line}
-use Rattle.event_laws.specs.Members.{joined}
-use Rattle.event_laws.specs.Parts.{part}
-use Rattle.service_lock.specs.Comings.{SomeCoreCame}
 use Rattle.service_lock.specs.States.{IsSetUpWith, View}
-use Rattle.client_vanish.specs.declared.gathering.Holding.{Holding}
 use Rattle.client_vanish.specs.declared.gathering.Report.{Report}
-use Rattle.client_vanish.specs.declared.fault.GatherFault.{GatherFault}
-use Rattle.client_vanish.specs.Gatherings.{IsGatherReport, IsSo, Matches, ids_of}
-use Rattle.client_vanish.specs.Vanishings.{Remains}
+use Rattle.client_vanish.specs.Gatherings.{IsGatherReport, IsSo, Matches}
 use Rattle.actor_scripts.specs.declared.step.ActorScript.{ActorScript}
-use Rattle.actor_scripts.specs.declared.actor_list.ActorList.{ActorList}
-use Rattle.actor_scripts.specs.ActorLists.{actors_of, steps_of}
+use Rattle.actor_scripts.specs.ActorLists.{steps_of}
 use Rattle.script_lines.specs.declared.label.Label.{Label}
-use Rattle.client_actors.specs.declared.gate.ActorEnd.{ActorEnd}
-use Rattle.client_actors.specs.ActorSteps.{HasFinished}
-use Rattle.client_actors.specs.ActorEnds.{HaveRun, IsEndOf, end_id}
-use Rattle.thread_runs.specs.declared.fault.ThreadsFault.{ThreadsFault}
+use Rattle.client_actors.specs.ActorEnds.{HaveRun, IsEndOf}
 use Rattle.thread_runs.specs.Faults.{gather_fault}
-use Rattle.thread_runs.specs.Gathered.{IsLeft, IsUntold, TellsCompany, TellsRecord, first_fault, first_stray, line_client}
-use Rattle.thread_runs.specs.declared.job.Output.{Output}
-use Rattle.thread_runs.specs.Runs.{IsPlayed, IsRunText, told_text}
-use Rattle.thread_runs.specs.RunPlays.{JoinsFirst}
+use Rattle.thread_runs.specs.Gathered.{TellsCompany, TellsRecord}
+use Rattle.thread_runs.specs.Runs.{IsRunText}
 use Rattle.thread_runs.proofs.EndLaws.{ids-left}
 
 -- each line is that of its client

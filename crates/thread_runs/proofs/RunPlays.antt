@@ -1,26 +1,18 @@
 -- The events of a record, each a turn of its actor, are a play.
-use Rattle.std.proofs.Common.{ℕ, ◌+◌, ◌≡◌, ◌<◌, ◌==◌, ◌∙◌, ◌&&◌, ◌||◌, refl, sym, ap, subst, Bool, true, false, if◌then◌else◌, List, []}
-use Rattle.std.proofs.Common.{◌∷◌, ◌++◌, map, Option, Some, None, is_some, slice_get, slice_set}
+use Rattle.thread_runs.proofs.Common.{Begins, Bool, Call, Entry, IsPlayOf, List, Makes, None, Option, Planned, Position, Reply, Setup}
+use Rattle.thread_runs.proofs.Common.{Shows, Some, Stage, State, StepCall, [], ap, done_rests, false, if◌then◌else◌, is_some, joins}
+use Rattle.thread_runs.proofs.Common.{leaves_by, left, map, next_step, option_and_then, passed, refl, shows_on, slice_get, stage_after}
+use Rattle.thread_runs.proofs.Common.{step_call, subst, sym, true, ℕ, ◌&&◌, ◌++◌, ◌+◌, ◌<◌, ◌==◌, ◌||◌, ◌∙◌, ◌∷◌, ◌≡◌}
+use Rattle.std.proofs.Common.{slice_set}
 use Rattle.std.specs.List.{flat_map}
-use Rattle.std.specs.Option.{option_and_then}
-use Rattle.sm_names.specs.declared.messages.Call.{Call}
-use Rattle.sm_names.specs.declared.messages.Reply.{Reply}
-use Rattle.sm_names.specs.Marks.{Entry}
-use Rattle.core_state.specs.Shown.{Shows}
-use Rattle.core_state.specs.State.{State}
-use Rattle.core_state.specs.Theorem.{Makes}
-use Rattle.actor_scripts.specs.declared.object.StepCall.{StepCall}
-use Rattle.actor_scripts.specs.ActorStates.{step_call}
 use Rattle.explore_model.specs.declared.found.Turn.{Turn}
-use Rattle.explore_model.specs.declared.plan.Planned.{Planned}
 use Rattle.actor_plays.specs.Fates.{AreFalls, falls_at}
-use Rattle.actor_plays.specs.Plays.{Plays, Stage, is_silent, is_wait, joins, leaves_by, left, next_step, passed, stage_after}
-use Rattle.actor_plays.specs.Positions.{Begins, Calls, Leaves, Passes, Position, Reached, Setup, left_at}
-use Rattle.actor_plays.proofs.PositionLaws.{done_rests, get-other, get-set}
-use Rattle.thread_runs.specs.RunPlays.{IsPlayOf}
+use Rattle.actor_plays.specs.Plays.{Plays, is_silent, is_wait}
+use Rattle.actor_plays.specs.Positions.{Calls, Leaves, Passes, Reached, left_at}
+use Rattle.actor_plays.proofs.PositionLaws.{get-other, get-set}
 use Rattle.thread_runs.proofs.Comings.{ComesThrough}
 use Rattle.actor_plays.proofs.FallLaws.{stages_there}
-use Rattle.alike_plays.proofs.Reaching.{falls_on, shows_on}
+use Rattle.alike_plays.proofs.Reaching.{falls_on}
 
 -- the calls that this client made in the record, with their replies
 abbrev pub calls_by : ℕ → List Entry → List (Call × Reply)

@@ -1,7 +1,7 @@
 -- The first client at which lines and parts differ.
-use Rattle.std.proofs.Common.{◌≡◌, ℕ, ◌==◌, true, false, if◌then◌else◌, List, [], ◌∷◌, Some, None, refl, ap, ◌∙◌, inl, inr}
-use Rattle.std.proofs.lemmas.Bool.{cases_eq, eq-eqb, ne_eqb}
-use Rattle.thread_runs.specs.Gathered.{first_stray}
+use Rattle.thread_runs.proofs.Common.{List, None, Some, [], ap, eq-eqb, false, first_stray, if◌then◌else◌, inl, inr, ne_eqb, refl, true}
+use Rattle.thread_runs.proofs.Common.{ℕ, ◌==◌, ◌∙◌, ◌∷◌, ◌≡◌}
+use Rattle.std.proofs.lemmas.Bool.{cases_eq}
 
 -- if there is none, each line stands beside its part
 pub stray_none : (lines parts : List ℕ) → first_stray lines parts ≡ None → lines ≡ parts

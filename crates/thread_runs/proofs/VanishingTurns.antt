@@ -1,20 +1,12 @@
 -- The events of a vanishing client are the turns by which an actor of a play leaves.
-use Rattle.std.proofs.Common.{ℕ, ◌≡◌, ◌∙◌, refl, sym, ap, Bool}
-use Rattle.std.proofs.Common.{List, [], ◌∷◌, ◌++◌, append_assoc, map, Option, Some, None}
-use Rattle.std.proofs.lemmas.List.{map-append}
-use Rattle.std.specs.Prelude.{flat_map}
+use Rattle.thread_runs.proofs.Common.{ActorObject, Bool, Call, HeldObject, Known, List, None, Option, Own, Reply, Some, [], all_objects}
+use Rattle.thread_runs.proofs.Common.{ap, append_assoc, calls_of, flat_map, holds_by_state, map, map-append, new_objects, pairs_of, refl}
+use Rattle.thread_runs.proofs.Common.{replies_of, sym, vanishing_call, ℕ, ◌++◌, ◌∙◌, ◌∷◌, ◌≡◌}
 use Rattle.sm_names.specs.declared.keys.Kind.{Kind}
-use Rattle.sm_names.specs.declared.messages.Call.{Call}
-use Rattle.sm_names.specs.declared.messages.Reply.{Reply}
-use Rattle.actor_scripts.specs.declared.object.ActorObject.{ActorObject}
-use Rattle.actor_scripts.specs.ActorStates.{Known, new_objects}
-use Rattle.event_laws.specs.declared.own.Own.{Own}
-use Rattle.client_ends.specs.Clients.{calls_of, replies_of}
-use Rattle.client_vanish.specs.Vanishings.{Collection, Handle, HeldObject, Token}
-use Rattle.client_vanish.specs.Vanishings.{all_objects as all_held, collections_among, end_told, handle_told, handles_among}
-use Rattle.client_vanish.specs.Vanishings.{tokens_among, vanishing_call}
-use Rattle.client_actors.specs.ActorSteps.{holds_by_state, pairs_of, part_of}
-use Rattle.actor_plays.specs.Leaves.{all_objects, vanishing_call as parting_call}
+use Rattle.client_vanish.specs.Vanishings.{Collection, Handle, Token, all_objects as all_held, collections_among, end_told, handle_told}
+use Rattle.client_vanish.specs.Vanishings.{handles_among, tokens_among}
+use Rattle.client_actors.specs.ActorSteps.{part_of}
+use Rattle.actor_plays.specs.Leaves.{vanishing_call as parting_call}
 use Rattle.alike_plays.proofs.VanishLaws.{is_collection, is_end, is_handle, is_token, parts_with, picked, picked_there}
 
 -- each of these calls with its reply

@@ -1,9 +1,9 @@
 -- What stays true of a forest without a collection that has no node.
-use Rattle.alloc_event.proofs.Common.{◌≡◌, ℕ, zero, suc, ◌+◌, ◌<◌, ◌==◌, Bool, true, false, not, List, [], ◌∷◌, ◌++◌, map, length}
-use Rattle.alloc_event.proofs.Common.{Option, Some, None, option_map, cond, refl, sym, ap, ◌∙◌, arith, filter, find}
-use Rattle.alloc_event.proofs.Common.{AllByRecursion, option_map_or, eqb-true, NodeKey, and_left, some-injective, Table, Entry}
-use Rattle.alloc_event.proofs.Common.{Node, Collection, CollectionRow, row_of, rows_of, place_in, AreRising, IsStored, collection_in}
-use Rattle.alloc_event.proofs.Common.{nodes_with, forest_of, all_keys, are_filed, collection_at, is_left, collection_is}
+use Rattle.alloc_event.proofs.Common.{AllByRecursion, AreRising, Bool, Collection, CollectionRow, Entry, IsStored, List, Node, NodeKey}
+use Rattle.alloc_event.proofs.Common.{None, Option, Some, Table, [], all_keys, and_left, ap, are_filed, arith, collection_at}
+use Rattle.alloc_event.proofs.Common.{collection_in, collection_is, cond, eqb-true, false, filter, find, forest_of, is_left, length, map}
+use Rattle.alloc_event.proofs.Common.{nodes_with, not, option_map, option_map_or, place_in, refl, row_of, rows_of, some-injective, suc}
+use Rattle.alloc_event.proofs.Common.{sym, true, zero, ℕ, ◌++◌, ◌+◌, ◌<◌, ◌==◌, ◌∙◌, ◌∷◌, ◌≡◌}
 use Rattle.std.specs.List.{remove}
 use Rattle.std.proofs.lemmas.Bool.{ne_eqb}
 use Rattle.forest_store.proofs.rows.Showing.{filed-length, filed_found}

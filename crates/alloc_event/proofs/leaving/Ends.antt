@@ -1,10 +1,8 @@
 -- What stays true of a forest where the end of a node is put elsewhere.
-use Rattle.alloc_event.proofs.Common.{◌≡◌, ◌≢◌, true, map, Some, option_map, refl, sym, ap, subst, List, AllByRecursion}
-use Rattle.alloc_event.proofs.Common.{NodeKey, Table, node_at, Entry, Node, with_nodes, CollectionRow, are_filed, forest_of, rows_of}
-use Rattle.alloc_event.proofs.Common.{is_unkept, IsStored, Writes, table_with_node, same_key-equal, on_collections, with_end}
+use Rattle.alloc_event.proofs.Common.{AllByRecursion, AreCounted, CollectionRow, End, Entry, IsStored, List, Node, NodeKey, Some, Table}
+use Rattle.alloc_event.proofs.Common.{Writes, ap, are_filed, forest_of, is_unkept, map, node_at, on_collections, option_map, refl}
+use Rattle.alloc_event.proofs.Common.{rows_of, same_key-equal, subst, sym, table_with_node, true, with_end, with_nodes, ◌≡◌, ◌≢◌}
 use Rattle.node_table.proofs.Keys.{same_key-apart}
-use Rattle.forest_store.specs.declared.node.End.{End}
-use Rattle.forest_store.specs.Calm.{AreCounted}
 use Rattle.forest_store.specs.Unkept.{IsNotedIn}
 use Rattle.forest_store.proofs.quiescence.Together.{together_same}
 use Rattle.forest_store.proofs.rows.Counted.{ends_tidy, mapped_all}

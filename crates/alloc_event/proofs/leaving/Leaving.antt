@@ -1,15 +1,13 @@
 -- What stays true of a forest without one node.
-use Rattle.alloc_event.proofs.Common.{◌≡◌, ◌≢◌, ℕ, zero, suc, ◌+◌, ◌<◌, ◌==◌, Bool, true, false, ◌||◌, not, List, [], ◌∷◌}
-use Rattle.alloc_event.proofs.Common.{◌++◌, map, length, get_or, Option, Some, None, option_map, is_some, cond, refl, sym, ap}
-use Rattle.alloc_event.proofs.Common.{subst, ◌∙◌, arith, filter, AllByRecursion, option_map_or, eqb-true, false≢true, NodeKey}
-use Rattle.alloc_event.proofs.Common.{same_key, and_left, some-injective, Table, node_at, Entry, Node, with_nodes, CollectionRow}
-use Rattle.alloc_event.proofs.Common.{row_of, rows_of, place_in, AreRising, IsStored, collection_in, all_keys, are_filed}
-use Rattle.alloc_event.proofs.Common.{is_of, none_in, row_found, same_key-equal, looked-kept, get_or_default, place_is}
-use Rattle.std.specs.List.{list_all, list_any}
-use Rattle.sm_names.proofs.SamenessLaws.{and_right, either_way, same_key-true}
-use Rattle.forest_store.specs.CollectionRows.{is_filed, IsWhole, TakesOut}
-use Rattle.std.proofs.Common.{set, inl, inr}
-use Rattle.std.proofs.lemmas.Bool.{eqb-false}
+use Rattle.alloc_event.proofs.Common.{AllByRecursion, AreRising, Bool, CollectionRow, Entry, IsStored, List, Node, NodeKey, None, Option}
+use Rattle.alloc_event.proofs.Common.{Some, Table, [], all_keys, and_left, and_right, ap, are_filed, arith, collection_in, cond}
+use Rattle.alloc_event.proofs.Common.{either_way, eqb-false, eqb-true, false, false≢true, filter, get_or, get_or_default, inl, inr}
+use Rattle.alloc_event.proofs.Common.{is_filed, is_of, is_some, length, list_all, looked-kept, map, node_at, none_in, not, option_map}
+use Rattle.alloc_event.proofs.Common.{option_map_or, place_in, place_is, refl, row_found, row_of, rows_of, same_key, same_key-equal}
+use Rattle.alloc_event.proofs.Common.{same_key-true, set, some-injective, subst, suc, sym, true, with_nodes, zero, ℕ, ◌++◌, ◌+◌, ◌<◌}
+use Rattle.alloc_event.proofs.Common.{◌==◌, ◌||◌, ◌∙◌, ◌∷◌, ◌≡◌, ◌≢◌}
+use Rattle.std.specs.List.{list_any}
+use Rattle.forest_store.specs.CollectionRows.{IsWhole, TakesOut}
 use Rattle.node_table.specs.Table.{parent_at}
 use Rattle.std.proofs.lemmas.List.Elements.{filter-append}
 use Rattle.forest_store.proofs.changes.Altering.{filed_at, kept_of}

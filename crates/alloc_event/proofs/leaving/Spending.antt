@@ -1,15 +1,11 @@
 -- A node that is gone is forgotten, or its end is spent: once the unkept nodes of its collection are taken out, that is the same.
-use Rattle.alloc_event.proofs.Common.{◌≡◌, ◌≢◌, ℕ, ◌<◌, ◌==◌, Bool, true, false, not, List, [], ◌∷◌, map, Option, Some, None}
-use Rattle.alloc_event.proofs.Common.{refl, sym, ap, ◌∙◌, arith, filter, AllByRecursion, option_map_or, eqb-true, NodeKey, and_left}
-use Rattle.alloc_event.proofs.Common.{some-injective, Table, node_at, Node, Collection, with_nodes, CollectionRow, AreRising}
-use Rattle.alloc_event.proofs.Common.{collection_in, nodes_with, are_filed, is_of, is_unkept, with_end, is_left}
-use Rattle.std.specs.List.{cons_option, list_all}
-use Rattle.std.proofs.Common.{if◌then◌else◌, inl, inr}
-use Rattle.std.proofs.lemmas.Bool.{eqb-false}
-use Rattle.sm_names.proofs.SamenessLaws.{and_right, either_way, same_key-true}
-use Rattle.forest_store.specs.CollectionRows.{is_filed}
-use Rattle.forest_store.specs.declared.node.End.{End}
-use Rattle.forest_store.specs.Forest.{without_unkept_in}
+use Rattle.alloc_event.proofs.Common.{AllByRecursion, AreRising, Bool, Collection, CollectionRow, End, List, Node, NodeKey, None, Option}
+use Rattle.alloc_event.proofs.Common.{Some, Table, [], and_left, and_right, ap, are_filed, arith, collection_in, either_way, eqb-false}
+use Rattle.alloc_event.proofs.Common.{eqb-true, false, filter, inl, inr, is_filed, is_left, is_of, is_unkept, list_all, map, node_at}
+use Rattle.alloc_event.proofs.Common.{nodes_with, not, option_map_or, refl, same_key-true, some-injective, sym, true, with_end}
+use Rattle.alloc_event.proofs.Common.{with_nodes, without_unkept_in, ℕ, ◌<◌, ◌==◌, ◌∙◌, ◌∷◌, ◌≡◌, ◌≢◌}
+use Rattle.std.specs.List.{cons_option}
+use Rattle.std.proofs.Common.{if◌then◌else◌}
 use Rattle.forest_store.proofs.lists.Lookups.{same_key-swap}
 
 -- the node is kept

@@ -1,17 +1,16 @@
 -- A birth, after which the forced steps are made at the place of the collection.
-use Rattle.alloc_event.proofs.Common.{◌≡◌, ℕ, ◌==◌, refl, ap, sym, ◌∙◌, subst, true, false, List, [], ◌∷◌, map, get_or}
-use Rattle.alloc_event.proofs.Common.{Option, Some, None, find, HeldBuffer, NodeKey, Table, Change, Entry, Node, Unit}
-use Rattle.alloc_event.proofs.Common.{Collection, IsStored, CollectionRow, collection_in, forest_of, nodes_with, place_in}
-use Rattle.alloc_event.proofs.Common.{rows_of, is_of, Handles, collection_or_new, Holdings, MayClose, AreServedByGiven}
-use Rattle.alloc_event.proofs.Common.{none_in, place_is, get_or_default, sorted_by, Finishes, Gives, with_birth, before_is}
-use Rattle.alloc_event.proofs.Common.{IsForest, Closes, is_some, false≢true, node_at, collection_at, collection_none}
+use Rattle.alloc_event.proofs.Common.{AreCounted, AreServedByGiven, Change, Closes, Collection, CollectionRow, Entry, Finishes, Gives}
+use Rattle.alloc_event.proofs.Common.{Handles, HeldBuffer, Holdings, IsForest, IsStored, List, MayClose, Node, NodeKey, None, Option}
+use Rattle.alloc_event.proofs.Common.{Some, Table, Unit, [], ap, before_is, collection_at, collection_in, collection_none}
+use Rattle.alloc_event.proofs.Common.{collection_or_new, false, false≢true, find, forest_of, get_or, get_or_default, is_of, is_some, map}
+use Rattle.alloc_event.proofs.Common.{node_at, nodes_with, none_in, place_in, place_is, refl, rows_of, sorted_by, subst, sym, true}
+use Rattle.alloc_event.proofs.Common.{with_birth, ℕ, ◌==◌, ◌∙◌, ◌∷◌, ◌≡◌}
 use Rattle.forest_store.specs.Forest.{IsPoolOf}
 use Rattle.std.proofs.lemmas.Bool.{eq-eqb}
 use Rattle.sm_names.proofs.ListLaws.{In, In-find}
 use Rattle.forest_store.specs.Nodes.{node_of}
 use Rattle.forest_store.specs.Settling.{put, MayChange}
 use Rattle.std.specs.Option.{unwrap_or, option_and_then}
-use Rattle.forest_store.specs.Calm.{AreCounted}
 use Rattle.forest_store.specs.Counts.{HaveUnits}
 use Rattle.forest_store.specs.Given.{HaveGiven, IsServedByGiven}
 use Rattle.forest_store.proofs.lists.SameIntervals.{start_of}

@@ -1,6 +1,6 @@
 -- A list of units that got slots which count nothing: what it counts stays.
-use Rattle.alloc_event.proofs.Common.{◌∙◌, List, ◌∷◌, [], map, arith, AllByRecursion, Table, Node, Entry}
-use Rattle.alloc_event.proofs.Common.{Unit, AreUnits, Collection, collection_in, rows_of, IsForest}
+use Rattle.alloc_event.proofs.Common.{AllByRecursion, AreUnits, Collection, Entry, IsForest, List, Node, Table, Unit, [], arith}
+use Rattle.alloc_event.proofs.Common.{collection_in, map, rows_of, ◌∙◌, ◌∷◌}
 use Rattle.forest_store.specs.Counts.{Extends, HasUnit}
 
 -- the slots count what they did

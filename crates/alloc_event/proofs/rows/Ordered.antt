@@ -1,6 +1,6 @@
 -- The live nodes and the buffers of a forest, in order, told by its table and its entries.
-use Rattle.alloc_event.proofs.Common.{◌≡◌, refl, ap, ◌∙◌, List, [], ◌∷◌, ◌++◌, map, filter, Table, Entry}
-use Rattle.alloc_event.proofs.Common.{HeldBuffer, Node, CollectionRow, all_keys, forest_of, nodes_with, rows_of, sorted_by, nodes_of_all}
+use Rattle.alloc_event.proofs.Common.{CollectionRow, Entry, HeldBuffer, List, Node, Table, [], all_keys, ap, filter, forest_of, map}
+use Rattle.alloc_event.proofs.Common.{nodes_of_all, nodes_with, refl, rows_of, sorted_by, ◌++◌, ◌∙◌, ◌∷◌, ◌≡◌}
 use Rattle.forest_store.specs.Questions.{is_live_node}
 use Rattle.std.specs.List.{flat_map}
 use Rattle.forest_store.specs.Forest.{held_by_page, live_keys}

@@ -2,13 +2,11 @@
 use Rattle.core_state.proofs.Common.{Bool, Bound, BufferName, Call, Called, Cause, Change, Collection, Effect, Grows, HandleCounts}
 use Rattle.core_state.proofs.Common.{HasEnd, IsAfter, IsAnswer, Loss, Misuse, Node, NodeKey, None, Reply, Some, State, Strength, Timeline}
 use Rattle.core_state.proofs.Common.{Work, [], affected, and_then-Some, ap, arith, at_collection, at_node, birth_at, birth_is, births}
-use Rattle.core_state.proofs.Common.{caller_joined, client-le-total, collection_at, collection_of, cond, done_to, drop_at, either_way}
-use Rattle.core_state.proofs.Common.{false, false≢true, gone, inl, inr, is_kept, is_kept_collection, is_refusal, is_some, key_of, loss_at}
-use Rattle.core_state.proofs.Common.{map-Some, no_key, node_after, node_at, none_or_some, not, not_refused_end, open_of, open_total}
-use Rattle.core_state.proofs.Common.{option_and_then, or_right, own_loss, readings, refl, some_open, subst, sym, took_effect_all, total}
-use Rattle.core_state.proofs.Common.{true, when, whole, work_of, ℕ, ◌<◌, ◌∙◌, ◌∷◌, ◌≡◌, ◌≤◌}
-use Rattle.std.specs.Option.{option_map}
-use Rattle.history_laws.proofs.CountLaws.{counted}
+use Rattle.core_state.proofs.Common.{caller_joined, client-le-total, collection_at, collection_of, cond, counted, done_to, drop_at}
+use Rattle.core_state.proofs.Common.{either_way, false, false≢true, gone, inl, inr, is_kept, is_kept_collection, is_refusal, is_some}
+use Rattle.core_state.proofs.Common.{key_of, loss_at, map-Some, no_key, node_after, node_at, none_or_some, not, not_refused_end, open_of}
+use Rattle.core_state.proofs.Common.{open_total, option_and_then, option_map, or_right, own_loss, readings, refl, some_open, subst, sym}
+use Rattle.core_state.proofs.Common.{took_effect_all, total, true, when, whole, work_of, ℕ, ◌<◌, ◌∙◌, ◌∷◌, ◌≡◌, ◌≤◌}
 use Rattle.core_state.proofs.forced.Beginning.{IsFound, at_found, effect_starts, loss_starts, nothing_starts, root_starts, child_starts}
 use Rattle.core_state.proofs.forced.Beginning.{attached_starts}
 use Rattle.core_state.proofs.nodes.Called.{said}

@@ -3,9 +3,8 @@ use Rattle.core_state.proofs.Common.{Bool, Bound, Buffers, Call, Fault, List, Mi
 use Rattle.core_state.proofs.Common.{Refusal, Reply, Some, [], answer, answers_first, ap, closing, collected, effect, end_in_transit}
 use Rattle.core_state.proofs.Common.{end_named, false, false≢true, first_some, fits_call, in_transit_rejects, is_refusal, is_some, key_of}
 use Rattle.core_state.proofs.Common.{makes_node, makes_tracker, misuse, nat_le, no_end, no_end_rejects, no_handle, option_and_then}
-use Rattle.core_state.proofs.Common.{option_map_or, peer_closed, refl, refused_if, shut_client, shut_rejects, subst, true, unknown_client}
-use Rattle.core_state.proofs.Common.{unknown_rejects, unwrap_or, wrong_kind, ℕ, ◌&&◌, ◌∙◌, ◌∷◌, ◌≡◌}
-use Rattle.std.specs.Option.{option_map}
+use Rattle.core_state.proofs.Common.{option_map, option_map_or, peer_closed, refl, refused_if, shut_client, shut_rejects, subst, true}
+use Rattle.core_state.proofs.Common.{unknown_client, unknown_rejects, unwrap_or, wrong_kind, ℕ, ◌&&◌, ◌∙◌, ◌∷◌, ◌≡◌}
 use Rattle.sm_names.specs.declared.call_parts.Answer.{Answer}
 use Rattle.sm_names.specs.Answers.{misuse_of, misused_if, makes_collection, too_many_handles}
 use Rattle.history_laws.proofs.RejectLaws.{Rejects, rejects_if, wrong_kind_rejects}

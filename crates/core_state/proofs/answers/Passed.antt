@@ -1,10 +1,9 @@
 -- What a call has passed that was answered so.
 use Rattle.core_state.proofs.Common.{Bool, Bound, Call, Fault, List, NodeKey, None, OpenEnd, Option, Readings, Refusal, Reply, Some}
 use Rattle.core_state.proofs.Common.{answer, ap, closing, effect, end_in_transit, false, first_some, in_transit_rejects, is_refusal}
-use Rattle.core_state.proofs.Common.{key_of, limits_met, misuse, no_end, no_end_rejects, no_handle, option_map_or, peer_closed, refl}
-use Rattle.core_state.proofs.Common.{refused_if, shut_client, shut_rejects, true, unknown_client, unknown_rejects, unwrap_or, wrong_kind}
-use Rattle.core_state.proofs.Common.{ℕ, ◌∷◌, ◌≡◌}
-use Rattle.std.specs.Option.{option_map}
+use Rattle.core_state.proofs.Common.{key_of, limits_met, misuse, no_end, no_end_rejects, no_handle, option_map, option_map_or}
+use Rattle.core_state.proofs.Common.{peer_closed, refl, refused_if, shut_client, shut_rejects, true, unknown_client, unknown_rejects}
+use Rattle.core_state.proofs.Common.{unwrap_or, wrong_kind, ℕ, ◌∷◌, ◌≡◌}
 use Rattle.sm_names.specs.Answers.{is_anothers}
 use Rattle.history_laws.proofs.RejectLaws.{strip}
 

@@ -1,10 +1,8 @@
 -- Collections by their ids.
-use Rattle.core_state.proofs.Common.{AllByRecursion, Bool, Collection, IsTidy, List, Rise, Some, [], ap, arith, either_way, eq-eqb}
-use Rattle.core_state.proofs.Common.{eqb-false, eqb-true, false, false_if, find, if◌then◌else◌, inl, inr, ltb-false, ltb-true, map}
-use Rattle.core_state.proofs.Common.{nat_lt, not, put, refl, subst, sym, tidied, true, without_unkept, without_unkept_in, ℕ, ◌<◌, ◌==◌}
-use Rattle.core_state.proofs.Common.{◌∙◌, ◌∷◌, ◌≡◌, ◌≢◌, ◌≤◌, ◌⊎◌}
-use Rattle.sm_names.proofs.ListLaws.{In}
-use Rattle.forest_store.specs.Forest.{is_left}
+use Rattle.core_state.proofs.Common.{AllByRecursion, Bool, Collection, In, IsTidy, List, Rise, Some, [], ap, arith, either_way, eq-eqb}
+use Rattle.core_state.proofs.Common.{eqb-false, eqb-true, false, false_if, find, if◌then◌else◌, inl, inr, is_left, ltb-false, ltb-true}
+use Rattle.core_state.proofs.Common.{map, nat_lt, not, put, refl, subst, sym, tidied, true, without_unkept, without_unkept_in, ℕ, ◌<◌}
+use Rattle.core_state.proofs.Common.{◌==◌, ◌∙◌, ◌∷◌, ◌≡◌, ◌≢◌, ◌≤◌, ◌⊎◌}
 
 -- the ids of collections
 abbrev pub ids : List Collection → List ℕ

@@ -1,19 +1,17 @@
 -- An event leaves each collection but its own as it was.
 use Rattle.core_state.proofs.Common.{Answers, Birth, Bool, Bound, BufferName, Call, Called, Cause, Comes, End, EndPlace, Grows, HasEnd}
-use Rattle.core_state.proofs.Common.{HeldBuffer, In-filter, In-was_born, In_old, IsAnswer, IsWhole, Loss, Mark, NodeKey, None, Option}
+use Rattle.core_state.proofs.Common.{HeldBuffer, In, In-filter, In-was_born, In_old, IsAnswer, IsWhole, Loss, Mark, NodeKey, None, Option}
 use Rattle.core_state.proofs.Common.{Reply, Some, Strength, Timeline, [], after, ancestors, ap, birth_at, birth_is, birth_of}
 use Rattle.core_state.proofs.Common.{birth_of_collection, births, births_in, both_ways, buffers_of, collection_after, collection_of}
 use Rattle.core_state.proofs.Common.{comes, cons_option, end_by, eq-eqb, eqb-true, events, false, false_if, filter, filter-In}
 use Rattle.core_state.proofs.Common.{filter-swap, find_birth, first_some, grows_lost, held_after, home, inl, inr, is_doomed, is_some}
 use Rattle.core_state.proofs.Common.{is_unkept, key_of, map, map-In, member, members, node_after, nodes_after, none_or_some, not}
-use Rattle.core_state.proofs.Common.{not_refused_end, of_ours, open_total, option_and_then, option_map_or, other_key, own_loss, placed}
-use Rattle.core_state.proofs.Common.{readings, refl, same_key, same_key-true, settled, some_strong_live, subst, sym, true, was_born}
-use Rattle.core_state.proofs.Common.{whole, ℕ, ◌&&◌, ◌+◌, ◌==◌, ◌∙◌, ◌∷◌, ◌≡◌}
-use Rattle.std.specs.Option.{option_map}
+use Rattle.core_state.proofs.Common.{not_refused_end, of_ours, open_total, option_and_then, option_map, option_map_or, other_key}
+use Rattle.core_state.proofs.Common.{own_loss, placed, readings, refl, same_key, same_key-true, settled, some_strong_live, subst, sym}
+use Rattle.core_state.proofs.Common.{true, was_born, whole, ℕ, ◌&&◌, ◌+◌, ◌==◌, ◌∙◌, ◌∷◌, ◌≡◌}
 use Rattle.sm_names.specs.Timelines.{buffer_of, opened_by}
 use Rattle.history_laws.proofs.BirthLaws.{ancestors_old}
 use Rattle.history_laws.proofs.GrowthLaws.{own_loss_origin}
-use Rattle.sm_names.proofs.ListLaws.{In}
 use Rattle.core_state.proofs.nodes.Answered.{nodes-answered, answered_other, said_other, no_birth}
 use Rattle.core_state.proofs.collections.MarksApart.{IsIn}
 use Rattle.core_state.proofs.nodes.Called.{answered, rest_called}

@@ -1,8 +1,8 @@
 -- What a collection forces leaves the others as they were.
-use Rattle.core_state.proofs.Common.{Bound, BufferName, Fails, Grows, Initial, IsWhole, Logical, Mark, No_live, Some, Timeline, Why, []}
-use Rattle.core_state.proofs.Common.{buffers_of, false, filter, forced_why, grows_forced, held, held_after, home, next_forced}
-use Rattle.core_state.proofs.Common.{nodes_after, of_ours, refl, settled, settled_rests, whole, ℕ, ◌==◌, ◌∙◌, ◌∷◌, ◌≡◌}
-use Rattle.sm_names.specs.Timelines.{Settles, Rests, Forces}
+use Rattle.core_state.proofs.Common.{Bound, BufferName, Fails, Forces, Grows, Initial, IsWhole, Logical, Mark, No_live, Rests, Some}
+use Rattle.core_state.proofs.Common.{Timeline, Why, [], buffers_of, false, filter, forced_why, grows_forced, held, held_after, home}
+use Rattle.core_state.proofs.Common.{next_forced, nodes_after, of_ours, refl, settled, settled_rests, whole, ℕ, ◌==◌, ◌∙◌, ◌∷◌, ◌≡◌}
+use Rattle.sm_names.specs.Timelines.{Settles}
 use Rattle.core_state.proofs.collections.MarksApart.{IsIn, is_beside, buffers_apart, nodes_apart, held_apart, home_apart, beside_apart}
 
 -- the other collections are as they were

@@ -1,11 +1,9 @@
 -- The ids of collections, the earliest first: they rise, and a new one comes last.
-use Rattle.core_state.proofs.Common.{Allocates, Answers, Birth, Bool, Bound, Called, Ends, Grows, In-filter, In-filter-back, In-map}
+use Rattle.core_state.proofs.Common.{Allocates, Answers, Birth, Bool, Bound, Called, Ends, Grows, In, In-filter, In-filter-back, In-map}
 use Rattle.core_state.proofs.Common.{In-map-back, In-reverse, In-reverse-back, IsWhole, List, Loses, NodeKey, None, Option, Some, Stays}
-use Rattle.core_state.proofs.Common.{Timeline, [], ap, arith, birth_at, births, comes, cons_option, events, filter, filter-append, inl}
-use Rattle.core_state.proofs.Common.{inr, is_kept_collection, is_none, kept_ids, map, map-append, none_if, ordered, refl, reverse}
-use Rattle.core_state.proofs.Common.{reverse-append, subst, sym, ℕ, ◌++◌, ◌+◌, ◌∙◌, ◌∷◌, ◌≡◌, ◌≤◌}
-use Rattle.std.proofs.lemmas.List.{append-nil}
-use Rattle.sm_names.proofs.ListLaws.{In}
+use Rattle.core_state.proofs.Common.{Timeline, [], ap, append-nil, arith, birth_at, births, comes, cons_option, events, filter}
+use Rattle.core_state.proofs.Common.{filter-append, inl, inr, is_kept_collection, is_none, kept_ids, map, map-append, none_if, ordered}
+use Rattle.core_state.proofs.Common.{refl, reverse, reverse-append, subst, sym, ℕ, ◌++◌, ◌+◌, ◌∙◌, ◌∷◌, ◌≡◌, ◌≤◌}
 use Rattle.core_state.proofs.collections.Replacing.{IsRising, rising-push, filter-map_asked}
 use Rattle.core_state.proofs.collections.Roots.{HasRoot, has_root}
 

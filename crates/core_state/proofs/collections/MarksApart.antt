@@ -1,5 +1,5 @@
 -- A mark at a node of one collection leaves the others as they stood.
-use Rattle.core_state.proofs.Common.{Allocated, Bool, BufferName, Called, Ended, HeldBuffer, In-filter, Interval, IsWhole, List, Loss}
+use Rattle.core_state.proofs.Common.{Allocated, Bool, BufferName, Called, Ended, HeldBuffer, In, In-filter, Interval, IsWhole, List, Loss}
 use Rattle.core_state.proofs.Common.{Mark, Some, Strength, Timeline, ap, birth_of_collection, births, births_in, both_ways, buffers_of}
 use Rattle.core_state.proofs.Common.{collection_in, either_way, eqb-true, false, fault, filter, filter-In, filter-append, filter-less}
 use Rattle.core_state.proofs.Common.{filter-none, filter-swap, held, held_after, home, inl, inr, is_doomed, is_initial, is_some}
@@ -7,7 +7,7 @@ use Rattle.core_state.proofs.Common.{layout_at, map, map-In, member, members, no
 use Rattle.core_state.proofs.Common.{placed, refl, some_strong_live, sym, true, ℕ, ◌&&◌, ◌++◌, ◌==◌, ◌∙◌, ◌∷◌, ◌≡◌}
 use Rattle.history_laws.proofs.IsolationLaws.{fault_loss, not_initial, members_loss, members_end, members_allocation, buffers_allocation}
 use Rattle.history_laws.proofs.LayoutLaws.{layout_given}
-use Rattle.sm_names.proofs.ListLaws.{In, map-at}
+use Rattle.sm_names.proofs.ListLaws.{map-at}
 use Rattle.history_laws.proofs.SumLaws.{swap_eq}
 
 -- the mark is no event, and is at a node of the collection

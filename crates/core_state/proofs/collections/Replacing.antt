@@ -1,8 +1,7 @@
 -- Collections by their ids: one is put in its place, and some are forgotten.
-use Rattle.core_state.proofs.Common.{Bool, Collection, In-append, List, [], ap, arith, cond, either_way, eq-eqb, false, false_if, filter}
-use Rattle.core_state.proofs.Common.{inl, inr, lt-ltb, ltb-true, map, nat_lt, put, refl, sym, true, ℕ, ◌&&◌, ◌++◌, ◌<◌, ◌==◌, ◌||◌, ◌∙◌}
-use Rattle.core_state.proofs.Common.{◌∷◌, ◌≡◌}
-use Rattle.sm_names.proofs.ListLaws.{In}
+use Rattle.core_state.proofs.Common.{Bool, Collection, In, In-append, List, [], ap, arith, cond, either_way, eq-eqb, false, false_if}
+use Rattle.core_state.proofs.Common.{filter, inl, inr, lt-ltb, ltb-true, map, nat_lt, put, refl, sym, true, ℕ, ◌&&◌, ◌++◌, ◌<◌, ◌==◌}
+use Rattle.core_state.proofs.Common.{◌||◌, ◌∙◌, ◌∷◌, ◌≡◌}
 use Rattle.forest_store.proofs.lists.StableSort.{other_number, other_greater}
 
 -- ---- numbers in order

@@ -1,12 +1,12 @@
 -- The collections that are kept, each of which has one root.
-use Rattle.core_state.proofs.Common.{Allocated, AreSound, AreTogether, Birth, Bool, Bound, Buffers, Called, Ended, Grows, In-any, In-find}
-use Rattle.core_state.proofs.Common.{In-list_any, In-was_born, In_old, IsOrdered, List, Loss, Mark, NodeKey, None, Option, Some, Timeline}
-use Rattle.core_state.proofs.Common.{[], and_both, and_left, and_right, ap, birth_at, birth_is, birth_of, births, both_ways, buffers_of}
-use Rattle.core_state.proofs.Common.{collection_in, either_way, eq-eqb, eqb-true, events, false, find, inl, inr, is_initial, is_kept}
-use Rattle.core_state.proofs.Common.{is_kept_collection, is_none, is_some, kept_ids, left, list_any, map-Some, none_if, not, not-true}
-use Rattle.core_state.proofs.Common.{one, option_map_or, or_left, ordered, refl, reverse, same_key, subst, sym, times, true, was_born}
-use Rattle.core_state.proofs.Common.{whole, ℕ, ◌&&◌, ◌+◌, ◌==◌, ◌∙◌, ◌∷◌, ◌≡◌, ◌⊎◌}
-use Rattle.sm_names.proofs.ListLaws.{In, times-map_filter, times-reverse, times-zero}
+use Rattle.core_state.proofs.Common.{Allocated, AreSound, AreTogether, Birth, Bool, Bound, Buffers, Called, Ended, Grows, In, In-any}
+use Rattle.core_state.proofs.Common.{In-find, In-list_any, In-was_born, In_old, IsOrdered, List, Loss, Mark, NodeKey, None, Option, Some}
+use Rattle.core_state.proofs.Common.{Timeline, [], and_both, and_left, and_right, ap, birth_at, birth_is, birth_of, births, both_ways}
+use Rattle.core_state.proofs.Common.{buffers_of, collection_in, either_way, eq-eqb, eqb-true, events, false, find, inl, inr, is_initial}
+use Rattle.core_state.proofs.Common.{is_kept, is_kept_collection, is_none, is_some, kept_ids, left, list_any, map-Some, none_if, not}
+use Rattle.core_state.proofs.Common.{not-true, one, option_map_or, or_left, ordered, refl, reverse, same_key, subst, sym, times, true}
+use Rattle.core_state.proofs.Common.{was_born, whole, ℕ, ◌&&◌, ◌+◌, ◌==◌, ◌∙◌, ◌∷◌, ◌≡◌, ◌⊎◌}
+use Rattle.sm_names.proofs.ListLaws.{times-map_filter, times-reverse, times-zero}
 
 -- the collection of a kept node is kept
 pub collection_of_kept : (marks : Timeline) (b : Birth) → In b (births marks) → is_kept marks b.node ≡ true →

@@ -1,13 +1,12 @@
 -- An end gets a new holder and the nodes that are over are forgotten: the marks keep just the remaining nodes.
 use Rattle.core_state.proofs.Common.{Allocated, Allocates, Answers, Bool, Bound, Called, Collection, EndPlace, Ended, Ends, Forest, Grows}
-use Rattle.core_state.proofs.Common.{In-map, Interval, List, Loses, Loss, Mark, Node, NodeKey, None, Option, Some, Stays, Timeline, []}
-use Rattle.core_state.proofs.Common.{and_left, and_right, ap, arith, births, births_in, collection_after, either_way, eqb-true, false}
-use Rattle.core_state.proofs.Common.{filter, filter-In, gone, gone_stays, held_after, inl, inr, is_kept, is_kept_collection, is_unkept}
-use Rattle.core_state.proofs.Common.{kept_ids, length, map, map-map, node_after, nodes_after, not, or_right, place_of, refl, spent, sym}
-use Rattle.core_state.proofs.Common.{true, with_nodes, with_place, without_unkept, ℕ, ◌&&◌, ◌==◌, ◌||◌, ◌∙◌, ◌∷◌, ◌≡◌, ◌⊎◌}
+use Rattle.core_state.proofs.Common.{In, In-map, Interval, List, Loses, Loss, Mark, Node, NodeKey, None, Option, Some, Stays, Timeline}
+use Rattle.core_state.proofs.Common.{[], and_left, and_right, ap, arith, births, births_in, collection_after, either_way, eqb-true, false}
+use Rattle.core_state.proofs.Common.{filter, filter-In, gone, gone_stays, held_after, inl, inr, is_kept, is_kept_collection, is_left}
+use Rattle.core_state.proofs.Common.{is_unkept, kept_ids, length, map, map-map, map-same, node_after, nodes_after, not, or_right}
+use Rattle.core_state.proofs.Common.{place_of, refl, spent, sym, true, with_nodes, with_place, without_unkept, ℕ, ◌&&◌, ◌==◌, ◌||◌, ◌∙◌}
+use Rattle.core_state.proofs.Common.{◌∷◌, ◌≡◌, ◌⊎◌}
 use Rattle.sm_names.specs.Ends.{spends}
-use Rattle.sm_names.proofs.ListLaws.{In}
-use Rattle.forest_store.specs.Forest.{is_left}
 use Rattle.core_state.proofs.ends.NotRead.{placed_node, placed_in}
 use Rattle.core_state.proofs.collections.Ids.{ids, kept_are}
 use Rattle.core_state.proofs.ends.Forgotten.{left_after}
@@ -15,7 +14,6 @@ use Rattle.core_state.proofs.lists.Maps.{filter-filter}
 use Rattle.core_state.proofs.theorem.Follows.{Matches}
 use Rattle.core_state.proofs.views.Nodes.{not_unkept}
 use Rattle.core_state.proofs.collections.Replacing.{filter-map_asked, map-asked}
-use Rattle.forest_store.proofs.lists.Elements.{map-same}
 
 -- ---- an end elsewhere
 

@@ -1,14 +1,12 @@
 -- A collection is forgotten exactly where nothing of it is left.
 use Rattle.core_state.proofs.Common.{Birth, Bool, Bound, BufferName, Grows, HeldBuffer, In-any, In-list_any, In-map, In-map-back, List}
 use Rattle.core_state.proofs.Common.{Node, Strength, Strong, Timeline, Weak, [], and_both, and_left, and_right, ap, arith}
-use Rattle.core_state.proofs.Common.{birth_of_collection, births, births_in, both_tests, collection_after, cond, doomed, eqb-true, false}
-use Rattle.core_state.proofs.Common.{false_if, filter, held, held_after, home, is_kept, is_kept_collection, is_unkept, left, length}
-use Rattle.core_state.proofs.Common.{list_any, node_after, nodes_after, not, open_total, refl, same_buffer, same_buffer-true, stands_held}
-use Rattle.core_state.proofs.Common.{subst, suc, sym, true, ℕ, ◌&&◌, ◌<◌, ◌==◌, ◌||◌, ◌∙◌, ◌∷◌, ◌≡◌}
-use Rattle.sm_names.specs.Handles.{buffer_names}
+use Rattle.core_state.proofs.Common.{birth_of_collection, births, births_in, both_tests, buffer_names, collection_after, cond, doomed}
+use Rattle.core_state.proofs.Common.{eqb-true, false, false_if, filter, held, held_after, home, is_kept, is_kept_collection, is_left}
+use Rattle.core_state.proofs.Common.{is_unkept, left, length, list_any, node_after, nodes_after, not, open_total, refl, same_buffer}
+use Rattle.core_state.proofs.Common.{same_buffer-true, stands_held, subst, suc, sym, true, ℕ, ◌&&◌, ◌<◌, ◌==◌, ◌||◌, ◌∙◌, ◌∷◌, ◌≡◌}
 use Rattle.history_laws.proofs.DoomLaws.{doomed_parts}
 use Rattle.event_laws.proofs.HandleBufferLaws.{open_named}
-use Rattle.forest_store.specs.Forest.{is_left}
 use Rattle.core_state.proofs.handles.HeldNames.{held_left}
 use Rattle.core_state.proofs.nodes.Members.{in_order}
 use Rattle.core_state.proofs.views.Nodes.{not_unkept}

@@ -1,12 +1,12 @@
 -- The forced steps read nothing of ends: they are the same, and come to the same, wherever the ends are.
 use Rattle.core_state.proofs.Common.{Allocated, Bool, Called, Collection, End, Ended, Fault, Handles, HeldBuffer, Interval, List, Loss}
-use Rattle.core_state.proofs.Common.{Mark, Member, Node, NodeKey, None, Option, Some, Strength, [], above_among, after_allocation}
-use Rattle.core_state.proofs.Common.{after_end, after_loss, ap, asked, cond, ended, false, filter, forced, given_back, given_buffers}
-use Rattle.core_state.proofs.Common.{highest, is_home, is_none, is_of, is_root_of, is_taken, is_under, layout, lost, map, map-map}
-use Rattle.core_state.proofs.Common.{member_of, members_of, node_of, not, option_map_or, pages_in, refl, reverse, same_key}
-use Rattle.core_state.proofs.Common.{some_strong_live, subst, sym, true, with_nodes, ℕ, ◌&&◌, ◌++◌, ◌||◌, ◌∙◌, ◌∷◌, ◌≡◌}
-use Rattle.std.specs.Option.{option_map}
-use Rattle.forest_store.specs.Settling.{Settles, Rests, Forces, made, standing}
+use Rattle.core_state.proofs.Common.{Mark, Member, Node, NodeKey, None, Option, Settles, Some, Strength, [], above_among}
+use Rattle.core_state.proofs.Common.{after_allocation, after_end, after_loss, ap, asked, cond, ended, false, filter, forced, given_back}
+use Rattle.core_state.proofs.Common.{given_buffers, highest, is_home, is_none, is_of, is_root_of, is_taken, is_under, layout, lost, made}
+use Rattle.core_state.proofs.Common.{map, map-map, member_of, members_of, node_of, not, option_map, option_map_or, pages_in, refl}
+use Rattle.core_state.proofs.Common.{reverse, same_key, some_strong_live, subst, sym, true, with_nodes, ℕ, ◌&&◌, ◌++◌, ◌||◌, ◌∙◌, ◌∷◌}
+use Rattle.core_state.proofs.Common.{◌≡◌}
+use Rattle.forest_store.specs.Settling.{Rests, Forces, standing}
 use Rattle.core_state.proofs.lists.Maps.{filter-map, find-map, map-reverse}
 
 module _ (place : NodeKey → End → End) where

@@ -1,13 +1,10 @@
 -- An end is spent, and the nodes that are over are forgotten.
-use Rattle.core_state.proofs.Common.{Bool, Collection, End, Forest, HeldBuffer, In-map, IsAmid, IsTidy, List, Node, NodeKey, None, Option}
-use Rattle.core_state.proofs.Common.{Rise, SameKeys, Some, [], all_held, and_right, ap, arith, eqb-true, false, false_if, flat_map}
-use Rattle.core_state.proofs.Common.{if◌then◌else◌, length, map, not, refl, same_key, same_key-true, spent_place, subst, sym, tidied}
-use Rattle.core_state.proofs.Common.{true, with_end, with_nodes, with_place, without_unkept, without_unkept_in, ℕ, ◌&&◌, ◌++◌, ◌==◌, ◌∙◌}
-use Rattle.core_state.proofs.Common.{◌∷◌, ◌≡◌}
-use Rattle.sm_names.proofs.ListLaws.{In}
-use Rattle.forest_store.specs.Forest.{is_left}
+use Rattle.core_state.proofs.Common.{Bool, Collection, End, Forest, HeldBuffer, In, In-map, IsAmid, IsTidy, List, Node, NodeKey, None}
+use Rattle.core_state.proofs.Common.{Option, Rise, SameKeys, Some, [], all_held, and_right, ap, arith, eqb-true, false, false_if}
+use Rattle.core_state.proofs.Common.{flat_map, if◌then◌else◌, is_left, length, map, map-same, not, refl, same_key, same_key-true}
+use Rattle.core_state.proofs.Common.{spent_place, subst, sym, tidied, true, with_end, with_nodes, with_place, without_unkept}
+use Rattle.core_state.proofs.Common.{without_unkept_in, ℕ, ◌&&◌, ◌++◌, ◌==◌, ◌∙◌, ◌∷◌, ◌≡◌}
 use Rattle.core_state.proofs.collections.ById.{ids, others_tidy}
-use Rattle.forest_store.proofs.lists.Elements.{map-same}
 
 -- the collection once the end is spent
 abbrev spent_in_one : Option NodeKey → Collection → Collection

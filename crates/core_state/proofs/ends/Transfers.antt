@@ -1,10 +1,9 @@
 -- An end is moved to another client or to a parcel.
-use Rattle.core_state.proofs.Common.{Bool, CanCarry, Collection, End, EndPlace, Forest, HeldBuffer, In-filter, In-map, IsTidy, List, Node}
-use Rattle.core_state.proofs.Common.{NodeKey, None, Option, SameKeys, Some, [], all_held, ap, false, filter, filter-all, flat_map}
-use Rattle.core_state.proofs.Common.{if◌then◌else◌, is_spent, is_unkept, length-map, map, node_at, not, not-true, refl, same_key, subst}
-use Rattle.core_state.proofs.Common.{sym, true, with_end, with_nodes, with_place, without_unkept, ◌&&◌, ◌++◌, ◌∷◌, ◌≡◌}
-use Rattle.sm_names.proofs.ListLaws.{In}
-use Rattle.core_state.specs.Whole.{IsSound}
+use Rattle.core_state.proofs.Common.{Bool, CanCarry, Collection, End, EndPlace, Forest, HeldBuffer, In, In-filter, In-map, IsSound}
+use Rattle.core_state.proofs.Common.{IsTidy, List, Node, NodeKey, None, Option, SameKeys, Some, [], all_held, ap, false, filter}
+use Rattle.core_state.proofs.Common.{filter-all, flat_map, if◌then◌else◌, is_spent, is_unkept, length-map, map, node_at, not, not-true}
+use Rattle.core_state.proofs.Common.{refl, same_key, subst, sym, true, with_end, with_nodes, with_place, without_unkept, ◌&&◌, ◌++◌, ◌∷◌}
+use Rattle.core_state.proofs.Common.{◌≡◌}
 use Rattle.core_state.proofs.collections.ById.{all_tidy}
 
 module _ (key : NodeKey) (end : End) (unspent : is_spent end ≡ false) where

@@ -1,12 +1,9 @@
 -- What an event keeps of the trackers.
-use Rattle.core_state.proofs.Common.{Bool, Bound, Call, Cell, Condition, GainsTracker, IfSome, In-all, In-append, Node, None, Option}
-use Rattle.core_state.proofs.Common.{Refusal, Reply, Some, State, TrackerTable, Waiting, World, [], all-In, answer, ap, arith, closing}
-use Rattle.core_state.proofs.Common.{effect, false, false≢true, holds, if◌then◌else◌, inl, inr, is_due, is_some, leb-false, length}
-use Rattle.core_state.proofs.Common.{looked_in, makes_tracker, map-Some, nat_le, no_key, node_at, readings_of, refl, subst, sym}
-use Rattle.core_state.proofs.Common.{took_effect_all, tracker_by, true, ℕ, ◌+◌, ◌<◌, ◌∙◌, ◌∷◌, ◌≡◌, ◌≤◌, ◌⊎◌}
-use Rattle.std.specs.List.{All}
-use Rattle.sm_names.proofs.ListLaws.{In}
-use Rattle.event_laws.proofs.FreeEndLaws.{passed}
+use Rattle.core_state.proofs.Common.{All, Bool, Bound, Call, Cell, Condition, GainsTracker, IfSome, In, In-all, In-append, Node, None}
+use Rattle.core_state.proofs.Common.{Option, Refusal, Reply, Some, State, TrackerTable, Waiting, World, [], all-In, answer, ap, arith}
+use Rattle.core_state.proofs.Common.{closing, effect, false, false≢true, holds, if◌then◌else◌, inl, inr, is_due, is_some, leb-false}
+use Rattle.core_state.proofs.Common.{length, looked_in, makes_tracker, map-Some, nat_le, no_key, node_at, passed, readings_of, refl}
+use Rattle.core_state.proofs.Common.{subst, sym, took_effect_all, tracker_by, true, ℕ, ◌+◌, ◌<◌, ◌∙◌, ◌∷◌, ◌≡◌, ◌≤◌, ◌⊎◌}
 
 -- ---- the tracker that is attached
 

@@ -1,16 +1,14 @@
 -- The trackers of the next state are those of the marks.
-use Rattle.core_state.proofs.Common.{Bound, Call, Called, Entry, Fired, Follows, GainsTracker, Grows, IsAfter, IsAnswer, IsRecalled, List}
-use Rattle.core_state.proofs.Common.{NodeKey, None, Option, Reply, Some, State, Stays, Timeline, TrackerTable, Waiting, World, [], after}
-use Rattle.core_state.proofs.Common.{ap, cons_option, events, events_after, false, filter, filter-In, grows_after, inl, inr, is_kept}
-use Rattle.core_state.proofs.Common.{list_any, list_any-append, map, map-append, map-map, node_after, node_at, none_key, not, or_cases}
-use Rattle.core_state.proofs.Common.{or_left, or_right, readings, recalled_due, refl, subst, swept, sym, took_effect_all, total}
-use Rattle.core_state.proofs.Common.{tracked_as, tracker_by, trackers_to_test, true, unfired_trackers, world, world_in, ℕ, ◌++◌, ◌+◌}
-use Rattle.core_state.proofs.Common.{◌==◌, ◌||◌, ◌∙◌, ◌∷◌, ◌≡◌}
-use Rattle.std.proofs.lemmas.List.{append-nil}
-use Rattle.std.specs.Option.{option_map}
+use Rattle.core_state.proofs.Common.{Bound, Call, Called, Entry, Fired, Follows, GainsTracker, Grows, In, IsAfter, IsAnswer, IsRecalled}
+use Rattle.core_state.proofs.Common.{List, NodeKey, None, Option, Reply, Some, State, Stays, Timeline, TrackerTable, Waiting, World, []}
+use Rattle.core_state.proofs.Common.{after, ap, append-nil, cons_option, events, events_after, false, filter, filter-In, grows_after, inl}
+use Rattle.core_state.proofs.Common.{inr, is_kept, list_any, map, map-append, map-map, named, node_after, node_at, none_key, not}
+use Rattle.core_state.proofs.Common.{option_map, or_cases, or_left, or_right, readings, recalled_due, refl, subst, swept, sym}
+use Rattle.core_state.proofs.Common.{took_effect_all, total, tracked_as, tracker_by, trackers_to_test, true, unfired_trackers, world}
+use Rattle.core_state.proofs.Common.{world_in, ℕ, ◌++◌, ◌+◌, ◌==◌, ◌||◌, ◌∙◌, ◌∷◌, ◌≡◌}
+use Rattle.std.proofs.lemmas.List.Folds.{list_any-append}
 use Rattle.sm_names.specs.Trackers.{Tracked, fired, tracked, tracked_at}
-use Rattle.history_laws.proofs.BirthLaws.{Named, named}
-use Rattle.sm_names.proofs.ListLaws.{In}
+use Rattle.history_laws.proofs.BirthLaws.{Named}
 use Rattle.sm_names.proofs.SamenessLaws.{or_first}
 use Rattle.event_laws.specs.Waiting.{tracked_firing, is_tracked_met}
 use Rattle.event_laws.proofs.MomentLaws.{tracked_after}

@@ -1,8 +1,6 @@
 -- A sweep where no tracker is due.
-use Rattle.core_state.proofs.Common.{List, TrackerTable, Waiting, World, ap, false, filter-all, filter-none, firings, is_due, map, not}
-use Rattle.core_state.proofs.Common.{swept, ℕ, ◌++◌, ◌∙◌, ◌≡◌}
-use Rattle.std.proofs.lemmas.List.{append-nil}
-use Rattle.sm_names.proofs.ListLaws.{In}
+use Rattle.core_state.proofs.Common.{In, List, TrackerTable, Waiting, World, ap, append-nil, false, filter-all, filter-none, firings}
+use Rattle.core_state.proofs.Common.{is_due, map, not, swept, ℕ, ◌++◌, ◌∙◌, ◌≡◌}
 use Rattle.trackers.specs.Table.{firing, still_waiting}
 
 -- where none is due, a sweep leaves the trackers

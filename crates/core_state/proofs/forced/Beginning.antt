@@ -1,13 +1,12 @@
 -- How an event begins in the collection that it changes.
 use Rattle.core_state.proofs.Common.{Answers, Birth, Bool, Bound, Call, Called, Cause, Change, Collection, Comes, Effect, EndPlace, Grows}
-use Rattle.core_state.proofs.Common.{In_old, IsAfter, IsAnswer, List, Loss, Mark, Node, NodeKey, None, Option, Reply, Some, State}
+use Rattle.core_state.proofs.Common.{In, In_old, IsAfter, IsAnswer, List, Loss, Mark, Node, NodeKey, None, Option, Reply, Some, State}
 use Rattle.core_state.proofs.Common.{Timeline, Work, [], affected, after_loss, ap, arith, at_node, beside, birth_at, birth_is, births}
 use Rattle.core_state.proofs.Common.{changed, collection_after, collection_of, collection_or_new, cons_option, end_by, events, false}
-use Rattle.core_state.proofs.Common.{fault, gone, inl, inr, is_kept, is_kept_collection, map, map-Some, map-map, new_child, new_key}
-use Rattle.core_state.proofs.Common.{new_root, no_key, node_after, node_at, node_of, not, option_map_or, or_right, own_loss, place_of}
-use Rattle.core_state.proofs.Common.{readings, refl, spent, subst, sym, true, unwrap_or, whole, with_nodes, ℕ, ◌++◌, ◌+◌, ◌<◌, ◌∙◌, ◌∷◌}
-use Rattle.core_state.proofs.Common.{◌≡◌, ◌⊎◌}
-use Rattle.sm_names.proofs.ListLaws.{In}
+use Rattle.core_state.proofs.Common.{fault, gone, inl, inr, is_kept, is_kept_collection, map, map-Some, map-map, map-same, new_child}
+use Rattle.core_state.proofs.Common.{new_key, new_root, no_key, node_after, node_at, node_of, not, option_map_or, or_right, own_loss}
+use Rattle.core_state.proofs.Common.{place_of, readings, refl, spent, subst, sym, true, unwrap_or, whole, with_nodes, ℕ, ◌++◌, ◌+◌, ◌<◌}
+use Rattle.core_state.proofs.Common.{◌∙◌, ◌∷◌, ◌≡◌, ◌⊎◌}
 use Rattle.forest_store.specs.Nodes.{after_effect}
 use Rattle.core_state.proofs.nodes.Called.{said}
 use Rattle.core_state.proofs.forced.CallStep.{matches_called, kept_answered, kept_born, homes_elsewhere, follows_placed}
@@ -21,7 +20,6 @@ use Rattle.core_state.proofs.collections.Roots.{collection_of_kept}
 use Rattle.core_state.proofs.forced.Starting.{follows, there_or_new, new_or_there}
 use Rattle.core_state.proofs.forced.ForcedStep.{loss_matches}
 use Rattle.core_state.proofs.forced.Work.{Starts}
-use Rattle.forest_store.proofs.lists.Elements.{map-same}
 
 -- where no end is put elsewhere, all nodes stay
 none_moved : (o : Option EndPlace) → o ≡ None → (ns : List Node) → map (placed_node (place_of o)) ns ≡ ns

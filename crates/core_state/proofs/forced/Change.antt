@@ -1,8 +1,7 @@
 -- What the change of a task leaves of the forest.
-use Rattle.core_state.proofs.Common.{CanFinish, Change, EventTask, Forest, Handles, IfSome, IsAmid, MayDo, Node, NodeKey, None, Option}
-use Rattle.core_state.proofs.Common.{Reworked, Settled, Some, is_some, map-Some, node_at, refl, subst, sym, true, work_in, ℕ, ◌∙◌, ◌≡◌}
-use Rattle.std.specs.Option.{option_map}
-use Rattle.core_state.specs.Whole.{IsSound}
+use Rattle.core_state.proofs.Common.{CanFinish, Change, EventTask, Forest, Handles, IfSome, IsAmid, IsSound, MayDo, Node, NodeKey, None}
+use Rattle.core_state.proofs.Common.{Option, Reworked, Settled, Some, is_some, map-Some, node_at, option_map, refl, subst, sym, true}
+use Rattle.core_state.proofs.Common.{work_in, ℕ, ◌∙◌, ◌≡◌}
 use Rattle.core_state.proofs.forced.Forest.{IsThere, amid_same, amid_settled, key_is_there, node_with_key}
 
 -- the end that the task spends is of a node of its collection

@@ -1,5 +1,5 @@
 -- What a call changes fits the collection that it changes.
-use Rattle.core_state.proofs.Common.{Call, Change, Collection, Effect, Forest, In-find, In-list_any, IsAnswer, MAX_NODE_TRACKERS}
+use Rattle.core_state.proofs.Common.{Call, Change, Collection, Effect, Forest, In-find, In-list_any, IsAnswer, IsSound, MAX_NODE_TRACKERS}
 use Rattle.core_state.proofs.Common.{MayChange, Node, NodeKey, None, OpenEnd, Option, Refusal, Reply, Some, State, Work, [], and_left}
 use Rattle.core_state.proofs.Common.{answer, answers_first, ap, arith, both_ways, collection_at, collection_or_new, effect, either_way}
 use Rattle.core_state.proofs.Common.{eqb-true, false, first_some, given, inl, inr, is_of, key_told, list_any, nat_lt, no_key, node_at}
@@ -9,7 +9,6 @@ use Rattle.sm_names.specs.Elements.{In}
 use Rattle.sm_names.proofs.ListLaws.{all_on}
 use Rattle.forest_store.specs.Scenes.{has_tracker_room}
 use Rattle.core_state.specs.Steps.{leaves_tracker_room}
-use Rattle.core_state.specs.Whole.{IsSound}
 use Rattle.core_state.proofs.forced.Known.{IsKnown}
 use Rattle.core_state.proofs.collections.ById.{found_by_id}
 use Rattle.core_state.proofs.forced.Forest.{node_with_key}

@@ -1,11 +1,10 @@
 -- What an event leaves of a collection: its id, and the keys of its nodes.
-use Rattle.core_state.proofs.Common.{Allocated, Bool, Called, Change, Collection, Ended, Handles, In-front, In-map-back, Interval, List}
-use Rattle.core_state.proofs.Common.{Loss, Mark, Node, NodeKey, None, Option, Some, [], affected, after_allocation, asked, changed, ended}
-use Rattle.core_state.proofs.Common.{false, given_buffers, if◌then◌else◌, is_root_of, is_taken, layout, lost, map, members_of, new_child}
-use Rattle.core_state.proofs.Common.{new_root, node_of, option_map_or, pages_in, refl, subst, sym, true, with_nodes, ℕ, ◌++◌, ◌∙◌, ◌∷◌}
-use Rattle.core_state.proofs.Common.{◌≡◌}
-use Rattle.sm_names.proofs.ListLaws.{In}
-use Rattle.forest_store.specs.Settling.{Settles, Rests, Forces, made}
+use Rattle.core_state.proofs.Common.{Allocated, Bool, Called, Change, Collection, Ended, Handles, In, In-front, In-map-back, Interval}
+use Rattle.core_state.proofs.Common.{List, Loss, Mark, Node, NodeKey, None, Option, Settles, Some, [], affected, after_allocation, asked}
+use Rattle.core_state.proofs.Common.{changed, ended, false, given_buffers, if◌then◌else◌, is_root_of, is_taken, layout, lost, made, map}
+use Rattle.core_state.proofs.Common.{members_of, new_child, new_root, node_of, option_map_or, pages_in, refl, subst, sym, true}
+use Rattle.core_state.proofs.Common.{with_nodes, ℕ, ◌++◌, ◌∙◌, ◌∷◌, ◌≡◌}
+use Rattle.forest_store.specs.Settling.{Rests, Forces}
 use Rattle.forest_store.proofs.changes.Altering.{same_affected}
 
 -- the second collection is what became of the first

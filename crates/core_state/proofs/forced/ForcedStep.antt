@@ -1,18 +1,16 @@
 -- One forced mark, in a state and in the history that it follows.
-use Rattle.core_state.proofs.Common.{Allocated, Birth, Bool, Bound, Buffers, Cause, Collection, Ended, Fails, Grows, HeldBuffer}
+use Rattle.core_state.proofs.Common.{Allocated, Birth, Bool, Bound, Buffers, Cause, Collection, Ended, Fails, Grows, HeldBuffer, In}
 use Rattle.core_state.proofs.Common.{In-append, In-was_born, Initial, Interval, IsWhole, List, Logical, Loses, Loss, Mark, No_live, Node}
 use Rattle.core_state.proofs.Common.{NodeKey, None, Option, Some, Stays, Timeline, Why, [], after_allocation, after_end, after_loss}
 use Rattle.core_state.proofs.Common.{allocated, ap, asked, birth_of, births, both_ways, buffers_of, eq-eqb, eqb-true, false, false_if}
 use Rattle.core_state.proofs.Common.{filter, filter-all, filter-append, filter-less, filter-none, filter-swap, find_birth, forced_why}
 use Rattle.core_state.proofs.Common.{given_root, gone, grows_forced, held, held_after, home, inl, inr, is_none, is_root_of, is_some}
-use Rattle.core_state.proofs.Common.{laid_out, layout, layout_at, list_any, map, members, members_of, names, next_forced, node_of, not}
-use Rattle.core_state.proofs.Common.{of_ours, option_map_or, pages_in, pages_of, placed, placed_given, places, places_same, refl}
+use Rattle.core_state.proofs.Common.{laid_out, layout, layout_at, list_any, made, map, members, members_of, names, next_forced, node_of}
+use Rattle.core_state.proofs.Common.{not, of_ours, option_map_or, pages_in, pages_of, placed, placed_given, places, places_same, refl}
 use Rattle.core_state.proofs.Common.{still_out, subst, sym, true, whole, with_nodes, ℕ, ◌++◌, ◌==◌, ◌∙◌, ◌∷◌, ◌≡◌}
 use Rattle.history_laws.proofs.DoomLaws.{home_on}
 use Rattle.history_laws.proofs.HeldLaws.{not_turned}
-use Rattle.sm_names.proofs.ListLaws.{In}
 use Rattle.history_laws.proofs.ForgetLaws.{asked-left}
-use Rattle.forest_store.specs.Settling.{made}
 use Rattle.core_state.proofs.collections.MarksApart.{IsIn, is_beside, beside_apart, laid_in}
 use Rattle.core_state.proofs.theorem.Follows.{Matches, members_match, pages_match}
 use Rattle.core_state.proofs.nodes.Members.{node_found}

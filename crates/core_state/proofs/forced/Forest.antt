@@ -1,12 +1,11 @@
 -- What an event does to the forest, before ends are spent.
-use Rattle.core_state.proofs.Common.{Change, Collection, Forest, Handles, In-any, In-append, In-find, In-front, IsAmid, List, Node}
-use Rattle.core_state.proofs.Common.{NodeKey, Option, Rise, Settled, Some, [], all_nodes, ap, beside, both_ways, collection_at}
+use Rattle.core_state.proofs.Common.{Change, Collection, Forest, Handles, In, In-any, In-append, In-find, In-front, IsAmid, IsSound, List}
+use Rattle.core_state.proofs.Common.{Node, NodeKey, Option, Rise, Settled, Some, [], all_nodes, ap, beside, both_ways, collection_at}
 use Rattle.core_state.proofs.Common.{collection_or_new, eq-eqb, false, flat_map, given_back, inl, inr, is_of, is_some, is_some-find}
 use Rattle.core_state.proofs.Common.{no_key, node_at, refl, same_key, same_key-refl, same_key-true, subst, sym, true, unwrap_or, ℕ, ◌==◌}
 use Rattle.core_state.proofs.Common.{◌∙◌, ◌∷◌, ◌≡◌, ◌⊎◌}
-use Rattle.sm_names.proofs.ListLaws.{In, In-behind}
+use Rattle.sm_names.proofs.ListLaws.{In-behind}
 use Rattle.forest_store.proofs.tallies.Slots.{or_new_id}
-use Rattle.core_state.specs.Whole.{IsSound}
 use Rattle.core_state.proofs.forced.Fitting.{Keeps, event_keeps}
 use Rattle.core_state.proofs.collections.ById.{ids, found_by_id, put_from, put_rises, put_there}
 

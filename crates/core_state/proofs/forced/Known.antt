@@ -1,10 +1,8 @@
 -- What is known of a core's fields.
-use Rattle.core_state.proofs.Common.{Bound, BufferName, Cell, Client, Collection, Forest, HandleCounts, List, NoBufferHome, Rise, State}
-use Rattle.core_state.proofs.Common.{Strength, Waiting, count_by, counts_of, false, is_due, is_handle_of, map, sum_by, total, world_in, ℕ}
-use Rattle.core_state.proofs.Common.{◌≡◌, ◌≤◌}
-use Rattle.std.specs.List.{All}
+use Rattle.core_state.proofs.Common.{All, Bound, BufferName, Cell, Client, Collection, Forest, HandleCounts, IsSound, List, NoBufferHome}
+use Rattle.core_state.proofs.Common.{Rise, State, Strength, Waiting, count_by, counts_of, false, is_due, is_handle_of, map, sum_by, total}
+use Rattle.core_state.proofs.Common.{world_in, ℕ, ◌≡◌, ◌≤◌}
 use Rattle.sm_names.specs.Elements.{In}
-use Rattle.core_state.specs.Whole.{IsSound}
 
 -- how many handles of a buffer and strength wait for the client
 abbrev pub waiting_in : BufferName → Strength → Client → ℕ

@@ -1,7 +1,6 @@
 -- A Close that loses its node.
 use Rattle.core_state.proofs.Common.{Bool, Cause, Change, Forest, Node, NodeKey, None, Some, Work, and_then-Some, ap, at_node, cond}
-use Rattle.core_state.proofs.Common.{either_way, false, inl, inr, loss_at, node_at, sym, ◌∙◌, ◌≡◌}
-use Rattle.std.specs.Option.{option_map}
+use Rattle.core_state.proofs.Common.{either_way, false, inl, inr, loss_at, node_at, option_map, sym, ◌∙◌, ◌≡◌}
 
 -- what is lost is there, and not gone
 pub record IsLosing (f : Forest) (key : NodeKey) (cause : Cause) (work : Work) : Type 0 where

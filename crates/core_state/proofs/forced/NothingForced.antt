@@ -2,11 +2,10 @@
 use Rattle.core_state.proofs.Common.{Answers, Birth, Bound, BufferName, Call, Called, Collection, EndPlace, Grows, Handles, HeldBuffer}
 use Rattle.core_state.proofs.Common.{Interval, IsAfter, IsAnswer, List, Mark, None, Option, Reply, Some, State, Stays, Strength, Timeline}
 use Rattle.core_state.proofs.Common.{[], after, ap, arith, beside, births, collection_after, collection_of, cons_option, either_way}
-use Rattle.core_state.proofs.Common.{end_by, filter, forced, held_after, inl, inr, is_kept, is_kept_collection, kept_ids, list_any}
-use Rattle.core_state.proofs.Common.{lt-ltb, map, nat_lt, next_forced, not, open_total, option_map_or, place_of, readings, refl, settled}
-use Rattle.core_state.proofs.Common.{suc, sym, true, whole, with_place, without_unkept, zero, ℕ, ◌==◌, ◌∙◌, ◌∷◌, ◌≡◌}
+use Rattle.core_state.proofs.Common.{end_by, filter, forced, held_after, inl, inr, is_kept, is_kept_collection, is_left, kept_ids}
+use Rattle.core_state.proofs.Common.{list_any, lt-ltb, map, nat_lt, next_forced, not, open_total, option_map_or, place_of, readings, refl}
+use Rattle.core_state.proofs.Common.{settled, suc, sym, true, whole, with_place, without_unkept, zero, ℕ, ◌==◌, ◌∙◌, ◌∷◌, ◌≡◌}
 use Rattle.std.proofs.lemmas.Bool.{not-false}
-use Rattle.forest_store.specs.Forest.{is_left}
 use Rattle.forest_store.specs.Settling.{buffer_names, standing}
 use Rattle.core_state.proofs.forced.CallStep.{IsIdle, births_idle, follows_idle, held_idle}
 use Rattle.core_state.proofs.ends.NotRead.{placed_in, standing_placed}

@@ -1,14 +1,13 @@
 -- What a state settles to is what its history settles to.
-use Rattle.core_state.proofs.Common.{Allocated, Bool, Bound, Buffers, Called, Collection, Ended, Grows, Handles, HeldBuffer, In-filter}
-use Rattle.core_state.proofs.Common.{Interval, IsWhole, List, Loss, Mark, NodeKey, None, Option, Some, Strength, Timeline, [], ap}
-use Rattle.core_state.proofs.Common.{buffers_of, false, filter, filter-In, filter-less, given_back, grows_forced, held_after, home}
-use Rattle.core_state.proofs.Common.{is_doomed, is_event, is_home_in, is_some, members, members_of, next_forced, not, refl, settled}
-use Rattle.core_state.proofs.Common.{settled_rests, some_strong_live, still_out, strong-left, subst, sym, true, whole, ℕ, ◌&&◌, ◌==◌, ◌∙◌}
-use Rattle.core_state.proofs.Common.{◌∷◌, ◌≡◌}
-use Rattle.sm_names.specs.Timelines.{Settles, Rests, Forces}
-use Rattle.sm_names.proofs.ListLaws.{In}
+use Rattle.core_state.proofs.Common.{Allocated, Bool, Bound, Buffers, Called, Collection, Ended, Forces, Grows, Handles, HeldBuffer, In}
+use Rattle.core_state.proofs.Common.{In-filter, Interval, IsWhole, List, Loss, Mark, NodeKey, None, Option, Rests, Some, Strength}
+use Rattle.core_state.proofs.Common.{Timeline, [], ap, buffers_of, false, filter, filter-In, filter-less, given_back, grows_forced}
+use Rattle.core_state.proofs.Common.{held_after, home, is_doomed, is_event, is_home_in, is_some, made, members, members_of, next_forced}
+use Rattle.core_state.proofs.Common.{not, refl, settled, settled_rests, some_strong_live, still_out, strong-left, subst, sym, true, whole}
+use Rattle.core_state.proofs.Common.{ℕ, ◌&&◌, ◌==◌, ◌∙◌, ◌∷◌, ◌≡◌}
+use Rattle.sm_names.specs.Timelines.{Settles}
 use Rattle.history_laws.proofs.SettledLaws.{Settles-one, forced_no_event}
-use Rattle.forest_store.specs.Settling.{made, Settles as SettlesIn, Rests as RestsIn, Forces as ForcesIn}
+use Rattle.forest_store.specs.Settling.{Settles as SettlesIn, Rests as RestsIn, Forces as ForcesIn}
 use Rattle.forest_store.proofs.tallies.Slots.{made_id}
 use Rattle.core_state.proofs.theorem.Follows.{Counts, Matches, members_match, forced_matches}
 use Rattle.core_state.proofs.forced.ForcedStep.{step_matches}

@@ -1,14 +1,13 @@
 -- A collection of a state follows the marks that the state shows, and one more event.
-use Rattle.core_state.proofs.Common.{Birth, Bool, Bound, Buffers, Collection, Grows, HeldBuffer, In-any, In-filter, In-list_any, In-map}
-use Rattle.core_state.proofs.Common.{Interval, IsAfter, List, Node, None, Option, Some, State, Timeline, [], all_held, ap, arith, beside}
-use Rattle.core_state.proofs.Common.{birth_of_collection, births_in, both_tests, both_ways, buffers_of, collection_after}
+use Rattle.core_state.proofs.Common.{Birth, Bool, Bound, Buffers, Collection, Grows, HeldBuffer, In, In-any, In-filter, In-list_any}
+use Rattle.core_state.proofs.Common.{In-map, Interval, IsAfter, List, Node, None, Option, Some, State, Timeline, [], all_held, ap, arith}
+use Rattle.core_state.proofs.Common.{beside, birth_of_collection, births_in, both_tests, both_ways, buffers_of, collection_after}
 use Rattle.core_state.proofs.Common.{collection_or_new, either_way, eqb-true, events, false_if, filter, filter-In, filter-all}
 use Rattle.core_state.proofs.Common.{filter-append, filter-none, flat_map, flat_map-map, gone, held, held_after, home, inl, inr, is_kept}
 use Rattle.core_state.proofs.Common.{is_kept_collection, is_some, is_unkept, kept_ids, list_any, map, map-append, node_after, nodes_after}
 use Rattle.core_state.proofs.Common.{not, or_left, ordered, pages_in, placed, placed_given, refl, still_out, subst, sym, true, ℕ, ◌++◌}
 use Rattle.core_state.proofs.Common.{◌<◌, ◌==◌, ◌∙◌, ◌∷◌, ◌≡◌, ◌≤◌}
 use Rattle.history_laws.proofs.DoomLaws.{buffers_early}
-use Rattle.sm_names.proofs.ListLaws.{In}
 use Rattle.core_state.proofs.collections.MarksApart.{is_beside, pages_beside}
 use Rattle.core_state.proofs.nodes.Ancestors.{Keeps, nodes_kept}
 use Rattle.core_state.proofs.theorem.Follows.{Matches}

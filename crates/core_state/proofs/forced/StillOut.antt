@@ -1,15 +1,11 @@
 -- No held buffer is home between events, and each is one of its collection.
-use Rattle.core_state.proofs.Common.{Bool, BufferName, Call, Called, Change, Collection, EventTask, Forest, HeldBuffer, IfSome, In-find}
-use Rattle.core_state.proofs.Common.{List, Mark, MayChange, MayDo, MovesHandles, NoBufferHome, None, Option, Reply, Some, State, Strength}
-use Rattle.core_state.proofs.Common.{Work, [], and_both, ap, arith, both_ways, collection_at, drops, either_way, eq-eqb, false, false_if}
-use Rattle.core_state.proofs.Common.{if◌then◌else◌, inl, inr, is_home, is_home_in, is_some, members_of, one_if, opens, option_map_or}
-use Rattle.core_state.proofs.Common.{refl, same_buffer, same_buffer-true, some_strong_live, subst, sym, total, true, work_in, work_of, ℕ}
-use Rattle.core_state.proofs.Common.{◌+◌, ◌==◌, ◌∙◌, ◌∷◌, ◌≡◌}
+use Rattle.core_state.proofs.Common.{Bool, BufferName, Call, Called, Change, Collection, Counts, EventTask, Forest, HeldBuffer, IfSome}
+use Rattle.core_state.proofs.Common.{In, In-find, List, Mark, MayChange, MayDo, MovesHandles, NoBufferHome, None, Option, Reply, Some}
+use Rattle.core_state.proofs.Common.{State, Strength, Work, [], and_both, anyone, ap, arith, both_ways, collection_at, drops, either_way}
+use Rattle.core_state.proofs.Common.{eq-eqb, false, false_if, if◌then◌else◌, inl, inr, is_home, is_home_in, is_some, members_of, one_if}
+use Rattle.core_state.proofs.Common.{opens, option_map, option_map_or, refl, same_buffer, same_buffer-true, some_strong_live, subst, sym}
+use Rattle.core_state.proofs.Common.{total, true, work_in, work_of, ℕ, ◌+◌, ◌==◌, ◌∙◌, ◌∷◌, ◌≡◌}
 use Rattle.std.specs.List.{list_all}
-use Rattle.std.specs.Option.{option_map}
-use Rattle.sm_names.proofs.ListLaws.{In}
-use Rattle.event_laws.specs.ByEvent.{anyone}
-use Rattle.buffer_holds.specs.Counts.{Counts}
 use Rattle.forest_store.specs.Dropped.{are_others_out}
 use Rattle.forest_store.specs.Settling.{fits}
 use Rattle.core_state.specs.Tasks.{AsksOnly, OthersStay}

@@ -1,15 +1,13 @@
 -- What an answered call may do to the forest.
-use Rattle.core_state.proofs.Common.{Bool, Bound, BufferName, Call, Cause, Change, Collection, Effect, Fault, Forest, In-find}
-use Rattle.core_state.proofs.Common.{MAX_NODE_TRACKERS, MayChange, Misuse, Node, NodeKey, None, OpenEnd, Option, Refusal, Reply, Some}
-use Rattle.core_state.proofs.Common.{State, Strength, Work, and-false, and_then-Some, answer, ap, arith, at_node, closing, collection_at}
-use Rattle.core_state.proofs.Common.{done_to, drop_at, effect, end_in, eq-eqb, eqb-true, false, if◌then◌else◌, inl, inr, is_refusal}
-use Rattle.core_state.proofs.Common.{is_some, is_spent, key_of, leb-false, loss_at, makes_node, map-Some, nat_le, new_key, no_key}
-use Rattle.core_state.proofs.Common.{node_at, node_count, none_or_some, open_end_of, option_map_or, readings_of, refl, subst, sym}
+use Rattle.core_state.proofs.Common.{Bool, Bound, BufferName, Call, Cause, Change, Collection, Effect, Fault, Forest, In, In-find}
+use Rattle.core_state.proofs.Common.{IsSound, MAX_NODE_TRACKERS, MayChange, Misuse, Node, NodeKey, None, OpenEnd, Option, Refusal, Reply}
+use Rattle.core_state.proofs.Common.{Some, State, Strength, Work, and-false, and_then-Some, answer, ap, arith, at_node, closing}
+use Rattle.core_state.proofs.Common.{collection_at, done_to, drop_at, effect, end_in, eq-eqb, eqb-true, false, if◌then◌else◌, inl, inr}
+use Rattle.core_state.proofs.Common.{is_refusal, is_some, is_spent, key_of, leb-false, loss_at, makes_node, map-Some, nat_le, new_key}
+use Rattle.core_state.proofs.Common.{no_key, node_at, node_count, none_or_some, open_end_of, option_map_or, readings_of, refl, subst, sym}
 use Rattle.core_state.proofs.Common.{took_effect, took_effect_all, true, when, work_of, ℕ, ◌+◌, ◌<◌, ◌==◌, ◌||◌, ◌∙◌, ◌≡◌, ◌≤◌, ◌⊎◌}
 use Rattle.sm_names.specs.Answers.{of_end}
-use Rattle.sm_names.proofs.ListLaws.{In}
 use Rattle.forest_store.specs.Settling.{is_birth, is_there}
-use Rattle.core_state.specs.Whole.{IsSound}
 use Rattle.core_state.proofs.forced.Known.{AreUpTo, IsKnown}
 use Rattle.core_state.proofs.forced.Dropping.{took_last}
 use Rattle.core_state.proofs.forced.Losing.{IsLosing, losing}

@@ -1,18 +1,15 @@
 -- An event that changes a collection, and all that it forces.
-use Rattle.core_state.proofs.Common.{Answers, Birth, Bound, Call, Called, Collection, EndPlace, Forest, Grows, Handles, In-filter, In-map}
-use Rattle.core_state.proofs.Common.{IsAfter, IsAnswer, List, Mark, Node, None, Option, Reply, Settled, Some, State, Stays, Timeline}
-use Rattle.core_state.proofs.Common.{Work, [], after, ap, arith, beside, birth_at, birth_of_collection, births, births_in, both_ways}
-use Rattle.core_state.proofs.Common.{changed, collection_after, collection_of, collection_or_new, cons_option, either_way, end_by, eq-eqb}
-use Rattle.core_state.proofs.Common.{eqb-true, events, false, false_if, filter, filter-all, filter-append, given_back, grows_after}
-use Rattle.core_state.proofs.Common.{grows_lost, held_after, inl, inr, is_kept, is_kept_collection, is_unkept, kept_ids, key_of, map}
-use Rattle.core_state.proofs.Common.{new_key, no_key, node_after, nodes_after, not, option_map_or, own_loss, place_of, put, readings}
-use Rattle.core_state.proofs.Common.{refl, same_key, same_key-true, settled, subst, sym, unwrap_or, whole, with_place, without_unkept, ℕ}
-use Rattle.core_state.proofs.Common.{◌++◌, ◌+◌, ◌<◌, ◌==◌, ◌||◌, ◌∙◌, ◌∷◌, ◌≡◌}
-use Rattle.std.proofs.lemmas.List.{append-nil}
+use Rattle.core_state.proofs.Common.{Answers, Birth, Bound, Call, Called, Collection, EndPlace, Forest, Grows, Handles, In, In-filter}
+use Rattle.core_state.proofs.Common.{In-map, IsAfter, IsAnswer, List, Mark, Node, None, Option, Reply, Settled, Settles, Some, State}
+use Rattle.core_state.proofs.Common.{Stays, Timeline, Work, [], after, ap, append-nil, arith, beside, birth_at, birth_of_collection}
+use Rattle.core_state.proofs.Common.{births, births_in, both_ways, changed, collection_after, collection_of, collection_or_new}
+use Rattle.core_state.proofs.Common.{cons_option, either_way, end_by, eq-eqb, eqb-true, events, false, false_if, filter, filter-all}
+use Rattle.core_state.proofs.Common.{filter-append, given_back, grows_after, grows_lost, held_after, inl, inr, is_kept}
+use Rattle.core_state.proofs.Common.{is_kept_collection, is_left, is_unkept, kept_ids, key_of, map, map-same, new_key, no_key, node_after}
+use Rattle.core_state.proofs.Common.{nodes_after, not, option_map_or, own_loss, place_of, put, readings, refl, same_key, same_key-true}
+use Rattle.core_state.proofs.Common.{settled, subst, sym, unwrap_or, whole, with_place, without_unkept, ℕ, ◌++◌, ◌+◌, ◌<◌, ◌==◌, ◌||◌}
+use Rattle.core_state.proofs.Common.{◌∙◌, ◌∷◌, ◌≡◌}
 use Rattle.history_laws.proofs.LegalLaws.{births-after, own_loss_no_event}
-use Rattle.sm_names.proofs.ListLaws.{In}
-use Rattle.forest_store.specs.Forest.{is_left}
-use Rattle.forest_store.specs.Settling.{Settles}
 use Rattle.core_state.proofs.collections.Elsewhere.{came, named_in, collects_end, ends_named, collection_elsewhere}
 use Rattle.core_state.proofs.ends.NotRead.{placed_node, placed_in, settles_placed, given_placed}
 use Rattle.core_state.proofs.ends.Finishing.{finished, ComesTo, finished_is, finished_kept}
@@ -22,7 +19,6 @@ use Rattle.core_state.proofs.theorem.Follows.{Counts, Matches}
 use Rattle.core_state.proofs.collections.Replacing.{with_new, put-map}
 use Rattle.core_state.proofs.forced.Settled.{IsSettled, counts_on, settled_matches, given_matches, given_held}
 use Rattle.core_state.proofs.forced.Starting.{still_empty}
-use Rattle.forest_store.proofs.lists.Elements.{map-same}
 
 -- an event of a collection is no Collect
 collects_none : (marks : Timeline) (call : Call) (reply : Reply) (collection : ℕ) → collection_of marks call reply ≡ Some collection →

@@ -1,16 +1,16 @@
 -- What an event does to the counts of handles.
 use Rattle.core_state.proofs.Common.{Answers, Bool, Bound, BufferName, Call, Called, Grows, IsAnswer, Mark, Reply, SameHands, Some}
-use Rattle.core_state.proofs.Common.{Strength, Timeline, [], after, and_left, and_right, ap, arith, caller_joined, client-le-total}
-use Rattle.core_state.proofs.Common.{collection_of, drops, either_way, eqb-true, false, false_if, gains, handles_after, handles_by, inl}
-use Rattle.core_state.proofs.Common.{inr, lands, lifts, loses, one_if, only, open_of, open_total, opens, readings, refl, same_after}
-use Rattle.core_state.proofs.Common.{same_buffer, same_buffer-true, subst, sym, times, true, ℕ, ◌+◌, ◌-◌, ◌<◌, ◌==◌, ◌∙◌, ◌∷◌, ◌≡◌, ◌≤◌}
+use Rattle.core_state.proofs.Common.{Strength, Timeline, [], after, and_left, and_right, anyone, ap, arith, caller_joined}
+use Rattle.core_state.proofs.Common.{client-le-total, collection_of, counted, drops, either_way, eqb-true, false, false_if, gains}
+use Rattle.core_state.proofs.Common.{handles_after, handles_by, inl, inr, lands, lifts, loses, one_if, only, open_of, open_total, opens}
+use Rattle.core_state.proofs.Common.{readings, refl, same_after, same_buffer, same_buffer-true, subst, sym, times, true, ℕ, ◌+◌, ◌-◌, ◌<◌}
+use Rattle.core_state.proofs.Common.{◌==◌, ◌∙◌, ◌∷◌, ◌≡◌, ◌≤◌}
 use Rattle.sm_names.specs.Handles.{moving}
-use Rattle.history_laws.proofs.CountLaws.{IsCounted, counted, drops-le-opens, lands-le-lifts}
+use Rattle.history_laws.proofs.CountLaws.{IsCounted, drops-le-opens, lands-le-lifts}
 use Rattle.history_laws.proofs.EventLaws.{same_after as same_in}
 use Rattle.sm_names.proofs.SamenessLaws.{same_strength-true}
 use Rattle.history_laws.proofs.HandleLaws.{dup_was_open}
 use Rattle.history_laws.proofs.SumLaws.{times-cons}
-use Rattle.event_laws.specs.ByEvent.{anyone}
 use Rattle.event_laws.proofs.HandleEventLaws.{open_of_mark}
 
 -- the call leaves each buffer with open handles, or without any: it may give one, take one or open one where one was open

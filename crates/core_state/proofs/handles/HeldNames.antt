@@ -1,15 +1,12 @@
 -- The buffers of a collection are laid out in their order, so as many are held as are left.
-use Rattle.core_state.proofs.Common.{Allocated, Allocates, Answers, Bool, Bound, BufferName, Buffers, Ends, Grows, HeldBuffer, In-map}
-use Rattle.core_state.proofs.Common.{In-map-back, List, Loses, Mark, None, Option, Some, Stays, Timeline, [], ap, arith, buffers_of, cond}
-use Rattle.core_state.proofs.Common.{either_way, eqb-true, false, filter, filter-all, filter-append, filter-none, filter-swap, forced_why}
-use Rattle.core_state.proofs.Common.{held_after, home, inl, inr, laid_out, left, length, length-filter, length-map, map, map-append}
-use Rattle.core_state.proofs.Common.{names, not, option_map_or, pages_of, placed, range_with_len, refl, subst, sym, true, ℕ, ◌++◌, ◌==◌}
-use Rattle.core_state.proofs.Common.{◌∙◌, ◌∷◌, ◌≡◌, ◌⊎◌}
-use Rattle.std.proofs.lemmas.List.{append-nil}
+use Rattle.core_state.proofs.Common.{Allocated, Allocates, Answers, Bool, Bound, BufferName, Buffers, Ends, Grows, HeldBuffer, In, In-map}
+use Rattle.core_state.proofs.Common.{In-map-back, List, Loses, Mark, None, Option, Some, Stays, Timeline, [], ap, append-nil, arith}
+use Rattle.core_state.proofs.Common.{buffer_names, buffers_of, cond, either_way, eqb-true, false, filter, filter-all, filter-append}
+use Rattle.core_state.proofs.Common.{filter-none, filter-swap, forced_why, held_after, home, inl, inr, laid_out, left, length}
+use Rattle.core_state.proofs.Common.{length-filter, length-map, map, map-append, names, not, option_map_or, pages_of, placed}
+use Rattle.core_state.proofs.Common.{range_with_len, refl, subst, sym, true, ℕ, ◌++◌, ◌==◌, ◌∙◌, ◌∷◌, ◌≡◌, ◌⊎◌}
 use Rattle.std.proofs.lemmas.List.FromFn.{length-map-range_with_len}
-use Rattle.sm_names.specs.Handles.{buffer_names}
 use Rattle.history_laws.proofs.HeldLaws.{Lays, Nothing_new, New, allocation_lays}
-use Rattle.sm_names.proofs.ListLaws.{In}
 use Rattle.history_laws.proofs.PageLaws.{placed_apart}
 use Rattle.core_state.proofs.lists.Maps.{filter-map}
 

@@ -1,20 +1,19 @@
 -- The handles that an event may move.
-use Rattle.core_state.proofs.Common.{Bool, Bound, BufferName, Buffers, Call, Client, Collection, In-find, In-le-sum_by, In-list_any, List}
-use Rattle.core_state.proofs.Common.{MayMove, Node, NodeKey, None, OpenEnd, Option, Parcel, Readings, Refusal, Reply, Some, State}
+use Rattle.core_state.proofs.Common.{Bool, Bound, BufferName, Buffers, Call, Client, Collection, In, In-find, In-le-sum_by, In-list_any}
+use Rattle.core_state.proofs.Common.{List, MayMove, Node, NodeKey, None, OpenEnd, Option, Parcel, Readings, Refusal, Reply, Some, State}
 use Rattle.core_state.proofs.Common.{Strength, Strong, TookEffect, Weak, [], and_left, and_right, and_then-Some, answer, ap, arith}
 use Rattle.core_state.proofs.Common.{bit_at-zero, bit_of_set, buffers_in, closing, collected, collection_at, cond, count_by, counts_of}
 use Rattle.core_state.proofs.Common.{either_way, end_in, eq-eqb, eqb-true, false, filter, if◌then◌else◌, inl, inr, is_doomed}
 use Rattle.core_state.proofs.Common.{is_handle_of, is_spent, joined_client, leb-false, list_any, members_of, moving_count, named_below}
-use Rattle.core_state.proofs.Common.{names, nat_lt, no_key, node_at, not, one, open_end_of, option_map_or, readings_of, refl, same_buffer}
-use Rattle.core_state.proofs.Common.{same_buffer-true, set_of, some_open, some_strong_live, strength_of, subst, sum_by-cons, sym}
-use Rattle.core_state.proofs.Common.{to_open_in, took_effect, took_effect_all, total, true, ℕ, ◌&&◌, ◌+◌, ◌<◌, ◌==◌, ◌∙◌, ◌∷◌, ◌≡◌}
+use Rattle.core_state.proofs.Common.{names, nat_lt, no_key, node_at, not, one, open_end_of, option_map_or, passed, readings_of, refl}
+use Rattle.core_state.proofs.Common.{same_buffer, same_buffer-true, set_of, some_open, some_strong_live, strength_of, subst, sum_by-cons}
+use Rattle.core_state.proofs.Common.{sym, to_open_in, took_effect, took_effect_all, total, true, ℕ, ◌&&◌, ◌+◌, ◌<◌, ◌==◌, ◌∙◌, ◌∷◌, ◌≡◌}
 use Rattle.sm_names.specs.Answers.{is_at_limit}
 use Rattle.history_laws.proofs.BitLaws.{one_is}
-use Rattle.sm_names.proofs.ListLaws.{In, none-In}
+use Rattle.sm_names.proofs.ListLaws.{none-In}
 use Rattle.forest_store.specs.Settling.{buffer_names}
 use Rattle.core_state.specs.Hands.{CanOpen}
 use Rattle.core_state.proofs.forced.Known.{AreSent, waiting_in}
-use Rattle.event_laws.proofs.FreeEndLaws.{passed}
 
 -- ---- the set of a Take
 

@@ -1,8 +1,7 @@
 -- What an event makes of the counts of handles.
-use Rattle.core_state.proofs.Common.{Bool, GoesBy, HandleCounts, Mark, MovesHandles, arith, counts_of, drops, gains, handles_by, lands}
-use Rattle.core_state.proofs.Common.{lifts, loses, moving_count, of, one_if, only, opens, subst, sym, total, ℕ, ◌+◌, ◌-◌, ◌≡◌}
-use Rattle.event_laws.specs.ByEvent.{anyone}
-use Rattle.buffer_holds.specs.Counts.{Counts}
+use Rattle.core_state.proofs.Common.{Bool, Counts, GoesBy, HandleCounts, Mark, MovesHandles, anyone, arith, counts_of, drops, gains}
+use Rattle.core_state.proofs.Common.{handles_by, lands, lifts, loses, moving_count, of, one_if, only, opens, subst, sym, total, ℕ, ◌+◌}
+use Rattle.core_state.proofs.Common.{◌-◌, ◌≡◌}
 
 -- other rows with the same counts
 pub moves_to : (old new other : Counts) (mark : Mark) → MovesHandles old new mark → counts_of other ≡ counts_of new →

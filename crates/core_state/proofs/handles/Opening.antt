@@ -1,9 +1,9 @@
 -- What opening and closing handles does to the counts.
-use Rattle.core_state.proofs.Common.{AddsSet, Bool, BufferName, Opens, Sets, Strength, Tidies, and_right, ap, arith, bit_at, common_steps}
-use Rattle.core_state.proofs.Common.{counts_of, eq-eqb, false, if◌then◌else◌, is_in_set_below, is_the, moving_count, nat_lt, of, one_if}
-use Rattle.core_state.proofs.Common.{refl, same_buffer, same_strength, still, sym, total, true, up, ℕ, ◌&&◌, ◌+◌, ◌-◌, ◌<◌, ◌==◌, ◌∙◌}
-use Rattle.core_state.proofs.Common.{◌≡◌, ◌≤◌}
-use Rattle.buffer_holds.specs.Counts.{Counts, share}
+use Rattle.core_state.proofs.Common.{AddsSet, Bool, BufferName, Counts, Opens, Sets, Strength, Tidies, and_right, ap, arith, bit_at}
+use Rattle.core_state.proofs.Common.{common_steps, counts_of, eq-eqb, false, if◌then◌else◌, is_in_set_below, is_the, moving_count, nat_lt}
+use Rattle.core_state.proofs.Common.{of, one_if, refl, same_buffer, same_strength, still, sym, total, true, up, ℕ, ◌&&◌, ◌+◌, ◌-◌, ◌<◌}
+use Rattle.core_state.proofs.Common.{◌==◌, ◌∙◌, ◌≡◌, ◌≤◌}
+use Rattle.buffer_holds.specs.Counts.{share}
 use Rattle.buffer_holds.specs.Kinds.{kind_of, hold_of, same_hold}
 use Rattle.buffer_holds.specs.Rows.{row_at}
 use Rattle.buffer_holds.proofs.KindLemmas.{same_hold-one, same_kind-one, same_hold-refl, same_kind-refl}

@@ -1,9 +1,9 @@
 -- The places for the handles in parcels, after a change of one count.
-use Rattle.core_state.proofs.Common.{AddsSet, Bool, BufferName, Err, HasPlaces, Mark, MovesHandles, Ok, OnOk, Result, Sets, Strength}
-use Rattle.core_state.proofs.Common.{Tidies, ap, arith, false, moving_count, subst, sym, true, ℕ, ◌+◌, ◌-◌, ◌<◌, ◌≡◌}
+use Rattle.core_state.proofs.Common.{AddsSet, Bool, BufferName, Counts, Err, HasPlaces, Mark, MovesHandles, Ok, OnOk, Result, Sets}
+use Rattle.core_state.proofs.Common.{Strength, Tidies, ap, arith, false, moving_count, subst, sym, true, ℕ, ◌+◌, ◌-◌, ◌<◌, ◌≡◌}
 use Rattle.std.proofs.Common.{OnErr}
 use Rattle.std.specs.Bool.{OnTrue, OnFalse}
-use Rattle.buffer_holds.specs.Counts.{Counts, sent}
+use Rattle.buffer_holds.specs.Counts.{sent}
 
 -- the same counts have the same places
 pub same_places : (old new : Counts) → new ≡ old → HasPlaces old → HasPlaces new

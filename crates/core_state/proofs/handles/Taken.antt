@@ -1,25 +1,21 @@
 -- A Take is never answered with an empty set.
 use Rattle.core_state.proofs.Common.{Allocated, Allocates, Answers, AreTogether, Birth, Bool, Bound, BufferName, Buffers, Call, Called}
-use Rattle.core_state.proofs.Common.{Cause, Ends, Entry, Failure, Grows, In-any, In-find, In-list_any, In-map, Initial, IsAnswer}
+use Rattle.core_state.proofs.Common.{Cause, Ends, Entry, Failure, Grows, In, In-any, In-find, In-list_any, In-map, Initial, IsAnswer}
 use Rattle.core_state.proofs.Common.{IsOrdered, List, Logical, Loses, Loss, MAX_BUFFERS, Mark, Member, NodeKey, None, Option, Reply, Some}
 use Rattle.core_state.proofs.Common.{Standing, Stays, Strength, Timeline, Why, [], abandoned, allocated, and-false, and_left, and_right}
-use Rattle.core_state.proofs.Common.{ap, arith, asked, birth_of, births, bit_at, bit_at-zero, bit_of_set, both_ways, buffers_of}
-use Rattle.core_state.proofs.Common.{collection_in, cond, doomed, either_way, eq-eqb, eqb-true, every_rests, false, false_if, fault}
-use Rattle.core_state.proofs.Common.{filter, find, find_birth, first_some, forced_why, given_root, gone, initial_failure, inl, inr}
+use Rattle.core_state.proofs.Common.{ap, arith, asked, birth_of, births, bit_at, bit_at-zero, bit_of_set, both_ways, buffer_names}
+use Rattle.core_state.proofs.Common.{buffers_of, collection_in, cond, doomed, either_way, eq-eqb, eqb-true, every_rests, false, false_if}
+use Rattle.core_state.proofs.Common.{fault, filter, find, find_birth, first_some, forced_why, given_root, gone, initial_failure, inl, inr}
 use Rattle.core_state.proofs.Common.{is_none, is_root, is_some, is_some-find, list_any, lt-ltb, ltb-true, map-Some, member, member_birth}
-use Rattle.core_state.proofs.Common.{members, named_below, names, nat_lt, next_forced, none_if, none_key, none_or_some, not, one}
+use Rattle.core_state.proofs.Common.{members, named, named_below, names, nat_lt, next_forced, none_if, none_key, none_or_some, not, one}
 use Rattle.core_state.proofs.Common.{open_end, open_total, opens, option_map_or, ordered, pages_of, places, range_with_len, readings}
 use Rattle.core_state.proofs.Common.{refl, root_left, same_buffer, same_buffer-refl, same_key, same_key-true, same_strength, set_of}
-use Rattle.core_state.proofs.Common.{some_strong_live, spent, strength_of, subst, suc, sym, timeline, took_effect_all, true, weak, when}
-use Rattle.core_state.proofs.Common.{whole, zero, ℕ, ◌&&◌, ◌++◌, ◌<◌, ◌==◌, ◌∙◌, ◌∷◌, ◌≡◌, ◌⊎◌}
-use Rattle.sm_names.specs.Handles.{buffer_names}
+use Rattle.core_state.proofs.Common.{some_strong_live, spent, standing, strength_of, subst, suc, sym, timeline, took_effect_all, true}
+use Rattle.core_state.proofs.Common.{weak, when, whole, zero, ℕ, ◌&&◌, ◌++◌, ◌<◌, ◌==◌, ◌∙◌, ◌∷◌, ◌≡◌, ◌⊎◌}
 use Rattle.sm_names.specs.Legality.{AreAnswers}
-use Rattle.sm_names.specs.Timelines.{standing}
-use Rattle.history_laws.proofs.BirthLaws.{named}
 use Rattle.history_laws.proofs.CountLaws.{anyone}
 use Rattle.history_laws.proofs.GrowthLaws.{grows_history, AreAnswers-append}
 use Rattle.history_laws.proofs.LifeLaws.{members_on}
-use Rattle.sm_names.proofs.ListLaws.{In}
 use Rattle.sm_names.proofs.ForcedLaws.{at_rest}
 use Rattle.sm_names.proofs.SamenessLaws.{not_none, same_strength-refl}
 use Rattle.history_laws.proofs.TakeLaws.{took}

@@ -1,15 +1,13 @@
 -- What an event does to the counts of handles, and how it is undone.
-use Rattle.core_state.proofs.Common.{Bool, BufferName, Call, Called, Err, GoesBy, Mark, MovesHandles, NodeKey, Ok, OnOk, Opens, Reply}
-use Rattle.core_state.proofs.Common.{Result, SET_BITS, Sets, Strength, ap, arith, bit_at, cases_lt, collects_handle, common_steps}
-use Rattle.core_state.proofs.Common.{counts_of, false, false≢true, idle_drops, idle_gains, idle_lands, idle_lifts, idle_loses, idle_opens}
-use Rattle.core_state.proofs.Common.{inl, inr, is_about_handles, is_in_set_below, is_the, moving_count, nat_lt, of, one_if, only}
-use Rattle.core_state.proofs.Common.{or_false, refl, same_strength, still, sym, total, up, ℕ, ◌&&◌, ◌+◌, ◌-◌, ◌<◌, ◌==◌, ◌^◌, ◌↔◌, ◌∙◌}
-use Rattle.core_state.proofs.Common.{◌≡◌, ◌≤◌, ◌⊎◌}
+use Rattle.core_state.proofs.Common.{Bool, BufferName, Call, Called, Counts, Err, GoesBy, Mark, MovesHandles, NodeKey, Ok, OnOk, Opens}
+use Rattle.core_state.proofs.Common.{Reply, Result, SET_BITS, Sets, Strength, anyone, ap, arith, bit_at, cases_lt, collects_handle}
+use Rattle.core_state.proofs.Common.{common_steps, counts_of, false, false≢true, idle_drops, idle_gains, idle_lands, idle_lifts}
+use Rattle.core_state.proofs.Common.{idle_loses, idle_opens, inl, inr, is_about_handles, is_in_set_below, is_the, moving_count, nat_lt}
+use Rattle.core_state.proofs.Common.{of, one_if, only, or_false, refl, same_strength, still, sym, total, up, ℕ, ◌&&◌, ◌+◌, ◌-◌, ◌<◌, ◌==◌}
+use Rattle.core_state.proofs.Common.{◌^◌, ◌↔◌, ◌∙◌, ◌≡◌, ◌≤◌, ◌⊎◌}
 use Rattle.std.proofs.Common.{IsErrOf, IsOkUnless}
 use Rattle.std.proofs.lemmas.Nat.Bits.{bit_at_above}
-use Rattle.event_laws.specs.ByEvent.{anyone}
 use Rattle.buffer_holds.specs.declared.fault.HoldFault.{HoldFault}
-use Rattle.buffer_holds.specs.Counts.{Counts}
 use Rattle.core_state.proofs.handles.Opening.{same_counts, down, one_hold, one_kind, of-le-total}
 
 -- ---- one count

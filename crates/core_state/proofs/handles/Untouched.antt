@@ -1,9 +1,7 @@
 -- A call that is about no handles, or answered otherwise, changes no count.
-use Rattle.core_state.proofs.Common.{Bool, BufferName, Call, Called, GoesBy, Mark, MovesHandles, NodeKey, Reply, Strength, ap}
-use Rattle.core_state.proofs.Common.{collects_handle, false, false≢true, idle_drops, idle_gains, idle_lands, idle_lifts, idle_loses}
+use Rattle.core_state.proofs.Common.{Bool, BufferName, Call, Called, Counts, GoesBy, Mark, MovesHandles, NodeKey, Reply, Strength, anyone}
+use Rattle.core_state.proofs.Common.{ap, collects_handle, false, false≢true, idle_drops, idle_gains, idle_lands, idle_lifts, idle_loses}
 use Rattle.core_state.proofs.Common.{idle_opens, is_about_handles, one_if, only, refl, sym, ℕ, ◌+◌, ◌∙◌, ◌≡◌}
-use Rattle.event_laws.specs.ByEvent.{anyone}
-use Rattle.buffer_holds.specs.Counts.{Counts}
 use Rattle.core_state.specs.Hands.{CanUndo}
 use Rattle.core_state.proofs.handles.Undoing.{not_taken, not_doubled, not_dropped, not_handed, not_handles}
 

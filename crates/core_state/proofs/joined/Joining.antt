@@ -1,13 +1,12 @@
 -- What an event does to the clients, and what is known of a client that has not joined.
 use Rattle.core_state.proofs.Common.{Allocates, Answers, Bool, Bound, Call, Called, Client, Ends, Grows, IsAnswer, List, Loses, Mark}
-use Rattle.core_state.proofs.Common.{None, Option, Refusal, Reply, SameHands, Some, Stays, Timeline, TookEffect, [], after, ap, both_ways}
-use Rattle.core_state.proofs.Common.{client_after, client_by, clients, clients_by, collects, cons_option, drop, either_way, eqb-true}
-use Rattle.core_state.proofs.Common.{false, false_if, false≢true, given_at, has_joined, inl, inr, is_shut, is_some, joined_at, map}
-use Rattle.core_state.proofs.Common.{map-append, map-map, new_client, none_key, none_or_some, not, one_if, parcels, readings, refl}
-use Rattle.core_state.proofs.Common.{refused_if, reverse, reverse-append, same_after, shuts, stranger_waits_for_none, subst, sym}
-use Rattle.core_state.proofs.Common.{took_effect_all, true, ℕ, ◌++◌, ◌||◌, ◌∙◌, ◌∷◌, ◌≡◌}
-use Rattle.std.proofs.lemmas.List.{append-nil}
-use Rattle.history_laws.proofs.CountLaws.{AreClients, counted}
+use Rattle.core_state.proofs.Common.{None, Option, Refusal, Reply, SameHands, Some, Stays, Timeline, TookEffect, [], after, ap}
+use Rattle.core_state.proofs.Common.{append-nil, both_ways, client_after, client_by, clients, clients_by, collects, cons_option, counted}
+use Rattle.core_state.proofs.Common.{drop, either_way, eqb-true, false, false_if, false≢true, given_at, has_joined, inl, inr, is_shut}
+use Rattle.core_state.proofs.Common.{is_some, joined_at, map, map-append, map-map, new_client, none_key, none_or_some, not, one_if}
+use Rattle.core_state.proofs.Common.{parcels, readings, refl, refused_if, reverse, reverse-append, same_after, shuts}
+use Rattle.core_state.proofs.Common.{stranger_waits_for_none, subst, sym, took_effect_all, true, ℕ, ◌++◌, ◌||◌, ◌∙◌, ◌∷◌, ◌≡◌}
+use Rattle.history_laws.proofs.CountLaws.{AreClients}
 use Rattle.history_laws.proofs.ParcelLaws.{IsDrawn, parcels-given, parcels-collected, parcels-kept}
 use Rattle.history_laws.proofs.SumLaws.{AreOnce}
 use Rattle.event_laws.proofs.HandleBufferLaws.{still_joined}

@@ -1,7 +1,6 @@
 -- What an event makes of the rows of the clients.
-use Rattle.core_state.proofs.Common.{Bool, BufferName, Call, Called, Client, List, NodeKey, Reply, Strength, [], clients_by, false, map}
-use Rattle.core_state.proofs.Common.{new_client, refl, sym, true, ℕ, ◌++◌, ◌∷◌, ◌≡◌}
-use Rattle.std.proofs.lemmas.List.{append-nil}
+use Rattle.core_state.proofs.Common.{Bool, BufferName, Call, Called, Client, List, NodeKey, Reply, Strength, [], append-nil, clients_by}
+use Rattle.core_state.proofs.Common.{false, map, new_client, refl, sym, true, ℕ, ◌++◌, ◌∷◌, ◌≡◌}
 use Rattle.sm_names.specs.declared.keys.Kind.{Kind}
 
 -- the events that change the clients

@@ -1,11 +1,10 @@
 -- The rows of the clients, by rising ids.
 use Rattle.core_state.proofs.Common.{AllByRecursion, Bool, Client, Err, List, None, Ok, Result, Rise, Some, [], ap, arith, cases_lt}
 use Rattle.core_state.proofs.Common.{common_steps, either_way, eq-eqb, eqb-true, false, false_if, find, get_or, inl, inr, is_some}
-use Rattle.core_state.proofs.Common.{is_some-find, length, list_any, map, new_client, option_map_or, refl, set, suc, sym, true, unwrap_or}
-use Rattle.core_state.proofs.Common.{zero, ℕ, ◌<◌, ◌==◌, ◌∙◌, ◌∷◌, ◌≡◌, ◌≤◌}
+use Rattle.core_state.proofs.Common.{is_some-find, length, list_any, map, new_client, option_map, option_map_or, refl, set, suc, sym}
+use Rattle.core_state.proofs.Common.{true, unwrap_or, zero, ℕ, ◌<◌, ◌==◌, ◌∙◌, ◌∷◌, ◌≡◌, ◌≤◌}
 use Rattle.std.specs.List.{position, position_or_len}
 use Rattle.std.specs.List.Sorted.{IsSearchInRange, IsBinarySearchResult, IsNonDecreasingBy, IsPartitionPoint}
-use Rattle.std.specs.Option.{option_map}
 use Rattle.std.specs.Ordering.{nat_cmp, ordering_index}
 use Rattle.std.specs.Result.{result_ok}
 use Rattle.std.specs.declared.cmp.Ordering.TheVariants.{Less, Greater}

@@ -1,8 +1,7 @@
 -- Elements by their numbers, where no two have the same one.
-use Rattle.core_state.proofs.Common.{Bool, In-filter, In-reverse, List, [], ap, arith, cond, either_way, false, filter, inl, inr}
+use Rattle.core_state.proofs.Common.{Bool, In, In-filter, In-reverse, List, [], ap, arith, cond, either_way, false, filter, inl, inr}
 use Rattle.core_state.proofs.Common.{insert_by, lt-ltb, ltb-false, ltb-true, nat_lt, refl, reverse, reverse-append, sorted_by, sym, true}
 use Rattle.core_state.proofs.Common.{ℕ, ◌++◌, ◌<◌, ◌∙◌, ◌∷◌, ◌≡◌, ◌≤◌}
-use Rattle.sm_names.proofs.ListLaws.{In}
 use Rattle.core_state.proofs.lists.Reorderings.{Adds, First, Later, Mixed, Nothing, Puts, In-mixed}
 
 module _ {A : Type 0} (number : A → ℕ) where

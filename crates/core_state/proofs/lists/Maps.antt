@@ -1,9 +1,7 @@
 -- Lists that are mapped, filtered and turned round.
-use Rattle.core_state.proofs.Common.{Bool, List, None, Some, [], ap, both_ways, cond, either_way, eqb-true, false, filter, find, flat_map}
-use Rattle.core_state.proofs.Common.{inl, inr, list_any, map, map-append, refl, reverse, sym, true, ℕ, ◌&&◌, ◌++◌, ◌==◌, ◌||◌, ◌∙◌, ◌∷◌}
-use Rattle.core_state.proofs.Common.{◌≡◌}
-use Rattle.std.specs.Option.{option_map}
-use Rattle.sm_names.proofs.ListLaws.{In}
+use Rattle.core_state.proofs.Common.{Bool, In, List, None, Some, [], ap, both_ways, cond, either_way, eqb-true, false, filter, find}
+use Rattle.core_state.proofs.Common.{flat_map, inl, inr, list_any, map, map-append, option_map, refl, reverse, sym, true, ℕ, ◌&&◌, ◌++◌}
+use Rattle.core_state.proofs.Common.{◌==◌, ◌||◌, ◌∙◌, ◌∷◌, ◌≡◌}
 use Rattle.forest_store.proofs.tables.KeptRoots.{filter-reverse_aux, map-reverse_aux}
 
 -- ---- filters

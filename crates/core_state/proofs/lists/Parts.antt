@@ -1,7 +1,6 @@
 -- Lists that are put together of parts.
-use Rattle.core_state.proofs.Common.{List, [], arith, both_ways, either_way, eq-eqb, eqb-true, false, filter, flat_map, inl, inr, refl}
-use Rattle.core_state.proofs.Common.{reverse, reverse-append, sym, times, ℕ, ◌+◌, ◌==◌, ◌∷◌, ◌≡◌}
-use Rattle.sm_names.proofs.ListLaws.{In}
+use Rattle.core_state.proofs.Common.{In, List, [], arith, both_ways, either_way, eq-eqb, eqb-true, false, filter, flat_map, inl, inr}
+use Rattle.core_state.proofs.Common.{refl, reverse, reverse-append, sym, times, ℕ, ◌+◌, ◌==◌, ◌∷◌, ◌≡◌}
 use Rattle.core_state.proofs.lists.Reorderings.{Adds, First, Mixed, Nothing, Puts, adds_last, adds_before, adds_behind}
 
 -- numbers differ both ways

@@ -1,7 +1,6 @@
 -- Lists of the same elements in another order.
-use Rattle.core_state.proofs.Common.{Bool, List, [], ap, arith, cond, either_way, false, filter, inl, inr, length, map, refl, sum_by}
+use Rattle.core_state.proofs.Common.{Bool, In, List, [], ap, arith, cond, either_way, false, filter, inl, inr, length, map, refl, sum_by}
 use Rattle.core_state.proofs.Common.{sum_by-cons, true, ℕ, ◌++◌, ◌+◌, ◌∷◌, ◌≡◌, ◌⊎◌}
-use Rattle.sm_names.proofs.ListLaws.{In}
 
 -- the second list is the first with the element put in somewhere
 pub data Adds {A : Type 0} (x : A) : List A → List A → Type 0 where

@@ -1,11 +1,10 @@
 -- The nodes above a node, read of births and of the nodes that are kept.
-use Rattle.core_state.proofs.Common.{Birth, Bool, In-list_any, IsWhole, List, Node, NodeKey, None, Option, Some, Timeline, []}
+use Rattle.core_state.proofs.Common.{Birth, Bool, In, In-list_any, IsWhole, List, Node, NodeKey, None, Option, Some, Timeline, []}
 use Rattle.core_state.proofs.Common.{above_among, ancestors, ap, births, births_in, both_ways, collection_in, either_way, eq-eqb, false}
-use Rattle.core_state.proofs.Common.{false_if, filter, find_birth, gone, inl, inr, list_any, map, node_after, nodes_after, option_map_or}
-use Rattle.core_state.proofs.Common.{or_left, or_right, refl, reverse, same_key, same_key-true, sym, true, ℕ, ◌&&◌, ◌==◌, ◌∙◌, ◌∷◌, ◌≡◌}
+use Rattle.core_state.proofs.Common.{false_if, filter, find_birth, gone, inl, inr, list_any, map, node_after, nodes_after, option_map}
+use Rattle.core_state.proofs.Common.{option_map_or, or_left, or_right, refl, reverse, same_key, same_key-true, sym, true, ℕ, ◌&&◌, ◌==◌}
+use Rattle.core_state.proofs.Common.{◌∙◌, ◌∷◌, ◌≡◌}
 use Rattle.std.proofs.lemmas.List.{reverse-reverse}
-use Rattle.std.specs.Option.{option_map}
-use Rattle.sm_names.proofs.ListLaws.{In}
 use Rattle.sm_names.proofs.ChainLaws.{IsChain}
 use Rattle.history_laws.proofs.ReachLaws.{parent_in, ancestors_chain}
 use Rattle.history_laws.proofs.WholeLaws.{line_collection}

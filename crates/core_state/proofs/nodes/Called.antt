@@ -1,15 +1,14 @@
 -- What an event makes of each node, before what it forces.
 use Rattle.core_state.proofs.Common.{Birth, Bool, Bound, Call, Called, Effect, End, EndPlace, Grows, IsAnswer, Node, NodeKey, None}
 use Rattle.core_state.proofs.Common.{Option, Reply, Some, Timeline, [], affected, and-false, ap, birth_at, birth_of, collector, cond}
-use Rattle.core_state.proofs.Common.{constraints, covered, covers_children, end_after, end_by, false, holder, in_transit, is_some}
-use Rattle.core_state.proofs.Common.{list_any, node_after, not, option_map_or, place_of, readings, refl, same_key, sets_weak}
+use Rattle.core_state.proofs.Common.{constraints, counted, covered, covers_children, end_after, end_at, end_by, false, holder, in_transit}
+use Rattle.core_state.proofs.Common.{is_some, list_any, node_after, not, option_map_or, place_of, readings, refl, same_key, sets_weak}
 use Rattle.core_state.proofs.Common.{sets_weak_ok, spent, sym, true, ℕ, ◌&&◌, ◌||◌, ◌∙◌, ◌∷◌, ◌≡◌}
 use Rattle.std.proofs.Math.Bool.{and-true, or_assoc}
 use Rattle.sm_names.specs.Demands.{Demand}
-use Rattle.history_laws.proofs.CountLaws.{counted}
 use Rattle.event_laws.specs.ByEvent.{sends, delivers}
 use Rattle.event_laws.proofs.FreeEndLaws.{FreeEnd, sends_free}
-use Rattle.event_laws.proofs.TransitLaws.{EndAt, end_at, transit_mark, delivers_waited}
+use Rattle.event_laws.proofs.TransitLaws.{EndAt, transit_mark, delivers_waited}
 use Rattle.forest_store.specs.Effects.{effect_of}
 use Rattle.core_state.proofs.ends.NotRead.{placed_node}
 

@@ -1,11 +1,10 @@
 -- What a mark makes of the nodes of a collection.
-use Rattle.core_state.proofs.Common.{Allocated, Birth, Bool, Cause, Ended, Fault, In-filter, IsWhole, List, Loss, Mark, Node, NodeKey}
+use Rattle.core_state.proofs.Common.{Allocated, Birth, Bool, Cause, Ended, Fault, In, In-filter, IsWhole, List, Loss, Mark, Node, NodeKey}
 use Rattle.core_state.proofs.Common.{None, Option, Some, Timeline, after_allocation, after_end, after_loss, ap, births, births_in}
 use Rattle.core_state.proofs.Common.{both_ways, cond, ended, false, false_if, fault, given_buffers, gone, gone_stays, inl, inr, is_taken}
 use Rattle.core_state.proofs.Common.{is_under, lost, map, member_of, node_after, not, option_map_or, reaches, refl, sym, true, ℕ, ◌&&◌}
 use Rattle.core_state.proofs.Common.{◌||◌, ◌∙◌, ◌∷◌, ◌≡◌, ◌⊎◌}
 use Rattle.sm_names.specs.Births.{is_at_or_below}
-use Rattle.sm_names.proofs.ListLaws.{In}
 use Rattle.core_state.proofs.nodes.Ancestors.{Keeps, kept_in, nodes_kept, kept_births}
 use Rattle.core_state.proofs.lists.Maps.{map-map_In}
 use Rattle.core_state.proofs.nodes.Members.{of_collection, member_kept, taken_kept}

@@ -1,5 +1,5 @@
 -- What the forced steps read of the nodes that are kept.
-use Rattle.core_state.proofs.Common.{AreSound, Birth, Bool, In-filter, In-filter-back, In-map, In-map-back, In-reverse-back, IsWhole}
+use Rattle.core_state.proofs.Common.{AreSound, Birth, Bool, In, In-filter, In-filter-back, In-map, In-map-back, In-reverse-back, IsWhole}
 use Rattle.core_state.proofs.Common.{List, Member, Node, NodeKey, Some, Timeline, ancestors, any-left, ap, birth_of_collection, births}
 use Rattle.core_state.proofs.Common.{births_in, both_ways, either_way, eq-eqb, eqb-true, false, filter, filter-less, find, find_birth}
 use Rattle.core_state.proofs.Common.{gone, highest, inl, inr, is_of, is_taken, is_under, left_of, map, member, member_birth, member_of}
@@ -8,7 +8,6 @@ use Rattle.core_state.proofs.Common.{same_key-true, sym, true, ℕ, ◌&&◌, �
 use Rattle.sm_names.specs.Changes.{blocks}
 use Rattle.sm_names.specs.Losses.{top, blocked}
 use Rattle.history_laws.proofs.ForgetLaws.{is_left}
-use Rattle.sm_names.proofs.ListLaws.{In}
 use Rattle.history_laws.proofs.StandingLaws.{highest-members}
 use Rattle.sm_names.proofs.ChainLaws.{top-same}
 use Rattle.core_state.proofs.nodes.Ancestors.{Keeps, kept_in, nodes_kept, kept_births, above_kept, line_left}

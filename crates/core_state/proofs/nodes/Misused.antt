@@ -1,9 +1,8 @@
 -- A node that is misused is not gone.
 use Rattle.core_state.proofs.Common.{Bound, Call, Fault, Grows, HasEnd, IsAnswer, List, Misuse, NodeKey, None, OpenEnd, Option, Readings}
 use Rattle.core_state.proofs.Common.{Reply, Some, Timeline, [], both_ways, closing, effect, end_named, false, false_if, fault, first_some}
-use Rattle.core_state.proofs.Common.{gone, key_of, key_told, limits_met, misuse, no_handle, not_refused_end, option_and_then, ordered}
-use Rattle.core_state.proofs.Common.{peer_closed, readings, refl, spent, unwrap_or, wrong_kind, ℕ, ◌∷◌, ◌≡◌}
-use Rattle.std.specs.Option.{option_map}
+use Rattle.core_state.proofs.Common.{gone, key_of, key_told, limits_met, misuse, no_handle, not_refused_end, option_and_then, option_map}
+use Rattle.core_state.proofs.Common.{ordered, peer_closed, readings, refl, spent, unwrap_or, wrong_kind, ℕ, ◌∷◌, ◌≡◌}
 use Rattle.history_laws.proofs.BirthLaws.{has_no_fault}
 use Rattle.history_laws.proofs.TakeLaws.{from_closing}
 

@@ -1,15 +1,13 @@
 -- What a birth makes of the nodes of a collection.
-use Rattle.core_state.proofs.Common.{Birth, Bool, Bound, Call, Called, End, Grows, In-filter, In-reverse, In-was_born, List, Mark, Node}
-use Rattle.core_state.proofs.Common.{NodeKey, None, Option, Reply, Some, Timeline, [], allocated, ap, birth_at, births, births_in}
-use Rattle.core_state.proofs.Common.{collector, covered, covers_children, end_after, eq-eqb, events, false, filter, holder, in_transit}
-use Rattle.core_state.proofs.Common.{is_allocation, list_any, map, map-In, map-append, new_child, new_root, node_after, nodes_after}
-use Rattle.core_state.proofs.Common.{option_map_or, or_false, other_key, refl, reverse-append, same_key, same_key-refl, sets_weak}
-use Rattle.core_state.proofs.Common.{sets_weak_ok, spent, subst, true, was_born, weak, ℕ, ◌++◌, ◌+◌, ◌==◌, ◌||◌, ◌∙◌, ◌∷◌, ◌≡◌}
-use Rattle.std.specs.Option.{option_map}
+use Rattle.core_state.proofs.Common.{Birth, Bool, Bound, Call, Called, End, Grows, In, In-filter, In-reverse, In-was_born, List, Mark}
+use Rattle.core_state.proofs.Common.{Node, NodeKey, None, Option, Reply, Some, Timeline, [], allocated, ap, birth_at, births, births_in}
+use Rattle.core_state.proofs.Common.{collector, covered, covers_children, end_after, end_at, eq-eqb, events, false, filter, holder}
+use Rattle.core_state.proofs.Common.{in_transit, is_allocation, list_any, map, map-In, map-append, new_child, new_root, node_after}
+use Rattle.core_state.proofs.Common.{nodes_after, option_map, option_map_or, or_false, other_key, refl, reverse-append, same_key}
+use Rattle.core_state.proofs.Common.{same_key-refl, sets_weak, sets_weak_ok, spent, subst, true, was_born, weak, ℕ, ◌++◌, ◌+◌, ◌==◌, ◌||◌}
+use Rattle.core_state.proofs.Common.{◌∙◌, ◌∷◌, ◌≡◌}
 use Rattle.sm_names.specs.Births.{head}
 use Rattle.sm_names.specs.Ends.{binds}
-use Rattle.sm_names.proofs.ListLaws.{In}
-use Rattle.event_laws.proofs.TransitLaws.{end_at}
 use Rattle.core_state.proofs.nodes.Unborn.{IsUnsaid, unsaid}
 
 -- ---- the nodes that were there

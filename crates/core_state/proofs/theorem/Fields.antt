@@ -1,11 +1,10 @@
 -- What an event keeps true of the fields of a core.
-use Rattle.core_state.proofs.Common.{Call, Called, Cell, EventTask, GainsTracker, Grows, HandleCounts, Holdings, IfSome, IsAnswer, IsCore}
-use Rattle.core_state.proofs.Common.{MayMove, Option, Parts, Reply, Some, State, TakesEffect, Timeline, Waiting, Work, Worked, [], all-In}
-use Rattle.core_state.proofs.Common.{ap, counts_of, every_rests, false, handles_by, is_due, legal_grows, length, looked_in, new_key}
-use Rattle.core_state.proofs.Common.{readings, recalling, subst, sym, timeline, total, tracker_by, work_in, work_of, world_in, ℕ, ◌<◌}
-use Rattle.core_state.proofs.Common.{◌∙◌, ◌∷◌, ◌≡◌}
+use Rattle.core_state.proofs.Common.{All, Call, Called, Cell, EventTask, GainsTracker, Grows, HandleCounts, Holdings, IfSome, IsAnswer}
+use Rattle.core_state.proofs.Common.{IsCore, MayMove, Option, Parts, Reply, Some, State, TakesEffect, Timeline, Waiting, Work, Worked, []}
+use Rattle.core_state.proofs.Common.{all-In, ap, counts_of, every_rests, false, handles_by, is_due, legal_grows, length, looked_in}
+use Rattle.core_state.proofs.Common.{new_key, readings, recalling, subst, sym, timeline, total, tracker_by, work_in, work_of, world_in, ℕ}
+use Rattle.core_state.proofs.Common.{◌<◌, ◌∙◌, ◌∷◌, ◌≡◌}
 use Rattle.std.proofs.Common.{option_map}
-use Rattle.std.specs.List.{All}
 use Rattle.core_state.proofs.theorem.EventParts.{Begins, made, step_answers}
 use Rattle.core_state.proofs.handles.Movable.{may_move}
 use Rattle.core_state.proofs.firing.Fields.{attached_above, attached_fits}

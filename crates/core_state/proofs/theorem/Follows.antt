@@ -1,18 +1,16 @@
 -- How a collection of a state follows a history.
-use Rattle.core_state.proofs.Common.{Birth, Bool, Bound, BufferName, Buffers, Collection, Failure, Grows, Handles, HeldBuffer, In-filter}
-use Rattle.core_state.proofs.Common.{In-find, Interval, IsWhole, List, MAX_BUFFERS, Member, NodeKey, None, Option, Some, Standing}
-use Rattle.core_state.proofs.Common.{Strength, Timeline, [], abandoned, and_left, ap, asked, both_ways, buffers_of, either_way, eqb-true}
-use Rattle.core_state.proofs.Common.{filter, filter-all, first_some, forced, given_root, held, held_after, home, initial_failure, inl}
-use Rattle.core_state.proofs.Common.{inr, is_none, is_root, is_some, left_of, list_any, map, member_birth, members, members_of, names}
-use Rattle.core_state.proofs.Common.{nat_lt, next_forced, none_if, not, open_total, option_and_then, option_map_or, pages_in, pages_of}
-use Rattle.core_state.proofs.Common.{placed, placed_given, places, places_same, refl, root_left, some_strong_live, still_out, sym, true}
-use Rattle.core_state.proofs.Common.{when, whole, ℕ, ◌&&◌, ◌++◌, ◌==◌, ◌∙◌, ◌∷◌, ◌≡◌}
+use Rattle.core_state.proofs.Common.{Birth, Bool, Bound, BufferName, Buffers, Collection, Failure, Grows, Handles, HeldBuffer, In}
+use Rattle.core_state.proofs.Common.{In-filter, In-find, Interval, IsWhole, List, MAX_BUFFERS, Member, NodeKey, None, Option, Some}
+use Rattle.core_state.proofs.Common.{Standing, Strength, Timeline, [], abandoned, and_left, ap, asked, both_ways, buffers_of, either_way}
+use Rattle.core_state.proofs.Common.{eqb-true, filter, filter-all, first_some, forced, given_root, held, held_after, home}
+use Rattle.core_state.proofs.Common.{initial_failure, inl, inr, is_none, is_root, is_some, left_of, list_any, map, member_birth, members}
+use Rattle.core_state.proofs.Common.{members_of, names, nat_lt, next_forced, none_if, not, open_total, option_and_then, option_map_or}
+use Rattle.core_state.proofs.Common.{pages_in, pages_of, placed, placed_given, places, places_same, refl, root_left, some_strong_live}
+use Rattle.core_state.proofs.Common.{standing, still_out, sym, true, when, whole, ℕ, ◌&&◌, ◌++◌, ◌==◌, ◌∙◌, ◌∷◌, ◌≡◌}
 use Rattle.sm_names.specs.Changes.{without_gone}
 use Rattle.sm_names.specs.Forced.{ending, initial_allocation, logical_allocation, outcome}
 use Rattle.sm_names.specs.Members.{is_ready}
-use Rattle.sm_names.specs.Timelines.{standing}
 use Rattle.history_laws.proofs.ForgetLaws.{is_left, next-left}
-use Rattle.sm_names.proofs.ListLaws.{In}
 use Rattle.forest_store.specs.Settling.{standing as standing_in}
 use Rattle.core_state.proofs.collections.MarksApart.{is_beside, pages_beside}
 use Rattle.core_state.proofs.nodes.Ancestors.{Keeps, nodes_kept}

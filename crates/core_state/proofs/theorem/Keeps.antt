@@ -1,15 +1,13 @@
 -- A core shows a legal history, but for the firings that it forgot, and an event keeps it so.
-use Rattle.core_state.proofs.Common.{Bound, Call, Cell, Fired, Follows, Forest, GainsTracker, Grows, Handles, HasPlaces, Holdings, In-all}
-use Rattle.core_state.proofs.Common.{In-append, In-filter, IsAfter, IsAnswer, IsCore, IsOf, IsPoolOf, IsSame, List, NodeKey, None, Option}
-use Rattle.core_state.proofs.Common.{Reply, Shows, Some, State, Timeline, TrackerTable, Waiting, Work, Worked, [], after, all-In, answer}
-use Rattle.core_state.proofs.Common.{ap, arith, empty_state, false≢true, forgetting, inl, inr, is_due, is_some, is_unfired, key_told}
-use Rattle.core_state.proofs.Common.{legal_grows, not, readings_of, recalling, refl, refused_call, replicate, subst, sym, timeline}
-use Rattle.core_state.proofs.Common.{timeline-push, total, tracker_by, without_id, work_of, world_in, ℕ, ◌++◌, ◌+◌, ◌<◌, ◌^◌, ◌∙◌, ◌∷◌}
-use Rattle.core_state.proofs.Common.{◌≡◌, ◌≤◌}
-use Rattle.std.specs.List.{All}
+use Rattle.core_state.proofs.Common.{All, Bound, Call, Cell, Fired, Follows, Forest, GainsTracker, Grows, Handles, HasPlaces, Holdings}
+use Rattle.core_state.proofs.Common.{In, In-all, In-append, In-filter, IsAfter, IsAnswer, IsCore, IsOf, IsPoolOf, IsSame, List, NodeKey}
+use Rattle.core_state.proofs.Common.{None, Option, Reply, Shows, Some, State, Timeline, TrackerTable, Waiting, Work, Worked, [], after}
+use Rattle.core_state.proofs.Common.{all-In, answer, ap, arith, empty_state, false≢true, forgetting, inl, inr, is_due, is_some}
+use Rattle.core_state.proofs.Common.{is_unfired, key_told, legal_grows, not, readings_of, recalling, refl, refused_call, replicate, subst}
+use Rattle.core_state.proofs.Common.{sym, timeline, timeline-push, total, tracker_by, without_id, work_of, world_in, ℕ, ◌++◌, ◌+◌, ◌<◌}
+use Rattle.core_state.proofs.Common.{◌^◌, ◌∙◌, ◌∷◌, ◌≡◌, ◌≤◌}
 use Rattle.std.proofs.lemmas.List.Elements.{All-nil}
 use Rattle.sm_names.specs.declared.rules.TheConstants.{MAX_PAGES}
-use Rattle.sm_names.proofs.ListLaws.{In}
 use Rattle.event_laws.proofs.ConcernLaws.{of_after}
 use Rattle.trackers.specs.Table.{forgetful}
 use Rattle.core_state.specs.Whole.{IsWholeCore}

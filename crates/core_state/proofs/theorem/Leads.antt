@@ -1,11 +1,9 @@
 -- What several events lead to, one after another.
 use Rattle.core_state.proofs.Common.{Bool, Bound, Call, Entry, Err, Follows, GainsTracker, IsAnswer, IsSame, Leads, List, Makes, None, Ok}
-use Rattle.core_state.proofs.Common.{Option, Reply, Result, Some, State, TrackerTable, Waiting, [], ap, append_assoc, arith, cons_option}
-use Rattle.core_state.proofs.Common.{empty_state, entries, false, fits_call, get_or, key_told, leb-false, leb-true, length, nat_le}
-use Rattle.core_state.proofs.Common.{no_key, readings_of, refl, refused_call, replicate, subst, suc, sym, tracker_by, true, zero, ℕ, ◌++◌}
-use Rattle.core_state.proofs.Common.{◌+◌, ◌<◌, ◌↔◌, ◌∙◌, ◌∷◌, ◌≡◌, ◌≤◌}
-use Rattle.std.proofs.lemmas.List.{append-nil}
-use Rattle.std.specs.Option.{option_map}
+use Rattle.core_state.proofs.Common.{Option, Reply, Result, Some, State, TrackerTable, Waiting, [], ap, append-nil, append_assoc, arith}
+use Rattle.core_state.proofs.Common.{cons_option, empty_state, entries, false, fits_call, get_or, key_told, leb-false, leb-true, length}
+use Rattle.core_state.proofs.Common.{nat_le, no_key, option_map, readings_of, refl, refused_call, replicate, subst, suc, sym, tracker_by}
+use Rattle.core_state.proofs.Common.{true, zero, ℕ, ◌++◌, ◌+◌, ◌<◌, ◌↔◌, ◌∙◌, ◌∷◌, ◌≡◌, ◌≤◌}
 use Rattle.sm_names.specs.declared.outcomes.StepFault.{StepFault}
 use Rattle.trackers.specs.Table.{empty}
 use Rattle.forest_store.specs.Forest.{empty_forest}

@@ -1,25 +1,22 @@
 -- What a state keeps true of its fields since it shows a legal history.
-use Rattle.core_state.proofs.Common.{AllByRecursion, Allocates, Answers, Birth, Bool, Bound, Call, Called, Client, Collection, Condition}
-use Rattle.core_state.proofs.Common.{Ends, Grows, HandleCounts, HeldBuffer, In-all, In-filter, In-map, In-map-back, In-reverse}
-use Rattle.core_state.proofs.Common.{In-was_born, IsAfter, IsOf, IsTidy, List, Loses, NoBufferHome, Node, None, Option, Reply, Rise, Some}
-use Rattle.core_state.proofs.Common.{State, Stays, Strength, Timeline, Waiting, [], all-In, allocated, ap, arith, birth_is, birth_of}
-use Rattle.core_state.proofs.Common.{births, births_in, buffers_of, client_after, clients, collection_after, cond, count_by, counts_of}
-use Rattle.core_state.proofs.Common.{doomed, either_way, eqb-true, events, false, false≢true, filter, filter-all, given, gone, held}
-use Rattle.core_state.proofs.Common.{holds, home, if◌then◌else◌, inl, inr, is_doomed, is_due, is_handle_of, is_home, is_kept}
-use Rattle.core_state.proofs.Common.{is_kept_collection, is_some, is_unkept, joined_at, kept_ids, key_told, left, map, map-Some, members}
-use Rattle.core_state.proofs.Common.{members_of, nat_le, node_after, nodes_after, not, not-true, or_left, ordered, parcels, placed}
-use Rattle.core_state.proofs.Common.{placed_given, readings, refl, reverse, reverse-append, some_strong_live, spent, subst, sum_by}
-use Rattle.core_state.proofs.Common.{sum_by-cons, sym, times, total, tracked_as, true, unfired_trackers, whole, world, world_in, ℕ, ◌&&◌}
-use Rattle.core_state.proofs.Common.{◌++◌, ◌+◌, ◌<◌, ◌==◌, ◌||◌, ◌∙◌, ◌∷◌, ◌≡◌, ◌≤◌}
+use Rattle.core_state.proofs.Common.{All, AllByRecursion, Allocates, Answers, Birth, Bool, Bound, Call, Called, Client, Collection}
+use Rattle.core_state.proofs.Common.{Condition, Ends, Grows, HandleCounts, HeldBuffer, In, In-all, In-filter, In-map, In-map-back}
+use Rattle.core_state.proofs.Common.{In-reverse, In-was_born, IsAfter, IsOf, IsSound, IsTidy, List, Loses, NoBufferHome, Node, None}
+use Rattle.core_state.proofs.Common.{Option, Reply, Rise, Some, State, Stays, Strength, Timeline, Waiting, [], all-In, allocated, ap}
+use Rattle.core_state.proofs.Common.{arith, birth_is, birth_of, births, births_in, buffers_of, client_after, clients, collection_after}
+use Rattle.core_state.proofs.Common.{cond, count_by, counted, counts_of, doomed, either_way, eqb-true, events, false, false≢true, filter}
+use Rattle.core_state.proofs.Common.{filter-all, given, gone, held, holds, home, if◌then◌else◌, inl, inr, is_doomed, is_due, is_handle_of}
+use Rattle.core_state.proofs.Common.{is_home, is_kept, is_kept_collection, is_left, is_some, is_unkept, joined_at, kept_ids, key_told}
+use Rattle.core_state.proofs.Common.{left, map, map-Some, members, members_of, nat_le, node_after, nodes_after, not, not-true, or_left}
+use Rattle.core_state.proofs.Common.{ordered, parcels, placed, placed_given, readings, refl, reverse, reverse-append, some_strong_live}
+use Rattle.core_state.proofs.Common.{spent, subst, sum_by, sum_by-cons, sym, times, total, tracked_as, true, unfired_trackers, whole}
+use Rattle.core_state.proofs.Common.{world, world_in, ℕ, ◌&&◌, ◌++◌, ◌+◌, ◌<◌, ◌==◌, ◌||◌, ◌∙◌, ◌∷◌, ◌≡◌, ◌≤◌}
 use Rattle.std.proofs.lemmas.List.Sums.{sum_by-append}
-use Rattle.std.specs.List.{All}
-use Rattle.history_laws.proofs.CountLaws.{counted, moving_is}
+use Rattle.history_laws.proofs.CountLaws.{moving_is}
 use Rattle.history_laws.proofs.WholeLaws.{released_spent}
-use Rattle.sm_names.proofs.ListLaws.{In}
 use Rattle.event_laws.specs.Waiting.{IsWaitedFor}
 use Rattle.event_laws.proofs.WaitingLaws.{waited_for, waiting_not_due}
-use Rattle.forest_store.specs.Forest.{is_left}
-use Rattle.core_state.specs.Whole.{AreFit, IsNodeFit, IsSound}
+use Rattle.core_state.specs.Whole.{AreFit, IsNodeFit}
 use Rattle.core_state.proofs.forced.Known.{AreSent, AreUpTo, waiting_in}
 use Rattle.core_state.proofs.collections.Ids.{id_root, ids, ids_rise, kept_are}
 use Rattle.core_state.proofs.collections.Pages.{sum-map}

@@ -1,7 +1,6 @@
 -- Histories that go on by several entries, one call after another.
-use Rattle.core_state.proofs.Common.{Call, Entry, GoesOn, List, Reply, Shows, State, [], ap, append_assoc, arith, entries, get_or, length}
-use Rattle.core_state.proofs.Common.{refl, subst, sym, ℕ, ◌++◌, ◌<◌, ◌∙◌, ◌∷◌, ◌≡◌}
-use Rattle.std.proofs.lemmas.List.{append-nil}
+use Rattle.core_state.proofs.Common.{Call, Entry, GoesOn, List, Reply, Shows, State, [], ap, append-nil, append_assoc, arith, entries}
+use Rattle.core_state.proofs.Common.{get_or, length, refl, subst, sym, ℕ, ◌++◌, ◌<◌, ◌∙◌, ◌∷◌, ◌≡◌}
 
 -- a state advances by no entries to itself
 pub goes_nowhere : (s : State) → GoesOn s s []

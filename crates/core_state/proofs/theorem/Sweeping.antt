@@ -1,13 +1,11 @@
 -- Which trackers an event has to look at: a tracker elsewhere is not due.
-use Rattle.core_state.proofs.Common.{Birth, Bool, Bound, Call, Called, Collection, Condition, Forest, GainsTracker, Grows, Handles}
-use Rattle.core_state.proofs.Common.{In-all, In-map-back, IsAfter, IsAnswer, IsOf, Node, NodeKey, None, Option, Reply, Some, State, Stays}
-use Rattle.core_state.proofs.Common.{Strength, Timeline, TrackerTable, Waiting, Work, Worked, [], after, ap, false, false≢true}
+use Rattle.core_state.proofs.Common.{All, Birth, Bool, Bound, Call, Called, Collection, Condition, Forest, GainsTracker, Grows, Handles}
+use Rattle.core_state.proofs.Common.{In, In-all, In-map-back, IsAfter, IsAnswer, IsOf, Node, NodeKey, None, Option, Reply, Some, State}
+use Rattle.core_state.proofs.Common.{Stays, Strength, Timeline, TrackerTable, Waiting, Work, Worked, [], after, ap, false, false≢true}
 use Rattle.core_state.proofs.Common.{grows_after, holds, inl, inr, is_due, is_some, looked_in, map-Some, members_of, new_key, next_forced}
 use Rattle.core_state.proofs.Common.{node_at, not, option_map_or, readings, recalled_due, refl, some_strong_live, subst, sym, total}
 use Rattle.core_state.proofs.Common.{tracked_as, tracker_by, trackers_to_test, work_of, world_in, ℕ, ◌&&◌, ◌==◌, ◌∙◌, ◌∷◌, ◌≡◌}
 use Rattle.std.proofs.Common.{option_map}
-use Rattle.std.specs.List.{All}
-use Rattle.sm_names.proofs.ListLaws.{In}
 use Rattle.event_laws.proofs.ConcernLaws.{others_not_due}
 use Rattle.forest_store.specs.Forest.{collection_at as collection_told}
 use Rattle.core_state.proofs.answers.Changes.{idle, starts}

@@ -1,5 +1,5 @@
 -- After the work of an event the forest has what trackers look at.
-use Rattle.core_state.proofs.Common.{Birth, Bool, Bound, Call, Called, Collection, EndPlace, Forest, Grows, Handles, In-filter}
+use Rattle.core_state.proofs.Common.{Birth, Bool, Bound, Call, Called, Collection, EndPlace, Forest, Grows, Handles, In, In-filter}
 use Rattle.core_state.proofs.Common.{In-filter-back, In-map, In-map-back, In_old, Interval, IsAfter, IsAnswer, List, Node, None, Option}
 use Rattle.core_state.proofs.Common.{Reply, Settled, State, Timeline, Work, [], after, allocated, ap, beside, birth_at, births, births_in}
 use Rattle.core_state.proofs.Common.{both_ways, buffers_of, collection_after, cond, end_by, eqb-true, events, false, given_back, gone}
@@ -7,7 +7,6 @@ use Rattle.core_state.proofs.Common.{held_after, inl, inr, is_kept, is_kept_coll
 use Rattle.core_state.proofs.Common.{members_of, new_key, next_forced, node_after, nodes_after, not, or_cases, or_none_left}
 use Rattle.core_state.proofs.Common.{or_none_right, place_of, readings, refl, some_strong_live, strong-left, subst, sym, true, whole, ℕ}
 use Rattle.core_state.proofs.Common.{◌+◌, ◌==◌, ◌||◌, ◌∙◌, ◌∷◌, ◌≡◌}
-use Rattle.sm_names.proofs.ListLaws.{In}
 use Rattle.core_state.proofs.forced.CallStep.{IsIdle}
 use Rattle.core_state.proofs.ends.NotRead.{placed_in, placed_node, members_placed}
 use Rattle.core_state.proofs.handles.HeldNames.{held_left}

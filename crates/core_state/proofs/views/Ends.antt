@@ -1,19 +1,17 @@
 -- The ends that a core keeps read as those of the marks.
-use Rattle.core_state.proofs.Common.{Birth, Bool, Bound, BufferName, Buffers, End, Grows, HandleCounts, In-map, IsAfter, List, Member}
+use Rattle.core_state.proofs.Common.{Birth, Bool, Bound, BufferName, Buffers, End, Grows, HandleCounts, In, In-map, IsAfter, List, Member}
 use Rattle.core_state.proofs.Common.{Node, NodeKey, None, OpenEnd, Option, Some, State, Strength, Timeline, [], allocated, any-left, ap}
-use Rattle.core_state.proofs.Common.{birth_is, birth_of, births, births_in, buffers_in, buffers_of, collection_after, cond, constraints}
-use Rattle.core_state.proofs.Common.{doomed, end_after, end_in, false, fault, filter, filter-In, gone, holder, in_transit, is_doomed}
-use Rattle.core_state.proofs.Common.{is_kept, is_kept_collection, is_some, is_spent, is_taking, is_tracking, is_unkept, list_any, member}
-use Rattle.core_state.proofs.Common.{member_of, members, members_of, names, node_after, node_at, nodes_after, not, open_end, open_end_of}
-use Rattle.core_state.proofs.Common.{open_total, option_and_then, option_map_or, range_with_len, readings, refl, some_strong_live, spent}
-use Rattle.core_state.proofs.Common.{sym, times, to_open_in, total, true, weak, ℕ, ◌&&◌, ◌∙◌, ◌≡◌}
-use Rattle.std.specs.Option.{option_map}
+use Rattle.core_state.proofs.Common.{birth_is, birth_of, births, births_in, buffer_names, buffers_in, buffers_of, collection_after, cond}
+use Rattle.core_state.proofs.Common.{constraints, doomed, end_after, end_in, false, fault, filter, filter-In, gone, holder, in_transit}
+use Rattle.core_state.proofs.Common.{is_doomed, is_kept, is_kept_collection, is_some, is_spent, is_taking, is_tracking, is_unkept}
+use Rattle.core_state.proofs.Common.{list_any, member, member_of, members, members_of, names, node_after, node_at, nodes_after, not}
+use Rattle.core_state.proofs.Common.{open_end, open_end_of, open_total, option_and_then, option_map, option_map_or, range_with_len}
+use Rattle.core_state.proofs.Common.{readings, refl, some_strong_live, spent, sym, times, to_open_in, total, true, weak, ℕ, ◌&&◌, ◌∙◌}
+use Rattle.core_state.proofs.Common.{◌≡◌}
 use Rattle.std.proofs.Math.Bool.{or-true}
 use Rattle.sm_names.specs.Ends.{kind}
-use Rattle.sm_names.specs.Handles.{buffer_names}
 use Rattle.sm_names.specs.Members.{is_live}
 use Rattle.sm_names.specs.Weakness.{weak_ok}
-use Rattle.sm_names.proofs.ListLaws.{In}
 use Rattle.core_state.specs.Reads.{holder_of, is_moving}
 use Rattle.core_state.proofs.lists.Maps.{list_any-map}
 use Rattle.core_state.proofs.views.Nodes.{spent_end, node_kept, node_forgotten, node_unknown, collection_kept}

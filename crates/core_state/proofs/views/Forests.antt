@@ -1,10 +1,9 @@
 -- A forest whose collections stand as the marks tell has what trackers look at.
-use Rattle.core_state.proofs.Common.{Birth, Bool, Collection, Forest, Handles, In-any, In-filter, In-filter-back, In-find, In-list_any}
-use Rattle.core_state.proofs.Common.{In-map, In-map-back, List, Node, NodeKey, None, Option, Some, Timeline, all_nodes, allocated, ap}
-use Rattle.core_state.proofs.Common.{births, both_ways, collection_at, either_way, eq-eqb, eqb-true, false, filter, find, gone, inl, inr}
-use Rattle.core_state.proofs.Common.{is_kept, is_kept_collection, is_of, is_some, is_some-find, list_any, map, node_at, refl, same_key}
-use Rattle.core_state.proofs.Common.{same_key-refl, same_key-true, subst, sym, true, was_born, ℕ, ◌==◌, ◌∙◌, ◌≡◌}
-use Rattle.sm_names.proofs.ListLaws.{In}
+use Rattle.core_state.proofs.Common.{Birth, Bool, Collection, Forest, Handles, In, In-any, In-filter, In-filter-back, In-find}
+use Rattle.core_state.proofs.Common.{In-list_any, In-map, In-map-back, List, Node, NodeKey, None, Option, Some, Timeline, all_nodes}
+use Rattle.core_state.proofs.Common.{allocated, ap, births, both_ways, collection_at, either_way, eq-eqb, eqb-true, false, filter, find}
+use Rattle.core_state.proofs.Common.{gone, inl, inr, is_kept, is_kept_collection, is_of, is_some, is_some-find, list_any, map, node_at}
+use Rattle.core_state.proofs.Common.{refl, same_key, same_key-refl, same_key-true, subst, sym, true, was_born, ℕ, ◌==◌, ◌∙◌, ◌≡◌}
 use Rattle.core_state.proofs.collections.Roots.{collection_of_kept}
 use Rattle.core_state.proofs.theorem.Follows.{Counts}
 use Rattle.core_state.proofs.forced.Forest.{node_in, in_all_nodes}

@@ -1,18 +1,15 @@
 -- Which buffers are seen as held.
-use Rattle.core_state.proofs.Common.{Bound, BufferName, Collection, Forest, Grows, HeldBuffer, Holdings, In-any, In-le-sum_by}
+use Rattle.core_state.proofs.Common.{Bound, BufferName, Collection, Forest, Grows, HeldBuffer, Holdings, In, In-any, In-le-sum_by}
 use Rattle.core_state.proofs.Common.{In-list_any, In-map-back, Interval, IsAfter, IsPoolOf, List, State, Timeline, [], all_held, and_both}
-use Rattle.core_state.proofs.Common.{and_left, and_right, ap, arith, both_ways, collection_after, end_of, eqb-true, false, false_if}
-use Rattle.core_state.proofs.Common.{flat_map, flat_map-map, held, held_after, home, inl, inr, is_kept_collection, kept_ids, left}
-use Rattle.core_state.proofs.Common.{list_any, lt-ltb, ltb-true, map, nat_le, nat_lt, not, one, or_right, refl, same_buffer}
-use Rattle.core_state.proofs.Common.{same_buffer-refl, same_buffer-true, sorted_by, stands_held, subst, sum_by, sym, true, ℕ, ◌&&◌, ◌+◌}
-use Rattle.core_state.proofs.Common.{◌<◌, ◌==◌, ◌∙◌, ◌∷◌, ◌≡◌, ◌≤◌}
+use Rattle.core_state.proofs.Common.{and_left, and_right, ap, arith, both_ways, buffer_names, collection_after, end_of, eqb-true, false}
+use Rattle.core_state.proofs.Common.{false_if, flat_map, flat_map-map, held, held_after, held_by_page, home, in_order, inl, inr}
+use Rattle.core_state.proofs.Common.{is_kept_collection, kept_ids, left, list_any, lt-ltb, ltb-true, map, nat_le, nat_lt, not, one}
+use Rattle.core_state.proofs.Common.{or_right, refl, same_buffer, same_buffer-refl, same_buffer-true, sorted_by, stands_held, subst}
+use Rattle.core_state.proofs.Common.{sum_by, sym, true, ℕ, ◌&&◌, ◌+◌, ◌<◌, ◌==◌, ◌∙◌, ◌∷◌, ◌≡◌, ◌≤◌}
 use Rattle.sm_names.specs.Apart.{AreApart}
-use Rattle.sm_names.specs.Handles.{buffer_names}
 use Rattle.sm_names.specs.Pages.{meets}
-use Rattle.sm_names.specs.Views.{held_by_page}
 use Rattle.history_laws.proofs.HeldLaws.{are_held}
-use Rattle.sm_names.proofs.ListLaws.{In}
-use Rattle.buffer_pool.specs.Holdings.{IsSound, in_order}
+use Rattle.buffer_pool.specs.Holdings.{IsSound}
 use Rattle.forest_store.specs.Forest.{held_by_page as held_in}
 use Rattle.core_state.proofs.lists.Parts.{mixed_parts}
 use Rattle.core_state.proofs.lists.Reorderings.{Mixed, In-mixed_back, sum_by-mixed}

@@ -1,11 +1,11 @@
 -- Held buffers in order of page: each ends before the next one begins.
 use Rattle.core_state.proofs.Common.{Forest, HeldBuffer, Holdings, Interval, IsPoolOf, List, [], all_held, and_left, and_right, arith}
-use Rattle.core_state.proofs.Common.{end_of, leb-true, map, nat_le, nat_lt, subst, true, ℕ, ◌+◌, ◌∙◌, ◌∷◌, ◌≡◌, ◌≤◌}
+use Rattle.core_state.proofs.Common.{end_of, in_order, leb-true, map, nat_le, nat_lt, subst, true, ℕ, ◌+◌, ◌∙◌, ◌∷◌, ◌≡◌, ◌≤◌}
 use Rattle.std.proofs.lemmas.List.Elements.{All-cons}
 use Rattle.std.proofs.lemmas.List.Kept.{AllPairs-cons}
 use Rattle.std.specs.Prelude.{All}
 use Rattle.std.specs.List.{AllPairs}
-use Rattle.buffer_pool.specs.Holdings.{IsSound, in_order}
+use Rattle.buffer_pool.specs.Holdings.{IsSound}
 use Rattle.forest_store.specs.Forest.{held_by_page}
 use Rattle.core_state.proofs.lists.Sorted.{sorted_by-map}
 

@@ -1,14 +1,13 @@
 -- Which nodes are seen as live, and how others failed.
-use Rattle.core_state.proofs.Common.{Birth, Bool, Bound, Call, Called, Grows, In-reverse, In-was_born, IsAfter, List, Mark, Node, NodeKey}
-use Rattle.core_state.proofs.Common.{None, Option, Reply, Some, State, Timeline, [], ap, arith, birth_at, birth_is, birth_of, births}
-use Rattle.core_state.proofs.Common.{both_ways, cond, cons_option, events, false, false≢true, fault, fault_gone, fault_in, filter}
+use Rattle.core_state.proofs.Common.{Birth, Bool, Bound, Call, Called, Grows, In, In-reverse, In-was_born, IsAfter, List, Mark, Node}
+use Rattle.core_state.proofs.Common.{NodeKey, None, Option, Reply, Some, State, Timeline, [], ap, arith, birth_at, birth_is, birth_of}
+use Rattle.core_state.proofs.Common.{births, both_ways, cond, cons_option, events, false, false≢true, fault, fault_gone, fault_in, filter}
 use Rattle.core_state.proofs.Common.{filter-In, gone, inl, inr, is_event, is_kept, is_live_in, is_some, is_some-find, live, live_keys}
 use Rattle.core_state.proofs.Common.{live_nodes, map, map-map, node_after, node_at, none_or_some, not, option_map_or, ordered, refl}
 use Rattle.core_state.proofs.Common.{released, reverse, same_key, sorted_by, spent, sym, true, was_born, ℕ, ◌&&◌, ◌+◌, ◌||◌, ◌∙◌, ◌∷◌}
 use Rattle.core_state.proofs.Common.{◌≡◌, ◌≤◌}
 use Rattle.history_laws.proofs.GoneLaws.{live_born, not_live}
 use Rattle.history_laws.proofs.LifeLaws.{In_new}
-use Rattle.sm_names.proofs.ListLaws.{In}
 use Rattle.core_state.proofs.lists.Sorted.{sorted_by-map}
 use Rattle.core_state.proofs.lists.Maps.{filter-map, filter-filter, filter-reverse}
 use Rattle.core_state.proofs.lists.Reorderings.{Mixed, mixed_filter}

@@ -1,13 +1,11 @@
 -- The nodes and collections that a core keeps, as the marks make them.
-use Rattle.core_state.proofs.Common.{Birth, Bool, Bound, Collection, End, Grows, In-filter, In-filter-back, IsAfter, List, Node, NodeKey}
-use Rattle.core_state.proofs.Common.{None, Option, Some, State, Timeline, [], all_nodes, ap, birth_is, birth_of, births, births_in}
-use Rattle.core_state.proofs.Common.{both_ways, collection_after, collection_at, cond, either_way, end_after, false, filter, filter-swap}
-use Rattle.core_state.proofs.Common.{find, find_birth, flat_map, flat_map-map, gone, holder, in_transit, inl, inr, is_kept}
-use Rattle.core_state.proofs.Common.{is_kept_collection, is_of, is_spent, is_unkept, kept_ids, map, node_after, node_at, not, ordered}
-use Rattle.core_state.proofs.Common.{refl, reverse, same_key, same_key-refl, same_key-true, spent, sym, true, ℕ, ◌&&◌, ◌==◌, ◌||◌, ◌∙◌}
-use Rattle.core_state.proofs.Common.{◌≡◌, ◌⊎◌}
-use Rattle.std.specs.Option.{option_map}
-use Rattle.sm_names.proofs.ListLaws.{In}
+use Rattle.core_state.proofs.Common.{Birth, Bool, Bound, Collection, End, Grows, In, In-filter, In-filter-back, IsAfter, List, Node}
+use Rattle.core_state.proofs.Common.{NodeKey, None, Option, Some, State, Timeline, [], all_nodes, ap, birth_is, birth_of, births}
+use Rattle.core_state.proofs.Common.{births_in, both_ways, collection_after, collection_at, cond, either_way, end_after, false, filter}
+use Rattle.core_state.proofs.Common.{filter-swap, find, find_birth, flat_map, flat_map-map, gone, holder, in_transit, inl, inr, is_kept}
+use Rattle.core_state.proofs.Common.{is_kept_collection, is_of, is_spent, is_unkept, kept_ids, map, node_after, node_at, not, option_map}
+use Rattle.core_state.proofs.Common.{ordered, refl, reverse, same_key, same_key-refl, same_key-true, spent, sym, true, ℕ, ◌&&◌, ◌==◌}
+use Rattle.core_state.proofs.Common.{◌||◌, ◌∙◌, ◌≡◌, ◌⊎◌}
 use Rattle.history_laws.proofs.SumLaws.{any_one}
 use Rattle.core_state.proofs.lists.Parts.{mixed_turned}
 use Rattle.core_state.proofs.lists.Maps.{filter-map, filter-reverse, map-flat_map, flat_map-same, find-map, find_only, find_none}

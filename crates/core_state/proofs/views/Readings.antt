@@ -3,10 +3,9 @@ use Rattle.core_state.proofs.Common.{Birth, Bool, Bound, Client, Grows, In-any, 
 use Rattle.core_state.proofs.Common.{NodeKey, None, Option, Some, State, Timeline, [], ap, births, both_tests, client_after, clients}
 use Rattle.core_state.proofs.Common.{collection_after, cond, false, filter, find, has_joined, is_kept, is_kept_collection, is_none}
 use Rattle.core_state.proofs.Common.{is_shut, is_some-find, joined_client, kept_ids, length, length-filter, length-map, list_any}
-use Rattle.core_state.proofs.Common.{node_after, node_count, option_map_or, parcels, readings, readings_of, refl, reverse, same_key}
-use Rattle.core_state.proofs.Common.{stranger_waits_for_none, sym, tracked_as, true, ℕ, ◌&&◌, ◌==◌, ◌∙◌, ◌≡◌}
+use Rattle.core_state.proofs.Common.{node_after, node_count, option_map, option_map_or, parcels, readings, readings_of, refl, reverse}
+use Rattle.core_state.proofs.Common.{same_key, stranger_waits_for_none, sym, tracked_as, true, ℕ, ◌&&◌, ◌==◌, ◌∙◌, ◌≡◌}
 use Rattle.std.proofs.lemmas.List.{length-reverse}
-use Rattle.std.specs.Option.{option_map}
 use Rattle.sm_names.specs.Kept.{kept_nodes, kept_collections}
 use Rattle.sm_names.specs.Trackers.{unfired}
 use Rattle.event_laws.proofs.WaitingLaws.{counted}

@@ -2,13 +2,11 @@
 use Rattle.core_state.proofs.Common.{Bool, BufferName, Cause, Client, Collection, Entry, Fault, Grows, HandleCounts, Interval, List}
 use Rattle.core_state.proofs.Common.{NodeKey, None, Option, Shows, Some, State, Strength, [], all_nodes, ap, beside, birth_of, buffers_in}
 use Rattle.core_state.proofs.Common.{buffers_of, client_after, clients, collection_after, collection_at, cond, false, fault, fault_in}
-use Rattle.core_state.proofs.Common.{filter, flat_map, flat_map-map, free_pages, is_kept, is_kept_collection, is_live_in, kept_ids}
-use Rattle.core_state.proofs.Common.{legal_grows, length, live, live_keys, live_nodes, map, moving_count, node_after, node_at, not, of}
-use Rattle.core_state.proofs.Common.{open_of, open_total, option_map_or, pages_in, refl, reverse, timeline, total, true, views_of, ℕ}
-use Rattle.core_state.proofs.Common.{◌++◌, ◌==◌, ◌∙◌, ◌∷◌, ◌≡◌}
-use Rattle.std.specs.Option.{option_map}
+use Rattle.core_state.proofs.Common.{filter, flat_map, flat_map-map, free_pages, held_by_page, is_kept, is_kept_collection, is_live_in}
+use Rattle.core_state.proofs.Common.{kept_ids, legal_grows, length, live, live_keys, live_nodes, map, moving_count, node_after, node_at}
+use Rattle.core_state.proofs.Common.{not, of, open_of, open_total, option_map, option_map_or, pages_in, refl, reverse, timeline, total}
+use Rattle.core_state.proofs.Common.{true, views_of, ℕ, ◌++◌, ◌==◌, ◌∙◌, ◌∷◌, ◌≡◌}
 use Rattle.sm_names.specs.Handles.{moving as moving_of}
-use Rattle.sm_names.specs.Views.{held_by_page}
 use Rattle.forest_store.specs.Forest.{held_by_page as held_in}
 use Rattle.core_state.specs.Shown.{all_kept_nodes, pages_beside_after}
 use Rattle.core_state.proofs.theorem.EventCount.{events-timeline}

@@ -1,4 +1,4 @@
-use Rattle.std.proofs.Common.{◌≡◌, ◌++◌, map, take}
+use Rattle.actor_plays.proofs.Common.{map, take, ◌++◌, ◌≡◌}
 use Rattle.actor_plays.specs.Fates.{end_told}
 use Rattle.actor_plays.proofs.falls.push_ended.Given as goal
 

@@ -1,6 +1,4 @@
-use Rattle.std.proofs.Common.{arith, append_assoc}
-use Rattle.std.proofs.lemmas.Grind.{common_steps}
-use Rattle.std.proofs.lemmas.List.{map-append, flat_map_more}
+use Rattle.actor_plays.proofs.Common.{append_assoc, arith, common_steps, flat_map_more, map-append}
 use Rattle.actor_plays.proofs.falls.push_falls.Goals as goal
 
 -- those of one more mark come last

@@ -1,7 +1,5 @@
-use Rattle.std.proofs.Common.{◌≡◌, ◌++◌, map, take}
-use Rattle.std.specs.List.{flat_map}
+use Rattle.actor_plays.proofs.Common.{falls_at, flat_map, map, take, ◌++◌, ◌≡◌}
 use Rattle.forced_marks.specs.Moments.{stage_of}
-use Rattle.actor_plays.specs.Fates.{falls_at}
 use Rattle.actor_plays.proofs.falls.push_falls.Given as goal
 
 -- so far those that these marks take

@@ -1,4 +1,4 @@
-use Rattle.std.proofs.Common.{◌≡◌, ◌++◌, map, take}
+use Rattle.actor_plays.proofs.Common.{map, take, ◌++◌, ◌≡◌}
 use Rattle.std.specs.List.{filter}
 use Rattle.forest_store.specs.declared.node.Node.{Node}
 use Rattle.actor_plays.specs.Fates.{fall_told}

@@ -1,6 +1,4 @@
-use Rattle.std.proofs.Common.{arith, append_assoc}
-use Rattle.std.proofs.lemmas.Grind.{common_steps}
-use Rattle.std.proofs.lemmas.List.{flat_map_more}
+use Rattle.actor_plays.proofs.Common.{append_assoc, arith, common_steps, flat_map_more}
 use Rattle.actor_plays.proofs.vanish.push_those.Goals as goal
 
 -- one more comes last, or is left out

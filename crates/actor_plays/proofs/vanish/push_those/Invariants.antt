@@ -1,5 +1,4 @@
-use Rattle.std.proofs.Common.{◌≡◌, ◌++◌, take}
-use Rattle.std.specs.List.{flat_map}
+use Rattle.actor_plays.proofs.Common.{flat_map, take, ◌++◌, ◌≡◌}
 use Rattle.actor_plays.specs.Leaves.{those}
 use Rattle.actor_plays.proofs.vanish.push_those.Given as goal
 

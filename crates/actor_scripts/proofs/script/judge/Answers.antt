@@ -1,8 +1,7 @@
-use Rattle.std.proofs.Common.{◌+◌, Bool, if◌then◌else◌, length-drop, arith, sym, ap, ◌∙◌, subst, Ok, Err}
+use Rattle.actor_scripts.proofs.Common.{Bool, IsScriptFault, ap, arith, if◌then◌else◌, script_actors_from, seen, subst, sym, ◌+◌, ◌∙◌}
+use Rattle.std.proofs.Common.{length-drop, Ok, Err}
 use Rattle.std.proofs.lemmas.List.{take_rest}
 use Rattle.std.proofs.lemmas.Grind.{common_steps}
-use Rattle.actor_scripts.specs.ActorLists.{script_actors_from, seen}
-use Rattle.actor_scripts.specs.Reads.{IsScriptFault}
 use Rattle.actor_scripts.proofs.Lines.{goes-on, goes-out, goes-no-further}
 use Rattle.actor_scripts.proofs.script.judge.Goals as goal
 

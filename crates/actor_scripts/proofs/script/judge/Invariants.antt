@@ -1,5 +1,6 @@
-use Rattle.std.proofs.Common.{◌≡◌, ◌+◌, ◌≤◌, length}
-use Rattle.actor_scripts.specs.ActorLists.{script_actors_from, seen, BuilderInvariant}
+use Rattle.actor_scripts.proofs.Common.{length, script_actors_from, seen, ◌+◌, ◌≡◌}
+use Rattle.std.proofs.Common.{◌≤◌}
+use Rattle.actor_scripts.specs.ActorLists.{BuilderInvariant}
 use Rattle.actor_scripts.proofs.script.judge.Given as goal
 
 abbrev pub invariant-loop-at : goal.invariant-loop-at

@@ -1,4 +1,4 @@
-use Rattle.std.proofs.Common.{◌≡◌, true}
+use Rattle.alike_plays.proofs.Common.{true, ◌≡◌}
 use Rattle.alike_plays.proofs.Names.{step_known}
 use Rattle.alike_plays.proofs.NamesAfter.{after_known}
 use Rattle.alike_plays.proofs.laws.actors_know_what_they_were_told.Goals as goal

@@ -1,4 +1,4 @@
-use Rattle.std.proofs.Common.{false}
+use Rattle.alike_plays.proofs.Common.{false}
 use Rattle.alike_plays.proofs.AheadActors.{exactly_ahead}
 use Rattle.alike_plays.proofs.Ending.{ends-same}
 use Rattle.alike_plays.proofs.Reaching.{reached_seen}

@@ -1,6 +1,4 @@
-use Rattle.std.proofs.Common.{◌≡◌, true}
-use Rattle.alike_plays.specs.Ahead.{AreAlikeAhead}
-use Rattle.alike_plays.specs.AlikePlays.{AreAlikePlays}
+use Rattle.alike_plays.proofs.Common.{AreAlikeAhead, AreAlikePlays, true, ◌≡◌}
 use Rattle.alike_plays.proofs.AheadTurns.{ahead_simulates}
 use Rattle.alike_plays.proofs.Closing.{alike_simulates}
 use Rattle.alike_plays.proofs.SameTurns.{way_met}

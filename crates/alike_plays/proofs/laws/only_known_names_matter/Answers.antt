@@ -1,4 +1,4 @@
-use Rattle.std.proofs.Common.{◌≡◌, true}
+use Rattle.alike_plays.proofs.Common.{true, ◌≡◌}
 use Rattle.alike_plays.proofs.NamesAgree.{stages-agree}
 use Rattle.alike_plays.proofs.laws.only_known_names_matter.Goals as goal
 

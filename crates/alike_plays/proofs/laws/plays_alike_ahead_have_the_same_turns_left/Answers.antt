@@ -1,4 +1,4 @@
-use Rattle.std.proofs.Common.{sym, ◌∙◌}
+use Rattle.alike_plays.proofs.Common.{sym, ◌∙◌}
 use Rattle.alike_plays.proofs.Reaching.{reached_seen}
 use Rattle.alike_plays.proofs.TurnsLeft.{asks_behind, leaves_left, waits_ahead}
 use Rattle.alike_plays.proofs.laws.plays_alike_ahead_have_the_same_turns_left.Goals as goal

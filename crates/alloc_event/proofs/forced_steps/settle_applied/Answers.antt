@@ -1,10 +1,9 @@
 -- The effect is made, and what is forced by it, and then the collection is closed.
-use Rattle.alloc_event.proofs.Common.{List, refl, sym, ◌∙◌, arith, total, Change, Entry, nodes_with, rows_of, place_is}
-use Rattle.alloc_event.proofs.Common.{PropagatedFrom, begins_at, may_finish, outcome_there, pool_there, few_there}
+use Rattle.alloc_event.proofs.Common.{Change, Entry, List, PropagatedFrom, arith, begins_at, few_there, may_finish, nodes_with}
+use Rattle.alloc_event.proofs.Common.{outcome_there, place_is, pool_there, read_through, refl, rows_of, sym, total, ◌∙◌}
 use Rattle.forest_store.specs.Nodes.{after_effect}
 use Rattle.forest_steps.proofs.mid_event.Counted.{may_make}
 use Rattle.forest_steps.proofs.mid_event.Stepping.{node_there, own_id}
-use Rattle.forest_store.proofs.rows.Entries.{read_through}
 use Rattle.alloc_event.proofs.forced_steps.settle_applied.Goals.{After-apply_effect}
 use Rattle.alloc_event.proofs.forced_steps.settle_applied.Goals as goal
 

@@ -1,6 +1,5 @@
 -- The effect is worked out of the entry at this place. Nothing is forced by it, or what is forced is made.
-use Rattle.alloc_event.proofs.Common.{◌∙◌, sym, refl, arith, total, place_is, one_entry, few_there, row_there}
-use Rattle.forest_store.proofs.rows.Entries.{read_through}
+use Rattle.alloc_event.proofs.Common.{arith, few_there, one_entry, place_is, read_through, refl, row_there, sym, total, ◌∙◌}
 use Rattle.alloc_event.proofs.forced_steps.settle_counted.Goals as goal
 
 pub index-requires : goal.index-requires

@@ -1,6 +1,5 @@
 -- An effect that changes no count is worked out by this.
-use Rattle.alloc_event.proofs.Common.{◌∙◌, sym, refl, arith, total, place_is, one_entry, few_there}
-use Rattle.forest_store.proofs.rows.Entries.{read_through}
+use Rattle.alloc_event.proofs.Common.{arith, few_there, one_entry, place_is, read_through, refl, sym, total, ◌∙◌}
 use Rattle.forest_steps.proofs.mid_event.Counted.{counts_kept}
 use Rattle.alloc_event.proofs.forced_steps.settle_effect.Goals as goal
 

@@ -1,5 +1,5 @@
 -- The root's unit waits for its buffers only where it is allocated or refused first.
-use Rattle.alloc_event.proofs.Common.{◌∙◌, ap, Change, Ok}
+use Rattle.alloc_event.proofs.Common.{Change, Ok, ap, ◌∙◌}
 use Rattle.alloc_event.proofs.forced_steps.settle_forced.Goals as goal
 
 pub settle_applied-requires-clause-ready : goal.settle_applied-requires-clause-ready

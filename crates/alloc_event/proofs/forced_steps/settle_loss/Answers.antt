@@ -1,10 +1,9 @@
 -- The loss is made, and what is forced by it, and then the collection is closed.
-use Rattle.alloc_event.proofs.Common.{List, refl, arith, total, Change, Entry, nodes_with, rows_of, place_is}
-use Rattle.alloc_event.proofs.Common.{PropagatedFrom, begins_at, may_finish, outcome_there, pool_there, row_there}
+use Rattle.alloc_event.proofs.Common.{Change, Entry, List, PropagatedFrom, arith, begins_at, may_finish, nodes_with, outcome_there}
+use Rattle.alloc_event.proofs.Common.{place_is, pool_there, read_through, refl, row_there, rows_of, total}
 use Rattle.forest_store.specs.Nodes.{after_loss}
 use Rattle.forest_store.proofs.tables.LeftParents.{loss_left}
 use Rattle.forest_steps.proofs.mid_event.Joining.{row_here}
-use Rattle.forest_store.proofs.rows.Entries.{read_through}
 use Rattle.alloc_event.proofs.forced_steps.settle_loss.Goals.{After-apply_loss}
 use Rattle.alloc_event.proofs.forced_steps.settle_loss.Goals as goal
 

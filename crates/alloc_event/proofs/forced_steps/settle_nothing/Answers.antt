@@ -1,6 +1,6 @@
 -- Nothing is left to be done, or the collection is closed.
-use Rattle.alloc_event.proofs.Common.{◌≡◌, ℕ, true, List, get_or, Some, refl, place_in, Change, Entry, Table, Node}
-use Rattle.alloc_event.proofs.Common.{Unit, Handles, Holdings, MayClose, place_is, IsOutcomeAt, IsReadyAt, Closes}
+use Rattle.alloc_event.proofs.Common.{Change, Closes, Entry, Handles, Holdings, IsOutcomeAt, IsReadyAt, List, MayClose, Node, Some, Table}
+use Rattle.alloc_event.proofs.Common.{Unit, get_or, place_in, place_is, refl, true, ℕ, ◌≡◌}
 use Rattle.forest_steps.proofs.mid_event.Stepping.{ready_at, closes_now, entry_there, outcome_closed}
 use Rattle.alloc_event.proofs.forced_steps.settle_nothing.Goals as goal
 

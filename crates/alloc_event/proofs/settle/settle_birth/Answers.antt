@@ -1,5 +1,5 @@
 -- The node is inserted, and then the forced steps are made at the place of its collection.
-use Rattle.alloc_event.proofs.Common.{◌≡◌, ◌∙◌, List, Some, None, refl, sym, Entry, Result, Ok, Err}
+use Rattle.alloc_event.proofs.Common.{Entry, Err, List, None, Ok, Result, Some, refl, sym, ◌∙◌, ◌≡◌}
 use Rattle.std.proofs.Common.{OnErr}
 use Rattle.forest_store.specs.Insertion.{IsUnborn}
 use Rattle.alloc_event.proofs.mid_event.Births.{born_close, born_closed, child_there, kept_born, pool_born}

@@ -1,6 +1,6 @@
 -- The collection is looked up, and the change is made at its place.
-use Rattle.alloc_event.proofs.Common.{◌≡◌, ◌∙◌, ℕ, Bool, List, Some, sym, Change, Entry, Table, Node}
-use Rattle.alloc_event.proofs.Common.{Unit, Handles, place_in, Holdings, IsOutcomeAt, IsReadyAt}
+use Rattle.alloc_event.proofs.Common.{Bool, Change, Entry, Handles, Holdings, IsOutcomeAt, IsReadyAt, List, Node, Some, Table, Unit}
+use Rattle.alloc_event.proofs.Common.{place_in, sym, ℕ, ◌∙◌, ◌≡◌}
 use Rattle.forest_store.specs.Outcomes.{IsReady}
 use Rattle.forest_steps.specs.StoreSteps.{IsOutcomeOf}
 use Rattle.forest_steps.proofs.mid_event.Stepping.{is_there}

@@ -1,10 +1,8 @@
 -- The collection is looked up. Where a strong node of it lives, it stays as it is.
-use Rattle.alloc_event.proofs.Common.{◌∙◌, ap, arith, false, false≢true, sym, total, option_map_or, Entry}
-use Rattle.alloc_event.proofs.Common.{collection_none, none_in, one_entry, place_is}
+use Rattle.alloc_event.proofs.Common.{Entry, ap, are_others_out, arith, collection_none, false, false≢true, none_in, one_entry}
+use Rattle.alloc_event.proofs.Common.{option_map_or, place_is, read_through, sym, total, ◌∙◌}
 use Rattle.forest_steps.proofs.Common.{lt-ltb}
 use Rattle.forest_steps.proofs.changes.Dropped.{stays_strong}
-use Rattle.forest_store.specs.Dropped.{are_others_out}
-use Rattle.forest_store.proofs.rows.Entries.{read_through}
 use Rattle.alloc_event.proofs.settle.settle_dropped.Goals as goal
 
 pub unreachable-requires : goal.unreachable-requires

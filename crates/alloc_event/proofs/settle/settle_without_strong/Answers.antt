@@ -1,8 +1,7 @@
 -- Where a step is forced nothing changed before it.
-use Rattle.alloc_event.proofs.Common.{◌≡◌, true, false, refl, Option, Some, None, is_some, option_map_or}
-use Rattle.alloc_event.proofs.Common.{false≢true, total, Collection, Handles}
+use Rattle.alloc_event.proofs.Common.{Collection, Handles, None, Option, Some, are_others_out, false, false≢true, is_some, option_map_or}
+use Rattle.alloc_event.proofs.Common.{refl, total, true, ◌≡◌}
 use Rattle.sm_names.specs.declared.keys.BufferName.{BufferName}
-use Rattle.forest_store.specs.Dropped.{are_others_out}
 use Rattle.alloc_event.proofs.settle.settle_without_strong.Goals as goal
 
 -- what is asked of the collection tells that it is there

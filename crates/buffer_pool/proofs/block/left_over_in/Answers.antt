@@ -1,6 +1,5 @@
 -- The room of the first of those that remain is subtracted.
-use Rattle.buffer_pool.proofs.Common.{Interval, ap, arith, div-eq_of_lt, drop, drop_more, get_or, rooms, ◌+◌, ◌-◌, ◌/◌, ◌∙◌, ◌≡◌}
-use Rattle.std.proofs.Common.{List}
+use Rattle.buffer_pool.proofs.Common.{Interval, List, ap, arith, div-eq_of_lt, drop, drop_more, get_or, rooms, ◌+◌, ◌-◌, ◌/◌, ◌∙◌, ◌≡◌}
 use Rattle.buffer_pool.proofs.Taking.{rooms-cons}
 use Rattle.buffer_pool.proofs.block.left_over_in.Goals.{then-holes-at+else-left-eq0, else-holes-at}
 use Rattle.buffer_pool.proofs.block.left_over_in.Goals as goal

@@ -1,6 +1,5 @@
 -- The first of those still to come is pushed.
-use Rattle.buffer_pool.proofs.Common.{[], ap, arith, length, run_starts, ◌++◌, ◌+◌, ◌-◌, ◌∙◌, ◌∷◌}
-use Rattle.std.proofs.lemmas.List.{length-append}
+use Rattle.buffer_pool.proofs.Common.{[], ap, arith, length, length-append, run_starts, ◌++◌, ◌+◌, ◌-◌, ◌∙◌, ◌∷◌}
 use Rattle.buffer_pool.proofs.HeldRuns.{one_more, starts_pushed}
 use Rattle.buffer_pool.proofs.block.push_starts.Goals as goal
 

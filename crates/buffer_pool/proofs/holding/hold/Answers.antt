@@ -1,8 +1,6 @@
 -- Each lies where first fit puts it, so nothing begins there.
-use Rattle.buffer_pool.proofs.Common.{AreFirstFits, Interval, ap, arith, drop, drop_more, get_or, held_from, length, set, subst, sym}
-use Rattle.buffer_pool.proofs.Common.{with_buffers, with_interval, ℕ, ◌+◌, ◌<◌, ◌∙◌, ◌∷◌, ◌≡◌}
-use Rattle.std.proofs.Common.{List}
-use Rattle.std.proofs.lemmas.List.{length-set}
+use Rattle.buffer_pool.proofs.Common.{AreFirstFits, Interval, List, ap, arith, drop, drop_more, get_or, held_from, length, length-set}
+use Rattle.buffer_pool.proofs.Common.{set, subst, sym, with_buffers, with_interval, ℕ, ◌+◌, ◌<◌, ◌∙◌, ◌∷◌, ◌≡◌}
 use Rattle.buffer_pool.proofs.Keeping.{held_next}
 use Rattle.buffer_pool.proofs.Lengths.{held-free, held-set}
 use Rattle.buffer_pool.proofs.holding.hold.Goals as goal

@@ -1,6 +1,5 @@
 -- The interval that begins at the page goes, after those before it.
-use Rattle.buffer_pool.proofs.Common.{ap, arith, length, mul-le-mul_right, suc, suc-mul, ℕ, ◌*◌, ◌+◌, ◌-◌, ◌<◌, ◌∙◌, ◌≡◌, ◌≤◌}
-use Rattle.std.proofs.lemmas.List.{length-set}
+use Rattle.buffer_pool.proofs.Common.{ap, arith, length, length-set, mul-le-mul_right, suc, suc-mul, ℕ, ◌*◌, ◌+◌, ◌-◌, ◌<◌, ◌∙◌, ◌≡◌, ◌≤◌}
 use Rattle.buffer_pool.proofs.Lengths.{gone-next}
 use Rattle.buffer_pool.proofs.holding.let_go.Goals as goal
 

@@ -1,7 +1,8 @@
 -- The next hole is removed if the two touch.
-use Rattle.buffer_pool.proofs.Common.{HasIntervalAt, Interval, MAX_PAGES, [], all_in, ap, arith, drop, end_of, first_begins, get_or, refl}
-use Rattle.buffer_pool.proofs.Common.{remove, rules, set, spot_index, subst, sym, take, take-take, true, ◌+◌, ◌<◌, ◌^◌, ◌∙◌, ◌≡◌, ◌≤◌}
-use Rattle.std.proofs.Common.{List, length-set}
+use Rattle.buffer_pool.proofs.Common.{HasIntervalAt, Interval, List, MAX_PAGES, [], all_in, ap, arith, drop, end_of, first_begins, get_or}
+use Rattle.buffer_pool.proofs.Common.{refl, remove, rules, set, spot_index, subst, sym, take, take-take, true, ◌+◌, ◌<◌, ◌^◌, ◌∙◌, ◌≡◌}
+use Rattle.buffer_pool.proofs.Common.{◌≤◌}
+use Rattle.std.proofs.Common.{length-set}
 use Rattle.buffer_pool.proofs.Joins.{place-within, within-all, same-place, remove-next}
 use Rattle.buffer_pool.proofs.Spaces.{join_apart, join_touching, first_within}
 use Rattle.buffer_pool.proofs.Touching.{there_if, begins_there, holds_there, still_there}

@@ -1,7 +1,7 @@
 -- What is passed for fewer pages is passed for more.
 use Rattle.buffer_pool.proofs.Passing.{passed-more, passed-start}
-use Rattle.buffer_pool.proofs.holes.seek.Goals as goal
 use Rattle.buffer_pool.proofs.holes.seek.Goals.{then-known-pages_each, else-known-pages_each}
+use Rattle.buffer_pool.proofs.holes.seek.Goals as goal
 
 pub first-requires-clause-from : goal.first-requires-clause-from
 first-requires-clause-from c =

@@ -1,6 +1,4 @@
-use Rattle.std.proofs.Common.{ℕ, ◌∙◌, ap, subst, sym}
-use Rattle.event_laws.specs.Parts.{DifferAt, part}
-use Rattle.client_vanish.specs.Gatherings.{IsFound, own_of}
+use Rattle.client_vanish.proofs.Common.{DifferAt, IsFound, ap, own_of, part, subst, sym, ℕ, ◌∙◌}
 use Rattle.client_vanish.proofs.GatherLaws.{FoundSoFar, found_first, found_other, found_same}
 use Rattle.client_vanish.proofs.gathering.first_mismatch.Goals as goal
 

@@ -1,4 +1,4 @@
-use Rattle.std.proofs.Common.{length}
+use Rattle.client_vanish.proofs.Common.{length}
 use Rattle.client_vanish.proofs.GatherLaws.{FoundSoFar}
 use Rattle.client_vanish.proofs.gathering.first_mismatch.Given as goal
 

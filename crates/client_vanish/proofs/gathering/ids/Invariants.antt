@@ -1,4 +1,4 @@
-use Rattle.std.proofs.Common.{◌≡◌, ◌++◌, length}
+use Rattle.client_vanish.proofs.Common.{length, ◌++◌, ◌≡◌}
 use Rattle.client_vanish.specs.Gatherings.{ids_of}
 use Rattle.client_vanish.proofs.gathering.ids.Given as goal
 

@@ -1,4 +1,4 @@
-use Rattle.std.proofs.Common.{◌≡◌, ◌+◌, length}
+use Rattle.client_vanish.proofs.Common.{length, ◌+◌, ◌≡◌}
 use Rattle.client_vanish.specs.Gatherings.{all_present_handles}
 use Rattle.client_vanish.proofs.gathering.left_of.Given as goal
 

@@ -1,6 +1,4 @@
-use Rattle.std.proofs.Common.{◌≡◌, vec_len}
-use Rattle.client_vanish.specs.Vanishings.{held_in, sorted}
-use Rattle.client_vanish.specs.Stacks.{HasRoomFor, both, top_first}
+use Rattle.client_vanish.proofs.Common.{HasRoomFor, both, held_in, sorted, top_first, vec_len, ◌≡◌}
 use Rattle.client_vanish.proofs.stack.put_all.Given as goal
 
 -- what is in its list, with what is left, is all

@@ -1,6 +1,4 @@
-use Rattle.std.proofs.Common.{◌≡◌, ◌++◌, ◌+◌, ◌≤◌, map, vec_capacity, vec_len}
-use Rattle.client_vanish.specs.Vanishings.{object_of}
-use Rattle.client_vanish.specs.Stacks.{top_first}
+use Rattle.client_vanish.proofs.Common.{map, object_of, top_first, vec_capacity, vec_len, ◌++◌, ◌+◌, ◌≡◌, ◌≤◌}
 use Rattle.client_vanish.proofs.stack.stack_ends.Given as goal
 
 -- what is stacked, with what is left, is all

@@ -1,6 +1,4 @@
-use Rattle.std.proofs.Common.{◌≡◌, ◌++◌, ◌+◌, ◌≤◌, map, vec_capacity, vec_len}
-use Rattle.client_vanish.specs.Vanishings.{Token}
-use Rattle.client_vanish.specs.Stacks.{top_first}
+use Rattle.client_vanish.proofs.Common.{Token, map, top_first, vec_capacity, vec_len, ◌++◌, ◌+◌, ◌≡◌, ◌≤◌}
 use Rattle.client_vanish.proofs.stack.stack_tokens.Given as goal
 
 -- what is stacked, with what is left, is all

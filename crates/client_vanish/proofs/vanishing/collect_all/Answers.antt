@@ -1,5 +1,4 @@
-use Rattle.std.proofs.Common.{◌∷◌, ◌++◌, [], length-append, map, arith}
-use Rattle.client_vanish.specs.Vanishings.{object_of}
+use Rattle.client_vanish.proofs.Common.{[], arith, length-append, map, object_of, ◌++◌, ◌∷◌}
 use Rattle.client_vanish.proofs.VanishingLaws.{collects_more}
 use Rattle.client_vanish.proofs.vanishing.collect_all.Goals as goal
 

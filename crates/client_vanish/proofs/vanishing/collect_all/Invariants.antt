@@ -1,7 +1,4 @@
-use Rattle.std.proofs.Common.{◌≡◌, ◌+◌, ◌≤◌, List, length, map, vec_capacity, vec_len}
-use Rattle.sm_names.specs.declared.messages.Reply.{Reply}
-use Rattle.client_vanish.specs.Vanishings.{object_of}
-use Rattle.client_vanish.specs.Stacks.{CollectsMany}
+use Rattle.client_vanish.proofs.Common.{CollectsMany, List, Reply, length, map, object_of, vec_capacity, vec_len, ◌+◌, ◌≡◌, ◌≤◌}
 use Rattle.client_vanish.proofs.vanishing.collect_all.Given as goal
 
 -- what was collected so far

@@ -1,6 +1,4 @@
-use Rattle.std.proofs.Common.{ap}
-use Rattle.sm_names.specs.declared.messages.Call.{Call}
-use Rattle.client_vanish.specs.Vanishings.{vanishing_call, object_of}
+use Rattle.client_vanish.proofs.Common.{Call, ap, object_of, vanishing_call}
 use Rattle.client_vanish.proofs.VanishingLaws.{parted_done}
 use Rattle.client_vanish.proofs.vanishing.give_up.Goals as goal
 

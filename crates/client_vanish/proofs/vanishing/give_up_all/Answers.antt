@@ -1,8 +1,6 @@
-use Rattle.std.proofs.Common.{◌≡◌, ◌∷◌, ◌∙◌, [], ap, subst, sym}
-use Rattle.std.specs.List.{All}
-use Rattle.std.proofs.lemmas.List.Elements.{All-head, All-tail}
-use Rattle.client_vanish.specs.Vanishings.{HeldObject, held_in, owner_of, object_of}
-use Rattle.client_vanish.specs.Stacks.{GivesUp, both, kept_objects, top_first}
+use Rattle.client_vanish.proofs.Common.{All, All-head, All-tail, GivesUp, HeldObject, [], ap, both, held_in, object_of, owner_of, subst}
+use Rattle.client_vanish.proofs.Common.{sym, top_first, ◌∙◌, ◌∷◌, ◌≡◌}
+use Rattle.client_vanish.specs.Stacks.{kept_objects}
 use Rattle.client_vanish.proofs.VanishingLaws.{kept_same, parts_more, parts_none}
 use Rattle.client_vanish.proofs.ObjectLaws.{both_none, room_less, room_put, sorted_single, top_pop}
 use Rattle.client_vanish.proofs.vanishing.give_up_all.Goals as goal

@@ -1,7 +1,4 @@
-use Rattle.std.proofs.Common.{◌≡◌, vec_len}
-use Rattle.std.specs.List.{All}
-use Rattle.client_vanish.specs.Vanishings.{held_in, owner_of}
-use Rattle.client_vanish.specs.Stacks.{GivesUpSome, HasRoomFor, top_first}
+use Rattle.client_vanish.proofs.Common.{All, GivesUpSome, HasRoomFor, held_in, owner_of, top_first, vec_len, ◌≡◌}
 use Rattle.client_vanish.proofs.vanishing.give_up_all.Given as goal
 
 -- it gave up the first ones

@@ -1,6 +1,4 @@
-use Rattle.std.proofs.Common.{inl, refl}
-use Rattle.client_vanish.specs.Vanishings.{held_in}
-use Rattle.client_vanish.specs.Stacks.{top_first}
+use Rattle.client_vanish.proofs.Common.{held_in, inl, refl, top_first}
 use Rattle.client_vanish.proofs.VanishingLaws.{parts_none}
 use Rattle.client_vanish.proofs.vanishing.give_up_if.Goals as goal
 

@@ -1,7 +1,6 @@
-use Rattle.std.proofs.Common.{◌≡◌, ◌∙◌, inr, ap, is_ok, map, subst, sym, length, arith}
-use Rattle.std.specs.List.{All}
-use Rattle.client_vanish.specs.Vanishings.{AllHeldBy, IsGone, held_in, owner_of, object_of}
-use Rattle.client_vanish.specs.Stacks.{CollectsFor, top_first}
+use Rattle.client_vanish.proofs.Common.{All, AllHeldBy, CollectsFor, IsGone, ap, arith, held_in, inr, length, map, object_of, owner_of}
+use Rattle.client_vanish.proofs.Common.{subst, sym, top_first, ◌∙◌, ◌≡◌}
+use Rattle.std.proofs.Common.{is_ok}
 use Rattle.client_vanish.proofs.BackLaws.{broken_own}
 use Rattle.client_vanish.proofs.VanishingLaws.{goes, gone, owners, room_all, shut_only, stacked, top_none}
 use Rattle.client_vanish.proofs.vanishing.vanish.Goals as goal

@@ -1,5 +1,5 @@
-use Rattle.std.proofs.Common.{◌≡◌, map, take}
-use Rattle.core_state.specs.State.{Client}
+use Rattle.core_state.proofs.Common.{Client, map, ◌≡◌}
+use Rattle.std.proofs.Common.{take}
 use Rattle.core_state.proofs.clients.ids_of.Given as goal
 
 -- so far the numbers of these clients

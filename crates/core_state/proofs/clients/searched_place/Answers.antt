@@ -1,4 +1,4 @@
-use Rattle.std.proofs.Common.{rules, ◌∙◌}
+use Rattle.core_state.proofs.Common.{rules, ◌∙◌}
 use Rattle.std.proofs.lemmas.List.Sorted.{answers_always}
 use Rattle.core_state.proofs.joined.Rows.{search_places}
 use Rattle.core_state.proofs.clients.searched_place.Goals as goal

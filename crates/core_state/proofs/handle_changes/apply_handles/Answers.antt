@@ -1,6 +1,5 @@
-use Rattle.core_state.proofs.Common.{Call, Called, Reply, of, on_ok_weaker, refl, rules, subst, sym, total, ◌-◌, ◌<◌, ◌^◌}
+use Rattle.core_state.proofs.Common.{Call, Called, Counts, Reply, of, on_ok_weaker, refl, rules, subst, sym, total, ◌-◌, ◌<◌, ◌^◌}
 use Rattle.std.proofs.lemmas.Bool.{OnTrue_at}
-use Rattle.buffer_holds.specs.Counts.{Counts}
 use Rattle.core_state.proofs.handles.Places.{moves_reserved, places_closed, places_given, places_landed}
 use Rattle.core_state.proofs.handles.Undoing.{moves_taken, moves_dropped, moves_given, moves_collected}
 use Rattle.core_state.proofs.handles.Untouched.{take_stays, dup_stays, drop_stays, give_stays, collect_stays, other_stays}

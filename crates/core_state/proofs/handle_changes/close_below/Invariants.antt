@@ -1,5 +1,4 @@
-use Rattle.core_state.proofs.Common.{HasPlaces, Opens, SET_BITS, is_in_set_below, ◌≡◌, ◌≤◌}
-use Rattle.buffer_holds.specs.Counts.{Counts}
+use Rattle.core_state.proofs.Common.{Counts, HasPlaces, Opens, SET_BITS, is_in_set_below, ◌≡◌, ◌≤◌}
 use Rattle.core_state.proofs.handle_changes.close_below.Given as goal
 
 -- the handles from the end on are closed

@@ -1,4 +1,4 @@
-use Rattle.std.proofs.Common.{◌∙◌}
+use Rattle.core_state.proofs.Common.{◌∙◌}
 use Rattle.core_state.proofs.handles.Opening.{opens_set}
 use Rattle.core_state.proofs.handles.Places.{places_set}
 use Rattle.core_state.proofs.handle_changes.open_all.Goals as goal

@@ -1,6 +1,5 @@
-use Rattle.core_state.proofs.Common.{Collection, Fired, List, [], ap, drop, legal_grows, length, recalling, refl, sym, timeline, ◌++◌}
-use Rattle.core_state.proofs.Common.{◌∙◌, ◌∷◌, ◌≡◌}
-use Rattle.std.specs.Option.{option_map}
+use Rattle.core_state.proofs.Common.{Collection, Fired, List, [], ap, drop, legal_grows, length, option_map, recalling, refl, sym}
+use Rattle.core_state.proofs.Common.{timeline, ◌++◌, ◌∙◌, ◌∷◌, ◌≡◌}
 use Rattle.core_state.proofs.views.Live.{fault_is}
 use Rattle.core_state.proofs.views.Readings.{readings_are}
 use Rattle.core_state.proofs.views.Shown.{collection_shown, events_shown, free_shown, live_keys_shown}

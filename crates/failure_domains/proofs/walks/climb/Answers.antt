@@ -1,7 +1,5 @@
-use Rattle.std.proofs.Common.{◌≡◌, ◌+◌, ◌<◌, arith, sym, add-one}
-use Rattle.node_table.specs.Table.{table_len}
-use Rattle.node_table.specs.Forest.{IsForest, depth_at}
-use Rattle.failure_domains.specs.Walks.{Start, Step}
+use Rattle.failure_domains.proofs.Common.{IsForest, Start, Step, arith, depth_at, sym, table_len, ◌+◌, ◌<◌, ◌≡◌}
+use Rattle.std.proofs.Common.{add-one}
 use Rattle.failure_domains.proofs.Climbs.{table_len-there, way_up-Some, climb_depth}
 use Rattle.failure_domains.proofs.walks.climb.Goals as goal
 

@@ -1,8 +1,4 @@
-use Rattle.std.proofs.Common.{◌<◌, IsSome}
-use Rattle.node_table.specs.Table.{parent_at, row_at}
-use Rattle.node_table.specs.Forest.{IsForest}
-use Rattle.failure_domains.specs.Falls.{blocked_at}
-use Rattle.failure_domains.specs.Walks.{Climb}
+use Rattle.failure_domains.proofs.Common.{Climb, IsForest, IsSome, blocked_at, parent_at, row_at, ◌<◌}
 use Rattle.failure_domains.proofs.walks.climb.Given as goal
 
 -- so far each step climbed a link, to a node that is there

@@ -1,9 +1,5 @@
-use Rattle.std.proofs.Common.{◌≡◌, ◌+◌, ◌<◌, ◌≤◌, false, List, length, arith, subst}
-use Rattle.sm_names.specs.declared.keys.NodeKey.{NodeKey}
-use Rattle.node_table.specs.Table.{Table, children_at}
-use Rattle.node_table.specs.Forest.{depth_at}
-use Rattle.failure_domains.specs.Falls.{children_within, links_climbed}
-use Rattle.failure_domains.specs.Walks.{IsWalk}
+use Rattle.failure_domains.proofs.Common.{IsWalk, List, NodeKey, Table, arith, children_at, children_within, depth_at, false, length}
+use Rattle.failure_domains.proofs.Common.{links_climbed, subst, ◌+◌, ◌<◌, ◌≡◌, ◌≤◌}
 use Rattle.failure_domains.proofs.Bounds.{all_within}
 use Rattle.failure_domains.proofs.Climbs.{climb_links, links_climbed-top, links_within-most}
 use Rattle.failure_domains.proofs.Descents.{walk_by_layers}

@@ -1,12 +1,7 @@
-use Rattle.std.proofs.lemmas.Grind.{common_steps}
-use Rattle.std.proofs.Common.{◌≡◌, ◌+◌, ◌++◌, ◌<◌, ◌≤◌, false, true, All, IsOk, IsSome, length, arith, sym, subst}
-use Rattle.std.proofs.lemmas.List.{length-append}
-use Rattle.std.proofs.lemmas.List.Elements.{All-append}
-use Rattle.sm_names.specs.declared.keys.NodeKey.{NodeKey}
-use Rattle.node_table.specs.Table.{row_at, table_len}
-use Rattle.node_table.specs.Forest.{IsForest, depth_at}
-use Rattle.failure_domains.specs.Falls.{children_within}
-use Rattle.failure_domains.specs.Walks.{IsWalk}
+use Rattle.failure_domains.proofs.Common.{All, All-append, IsForest, IsSome, IsWalk, NodeKey, arith, children_within, common_steps}
+use Rattle.failure_domains.proofs.Common.{depth_at, false, length, length-append, row_at, subst, sym, table_len, true, ◌++◌, ◌+◌, ◌<◌}
+use Rattle.failure_domains.proofs.Common.{◌≡◌, ◌≤◌}
+use Rattle.std.proofs.Common.{IsOk}
 use Rattle.failure_domains.proofs.Bounds.{first_goes_on, within_apart, within_fewer}
 use Rattle.failure_domains.proofs.Descents.{walk_steps}
 use Rattle.failure_domains.proofs.Rooms.{children_there, keys_fit}

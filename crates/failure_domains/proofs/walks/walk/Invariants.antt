@@ -1,8 +1,5 @@
-use Rattle.std.proofs.Common.{◌-◌, ◌<◌, ◌≤◌, ◌^◌, All, IsSome, vec_capacity}
-use Rattle.node_table.specs.Table.{row_at}
-use Rattle.node_table.specs.Forest.{IsForest, depth_at}
-use Rattle.failure_domains.specs.Falls.{children_within}
-use Rattle.failure_domains.specs.Walks.{IsWalk}
+use Rattle.failure_domains.proofs.Common.{All, IsForest, IsSome, IsWalk, children_within, depth_at, row_at, ◌-◌, ◌<◌, ◌≤◌}
+use Rattle.std.proofs.Common.{◌^◌, vec_capacity}
 use Rattle.failure_domains.proofs.walks.walk.Given as goal
 
 -- so far as many keys were taken as there were visits

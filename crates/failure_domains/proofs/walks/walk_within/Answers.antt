@@ -1,5 +1,4 @@
-use Rattle.std.proofs.Common.{arith}
-use Rattle.std.proofs.lemmas.Grind.{common_steps}
+use Rattle.failure_domains.proofs.Common.{arith, common_steps}
 use Rattle.failure_domains.proofs.Bounds.{keys_are_within}
 use Rattle.failure_domains.proofs.walks.walk_within.Goals as goal
 

@@ -1,6 +1,4 @@
-use Rattle.std.proofs.Common.{refl, subst, List}
-use Rattle.sm_names.specs.Marks.{Entry}
-use Rattle.sm_names.specs.Timelines.{timeline}
+use Rattle.fate_laws.proofs.Common.{Entry, List, refl, subst, timeline}
 use Rattle.actor_plays.specs.Endings.{maker_in}
 use Rattle.fate_laws.proofs.Fell.{AreToldOf}
 use Rattle.fate_laws.proofs.Histories.{fate_is, reached_told}

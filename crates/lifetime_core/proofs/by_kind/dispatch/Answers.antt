@@ -1,4 +1,4 @@
-use Rattle.std.proofs.Common.{rules}
+use Rattle.lifetime_core.proofs.Common.{rules}
 use Rattle.lifetime_core.proofs.by_kind.dispatch.Goals as goal
 
 -- the closure answers this call alone

@@ -1,11 +1,10 @@
-use Rattle.std.proofs.Common.{ap, ◌≡◌, refl, sym, subst}
+use Rattle.lifetime_core.proofs.Common.{ap, refl, rules, subst, sym, work_in, ◌≡◌}
 use Rattle.sm_names.specs.Marks.{Called}
 use Rattle.forest_store.specs.Settling.{Handles}
 use Rattle.core_state.specs.State.{HandleCounts, counts_of}
-use Rattle.core_state.specs.Tasks.{Reworked, work_in}
+use Rattle.core_state.specs.Tasks.{Reworked}
 use Rattle.core_state.proofs.forced.StillOut.{others_stay}
 use Rattle.core_state.proofs.handles.Moves.{moves_to}
-use Rattle.std.proofs.Common.{rules}
 use Rattle.lifetime_core.proofs.event.take_effect.Goals as goal
 
 -- only the count of the dropped handle shrinks

@@ -1,5 +1,5 @@
-use Rattle.std.proofs.Common.{ℕ, ◌≡◌, ◌-◌, ◌*◌, ◌%◌, ◌^◌, ◌<◌, ◌≤◌, ◌∙◌, suc, ap, arith}
-use Rattle.std.proofs.Math.Nat.{pow-succ'}
+use Rattle.lifetime_core.proofs.Common.{ap, arith, pow-succ', suc, ℕ, ◌*◌, ◌<◌, ◌^◌, ◌∙◌, ◌≡◌}
+use Rattle.std.proofs.Common.{◌-◌, ◌%◌, ◌≤◌}
 use Rattle.std.proofs.Math.Pow.{pow_mono}
 use Rattle.lifetime_core.proofs.opening.full_set.Goals as goal
 

@@ -1,10 +1,8 @@
-use Rattle.std.proofs.Common.{◌≡◌, refl, ap, sym, ◌∙◌, ◌+◌, Bool, false, ◌&&◌, ◌||◌, get_or}
+use Rattle.lifetime_core.proofs.Common.{Bool, BufferName, all_to_open, ap, false, get_or, is_at_limit, kept_from, list_any, none_kept}
+use Rattle.lifetime_core.proofs.Common.{readings_of, refl, sym, to_open_in, ◌&&◌, ◌+◌, ◌∙◌, ◌≡◌}
+use Rattle.std.proofs.Common.{◌||◌}
 use Rattle.std.proofs.lemmas.List.Folds.{list_any_none}
-use Rattle.std.specs.List.{list_any}
-use Rattle.sm_names.specs.declared.keys.BufferName.{BufferName}
-use Rattle.sm_names.specs.Answers.{is_at_limit}
-use Rattle.core_state.specs.Reads.{readings_of, to_open_in}
-use Rattle.core_state.proofs.handles.ToOpen.{all_to_open, keeps_buffer, kept_from, next_passes, none_kept}
+use Rattle.core_state.proofs.handles.ToOpen.{keeps_buffer, next_passes}
 use Rattle.lifetime_core.proofs.opening.is_one_full.Goals.{else-not-is_doomed-via-then-not-is_doomed+else-has_all_handles}
 use Rattle.lifetime_core.proofs.opening.is_one_full.Goals.{else-not-is_doomed-via-else-not-is_doomed}
 use Rattle.lifetime_core.proofs.opening.is_one_full.Goals as goal

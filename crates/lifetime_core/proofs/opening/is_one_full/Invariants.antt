@@ -1,8 +1,4 @@
-use Rattle.std.proofs.Common.{◌≡◌}
-use Rattle.std.specs.List.{list_any}
-use Rattle.sm_names.specs.Answers.{is_at_limit}
-use Rattle.core_state.specs.Reads.{readings_of, to_open_in}
-use Rattle.core_state.proofs.handles.ToOpen.{kept_from}
+use Rattle.lifetime_core.proofs.Common.{is_at_limit, kept_from, list_any, readings_of, to_open_in, ◌≡◌}
 use Rattle.lifetime_core.proofs.opening.is_one_full.Given as goal
 
 -- one that is full is still to come

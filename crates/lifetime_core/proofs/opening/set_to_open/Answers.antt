@@ -1,12 +1,8 @@
-use Rattle.std.proofs.Common.{ℕ, zero, suc, ◌≡◌, ◌+◌, ◌*◌, ◌^◌, ◌==◌, ◌&&◌, ◌∙◌, Bool, true, false, not, cond, refl, ap, sym, subst, arith}
-use Rattle.std.proofs.Math.Nat.{pow-succ'}
-use Rattle.sm_names.specs.declared.keys.BufferName.{BufferName}
+use Rattle.lifetime_core.proofs.Common.{Bool, BufferName, State, all_to_open, ap, arith, false, kept_from, none_kept, pow-succ', refl}
+use Rattle.lifetime_core.proofs.Common.{set_of, subst, suc, sym, to_open_in, total, true, ℕ, ◌&&◌, ◌*◌, ◌+◌, ◌^◌, ◌∙◌, ◌≡◌}
+use Rattle.std.proofs.Common.{zero, ◌==◌, not, cond}
 use Rattle.sm_names.specs.declared.keys.Strength.{Strength}
-use Rattle.sm_names.specs.Answers.{set_of}
-use Rattle.buffer_holds.specs.Counts.{total}
-use Rattle.core_state.specs.Reads.{to_open_in}
-use Rattle.core_state.specs.State.{State}
-use Rattle.core_state.proofs.handles.ToOpen.{all_to_open, bit_fits, kept_from, next_bit, none_kept}
+use Rattle.core_state.proofs.handles.ToOpen.{bit_fits, next_bit}
 use Rattle.lifetime_core.proofs.opening.set_to_open.Goals.{then-not-is_doomed, else-not-is_doomed}
 use Rattle.lifetime_core.proofs.opening.set_to_open.Goals as goal
 

@@ -1,7 +1,4 @@
-use Rattle.std.proofs.Common.{◌≡◌, ◌<◌, ◌+◌, ◌^◌}
-use Rattle.sm_names.specs.Answers.{set_of}
-use Rattle.core_state.specs.Reads.{to_open_in}
-use Rattle.core_state.proofs.handles.ToOpen.{kept_from}
+use Rattle.lifetime_core.proofs.Common.{kept_from, set_of, to_open_in, ◌+◌, ◌<◌, ◌^◌, ◌≡◌}
 use Rattle.lifetime_core.proofs.opening.set_to_open.Given as goal
 
 -- the bits of those before, beside those that are still to come

@@ -1,10 +1,8 @@
-use Rattle.std.proofs.Common.{◌≡◌, ap, sym, ◌∙◌, Option, Some, None}
-use Rattle.std.specs.Option.{option_map, option_or}
+use Rattle.lifetime_core.proofs.Common.{None, Option, Some, ap, option_map, option_or, readings_of, sym, ◌∙◌, ◌≡◌}
 use Rattle.sm_names.specs.declared.messages.Reply.{Reply}
 use Rattle.sm_names.specs.declared.outcomes.Refusal.{Refusal}
 use Rattle.sm_names.specs.Answers.{limits_met, shut_client, unknown_client}
 use Rattle.sm_names.specs.Words.{first_some}
-use Rattle.core_state.specs.Reads.{readings_of}
 use Rattle.core_state.proofs.answers.Order.{lines_in_order, of_named, same_limits}
 use Rattle.lifetime_core.proofs.refusals.first_answer.Goals as goal
 

@@ -1,12 +1,11 @@
-use Rattle.std.proofs.Common.{◌≡◌, false, Some, sym}
-use Rattle.buffer_holds.specs.Counts.{total}
+use Rattle.lifetime_core.proofs.Common.{Some, false, sym, total, ◌≡◌}
 use Rattle.sm_names.specs.Trackers.{World}
 use Rattle.trackers.specs.declared.waiting.Waiting.{Waiting}
 use Rattle.trackers.specs.Table.{is_due}
 use Rattle.core_state.specs.Reads.{world_in}
 use Rattle.core_state.proofs.firing.Sweeps.{none_swept}
-use Rattle.lifetime_core.proofs.sweeping.sweep.Goals as goal
 use Rattle.event_laws.proofs.NumberLaws.{In-all}
+use Rattle.lifetime_core.proofs.sweeping.sweep.Goals as goal
 
 -- where no collection is concerned, none is due
 pub returns-in_default : goal.returns-in_default

@@ -1,5 +1,5 @@
 -- Each goal that is proved at once by the tactic that is named.
-use Rattle.std.proofs.Common.{rules}
+use Rattle.lifetime_core.proofs.Common.{rules}
 use Rattle.lifetime_core.proofs.task.make_change.Goals as goal
 
 pub settle_drop-requires-clause-pool : goal.settle_drop-requires-clause-pool

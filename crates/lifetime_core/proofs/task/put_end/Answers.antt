@@ -1,5 +1,4 @@
-use Rattle.std.proofs.Common.{◌≡◌, refl, ap, subst, Option, Some, None, is_some}
-use Rattle.std.specs.Option.{option_or}
+use Rattle.lifetime_core.proofs.Common.{None, Option, Some, ap, is_some, option_or, refl, subst, ◌≡◌}
 use Rattle.forest_store.specs.Forest.{Forest, SameKeys}
 use Rattle.core_state.specs.declared.task.EndPlace.{EndPlace}
 use Rattle.core_state.specs.declared.task.EventTask.{EventTask}

@@ -1,5 +1,5 @@
 -- Each goal that is proved at once by the tactic that is named.
-use Rattle.std.proofs.Common.{rules}
+use Rattle.lifetime_core.proofs.Common.{rules}
 use Rattle.lifetime_core.proofs.task.task_of.Goals as goal
 
 pub done_task-requires-clause-node : goal.done_task-requires-clause-node

@@ -1,5 +1,4 @@
-use Rattle.std.proofs.Common.{append_assoc, arith}
-use Rattle.std.proofs.lemmas.Grind.{common_steps}
+use Rattle.outcome_texts.proofs.Common.{append_assoc, arith, common_steps}
 use Rattle.outcome_texts.proofs.Calling.{calls_next}
 use Rattle.outcome_texts.proofs.calls.calls_in.Goals as goal
 

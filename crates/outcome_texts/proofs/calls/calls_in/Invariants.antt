@@ -1,5 +1,4 @@
-use Rattle.std.proofs.Common.{◌≡◌, ◌++◌, [], take, drop}
-use Rattle.outcome_texts.specs.Calls.{calls_from}
+use Rattle.outcome_texts.proofs.Common.{[], calls_from, drop, take, ◌++◌, ◌≡◌}
 use Rattle.outcome_texts.proofs.calls.calls_in.Given as goal
 
 -- the calls so far, with those of the turns that are left, are all

@@ -1,7 +1,5 @@
-use Rattle.std.proofs.Common.{◌∙◌, ◌++◌, ◌+◌, drop, take, append_assoc, append-nil, ap, sym, arith, length-drop, length-take}
-use Rattle.std.proofs.lemmas.List.{take_rest}
-use Rattle.script_lines.specs.Pieces.{whole_lines}
-use Rattle.outcome_texts.specs.ClaimLines.{claim_text_of, claim_texts_from, texts_in}
+use Rattle.outcome_texts.proofs.Common.{ap, append-nil, append_assoc, arith, claim_text_of, claim_texts_from, drop, length-drop}
+use Rattle.outcome_texts.proofs.Common.{length-take, sym, take, take_rest, texts_in, whole_lines, ◌++◌, ◌+◌, ◌∙◌}
 use Rattle.outcome_texts.proofs.Claiming.{texts_first, texts_none}
 use Rattle.outcome_texts.proofs.claims.claim_texts.Goals as goal
 

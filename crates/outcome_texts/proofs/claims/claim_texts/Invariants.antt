@@ -1,7 +1,5 @@
-use Rattle.std.proofs.Common.{◌≡◌, ◌++◌, ◌+◌, ◌≤◌, length}
-use Rattle.script_lines.specs.declared.TheConstants.{MOST_BYTES}
-use Rattle.script_lines.specs.Pieces.{whole_lines}
-use Rattle.outcome_texts.specs.ClaimLines.{claim_texts_from, claim_texts_of, texts_in}
+use Rattle.outcome_texts.proofs.Common.{MOST_BYTES, claim_texts_from, length, texts_in, whole_lines, ◌++◌, ◌+◌, ◌≡◌, ◌≤◌}
+use Rattle.outcome_texts.specs.ClaimLines.{claim_texts_of}
 use Rattle.outcome_texts.proofs.claims.claim_texts.Given as goal
 
 -- the claims so far, with those of the lines that are left, are all; no more lines came than bytes

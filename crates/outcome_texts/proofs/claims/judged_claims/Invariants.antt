@@ -1,5 +1,5 @@
-use Rattle.std.proofs.Common.{◌≡◌, drop}
-use Rattle.outcome_texts.specs.ClaimLines.{claims_in, judged, put_before, texts_in}
+use Rattle.outcome_texts.proofs.Common.{drop, texts_in, ◌≡◌}
+use Rattle.outcome_texts.specs.ClaimLines.{claims_in, judged, put_before}
 use Rattle.outcome_texts.proofs.claims.judged_claims.Given as goal
 
 -- the claims so far, before those of the lines that are left, are all

@@ -1,6 +1,5 @@
-use Rattle.std.proofs.Common.{◌≡◌}
-use Rattle.explore_model.specs.Outcomes.{ends_of}
-use Rattle.outcome_texts.specs.Facts.{any_below, has_fired}
+use Rattle.outcome_texts.proofs.Common.{any_below, ends_of, ◌≡◌}
+use Rattle.outcome_texts.specs.Facts.{has_fired}
 use Rattle.outcome_texts.proofs.facts.has_fired.Given as goal
 
 -- so far one of the actors did, or none

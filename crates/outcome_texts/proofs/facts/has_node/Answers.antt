@@ -1,5 +1,4 @@
-use Rattle.std.proofs.Common.{arith, add-one}
-use Rattle.std.proofs.lemmas.Grind.{common_steps}
+use Rattle.outcome_texts.proofs.Common.{add-one, arith, common_steps}
 use Rattle.outcome_texts.proofs.facts.has_node.Goals as goal
 
 -- one more number is below

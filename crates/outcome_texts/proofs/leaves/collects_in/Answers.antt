@@ -1,8 +1,8 @@
-use Rattle.std.proofs.Common.{◌∙◌, rules, tests}
+use Rattle.outcome_texts.proofs.Common.{Entry, ◌∙◌}
+use Rattle.std.proofs.Common.{rules, tests}
 use Rattle.std.proofs.lemmas.Iterator.{YieldsList-from_slice}
 use Rattle.std.proofs.lemmas.Iterator.Consumers.{YieldsList-from_filter, count_from_yields_List}
 use Rattle.std.proofs.lemmas.List.Sums.{length-filter}
-use Rattle.sm_names.specs.Marks.{Entry}
 use Rattle.outcome_texts.specs.Leaves.{is_collect}
 use Rattle.outcome_texts.proofs.leaves.collects_in.Goals as goal
 

@@ -1,7 +1,5 @@
-use Rattle.std.proofs.Common.{◌∙◌, ap}
-use Rattle.std.specs.List.{position}
-use Rattle.sm_names.specs.Marks.{Entry}
-use Rattle.outcome_texts.specs.Leaves.{brings_node, label_told}
+use Rattle.outcome_texts.proofs.Common.{Entry, ap, label_told, position, ◌∙◌}
+use Rattle.outcome_texts.specs.Leaves.{brings_node}
 use Rattle.outcome_texts.proofs.leaves.node_label.Goals as goal
 
 -- by the call that made it

@@ -1,4 +1,4 @@
-use Rattle.std.proofs.Common.{◌≡◌, drop}
+use Rattle.outcome_texts.proofs.Common.{drop, ◌≡◌}
 use Rattle.outcome_texts.specs.Lines.{actor_line}
 use Rattle.outcome_texts.proofs.lines.line_at.Given as goal
 

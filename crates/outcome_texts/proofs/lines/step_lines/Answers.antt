@@ -1,7 +1,5 @@
-use Rattle.std.proofs.Common.{◌∙◌, ◌++◌, ◌+◌, drop, take, append_assoc, append-nil, ap, sym, arith, length-drop, length-take}
-use Rattle.std.proofs.lemmas.List.{take_rest}
-use Rattle.script_lines.specs.Pieces.{whole_lines}
-use Rattle.outcome_texts.specs.Lines.{number_and_line, steps_from, steps_in}
+use Rattle.outcome_texts.proofs.Common.{ap, append-nil, append_assoc, arith, drop, length-drop, length-take, number_and_line, steps_from}
+use Rattle.outcome_texts.proofs.Common.{steps_in, sym, take, take_rest, whole_lines, ◌++◌, ◌+◌, ◌∙◌}
 use Rattle.outcome_texts.proofs.Stepping.{steps_first, steps_none}
 use Rattle.outcome_texts.proofs.lines.step_lines.Goals as goal
 

@@ -1,7 +1,5 @@
-use Rattle.std.proofs.Common.{◌≡◌, ◌++◌, ◌+◌, ◌≤◌, length}
-use Rattle.script_lines.specs.declared.TheConstants.{MOST_BYTES}
-use Rattle.script_lines.specs.Pieces.{whole_lines}
-use Rattle.outcome_texts.specs.Lines.{step_lines_of, steps_from, steps_in}
+use Rattle.outcome_texts.proofs.Common.{MOST_BYTES, length, steps_from, steps_in, whole_lines, ◌++◌, ◌+◌, ◌≡◌, ◌≤◌}
+use Rattle.outcome_texts.specs.Lines.{step_lines_of}
 use Rattle.outcome_texts.proofs.lines.step_lines.Given as goal
 
 -- the steps so far, with those of the lines that are left, are all; no more lines came than bytes

@@ -1,5 +1,4 @@
-use Rattle.std.proofs.Common.{arith, add-one, append_assoc}
-use Rattle.std.proofs.lemmas.Grind.{common_steps}
+use Rattle.outcome_texts.proofs.Common.{add-one, append_assoc, arith, common_steps}
 use Rattle.outcome_texts.proofs.list.push_actors.Goals as goal
 
 -- one more comes last

@@ -1,5 +1,4 @@
-use Rattle.std.proofs.Common.{◌≡◌, ◌++◌}
-use Rattle.explore_model.specs.Outcomes.{ends_of}
+use Rattle.outcome_texts.proofs.Common.{ends_of, ◌++◌, ◌≡◌}
 use Rattle.outcome_texts.specs.Lists.{actors_lines}
 use Rattle.outcome_texts.proofs.list.push_actors.Given as goal
 

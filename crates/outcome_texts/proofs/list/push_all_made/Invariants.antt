@@ -1,5 +1,4 @@
-use Rattle.std.proofs.Common.{◌≡◌, ◌++◌, take}
-use Rattle.std.specs.List.{flat_map}
+use Rattle.outcome_texts.proofs.Common.{flat_map, take, ◌++◌, ◌≡◌}
 use Rattle.outcome_texts.specs.Lists.{made_line}
 use Rattle.outcome_texts.proofs.list.push_all_made.Given as goal
 

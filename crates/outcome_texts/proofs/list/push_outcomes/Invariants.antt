@@ -1,4 +1,4 @@
-use Rattle.std.proofs.Common.{◌≡◌, ◌++◌}
+use Rattle.outcome_texts.proofs.Common.{◌++◌, ◌≡◌}
 use Rattle.outcome_texts.specs.Lists.{all_lines}
 use Rattle.outcome_texts.proofs.list.push_outcomes.Given as goal
 

@@ -1,5 +1,5 @@
-use Rattle.std.proofs.Common.{◌≡◌, Some}
-use Rattle.outcome_texts.specs.Facts.{any_below, is_meant}
+use Rattle.outcome_texts.proofs.Common.{Some, any_below, ◌≡◌}
+use Rattle.outcome_texts.specs.Facts.{is_meant}
 use Rattle.outcome_texts.proofs.makers.has_client.Given as goal
 
 -- so far one of the clients is meant, or none

@@ -1,5 +1,5 @@
-use Rattle.std.proofs.Common.{◌≡◌, ◌≤◌}
-use Rattle.outcome_texts.specs.Facts.{count_below, is_maker}
+use Rattle.outcome_texts.proofs.Common.{count_below, ◌≡◌, ◌≤◌}
+use Rattle.outcome_texts.specs.Facts.{is_maker}
 use Rattle.outcome_texts.proofs.makers.makers.Given as goal
 
 -- so many of these clients do

@@ -1,5 +1,5 @@
-use Rattle.std.proofs.Common.{◌≡◌}
-use Rattle.outcome_texts.specs.Facts.{any_below, makes_at}
+use Rattle.outcome_texts.proofs.Common.{any_below, ◌≡◌}
+use Rattle.outcome_texts.specs.Facts.{makes_at}
 use Rattle.outcome_texts.proofs.makers.makes_in.Given as goal
 
 -- so far one of the steps does, or none

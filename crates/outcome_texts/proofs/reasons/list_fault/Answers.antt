@@ -1,7 +1,7 @@
-use Rattle.std.proofs.Common.{List, ℕ, ap, map, subst, ◌∙◌}
+use Rattle.outcome_texts.proofs.Common.{Bor, List, ap, map, ℕ, ◌∙◌}
+use Rattle.std.proofs.Common.{subst}
 use Rattle.outcome_texts.specs.Reasons.{IsListFault}
 use Rattle.outcome_texts.proofs.reasons.list_fault.Goals as goal
-use denote.Ref.{Bor}
 
 -- the words are those of the list
 pub returns : goal.returns

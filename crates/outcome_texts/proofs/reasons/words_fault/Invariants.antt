@@ -1,4 +1,4 @@
-use Rattle.std.proofs.Common.{◌≡◌, drop, map}
+use Rattle.outcome_texts.proofs.Common.{drop, map, ◌≡◌}
 use Rattle.outcome_texts.specs.Reasons.{words_fault}
 use Rattle.outcome_texts.proofs.reasons.words_fault.Given as goal
 

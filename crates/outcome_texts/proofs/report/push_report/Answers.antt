@@ -1,4 +1,4 @@
-use Rattle.std.proofs.lemmas.Result.{on_ok_weaker}
+use Rattle.outcome_texts.proofs.Common.{on_ok_weaker}
 use Rattle.outcome_texts.proofs.report.push_report.Goals as goal
 
 pub returns : goal.returns

@@ -1,4 +1,4 @@
-use Rattle.std.proofs.Common.{◌≡◌, take}
+use Rattle.outcome_texts.proofs.Common.{take, ◌≡◌}
 use Rattle.std.specs.List.{fold}
 use Rattle.outcome_texts.specs.Reports.{more_steps}
 use Rattle.outcome_texts.proofs.report.steps_in.Given as goal

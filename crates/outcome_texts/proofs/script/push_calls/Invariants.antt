@@ -1,4 +1,4 @@
-use Rattle.std.proofs.Common.{◌≡◌, ◌++◌, take}
+use Rattle.outcome_texts.proofs.Common.{take, ◌++◌, ◌≡◌}
 use Rattle.outcome_texts.specs.Scripts.{calls_text}
 use Rattle.outcome_texts.proofs.script.push_calls.Given as goal
 

@@ -1,5 +1,4 @@
-use Rattle.std.proofs.Common.{◌≡◌, ◌++◌, take}
-use Rattle.outcome_texts.specs.Plays.{joins_text}
+use Rattle.outcome_texts.proofs.Common.{joins_text, take, ◌++◌, ◌≡◌}
 use Rattle.outcome_texts.proofs.script.push_joins.Given as goal
 
 -- so far the joins of these clients

@@ -1,9 +1,6 @@
-use Rattle.std.proofs.Common.{◌∙◌, ◌++◌, ℕ, List, ap}
-use Rattle.std.proofs.lemmas.Result.{on_ok_weaker}
+use Rattle.outcome_texts.proofs.Common.{List, PlayCall, ap, joins_text, on_ok_weaker, ℕ, ◌++◌, ◌∙◌}
 use Rattle.outcome_texts.specs.Calls.{calls_told}
-use Rattle.outcome_texts.specs.Plays.{joins_text}
 use Rattle.outcome_texts.specs.Scripts.{head_text, marked_text}
-use Rattle.outcome_texts.specs.declared.calls.PlayCall.{PlayCall}
 use Rattle.outcome_texts.proofs.Joining.{three_behind}
 use Rattle.outcome_texts.proofs.script.push_play.Goals as goal
 

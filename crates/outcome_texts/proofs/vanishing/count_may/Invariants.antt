@@ -1,5 +1,4 @@
-use Rattle.std.proofs.Common.{◌≡◌, ◌≤◌}
-use Rattle.outcome_texts.specs.Facts.{count_below}
+use Rattle.outcome_texts.proofs.Common.{count_below, ◌≡◌, ◌≤◌}
 use Rattle.outcome_texts.specs.Vanishing.{may_vanish}
 use Rattle.outcome_texts.proofs.vanishing.count_may.Given as goal
 

@@ -1,5 +1,4 @@
-use Rattle.std.proofs.Common.{◌≡◌, ◌++◌, take}
-use Rattle.std.specs.List.{flat_map}
+use Rattle.outcome_texts.proofs.Common.{flat_map, take, ◌++◌, ◌≡◌}
 use Rattle.outcome_texts.specs.Vanishing.{also_text}
 use Rattle.outcome_texts.proofs.vanishing.push_others.Given as goal
 

@@ -1,4 +1,4 @@
-use Rattle.std.proofs.Common.{◌≡◌, ◌++◌}
+use Rattle.outcome_texts.proofs.Common.{◌++◌, ◌≡◌}
 use Rattle.outcome_texts.specs.Vanishing.{whom_below}
 use Rattle.outcome_texts.proofs.vanishing.push_whom.Given as goal
 

@@ -1,7 +1,6 @@
-use Rattle.std.proofs.Common.{◌∙◌, ◌++◌, [], ℕ, List, Option, ap}
-use Rattle.std.proofs.lemmas.Result.{on_ok_weaker}
+use Rattle.outcome_texts.proofs.Common.{List, PlayCall, [], ap, on_ok_weaker, ℕ, ◌++◌, ◌∙◌}
+use Rattle.std.proofs.Common.{Option}
 use Rattle.std.specs.Option.{option_map_or}
-use Rattle.outcome_texts.specs.declared.calls.PlayCall.{PlayCall}
 use Rattle.outcome_texts.specs.Verdicts.{call_numbered, decision_text}
 use Rattle.outcome_texts.proofs.verdicts.push_decided.Goals as goal
 

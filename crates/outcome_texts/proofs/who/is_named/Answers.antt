@@ -1,7 +1,5 @@
-use Rattle.std.proofs.Common.{◌∙◌, List, ℕ, ap, map}
-use Rattle.script_lines.specs.ClientLists.{is_among}
+use Rattle.outcome_texts.proofs.Common.{Bor, List, ap, is_among, map, ℕ, ◌∙◌}
 use Rattle.outcome_texts.proofs.who.is_named.Goals as goal
-use denote.Ref.{Bor}
 
 -- the words are those of the list
 pub returns : goal.returns

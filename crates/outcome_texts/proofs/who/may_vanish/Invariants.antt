@@ -1,5 +1,4 @@
-use Rattle.std.proofs.Common.{◌≡◌, take}
-use Rattle.outcome_texts.specs.ClaimLines.{may_vanish, texts_in}
+use Rattle.outcome_texts.proofs.Common.{may_vanish, take, texts_in, ◌≡◌}
 use Rattle.outcome_texts.proofs.who.may_vanish.Given as goal
 
 -- so far one of the lines lets the client vanish, or none

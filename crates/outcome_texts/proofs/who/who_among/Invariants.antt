@@ -1,5 +1,4 @@
-use Rattle.std.proofs.Common.{◌≡◌, map, take}
-use Rattle.script_lines.specs.ClientLists.{is_among}
+use Rattle.outcome_texts.proofs.Common.{is_among, map, take, ◌≡◌}
 use Rattle.outcome_texts.proofs.who.who_among.Given as goal
 
 -- so far who of these clients is in the list

@@ -1,5 +1,4 @@
-use Rattle.std.proofs.Common.{◌≡◌, map, take}
-use Rattle.outcome_texts.specs.ClaimLines.{may_vanish, texts_in}
+use Rattle.outcome_texts.proofs.Common.{map, may_vanish, take, texts_in, ◌≡◌}
 use Rattle.outcome_texts.proofs.who.who_in.Given as goal
 
 -- so far who of these clients may

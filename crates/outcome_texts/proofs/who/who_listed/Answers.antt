@@ -1,8 +1,7 @@
-use Rattle.std.proofs.Common.{◌∙◌, List, ℕ, ap, map}
+use Rattle.outcome_texts.proofs.Common.{Bor, List, ap, is_among, map, ℕ, ◌∙◌}
 use Rattle.std.proofs.lemmas.Result.{IfOk-weaker}
-use Rattle.script_lines.specs.ClientLists.{is_among, listed}
+use Rattle.script_lines.specs.ClientLists.{listed}
 use Rattle.outcome_texts.proofs.who.who_listed.Goals as goal
-use denote.Ref.{Bor}
 
 -- the words are those of the list
 pub returns : goal.returns

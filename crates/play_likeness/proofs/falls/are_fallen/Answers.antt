@@ -1,7 +1,4 @@
-use Rattle.std.proofs.Common.{None, ◌≡◌, ◌<◌, ◌≤◌, arith, length, refl}
-use Rattle.sm_names.specs.Elements.{In}
-use Rattle.actor_plays.specs.declared.falls.GoneNode.{GoneNode}
-use Rattle.core_likeness.specs.Naming.{new_key}
+use Rattle.play_likeness.proofs.Common.{GoneNode, In, None, arith, length, new_key, refl, ◌<◌, ◌≡◌, ◌≤◌}
 use Rattle.play_likeness.proofs.Listed.{each-all, each-more}
 use Rattle.play_likeness.proofs.falls.are_fallen.Goals as goal
 

@@ -1,7 +1,4 @@
-use Rattle.std.proofs.Common.{◌≡◌, take}
-use Rattle.sm_names.specs.Elements.{In}
-use Rattle.actor_plays.specs.declared.falls.GoneNode.{GoneNode}
-use Rattle.core_likeness.specs.Naming.{new_key}
+use Rattle.play_likeness.proofs.Common.{GoneNode, In, new_key, take, ◌≡◌}
 use Rattle.play_likeness.proofs.falls.are_fallen.Given as goal
 
 -- so far each is one of the ones

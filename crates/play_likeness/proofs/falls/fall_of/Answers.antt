@@ -1,8 +1,7 @@
-use Rattle.std.proofs.Common.{◌∙◌, rules, tests}
+use Rattle.play_likeness.proofs.Common.{GoneNode, same_key, ◌∙◌}
+use Rattle.std.proofs.Common.{rules, tests}
 use Rattle.std.proofs.lemmas.Iterator.{YieldsList-from_slice}
 use Rattle.std.proofs.lemmas.Iterator.Search.{find_from_yields_List}
-use Rattle.sm_names.specs.Sameness.{same_key}
-use Rattle.actor_plays.specs.declared.falls.GoneNode.{GoneNode}
 use Rattle.play_likeness.proofs.falls.fall_of.Goals as goal
 
 -- the call finds the first that passes

@@ -1,6 +1,4 @@
-use Rattle.std.proofs.Common.{refl}
-use Rattle.core_likeness.specs.Naming.{new_key}
-use Rattle.core_likeness.proofs.Swapping.{keys-apart}
+use Rattle.play_likeness.proofs.Common.{keys-apart, new_key, refl}
 use Rattle.alike_plays.proofs.Losses.{fell-alike}
 use Rattle.play_likeness.proofs.falls.falls_alike.Goals as goal
 

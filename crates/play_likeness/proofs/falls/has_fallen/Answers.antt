@@ -1,6 +1,4 @@
-use Rattle.std.proofs.Common.{◌<◌, None, arith, get_or, length, refl, sym}
-use Rattle.sm_names.proofs.ListLaws.{In-get_or}
-use Rattle.actor_plays.specs.declared.falls.GoneNode.{GoneNode}
+use Rattle.play_likeness.proofs.Common.{GoneNode, In-get_or, None, arith, get_or, length, refl, sym, ◌<◌}
 use Rattle.play_likeness.proofs.falls.has_fallen.Goals as goal
 
 -- this one has the name

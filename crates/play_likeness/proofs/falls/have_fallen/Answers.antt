@@ -1,8 +1,5 @@
-use Rattle.std.proofs.Common.{◌≡◌, ◌<◌, ◌≤◌, ◌∙◌, None, Option, ap, arith, length, option_map, refl, sym}
-use Rattle.actor_plays.specs.declared.falls.GoneNode.{GoneNode}
-use Rattle.actor_plays.specs.Fates.{fault_fallen}
-use Rattle.alike_plays.specs.Falls.{fall_renamed}
-use Rattle.core_likeness.specs.Naming.{new_key}
+use Rattle.play_likeness.proofs.Common.{GoneNode, None, Option, ap, arith, fall_renamed, fault_fallen, length, new_key, option_map, refl}
+use Rattle.play_likeness.proofs.Common.{sym, ◌<◌, ◌∙◌, ◌≡◌, ◌≤◌}
 use Rattle.play_likeness.proofs.Listed.{each-all, each-more}
 use Rattle.play_likeness.proofs.falls.have_fallen.Goals as goal
 

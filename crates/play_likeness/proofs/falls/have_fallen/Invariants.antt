@@ -1,9 +1,4 @@
-use Rattle.std.proofs.Common.{◌≡◌, option_map, take}
-use Rattle.sm_names.specs.Elements.{In}
-use Rattle.actor_plays.specs.declared.falls.GoneNode.{GoneNode}
-use Rattle.actor_plays.specs.Fates.{fault_fallen}
-use Rattle.alike_plays.specs.Falls.{fall_renamed}
-use Rattle.core_likeness.specs.Naming.{new_key}
+use Rattle.play_likeness.proofs.Common.{GoneNode, In, fall_renamed, fault_fallen, new_key, option_map, take, ◌≡◌}
 use Rattle.play_likeness.proofs.falls.have_fallen.Given as goal
 
 -- so far each fell alike

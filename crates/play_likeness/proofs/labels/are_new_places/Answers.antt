@@ -1,7 +1,5 @@
-use Rattle.std.proofs.Common.{ℕ, ◌≡◌, ◌<◌, ◌≤◌, ◌∙◌, ap, arith, length, option_map, refl, sym}
-use Rattle.actor_scripts.specs.Tables.{known}
-use Rattle.alike_plays.specs.Actors.{place_renamed}
-use Rattle.core_likeness.specs.Naming.{new_id, new_key}
+use Rattle.play_likeness.proofs.Common.{ap, arith, known, length, new_id, new_key, option_map, place_renamed, refl, sym, ℕ, ◌<◌, ◌∙◌, ◌≡◌}
+use Rattle.play_likeness.proofs.Common.{◌≤◌}
 use Rattle.play_likeness.proofs.Listed.{each-all, each-more}
 use Rattle.play_likeness.proofs.labels.are_new_places.Goals as goal
 

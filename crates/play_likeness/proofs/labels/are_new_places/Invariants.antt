@@ -1,8 +1,4 @@
-use Rattle.std.proofs.Common.{ℕ, ◌≡◌, option_map, take}
-use Rattle.sm_names.specs.Elements.{In}
-use Rattle.actor_scripts.specs.Tables.{known}
-use Rattle.alike_plays.specs.Actors.{place_renamed}
-use Rattle.core_likeness.specs.Naming.{new_id, new_key}
+use Rattle.play_likeness.proofs.Common.{In, known, new_id, new_key, option_map, place_renamed, take, ℕ, ◌≡◌}
 use Rattle.play_likeness.proofs.labels.are_new_places.Given as goal
 
 -- so far each label stands for the same

@@ -1,7 +1,4 @@
-use Rattle.std.proofs.Common.{ℕ, ◌≡◌, option_map, take}
-use Rattle.sm_names.specs.Elements.{In}
-use Rattle.actor_scripts.specs.Tables.{known}
-use Rattle.core_likeness.specs.Naming.{new_number}
+use Rattle.play_likeness.proofs.Common.{In, known, new_number, option_map, take, ℕ, ◌≡◌}
 use Rattle.play_likeness.proofs.labels.are_new_trackers.Given as goal
 
 -- so far each label stands for the same

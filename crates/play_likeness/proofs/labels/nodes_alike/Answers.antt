@@ -1,8 +1,4 @@
-use Rattle.std.proofs.Common.{ℕ, ◌≡◌, List, option_map, refl, subst}
-use Rattle.sm_names.specs.Elements.{In}
-use Rattle.actor_scripts.specs.Tables.{known}
-use Rattle.alike_plays.specs.Actors.{place_renamed}
-use Rattle.core_likeness.specs.Naming.{new_id, new_key}
+use Rattle.play_likeness.proofs.Common.{In, List, known, new_id, new_key, option_map, place_renamed, refl, subst, ℕ, ◌≡◌}
 use Rattle.play_likeness.proofs.KnownLaws.{labels-alike}
 use Rattle.play_likeness.proofs.labels.nodes_alike.Goals as goal
 

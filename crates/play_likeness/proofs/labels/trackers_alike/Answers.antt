@@ -1,7 +1,4 @@
-use Rattle.std.proofs.Common.{ℕ, ◌≡◌, List, option_map, refl, subst}
-use Rattle.sm_names.specs.Elements.{In}
-use Rattle.actor_scripts.specs.Tables.{known}
-use Rattle.core_likeness.specs.Naming.{new_number}
+use Rattle.play_likeness.proofs.Common.{In, List, known, new_number, option_map, refl, subst, ℕ, ◌≡◌}
 use Rattle.play_likeness.proofs.KnownLaws.{labels-alike}
 use Rattle.play_likeness.proofs.labels.trackers_alike.Goals as goal
 

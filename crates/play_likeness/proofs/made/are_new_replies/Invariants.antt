@@ -1,6 +1,4 @@
-use Rattle.std.proofs.Common.{◌≡◌, map, take}
-use Rattle.alike_plays.specs.Actors.{made_renamed}
-use Rattle.core_likeness.specs.Naming.{new_id, new_key, new_number}
+use Rattle.play_likeness.proofs.Common.{made_renamed, map, new_id, new_key, new_number, take, ◌≡◌}
 use Rattle.play_likeness.proofs.made.are_new_replies.Given as goal
 
 -- so far the replies are the ones

@@ -1,5 +1,4 @@
-use Rattle.std.proofs.Common.{◌≡◌, take}
-use Rattle.alike_plays.specs.Actors.{made_of}
+use Rattle.play_likeness.proofs.Common.{made_of, take, ◌≡◌}
 use Rattle.play_likeness.proofs.made.making.Given as goal
 
 -- so far those of these

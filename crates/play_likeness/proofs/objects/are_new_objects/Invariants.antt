@@ -1,6 +1,4 @@
-use Rattle.std.proofs.Common.{◌≡◌, map, take}
-use Rattle.alike_plays.specs.Actors.{object_renamed}
-use Rattle.core_likeness.specs.Naming.{new_id, new_key}
+use Rattle.play_likeness.proofs.Common.{map, new_id, new_key, object_renamed, take, ◌≡◌}
 use Rattle.play_likeness.proofs.objects.are_new_objects.Given as goal
 
 -- so far the objects are the ones

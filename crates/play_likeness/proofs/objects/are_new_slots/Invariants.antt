@@ -1,6 +1,4 @@
-use Rattle.std.proofs.Common.{◌≡◌, map, option_map, take}
-use Rattle.alike_plays.specs.Actors.{object_renamed}
-use Rattle.core_likeness.specs.Naming.{new_id, new_key}
+use Rattle.play_likeness.proofs.Common.{map, new_id, new_key, object_renamed, option_map, take, ◌≡◌}
 use Rattle.play_likeness.proofs.objects.are_new_slots.Given as goal
 
 -- so far what lies in the slots is the same

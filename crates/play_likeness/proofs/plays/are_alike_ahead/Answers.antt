@@ -1,11 +1,6 @@
-use Rattle.std.proofs.Common.{◌<◌, ◌≤◌, List, Ok, ap, arith, get_or, length, map, subst, sym}
+use Rattle.play_likeness.proofs.Common.{Actor, AreAlikeAll, AreAlikeStages, List, Ok, Stage, ahead_of, ap, arith, get_or, length, map}
+use Rattle.play_likeness.proofs.Common.{new_id, new_key, new_number, stage_of, subst, sym, ◌<◌, ◌≤◌}
 use Rattle.sm_names.proofs.ListLaws.{map-map}
-use Rattle.actor_plays.specs.declared.actor.Actor.{Actor}
-use Rattle.actor_plays.specs.Plays.{Stage, stage_of}
-use Rattle.alike_plays.specs.Actors.{AreAlikeStages}
-use Rattle.alike_plays.specs.Ahead.{ahead_of}
-use Rattle.alike_plays.specs.AlikePlays.{AreAlikeAll}
-use Rattle.core_likeness.specs.Naming.{new_id, new_key, new_number}
 use Rattle.play_likeness.proofs.StageLaws.{all-done, all-more}
 use Rattle.play_likeness.proofs.plays.are_alike_ahead.Goals as goal
 

@@ -1,9 +1,4 @@
-use Rattle.std.proofs.Common.{map, take}
-use Rattle.actor_plays.specs.declared.actor.Actor.{Actor}
-use Rattle.actor_plays.specs.Plays.{stage_of}
-use Rattle.alike_plays.specs.Ahead.{ahead_of}
-use Rattle.alike_plays.specs.AlikePlays.{AreAlikeAll}
-use Rattle.core_likeness.specs.Naming.{new_id, new_key, new_number}
+use Rattle.play_likeness.proofs.Common.{Actor, AreAlikeAll, ahead_of, map, new_id, new_key, new_number, stage_of, take}
 use Rattle.play_likeness.proofs.plays.are_alike_ahead.Given as goal
 
 -- so far the actors have the same ahead

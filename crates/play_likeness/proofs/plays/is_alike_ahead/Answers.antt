@@ -1,6 +1,5 @@
-use Rattle.actor_plays.specs.Plays.{stage_of}
+use Rattle.play_likeness.proofs.Common.{new_id, new_key, new_number, stage_of}
 use Rattle.alike_plays.proofs.Ahead.{ahead-alike}
-use Rattle.core_likeness.specs.Naming.{new_id, new_key, new_number}
 use Rattle.play_likeness.proofs.plays.is_alike_ahead.Goals as goal
 
 -- both leave

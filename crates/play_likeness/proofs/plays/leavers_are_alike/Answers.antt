@@ -1,9 +1,8 @@
-use Rattle.std.proofs.Common.{[], ◌∙◌, Ok, ap, drop, map, option_map, sym}
-use Rattle.actor_plays.specs.Leaves.{all_objects, vanish_of}
-use Rattle.actor_plays.specs.Plays.{stage_of}
-use Rattle.alike_plays.specs.Actors.{made_of, made_renamed, object_renamed}
+use Rattle.play_likeness.proofs.Common.{Ok, [], ap, made_of, made_renamed, map, new_id, new_key, new_number, object_renamed, option_map}
+use Rattle.play_likeness.proofs.Common.{stage_of, sym, vanish_of, ◌∙◌}
+use Rattle.std.proofs.Common.{drop}
+use Rattle.actor_plays.specs.Leaves.{all_objects}
 use Rattle.alike_plays.proofs.Ahead.{going-alike}
-use Rattle.core_likeness.specs.Naming.{new_id, new_key, new_number}
 use Rattle.play_likeness.proofs.plays.leavers_are_alike.Goals as goal
 
 -- what they have still to do is the same

@@ -1,14 +1,9 @@
-use Rattle.std.proofs.Common.{◌≡◌, List, Ok, ap, map, refl, subst, true}
+use Rattle.play_likeness.proofs.Common.{Actor, AreAlikeAll, GoneNode, List, Ok, ahead_of, ap, ids-apart, keys-apart, map, new_id, new_key}
+use Rattle.play_likeness.proofs.Common.{new_number, refl, stage_of, subst, true, ◌≡◌}
 use Rattle.core_state.specs.State.{State}
-use Rattle.actor_plays.specs.declared.actor.Actor.{Actor}
-use Rattle.actor_plays.specs.declared.falls.GoneNode.{GoneNode}
-use Rattle.actor_plays.specs.Plays.{stage_of}
 use Rattle.alike_cores.specs.Cores.{AreAlikeCores}
-use Rattle.alike_plays.specs.Ahead.{ahead_of}
-use Rattle.alike_plays.specs.AlikePlays.{AreAlikeAll}
 use Rattle.alike_plays.specs.Falls.{FellAlike}
-use Rattle.core_likeness.specs.Naming.{new_id, new_key, new_number}
-use Rattle.core_likeness.proofs.Swapping.{ids-apart, keys-apart, numbers-apart}
+use Rattle.core_likeness.proofs.Swapping.{numbers-apart}
 use Rattle.play_likeness.proofs.plays.plays_are_alike.Goals as goal
 
 -- under the names that the replies tell

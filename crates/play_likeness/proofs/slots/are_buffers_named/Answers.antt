@@ -1,8 +1,4 @@
-use Rattle.std.proofs.Common.{◌≡◌, ◌<◌, ◌≤◌, arith, length, refl}
-use Rattle.sm_names.specs.declared.keys.BufferName.{BufferName}
-use Rattle.sm_names.specs.Elements.{In}
-use Rattle.alike_cores.specs.Renamed.{buffer_renamed}
-use Rattle.core_likeness.specs.Naming.{new_id}
+use Rattle.play_likeness.proofs.Common.{BufferName, In, arith, buffer_renamed, length, new_id, refl, ◌<◌, ◌≡◌, ◌≤◌}
 use Rattle.play_likeness.proofs.Listed.{each-all, each-more}
 use Rattle.play_likeness.proofs.slots.are_buffers_named.Goals as goal
 

@@ -1,8 +1,4 @@
-use Rattle.std.proofs.Common.{◌≡◌, take}
-use Rattle.sm_names.specs.declared.keys.BufferName.{BufferName}
-use Rattle.sm_names.specs.Elements.{In}
-use Rattle.alike_cores.specs.Renamed.{buffer_renamed}
-use Rattle.core_likeness.specs.Naming.{new_id}
+use Rattle.play_likeness.proofs.Common.{BufferName, In, buffer_renamed, new_id, take, ◌≡◌}
 use Rattle.play_likeness.proofs.slots.are_buffers_named.Given as goal
 
 -- so far each is a new name

@@ -1,7 +1,4 @@
-use Rattle.std.proofs.Common.{◌≡◌, take}
-use Rattle.sm_names.specs.declared.keys.NodeKey.{NodeKey}
-use Rattle.sm_names.specs.Elements.{In}
-use Rattle.core_likeness.specs.Naming.{new_key}
+use Rattle.play_likeness.proofs.Common.{In, NodeKey, new_key, take, ◌≡◌}
 use Rattle.play_likeness.proofs.slots.are_named.Given as goal
 
 -- so far each is a new name

@@ -1,4 +1,4 @@
-use Rattle.std.proofs.Common.{◌≡◌, take}
+use Rattle.play_likeness.proofs.Common.{take, ◌≡◌}
 use Rattle.play_likeness.proofs.slots.are_same.Given as goal
 
 -- so far the slots are the same

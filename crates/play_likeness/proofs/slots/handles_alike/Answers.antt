@@ -1,10 +1,4 @@
-use Rattle.std.proofs.Common.{◌≡◌, List, [], refl, subst}
-use Rattle.sm_names.specs.declared.keys.BufferName.{BufferName}
-use Rattle.sm_names.specs.Elements.{In}
-use Rattle.actor_scripts.specs.Tables.{known}
-use Rattle.alike_cores.specs.Renamed.{buffer_renamed}
-use Rattle.core_likeness.specs.Naming.{new_id}
-use Rattle.core_likeness.proofs.Swapping.{ids-apart}
+use Rattle.play_likeness.proofs.Common.{BufferName, In, List, [], buffer_renamed, ids-apart, known, new_id, refl, subst, ◌≡◌}
 use Rattle.play_likeness.proofs.KnownLaws.{buffers-alike}
 use Rattle.play_likeness.proofs.slots.handles_alike.Goals as goal
 

@@ -1,6 +1,4 @@
-use Rattle.std.proofs.Common.{◌<◌, arith, get_or, length, refl, sym}
-use Rattle.sm_names.specs.declared.keys.BufferName.{BufferName}
-use Rattle.sm_names.proofs.ListLaws.{In-get_or}
+use Rattle.play_likeness.proofs.Common.{BufferName, In-get_or, arith, get_or, length, refl, sym, ◌<◌}
 use Rattle.play_likeness.proofs.slots.has_buffer_name.Goals as goal
 
 -- this one has the name

@@ -1,6 +1,4 @@
-use Rattle.std.proofs.Common.{◌<◌, arith, get_or, length, refl, sym}
-use Rattle.sm_names.specs.declared.keys.NodeKey.{NodeKey}
-use Rattle.sm_names.proofs.ListLaws.{In-get_or}
+use Rattle.play_likeness.proofs.Common.{In-get_or, NodeKey, arith, get_or, length, refl, sym, ◌<◌}
 use Rattle.play_likeness.proofs.slots.has_name.Goals as goal
 
 -- this one has the name

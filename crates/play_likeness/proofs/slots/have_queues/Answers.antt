@@ -1,8 +1,4 @@
-use Rattle.std.proofs.Common.{◌≡◌, ◌<◌, ◌≤◌, ◌∙◌, ap, arith, length, refl, sym}
-use Rattle.sm_names.specs.declared.keys.BufferName.{BufferName}
-use Rattle.actor_scripts.specs.Tables.{known}
-use Rattle.alike_cores.specs.Renamed.{buffer_renamed}
-use Rattle.core_likeness.specs.Naming.{new_id}
+use Rattle.play_likeness.proofs.Common.{BufferName, ap, arith, buffer_renamed, known, length, new_id, refl, sym, ◌<◌, ◌∙◌, ◌≡◌, ◌≤◌}
 use Rattle.play_likeness.proofs.Listed.{each-all, each-more}
 use Rattle.play_likeness.proofs.slots.have_queues.Goals as goal
 

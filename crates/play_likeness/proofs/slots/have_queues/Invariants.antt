@@ -1,9 +1,4 @@
-use Rattle.std.proofs.Common.{◌≡◌, take}
-use Rattle.sm_names.specs.declared.keys.BufferName.{BufferName}
-use Rattle.sm_names.specs.Elements.{In}
-use Rattle.actor_scripts.specs.Tables.{known}
-use Rattle.alike_cores.specs.Renamed.{buffer_renamed}
-use Rattle.core_likeness.specs.Naming.{new_id}
+use Rattle.play_likeness.proofs.Common.{BufferName, In, buffer_renamed, known, new_id, take, ◌≡◌}
 use Rattle.play_likeness.proofs.slots.have_queues.Given as goal
 
 -- so far each has the same

@@ -1,7 +1,4 @@
-use Rattle.std.proofs.Common.{◌≡◌, ◌<◌, ◌≤◌, ◌∙◌, ap, arith, length, refl, sym}
-use Rattle.sm_names.specs.declared.keys.NodeKey.{NodeKey}
-use Rattle.actor_scripts.specs.Tables.{known}
-use Rattle.core_likeness.specs.Naming.{new_key}
+use Rattle.play_likeness.proofs.Common.{NodeKey, ap, arith, known, length, new_key, refl, sym, ◌<◌, ◌∙◌, ◌≡◌, ◌≤◌}
 use Rattle.play_likeness.proofs.Listed.{each-all, each-more}
 use Rattle.play_likeness.proofs.slots.have_spots.Goals as goal
 

@@ -1,8 +1,4 @@
-use Rattle.std.proofs.Common.{◌≡◌, take}
-use Rattle.sm_names.specs.declared.keys.NodeKey.{NodeKey}
-use Rattle.sm_names.specs.Elements.{In}
-use Rattle.actor_scripts.specs.Tables.{known}
-use Rattle.core_likeness.specs.Naming.{new_key}
+use Rattle.play_likeness.proofs.Common.{In, NodeKey, known, new_key, take, ◌≡◌}
 use Rattle.play_likeness.proofs.slots.have_spots.Given as goal
 
 -- so far each has the same

@@ -1,9 +1,4 @@
-use Rattle.std.proofs.Common.{◌≡◌, List, None, refl, subst}
-use Rattle.sm_names.specs.declared.keys.NodeKey.{NodeKey}
-use Rattle.sm_names.specs.Elements.{In}
-use Rattle.actor_scripts.specs.Tables.{known}
-use Rattle.core_likeness.specs.Naming.{new_key}
-use Rattle.core_likeness.proofs.Swapping.{keys-apart}
+use Rattle.play_likeness.proofs.Common.{In, List, NodeKey, None, keys-apart, known, new_key, refl, subst, ◌≡◌}
 use Rattle.play_likeness.proofs.KnownLaws.{keys-alike}
 use Rattle.play_likeness.proofs.slots.spots_alike.Goals as goal
 

@@ -1,9 +1,5 @@
-use Rattle.std.proofs.Common.{◌≡◌, Ok, ap}
-use Rattle.sm_names.specs.declared.keys.BufferName.{BufferName}
+use Rattle.play_likeness.proofs.Common.{BufferName, Ok, ap, buffer_renamed, known, new_id, ◌≡◌}
 use Rattle.sm_names.specs.declared.keys.Strength.{Strength}
-use Rattle.actor_scripts.specs.Tables.{known}
-use Rattle.alike_cores.specs.Renamed.{buffer_renamed}
-use Rattle.core_likeness.specs.Naming.{new_id}
 use Rattle.play_likeness.proofs.stages.both_alike.Goals as goal
 
 -- by the strength

@@ -1,7 +1,6 @@
-use Rattle.std.proofs.Common.{◌∙◌, Ok, ap, arith, map, option_map, refl, sym}
-use Rattle.actor_plays.specs.Leaves.{vanish_of}
-use Rattle.alike_plays.specs.Actors.{leave_renamed, made_of, made_renamed}
-use Rattle.core_likeness.specs.Naming.{new_id, new_key, new_number}
+use Rattle.play_likeness.proofs.Common.{Ok, ap, arith, made_of, made_renamed, map, new_id, new_key, new_number, option_map, refl, sym}
+use Rattle.play_likeness.proofs.Common.{vanish_of, ◌∙◌}
+use Rattle.alike_plays.specs.Actors.{leave_renamed}
 use Rattle.play_likeness.proofs.stages.stays_alike.Goals as goal
 
 -- field by field

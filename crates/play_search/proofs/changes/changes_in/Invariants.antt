@@ -1,5 +1,5 @@
-use Rattle.std.proofs.Common.{◌≡◌, ◌+◌, ◌≤◌, length}
-use Rattle.play_search.specs.Changes.{changes, changes_behind}
+use Rattle.play_search.proofs.Common.{changes, length, ◌+◌, ◌≡◌, ◌≤◌}
+use Rattle.play_search.specs.Changes.{changes_behind}
 use Rattle.play_search.proofs.changes.changes_in.Given as goal
 
 -- the changes so far and those in the rest are all, and there is at most one for each turn

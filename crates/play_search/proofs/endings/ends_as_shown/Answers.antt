@@ -1,6 +1,5 @@
-use Rattle.std.proofs.Common.{subst, sym}
-use Rattle.sm_names.proofs.ListLaws.{In, In-get_or}
-use Rattle.explore_model.specs.declared.found.Found.{Found}
+use Rattle.play_search.proofs.Common.{Found, In, subst, sym}
+use Rattle.sm_names.proofs.ListLaws.{In-get_or}
 use Rattle.play_search.proofs.endings.ends_as_shown.Goals as goal
 
 -- it is the one at this place

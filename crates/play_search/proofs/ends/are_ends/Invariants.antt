@@ -1,5 +1,4 @@
-use Rattle.std.proofs.Common.{◌≡◌, map, take}
-use Rattle.explore_model.specs.Outcomes.{end_of}
+use Rattle.play_search.proofs.Common.{end_of, map, take, ◌≡◌}
 use Rattle.play_search.proofs.ends.are_ends.Given as goal
 
 -- so far they are the same

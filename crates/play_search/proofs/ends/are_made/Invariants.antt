@@ -1,4 +1,4 @@
-use Rattle.std.proofs.Common.{◌≡◌, take}
+use Rattle.play_search.proofs.Common.{take, ◌≡◌}
 use Rattle.play_search.proofs.ends.are_made.Given as goal
 
 -- so far they are the same

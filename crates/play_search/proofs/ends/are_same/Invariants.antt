@@ -1,4 +1,4 @@
-use Rattle.std.proofs.Common.{◌≡◌, take}
+use Rattle.play_search.proofs.Common.{take, ◌≡◌}
 use Rattle.play_search.proofs.ends.are_same.Given as goal
 
 -- so far the places are the same

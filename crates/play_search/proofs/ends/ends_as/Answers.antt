@@ -1,7 +1,4 @@
-use Rattle.std.proofs.Common.{◌∙◌, List, ap, map, refl, sym}
-use Rattle.actor_plays.specs.declared.actor.Actor.{Actor}
-use Rattle.actor_plays.specs.Plays.{stage_of}
-use Rattle.play_search.specs.Vanishings.{vanished}
+use Rattle.play_search.proofs.Common.{Actor, List, ap, map, refl, stage_of, sym, vanished, ◌∙◌}
 use Rattle.play_search.proofs.ends.ends_as.Goals as goal
 
 -- the same left before their end

@@ -1,4 +1,4 @@
-use Rattle.std.proofs.Common.{◌∙◌, ap, not}
+use Rattle.play_search.proofs.Common.{ap, not, ◌∙◌}
 use Rattle.sm_names.proofs.SamenessLaws.{none_is}
 use Rattle.play_search.proofs.exploring.certainty_of.Goals as goal
 

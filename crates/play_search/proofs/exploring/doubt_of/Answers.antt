@@ -1,5 +1,4 @@
-use Rattle.std.proofs.Common.{ℕ, subst, sym}
-use Rattle.play_search.specs.Closing.{AreAllMet}
+use Rattle.play_search.proofs.Common.{AreAllMet, subst, sym, ℕ}
 use Rattle.play_search.proofs.ClosingLaws.{all_met}
 use Rattle.play_search.proofs.exploring.doubt_of.Goals as goal
 

@@ -1,7 +1,4 @@
-use Rattle.std.proofs.Common.{List, subst}
-use Rattle.explore_model.specs.declared.found.Found.{Found}
-use Rattle.play_search.specs.Ends.{NoneIsMissing}
-use Rattle.play_search.specs.Searches.{setup_of}
+use Rattle.play_search.proofs.Common.{Found, List, NoneIsMissing, setup_of, subst}
 use Rattle.play_search.proofs.exploring.explored.Goals as goal
 
 -- of the outcomes that were found

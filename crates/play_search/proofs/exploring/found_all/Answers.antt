@@ -1,5 +1,5 @@
+use Rattle.play_search.proofs.Common.{IsFound}
 use Rattle.std.proofs.lemmas.List.Elements.{All-push}
-use Rattle.play_search.specs.Searches.{IsFound}
 use Rattle.play_search.proofs.exploring.found_all.Goals as goal
 
 pub goals-preserved : goal.goals-preserved

@@ -1,5 +1,5 @@
+use Rattle.play_search.proofs.Common.{IsFound}
 use Rattle.std.proofs.Common.{All}
-use Rattle.play_search.specs.Searches.{IsFound}
 use Rattle.play_search.proofs.exploring.found_all.Given as goal
 
 -- so far each has its play

@@ -1,6 +1,4 @@
-use Rattle.std.proofs.Common.{◌≡◌, ◌∙◌, ap, subst, sym, true, length}
-use Rattle.play_search.specs.Changes.{changes}
-use Rattle.play_search.specs.Searches.{HaveNoTurn, IsReplay}
+use Rattle.play_search.proofs.Common.{HaveNoTurn, IsReplay, ap, changes, length, subst, sym, true, ◌∙◌, ◌≡◌}
 use Rattle.play_search.specs.Vanishings.{is_allowed}
 use Rattle.play_search.proofs.exploring.found_in.Goals as goal
 

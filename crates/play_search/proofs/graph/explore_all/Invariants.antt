@@ -1,5 +1,4 @@
-use Rattle.std.proofs.Common.{◌≡◌}
-use Rattle.play_search.specs.Searches.{IsWithin}
+use Rattle.play_search.proofs.Common.{IsWithin, ◌≡◌}
 use Rattle.play_search.proofs.graph.explore_all.Given as goal
 
 -- so far there is room

@@ -1,9 +1,4 @@
-use Rattle.std.proofs.Common.{◌≡◌, ℕ, List, Ok, ap, map, refl, subst}
-use Rattle.actor_plays.specs.declared.actor.Actor.{Actor}
-use Rattle.actor_plays.specs.Plays.{stage_of}
-use Rattle.actor_plays.specs.Positions.{left_at}
-use Rattle.alike_plays.specs.Ahead.{early_in}
-use Rattle.play_search.specs.Vanishings.{began_early}
+use Rattle.play_search.proofs.Common.{Actor, List, Ok, ap, began_early, early_in, left_at, map, refl, stage_of, subst, ℕ, ◌≡◌}
 use Rattle.play_search.proofs.likeness.are_alike.Goals as goal
 
 -- the plays are alike, and the same actors began early to leave

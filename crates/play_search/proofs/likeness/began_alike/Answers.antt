@@ -1,7 +1,5 @@
-use Rattle.std.proofs.Common.{ℕ, ◌≡◌, ◌≤◌, ◌∙◌, arith, below_more, length, map, refl, sym}
-use Rattle.std.proofs.lemmas.List.{length-map}
-use Rattle.actor_plays.specs.Plays.{stage_of}
-use Rattle.play_search.specs.Vanishings.{began_early, began_in}
+use Rattle.play_search.proofs.Common.{arith, began_early, began_in, length, length-map, map, refl, stage_of, sym, ℕ, ◌∙◌, ◌≡◌, ◌≤◌}
+use Rattle.std.proofs.Common.{below_more}
 use Rattle.play_search.proofs.OnWay.{all_began, early_by}
 use Rattle.play_search.proofs.likeness.began_alike.Goals as goal
 

@@ -1,6 +1,4 @@
-use Rattle.std.proofs.Common.{ℕ, ◌≡◌, ◌<◌, map}
-use Rattle.actor_plays.specs.Plays.{stage_of}
-use Rattle.play_search.specs.Vanishings.{began_in}
+use Rattle.play_search.proofs.Common.{began_in, map, stage_of, ℕ, ◌<◌, ◌≡◌}
 use Rattle.play_search.proofs.likeness.began_alike.Given as goal
 
 -- so far the same ones began early

@@ -1,8 +1,6 @@
-use Rattle.std.proofs.Common.{◌≡◌, ◌<◌, ◌∙◌, List, Some, ap, arith, length, map, slice_get, sym}
-use Rattle.std.proofs.lemmas.Option.{slice_get-get_or, slice_get-map}
-use Rattle.std.specs.Option.{option_map}
-use Rattle.actor_plays.specs.declared.actor.Actor.{Actor}
-use Rattle.actor_plays.specs.Plays.{stage_of}
+use Rattle.play_search.proofs.Common.{Actor, List, Some, ap, arith, length, map, option_map, slice_get, slice_get-map, stage_of, sym, ◌<◌}
+use Rattle.play_search.proofs.Common.{◌∙◌, ◌≡◌}
+use Rattle.std.proofs.lemmas.Option.{slice_get-get_or}
 use Rattle.play_search.proofs.next.is_left_open.Goals as goal
 
 -- this one must

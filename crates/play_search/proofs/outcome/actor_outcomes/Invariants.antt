@@ -1,8 +1,5 @@
-use Rattle.std.proofs.Common.{◌≡◌, map, take}
-use Rattle.explore_model.specs.Outcomes.{end_of}
+use Rattle.play_search.proofs.Common.{end_of, map, position_of, stage_of, take, ◌≡◌}
 use Rattle.actor_plays.specs.Endings.{end_in}
-use Rattle.actor_plays.specs.Moves.{position_of}
-use Rattle.actor_plays.specs.Plays.{stage_of}
 use Rattle.play_search.proofs.outcome.actor_outcomes.Given as goal
 
 -- so far what came of these actors

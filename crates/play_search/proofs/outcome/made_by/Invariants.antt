@@ -1,7 +1,6 @@
-use Rattle.std.proofs.Common.{◌≡◌, take}
+use Rattle.play_search.proofs.Common.{position_of, take, ◌≡◌}
 use Rattle.std.specs.List.{flat_map}
 use Rattle.actor_plays.specs.Endings.{told_of}
-use Rattle.actor_plays.specs.Moves.{position_of}
 use Rattle.play_search.proofs.outcome.made_by.Given as goal
 
 -- so far what became of what these calls made

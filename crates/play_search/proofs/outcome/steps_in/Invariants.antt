@@ -1,4 +1,4 @@
-use Rattle.std.proofs.Common.{◌≡◌, ℕ, map, take}
+use Rattle.play_search.proofs.Common.{map, take, ℕ, ◌≡◌}
 use Rattle.sm_names.specs.declared.messages.Reply.{Reply}
 use Rattle.play_search.proofs.outcome.steps_in.Given as goal
 

@@ -1,5 +1,4 @@
-use Rattle.std.proofs.Common.{◌≡◌, map, take}
-use Rattle.actor_plays.specs.Plays.{stage_of}
+use Rattle.play_search.proofs.Common.{map, stage_of, take, ◌≡◌}
 use Rattle.play_search.specs.Searches.{places_of, steps_made}
 use Rattle.play_search.proofs.outcome.steps_of.Given as goal
 

@@ -1,6 +1,4 @@
-use Rattle.std.proofs.Common.{ℕ, ◌≡◌, ◌<◌, sym, subst, inl, inr, add-one, le_of_suc-le-suc}
-use Rattle.std.proofs.Math.Nat.{eq-or-lt_of_le}
-use Rattle.std.specs.Prelude.{◌⊎◌}
+use Rattle.play_search.proofs.Common.{add-one, eq-or-lt_of_le, inl, inr, le_of_suc-le-suc, subst, sym, ℕ, ◌<◌, ◌≡◌, ◌⊎◌}
 use Rattle.play_search.specs.Searches.{HasNoTurn}
 use Rattle.play_search.proofs.replay.have_no_turn.Goals as goal
 

@@ -1,4 +1,4 @@
-use Rattle.play_search.specs.Searches.{HaveNoTurn}
+use Rattle.play_search.proofs.Common.{HaveNoTurn}
 use Rattle.play_search.proofs.replay.have_no_turn.Given as goal
 
 -- so many actors make no turn

@@ -1,4 +1,4 @@
-use Rattle.std.proofs.Common.{◌≡◌}
+use Rattle.play_search.proofs.Common.{◌≡◌}
 use Rattle.actor_plays.specs.Plays.{AreJoining}
 use Rattle.play_search.proofs.replay.join_all.Given as goal
 

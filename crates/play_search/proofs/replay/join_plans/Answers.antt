@@ -1,4 +1,4 @@
-use Rattle.std.proofs.Common.{◌∙◌}
+use Rattle.play_search.proofs.Common.{◌∙◌}
 use Rattle.play_search.proofs.OnWay.{way_starts}
 use Rattle.play_search.proofs.replay.join_plans.Goals as goal
 

@@ -1,4 +1,4 @@
-use Rattle.std.proofs.Common.{◌∙◌, ◌++◌, ap}
+use Rattle.play_search.proofs.Common.{ap, ◌++◌, ◌∙◌}
 use Rattle.play_search.proofs.OnWay.{way_rests}
 use Rattle.play_search.proofs.replay.make_all.Goals as goal
 

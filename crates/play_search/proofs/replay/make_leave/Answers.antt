@@ -1,6 +1,4 @@
-use Rattle.std.proofs.Common.{subst}
-use Rattle.actor_plays.specs.Moves.{TakesLeave}
-use Rattle.actor_plays.specs.Plays.{IsLeave}
+use Rattle.play_search.proofs.Common.{IsLeave, TakesLeave, subst}
 use Rattle.play_search.proofs.OnWay.{way_leaves}
 use Rattle.play_search.proofs.replay.make_leave.Goals as goal
 

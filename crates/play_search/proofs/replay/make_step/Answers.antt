@@ -1,8 +1,5 @@
-use Rattle.std.proofs.Common.{subst}
-use Rattle.actor_plays.specs.Moves.{TakesTurn}
-use Rattle.actor_plays.specs.Plays.{IsTurn}
+use Rattle.play_search.proofs.Common.{IsTurn, TakesTurn, setup_of, subst}
 use Rattle.actor_plays.proofs.MoveLaws.{come_turn}
-use Rattle.play_search.specs.Searches.{setup_of}
 use Rattle.play_search.proofs.replay.make_step.Goals as goal
 
 -- the turn was made

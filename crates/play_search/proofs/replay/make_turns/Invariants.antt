@@ -1,6 +1,5 @@
-use Rattle.std.proofs.Common.{◌≡◌, ◌++◌, take, true}
-use Rattle.actor_plays.specs.Plays.{IsPlay}
-use Rattle.play_search.specs.Searches.{IsOnWay, IsTold}
+use Rattle.play_search.proofs.Common.{IsOnWay, IsPlay, take, true, ◌++◌, ◌≡◌}
+use Rattle.play_search.specs.Searches.{IsTold}
 use Rattle.play_search.proofs.replay.make_turns.Given as goal
 
 -- so many of the turns are made

@@ -1,4 +1,4 @@
-use Rattle.std.proofs.Common.{◌∙◌, refl, sym}
+use Rattle.play_search.proofs.Common.{refl, sym, ◌∙◌}
 use Rattle.play_search.proofs.replay.makes_no_turn.Goals as goal
 
 pub returns : goal.returns

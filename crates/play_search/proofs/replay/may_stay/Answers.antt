@@ -1,8 +1,5 @@
-use Rattle.std.proofs.Common.{◌≡◌, ◌∙◌, ap, sym, Some, false}
+use Rattle.play_search.proofs.Common.{Some, ap, false, must_leave, option_map, option_map_or, stage_of, stages_of, sym, ◌∙◌, ◌≡◌}
 use Rattle.std.specs.Prelude.{option_copied, slice_get}
-use Rattle.std.specs.Option.{option_map, option_map_or}
-use Rattle.actor_plays.specs.Plays.{stage_of, stages_of}
-use Rattle.play_search.specs.Vanishings.{must_leave}
 use Rattle.play_search.proofs.replay.may_stay.Goals as goal
 
 -- the stage of the actor is that of the play

@@ -1,4 +1,4 @@
-use Rattle.std.proofs.Common.{◌≡◌, map, take}
+use Rattle.play_search.proofs.Common.{map, take, ◌≡◌}
 use Rattle.actor_scripts.specs.declared.step.ActorScript.{ActorScript}
 use Rattle.explore_model.specs.Plans.{planned, steps_of}
 use Rattle.play_search.proofs.replay.plans_of.Given as goal

@@ -1,4 +1,4 @@
-use Rattle.std.proofs.Common.{refl}
+use Rattle.play_search.proofs.Common.{refl}
 use Rattle.play_search.proofs.replay.replay.Goals as goal
 
 -- it tells

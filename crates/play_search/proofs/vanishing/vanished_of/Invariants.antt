@@ -1,6 +1,4 @@
-use Rattle.std.proofs.Common.{◌≡◌, map}
-use Rattle.actor_plays.specs.Plays.{stage_of}
-use Rattle.play_search.specs.Vanishings.{vanished_first}
+use Rattle.play_search.proofs.Common.{map, stage_of, vanished_first, ◌≡◌}
 use Rattle.play_search.proofs.vanishing.vanished_of.Given as goal
 
 -- so far those of the first actors

@@ -1,16 +1,10 @@
 -- The record, the core and the books go on together by one event.
-use Rattle.std.proofs.Common.{List, [], ◌∷◌, ◌++◌, length-append, ◌≡◌, ◌∙◌, ap, arith, refl, subst, sym}
-use Rattle.sm_names.specs.declared.keys.Strength.{Strength}
-use Rattle.sm_names.specs.declared.keys.Strength.TheVariants.{Strong, Weak}
-use Rattle.sm_names.specs.Marks.{Entry}
-use Rattle.sm_names.specs.Legality.{IsLegal}
-use Rattle.service_lock.specs.declared.moves.HandleMoves.{HandleMoves}
-use Rattle.service_lock.specs.Counting.{moves_by}
-use Rattle.service_lock.specs.States.{StateInvariant, View, view_after}
+use Rattle.service_lock.proofs.Common.{Entry, HandleMoves, IsLegal, List, StateInvariant, Strength, Strong, View, Weak, [], ap, arith}
+use Rattle.service_lock.proofs.Common.{length-append, moves_by, refl, rules, subst, sym, ◌++◌, ◌∙◌, ◌∷◌, ◌≡◌}
+use Rattle.service_lock.specs.States.{view_after}
 use Rattle.core_state.proofs.theorem.Leads.{makes}
 use Rattle.service_lock.proofs.ComingLaws.{came_on, came_refused}
 use Rattle.service_lock.proofs.SoundLaws.{fits, pushed, there, written}
-use Rattle.std.proofs.Common.{rules}
 use Rattle.service_lock.proofs.event.apply.Goals as goal
 
 -- the books of handles have room for what the event opens, and hold what it takes out of a parcel

@@ -1,6 +1,4 @@
-use Rattle.std.proofs.Common.{refl, subst}
-use Rattle.service_lock.specs.Comings.{SomeCoreCame}
-use Rattle.service_lock.specs.States.{View}
+use Rattle.service_lock.proofs.Common.{SomeCoreCame, View, refl, subst}
 use Rattle.service_lock.proofs.ComingLaws.{some_core_came}
 use Rattle.service_lock.proofs.state.entries.Goals as goal
 

@@ -1,5 +1,5 @@
 -- Each goal that is proved at once by the tactic that is named.
-use Rattle.std.proofs.Common.{rules}
+use Rattle.service_lock.proofs.Common.{rules}
 use Rattle.service_lock.proofs.state.units.Goals as goal
 
 pub invariant_of-result : goal.invariant_of-result

@@ -1,5 +1,6 @@
 -- An element of the items, told, is the element of the words at its place.
-use Rattle.std.proofs.Common.{◌≡◌, ◌<◌, get_or, length, map, sym, ap, ◌∙◌, arith}
+use Rattle.sysmem.proofs.Common.{arith, get_or, length, map, ◌<◌, ◌∙◌}
+use Rattle.std.proofs.Common.{◌≡◌, sym, ap}
 use Rattle.std.proofs.lemmas.List.{get_or-map, length-map}
 use Rattle.sysmem.proofs.FirstPlaces.{write_more}
 use Rattle.sysmem.proofs.arrays.write_array.Goals as goal

@@ -1,4 +1,5 @@
-use Rattle.std.proofs.Common.{◌≡◌, ◌++◌, drop, map, take}
+use Rattle.sysmem.proofs.Common.{map, take}
+use Rattle.std.proofs.Common.{◌≡◌, ◌++◌, drop}
 use Rattle.sysmem.proofs.arrays.write_array.Given as goal
 
 abbrev pub invariant-loop-i : goal.invariant-loop-i

@@ -1,4 +1,5 @@
-use Rattle.std.proofs.Common.{arith, append_assoc}
+use Rattle.sysmem.proofs.Common.{arith}
+use Rattle.std.proofs.Common.{append_assoc}
 use Rattle.std.proofs.lemmas.Grind.{common_steps}
 use Rattle.std.proofs.lemmas.List.{map-append}
 use Rattle.std.proofs.lemmas.List.Elements.{filter-append}

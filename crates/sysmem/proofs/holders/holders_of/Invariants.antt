@@ -1,4 +1,5 @@
-use Rattle.std.proofs.Common.{◌≡◌, ◌∷◌, take, map}
+use Rattle.sysmem.proofs.Common.{map, take}
+use Rattle.std.proofs.Common.{◌≡◌, ◌∷◌}
 use Rattle.std.specs.List.{filter}
 use Rattle.sysmem.specs.Holders.{has_handles, moving_words, open_words}
 use Rattle.sysmem.proofs.holders.holders_of.Given as goal

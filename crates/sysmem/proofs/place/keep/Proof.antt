@@ -1,30 +1,15 @@
 -- `keep` writes the pointer and the allocator elsewhere, with all that they own.
-use mathlib.Core.Path.{refl, sym, subst, ◌≡◌}
-use mathlib.Core.List.{List, [], ◌∷◌, ◌++◌}
-use mir.Val.{Val}
-use base.Logic.{SProp, ent, emp, id⊢}
-use base.Fml.{ftrue, fsep}
-use contract.Monad.{fact, fact_i}
-use contract.Running.{tables}
-use prog.Wp.{WpFn}
-use types.Kit.{‵, raw, ◌⊛◌, ◌$◌, ◌∵◌, !, qed, by, keep, drop, split, fsplit, fjoin, suffices, use0, use1}
-use types.Part.{whole, sub, agg}
-use types.Run.{stop, fld, no_more, and_then, of_opd, returns, enter}
-use types.ByLocal.{alloc_all, pass_all, free_all, look_at, get, get_in, sets}
-use denote.Exit.{yes}
-use denote.RawPtr.{block_ptr}
-use denote.Steps.{nothing}
-use denote.Triple.Walked.{Stays, stay_dropped, walk_of, Goes-dropped}
-use Rattle.std.proofs.raw_atomic.Walks.{proved_at, leaves}
-use Rattle.std.specs.Prelude.{Some}
-use Rattle.std_alloc.proofs.BoxSteps.Form.{D, word, box_typed}
-use Rattle.std_alloc.proofs.BoxSteps.Steps.{box_in}
+use Rattle.sysmem.proofs.Common.{ !, D, Goes-dropped, List, SProp, Some, Stays, Val, WpFn, [], agg, alloc_all, and_then, block_ptr, box_in}
+use Rattle.sysmem.proofs.Common.{box_typed, by, drop, emp, ent, enter, fact, fact_i, fjoin, fld, free_all, fsep, fsplit, ftrue, get}
+use Rattle.sysmem.proofs.Common.{get_in, id⊢, keep, leaves, look_at, no_more, nothing, of_opd, pass_all, proved_at, qed, raw, refl}
+use Rattle.sysmem.proofs.Common.{returns, sets, split, stay_dropped, stop, sub, subst, suffices, sym, tables, use0, use1, walk_of, whole}
+use Rattle.sysmem.proofs.Common.{word, yes, ‵, ◌$◌, ◌++◌, ◌∵◌, ◌∷◌, ◌≡◌, ◌⊛◌}
 use Rattle.sysmem.proofs.CoreBox.{E, Kept, a_loosened}
 use Rattle.sysmem.proofs.Unboxing.{Loose, shell, shell_typed, loose_out}
-use Rattle.sysmem.proofs.place.keep.Code as code
 use Rattle.sysmem.proofs.place.keep.Statement.{statement}
 use Rattle.sysmem.specs.contracts.place.keep.{ended, clauses}
 use Rattle.sysmem.specs.contracts.place.keep.Key.{name}
+use Rattle.sysmem.proofs.place.keep.Code as code
 
 abbrev stayed : Stays ended.signature.params ended.kept
 stayed = (stay_dropped a_loosened yes, tt)

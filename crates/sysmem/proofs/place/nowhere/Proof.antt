@@ -1,34 +1,18 @@
 -- `nowhere` writes null beside the allocator, and owns nothing.
-use mathlib.Core.Path.{refl, sym, subst, ◌≡◌}
-use mathlib.Core.List.{List, [], ◌∷◌, ◌++◌}
+use Rattle.sysmem.proofs.Common.{ !, Goes-dropped, List, None, P, RawPtr, SProp, Stays, Val, Valss, WpFn, [], agg, alloc_all, and_then}
+use Rattle.sysmem.proofs.Common.{and_tt, by, drop, emp, ent, enter, fact, fact_i, feq_i, fjoin, fpack, free_all, fsep, fsplit, ftrue, get}
+use Rattle.sysmem.proofs.Common.{handle_tells, id⊢, keep, leaves, look_at, move, no_more, nothing, null_ptr, pass_all, proved_at, qed}
+use Rattle.sysmem.proofs.Common.{raw, refl, returns, sets, shape, split, stay_dropped, subst, suffices, sym, tables, use0, use1, vcons}
+use Rattle.sysmem.proofs.Common.{vnil, vstruct, walk_of, within, yes, ‵, ◌$◌, ◌++◌, ◌∵◌, ◌∷◌, ◌≡◌, ◌⊛◌}
 use lib.Dec.{lit<}
-use mir.Val.{Val, vstruct, vcons, vnil, vnull}
-use base.Logic.{SProp, ent, emp, id⊢}
-use base.Fml.{ftrue, fsep}
-use contract.Monad.{fact, fact_i}
-use contract.Running.{tables}
-use prog.Wp.{WpFn}
-use types.Kit.{‵, raw, ◌⊛◌, ◌$◌, ◌∵◌, !, qed, by, move, keep, drop, split, fsplit, fjoin, fpack, feq_i, suffices, use0, use1}
-use types.Part.{agg}
-use types.Run.{lit, no_more, and_then, returns, enter}
-use types.ByLocal.{alloc_all, pass_all, free_all, look_at, get, sets}
-use denote.Exit.{yes}
-use denote.RattleType.{Valss}
-use denote.RawPtr.{RawPtr, null_ptr}
-use denote.Steps.{nothing}
-use denote.Struct.Owning.{shape}
-use denote.Struct.Struct.{within}
-use denote.Triple.Walked.{Stays, stay_dropped, walk_of, Goes-dropped}
-use Rattle.std.proofs.alloc.Calls.{handle_tells}
-use Rattle.std.proofs.raw_atomic.Walks.{proved_at, leaves}
-use Rattle.std.specs.Prelude.{None}
-use Rattle.std_alloc.proofs.BoxSteps.Form.{P, owning}
-use Rattle.std_alloc.proofs.ResultValues.{and_tt}
+use mir.Val.{vnull}
+use types.Run.{lit}
+use Rattle.std_alloc.proofs.BoxSteps.Form.{owning}
 use Rattle.sysmem.proofs.CoreBox.{E, Handle, Kept, a_handle}
-use Rattle.sysmem.proofs.place.nowhere.Code as code
 use Rattle.sysmem.proofs.place.nowhere.Statement.{statement}
 use Rattle.sysmem.specs.contracts.place.nowhere.{ended, clauses}
 use Rattle.sysmem.specs.contracts.place.nowhere.Key.{name}
+use Rattle.sysmem.proofs.place.nowhere.Code as code
 
 abbrev stayed : Stays ended.signature.params ended.kept
 stayed = (stay_dropped a_handle yes, tt)

@@ -1,28 +1,13 @@
 -- `out_of` writes the pointer and the allocator back, with all that they own.
-use mathlib.Core.Path.{refl, sym, subst, ◌≡◌}
-use mathlib.Core.List.{List, [], ◌∷◌, ◌++◌}
-use mir.Val.{Val}
-use base.Logic.{SProp, ent, emp, id⊢}
-use base.Fml.{ftrue, fsep}
-use contract.Monad.{fact, fact_i}
-use contract.Running.{tables}
-use prog.Wp.{WpFn}
-use types.Kit.{‵, raw, ◌⊛◌, ◌$◌, ◌∵◌, !, qed, by, move, keep, drop, split, fsplit, fjoin, suffices, rewrite, use0, use1}
-use types.Part.{whole, sub, agg}
-use types.Run.{stop, fld, no_more, and_then, of_opd, returns, enter}
-use types.ByLocal.{alloc_all, pass_all, free_all, look_at, get, get_in, sets}
-use denote.Exit.{yes}
-use denote.RawPtr.{block_ptr}
-use denote.Steps.{nothing, heard}
-use denote.Triple.Walked.{Stays, stay_dropped, walk_of, Goes-dropped}
-use Rattle.std.proofs.raw_atomic.Walks.{proved_at, leaves}
-use Rattle.std.specs.Prelude.{Option, Some, is_some, true}
-use Rattle.std_alloc.proofs.BoxSteps.Form.{D, B, word, box_typed}
-use Rattle.std_alloc.proofs.BoxSteps.Steps.{box_out}
+use Rattle.sysmem.proofs.Common.{ !, B, D, Goes-dropped, List, Option, SProp, Some, State, Stays, Val, WpFn, [], agg, alloc_all, and_then}
+use Rattle.sysmem.proofs.Common.{block_ptr, box_out, box_typed, by, drop, emp, ent, enter, fact, fact_i, fjoin, fld, free_all, fsep}
+use Rattle.sysmem.proofs.Common.{fsplit, ftrue, get, get_in, heard, id⊢, keep, leaves, look_at, move, no_more, nothing, of_opd, pass_all}
+use Rattle.sysmem.proofs.Common.{proved_at, qed, raw, refl, returns, rewrite, sets, split, stay_dropped, stop, sub, subst, suffices, sym}
+use Rattle.sysmem.proofs.Common.{tables, use0, use1, walk_of, whole, word, yes, ‵, ◌$◌, ◌++◌, ◌∵◌, ◌∷◌, ◌≡◌, ◌⊛◌}
+use Rattle.std.specs.Prelude.{is_some, true}
 use Rattle.sysmem.proofs.CoreBox.{E, Kept, Loosened, a_place}
 use Rattle.sysmem.proofs.Unboxing.{shell, shell_typed, loose_in}
 use Rattle.sysmem.proofs.place.out_of.Statement.{statement}
-use Rattle.core_state.specs.State.{State}
 use Rattle.sysmem.specs.contracts.place.out_of.{ended, clauses}
 use Rattle.sysmem.specs.contracts.place.out_of.Key.{name}
 use Rattle.sm_names.proofs.SamenessLaws.{some_is}

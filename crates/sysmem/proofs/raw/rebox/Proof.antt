@@ -1,42 +1,24 @@
 -- `rebox` hands the parts, with what the box owned, to `from_raw`.
-use mathlib.Core.Path.{refl, sym, subst, ap, ◌≡◌}
-use mathlib.Core.List.{List, [], ◌∷◌, ◌++◌}
-use mir.Syntax.{Args, a_type, dcons, dnil}
-use mir.MapTy.{inst_fn}
+use Rattle.sysmem.proofs.Common.{ !, Args, B, Bx, Goes-blank, List, SProp, Stays, Val, WT, WpFn, [], a_type, alloc_all, and_then, ap}
+use Rattle.sysmem.proofs.Common.{await, block_ptr, bounded, box_in, box_out, box_typed, by, dcons, dnil, drop, ent, enter, fact, feq_i}
+use Rattle.sysmem.proofs.Common.{fjoin, fld, flft, framed, free_all, fsep, fsplit, ftrue, get, get_in, has_ty, id⊢, inst_fn, join, keep}
+use Rattle.sysmem.proofs.Common.{later, leaves, look_at, move, no, no_more, nothing, of_opd, only, owns, pass_all, pick, plain, proved_at}
+use Rattle.sysmem.proofs.Common.{qed, raw, refl, returns, rewrite, sets, some, split, split3, stay_dropped, stop, sub, subst, suffices}
+use Rattle.sysmem.proofs.Common.{sym, tables, triple_of, types_at, use1, vptr, walk_of, whole, word, ‵, ◌$◌, ◌++◌, ◌∵◌, ◌∷◌, ◌≡◌, ◌⊛◌}
 use lib.Dec.{T as Holds}
-use mir.Val.{Val, vptr, has_ty, WT}
-use base.Logic.{SProp, ent, id⊢}
-use base.Fml.{ftrue, fsep, flft}
 use contract.BorrowLft.{◌⊑◌}
-use contract.Monad.{fact}
-use contract.Running.{tables}
-use prog.Wp.{WpFn}
-use types.Kit.{at_ret, ‵, raw, ◌⊛◌, some, later, ◌$◌, ◌∵◌, !, qed, by, move, keep, drop, split}
-use types.Kit.{split3, join, fsplit, fjoin, pick, suffices, use1, await, rewrite, feq_i}
-use types.Part.{whole, sub}
-use types.Run.{stop, fld, no_more, and_then, of_opd, returns, enter, first, blocks, exec}
-use types.ByLocal.{alloc_all, pass_all, free_all, look_at, get, get_in, sets, lands_last, env}
-use denote.Exit.{no}
-use denote.Param.{bounded}
-use denote.RattleType.{owns}
-use denote.RawPtr.{block_ptr}
-use denote.Signature.{types_at, plain}
-use denote.Steps.{nothing, only}
+use types.Kit.{at_ret}
+use types.Run.{first, blocks, exec}
+use types.ByLocal.{lands_last, env}
 use denote.Triple.Call.{calls_at_last}
-use denote.Triple.Spec.{triple_of}
-use denote.Triple.Table.{framed}
-use denote.Triple.Walked.{Stays, stay_dropped, walk_of}
-use Rattle.std.proofs.alloc.Calls.{Goes-blank}
-use Rattle.std.proofs.raw_atomic.Walks.{proved_at, leaves}
-use Rattle.std_alloc.proofs.BoxSteps.Form.{Bx, B, word, box_ty, box_typed}
-use Rattle.std_alloc.proofs.BoxSteps.Steps.{box_out, box_in}
+use Rattle.std_alloc.proofs.BoxSteps.Form.{box_ty}
 use Rattle.std_alloc.proofs.boxed.Box.from_raw.Met.{met}
-use Rattle.std_alloc.specs.contracts.boxed.Box.from_raw as called
 use Rattle.sysmem.proofs.Unboxing.{Loose, shell, shell_typed, loose_out}
-use Rattle.sysmem.proofs.raw.rebox.Code as code
 use Rattle.sysmem.proofs.raw.rebox.Statement.{statement}
 use Rattle.sysmem.specs.contracts.raw.rebox.{ended, clauses}
 use Rattle.sysmem.specs.contracts.raw.rebox.Key.{name}
+use Rattle.std_alloc.specs.contracts.boxed.Box.from_raw as called
+use Rattle.sysmem.proofs.raw.rebox.Code as code
 
 pub rebox_spec : {M : Type 1} → statement M
 rebox_spec 𝓤 𝓛 𝓜 𝓡 wired T A L LA g d dd allocator glued =

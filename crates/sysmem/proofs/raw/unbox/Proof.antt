@@ -1,43 +1,21 @@
 -- `unbox` hands the box on, and keeps the pair that comes back with what the box owned.
-use mathlib.Core.Path.{refl, sym, subst, ap, ◌≡◌}
-use mathlib.Core.List.{List, [], ◌∷◌, ◌++◌}
-use mir.Syntax.{Args, a_type, dcons, dnil}
-use mir.MapTy.{inst_fn}
+use Rattle.sysmem.proofs.Common.{ !, Args, B, Bx, Goes-blank, List, Ptr, R, SProp, Stays, Val, WpFn, [], a_type, agg, alloc_all, and_then}
+use Rattle.sysmem.proofs.Common.{ap, await, block_ptr, bounded, box_in, box_out, box_owns, box_typed, by, dcons, dnil, drop, emp, ent}
+use Rattle.sysmem.proofs.Common.{enter, fact, fact_i, fjoin, flft, framed, free_all, fsep, fsplit, fst∗, ftrue, get, heard, id⊢}
+use Rattle.sysmem.proofs.Common.{in_a_block, inst_fn, join, keep, later, leaves, look_at, move, never, no, no_more, nothing, null_ptr}
+use Rattle.sysmem.proofs.Common.{of_list, of_opd, only, owns, pass_all, pick, plain, proved_at, ptr_val, qed, raw, refl, returns, rewrite}
+use Rattle.sysmem.proofs.Common.{sem, sets, some, split, split3, stay_dropped, subst, suffices, sym, tables, token, triple_of, types_at}
+use Rattle.sysmem.proofs.Common.{use0, use1, vstruct, walk_of, word, τ, ‵, ◌$◌, ◌++◌, ◌∵◌, ◌∷◌, ◌≡◌, ◌⊛◌}
 use mir.Raw.{raw as bare}
-use mir.Val.{Val, vstruct, of_list}
-use base.Logic.{SProp, ent, emp, never, id⊢, fst∗}
-use base.Fml.{ftrue, fsep, flft}
-use prog.Wp.{WpFn}
-use contract.Monad.{fact, fact_i}
-use contract.Running.{tables}
-use types.Logic.{sem}
-use types.Kit.{‵, raw, ◌⊛◌, some, later, ◌$◌, ◌∵◌, !, qed, by, move, keep, drop, split}
-use types.Kit.{split3, join, fsplit, fjoin, pick, suffices, use0, use1, await, rewrite}
-use types.Part.{agg}
-use types.Run.{of_opd, no_more, and_then, returns, enter}
-use types.ByLocal.{alloc_all, pass_all, free_all, look_at, get, sets, lands_as}
-use denote.Exit.{no}
-use denote.Param.{bounded}
-use denote.RattleType.{owns}
-use denote.RawPtr.{Ptr, block_ptr, null_ptr, ptr_val, in_a_block}
-use denote.Signature.{types_at, plain}
-use denote.Steps.{nothing, only, heard}
+use types.ByLocal.{lands_as}
 use denote.Triple.Call.{calls_at}
-use denote.Triple.Spec.{triple_of}
-use denote.Triple.Table.{framed}
-use denote.Triple.Walked.{Stays, stay_dropped, walk_of}
-use Rattle.std.proofs.alloc.Calls.{token, Goes-blank}
-use Rattle.std.proofs.raw_atomic.Walks.{proved_at, leaves}
-use Rattle.std_alloc.proofs.BoxSteps.Form.{Bx, R, B, τ, word, box_typed}
-use Rattle.std_alloc.proofs.BoxSteps.Steps.{box_out, box_in}
 use Rattle.std_alloc.proofs.boxed.Box.into_raw_with_allocator.Met.{met}
-use Rattle.std_alloc.specs.Box.Ownership.{box_owns}
-use Rattle.std_alloc.specs.contracts.boxed.Box.into_raw_with_allocator as called
 use Rattle.sysmem.proofs.Unboxing.{Parts, shell, shell_typed, parts_out, loose_in}
-use Rattle.sysmem.proofs.raw.unbox.Code as code
 use Rattle.sysmem.proofs.raw.unbox.Statement.{statement}
 use Rattle.sysmem.specs.contracts.raw.unbox.{ended, clauses}
 use Rattle.sysmem.specs.contracts.raw.unbox.Key.{name}
+use Rattle.std_alloc.specs.contracts.boxed.Box.into_raw_with_allocator as called
+use Rattle.sysmem.proofs.raw.unbox.Code as code
 
 pub unbox_spec : {M : Type 1} → statement M
 unbox_spec 𝓤 𝓛 𝓜 𝓡 wired T A L LA g d dx dd allocator glue glued =

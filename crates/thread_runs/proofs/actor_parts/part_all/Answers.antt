@@ -1,4 +1,4 @@
-use Rattle.std.proofs.Common.{arith}
+use Rattle.thread_runs.proofs.Common.{arith}
 use Rattle.thread_runs.proofs.EndLaws.{parted-more, parted-none}
 use Rattle.thread_runs.proofs.actor_parts.part_all.Goals as goal
 

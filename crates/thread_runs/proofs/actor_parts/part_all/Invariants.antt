@@ -1,5 +1,5 @@
-use Rattle.std.proofs.Common.{◌+◌, ◌≤◌, vec_len, vec_capacity}
-use Rattle.thread_runs.specs.Gathered.{PartedTo}
+use Rattle.thread_runs.proofs.Common.{PartedTo, ◌+◌, ◌≤◌}
+use Rattle.std.proofs.Common.{vec_len, vec_capacity}
 use Rattle.thread_runs.proofs.actor_parts.part_all.Given as goal
 
 -- what is left of those that are parted is in the list, and there is room for the others

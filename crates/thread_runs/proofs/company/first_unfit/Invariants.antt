@@ -1,5 +1,4 @@
-use Rattle.std.proofs.Common.{◌≡◌, ◌+◌, length}
-use Rattle.thread_runs.specs.Company.{first_unfit}
+use Rattle.thread_runs.proofs.Common.{first_unfit, length, ◌+◌, ◌≡◌}
 use Rattle.thread_runs.proofs.company.first_unfit.Given as goal
 
 -- so many were looked at, and what is left has the answer

@@ -1,7 +1,5 @@
-use Rattle.std.proofs.Common.{sym, subst}
+use Rattle.thread_runs.proofs.Common.{EndsUntold, ThreadsFault, subst, sym}
 use Rattle.std.specs.Process.{exit_status}
-use Rattle.thread_runs.specs.declared.fault.ThreadsFault.{ThreadsFault}
-use Rattle.thread_runs.specs.Endings.{EndsUntold}
 use Rattle.thread_runs.proofs.Endings.{bad-untold}
 use Rattle.thread_runs.proofs.program.end_untold.Goals as goal
 

@@ -1,6 +1,4 @@
-use Rattle.std.proofs.Common.{List, ap, inr, length, sym, ◌∙◌}
-use Rattle.sm_names.specs.Marks.{Entry}
-use Rattle.thread_runs.specs.Company.{first_unfit}
+use Rattle.thread_runs.proofs.Common.{Entry, List, ap, first_unfit, inr, length, sym, ◌∙◌}
 use Rattle.thread_runs.proofs.CompanyLaws.{joins_first_told}
 use Rattle.thread_runs.proofs.report.company_text.Goals as goal
 

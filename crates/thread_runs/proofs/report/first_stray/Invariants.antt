@@ -1,6 +1,4 @@
-use Rattle.std.proofs.Common.{◌≡◌, length, map}
-use Rattle.client_vanish.specs.Gatherings.{ids_of}
-use Rattle.thread_runs.specs.Gathered.{first_stray, line_client}
+use Rattle.thread_runs.proofs.Common.{first_stray, ids_of, length, line_client, map, ◌≡◌}
 use Rattle.thread_runs.proofs.report.first_stray.Given as goal
 
 -- what is left has the answer

@@ -1,6 +1,5 @@
-use Rattle.std.proofs.Common.{arith, sym, ◌∙◌}
+use Rattle.thread_runs.proofs.Common.{AllZip-long, arith, sym, ◌∙◌}
 use Rattle.std.proofs.lemmas.Result.{IfOk-weaker}
-use Rattle.std.proofs.lemmas.Slice.Zip.{AllZip-long}
 use Rattle.thread_runs.proofs.EndLaws.{late-first}
 use Rattle.thread_runs.proofs.ReportLaws.{is-told}
 use Rattle.thread_runs.proofs.report.run_all.Goals as goal

@@ -1,8 +1,6 @@
-use Rattle.std.proofs.Common.{◌∙◌, ◌++◌, ◌≡◌, ℕ, List, Some, ap, map, subst, sym}
+use Rattle.thread_runs.proofs.Common.{IsUntold, List, Some, ap, first_stray, ids_of, line_client, map, subst, sym, told_text, ℕ, ◌++◌}
+use Rattle.thread_runs.proofs.Common.{◌∙◌, ◌≡◌}
 use Rattle.event_laws.specs.declared.line.ClientLine.{ClientLine}
-use Rattle.client_vanish.specs.Gatherings.{ids_of}
-use Rattle.thread_runs.specs.Gathered.{IsUntold, first_stray, line_client}
-use Rattle.thread_runs.specs.Runs.{told_text}
 use Rattle.thread_runs.proofs.ReportLaws.{stray_told, tells, untold}
 use Rattle.thread_runs.proofs.StrayLaws.{stray_none}
 use Rattle.thread_runs.proofs.report.text_of.Goals as goal

@@ -1,4 +1,4 @@
-use Rattle.std.proofs.Common.{◌≡◌, ◌++◌, length}
+use Rattle.thread_runs.proofs.Common.{length, ◌++◌, ◌≡◌}
 use Rattle.thread_runs.specs.Reports.{lines_text}
 use Rattle.thread_runs.proofs.report_text.push_lines.Given as goal
 

@@ -1,4 +1,4 @@
-use Rattle.std.specs.Io.KnownBytes.{Appends}
+use Rattle.thread_runs.proofs.Common.{Appends}
 use Rattle.thread_runs.proofs.Failing.{written-told}
 use Rattle.thread_runs.proofs.run.run_threads.Goals as goal
 

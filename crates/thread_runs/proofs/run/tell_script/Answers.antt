@@ -1,6 +1,5 @@
-use Rattle.std.proofs.Common.{refl}
+use Rattle.thread_runs.proofs.Common.{actors_of, refl}
 use Rattle.thread_runs.proofs.Failing.{late-not-told, read-as}
-use Rattle.actor_scripts.specs.ActorLists.{actors_of}
 use Rattle.thread_runs.proofs.run.tell_script.Goals as goal
 
 pub returns-in-Ok-tell_all-clause-ok : goal.returns-in-Ok-tell_all-clause-ok

@@ -1,4 +1,4 @@
-use Rattle.std.proofs.Common.{None}
+use Rattle.actor_plays.proofs.Common.{None}
 use Rattle.actor_plays.proofs.actor.Actor.new.Goals as goal
 
 pub returns : goal.returns

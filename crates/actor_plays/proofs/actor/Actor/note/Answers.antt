@@ -1,5 +1,4 @@
-use Rattle.std.proofs.Common.{◌+◌}
-use Rattle.std.specs.Option.{option_map}
+use Rattle.actor_plays.proofs.Common.{option_map, ◌+◌}
 use Rattle.actor_plays.specs.Leaves.{vanish_of}
 use Rattle.actor_plays.proofs.actor.Actor.note.Goals as goal
 

@@ -1,9 +1,6 @@
-use Rattle.std.proofs.Common.{◌≡◌, ◌∙◌, ap, sym, Some, None}
+use Rattle.actor_plays.proofs.Common.{None, Some, Stage, ap, option_and_then, option_map, stage_of, stages_of, step_call, sym, ◌∙◌, ◌≡◌}
 use Rattle.std.specs.Prelude.{option_copied, slice_get}
-use Rattle.std.specs.Option.{option_and_then, option_map}
-use Rattle.actor_scripts.specs.ActorStates.{step_call}
 use Rattle.actor_scripts.specs.Tables.{known}
-use Rattle.actor_plays.specs.Plays.{Stage, stage_of, stages_of}
 use Rattle.actor_plays.proofs.play.Play.asked.Goals as goal
 
 pub returns-in-Some : goal.returns-in-Some

@@ -1,4 +1,4 @@
-use Rattle.std.proofs.Common.{length}
+use Rattle.actor_plays.proofs.Common.{length}
 use Rattle.actor_plays.proofs.MoveLaws.{begins_at, first_joined}
 use Rattle.actor_plays.proofs.PlayLaws.{begins, none_fell}
 use Rattle.actor_plays.proofs.play.Play.have_joined.Goals as goal

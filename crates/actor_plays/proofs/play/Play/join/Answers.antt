@@ -1,7 +1,4 @@
-use Rattle.std.proofs.Common.{◌∙◌, ◌∷◌, ◌++◌, [], ap, subst}
-use Rattle.sm_names.specs.declared.messages.Call.{Call}
-use Rattle.sm_names.specs.declared.messages.Reply.{Reply}
-use Rattle.core_state.specs.Theorem.{Makes}
+use Rattle.actor_plays.proofs.Common.{Call, Makes, Reply, [], ap, subst, ◌++◌, ◌∙◌, ◌∷◌}
 use Rattle.actor_plays.proofs.PlayLaws.{joined}
 use Rattle.actor_plays.proofs.play.Play.join.Goals as goal
 

@@ -1,5 +1,4 @@
-use Rattle.std.proofs.Common.{refl}
-use Rattle.std.specs.Prelude.{Ok}
+use Rattle.actor_plays.proofs.Common.{Ok, refl}
 use Rattle.actor_plays.proofs.MoveLaws.{call_makes}
 use Rattle.actor_plays.proofs.play.Play.make_call.Goals as goal
 

@@ -1,4 +1,4 @@
-use Rattle.std.proofs.Common.{◌≡◌, ◌∙◌, Some, slice_get, sym}
+use Rattle.actor_plays.proofs.Common.{Some, slice_get, sym, ◌∙◌, ◌≡◌}
 use Rattle.actor_plays.proofs.MoveLaws.{takes_leave, takes_leave_untold}
 use Rattle.actor_plays.proofs.PlayLaws.{has_left}
 use Rattle.actor_plays.proofs.play.Play.make_leave.Goals as goal

@@ -1,6 +1,4 @@
-use Rattle.std.proofs.Common.{◌∙◌, ◌∷◌, ◌++◌, [], ap, sym, refl}
-use Rattle.actor_plays.specs.declared.play.Play.{Play}
-use Rattle.explore_model.specs.declared.found.Turn.{Turn}
+use Rattle.actor_plays.proofs.Common.{Play, Turn, [], ap, refl, sym, ◌++◌, ◌∙◌, ◌∷◌}
 use Rattle.actor_plays.proofs.MoveLaws.{takes_made, takes_made_untold, takes_waits, takes_waits_untold}
 use Rattle.actor_plays.proofs.PlayLaws.{called, left_waiting}
 use Rattle.actor_plays.proofs.play.Play.make_turn.Goals as goal

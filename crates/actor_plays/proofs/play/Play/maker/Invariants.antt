@@ -1,6 +1,5 @@
-use Rattle.std.proofs.Common.{◌≡◌}
+use Rattle.actor_plays.proofs.Common.{stages_of, ◌≡◌}
 use Rattle.actor_plays.specs.Endings.{maker_first}
-use Rattle.actor_plays.specs.Plays.{stages_of}
 use Rattle.actor_plays.proofs.play.Play.maker.Given as goal
 
 -- so far the step of the first of these actors

@@ -1,4 +1,4 @@
-use Rattle.actor_plays.specs.Plays.{Stage, stage_after}
+use Rattle.actor_plays.proofs.Common.{Stage, stage_after}
 use Rattle.actor_plays.proofs.PlayLaws.{set_there}
 use Rattle.actor_plays.proofs.play.Play.note.Goals as goal
 

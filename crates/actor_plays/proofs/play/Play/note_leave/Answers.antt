@@ -1,4 +1,4 @@
-use Rattle.actor_plays.specs.Plays.{Stage, left}
+use Rattle.actor_plays.proofs.Common.{Stage, left}
 use Rattle.actor_plays.proofs.PlayLaws.{set_there}
 use Rattle.actor_plays.proofs.play.Play.note_leave.Goals as goal
 

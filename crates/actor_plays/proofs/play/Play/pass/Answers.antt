@@ -1,5 +1,4 @@
-use Rattle.std.proofs.Common.{ℕ, ◌≤◌, refl, slice_get, subst}
-use Rattle.actor_plays.specs.Plays.{stages_of}
+use Rattle.actor_plays.proofs.Common.{refl, slice_get, stages_of, subst, ℕ, ◌≤◌}
 use Rattle.actor_plays.proofs.PassLaws.{none_behind, none_passed, one_behind, one_further, rests_behind}
 use Rattle.actor_plays.proofs.PlayLaws.{only_actors}
 use Rattle.actor_plays.proofs.play.Play.pass.Goals as goal

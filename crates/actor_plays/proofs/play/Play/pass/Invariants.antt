@@ -1,7 +1,4 @@
-use Rattle.std.proofs.Common.{◌≡◌, ◌≤◌, slice_get}
-use Rattle.std.specs.Prelude.{IfSome}
-use Rattle.actor_plays.specs.Moves.{HavePassed}
-use Rattle.actor_plays.specs.Plays.{IsPlay, stages_of}
+use Rattle.actor_plays.proofs.Common.{HavePassed, IfSome, IsPlay, slice_get, stages_of, ◌≡◌, ◌≤◌}
 use Rattle.actor_plays.proofs.play.Play.pass.Given as goal
 
 -- so many steps are behind the actor, and only what it knows of its steps has changed

@@ -1,4 +1,4 @@
-use Rattle.std.proofs.Common.{arith, refl}
+use Rattle.actor_plays.proofs.Common.{arith, refl}
 use Rattle.actor_plays.proofs.PassLaws.{all_rests, more_further, none_passed, one_more_rests}
 use Rattle.actor_plays.proofs.PlayLaws.{only_actors}
 use Rattle.actor_plays.proofs.play.Play.pass_all.Goals as goal

@@ -1,6 +1,4 @@
-use Rattle.std.proofs.Common.{ℕ, ◌≡◌, ◌<◌}
-use Rattle.actor_plays.specs.Moves.{HasRest, HavePassed}
-use Rattle.actor_plays.specs.Plays.{IsPlay}
+use Rattle.actor_plays.proofs.Common.{HasRest, HavePassed, IsPlay, ℕ, ◌<◌, ◌≡◌}
 use Rattle.actor_plays.proofs.play.Play.pass_all.Given as goal
 
 -- the first actors rest, and only what they know of their steps has changed

@@ -1,5 +1,5 @@
+use Rattle.actor_plays.proofs.Common.{AreFalls}
 use Rattle.std.specs.Prelude.{OnOk}
-use Rattle.actor_plays.specs.Fates.{AreFalls}
 use Rattle.actor_plays.proofs.MoveLaws.{takes_behind_ok, takes_rest, takes_rest_untold, untold_behind_ok}
 use Rattle.actor_plays.proofs.PlayLaws.{fallen_before, turned_ok}
 use Rattle.actor_plays.proofs.play.Play.pass_and_turn.Goals as goal

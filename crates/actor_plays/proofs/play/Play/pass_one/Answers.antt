@@ -1,4 +1,4 @@
-use Rattle.std.proofs.Common.{◌≡◌, ◌∙◌, sym, Some, None}
+use Rattle.actor_plays.proofs.Common.{None, Some, sym, ◌∙◌, ◌≡◌}
 use Rattle.actor_plays.proofs.PassLaws.{has_passed, same_position}
 use Rattle.actor_plays.proofs.PlayLaws.{stepped_on}
 use Rattle.actor_plays.proofs.play.Play.pass_one.Goals as goal

@@ -1,7 +1,5 @@
-use Rattle.std.proofs.Common.{◌∙◌, ap, map}
+use Rattle.actor_plays.proofs.Common.{Actor, ap, map, passed, stage_of, ◌∙◌}
 use Rattle.std.specs.Prelude.{slice_set}
-use Rattle.actor_plays.specs.declared.actor.Actor.{Actor}
-use Rattle.actor_plays.specs.Plays.{passed, stage_of}
 use Rattle.actor_plays.proofs.PlayLaws.{set_same, set_there}
 use Rattle.actor_plays.proofs.play.Play.step_on.Goals as goal
 

@@ -1,6 +1,4 @@
-use Rattle.std.proofs.Common.{refl}
-use Rattle.std.specs.Prelude.{Ok}
-use Rattle.actor_plays.specs.Moves.{position_at, position_of}
+use Rattle.actor_plays.proofs.Common.{Ok, position_at, position_of, refl}
 use Rattle.actor_plays.proofs.FallLaws.{fell_told}
 use Rattle.actor_plays.proofs.MoveLaws.{call_makes}
 use Rattle.actor_plays.proofs.PlayLaws.{told_by}

@@ -1,4 +1,4 @@
-use Rattle.actor_scripts.specs.Tables.{known}
+use Rattle.actor_scripts.proofs.Common.{known}
 use Rattle.actor_scripts.proofs.FitLaws.{fits_if}
 use Rattle.actor_scripts.proofs.actor_state.ActorState.call.Goals as goal
 

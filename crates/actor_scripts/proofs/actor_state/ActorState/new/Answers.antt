@@ -1,6 +1,4 @@
-use Rattle.std.proofs.Common.{◌==◌}
-use Rattle.std.specs.Map.{lookup}
-use Rattle.sm_names.specs.Sameness.{same_key}
+use Rattle.actor_scripts.proofs.Common.{lookup, same_key, ◌==◌}
 use Rattle.actor_scripts.proofs.TableLaws.{both_none}
 use Rattle.actor_scripts.proofs.actor_state.ActorState.new.Goals as goal
 

@@ -1,5 +1,4 @@
-use Rattle.std.proofs.Common.{◌≡◌, ◌++◌}
-use Rattle.std.specs.Map.{keys_of}
+use Rattle.actor_scripts.proofs.Common.{keys_of, ◌++◌, ◌≡◌}
 use Rattle.actor_scripts.proofs.actor_state.ActorState.node_labels.Given as goal
 
 -- those so far and those to come are all

@@ -1,6 +1,4 @@
-use Rattle.std.proofs.Common.{◌∙◌, ap}
-use Rattle.actor_scripts.specs.ActorStates.{Known}
-use Rattle.actor_scripts.specs.Tables.{known}
+use Rattle.actor_scripts.proofs.Common.{Known, ap, known, ◌∙◌}
 use Rattle.actor_scripts.proofs.TableLaws.{noted, objects_noted}
 use Rattle.actor_scripts.proofs.actor_state.ActorState.note_reply.Goals as goal
 

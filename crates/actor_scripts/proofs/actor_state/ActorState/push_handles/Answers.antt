@@ -1,11 +1,7 @@
-use Rattle.std.proofs.Common.{◌≡◌, ◌<◌, ◌∙◌, true, false, ◌==◌, ap, arith, sym}
-use Rattle.std.specs.Int.{bit_at}
-use Rattle.sm_names.specs.declared.rules.TheConstants.{MAX_BUFFERS}
-use Rattle.actor_scripts.specs.ActorStates.{Known, with_objects}
-use Rattle.actor_scripts.specs.Tables.{known}
+use Rattle.actor_scripts.proofs.Common.{Known, MAX_BUFFERS, ap, arith, bit_at, false, known, sym, true, with_objects, ◌<◌, ◌==◌, ◌∙◌, ◌≡◌}
 use Rattle.actor_scripts.proofs.TableLaws.{at_end, behind, step_with, step_without}
-use Rattle.actor_scripts.proofs.actor_state.ActorState.push_handles.Goals as goal
 use Rattle.actor_scripts.proofs.actor_state.ActorState.push_handles.Goals.{then-has_buffer+in_ok-push, else-has_buffer}
+use Rattle.actor_scripts.proofs.actor_state.ActorState.push_handles.Goals as goal
 
 pub pushing-preserved : goal.pushing-preserved
 pushing-preserved c =

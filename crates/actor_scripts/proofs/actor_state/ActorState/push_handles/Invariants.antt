@@ -1,7 +1,5 @@
-use Rattle.std.proofs.Common.{◌≡◌, ◌-◌}
-use Rattle.sm_names.specs.declared.rules.TheConstants.{MAX_BUFFERS}
-use Rattle.actor_scripts.specs.ActorStates.{handles_from, handles_of_set, with_objects}
-use Rattle.actor_scripts.specs.Tables.{known}
+use Rattle.actor_scripts.proofs.Common.{MAX_BUFFERS, handles_from, known, with_objects, ◌-◌, ◌≡◌}
+use Rattle.actor_scripts.specs.ActorStates.{handles_of_set}
 use Rattle.actor_scripts.proofs.actor_state.ActorState.push_handles.Given as goal
 
 -- with the handles that are still to come it will be as it is to be

@@ -1,5 +1,4 @@
-use Rattle.std.proofs.Common.{◌∙◌, sym}
-use Rattle.actor_scripts.specs.Tables.{known}
+use Rattle.actor_scripts.proofs.Common.{known, sym, ◌∙◌}
 use Rattle.actor_scripts.proofs.TableLaws.{spent_so}
 use Rattle.actor_scripts.proofs.actor_state.ActorState.remove_spent.Goals as goal
 

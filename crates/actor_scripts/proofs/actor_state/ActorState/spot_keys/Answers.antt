@@ -1,8 +1,4 @@
-use Rattle.std.proofs.Common.{◌≡◌, ◌++◌, ◌∙◌, ap, false, subst, sym}
-use Rattle.std.proofs.lemmas.List.{append-nil}
-use Rattle.std.specs.List.{list_any}
-use Rattle.std.specs.Map.{keys_of}
-use Rattle.sm_names.specs.Sameness.{same_key}
+use Rattle.actor_scripts.proofs.Common.{ap, append-nil, false, keys_of, list_any, same_key, subst, sym, ◌++◌, ◌∙◌, ◌≡◌}
 use Rattle.actor_scripts.proofs.ListedLaws.{not_listed}
 use Rattle.actor_scripts.proofs.actor_state.ActorState.spot_keys.Goals as goal
 

@@ -1,6 +1,4 @@
-use Rattle.std.proofs.Common.{◌<◌, true, List, sym, ap, ◌∙◌, subst, Some}
-use Rattle.actor_scripts.specs.declared.step.Step.{Step}
-use Rattle.actor_scripts.specs.ActorLists.{seen}
+use Rattle.actor_scripts.proofs.Common.{List, Some, Step, ap, seen, subst, sym, true, ◌<◌, ◌∙◌}
 use Rattle.actor_scripts.proofs.StepLaws.{scripts-on, stepped-on}
 use Rattle.actor_scripts.proofs.builder.ActorListBuilder.add_step.Goals as goal
 

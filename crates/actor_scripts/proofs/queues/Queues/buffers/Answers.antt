@@ -1,7 +1,4 @@
-use Rattle.std.proofs.Common.{◌≡◌, ◌++◌, ◌∙◌, ap, false, subst, sym}
-use Rattle.std.proofs.lemmas.List.{append-nil}
-use Rattle.std.specs.List.{list_any}
-use Rattle.std.specs.Map.{keys_of}
+use Rattle.actor_scripts.proofs.Common.{ap, append-nil, false, keys_of, list_any, subst, sym, ◌++◌, ◌∙◌, ◌≡◌}
 use Rattle.sm_names.specs.Sameness.{same_buffer}
 use Rattle.actor_scripts.specs.Tables.{slots_of}
 use Rattle.actor_scripts.proofs.ListedLaws.{not_listed}

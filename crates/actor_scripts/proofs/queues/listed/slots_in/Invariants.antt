@@ -1,4 +1,4 @@
-use Rattle.std.proofs.Common.{◌≡◌, take}
+use Rattle.actor_scripts.proofs.Common.{take, ◌≡◌}
 use Rattle.actor_scripts.proofs.queues.listed.slots_in.Given as goal
 
 -- so far the first ones

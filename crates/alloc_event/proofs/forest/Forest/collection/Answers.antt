@@ -1,6 +1,6 @@
 -- The entry with the id is the collection.
-use Rattle.alloc_event.proofs.Common.{◌≡◌, Some, length, sym, ◌∙◌, ap, option_map, arith, row_of}
-use Rattle.alloc_event.proofs.Common.{rows_of, collection_none, row_found, found_whole}
+use Rattle.alloc_event.proofs.Common.{Some, ap, arith, collection_none, found_whole, length, option_map, row_found, row_of, rows_of, sym}
+use Rattle.alloc_event.proofs.Common.{◌∙◌, ◌≡◌}
 use Rattle.forest_store.specs.Forest.{summary_of}
 use Rattle.forest_store.proofs.rows.Showing.{collection_some, few_given}
 use Rattle.alloc_event.proofs.forest.Forest.collection.Goals as goal

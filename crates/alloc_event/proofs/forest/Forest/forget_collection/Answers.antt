@@ -1,6 +1,6 @@
 -- The entry has no node, and is removed.
-use Rattle.alloc_event.proofs.Common.{◌==◌, not, false, sym, ◌∙◌, ap, subst, arith, option_map_or, false≢true, AreUnits, Collection}
-use Rattle.alloc_event.proofs.Common.{rows_of, AreServedByGiven, place_is, none_in, collection_none, collection_at, is_left}
+use Rattle.alloc_event.proofs.Common.{AreServedByGiven, AreUnits, Collection, ap, arith, collection_at, collection_none, false}
+use Rattle.alloc_event.proofs.Common.{false≢true, is_left, none_in, not, option_map_or, place_is, rows_of, subst, sym, ◌==◌, ◌∙◌}
 use Rattle.forest_store.proofs.rows.Counted.{counted_removed}
 use Rattle.alloc_event.proofs.leaving.Emptying.{remove_row, collections_beside, kept-beside, left_none}
 use Rattle.forest_store.proofs.tallies.Slots.{units_some}

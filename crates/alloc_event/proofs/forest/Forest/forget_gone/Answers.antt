@@ -1,11 +1,11 @@
 -- The node leaves the table, and its key the entry of its collection.
-use Rattle.alloc_event.proofs.Common.{◌≡◌, ◌==◌, and_left, not, map, true, false, None, Some, is_some, refl, sym, ◌∙◌, ap, subst, arith}
-use Rattle.alloc_event.proofs.Common.{option_map_or, eqb-true, node_at, place_in, Entry, AreUnits, collection_in, nodes_with, row_of}
-use Rattle.alloc_event.proofs.Common.{rows_of, is_of, Node, AreServedByGiven, place_is, node_is, get_or_default, looked-kept}
-use Rattle.alloc_event.proofs.Common.{SameKeys-shown, filter, with_nodes}
-use Rattle.std.proofs.Common.{set, ◌&&◌}
-use Rattle.sm_names.proofs.SamenessLaws.{and_right, same_key-refl, some_is}
-use Rattle.forest_store.specs.Forest.{node_at as forest_node, without_unkept_in}
+use Rattle.alloc_event.proofs.Common.{AreServedByGiven, AreUnits, Entry, Node, None, SameKeys-shown, Some, and_left, and_right, ap, arith}
+use Rattle.alloc_event.proofs.Common.{collection_in, eqb-true, false, filter, get_or_default, is_of, is_some, looked-kept, map, node_at}
+use Rattle.alloc_event.proofs.Common.{node_is, nodes_with, not, option_map_or, place_in, place_is, read_through, refl, row_of, rows_of}
+use Rattle.alloc_event.proofs.Common.{set, some_is, subst, sym, true, with_nodes, without_unkept_in, ◌==◌, ◌∙◌, ◌≡◌}
+use Rattle.std.proofs.Common.{◌&&◌}
+use Rattle.sm_names.proofs.SamenessLaws.{same_key-refl}
+use Rattle.forest_store.specs.Forest.{node_at as forest_node}
 use Rattle.forest_store.specs.Calm.{IsCounted}
 use Rattle.forest_store.specs.CollectionRows.{TakesOut as Leaves}
 use Rattle.forest_store.proofs.leaving.EntryAt.{forgettable}
@@ -15,7 +15,6 @@ use Rattle.alloc_event.proofs.leaving.Spending.{spent_same}
 use Rattle.forest_store.proofs.tallies.Slots.{units_without}
 use Rattle.forest_store.proofs.tables.TakingOut.{taken}
 use Rattle.forest_steps.proofs.mid_event.GivenKept.{given_filtered}
-use Rattle.forest_store.proofs.rows.Entries.{read_through}
 use Rattle.alloc_event.proofs.forest.Forest.forget_gone.Goals as goal
 
 pub take_out-requires : goal.take_out-requires

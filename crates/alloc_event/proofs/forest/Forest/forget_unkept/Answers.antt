@@ -1,5 +1,5 @@
 -- The forest is what the table and the entries are then.
-use Rattle.alloc_event.proofs.Common.{subst, sym, AreUnits, rows_of, AreServedByGiven, SameKeys-shown}
+use Rattle.alloc_event.proofs.Common.{AreServedByGiven, AreUnits, SameKeys-shown, rows_of, subst, sym}
 use Rattle.forest_store.proofs.changes.Finishing.{whole-map}
 use Rattle.forest_store.proofs.tallies.Slots.{units_over}
 use Rattle.forest_steps.proofs.mid_event.GivenKept.{given_over}

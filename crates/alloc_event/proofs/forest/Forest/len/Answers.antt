@@ -1,5 +1,5 @@
 -- The table has as many nodes as there are keys.
-use Rattle.alloc_event.proofs.Common.{sym, ◌∙◌, rows_of}
+use Rattle.alloc_event.proofs.Common.{rows_of, sym, ◌∙◌}
 use Rattle.forest_store.proofs.rows.Showing.{all_filed-length}
 use Rattle.alloc_event.proofs.forest.Forest.len.Goals as goal
 

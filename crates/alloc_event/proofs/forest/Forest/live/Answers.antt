@@ -1,5 +1,5 @@
 -- The nodes of all collections are those of all keys.
-use Rattle.alloc_event.proofs.Common.{sym, ◌∙◌, rows_of}
+use Rattle.alloc_event.proofs.Common.{rows_of, sym, ◌∙◌}
 use Rattle.alloc_event.proofs.rows.Ordered.{live_in_order}
 use Rattle.alloc_event.proofs.forest.Forest.live.Goals as goal
 

@@ -1,5 +1,5 @@
 -- The table has each node of the forest.
-use Rattle.alloc_event.proofs.Common.{sym, ◌∙◌, node_is}
+use Rattle.alloc_event.proofs.Common.{node_is, sym, ◌∙◌}
 use Rattle.alloc_event.proofs.forest.Forest.node.Goals as goal
 
 pub returns : goal.returns

@@ -1,5 +1,5 @@
 -- The nodes of all collections are those of all keys.
-use Rattle.alloc_event.proofs.Common.{sym, ◌∙◌, rows_of, nodes_of_all}
+use Rattle.alloc_event.proofs.Common.{nodes_of_all, rows_of, sym, ◌∙◌}
 use Rattle.alloc_event.proofs.forest.Forest.nodes.Goals as goal
 
 pub returns-in-Ok : goal.returns-in-Ok

@@ -1,12 +1,11 @@
 -- One node is written, and the others stay.
-use Rattle.alloc_event.proofs.Common.{refl, sym, ◌∙◌, ◌≡◌, true, false, List, Some, is_some, map, ap, subst}
-use Rattle.alloc_event.proofs.Common.{false≢true, NodeKey, option_map_or, Table, node_at, Node, AreUnits, with_nodes}
-use Rattle.alloc_event.proofs.Common.{IsStored, CollectionRow, are_filed, forest_of, rows_of, is_unkept, Forest}
-use Rattle.alloc_event.proofs.Common.{AreServedByGiven, node_is, Writes, table_with_node, on_collections, with_end}
-use Rattle.forest_store.specs.Forest.{node_at as forest_node}
+use Rattle.alloc_event.proofs.Common.{AreServedByGiven, AreUnits, CollectionRow, IsStored, List, Node, NodeKey, Some, Table, Writes, ap}
+use Rattle.alloc_event.proofs.Common.{are_filed, false, false≢true, forest_of, is_some, is_unkept, map, node_at, node_is, on_collections}
+use Rattle.alloc_event.proofs.Common.{option_map_or, refl, rows_of, some_is, subst, sym, table_with_node, true, with_end, with_nodes, ◌∙◌}
+use Rattle.alloc_event.proofs.Common.{◌≡◌}
+use Rattle.forest_store.specs.Forest.{Forest, node_at as forest_node}
 use Rattle.alloc_event.proofs.leaving.Ends.{ends-counted, ends-kept, ends-shown}
 use Rattle.forest_store.proofs.tallies.Slots.{units_with}
-use Rattle.sm_names.proofs.SamenessLaws.{some_is}
 use Rattle.forest_steps.proofs.mid_event.GivenKept.{given_mapped}
 use Rattle.alloc_event.proofs.forest.Forest.set_end.Goals as goal
 

@@ -1,5 +1,5 @@
 -- What was finished is told of the forest.
-use Rattle.alloc_event.proofs.Common.{Some, refl, sym, subst, total, forest_of, rows_of, Settled, forest_after}
+use Rattle.alloc_event.proofs.Common.{Settled, Some, forest_after, forest_of, refl, rows_of, subst, sym, total}
 use Rattle.alloc_event.proofs.changes.SettledChanges.{settled_birth, settled_change, no_birth}
 use Rattle.alloc_event.proofs.forest.Forest.settle.Goals as goal
 

@@ -1,5 +1,5 @@
 -- What was finished is told of the forest.
-use Rattle.alloc_event.proofs.Common.{None, refl, subst, total, Change, forest_of, rows_of, Settled, forest_after}
+use Rattle.alloc_event.proofs.Common.{Change, None, Settled, forest_after, forest_of, refl, rows_of, subst, total}
 use Rattle.alloc_event.proofs.Outcomes.{on_ok}
 use Rattle.alloc_event.proofs.changes.SettledChanges.{settled_change}
 use Rattle.alloc_event.proofs.forest.Forest.settle_drop.Goals as goal

@@ -1,6 +1,6 @@
 -- The entry with the id is the collection.
-use Rattle.alloc_event.proofs.Common.{Some, sym, ◌∙◌, ap, option_map, collection_in, row_of, rows_of}
-use Rattle.alloc_event.proofs.Common.{collection_none, row_found, found_whole, collection_is}
+use Rattle.alloc_event.proofs.Common.{Some, ap, collection_in, collection_is, collection_none, found_whole, option_map, row_found, row_of}
+use Rattle.alloc_event.proofs.Common.{rows_of, sym, ◌∙◌}
 use Rattle.alloc_event.proofs.forest.Forest.snapshot.Goals as goal
 
 pub returns-in_default-clause-value : goal.returns-in_default-clause-value

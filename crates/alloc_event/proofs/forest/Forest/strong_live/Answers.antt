@@ -1,5 +1,5 @@
 -- The count of the entry tells it.
-use Rattle.alloc_event.proofs.Common.{false, sym, ◌∙◌, ap, option_map_or, Collection, nodes_with, collection_none}
+use Rattle.alloc_event.proofs.Common.{Collection, ap, collection_none, false, nodes_with, option_map_or, sym, ◌∙◌}
 use Rattle.forest_store.specs.Nodes.{members_of}
 use Rattle.sm_names.specs.Members.{some_strong_live}
 use Rattle.forest_steps.proofs.changes.Dropped.{strong_found}

@@ -1,6 +1,5 @@
 -- Those from the place on move.
-use Rattle.buffer_pool.proofs.Common.{All-drop, Interval, [], ap, arith, drop, length-drop, ◌++◌, ◌∙◌, ◌≡◌, ◌≤◌}
-use Rattle.std.specs.Prelude.{All}
+use Rattle.buffer_pool.proofs.Common.{All, All-drop, Interval, [], ap, arith, drop, length-drop, ◌++◌, ◌∙◌, ◌≡◌, ◌≤◌}
 use Rattle.std.proofs.lemmas.List.{take_rest}
 use Rattle.buffer_pool.proofs.block.Block.cut_into.Goals.{After-truncate}
 use Rattle.buffer_pool.proofs.block.Block.cut_into.Goals as goal

@@ -1,5 +1,5 @@
 -- No interval has more pages than the greatest number.
-use Rattle.std.proofs.lemmas.Bool.{leb-false}
+use Rattle.buffer_pool.proofs.Common.{leb-false}
 use Rattle.buffer_pool.proofs.Taking.{rooms-few}
 use Rattle.buffer_pool.proofs.block.Block.may_fit.Goals as goal
 

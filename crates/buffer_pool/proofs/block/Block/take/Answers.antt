@@ -1,8 +1,7 @@
 -- Each hole gives as many buffers as have room, and what stays of it moves to the front.
 use Rattle.buffer_pool.proofs.Common.{IsSane, MAX_PAGES, add-mul, ap, append-nil, append_assoc, arith, drop, drop_all, length}
-use Rattle.buffer_pool.proofs.Common.{length-take-le, looks_in, mul-le-mul_left, refl, rules, run_starts, starts_in, sym, take, ℕ, ◌*◌}
-use Rattle.buffer_pool.proofs.Common.{◌++◌, ◌+◌, ◌<◌, ◌∙◌, ◌≡◌, ◌≤◌}
-use Rattle.std.proofs.lemmas.List.{length-append}
+use Rattle.buffer_pool.proofs.Common.{length-append, length-take-le, looks_in, mul-le-mul_left, refl, rules, run_starts, starts_in, sym}
+use Rattle.buffer_pool.proofs.Common.{take, ℕ, ◌*◌, ◌++◌, ◌+◌, ◌<◌, ◌∙◌, ◌≡◌, ◌≤◌}
 use Rattle.buffer_pool.proofs.HeldRuns.{length-run}
 use Rattle.buffer_pool.proofs.Taking.{IsNext, rooms-few, walked_start, walked_kept, walked_gone, next_here, hole-sane, taken_all}
 use Rattle.buffer_pool.proofs.Taking.{looks-more}

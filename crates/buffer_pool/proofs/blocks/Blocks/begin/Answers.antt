@@ -1,5 +1,5 @@
 -- A spare block is used.
-use Rattle.std.proofs.Common.{◌<◌, ◌-◌, arith, length}
+use Rattle.buffer_pool.proofs.Common.{arith, length, ◌-◌, ◌<◌}
 use Rattle.buffer_pool.proofs.Blocking.{blocks-begun}
 use Rattle.buffer_pool.proofs.blocks.Blocks.begin.Goals as goal
 

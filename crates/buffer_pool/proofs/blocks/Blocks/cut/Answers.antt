@@ -1,7 +1,6 @@
 -- A spare block is used, and both have intervals.
-use Rattle.buffer_pool.proofs.Common.{HALF, [], arith, common_steps, get_or, get_or_read, length, length-drop, length-take-le, set, ◌+◌}
-use Rattle.buffer_pool.proofs.Common.{◌-◌, ◌<◌, ◌≡◌}
-use Rattle.std.proofs.lemmas.List.{length-set}
+use Rattle.buffer_pool.proofs.Common.{HALF, [], arith, common_steps, get_or, get_or_read, length, length-drop, length-set, length-take-le}
+use Rattle.buffer_pool.proofs.Common.{set, ◌+◌, ◌-◌, ◌<◌, ◌≡◌}
 use Rattle.buffer_pool.proofs.Blocking.{blocks-begun, blocks-set}
 use Rattle.buffer_pool.proofs.blocks.Blocks.cut.Goals as goal
 

@@ -1,7 +1,6 @@
 -- The intervals are the same.
-use Rattle.buffer_pool.proofs.Common.{HALF, [], all_in, ap, arith, get_or, length, length-remove, remove, ◌*◌, ◌++◌, ◌+◌, ◌-◌, ◌<◌, ◌∙◌}
-use Rattle.buffer_pool.proofs.Common.{◌≡◌}
-use Rattle.std.proofs.lemmas.List.{length-set}
+use Rattle.buffer_pool.proofs.Common.{HALF, [], all_in, ap, arith, get_or, length, length-remove, length-set, remove, ◌*◌, ◌++◌, ◌+◌, ◌-◌}
+use Rattle.buffer_pool.proofs.Common.{◌<◌, ◌∙◌, ◌≡◌}
 use Rattle.buffer_pool.proofs.Joins.{merge_in}
 use Rattle.buffer_pool.proofs.blocks.Blocks.gather.Goals.{After-merge}
 use Rattle.buffer_pool.proofs.blocks.Blocks.gather.Goals as goal

@@ -1,6 +1,5 @@
 -- The interval lies in its block.
-use Rattle.buffer_pool.proofs.Common.{Interval, [], ap, arith, common_steps, get_or, get_or_read, ◌∙◌, ◌≡◌}
-use Rattle.std.proofs.Common.{List}
+use Rattle.buffer_pool.proofs.Common.{Interval, List, [], ap, arith, common_steps, get_or, get_or_read, ◌∙◌, ◌≡◌}
 use Rattle.buffer_pool.proofs.Joins.{get_in}
 use Rattle.buffer_pool.proofs.blocks.Blocks.get.Goals as goal
 

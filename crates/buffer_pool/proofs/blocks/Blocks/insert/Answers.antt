@@ -1,9 +1,7 @@
 -- The interval comes into its block, into a half of it, or into one of its own.
-use Rattle.buffer_pool.proofs.Common.{FULL, HALF, Interval, [], all_in, ap, arith, common_steps, get_or, get_or_read, insert, length}
-use Rattle.buffer_pool.proofs.Common.{length-drop, length-insert, length-take-le, take, take-set, take-set-le, ◌*◌, ◌+◌, ◌-◌, ◌<◌, ◌∙◌}
-use Rattle.buffer_pool.proofs.Common.{◌∷◌, ◌≡◌, ◌≤◌}
-use Rattle.std.proofs.Common.{List}
-use Rattle.std.proofs.lemmas.List.{length-set}
+use Rattle.buffer_pool.proofs.Common.{FULL, HALF, Interval, List, [], all_in, ap, arith, common_steps, get_or, get_or_read, insert}
+use Rattle.buffer_pool.proofs.Common.{length, length-drop, length-insert, length-set, length-take-le, take, take-set, take-set-le, ◌*◌}
+use Rattle.buffer_pool.proofs.Common.{◌+◌, ◌-◌, ◌<◌, ◌∙◌, ◌∷◌, ◌≡◌, ◌≤◌}
 use Rattle.buffer_pool.proofs.Joins.{insert_in, begin_in, before-next, take-insert, IsCut, is_cut}
 use Rattle.buffer_pool.proofs.blocks.Blocks.insert.Goals.{After-len-else-spot-len, After-cut}
 use Rattle.buffer_pool.proofs.blocks.Blocks.insert.Goals as goal

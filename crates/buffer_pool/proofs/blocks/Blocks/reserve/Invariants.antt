@@ -1,5 +1,5 @@
 -- The blocks become more.
-use Rattle.std.proofs.Common.{◌≡◌, ◌≤◌, ◌-◌, ◌+◌, length}
+use Rattle.buffer_pool.proofs.Common.{length, ◌+◌, ◌-◌, ◌≡◌, ◌≤◌}
 use Rattle.buffer_pool.proofs.blocks.Blocks.reserve.Given as goal
 
 abbrev pub invariant-loop-self : goal.invariant-loop-self

@@ -1,8 +1,6 @@
 -- The interval lies in its block.
-use Rattle.buffer_pool.proofs.Common.{HALF, Interval, [], all_in, ap, arith, common_steps, get_or, get_or_read, length, set, take-set}
-use Rattle.buffer_pool.proofs.Common.{◌*◌, ◌+◌, ◌-◌, ◌∙◌, ◌≡◌}
-use Rattle.std.proofs.Common.{List}
-use Rattle.std.proofs.lemmas.List.{length-set}
+use Rattle.buffer_pool.proofs.Common.{HALF, Interval, List, [], all_in, ap, arith, common_steps, get_or, get_or_read, length, length-set}
+use Rattle.buffer_pool.proofs.Common.{set, take-set, ◌*◌, ◌+◌, ◌-◌, ◌∙◌, ◌≡◌}
 use Rattle.buffer_pool.proofs.Joins.{set_in}
 use Rattle.buffer_pool.proofs.blocks.Blocks.set.Goals as goal
 

@@ -1,5 +1,5 @@
 -- The fields keep what callers see sound.
-use Rattle.buffer_pool.specs.Lengths.{held_from}
+use Rattle.buffer_pool.proofs.Common.{held_from}
 use Rattle.buffer_pool.proofs.Sounds.{sound_from}
 use Rattle.buffer_pool.proofs.pages.Pool.held.Goals as goal
 

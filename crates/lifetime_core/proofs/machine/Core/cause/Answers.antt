@@ -1,8 +1,5 @@
-use Rattle.std.proofs.Common.{ap, ◌∙◌}
-use Rattle.std.specs.Option.{option_map}
+use Rattle.lifetime_core.proofs.Common.{State, ap, option_map, recalling, ◌∙◌}
 use Rattle.core_state.specs.Reads.{fault_in}
-use Rattle.core_state.specs.Shown.{recalling}
-use Rattle.core_state.specs.State.{State}
 use Rattle.core_state.proofs.views.Shown.{cause_shown, told_of}
 use Rattle.lifetime_core.proofs.machine.Core.cause.Goals as goal
 

@@ -1,15 +1,13 @@
 -- The task tells what the call changes, whatever key a new node gets.
-use Rattle.std.proofs.Common.{ℕ, ◌≡◌, ◌∙◌, ap, sym, subst, refl, true, false, Option, Some, None, IfSome, option_map}
-use Rattle.std.specs.List.{list_any}
-use Rattle.sm_names.specs.declared.keys.NodeKey.{NodeKey}
+use Rattle.lifetime_core.proofs.Common.{NodeKey, None, Option, Some, ap, core_known, false, list_any, refl, subst, sym, true, work_in, ℕ}
+use Rattle.lifetime_core.proofs.Common.{◌∙◌, ◌≡◌}
+use Rattle.std.proofs.Common.{IfSome, option_map}
 use Rattle.forest_store.specs.declared.change.Change.{Change}
 use Rattle.forest_store.specs.Forest.{given}
 use Rattle.forest_store.specs.Nodes.{is_of}
 use Rattle.forest_store.specs.Settling.{MayChange, collection_or_new}
 use Rattle.core_state.specs.Steps.{Work, leaves_tracker_room}
-use Rattle.core_state.specs.Tasks.{work_in}
 use Rattle.core_state.proofs.forced.Fits.{is_fitting, work_answered}
-use Rattle.core_state.proofs.theorem.Keeps.{core_known}
 use Rattle.lifetime_core.proofs.machine.Core.change_of.Goals as goal
 
 -- what holds of the work holds of it as a pair

@@ -1,6 +1,5 @@
-use Rattle.std.proofs.Common.{ap, map, ◌∙◌}
-use Rattle.core_state.specs.Shown.{recalling}
-use Rattle.core_state.specs.State.{Client, State}
+use Rattle.lifetime_core.proofs.Common.{State, ap, map, recalling, ◌∙◌}
+use Rattle.core_state.specs.State.{Client}
 use Rattle.core_state.proofs.views.Shown.{clients_shown}
 use Rattle.lifetime_core.proofs.machine.Core.clients.Goals as goal
 

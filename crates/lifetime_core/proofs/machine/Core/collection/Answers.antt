@@ -1,9 +1,4 @@
-use Rattle.std.proofs.Common.{ap, ◌∙◌}
-use Rattle.std.proofs.lemmas.Result.{IfOk-weaker}
-use Rattle.forest_store.specs.Forest.{collection_at}
-use Rattle.core_state.specs.Shown.{recalling}
-use Rattle.core_state.specs.State.{State}
-use Rattle.core_state.proofs.views.Shown.{collection_shown}
+use Rattle.lifetime_core.proofs.Common.{IfOk-weaker, State, ap, collection_at, collection_shown, recalling, ◌∙◌}
 use Rattle.lifetime_core.proofs.machine.Core.collection.Goals as goal
 
 pub returns-clause-shown : goal.returns-clause-shown

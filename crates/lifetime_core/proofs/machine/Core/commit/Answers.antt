@@ -1,14 +1,11 @@
-use Rattle.std.proofs.Common.{ℕ, ◌≡◌, ◌+◌, refl, ap, sym, ◌∙◌, subst, List, map, None, arith}
-use Rattle.sm_names.specs.declared.keys.HeldBuffer.{HeldBuffer}
-use Rattle.sm_names.specs.declared.keys.Interval.{Interval}
+use Rattle.lifetime_core.proofs.Common.{HeldBuffer, Interval, IsCore, None, State, after, ap, arith, further, idle_follows, map, parts_of}
+use Rattle.lifetime_core.proofs.Common.{refl, step_answers, step_follows, subst, sym, with_key, ℕ, ◌+◌, ◌∙◌, ◌≡◌}
+use Rattle.std.proofs.Common.{List}
 use Rattle.sm_names.specs.Words.{sorted_by}
 use Rattle.buffer_pool.specs.Holdings.{Holdings}
 use Rattle.forest_store.specs.Forest.{IsPoolOf}
-use Rattle.core_state.specs.State.{IsSame, State}
-use Rattle.core_state.specs.Tasks.{with_key}
-use Rattle.core_state.specs.Whole.{IsCore}
-use Rattle.core_state.proofs.theorem.EventParts.{after, alone, can_carry, finishes, lands, one, step_answers, step_follows}
-use Rattle.core_state.proofs.theorem.Idle.{further, idle_follows, parts_of}
+use Rattle.core_state.specs.State.{IsSame}
+use Rattle.core_state.proofs.theorem.EventParts.{alone, can_carry, finishes, lands, one}
 use Rattle.core_state.proofs.theorem.Keeps.{core_goes_on, core_same}
 use Rattle.core_state.proofs.forced.StillOut.{asks_only}
 use Rattle.core_state.proofs.theorem.Fields.{above, fits, moves, none_elsewhere}

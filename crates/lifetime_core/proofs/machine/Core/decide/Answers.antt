@@ -1,4 +1,4 @@
-use Rattle.std.proofs.Common.{sym, ◌∙◌}
+use Rattle.lifetime_core.proofs.Common.{sym, ◌∙◌}
 use Rattle.lifetime_core.proofs.Named.{end_is, names_it}
 use Rattle.lifetime_core.proofs.machine.Core.decide.Goals as goal
 

@@ -1,4 +1,4 @@
-use Rattle.std.proofs.Common.{◌∙◌}
+use Rattle.lifetime_core.proofs.Common.{◌∙◌}
 use Rattle.lifetime_core.proofs.machine.Core.decide_effect.Goals as goal
 
 pub decide_answered-requires : goal.decide_answered-requires

@@ -1,6 +1,4 @@
-use Rattle.std.proofs.Common.{ap, ◌∙◌, subst}
-use Rattle.core_state.specs.Shown.{ShowsBut}
-use Rattle.core_state.specs.State.{State}
+use Rattle.lifetime_core.proofs.Common.{ShowsBut, State, ap, subst, ◌∙◌}
 use Rattle.core_state.proofs.views.Shown.{events_shown}
 use Rattle.lifetime_core.proofs.machine.Core.events.Goals as goal
 

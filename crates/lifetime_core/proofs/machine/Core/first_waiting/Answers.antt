@@ -1,5 +1,4 @@
-use Rattle.std.proofs.Common.{rules}
-use Rattle.core_state.proofs.theorem.Keeps.{core_known}
+use Rattle.lifetime_core.proofs.Common.{core_known, rules}
 use Rattle.lifetime_core.proofs.machine.Core.first_waiting.Goals as goal
 
 -- the clients stand by their numbers, as in the history that the core shows

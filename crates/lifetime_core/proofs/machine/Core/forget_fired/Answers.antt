@@ -1,9 +1,8 @@
-use Rattle.std.proofs.Common.{◌≡◌, ◌++◌, Result, Ok, Err, OnOk, OnErr, ap, sym, subst, ◌∙◌}
+use Rattle.lifetime_core.proofs.Common.{IsCore, ShowsBut, State, ap, subst, sym, ◌∙◌, ◌≡◌}
+use Rattle.std.proofs.Common.{◌++◌, Result, Ok, Err, OnOk, OnErr}
 use Rattle.std.proofs.lemmas.Result.{on_ok_weaker, on_err_weaker}
 use Rattle.trackers.specs.Table.{TrackerTable, forgetful}
-use Rattle.core_state.specs.Shown.{ShowsBut, forgetting}
-use Rattle.core_state.specs.State.{State}
-use Rattle.core_state.specs.Whole.{IsCore}
+use Rattle.core_state.specs.Shown.{forgetting}
 use Rattle.core_state.proofs.theorem.Keeps.{core_forgot}
 use Rattle.core_state.proofs.theorem.Recalling.{forgetting_shows}
 use Rattle.lifetime_core.specs.declared.machine.Core.TheInside.{Inside}

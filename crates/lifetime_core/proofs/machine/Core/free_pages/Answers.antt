@@ -1,10 +1,7 @@
-use Rattle.std.proofs.Common.{◌≡◌, ap, ◌∙◌, map, arith}
+use Rattle.lifetime_core.proofs.Common.{HeldBuffer, Interval, ap, arith, map, recalling, ◌∙◌, ◌≡◌}
 use Rattle.std.specs.List.{sum_by}
-use Rattle.sm_names.specs.declared.keys.Interval.{Interval}
-use Rattle.sm_names.specs.declared.keys.HeldBuffer.{HeldBuffer}
 use Rattle.forest_store.specs.Forest.{all_held}
 use Rattle.core_state.specs.Reads.{views_of}
-use Rattle.core_state.specs.Shown.{recalling}
 use Rattle.core_state.proofs.views.Shown.{free_shown}
 use Rattle.core_state.proofs.collections.Pages.{sum-sorted, sum-map}
 use Rattle.lifetime_core.proofs.machine.Core.free_pages.Goals as goal

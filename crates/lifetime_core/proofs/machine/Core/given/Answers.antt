@@ -1,5 +1,4 @@
-use Rattle.std.proofs.Common.{◌∙◌}
-use Rattle.core_state.specs.Shown.{recalling}
+use Rattle.lifetime_core.proofs.Common.{recalling, ◌∙◌}
 use Rattle.core_state.proofs.views.Shown.{given_shown}
 use Rattle.lifetime_core.proofs.machine.Core.given.Goals as goal
 

@@ -1,7 +1,5 @@
-use Rattle.std.proofs.Common.{ap, ◌∙◌}
+use Rattle.lifetime_core.proofs.Common.{State, ap, recalling, ◌∙◌}
 use Rattle.buffer_holds.specs.Counts.{moving_count}
-use Rattle.core_state.specs.Shown.{recalling}
-use Rattle.core_state.specs.State.{State}
 use Rattle.core_state.proofs.views.Shown.{moving_shown}
 use Rattle.lifetime_core.proofs.machine.Core.handles_in_parcels.Goals as goal
 

@@ -1,8 +1,5 @@
-use Rattle.std.proofs.Common.{◌≡◌, false, subst, arith}
+use Rattle.lifetime_core.proofs.Common.{State, arith, false, is_at_limit, readings_of, subst, ◌≡◌}
 use Rattle.std.proofs.lemmas.Bool.{lt-leb}
-use Rattle.sm_names.specs.Answers.{is_at_limit}
-use Rattle.core_state.specs.Reads.{readings_of}
-use Rattle.core_state.specs.State.{State}
 use Rattle.lifetime_core.proofs.machine.Core.have_room.Goals as goal
 
 -- the counts have the core's own limit

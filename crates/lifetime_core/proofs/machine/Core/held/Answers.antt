@@ -1,8 +1,6 @@
-use Rattle.std.proofs.Common.{AllPairs, ap, sym, ◌∙◌, subst}
-use Rattle.std.proofs.lemmas.Result.{IfOk-weaker}
+use Rattle.lifetime_core.proofs.Common.{IfOk-weaker, State, ap, recalling, subst, sym, ◌∙◌}
+use Rattle.std.proofs.Common.{AllPairs}
 use Rattle.forest_store.specs.Forest.{held_by_page}
-use Rattle.core_state.specs.Shown.{recalling}
-use Rattle.core_state.specs.State.{State}
 use Rattle.core_state.proofs.views.Shown.{held_shown}
 use Rattle.core_state.proofs.views.HeldApart.{EndsBefore, held_in_order}
 use Rattle.core_state.proofs.views.Held.{HavePages, have_pages}

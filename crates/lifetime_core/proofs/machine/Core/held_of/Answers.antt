@@ -1,9 +1,6 @@
-use Rattle.std.proofs.Common.{[], ap, ◌∙◌}
+use Rattle.lifetime_core.proofs.Common.{State, [], ap, collection_at, collection_shown, recalling, ◌∙◌}
 use Rattle.std.specs.Option.{option_map_or}
-use Rattle.forest_store.specs.Forest.{Collection, collection_at}
-use Rattle.core_state.specs.Shown.{recalling}
-use Rattle.core_state.specs.State.{State}
-use Rattle.core_state.proofs.views.Shown.{collection_shown}
+use Rattle.forest_store.specs.Forest.{Collection}
 use Rattle.lifetime_core.proofs.machine.Core.held_of.Goals as goal
 
 pub returns-clause-shown : goal.returns-clause-shown

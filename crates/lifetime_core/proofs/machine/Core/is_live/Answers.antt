@@ -1,7 +1,5 @@
-use Rattle.std.proofs.Common.{ap, ◌∙◌}
+use Rattle.lifetime_core.proofs.Common.{State, ap, recalling, ◌∙◌}
 use Rattle.core_state.specs.Reads.{is_live_in}
-use Rattle.core_state.specs.Shown.{recalling}
-use Rattle.core_state.specs.State.{State}
 use Rattle.core_state.proofs.views.Shown.{live_shown}
 use Rattle.lifetime_core.proofs.machine.Core.is_live.Goals as goal
 

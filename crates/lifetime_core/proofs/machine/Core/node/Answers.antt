@@ -1,7 +1,4 @@
-use Rattle.std.proofs.Common.{ap, ◌∙◌}
-use Rattle.forest_store.specs.Forest.{node_at}
-use Rattle.core_state.specs.Shown.{recalling}
-use Rattle.core_state.specs.State.{State}
+use Rattle.lifetime_core.proofs.Common.{State, ap, node_at, recalling, ◌∙◌}
 use Rattle.core_state.proofs.views.Shown.{node_shown}
 use Rattle.lifetime_core.proofs.machine.Core.node.Goals as goal
 

@@ -1,7 +1,5 @@
-use Rattle.std.proofs.Common.{ap, ◌∙◌}
+use Rattle.lifetime_core.proofs.Common.{State, ap, recalling, ◌∙◌}
 use Rattle.buffer_holds.specs.Counts.{of}
-use Rattle.core_state.specs.Shown.{recalling}
-use Rattle.core_state.specs.State.{State}
 use Rattle.core_state.proofs.views.Shown.{open_shown}
 use Rattle.lifetime_core.proofs.machine.Core.open_handles.Goals as goal
 

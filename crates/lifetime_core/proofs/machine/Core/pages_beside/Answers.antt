@@ -1,8 +1,5 @@
-use Rattle.std.proofs.Common.{ap, ◌∙◌}
-use Rattle.std.proofs.lemmas.Result.{IfOk-weaker}
+use Rattle.lifetime_core.proofs.Common.{IfOk-weaker, State, ap, recalling, ◌∙◌}
 use Rattle.forest_store.specs.Forest.{beside}
-use Rattle.core_state.specs.Shown.{recalling}
-use Rattle.core_state.specs.State.{State}
 use Rattle.core_state.proofs.views.Shown.{beside_shown}
 use Rattle.lifetime_core.proofs.machine.Core.pages_beside.Goals as goal
 

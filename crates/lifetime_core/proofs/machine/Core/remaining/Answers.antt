@@ -1,5 +1,4 @@
-use Rattle.std.proofs.Common.{ap, arith}
-use Rattle.core_state.specs.State.{State}
+use Rattle.lifetime_core.proofs.Common.{State, ap, arith}
 use Rattle.core_state.proofs.theorem.Keeps.{core_within}
 use Rattle.lifetime_core.proofs.machine.Core.remaining.Goals as goal
 

@@ -1,10 +1,9 @@
-use Rattle.std.proofs.Common.{ℕ, ◌≡◌, ◌<◌, ◌∷◌, [], length, get_or, length-append, refl, sym, ap, ◌∙◌, subst, arith}
-use Rattle.sm_names.specs.declared.messages.Call.{Call}
-use Rattle.core_state.specs.Theorem.{GoesOn, Makes, entries}
+use Rattle.lifetime_core.proofs.Common.{Call, GoesOn, [], ap, arith, entries, get_or, length, refl, rules, subst, sym, ℕ, ◌<◌, ◌∙◌, ◌≡◌}
+use Rattle.std.proofs.Common.{◌∷◌, length-append}
+use Rattle.core_state.specs.Theorem.{Makes}
 use Rattle.core_state.proofs.theorem.Leads.{leads_limits, leads_more, leads_none, leads_pool, leads_untaken, makes, stopped_full}
 use Rattle.core_state.proofs.theorem.Leads.{stopped_limits, stopped_pool, stopped_untaken, stops_at_once, stops_there}
 use Rattle.core_state.proofs.theorem.Runs.{goes_none, goes_more}
-use Rattle.std.proofs.Common.{rules}
 use Rattle.lifetime_core.proofs.machine.Core.run.Goals as goal
 
 pub loop-client-init : goal.loop-client-init

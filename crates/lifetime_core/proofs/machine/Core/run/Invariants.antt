@@ -1,6 +1,7 @@
-use Rattle.std.proofs.Common.{◌≡◌, length, vec_len}
+use Rattle.lifetime_core.proofs.Common.{GoesOn, entries, length, ◌≡◌}
+use Rattle.std.proofs.Common.{vec_len}
 use Rattle.std.specs.Prelude.{vec_capacity}
-use Rattle.core_state.specs.Theorem.{GoesOn, Leads, entries}
+use Rattle.core_state.specs.Theorem.{Leads}
 use Rattle.lifetime_core.proofs.machine.Core.run.Given as goal
 
 abbrev pub invariant-loop-client : goal.invariant-loop-client

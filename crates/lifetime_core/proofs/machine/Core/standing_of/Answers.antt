@@ -1,8 +1,6 @@
-use Rattle.std.proofs.Common.{◌≡◌, ◌∙◌, ap, false, is_some, rules, sym}
+use Rattle.lifetime_core.proofs.Common.{State, ap, core_known, false, is_some, rules, sym, ◌∙◌, ◌≡◌}
 use Rattle.std.specs.Option.{unwrap_or}
-use Rattle.core_state.specs.State.{State}
 use Rattle.core_state.proofs.joined.Rows.{joined_tells, shut_tells}
-use Rattle.core_state.proofs.theorem.Keeps.{core_known}
 use Rattle.lifetime_core.proofs.machine.Core.standing_of.Goals as goal
 
 -- the clients stand by their numbers, as in the history that the core shows

@@ -1,6 +1,6 @@
+use Rattle.lifetime_core.proofs.Common.{arith, rules}
 use Rattle.core_state.proofs.theorem.Keeps.{core_empty, shows_refused}
 use Rattle.core_state.proofs.theorem.Leads.{leads_refused}
-use Rattle.std.proofs.Common.{arith, rules}
 use Rattle.lifetime_core.proofs.machine.Core.starting_at.Goals as goal
 
 pub overflow_cast-nodes : goal.overflow_cast-nodes

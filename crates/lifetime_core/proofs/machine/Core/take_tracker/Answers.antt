@@ -1,9 +1,7 @@
-use Rattle.std.proofs.Common.{sym, subst}
-use Rattle.core_state.specs.Shown.{Shows, ShowsBut, recalling}
-use Rattle.core_state.specs.State.{State}
+use Rattle.lifetime_core.proofs.Common.{ShowsBut, State, recalling, rules, subst, sym}
+use Rattle.core_state.specs.Shown.{Shows}
 use Rattle.core_state.proofs.theorem.GoesOn.{take_shows}
 use Rattle.core_state.proofs.theorem.Keeps.{core_took}
-use Rattle.std.proofs.Common.{rules}
 use Rattle.lifetime_core.proofs.machine.Core.take_tracker.Goals as goal
 
 -- no history tells which readers were taken

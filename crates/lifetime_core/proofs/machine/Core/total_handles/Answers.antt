@@ -1,6 +1,5 @@
-use Rattle.core_state.specs.Shown.{recalling}
+use Rattle.lifetime_core.proofs.Common.{recalling, ◌∙◌}
 use Rattle.core_state.proofs.views.Shown.{total_shown}
-use Rattle.std.proofs.Common.{◌∙◌}
 use Rattle.lifetime_core.proofs.machine.Core.total_handles.Goals as goal
 
 pub returns-clause-shown : goal.returns-clause-shown

@@ -1,4 +1,4 @@
-use Rattle.play_search.specs.Ends.{AreRowsEnded}
+use Rattle.play_search.proofs.Common.{AreRowsEnded}
 use Rattle.play_search.proofs.graph.Graph.ending_doubt.Given as goal
 
 -- so far the plays end so

@@ -1,4 +1,4 @@
-use Rattle.std.proofs.Common.{◌∙◌, refl, sym}
+use Rattle.play_search.proofs.Common.{refl, sym, ◌∙◌}
 use Rattle.play_search.proofs.EndingLaws.{left_open, turned_on}
 use Rattle.play_search.proofs.graph.Graph.goes_on.Goals as goal
 

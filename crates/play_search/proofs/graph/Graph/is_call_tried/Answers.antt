@@ -1,4 +1,4 @@
-use Rattle.play_search.specs.Closing.{way_to, ways_of}
+use Rattle.play_search.proofs.Common.{way_to, ways_of}
 use Rattle.play_search.proofs.ClosingLaws.{none_asked}
 use Rattle.play_search.proofs.graph.Graph.is_call_tried.Goals as goal
 

@@ -1,8 +1,4 @@
-use Rattle.std.proofs.Common.{◌∙◌, ap, refl, subst, sym, true}
-use Rattle.actor_plays.specs.declared.play.Play.{Play}
-use Rattle.actor_plays.specs.Moves.{TakesTurn}
-use Rattle.actor_plays.specs.Plays.{IsTurn}
-use Rattle.play_search.specs.Closing.{way_to, ways_of}
+use Rattle.play_search.proofs.Common.{IsTurn, Play, TakesTurn, ap, refl, subst, sym, true, way_to, ways_of, ◌∙◌}
 use Rattle.play_search.proofs.ClosingLaws.{made_is, none_turned, not_made, one_turned}
 use Rattle.play_search.proofs.graph.Graph.is_called.Goals as goal
 

@@ -1,5 +1,4 @@
-use Rattle.std.proofs.Common.{Ok, ap}
-use Rattle.actor_plays.specs.Moves.{position_of}
+use Rattle.play_search.proofs.Common.{Ok, ap, position_of}
 use Rattle.play_search.proofs.graph.Graph.is_ended.Goals as goal
 
 -- it ends so

@@ -1,5 +1,4 @@
-use Rattle.std.proofs.Common.{◌∙◌, sym}
-use Rattle.play_search.specs.Closing.{way_to, ways_of}
+use Rattle.play_search.proofs.Common.{sym, way_to, ways_of, ◌∙◌}
 use Rattle.play_search.proofs.ClosingLaws.{none_may}
 use Rattle.play_search.proofs.OnWay.{may_same}
 use Rattle.play_search.proofs.graph.Graph.is_leave_tried.Goals as goal

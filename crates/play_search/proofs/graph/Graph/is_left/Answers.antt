@@ -1,8 +1,4 @@
-use Rattle.std.proofs.Common.{◌∙◌, ap, refl, subst, sym}
-use Rattle.actor_plays.specs.declared.play.Play.{Play}
-use Rattle.actor_plays.specs.Moves.{TakesLeave}
-use Rattle.actor_plays.specs.Plays.{IsLeave}
-use Rattle.play_search.specs.Closing.{way_to, ways_of}
+use Rattle.play_search.proofs.Common.{IsLeave, Play, TakesLeave, ap, refl, subst, sym, way_to, ways_of, ◌∙◌}
 use Rattle.play_search.proofs.ClosingLaws.{none_left, none_may, one_left}
 use Rattle.play_search.proofs.OnWay.{may_same}
 use Rattle.play_search.proofs.graph.Graph.is_left.Goals as goal

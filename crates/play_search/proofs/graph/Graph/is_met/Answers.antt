@@ -1,5 +1,4 @@
-use Rattle.std.proofs.Common.{◌∙◌, sym}
-use Rattle.std.proofs.lemmas.Option.{slice_get_within}
+use Rattle.play_search.proofs.Common.{slice_get_within, sym, ◌∙◌}
 use Rattle.play_search.proofs.graph.Graph.is_met.Goals as goal
 
 -- there is a row

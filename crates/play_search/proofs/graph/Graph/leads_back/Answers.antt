@@ -1,7 +1,4 @@
-use Rattle.std.proofs.Common.{◌∙◌, ap, subst, sym}
-use Rattle.actor_plays.specs.declared.play.Play.{Play}
-use Rattle.play_search.specs.Closing.{way_to}
-use Rattle.play_search.specs.Searches.{IsReplay}
+use Rattle.play_search.proofs.Common.{IsReplay, Play, ap, subst, sym, way_to, ◌∙◌}
 use Rattle.play_search.proofs.ClosingLaws.{is_back}
 use Rattle.play_search.proofs.graph.Graph.leads_back.Goals as goal
 

@@ -1,5 +1,4 @@
-use Rattle.std.proofs.Common.{◌∙◌, ◌+◌, ◌++◌, ◌∷◌, [], ap, arith, subst, sym}
-use Rattle.play_search.specs.Closing.{way_to}
+use Rattle.play_search.proofs.Common.{[], ap, arith, subst, sym, way_to, ◌++◌, ◌+◌, ◌∙◌, ◌∷◌}
 use Rattle.play_search.proofs.WayLaws.{IsPart, part_end, part_first, part_further, part_missing, part_none}
 use Rattle.play_search.proofs.graph.Graph.path_back.Goals as goal
 

@@ -1,4 +1,4 @@
-use Rattle.play_search.specs.Closing.{way_to}
+use Rattle.play_search.proofs.Common.{way_to}
 use Rattle.play_search.proofs.WayLaws.{IsPart}
 use Rattle.play_search.proofs.graph.Graph.path_back.Given as goal
 

@@ -1,4 +1,4 @@
-use Rattle.actor_plays.specs.Moves.{position_of}
+use Rattle.play_search.proofs.Common.{position_of}
 use Rattle.play_search.proofs.graph.Graph.row_doubt.Goals as goal
 
 -- a play came there, where all turns are tried

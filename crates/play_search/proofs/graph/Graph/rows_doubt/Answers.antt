@@ -1,5 +1,4 @@
-use Rattle.std.proofs.Common.{arith}
-use Rattle.play_search.specs.Closing.{IsRowTriedIn}
+use Rattle.play_search.proofs.Common.{IsRowTriedIn, arith}
 use Rattle.play_search.proofs.ClosingLaws.{one_more}
 use Rattle.play_search.proofs.graph.Graph.rows_doubt.Goals as goal
 

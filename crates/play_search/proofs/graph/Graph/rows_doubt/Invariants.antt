@@ -1,5 +1,4 @@
-use Rattle.std.proofs.Common.{ℕ, ◌<◌}
-use Rattle.play_search.specs.Closing.{IsRowTriedIn}
+use Rattle.play_search.proofs.Common.{IsRowTriedIn, ℕ, ◌<◌}
 use Rattle.play_search.proofs.graph.Graph.rows_doubt.Given as goal
 
 -- so many rows are tried

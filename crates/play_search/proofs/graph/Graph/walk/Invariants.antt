@@ -1,6 +1,4 @@
-use Rattle.std.proofs.Common.{◌≡◌}
-use Rattle.actor_plays.specs.Plays.{IsPlay}
-use Rattle.play_search.specs.Searches.{IsWithin}
+use Rattle.play_search.proofs.Common.{IsPlay, IsWithin, ◌≡◌}
 use Rattle.play_search.proofs.graph.Graph.walk.Given as goal
 
 -- so far there is room, and the play goes on

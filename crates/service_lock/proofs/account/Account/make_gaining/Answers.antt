@@ -1,6 +1,4 @@
-use Rattle.std.proofs.Common.{Option, sym, subst}
-use Rattle.sm_names.specs.declared.keys.Strength.{Strength}
-use Rattle.service_lock.specs.Accounts.{SameHandles, no_amounts, with_gain}
+use Rattle.service_lock.proofs.Common.{Option, SameHandles, Strength, no_amounts, subst, sym, with_gain}
 use Rattle.service_lock.proofs.UnitLaws.{has_gained}
 use Rattle.service_lock.proofs.account.Account.make_gaining.Goals as goal
 

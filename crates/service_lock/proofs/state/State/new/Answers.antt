@@ -1,4 +1,4 @@
-use Rattle.std.proofs.Common.{arith, rules}
+use Rattle.service_lock.proofs.Common.{arith, rules}
 use Rattle.service_lock.proofs.SoundLaws.{begins}
 use Rattle.service_lock.proofs.state.State.new.Goals as goal
 

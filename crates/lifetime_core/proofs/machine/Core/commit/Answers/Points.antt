@@ -1,11 +1,9 @@
 -- What the goals of `commit` have in common: the state before the call, and what the call begins with.
-use Rattle.std.proofs.Common.{◌≡◌, true, sym, ◌∙◌}
-use Rattle.core_state.specs.State.{State}
+use Rattle.lifetime_core.proofs.Common.{State, core_known, sym, true, ◌∙◌, ◌≡◌}
 use Rattle.core_state.specs.Tasks.{Parts}
 use Rattle.core_state.proofs.forced.Known.{IsKnown}
 use Rattle.core_state.proofs.theorem.EventParts.{Begins, begins}
 use Rattle.core_state.proofs.theorem.Idle.{Idles, idles}
-use Rattle.core_state.proofs.theorem.Keeps.{core_known}
 use Rattle.lifetime_core.proofs.machine.Core.commit.Goals.{After-changes_nothing, In-Ok}
 
 -- the state before the call

@@ -1,14 +1,10 @@
 -- What `commit` answers: the reply, the state that follows, and the history that the core then shows.
-use Rattle.std.proofs.Common.{◌≡◌, ◌<◌, ◌+◌, ap, sym, ◌∙◌, None, arith, rules}
+use Rattle.lifetime_core.proofs.Common.{None, State, after, ap, arith, further, idle_follows, parts_of, readings_of, rules, step_answers}
+use Rattle.lifetime_core.proofs.Common.{step_follows, sym, with_key, ◌+◌, ◌<◌, ◌∙◌, ◌≡◌}
 use Rattle.sm_names.specs.Answers.{key_told}
-use Rattle.core_state.specs.Reads.{readings_of}
-use Rattle.core_state.specs.State.{State}
-use Rattle.core_state.specs.Tasks.{with_key}
-use Rattle.core_state.proofs.theorem.EventParts.{after, step_answers, step_follows}
 use Rattle.core_state.proofs.answers.Kinds.{reply-fits}
 use Rattle.core_state.proofs.handles.Standing.{takes_none}
 use Rattle.core_state.proofs.theorem.GoesOn.{goes_on}
-use Rattle.core_state.proofs.theorem.Idle.{further, idle_follows, parts_of}
 use Rattle.core_state.proofs.theorem.Leads.{untaken_after}
 use Rattle.lifetime_core.proofs.machine.Core.commit.Answers.Points.{before, begun, idle, made}
 use Rattle.lifetime_core.proofs.machine.Core.commit.Goals as goal
