@@ -83,9 +83,9 @@ static int watcher(const std::string &name, int app, int frames) {
     api::Connection daemon = api::Connection::open({}, name).value();
     api::Collection mine = take_part(daemon, app, {1, 0, 4096});
     for (std::uint32_t seen = 0;;) {
-        auto got = daemon.collect(frames).value();
-        if (!got) return 0;
-        api::Handle frame = got->handle().value();
+        auto got = daemon.collect(frames);
+        if (!got && api::ending(got.error()) == api::Ending::NoGiver) return 0;
+        api::Handle frame = got.value()->handle().value();
         std::uint32_t number = read(frame.bytes());
         if (++seen != number) say(name + ": a frame is missing");
         char word;

@@ -66,15 +66,17 @@ public:
     Result<Token> open_root(std::string label = {}) const {
         return End::born<Token>(link, SYSMEM_OPEN_ROOT, label, Refusal::NoSuchClient);
     }
-    /// Waits for what another process gives over this socket, and asks the daemon what it is. Nothing if the time is
-    /// over first, or the socket ended. What came stays for the next call if it can't be received or adopted now, by a fault.
+    /// Waits for what another process gives over this socket, and asks the daemon what it is. Nothing if the time is over
+    /// first; Ending::NoGiver if the socket ended. What came stays for the next call if it can't be received or adopted now, by
+    /// a fault.
     template <class Rep, class Period>
     Result<std::optional<Parcel>> collect_for(int socket, std::chrono::duration<Rep, Period> time) const {
         if (!link) return Error::spent(Refusal::NoSuchClient);
         int fd = inbox->take(socket);
         if (fd < 0) fd = detail::receive_fd(socket, detail::after(time));
         if (fd == -3) return Error::fault(SYSMEM_NO_MEMORY);
-        if (fd < 0) return std::optional<Parcel>();
+        if (fd == -1) return detail::ended(Ending::NoGiver);
+        if (fd == -2) return std::optional<Parcel>();
         auto got = adopt(fd);
         if (got) return std::optional<Parcel>(std::move(*got));
         if (got.error().kind == Error::Kind::Fault) inbox->keep(socket, fd);

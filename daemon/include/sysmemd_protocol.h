@@ -100,7 +100,7 @@ enum sysmemd_ending {
     SYSMEMD_VERSION_IS = 3, /**< the daemon does not speak the version of the Hello */
     SYSMEMD_CROWDED = 4,   /**< a limit allows no more connections, uids or descriptors */
     SYSMEMD_LATE = 5,      /**< no Hello came */
-    SYSMEMD_UNREAD = 6     /**< the socket was full of unread replies, or the system refused one; this may be missing, too */
+    SYSMEMD_UNREAD = 6     /**< a reply could not be sent: the system had no memory for it; this may be missing, too */
 };
 
 /** What a socket is. */

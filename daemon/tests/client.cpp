@@ -23,6 +23,7 @@ static bool is_readable(int fd) {
     pollfd one{fd, POLLIN, 0};
     return poll(&one, 1, 0) == 1;
 }
+template <class T> static bool ends(const Result<T> &result, Ending why) { return !result && ending(result.error()) == why; }
 static Collection allocate(const Client &c, std::uint8_t count = 1) {
     Collection a = c.open_root("r").value().bind().value();
     a.set_constraints({count, 0, 4096}).value();
@@ -81,10 +82,15 @@ TEST(many_idle) {
 // Two threads arm one lease. The first is held up as it sends, so that the second could come before it: the daemon keeps the wait
 // of the request that comes last, which has to be the one whose event is waited for.
 static std::atomic<int> waits_sent{-1}; // how many ON_IDLE were sent; below 0 they are not counted
+static std::atomic<int> found_full{0};  // how many others found their socket full
 extern "C" ssize_t send(int fd, const void *bytes, std::size_t length, int flags) {
     sysmemd_request q{};
     std::memcpy(&q, bytes, std::min(length, sizeof q));
-    if (q.op != SYSMEMD_ON_IDLE || waits_sent < 0) return sendto(fd, bytes, length, flags, nullptr, 0);
+    if (q.op != SYSMEMD_ON_IDLE || waits_sent < 0) {
+        ssize_t sent = sendto(fd, bytes, length, flags, nullptr, 0);
+        if (sent < 0 && errno == EAGAIN) found_full++;
+        return sent;
+    }
     static std::atomic<bool> is_first{true};
     if (is_first.exchange(false))
         for (int ms = 0; ms < 300 && waits_sent == 0; ms++) usleep(1000);
@@ -118,7 +124,7 @@ TEST(nonblocking) {
     for (int fd : {a.fd(), gone.fd(), two[0]}) fcntl(fd, F_SETFL, O_NONBLOCK);
     std::thread waits[] = {std::thread([&] { CHECK(a.wait_allocated(soon).value()->count == 1); }),
                            std::thread([&] { CHECK(gone.wait()); }),
-                           std::thread([&] { CHECK(!c.collect_for(two[0], soon).value()); })};
+                           std::thread([&] { CHECK(ends(c.collect_for(two[0], soon), Ending::NoGiver)); })};
     CHECK(are_asleep());
     kid.close();
     ::close(two[1]);
@@ -139,6 +145,8 @@ TEST(noisy_peers) {
     CHECK(!c.collect_for(two[0], 200ms).value());
     CHECK(!c.collect_for(two[0], 0ms).value());
     floods.end(SIGKILL);
+    ::close(two[1]);
+    CHECK(ends(c.collect_for(two[0], soon), Ending::NoGiver) && ends(c.collect(two[0]), Ending::NoGiver));
     int quiet[2];
     CHECK(socketpair(AF_UNIX, SOCK_STREAM, 0, quiet) == 0);
     struct sigaction act {};
@@ -152,6 +160,68 @@ TEST(noisy_peers) {
     CHECK(c.collect_for(quiet[0], soon).value()->token().value().sync());
     often = {};
     setitimer(ITIMER_REAL, &often, nullptr);
+}
+
+// Sends this until the socket takes no more.
+static void fill(int fd, const void *bytes, std::size_t length) {
+    while (raw_send(fd, bytes, length, {}, MSG_DONTWAIT)) {}
+    CHECK(errno == EAGAIN);
+}
+// Over a full socket `give` takes as long as its deadline, and no time if the socket is O_NONBLOCK; the value stays. It goes on
+// once somebody reads.
+TEST(full_receiver) {
+    Daemon d;
+    Client patient = Client::open(d.path, "patient", soon).value();
+    auto quick = Client::open(d.path, "quick", 60ms); // on a busy machine some tries are too late
+    CHECK(comes([&] { return quick || bool(quick = Client::open(d.path, "quick", 60ms)); }));
+    Collection a = allocate(patient);
+    auto handles = *a.take().value();
+    for (int kind : {SOCK_STREAM, SOCK_SEQPACKET}) {
+        int two[2], least = 1;
+        CHECK(socketpair(AF_UNIX, kind | SOCK_CLOEXEC, 0, two) == 0);
+        CHECK(setsockopt(two[0], SOL_SOCKET, SO_SNDBUF, &least, sizeof least) == 0);
+        fill(two[0], "x", 1);
+        Result<Parcel> token = Error{}, handle = Error{};
+        CHECK(comes([&] { return token || bool(token = quick->adopt(patient.open_root("r").value().detach())); }));
+        CHECK(comes([&] { return handle || bool(handle = quick->adopt(handles[0].duplicate().value().detach())); }));
+        auto since = std::chrono::steady_clock::now();
+        Token late = token->token().value();
+        Handle frame = handle->handle().value();
+        CHECK(ends(std::move(late).give(two[0]), Ending::TimeOver) && ends(std::move(frame).give(two[0]), Ending::TimeOver));
+        CHECK(std::chrono::steady_clock::now() - since >= 120ms && frame);
+        Token mine = patient.adopt_token(std::move(late).detach()).value();
+        fcntl(two[0], F_SETFL, O_NONBLOCK);
+        CHECK(ends(std::move(mine).give(two[0]), Ending::NoReceiver) && mine.sync());
+        fcntl(two[0], F_SETFL, 0);
+        std::thread gives([&] { std::move(mine).give(two[0]).value(); });
+        CHECK(are_asleep());
+        CHECK(patient.collect_for(two[1], soon).value()->token().value().sync());
+        gives.join();
+    }
+}
+
+// A socket that is full both ways: who sends reads the replies there, of calls whose deadline was over or of another process,
+// or the daemon would take no more. While another thread reads, the room is found too, of requests without replies.
+TEST(full_both_ways) {
+    Daemon d;
+    Client c = Client::open(d.path, "patient", soon).value();
+    for (bool is_read : {false, true}) {
+        Token t = c.open_root("r").value();
+        std::thread reads;
+        if (is_read) reads = std::thread([&] { CHECK(t.wait_failed(soon)); });
+        CHECK(are_asleep());
+        auto q = words_of(is_read ? std::uint32_t(SYSMEMD_OFFER) : std::uint32_t(SYSMEM_SYNC));
+        q.size = is_read;
+        d.pause();
+        fill(t.fd(), &q, sizeof q);
+        found_full = 0;
+        std::thread asks([&] { CHECK(t.sync()); });
+        CHECK(comes([&] { return found_full > 0; }));
+        d.go_on();
+        asks.join();
+        t.duplicate("kid").value().close(); // so it fails
+        if (is_read) reads.join();
+    }
 }
 
 // The giver left requests in the socket, and their replies unread: who adopts it does not sleep, and has it or WrongKind.
@@ -353,7 +423,7 @@ TEST(endings) {
     ::close(two[1]);
     Token t = c.open_root("t").value();
     auto sent = std::move(t).give(two[0]);
-    CHECK(!sent && ending(sent.error()) == Ending::NoReceiver && t.sync()); // it stays
+    CHECK(ends(sent, Ending::NoReceiver) && t.sync()); // it stays
     CHECK(ending(Error::fault(SYSMEM_NO_MEMORY)) == Ending::None && ending(Error::fault(SYSMEM_NOT_OPEN)) == Ending::None);
     d.stop(SIGTERM);
     auto last = t.sync();

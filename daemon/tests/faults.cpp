@@ -74,7 +74,7 @@ TEST(full_sockets) {
         auto s = c.status();
         return s && s->live == 0 && s->held == 0 && s->memories == 0 && s->descriptors == 1;
     }));
-    CHECK(d.says("cut off: too much was not read"));
+    CHECK(d.says("cut off: a reply could not be sent"));
 }
 
 // One round tells of a claim, which closes a descriptor; of requests, which get its number for a new socket; and that the

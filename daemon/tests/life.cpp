@@ -11,6 +11,7 @@ TEST(life) {
     CHECK(!a.check().value());
     auto waits = a.waits_for().value();
     CHECK(waits.size() == 1 && waits[0].label == "kid" && waits[0].is_bound && waits[0].pid == std::uint32_t(getpid()));
+    CHECK(!waits[0].fault);
     b.set_constraints({1, 0, 4096}).value();
     Allocation got = *b.wait_allocated(soon).value();
     CHECK(got.count == 3 && got.size == 5000);
@@ -68,6 +69,8 @@ TEST(answers) {
     auto closed = k.sync();
     CHECK(!closed && closed.error().is(Cause::SecondConstraints) && closed.error().label == "r");
     CHECK(k.failure() && k.failure()->is(Cause::SecondConstraints));
+    for (const Node &one : c.nodes().value()) CHECK(one.fault == std::make_pair(Cause::SecondConstraints, a.key()));
+    CHECK(c.nodes().value().size() == 2);
     a.close();
     k.close();
     CHECK(is_whole(c));
@@ -168,10 +171,11 @@ TEST(travels) {
     std::move(handles[0]).give(back[0]).value();
     CHECK(second.await() == 'g');
     CHECK(b.sync() && handles[1].open_handles().value() == 1);
+    pid_t last = second.pid;
     second.end(SIGKILL);
     auto why = b.wait_failed(soon);
     CHECK(why && why->is(Cause::Lost) && why->label == "root");
-    CHECK(why->note == "process " + std::to_string(getpid()) || why->note.find("process") == 0);
+    CHECK(why->process == std::uint32_t(last) && why->note.empty());
     handles.clear();
     b.close();
     CHECK(is_whole(c));

@@ -405,8 +405,12 @@ struct Error {
     Key origin{};
     std::string label;     ///< of the origin, if it has one
     bool is_spent = false; ///< the value was moved from, given, released, closed or dropped: no event
-    std::string note;      ///< of a number that is out of its range: which one, and the range
+    /// Of a Fault, and the end of its message(): which number is out of its range, and the range; in sysmem_remote.hpp also
+    /// why the value does not reach the daemon.
+    std::string note;
     bool is_vanished = false; ///< the value's client vanished: no event
+    /// In sysmem_remote.hpp, at PeerClosed: the process that used the origin's end last; 0 if none is known.
+    std::uint32_t process = 0;
 
     /// Why the call was refused, if the kind is Refused.
     Refusal refusal() const { return Refusal(detail); }

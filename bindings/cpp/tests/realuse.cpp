@@ -1,26 +1,14 @@
 // Pages and bytes of handles, idle buffers, one descriptor per client, waits without events and their ends, whom
 // an allocation waits for, callbacks that make callbacks, a core with few events left, labels and names.
-#include "sysmem.hpp"
+#include "inside.hpp"
 
 #include <cstring>
 #include <fcntl.h>
 #include <functional>
 #include <poll.h>
 #include <sstream>
-#include <thread>
 #include <unistd.h>
 #include <unordered_map>
-
-namespace sysmem {
-inline namespace SYSMEM_INLINE {
-struct Raw {
-    static std::size_t recorded(Service &service) {
-        detail::Guard guard(*service.state);
-        return service.state->recorder->size();
-    }
-};
-} // namespace SYSMEM_INLINE
-} // namespace sysmem
 
 using namespace sysmem;
 using namespace std::chrono_literals;
@@ -149,7 +137,7 @@ static void idle() {
     { Handle h = b.collect().value()->handle().value(); }
     EXPECT(calls == 2 && frame.wait_idle(2, 0ms).value() && service.events() == events + 2);
     std::thread thread([&] {
-        std::this_thread::sleep_for(5ms);
+        Raw::await_sleepers(service);
         crashes.reset(); // with the handle in its parcel
     });
     EXPECT(frame.wait_idle(1, 60s).value());
@@ -360,7 +348,7 @@ template <class Make> static void cancelled(Make make, bool by_recorder) {
     all.emplace_back([&, &stop = stop] { ended += is_ended(*alone.wait_allocated(1h, stop)); });
     all.emplace_back([&, &stop = stop] { ended += is_ended(gone.wait(stop)); });
     all.emplace_back([&, &stop = stop] { ended += is_ended(frame[0].wait_idle(1, 1h, stop).value()); });
-    std::this_thread::sleep_for(20ms);
+    Raw::await_sleepers(service, 4);
     if (by_recorder) {
         at_event = ends;
         c.sync().value();

@@ -1,11 +1,10 @@
 // What each destructor does, what errors tell, and how trackers and waits are told.
-#include "sysmem.hpp"
+#include "inside.hpp"
 
 #include <cstdio>
 #include <cstdlib>
 #include <functional>
 #include <limits>
-#include <thread>
 #ifdef __linux__
 #include <fcntl.h>
 #include <poll.h>
@@ -246,7 +245,9 @@ static void what_is_refused() {
 
 // Trackers are polled, waited for, and told; callbacks may call the service.
 static void trackers() {
-    Service service = Service::open().value();
+    Options quiet;
+    quiet.slow = 0ms; // or a wait that nobody wakes would look for itself as it says that it is slow
+    Service service = Service::open(quiet).value();
     Client a = service.join().value(), b = service.join().value();
     Token root = a.open_root().value();
     root.duplicate().value().give(b.id()).value();
@@ -266,7 +267,7 @@ static void trackers() {
     Event before = service.events();
     std::thread peer([&] {
         Collection theirs = std::get<Token>(*b.collect_for(60s).value()).bind().value();
-        std::this_thread::sleep_for(20ms);
+        Raw::await_sleepers(service);
         theirs.set_constraints({1, 0, 8192}).value();
         std::move(theirs).release().value();
     });
@@ -283,7 +284,7 @@ static void trackers() {
 #endif
     std::vector<Handle> handles = *mine.take().value();
     std::thread waits([&] { EXPECT(life.wait_for(60s) && life.wait() > 0 && !life.wait_for(1ns).is_cancelled()); });
-    std::this_thread::sleep_for(20ms);
+    Raw::await_sleepers(service);
     mine.close();
     EXPECT(heard == *node.poll() && heard > 0 && free_then == 12);
     EXPECT(!life.poll());
@@ -437,9 +438,9 @@ static void gifts() {
         EXPECT(std::holds_alternative<Token>(*b.collect_for(60s).value()));
         EXPECT(std::holds_alternative<Handle>(*b.collect_for(60s).value()));
     });
-    std::this_thread::sleep_for(20ms);
+    Raw::await_sleepers(service);
     root.duplicate().value().give(b.id()).value();
-    std::this_thread::sleep_for(20ms);
+    Raw::await_sleepers(service);
     Collection c = bound(a, {1, 0, 1});
     std::move((*c.take().value())[0]).give(b.id()).value();
     peer.join();

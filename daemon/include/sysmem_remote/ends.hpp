@@ -29,10 +29,10 @@ public:
     Result<Tracker> track_node() const {
         return Tracker::make(link, detail::request(SYSMEM_TRACK_NODE), Refusal::NoSuchEnd);
     }
-    /// Sends the end over this socket. If that fails, it stays in this value.
+    /// Sends the end over this socket; waits while that is full, unless it is O_NONBLOCK. If that fails, it stays in this value.
     Result<void> give(int socket) && {
         if (!link) return Error::spent(Refusal::NoSuchEnd);
-        auto sent = detail::send_fd(socket, link->fd);
+        auto sent = detail::send_fd(socket, link->fd, link->hub->until());
         if (sent) link.reset();
         return sent;
     }

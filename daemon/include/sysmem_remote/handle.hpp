@@ -88,10 +88,10 @@ public:
         int lease = got->fds.take(0), file = got->fds.take(1);
         return Handle(lease, file, link->hub, its, how, size);
     }
-    /// Sends the handle over this socket. If that fails, it stays in this value.
+    /// Sends the handle over this socket, as `give` of an end does. If that fails, it stays in this value.
     Result<void> give(int socket) && {
         if (!link) return Error::spent(Refusal::NoSuchHandle);
-        auto sent = detail::send_fd(socket, link->fd);
+        auto sent = detail::send_fd(socket, link->fd, link->hub->until());
         if (sent) drop();
         return sent;
     }

@@ -193,10 +193,8 @@ private:
             if (error == ENOBUFS || error == ENOMEM) return Error::fault(SYSMEM_NO_MEMORY);
             is_sent = error != EINTR && error != EAGAIN; // if the daemon is gone, what came before that is read
             if (is_sent) continue;
-            lock.unlock();
-            bool is_ready = await(fd, POLLOUT, until) > 0;
-            lock.lock();
-            if (!is_ready) return ended(Ending::TimeOver);
+            if (Clock::now() >= until) return ended(Ending::TimeOver);
+            if (error == EAGAIN) read_one(lock, until, true); // the daemon takes no more from who leaves replies unread
         }
         for (std::size_t i = 0; i < count; i++) its[i].next = std::exchange(slots, &its[i]);
         auto are_done = [&] { return std::all_of(its, its + count, [](const Slot &s) { return s.is_done; }); };
@@ -212,22 +210,28 @@ private:
         for (;;) {
             if (is_so()) return true;
             if (end != Ending::None) return false;
-            if (is_reading) {
-                if (until == Clock::time_point::max()) changed.wait(lock);
-                else if (changed.wait_until(lock, until) == std::cv_status::timeout) return is_so();
-                continue;
-            }
-            is_reading = true;
-            lock.unlock();
-            Message m;
-            int is = read_message(fd, m, until);
-            lock.lock();
-            is_reading = false;
-            if (is > 0) take(m);
-            if (is < 0) end_by(Ending::Gone);
-            changed.notify_all();
-            if (is == 0) return is_so();
+            if (!read_one(lock, until, false)) return is_so();
         }
+    }
+    // Reads one message, or waits until another thread has read one; false if the time is over. With `or_room` it also comes
+    // back when the socket may take a message.
+    bool read_one(std::unique_lock<std::mutex> &lock, Clock::time_point until, bool or_room) {
+        if (is_reading) {
+            if (or_room) until = std::min(until, Clock::now() + std::chrono::milliseconds(10)); // who reads tells of no room
+            if (until != Clock::time_point::max()) return changed.wait_until(lock, until) != std::cv_status::timeout;
+            changed.wait(lock);
+            return true;
+        }
+        is_reading = true;
+        lock.unlock();
+        Message m;
+        int is = read_message(fd, m, until, or_room);
+        lock.lock();
+        is_reading = false;
+        if (is > 0) take(m);
+        if (is < 0) end_by(Ending::Gone);
+        changed.notify_all();
+        return is != 0;
     }
     void take(Message &m) {
         const sysmemd_reply &r = m.reply();
@@ -360,8 +364,11 @@ inline Result<std::vector<Node>> read_nodes(const std::shared_ptr<Link> &link, s
         event = m.reply.event;
         for (std::uint32_t i = 0; i < std::min<std::uint32_t>(m.reply.count, SYSMEMD_NODES_AT_ONCE); i++) {
             const sysmemd_node &n = m.nodes[i];
-            all.push_back({{n.node.key.slot, n.node.key.generation}, label_of(n.label), n.pid, n.uid,
-                           (n.node.flags & SYSMEM_NODE_BOUND) != 0, n.node.collection, n.node.flags});
+            Node one{{n.node.key.slot, n.node.key.generation}, label_of(n.label), n.pid, n.uid,
+                     (n.node.flags & SYSMEM_NODE_BOUND) != 0, n.node.collection, n.node.flags, {}};
+            if (n.node.flags & SYSMEM_NODE_FAILED)
+                one.fault.emplace(Cause(n.node.cause), Key{n.node.origin.slot, n.node.origin.generation});
+            all.push_back(std::move(one));
         }
         if (all.size() >= m.reply.set || m.reply.count == 0) return all;
     }

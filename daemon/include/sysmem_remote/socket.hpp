@@ -83,14 +83,16 @@ struct Message {
     const sysmemd_reply &reply() const { return words.reply; }
 };
 
-// Reads one message. 1: there is one, 0: the time is over, -1: the socket ended.
-inline int read_message(int fd, Message &m, Clock::time_point until) {
-    bool is_patient = until == Clock::time_point::max(); // then recvmsg waits, unless the program's event loop set O_NONBLOCK
+// Reads one message. 1: there is one, 0: the time is over, or with `or_room` the socket may take a message, -1: it ended.
+inline int read_message(int fd, Message &m, Clock::time_point until, bool or_room) {
+    // Then recvmsg waits, unless the program's event loop set O_NONBLOCK.
+    bool is_patient = until == Clock::time_point::max() && !or_room;
     for (int resets = 0;;) {
-        int is = is_patient ? 1 : await(fd, POLLIN, until);
+        int is = is_patient ? 1 : await(fd, or_room ? POLLIN | POLLOUT : POLLIN, until);
         if (is <= 0) return is;
         Envelope<128> came(&m.words, sizeof m.words);
         m.length = recvmsg(fd, &came.head, MSG_CMSG_CLOEXEC | (is_patient ? 0 : MSG_DONTWAIT));
+        if (m.length < 0 && errno == EAGAIN && or_room) return 0;
         if (m.length < 0 && errno == EAGAIN) is_patient = false;
         if (m.length < 0 && (errno == EINTR || errno == EAGAIN)) continue;
         if (m.length < 0 && errno == ECONNRESET && resets++ == 0) continue; // what was sent before it follows
@@ -109,15 +111,19 @@ inline int read_message(int fd, Message &m, Clock::time_point until) {
 }
 
 // Sends one descriptor over a socket of whatever kind.
-inline Result<void> send_fd(int socket, int fd) {
+inline Result<void> send_fd(int socket, int fd, Clock::time_point until = Clock::time_point::max()) {
     char byte = 's';
     Envelope<1> goes(&byte, 1);
     goes.attach(&fd, 1);
-    ssize_t n;
-    do n = sendmsg(socket, &goes.head, MSG_NOSIGNAL);
-    while (n < 0 && errno == EINTR);
-    if (n == 1) return {};
-    return ended(Ending::NoReceiver, std::strerror(errno));
+    bool is_patient = until == Clock::time_point::max(); // then sendmsg waits, unless the socket is O_NONBLOCK
+    for (;;) {
+        if (sendmsg(socket, &goes.head, MSG_NOSIGNAL | (is_patient ? 0 : MSG_DONTWAIT)) == 1) return {};
+        int why = errno, is = 1;
+        bool is_full = why == EAGAIN && !is_patient && (fcntl(socket, F_GETFL) & O_NONBLOCK) == 0;
+        if (is_full) is = await(socket, POLLOUT, until);
+        else if (why != EINTR) return ended(Ending::NoReceiver, std::strerror(why));
+        if (is == 0) return ended(Ending::TimeOver);
+    }
 }
 
 // A descriptor that came over a socket; -1 if the socket ended, -2 if the time is over, -3 if there is no room: it stays there.

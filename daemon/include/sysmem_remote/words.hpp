@@ -40,6 +40,7 @@ struct Node {
     bool is_bound = false;       ///< whether its end is bound
     CollectionId collection = 0; ///< its collection
     std::uint32_t flags = 0;     ///< bits of sysmem_node_flag
+    std::optional<std::pair<Cause, Key>> fault; ///< why it failed, and the node whose loss reached it
 };
 
 /// Numbers of the caller's core.
@@ -62,11 +63,12 @@ enum class Ending : std::uint32_t {
     WrongVersion = SYSMEMD_VERSION_IS, ///< the daemon speaks another version of the protocol
     Crowded = SYSMEMD_CROWDED,         ///< the daemon takes no more connections
     Late = SYSMEMD_LATE,               ///< no Hello came in time
-    Unread = SYSMEMD_UNREAD,           ///< too many replies were not read
+    Unread = SYSMEMD_UNREAD,           ///< a reply could not be sent: the daemon's system had no memory for it
     Gone = 64,                         ///< the daemon is gone
     NoService = 65,                    ///< nobody serves the path, or it may not be used
-    TimeOver = 66,                     ///< the deadline of a call is over; its event may still be made
-    NoReceiver = 67                    ///< what should be given could not be sent; the value is as it was
+    TimeOver = 66,                     ///< the deadline of a call is over; its event may still be made, but for `give`
+    NoReceiver = 67,                   ///< what should be given could not be sent; the value is as it was
+    NoGiver = 68                       ///< the socket over which something should come has ended
 };
 
 /// The words of an ending.
@@ -78,11 +80,12 @@ inline const char *name(Ending ending) {
     case Ending::WrongVersion: return "the daemon has another version";
     case Ending::Crowded: return "the daemon takes no more";
     case Ending::Late: return "no Hello came in time";
-    case Ending::Unread: return "too much was not read";
+    case Ending::Unread: return "a reply could not be sent";
     case Ending::Gone: return "the daemon is gone";
     case Ending::NoService: return "nobody serves this path";
     case Ending::TimeOver: return "the deadline is over";
     case Ending::NoReceiver: return "it can't be sent";
+    case Ending::NoGiver: return "the giver is gone";
     }
     return "";
 }
@@ -90,7 +93,7 @@ inline const char *name(Ending ending) {
 /// The ending that an error tells.
 inline Ending ending(const Error &error) {
     if (error.kind != Error::Kind::Fault || error.detail != SYSMEM_NOT_OPEN) return Ending::None;
-    for (std::uint32_t i = 1; i <= std::uint32_t(Ending::NoReceiver); i++) {
+    for (std::uint32_t i = 1; i <= std::uint32_t(Ending::NoGiver); i++) {
         const char *words = name(Ending(i));
         if (*words && error.note.compare(0, std::strlen(words), words) == 0) return Ending(i);
     }
@@ -116,7 +119,7 @@ inline Error why(const sysmemd_reply &r) {
     if (r.kind == SYSMEM_MISUSED) return Error{Error::Kind::Misused, r.detail, {}, {}, false, {}};
     if (r.kind != SYSMEM_PEER_CLOSED && r.kind != SYSMEMD_FAILED) return Error::fault(r.detail);
     Error e{Error::Kind::PeerClosed, r.detail, {r.slot, r.generation}, label_of(r.label), false, {}};
-    if (r.pid != 0) e.note = "process " + std::to_string(r.pid);
+    e.process = r.pid;
     return e;
 }
 inline Error refused(Refusal why) { return Error{Error::Kind::Refused, std::uint32_t(why), {}, {}, false, {}}; }

@@ -62,8 +62,8 @@ impl<K: Kind> End<K> {
         Token::born(&self.link, kind, label)
     }
 
-    /// Sends the end over this socket to who [collects](crate::Client::collect) there. If that fails, the end
-    /// comes back.
+    /// Sends the end over this socket to who [collects](crate::Client::collect) there; waits while that is full, unless
+    /// it is O_NONBLOCK. If that fails, the end comes back.
     pub fn give(self, to: impl AsFd) -> Result<(), Back<Self>> {
         give_over(&self.link, to.as_fd()).map_err(|error| Back { error, value: self })
     }

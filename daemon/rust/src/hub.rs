@@ -11,7 +11,7 @@ use std::time::{Duration, Instant};
 /// The deadline of their calls, and the descriptor that can be read as long as one of them has something to tell.
 #[derive(Default)]
 pub(crate) struct Hub {
-    deadline: Option<Duration>,
+    pub deadline: Option<Duration>,
     last: AtomicU64,
     watched: Mutex<Watched>,
 }

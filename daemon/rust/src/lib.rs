@@ -177,7 +177,7 @@ impl Client {
     /// A descriptor that waits there. Bytes without one are left out.
     fn receive(&self, from: BorrowedFd<'_>) -> Result<Option<OwnedFd>, Error> {
         for _ in 0..1000 {
-            if !sys::wait(from, false, None, Instant::now()).map_err(|_| Error::NoGiver)? {
+            if !sys::wait(from, sys::POLLIN, None, Instant::now()).map_err(|_| Error::NoGiver)? {
                 return Ok(None);
             }
             self.link.has_room()?;
@@ -195,7 +195,7 @@ impl Client {
         Ok(None)
     }
 
-    /// Waits for a parcel if there is none, and takes it.
+    /// Waits for a parcel if there is none, and takes it. `NoGiver` if the socket has ended.
     pub fn collect_for<'a>(&self, from: impl AsFd, time: impl Into<Patience<'a>>) -> Result<Waited<Parcel>, Error> {
         let (waiting, from) = (time.into().begin(&self.link), from.as_fd());
         loop {
@@ -205,7 +205,7 @@ impl Client {
             if waiting.is_cancelled() || Instant::now() >= waiting.until {
                 return Ok(waiting.none());
             }
-            let waited = wait_to_read(from, waiting.until, waiting.cancel());
+            let waited = wait_to_read(from, waiting.until, waiting.cancel(), false);
             waited.map_err(|_| Error::NoGiver)?;
         }
     }
@@ -285,8 +285,15 @@ impl Client {
 
 /// Sends the descriptor of a value over this socket.
 fn give_over(link: &Link, to: BorrowedFd<'_>) -> Result<(), Error> {
-    let sent = sys::send(to, b"s", Some(link.as_fd()), true);
-    sent.map_err(|error| Error::NoReceiver(error.kind()))
+    let until = link.hub.deadline.map(|_| link.hub.until());
+    while let Err(error) = sys::send(to, b"s", Some(link.as_fd()), until.is_none()) {
+        let is_full = error.kind() == ErrorKind::WouldBlock && !sys::is_nonblocking(to);
+        let until = until.filter(|_| is_full).ok_or(Error::NoReceiver(error.kind()))?;
+        if !sys::wait(to, sys::POLLOUT, None, until).unwrap_or(true) {
+            return Err(Error::TimeOver);
+        }
+    }
+    Ok(())
 }
 
 /// The nodes of a list, message by message. If it changed meanwhile, it begins anew.

@@ -111,6 +111,9 @@ impl State {
     }
 }
 
+/// How long one sleeps who waits for room to send while another reads, who does not tell of it.
+const ROOM_COMES: Duration = Duration::from_millis(10);
+
 pub(crate) struct Link {
     fd: OwnedFd,
     pub hub: Arc<Hub>,
@@ -121,14 +124,20 @@ pub(crate) struct Link {
     changed: Condvar,
 }
 
-/// Sleeps until there is something to read; false if the time is over first, perhaps earlier than it should be, or
-/// somebody ends the wait.
-pub(crate) fn wait_to_read(fd: BorrowedFd<'_>, mut until: Instant, cancel: Option<&Cancel>) -> std::io::Result<bool> {
+/// Sleeps until there is something to read, or with `or_room` room to send; false if the time is over first, perhaps
+/// earlier than it should be, or somebody ends the wait.
+pub(crate) fn wait_to_read(
+    fd: BorrowedFd<'_>,
+    mut until: Instant,
+    cancel: Option<&Cancel>,
+    or_room: bool,
+) -> std::io::Result<bool> {
     let ends = cancel.and_then(|cancel| cancel.fd().ok());
     if cancel.is_some() && ends.is_none() {
         until = until.min(Instant::now() + Duration::from_millis(10)); // no descriptor is left
     }
-    sys::wait(fd, false, ends.as_ref().map(|fd| fd.as_fd()), until)
+    let events = if or_room { sys::POLLIN | sys::POLLOUT } else { sys::POLLIN };
+    sys::wait(fd, events, ends.as_ref().map(|fd| fd.as_fd()), until)
 }
 
 impl Link {
@@ -173,15 +182,12 @@ impl Link {
             asked.serial = state.serial;
             let sent = sys::send(self.as_fd(), &asked.bytes(), None, false);
             match sent.map_err(|error| (error.kind(), error.raw_os_error())) {
-                Err((ErrorKind::WouldBlock, _)) => {}
+                Err((ErrorKind::WouldBlock, _)) if Instant::now() >= until => return Err(Error::TimeOver),
+                // The daemon takes no more from who leaves replies unread.
+                Err((ErrorKind::WouldBlock, _)) => state = self.read_one(state, until, None, true).0,
                 Err((_, Some(12 | 105))) => return Err(Error::NoMemory), // ENOMEM, ENOBUFS
                 _ => break, // if the other side is gone, what came before that is to be read
             }
-            drop(state);
-            if !sys::wait(self.as_fd(), true, None, until).unwrap_or(true) {
-                return Err(Error::TimeOver);
-            }
-            state = self.lock();
         }
         state.asked.push((asked.serial, None));
         let is_there = |slot: &(u32, Option<Message>)| slot.0 == asked.serial && slot.1.is_some();
@@ -216,37 +222,52 @@ impl Link {
             if is_now || state.is_over() || cancel.map_or(false, Cancel::is_cancelled) {
                 return (state, is_now);
             }
-            if state.is_reading {
-                let left = until.saturating_duration_since(Instant::now());
-                if left == Duration::ZERO {
-                    return (state, false);
-                }
-                let slept = self.changed.wait_timeout(state, left);
-                state = slept.unwrap_or_else(PoisonError::into_inner).0;
-                continue;
-            }
-            state.is_reading = true;
-            drop(state);
-            let read = self.read(until, cancel);
-            state = self.lock();
-            state.is_reading = false;
-            self.changed.notify_all();
-            let is_news = match read {
-                Ok(Some(message)) => state.take(message),
-                Ok(None) if Instant::now() >= until => {
-                    let is_now = is_so(&state);
-                    return (state, is_now);
-                }
-                Ok(None) => false,
-                Err(ending) => {
-                    state.end = Some(ending);
-                    true
-                }
-            };
-            if is_news {
-                self.tell(&mut state);
+            let (then, is_over) = self.read_one(state, until, cancel, false);
+            state = then;
+            if is_over {
+                let is_now = is_so(&state);
+                return (state, is_now);
             }
         }
+    }
+
+    /// Reads one message, or sleeps until another thread has read one; whether the time is over. It may come back
+    /// earlier, with `or_room` as soon as the socket may take a message.
+    fn read_one<'a>(
+        &'a self,
+        mut state: MutexGuard<'a, State>,
+        until: Instant,
+        cancel: Option<&Cancel>,
+        or_room: bool,
+    ) -> (MutexGuard<'a, State>, bool) {
+        if state.is_reading {
+            let left = until.saturating_duration_since(Instant::now());
+            let most = if or_room { ROOM_COMES } else { left };
+            if left > Duration::ZERO {
+                let slept = self.changed.wait_timeout(state, left.min(most));
+                state = slept.unwrap_or_else(PoisonError::into_inner).0;
+            }
+            return (state, left == Duration::ZERO);
+        }
+        state.is_reading = true;
+        drop(state);
+        let read = self.read(until, cancel, or_room);
+        state = self.lock();
+        state.is_reading = false;
+        self.changed.notify_all();
+        let is_over = matches!(read, Ok(None)) && Instant::now() >= until;
+        let is_news = match read {
+            Ok(Some(message)) => state.take(message),
+            Ok(None) => false,
+            Err(ending) => {
+                state.end = Some(ending);
+                true
+            }
+        };
+        if is_news {
+            self.tell(&mut state);
+        }
+        (state, is_over)
     }
 
     /// Has the client's descriptor tell that there is news.
@@ -269,18 +290,20 @@ impl Link {
         self.wait(self.lock(), Instant::now(), None, &mut |_| false).0
     }
 
-    /// The next message; nothing if the time is over first, or somebody ends the wait.
-    fn read(&self, until: Instant, cancel: Option<&Cancel>) -> Result<Option<Message>, Ending> {
+    /// The next message; nothing if the time is over first, somebody ends the wait, or with `or_room` the socket may
+    /// take a message.
+    fn read(&self, until: Instant, cancel: Option<&Cancel>, or_room: bool) -> Result<Option<Message>, Ending> {
         let (mut bytes, mut resets) = ([0; LONGEST], 0);
         let stays = matches!(self.subject, Subject::Tracker(_)); // so that its socket can be read from then on
         loop {
-            match wait_to_read(self.as_fd(), until, cancel) {
+            match wait_to_read(self.as_fd(), until, cancel, or_room) {
                 Ok(true) => {}
                 Ok(false) => return Ok(None),
                 Err(_) => return Err(Ending::Gone),
             }
             let got = match sys::receive(self.as_fd(), &mut bytes, stays) {
                 Ok(got) if got.length > 0 => got,
+                Err(error) if error.kind() == ErrorKind::WouldBlock && or_room => return Ok(None),
                 Err(error) if error.kind() == ErrorKind::WouldBlock => continue,
                 Err(error) if error.kind() == ErrorKind::Interrupted => continue,
                 Err(error) if error.kind() == ErrorKind::ConnectionReset && resets == 0 => {

@@ -39,9 +39,11 @@ const MSG_CTRUNC: c_int = 8;
 const MSG_DONTWAIT: c_int = 0x40;
 const MSG_NOSIGNAL: c_int = 0x4000;
 const MSG_CMSG_CLOEXEC: c_int = 0x4000_0000;
-/// Of `poll` and `epoll`.
-const POLLIN: c_short = 1;
-const POLLOUT: c_short = 4;
+const F_GETFL: c_int = 3;
+const O_NONBLOCK: c_int = 0o4_000;
+/// Of `poll` and `epoll`: that it can be read, and that it takes something.
+pub(crate) const POLLIN: c_short = 1;
+pub(crate) const POLLOUT: c_short = 4;
 
 #[repr(C)]
 struct Part {
@@ -85,6 +87,7 @@ extern "C" {
     fn getsockopt(fd: c_int, of: c_int, name: c_int, to: *mut c_void, length: *mut c_uint) -> c_int;
     fn setsockopt(fd: c_int, of: c_int, name: c_int, to: *const c_void, length: c_uint) -> c_int;
     fn poll(all: *mut PollFd, count: c_ulong, time: c_int) -> c_int;
+    fn fcntl(fd: c_int, op: c_int, ...) -> c_int;
     fn epoll_create1(flags: c_int) -> c_int;
     fn epoll_ctl(epoll: c_int, op: c_int, fd: c_int, event: *mut EpollEvent) -> c_int;
     fn epoll_wait(epoll: c_int, all: *mut EpollEvent, room: c_int, time: c_int) -> c_int;
@@ -174,15 +177,9 @@ pub(crate) fn connect_to(path: &Path, deadline: Option<Duration>) -> Result<Owne
     }
 }
 
-/// Sleeps until the descriptor can be read, or with `is_to_send` written, or has ended; false if the time is over
-/// first, or `other` can be read.
-pub(crate) fn wait(
-    fd: BorrowedFd<'_>,
-    is_to_send: bool,
-    other: Option<BorrowedFd<'_>>,
-    until: Instant,
-) -> Result<bool> {
-    let events = if is_to_send { POLLOUT } else { POLLIN };
+/// Sleeps until one of these events comes to the descriptor, or it has ended; false if the time is over first, or
+/// `other` can be read.
+pub(crate) fn wait(fd: BorrowedFd<'_>, events: c_short, other: Option<BorrowedFd<'_>>, until: Instant) -> Result<bool> {
     let other = other.map_or(-1, |fd| fd.as_raw_fd()); // -1 is left out
     loop {
         let left = until.saturating_duration_since(Instant::now()) + Duration::from_nanos(999_999);
@@ -215,6 +212,12 @@ fn header(part: &mut Part, control: &mut [usize]) -> MsgHdr {
 /// The bytes of a word. What is no byte begins with its length, a word, and two numbers of 4 bytes.
 const WORD: usize = size_of::<usize>();
 const BEFORE: usize = WORD + 8;
+
+/// Whether who uses this descriptor wants no call to wait.
+pub(crate) fn is_nonblocking(fd: BorrowedFd<'_>) -> bool {
+    // SAFETY: it takes numbers.
+    unsafe { fcntl(fd.as_raw_fd(), F_GETFL) & O_NONBLOCK != 0 }
+}
 
 /// Sends one message, perhaps with a descriptor; with `waits` once there is room.
 pub(crate) fn send(fd: BorrowedFd<'_>, bytes: &[u8], passed: Option<BorrowedFd<'_>>, waits: bool) -> Result<()> {

@@ -130,7 +130,7 @@ pub enum Ending {
     Crowded = 4,
     /// The daemon heard no greeting in time.
     Late = 5,
-    /// Too many replies were not read.
+    /// A reply could not be sent: the daemon's system had no memory for it.
     Unread = 6,
     /// The daemon is gone.
     Gone = 64,
@@ -152,7 +152,7 @@ impl fmt::Display for Ending {
             Ending::WrongVersion => "the daemon has another version",
             Ending::Crowded => "the daemon takes no more",
             Ending::Late => "no Hello came in time",
-            Ending::Unread => "too much was not read",
+            Ending::Unread => "a reply could not be sent",
             Ending::Gone => "the daemon is gone",
         })
     }

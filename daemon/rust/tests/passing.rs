@@ -5,6 +5,7 @@ use std::io::{Read, Write};
 use std::os::unix::net::{UnixDatagram, UnixStream};
 use std::process::{Command, Stdio};
 use std::thread;
+use std::time::Instant;
 use sysmem_remote::*;
 
 const STRANGE: Error = Error::Refused(Refusal::WrongKind);
@@ -51,6 +52,7 @@ fn what_is_given_is_collected() {
     assert!(is_readable(&app_fd, 60_000) && app.pending().allocated == [one.key()]);
     drop(to);
     comes(|| app.collect(&from).map_or_else(|error| error == Error::NoGiver, |_| false)); // forks have copies until they exec
+    assert_eq!(app.collect_for(&from, LONG).unwrap_err(), Error::NoGiver);
     let back = one.give(&from).unwrap_err();
     assert!(matches!(back.error, Error::NoReceiver(_)) && back.value.sync().is_ok());
 }
@@ -156,6 +158,39 @@ fn no_room() {
     assert!(child.wait().unwrap().success());
     drop(here);
     comes(|| is_whole(&daemon.service()));
+}
+
+// Over a full socket `give` takes as long as its deadline, and no time if the socket is O_NONBLOCK; the value comes back. It
+// goes on once somebody reads.
+#[test]
+fn full_receiver() {
+    let daemon = Daemon::new(&[]);
+    let patient = Options { deadline: Some(LONG), ..daemon.options.clone() };
+    let quick = Options { deadline: Some(SHORT), ..daemon.options.clone() };
+    let patient = Service::open(patient).unwrap().join().unwrap();
+    let quick = until_ok(|| Service::open(quick.clone())?.join()); // some tries may be too late
+    let (_one, frames) = allocate(&patient, 1);
+    let root = || patient.open_root("root").unwrap().detach().unwrap();
+    let late = until_ok(|| Ok(quick.adopt(root())?)).token().unwrap();
+    let frame = until_ok(|| Ok(quick.adopt(frames[0].duplicate()?.detach()?)?)).handle().unwrap();
+    let (to, from) = UnixStream::pair().unwrap();
+    fill(&to, &[0; 4096]);
+    fill(&to, &[0]);
+    let since = Instant::now();
+    let (late, frame) = (late.give(&to).unwrap_err(), frame.give(&to).unwrap_err());
+    assert!(late.error == Error::TimeOver && frame.error == Error::TimeOver && since.elapsed() >= 2 * SHORT);
+    let mine = patient.adopt(late.value.detach().unwrap()).unwrap().token().unwrap();
+    to.set_nonblocking(true).unwrap();
+    let mine = mine.give(&to).unwrap_err();
+    assert_eq!(mine.error, Error::NoReceiver(std::io::ErrorKind::WouldBlock));
+    to.set_nonblocking(false).unwrap();
+    thread::scope(|scope| {
+        let gives = scope.spawn(|| mine.value.give(&to).is_ok());
+        thread::sleep(SHORT);
+        assert!(!gives.is_finished());
+        patient.collect_for(&from, LONG).unwrap().unwrap().token().unwrap().sync().unwrap();
+        assert!(gives.join().unwrap());
+    });
 }
 
 #[test]

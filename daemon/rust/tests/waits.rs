@@ -186,6 +186,35 @@ fn pending() {
     comes(|| app.pending().is_empty() && !is_readable(&fd, 0)); // what ended is readable no longer
 }
 
+// A socket that is full both ways: who sends reads the replies there, of calls whose deadline was over or of another
+// process, or the daemon would take no more. While another thread reads, the room is found too, of offers without replies.
+#[test]
+fn full_both_ways() {
+    let daemon = Daemon::new(&[]);
+    let app = Service::open(Options { deadline: Some(LONG), ..daemon.options.clone() }).unwrap().join().unwrap();
+    for (op, is_read) in [(5_u32, false), (73, true)] {
+        let one = app.open_root("root").unwrap().bind().unwrap();
+        let cancel = Cancel::new();
+        let mut asked = [0; 64];
+        asked[..4].copy_from_slice(&op.to_ne_bytes());
+        asked[4] = 7;
+        asked[8] = u8::from(is_read);
+        thread::scope(|scope| {
+            let reads = is_read.then(|| scope.spawn(|| one.wait_allocated(cancel.within(LONG)).unwrap()));
+            thread::sleep(SHORT);
+            daemon.pause();
+            fill(&one, &asked);
+            let asks = scope.spawn(|| one.sync());
+            thread::sleep(SHORT);
+            assert!(!asks.is_finished());
+            daemon.signal("CONT");
+            assert_eq!(asks.join().unwrap(), Ok(()));
+            cancel.cancel();
+            assert!(reads.map_or(true, |reads| reads.join().unwrap().is_cancelled()));
+        });
+    }
+}
+
 // With a deadline a daemon that does not answer stops nobody, and a late reply is no other call's.
 #[test]
 fn deadlines() {

@@ -1,8 +1,10 @@
 //! What the tests share: daemons that they start, and processes that are killed.
 #![allow(dead_code)]
 use std::fs;
+use std::io::Write;
 use std::os::raw::{c_int, c_short, c_ulong};
 use std::os::unix::io::{AsFd, AsRawFd, BorrowedFd, OwnedFd};
+use std::os::unix::net::UnixStream;
 use std::path::PathBuf;
 use std::process::{Child, Command, Stdio};
 use std::sync::atomic::{AtomicU32, Ordering};
@@ -150,6 +152,14 @@ pub fn peer(test: &str, role: &str, daemon: &Daemon, socket: OwnedFd, most: u32)
     command.args(["--exact", test, "--nocapture", "--test-threads=1"]).env("ROLE", role);
     command.env("SYSMEM_SOCKET", daemon.options.path.as_ref().unwrap());
     command.stdin(Stdio::from(socket)).stdout(Stdio::null()).spawn().unwrap()
+}
+
+/// Sends this until the socket takes no more.
+pub fn fill(socket: impl AsFd, bytes: &[u8]) {
+    let mut socket = UnixStream::from(copy(socket)); // of whatever kind
+    socket.set_nonblocking(true).unwrap();
+    while socket.write(bytes).is_ok() {}
+    socket.set_nonblocking(false).unwrap();
 }
 
 /// What this process is to do, if it is a peer.
